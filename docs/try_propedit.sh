@@ -85,11 +85,11 @@ done
 run -h
 gives 0 "$(cat ../usage)\n" ''
 run --version
-gives 0 'propedit 1.5.1\n' ''
+gives 0 'propedit 1.6.0\n' ''
 run -f nowhere --help get
 gives 0 "$(cat ../usage)\n" ''
 run --version --help --no-such-option
-gives 0 'propedit 1.5.1\n' ''
+gives 0 'propedit 1.6.0\n' ''
 
 # get
 

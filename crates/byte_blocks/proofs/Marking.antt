@@ -7,8 +7,8 @@ use Rattle.std.specs.List.{position_or_len, All}
 use Rattle.std.specs.Simd.Lanes.{mask_l, zip2}
 use Rattle.std.proofs.lemmas.Bool.{cases_Bool, eqb-true, leb-true, le-leb}
 use Rattle.std.proofs.lemmas.List.{length-map, length-take, get_or-take, take-take, take-append-drop, drop-take}
-use Rattle.std.proofs.lemmas.List.Elements.{All-append, All-get_or, All-from_get_or}
-use Rattle.std.proofs.lemmas.List.Sums.{fails_before_first, passes_at_first, position_or_len_is, prefix_len-le-length}
+use Rattle.std.proofs.lemmas.List.Elements.{All-append, All-from_get_or}
+use Rattle.std.proofs.lemmas.List.Sums.{fails_before_first, passes_at_first, prefix_len-le-length}
 use Rattle.std.proofs.lemmas.Simd.{leading_from_mask_l, trailing_mask_l, mask_l-lt}
 use Rattle.memchr.specs.Find.{IsFirstByte}
 use Rattle.byte_blocks.specs.Marks.{lowest_bits, clear_front, IsFirstMark}
@@ -214,15 +214,6 @@ clear-before test block marks n is le =
     All-from_get_or (λ b. test b ≡ false) (take n block) 0 (λ k inside.
     let small : k < n = omega (arith, inside, length-take n block) in
     ap test (get_or-take n block k 0 small) ∙ fails-before test block marks n is le k small)
-
--- If no byte passes, all sixteen come before the first mark.
-pub clear-all : (test : ℕ → Bool) (block : List ℕ) (marks : List Bool) → length block ≡ 16 → marks ≡ map test block → All (λ b. test b ≡ false) block → 16 ≤ clear_front marks
-clear-all test block marks long is fails =
-    let all : position_or_len test block ≡ 16 =
-    position_or_len_is test block 16 0 (omega (arith, long))
-    (λ k small. All-get_or (λ b. test b ≡ false) block k 0 (omega (arith, small, long)) fails)
-    (λ inside. absurd (omega (arith, inside, long))) in
-    omega (arith, all, ap clear_front is ∙ front-map test block)
 
 -- What holds for the bytes before a block, and for the first n of the block, holds for all of these.
 pub more-of : (P : ℕ → Type 0) (bytes block : List ℕ) (at n : ℕ) → All P (take at bytes) → block ≡ take 16 (drop at bytes) → n ≤ 16 → All P (take n block) → All P (take (at + n) bytes)

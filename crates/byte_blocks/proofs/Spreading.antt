@@ -192,24 +192,6 @@ module _ (marks : List Bool) (block before : List ℕ) (sixteen : length marks �
       let first : take 8 pairs ≡ drop 8 block = ap (take 8) pairs_are ∙ take_at (drop 8 block) (drop 8 before) 8 eight in
       λ i. spread (back-bits marks bits sixteen is i) (behind i) (first i)
 
-  -- What is written for at most eight bytes.
-  pub half-written : (start new pairs : List ℕ) (at full k m bits counted : ℕ) → k ≤ 8 → length start ≡ at → bits ≡ mask_l marks → counted ≡ mask_l marks
-      → pairs ≡ take 8 block ++ take 8 before
-      → take full new ≡ start ++ spread (lowest_bits 8 (bits % 256)) (drop 8 pairs) (take 8 pairs)
-      → m ≡ at + (k + count_ones (counted % 2 ^ k))
-      → take m new ≡ start ++ spread (take k marks) (take k before) (take k block)
-  half-written start new pairs at full k m bits counted le size is also pairs_are written place =
-      let eight : length (take 8 marks) ≡ 8 = length-take-le 8 marks (omega arith) in
-      let ones : counted % 2 ^ k ≡ mask_l (take k (take 8 marks)) =
-      ap (λ n. n % 2 ^ k) also ∙ first-bits marks k (omega arith) ∙ ap mask_l (sym (take-take k 8 marks le)) in
-      cut start new (take 8 marks) (take 8 before) (take 8 block) full k m
-      (length-take-le 8 before (omega arith) ∙ sym eight)
-      (length-take-le 8 block (omega arith) ∙ sym eight)
-      (omega arith)
-      (written ∙ ap (λ l. start ++ l) (front-half bits pairs is pairs_are))
-      (place ∙ ap₂ (λ x y. x + (k + count_ones y)) (sym size) ones)
-      ∙ ap (λ l. start ++ l) (λ i. spread (take-take k 8 marks le i) (take-take k 8 before le i) (take-take k 8 block le i))
-
   -- What is written for up to sixteen bytes.
   pub whole-written : (start middle new pairs more : List ℕ) (at place full k m bits others counted : ℕ) → k ≤ 16 → length start ≡ at
       → bits ≡ mask_l marks → others ≡ mask_l marks → counted ≡ mask_l marks

@@ -1,5 +1,7 @@
--- Which bytes belong to the classes.
+-- Which bytes belong to the classes. Blanks, and the characters with a special meaning, are those of the format.
 use Rattle.std.specs.Prelude.{ℕ, ◌==◌, ◌||◌, ◌%◌, nat_le, nat_lt, Bool, List, get_or}
+pub use Rattle.properties_format.specs.Text.{is_blank}
+pub use Rattle.properties_format.specs.Printing.{is_special}
 
 -- a CR or an LF
 abbrev pub is_line_end : ℕ → Bool
@@ -8,14 +10,6 @@ is_line_end b = b == 0x0a || b == 0x0d
 -- a line end or a backslash
 abbrev pub is_plain_end : ℕ → Bool
 is_plain_end b = is_line_end b || b == 0x5c
-
--- a space, a tab or a form feed
-abbrev pub is_blank : ℕ → Bool
-is_blank b = b == 0x20 || (b == 0x09 || b == 0x0c)
-
--- a backslash, a space, an equals sign, a colon, a number sign or an exclamation mark
-abbrev pub is_special : ℕ → Bool
-is_special b = b == 0x5c || (b == 0x20 || ((b == 0x3d || b == 0x3a) || (b == 0x23 || b == 0x21)))
 
 -- a byte below the space
 abbrev pub is_control : ℕ → Bool

@@ -53,23 +53,6 @@ impl<const BYTE: u8> ByteClass for Byte<BYTE> {
     }
 }
 
-/// The bytes from `BYTE` to 255.
-pub struct AtLeast<const BYTE: u8>;
-
-impl<const BYTE: u8> ByteClass for AtLeast<BYTE> {
-    ghost holds = { λ b. nat_le BYTE b };
-
-    #[inline(always)]
-    fn marks(block: u8x16) -> Marks {
-        Marks::from_bits(block.simd_ge(u8x16::splat(BYTE)).to_bitmask())
-    }
-
-    #[inline(always)]
-    fn contains(byte: u8) -> bool {
-        byte >= BYTE
-    }
-}
-
 /// The bytes from `FIRST` to `LAST`, both included. The class is empty if `LAST` is below `FIRST`.
 pub struct Within<const FIRST: u8, const LAST: u8>;
 
@@ -196,7 +179,7 @@ impl ByteClass for PastAscii {
 
     #[inline(always)]
     fn marks(block: u8x16) -> Marks {
-        AtLeast::<0x80>::marks(block)
+        Marks::from_bits(block.simd_ge(u8x16::splat(0x80)).to_bitmask())
     }
 
     #[inline(always)]

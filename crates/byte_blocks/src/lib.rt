@@ -24,12 +24,12 @@ mod short;
 mod spread;
 
 pub use classes::{
-    AtLeast, Blanks, Byte, ByteClass, Controls, Either, Except, LineEnds, PastAscii, PlainEnds,
-    Specials, Within, table_marks,
+    Blanks, Byte, ByteClass, Controls, Either, Except, LineEnds, PastAscii, PlainEnds, Specials,
+    Within, table_marks,
 };
 pub use marks::Marks;
 pub use search::{find, find_in_block};
-pub use spread::{put_spread, put_spread_half};
+pub use spread::put_spread;
 
 #[cfg(test)]
 mod tests;

@@ -38,28 +38,6 @@ pub fn put_spread(
     place_after(at, marks.bits(), kept)
 }
 
-/// Like [`put_spread`] for at most the first eight bytes. May overwrite up to 16 bytes.
-#[inline(always)]
-pub fn put_spread_half(
-    out: &mut [u8],
-    at: usize,
-    block: u8x16,
-    before: u8x16,
-    marks: Marks,
-    kept: usize,
-) -> usize
-    requires room { at + 16 ≤ length out.old }
-    requires kept { kept ≤ 8 }
-    ensures same_room { length out.new ≡ length out.old }
-    ensures after { at ≤ result }
-    ensures within { result ≤ at + 2 * kept }
-    ensures written { take result out.new ≡
-        take at out.old ++ spread (take kept marks) (take kept before) (take kept block) }
-{
-    put_eight(out, at, front(block, before), marks.bits() % 256);
-    place_after(at, marks.bits(), kept)
-}
-
 // The first eight bytes of the block, and the bytes that may be inserted before them.
 #[inline(always)]
 fn front(block: u8x16, before: u8x16) -> u8x16

@@ -23,7 +23,6 @@ fn marks_the_bytes_of_each_class(rt: HostRuntime) {
         (marked::<Specials>(TEXT), 0b1011_1000_0000_1100),
         (marked::<Controls>(TEXT), 0b0000_0011_0000_0010),
         (marked::<PastAscii>(TEXT), 0b0000_0000_0111_0000),
-        (marked::<AtLeast<0xac>>(TEXT), 0b0000_0000_0101_0000),
         (marked::<Within<0x20, 0x3d>>(TEXT), 0b1011_0000_1000_1100),
         (marked::<Within<0x3d, 0x20>>(TEXT), 0),
         (marked::<FieldEnds>(TEXT), 0b0000_0011_1000_0000),
@@ -53,7 +52,6 @@ fn tells_single_bytes(rt: HostRuntime) {
     assert_eq!(rt; members::<Specials>(TEXT), 6);
     assert_eq!(rt; members::<Controls>(TEXT), 3);
     assert_eq!(rt; members::<PastAscii>(TEXT), 3);
-    assert_eq!(rt; members::<AtLeast<0xac>>(TEXT), 2);
     assert_eq!(rt; members::<Within<0x20, 0x3d>>(TEXT), 6);
     assert_eq!(rt; members::<FieldEnds>(TEXT), 3);
     assert_eq!(rt; members::<Except<FieldEnds>>(TEXT), 13);
@@ -127,6 +125,4 @@ fn puts_bytes_before_those_that_are_marked(rt: HostRuntime) {
     assert_eq!(rt; out[..end], b".a  b::  c  d=="[..]);
     let end = put_spread(&mut out, 1, block, block, Marks::from_bits(0), 5);
     assert_eq!(rt; out[..end], b".a b: "[..]);
-    let end = put_spread_half(&mut out, 1, block, u8x16::splat(b'-'), marks, 4);
-    assert_eq!(rt; out[..end], b".a- b-:"[..]);
 }

@@ -8,14 +8,13 @@ use Rattle.properties_format.specs.Lines.{Line}
 use Rattle.properties_lines.specs.LineJoiner.{Joining, Joins, JoinsLine}
 use Rattle.java_properties.specs.CopiedLines.{KeepsError, CopiesContent, CopiesLine}
 use Rattle.java_properties.specs.Copying.{reading, CopiesNext, CopiesItem, CopiesNone, StopsReading, StopsWriting}
-use Rattle.java_properties.specs.Errors.{IsLineError}
 use Rattle.java_properties.specs.GivenItems as given
 use Rattle.java_properties.specs.PropertiesIter.{Reading, GivesEntry}
 use Rattle.java_properties.specs.PropertiesWriter.{Writing}
 use Rattle.java_properties.specs.declared.iter.copy.Copied.{Copied}
 use Rattle.java_properties.specs.declared.iter.copy.Copied.TheVariants.{Item, Nothing, Failed}
 use Rattle.java_properties.specs.declared.iter.copy.CopyError.{CopyError}
-use Rattle.java_properties.proofs.Items.{Passed, passed-blank, passed-no_item, passed-error, passed-none, gives-item}
+use Rattle.java_properties.proofs.Items.{Passed, passed-blank, passed-no_item, passed-error, passed-none, gives-item, stopped, ended}
 use Rattle.java_properties.proofs.StatedItems.{state-entry, state-none, state-error}
 
 -- A logical line came, and this is what became of it.
@@ -101,20 +100,12 @@ pub copied-none : {R W : Type 0} {reader : Reader R} {sink : Sink W} {old : Read
     → writer ≡ start → kept ≡ old.error → before.error ≡ None → Joins reader before to None lines next → KeepsError lines kept new error
     → CopiesNone reader old start (reading new.at next error) writer
     ⊎ (StopsReading reader old start (reading new.at next error) writer ⊎ StopsWriting reader sink old start (reading new.at next error) writer)
-copied-none before lines new next writer kept error passed same_writer same_error none (inl (done, same, there)) (taken, inl (quiet, is)) =
-    let state = ap (λ (l : Joining). l.at.state) taken ∙ ap (λ (l : Joining). l.at.state) same in
-    inl (record { gives = state-none (passed-none passed done state there); same = same_writer; kept = is ∙ same_error })
-copied-none before lines new next writer kept error passed same_writer same_error none (inl (done, same, there)) (taken, inr (why, e, failed, says, is)) =
-    let quiet = ap (λ (l : Joining). l.error) same ∙ none in absurd (cc)
-copied-none before lines new next writer kept error passed same_writer same_error none (inr k) (taken, inl (quiet, is)) =
-    let failed = k.kept in absurd (cc)
-copied-none before lines new next writer kept error passed same_writer same_error none (inr k) (taken, inr (why, e, failed, says, is)) =
-    let there : k.error ≡ why = let l = k.kept in cc in
-    let p = passed-error passed k.live (record {
-      why = k.error;
-      last = lines.at.state;
-      joins = k.why;
-      is = subst (λ v. IsLineError v e) (sym there) says;
-    }) in
-    let done = ap (λ (l : Joining). l.at.state.is_done) taken ∙ k.done in
+copied-none before lines new next writer kept error passed same_writer same_error none joins (taken, inl (quiet, is)) =
+    let end = ended joins quiet in
+    let state = ap (λ (l : Joining). l.at.state) taken ∙ ap (λ (l : Joining). l.at.state) end.1 in
+    inl (record { gives = state-none (passed-none passed end.0 state end.2); same = same_writer; kept = is ∙ same_error })
+copied-none before lines new next writer kept error passed same_writer same_error none joins (taken, inr (why, e, failed, says, is)) =
+    let stop = stopped joins none failed in
+    let p = passed-error passed stop.0 (record { why = why; last = lines.at.state; joins = stop.2; is = says }) in
+    let done = ap (λ (l : Joining). l.at.state.is_done) taken ∙ stop.1 in
     inr (inl (record { error = e; live = p.0; done = done; why = state-error (inr p.1); same = same_writer; kept = is }))

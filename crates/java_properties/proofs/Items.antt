@@ -24,7 +24,8 @@ use Rattle.java_properties.specs.Errors.{IsBareError, IsUnresolved, IsUnresolved
 use Rattle.java_properties.specs.BorrowedItems.{found_content, found_entry, spans_of, AreTextsIn, IsFoundIn}
 use Rattle.properties_lines.specs.LineReader.{PassesSome}
 use Rattle.properties_lines.proofs.LineJoiner.{some-start, some-on, all-on}
-use Rattle.properties_lines.specs.LineJoiner.{IsLazyItems, JoinsError, JoinsLine, Comes, Joiner}
+use Rattle.properties_lines.specs.LineJoiner.{IsLazyItems, Joins, JoinsError, JoinsLine, Comes, Joiner, Joining}
+use Rattle.properties_lines.specs.declared.error.LineError.{LineError}
 use Rattle.properties_lines.specs.declared.error.LineError.TheVariants as why
 use Rattle.properties_text.specs.Parsing.{spanned, in_characters}
 use Rattle.java_properties.specs.GivenItems.{FindsPlain, GivesItem, IsNoItem, Owns, Gives, BreaksOff, GivesEntry, GivesNone, GivesMalformed, GivesError}
@@ -255,3 +256,19 @@ module _ {R : Type 0} {reader : Reader R} where
       let Q : Joiner → Type 0 = λ v. GivesEntry reader s from (entry_of line) v.state to in
       subst Q (sym k.1) (subst P (sym k.0) n)
   gives-owned found old new (Err e) n k = (n.live, ap (λ v. let w : Joiner = v in w.state.is_done) k.1, inr (no-room n.bytes n.read n.lazy k.0))
+
+-- ---- no line came
+
+module _ {R : Type 0} {reader : Reader R} {old new : Joining} {from to : R} where
+  -- an error is kept, which stopped the reading
+  pub stopped : {error : LineError} → Joins reader old from None new to → old.error ≡ None → new.error ≡ Some error
+      → (old.at.state.is_done ≡ false) × (new.at.state.is_done ≡ true) × JoinsError reader old.at.state from error new.at.state to
+  stopped (inl k) none kept = let quiet = ap (λ (l : Joining). l.error) k.1 ∙ none in absurd (cc)
+  stopped {error} (inr k) none kept =
+      let same : k.error ≡ error = let failed = k.kept in cc in
+      (k.live, k.done, subst (λ v. JoinsError reader old.at.state from v new.at.state to) same k.why)
+
+  -- no error is kept, since the reading had ended before
+  pub ended : Joins reader old from None new to → new.error ≡ None → (old.at.state.is_done ≡ true) × (new ≡ old) × (to ≡ from)
+  ended (inl k) quiet = k
+  ended (inr k) quiet = let failed = k.kept in absurd (cc)

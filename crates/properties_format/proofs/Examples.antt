@@ -1,4 +1,4 @@
--- Worked examples for each page, computed.
+-- Worked examples for each page, computed. If a table is refused, the error names no row: take rows out until it passes.
 pub mod Cut
 pub mod Edited
 pub mod Valued

@@ -1,16 +1,15 @@
 -- What a test of sixteen bytes says about them.
-use Rattle.std.proofs.Common.{◌≡◌, ◌↔◌, ◌<◌, ◌≤◌, ℕ, Bool, true, false, not, List, length, take, map, refl, subst, arith}
+use Rattle.std.proofs.Common.{◌≡◌, ◌↔◌, ◌<◌, ◌≤◌, ℕ, Bool, true, false, not, List, length, take, map, refl, arith}
 use Rattle.std.specs.Prelude.{Option, Some, None, is_some}
 use Rattle.std.specs.List.{All}
 use Rattle.std.specs.Str.{IsAscii}
-use Rattle.std.proofs.lemmas.Bool.{false_from_ne_true, leb-true, leb-false, ltb-false, lt-leb}
-use Rattle.std.proofs.lemmas.List.{take_all}
+use Rattle.std.proofs.lemmas.Bool.{false_from_ne_true, leb-true, leb-false, ltb-false}
 use Rattle.std.proofs.lemmas.List.Elements.{All-weaker}
-use Rattle.std.proofs.lemmas.Str.Ascii.{IsAscii-from_all, All-from_ascii, IsAscii-from_reads}
+use Rattle.std.proofs.lemmas.Str.Ascii.{IsAscii-from_reads}
 use Rattle.memchr.specs.Find.{IsFirstByte}
 use Rattle.byte_blocks.specs.Classes.{is_control, is_past_ascii}
 use Rattle.byte_blocks.specs.Marks.{clear_front}
-use Rattle.byte_blocks.proofs.Marking.{clear-before, clear-all}
+use Rattle.byte_blocks.proofs.Marking.{clear-before}
 use Rattle.properties_format.specs.Text.{space}
 
 -- The bytes before the first control character.
@@ -22,15 +21,6 @@ no-controls block marks n is le =
 pub ascii-before : (block : List ℕ) (marks : List Bool) (n : ℕ) → marks ≡ map is_past_ascii block → n ≤ clear_front marks → All (λ b. b < 0x80) (take n block)
 ascii-before block marks n is le =
     All-weaker (λ b. is_past_ascii b ≡ false) (λ b. b < 0x80) (λ b fails. leb-false 0x80 b fails) (take n block) (clear-before is_past_ascii block marks n is le)
-
--- A block without marks is ASCII.
-pub clear-ascii : (block : List ℕ) (marks : List Bool) (is_clear : Bool) → length block ≡ 16 → marks ≡ map is_past_ascii block → (is_clear ≡ true) ↔ (16 ≤ clear_front marks)
-    → (is_clear ≡ true) ↔ IsAscii block
-clear-ascii block marks is_clear long is tells = (
-  λ e. IsAscii-from_all block (subst (λ l. All (λ b. b < 0x80) l) (take_all 16 block (omega (arith, long))) (ascii-before block marks 16 is (tells.0 e))),
-  λ ascii. tells.1 (clear-all is_past_ascii block marks long is
-      (All-weaker (λ b. b < 0x80) (λ b. is_past_ascii b ≡ false) (λ b small. lt-leb 0x80 b small) block (All-from_ascii block ascii))),
-)
 
 -- Bytes are ASCII if none above ASCII is found.
 pub found-ascii : (bytes : List ℕ) (found : Option ℕ) (is_none : Bool) → is_some found ≡ not is_none → IsFirstByte is_past_ascii bytes found → (is_none ≡ true) ↔ IsAscii bytes

@@ -1,5 +1,5 @@
 -- Plain characters at the front of a key.
-use Rattle.std.proofs.Common.{◌≡◌, ℕ, zero, suc, ◌+◌, ◌<◌, ◌≤◌, ◌==◌, ◌||◌, Bool, true, false, List, length, take, get_or, refl, ap, subst, ◌∙◌, inl, inr, arith}
+use Rattle.std.proofs.Common.{◌≡◌, ℕ, zero, suc, ◌+◌, ◌<◌, ◌≤◌, ◌==◌, ◌||◌, true, false, List, length, take, get_or, refl, ap, subst, ◌∙◌, inl, inr, arith}
 use Rattle.std.specs.List.{All}
 use Rattle.std.proofs.lemmas.Bool.{cases_Bool, or_parts, ne_eqb, false_from_ne_true, ltb-false}
 use Rattle.std.proofs.lemmas.List.{get_or-take, length-take, length-take-le}
@@ -9,7 +9,7 @@ use Rattle.byte_blocks.specs.Classes.{is_control}
 use Rattle.properties_format.specs.Text.{space, tab, form_feed, backslash, is_separator, is_comment_sign}
 use Rattle.properties_format.specs.Printing.{is_special}
 use Rattle.properties_format.specs.Reading.Split.{ends_key}
-use Rattle.properties_text.specs.Parsing.{stays_in_key}
+use Rattle.properties_text.specs.Parsing.{stays_in_key, may_end}
 use Rattle.properties_text.proofs.Scanning.{IsCutSoFar, cut-plain}
 
 -- A character that is neither special in a key nor a control character stays in the key.
@@ -21,10 +21,6 @@ plain-one c h s =
     let no_tab : (c == tab) ≡ false = ne_eqb c tab (λ e. absurd (omega (arith, e, h))) in
     let no_feed : (c == form_feed) ≡ false = ne_eqb c form_feed (λ e. absurd (omega (arith, e, h))) in
     rw (first.0, second.0, no_tab, no_feed, third.0) refl
-
--- whether a character is special or a control character
-abbrev pub may_end : ℕ → Bool
-may_end c = is_control c || is_special c
 
 -- All characters before the first such one are plain.
 pub plain-front : (text : List ℕ) (n : ℕ) → Nowhere (Passes may_end text) 0 n → All (λ c. stays_in_key c ≡ true) (take n text)

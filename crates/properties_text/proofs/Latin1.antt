@@ -1,14 +1,14 @@
--- Characters of Latin-1 in UTF-8, eight and sixteen at a time.
+-- Characters of Latin-1 in UTF-8, sixteen at a time.
 use Rattle.std.proofs.Common.{◌≡◌, ℕ, zero, suc, ◌+◌, ◌-◌, ◌/◌, ◌%◌, ◌<◌, ◌≤◌, ◌&&◌, Bool, true, false, cond, ltb, eqb, nat_le, nat_lt, List, [], ◌∷◌, ◌++◌, refl, sym, ap, ap₂, subst, ◌∙◌, inl, inr, append_assoc, arith, length, take, drop, get_or, map, replicate, w8, Fits, bit_and}
 use Rattle.std.specs.Prelude.{encode_utf8_all}
 use Rattle.std.specs.Char.{encode_utf8}
-use Rattle.std.specs.Simd.Lanes.{zip2, Each1, sel_l, put_chunk, top}
-use Rattle.std.specs.Str.{IsAscii, IsUtf8, chars}
+use Rattle.std.specs.Simd.Lanes.{zip2, Each1, sel_l, top}
+use Rattle.std.specs.Str.{IsUtf8, chars}
 use Rattle.std.proofs.Math.Utf8.{scalar, scalars}
 use Rattle.std.proofs.lemmas.Bool.{cases_Bool, cond-false, and_from, agree_below_at, eqb-true, ltb-true, ltb-false, leb-true, leb-false, lt-ltb}
 use Rattle.std.proofs.lemmas.List.{get_or-take, take-take, take-map, map-id}
 use Rattle.std.proofs.lemmas.Simd.{Each1-chunk, tops_compared, zip2_splat, splat_is_map}
-use Rattle.std.proofs.lemmas.Str.{encodes-IsAscii, encode_ascii, IsAscii-take, IsUtf8-append, chars-append, chars-encodes}
+use Rattle.std.proofs.lemmas.Str.{encode_ascii, IsUtf8-append, chars-append, chars-encodes}
 use Rattle.properties_format.proofs.Encodings.Utf8Characters.{encode-two}
 use Rattle.properties_format.specs.Windows1252.{is_in_table, windows_1252_character}
 use Rattle.properties_format.specs.Encoding.{windows_1252}
@@ -21,7 +21,6 @@ use Rattle.byte_blocks.specs.Marks.{clear_front}
 use Rattle.byte_blocks.specs.Moving.{spread}
 use Rattle.byte_blocks.proofs.Comparing.{each-same}
 use Rattle.byte_blocks.proofs.Marking.{fails-before}
-use Rattle.byte_blocks.proofs.Rows.{stored}
 
 -- ---- one character
 
@@ -64,13 +63,6 @@ first-spread v block before marks k fits block_is before_is marks_are =
     (λ i. spread (take k (marks_are i)) (take k (before_is i)) (take k (block_is i)))
     ∙ (λ i. spread (take-map is_past_ascii k v i) (take-map lead_byte k v i) (take-map last_byte k v i))
     ∙ sym (latin-spread (take k v) (Each1-chunk (Fits w8) 0 k v fits))
-
--- ASCII bytes are copied.
-pub put_ascii-is : (at k : ℕ) (out v : List ℕ) → length v ≡ 16 → at + 16 ≤ length out → k ≤ 16 → IsAscii v
-    → take (at + k) (put_chunk at out v) ≡ take at out ++ encode_utf8_all (take k v)
-put_ascii-is at k out v long room le h =
-    stored at k (at + k) out v refl (omega arith) (omega arith)
-    ∙ ap (λ l. take at out ++ l) (sym (encodes-IsAscii (take k v) (IsAscii-take v k h)))
 
 -- ---- what is computed of each lane
 

@@ -8,5 +8,4 @@ pub mod Blocks
 pub mod KeyFronts
 pub mod BlankFronts
 pub mod Latin1
-pub mod UnitBlocks
 pub mod UndecodedTexts

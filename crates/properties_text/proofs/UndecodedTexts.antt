@@ -1,3 +1,4 @@
 pub mod Spellings
 pub mod Runs
+pub mod Unusual
 pub mod Pairs

@@ -1,8 +1,7 @@
 -- The results of the decoder's parts: the byte order mark, the first piece, and text that needs no decoding.
-use Rattle.std.specs.Prelude.{◌≡◌, ℕ, ◌≤◌, ◌<◌, ◌+◌, ◌*◌, ◌++◌, Bool, true, false, List, [], ◌∷◌, length, take, drop, encode_utf8_all}
-use Rattle.std.specs.List.{AllByRecursion}
+use Rattle.std.specs.Prelude.{◌≡◌, ℕ, ◌≤◌, ◌<◌, ◌++◌, Bool, true, false, List, length, take, drop}
 use Rattle.std.specs.Char.{IsScalar, encode_utf8}
-use Rattle.std.specs.Str.{IsAscii, IsUtf8, all_scalars, chars}
+use Rattle.std.specs.Str.{IsAscii, IsUtf8, chars}
 use Rattle.properties_format.specs.Encoding as format
 use Rattle.properties_format.specs.Pieces.{Piece, characters}
 use Rattle.properties_format.specs.Utf8.{Range, from_to, IsWellFormedText}
@@ -12,12 +11,10 @@ use Rattle.properties_format.specs.Reading.Encoding.{first_piece, pieces_of}
 use Rattle.properties_format.specs.Reading.Waiting.{awaits_bom, awaits_more}
 use Rattle.properties_text.specs.Encoding.{encoding_of}
 use Rattle.properties_text.specs.declared.encoding.Encoding.{Encoding}
-use Rattle.properties_text.specs.declared.encoding.Encoding.TheVariants.{UTF_16LE, UTF_16BE}
 use Rattle.properties_text.specs.declared.encoding.byte_order_mark.ByteOrderMark.{ByteOrderMark}
 use Rattle.properties_text.specs.declared.encoding.byte_order_mark.ByteOrderMark.TheVariants.{Present, Absent, Undecided}
 use Rattle.properties_text.specs.declared.encoding.first_piece.FirstPiece.{FirstPiece}
 use Rattle.properties_text.specs.declared.encoding.decode.Decoded.{Decoded}
-use Rattle.properties_text.specs.declared.encoding.unit_blocks.Written.{Written}
 use Rattle.properties_text.specs.declared.encoding.utf_8.ByteRange.{ByteRange}
 use Rattle.properties_text.specs.declared.encoding.windows_1252.ByteText.{ByteText}
 use Rattle.properties_text.specs.declared.encoding.utf_16.ByteOrder.{ByteOrder}
@@ -44,32 +41,6 @@ FindsByteOrderMark b Undecided = IsUnmarked b × (awaits_bom b ≡ true)
 abbrev pub unit_of : ByteOrder → ℕ → ℕ → ℕ
 unit_of LowFirst = low_first
 unit_of HighFirst = high_first
-
--- the units of some bytes; an odd byte at the end is in none
-abbrev pub units_of : ByteOrder → List ℕ → List ℕ
-units_of order [] = []
-units_of order (a ∷ []) = []
-units_of order (a ∷ b ∷ bytes) = unit_of order a b ∷ units_of order bytes
-
--- the bytes at even indices, and those at odd indices, of whole pairs of bytes
-abbrev pub evens : List ℕ → List ℕ
-evens [] = []
-evens (a ∷ []) = []
-evens (a ∷ b ∷ bytes) = a ∷ evens bytes
-
-abbrev pub odds : List ℕ → List ℕ
-odds [] = []
-odds (a ∷ []) = []
-odds (a ∷ b ∷ bytes) = b ∷ odds bytes
-
--- the low bytes of the units of some bytes, and the high bytes
-abbrev pub lows_of : ByteOrder → List ℕ → List ℕ
-lows_of LowFirst = evens
-lows_of HighFirst = odds
-
-abbrev pub highs_of : ByteOrder → List ℕ → List ℕ
-highs_of LowFirst = odds
-highs_of HighFirst = evens
 
 abbrev pub range_of : ByteRange → Range
 range_of r = from_to r.0 r.1
@@ -105,33 +76,6 @@ pub record DecodesFront (encoding : Encoding) (bytes old : List ℕ) (start : �
   pub left : length decoded.rest.now ≤ length bytes
   pub is_text : IsUtf8 (take decoded.end new)
   pub text : chars (take decoded.end new) ++ text_of encoding decoded.rest.now ≡ chars (take start old) ++ text_of encoding bytes
-
--- The leading units, at most `most` of them, are characters of Latin-1, and their text was written to a run at index
--- `at`.
-pub record PutsLatin1 (units : List ℕ) (most : ℕ) (old : List ℕ) (at : ℕ) (new : List ℕ) (written : Written) : Type 0 where
-  pub same_room : length new ≡ length old
-  pub within : written.units ≤ most
-  pub after : at ≤ written.end
-  pub end_is : written.end ≤ at + 2 * written.units
-  pub bytes : AllByRecursion (λ u. u < 0x100) (take written.units units)
-  pub scalars : all_scalars (take written.units units) ≡ true
-  pub text : take written.end new ≡ take at old ++ encode_utf8_all (take written.units units)
-
--- The text of some bytes begins with this many characters of two bytes each, and these were written at index `at`.
-pub record PutsUnits (encoding : Encoding) (bytes old : List ℕ) (at : ℕ) (new : List ℕ) (written : Written) : Type 0 where
-  pub same_room : length new ≡ length old
-  pub room : written.end ≤ length new
-  pub within : 2 * written.units ≤ length bytes
-  pub after : at ≤ written.end
-  pub end_is : written.end ≤ at + 2 * written.units
-  pub front : List ℕ
-  pub scalars : all_scalars front ≡ true
-  pub text : take written.end new ≡ take at old ++ encode_utf8_all front
-  pub same : text_of encoding bytes ≡ front ++ text_of encoding (drop (2 * written.units) bytes)
-
-abbrev pub utf_16_of : ByteOrder → Encoding
-utf_16_of LowFirst = UTF_16LE
-utf_16_of HighFirst = UTF_16BE
 
 -- The bytes are valid UTF-8 without being decoded: they are ASCII, or all of them are well-formed. In UTF-16, none are.
 abbrev pub IsText : format.Encoding → List ℕ → Type 0

@@ -42,10 +42,11 @@ abbrev pub Unescapes : {Z : Type 0} → List ℕ → Result (CowStr Z) UnescapeE
 Unescapes text (Ok meant) = format.Means text (chars (cow_str_bytes meant))
 Unescapes text (Err e) = IsRefused text e
 
--- The text begins with an escape, whose character comes before what the rest means; or its first escape is malformed.
+-- The text begins with an escape, whose character comes before what the rest means; or with no spelling, and
+-- the error reports how it is malformed.
 abbrev pub Resolves : List ℕ → Result Escape Malformed → Type 0
 Resolves text (Ok escape) = meaning_of text ≡ in_front escape.character (meaning_of (chars escape.rest.now))
-Resolves text (Err malformed) = meaning_of text ≡ format.breaks (malformed_in malformed)
+Resolves text (Err malformed) = format.NoSpelling text × (meaning_of text ≡ format.breaks (malformed_in malformed))
 
 -- The text is four hexadecimal digits with this value, and a rest.
 pub record IsUnit (text : List ℕ) (value : ℕ) (rest : List ℕ) : Type 0 where
@@ -53,6 +54,15 @@ pub record IsUnit (text : List ℕ) (value : ℕ) (rest : List ℕ) : Type 0 whe
   pub whole : text ≡ format.four_text digits ++ rest
   pub hexadecimal : format.are_hexadecimal digits ≡ true
   pub writes : value ≡ format.code_unit digits
+
+-- The text doesn't begin with four hexadecimal digits.
+abbrev pub HasNoUnit : List ℕ → Type 0
+HasNoUnit text = (value : ℕ) (rest : List ℕ) → IsUnit text value rest → ⊥
+
+-- No `\u` escape of a character is at the front, nor two of surrogates that are one character: if the text begins
+-- with `\u`, it begins with no spelling.
+abbrev pub HasNoEscape : List ℕ → Type 0
+HasNoEscape text = (after : List ℕ) → text ≡ backslash ∷ format.letter_u ∷ after → format.NoSpelling text
 
 -- The text begins with four characters that aren't all hexadecimal digits.
 pub record LacksDigit (text : List ℕ) : Type 0 where

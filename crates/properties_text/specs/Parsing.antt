@@ -1,7 +1,9 @@
 -- The parts of a line, as contracts see them.
 use Rattle.std.specs.Prelude.{◌≡◌, ◌≤◌, ◌+◌, ◌-◌, ◌||◌, ◌==◌, not, ℕ, Bool, List, length, take, drop, Option, Some, None}
 use Rattle.std.specs.Str.{chars, IsCharBoundary}
+use Rattle.byte_blocks.specs.Classes.{is_control}
 use Rattle.properties_format.specs.Text.{backslash, is_blank}
+use Rattle.properties_format.specs.Printing.{is_special}
 use Rattle.properties_format.specs.Reading.Split.{ends_key}
 use Rattle.properties_format.specs.Split.{Logical, blank, comment, pair, IsComment, IsPair, IsSplit}
 use Rattle.properties_text.specs.declared.parse.ParsedSpans.{ParsedSpans}
@@ -11,6 +13,10 @@ use Rattle.properties_text.specs.declared.parse.Span.{Span}
 -- whether a character of a key neither ends the key nor escapes the next character
 abbrev pub stays_in_key : ℕ → Bool
 stays_in_key c = not (c == backslash || ends_key c)
+
+-- whether a character is special or a control character
+abbrev pub may_end : ℕ → Bool
+may_end c = is_control c || is_special c
 
 -- whether a character isn't a blank
 abbrev pub is_no_blank : ℕ → Bool

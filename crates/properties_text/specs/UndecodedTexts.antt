@@ -1,15 +1,17 @@
 -- Texts of windows-1252 that are neither decoded nor resolved, and what is printed for them.
-use Rattle.std.specs.Prelude.{◌≡◌, ◌⊎◌, ◌≤◌, ◌<◌, ◌*◌, ◌+◌, ℕ, Bool, List, ◌++◌, length, take, drop, get_or, Option, Some, None, Result, Ok, Err}
+use Rattle.std.specs.Prelude.{◌≡◌, ◌⊎◌, ◌≤◌, ◌<◌, ◌*◌, ◌+◌, ◌-◌, ◌==◌, ◌||◌, ℕ, Bool, true, false, List, ◌++◌, length, take, drop, get_or, Option, Some, None, Result, Ok, Err}
 use Rattle.properties_format.specs.Windows1252.{windows_1252_byte}
-use Rattle.properties_format.specs.Escapes.{Meaning, means, breaks, Means, Four}
+use Rattle.properties_format.specs.Text.{backslash}
+use Rattle.properties_format.specs.Escapes.{Meaning, means, breaks, Means, Malformed, Breaks, Four}
 use Rattle.properties_format.specs.Printing.{unicode_escape}
 use Rattle.properties_format.specs.Split.{blank, comment, IsSplit}
 use Rattle.properties_format.specs.Items.{MeansPair, IsOutcome, broken}
 use Rattle.properties_format.specs.Reading.Escapes.{meaning_of, text_in_front}
 use Rattle.properties_format.specs.Reading.Undecoded.{characters_of}
+use Rattle.byte_blocks.specs.Classes.{is_control}
 use Rattle.properties_text.specs.Decoding.{text_of}
 use Rattle.properties_text.specs.Escaping.{malformed_in, IsRefused}
-use Rattle.properties_text.specs.Parsing.{IsPairAt}
+use Rattle.properties_text.specs.Parsing.{IsPairAt, bytes_in}
 use Rattle.properties_text.specs.Printing.{all_of_windows_1252, character_bytes, text_bytes, key_bytes, backslashes_before}
 use Rattle.properties_text.specs.declared.encoding.Encoding.TheVariants.{WINDOWS_1252}
 use Rattle.properties_text.specs.declared.escape.UnescapeError.{UnescapeError}
@@ -88,6 +90,44 @@ pub record IsPrinted (text : List ℕ) (written : ℕ) (out : List ℕ) : Type 0
   pub meant : List ℕ
   pub meaning : Means (text_of WINDOWS_1252 text) meant
   pub printed : take written out ≡ text_bytes all_of_windows_1252 KeyOrValue meant
+
+-- whether a block stops before this byte: a control character or a backslash
+abbrev pub stops : ℕ → Bool
+stops b = is_control b || (b == backslash)
+
+-- Neither the byte at this index nor the next one is a backslash.
+abbrev pub NoEscapeNear : List ℕ → ℕ → Type 0
+NoEscapeNear text at = ((get_or text at 0 == backslash) ≡ false) × ((get_or text (at + 1) 0 == backslash) ≡ false)
+
+-- The text has a malformed escape.
+abbrev pub HasNoMeaning : List ℕ → Type 0
+HasNoMeaning text = (kind : Malformed) × Breaks (text_of WINDOWS_1252 text) kind
+
+-- The last byte is a backslash that is a spelling by itself, so it is printed as U+0000.
+abbrev pub EndsWithBackslash : List ℕ → Type 0
+EndsWithBackslash text =
+    (get_or text (length text - 1) 0 ≡ backslash)
+    × ((before : List ℕ) × (printed_of text ≡ means (before ++ unicode_escape 0)))
+
+-- One of the bytes is a control character that is printed by its number.
+abbrev pub HasControl : List ℕ → Type 0
+HasControl text = (i : ℕ) × (i < length text) × (1 < backslashes_before (get_or text i 0))
+
+-- The text can't be printed from its bytes at once: it is malformed, ends with a backslash, or has such a control character.
+abbrev pub IsUnusual : List ℕ → Type 0
+IsUnusual text = HasNoMeaning text ⊎ (EndsWithBackslash text ⊎ HasControl text)
+
+-- The first byte that is printed for the text is past ASCII, as that of a byte order mark is.
+pub record BeginsPastAscii (text : List ℕ) : Type 0 where
+  pub meant : List ℕ
+  pub meaning : Means (text_of WINDOWS_1252 text) meant
+  pub past : 0x80 ≤ get_or (text_bytes all_of_windows_1252 KeyOrValue meant) 0 0
+
+-- The pair can't be printed from its bytes at once: a text can't, or the key comes first in a file and may be like a byte order mark.
+abbrev pub IsUnusualPair : Bool → UndecodedPair → Type 0
+IsUnusualPair first p =
+    let key = bytes_in p.bytes.now p.key in
+    (IsUnusual key ⊎ IsUnusual (bytes_in p.bytes.now p.value)) ⊎ ((first ≡ true) × BeginsPastAscii key)
 
 -- the byte that a character is printed as, after a backslash or not; or none where it is printed as an escape of digits
 abbrev pub IsByteOf : ℕ → Option ℕ → Type 0

@@ -13,7 +13,6 @@ mod encode;
 pub mod first_piece;
 mod latin_1;
 mod text_buffer;
-mod unit_blocks;
 mod utf_16;
 mod utf_8;
 mod windows_1252;

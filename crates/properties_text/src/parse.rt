@@ -1,12 +1,12 @@
 //! Finds the parts of a logical line.
 
-ghost use Rattle.std.specs.Prelude.{◌≡◌, ◌≤◌, Some, true, false, length, take, drop, slice_index};
+ghost use Rattle.std.specs.Prelude.{◌≡◌, ◌+◌, ◌<◌, ◌≤◌, ◌⊎◌, get_or, Some, true, false, length, take, drop, slice_index};
 ghost use Rattle.std.specs.List.{All};
 ghost use Rattle.std.specs.Str.{IsUtf8, chars};
 ghost use Rattle.properties_format.specs.Text.{is_blank, without_leading_blanks};
 ghost use Rattle.properties_format.specs.Split.{IsSplit};
 ghost use Rattle.properties_format.specs.Reading.Split.{without_trailing_blanks, trimmed, ends_key, cut_key, past_separator};
-ghost use Rattle.properties_text.specs.Parsing.{stays_in_key, bytes_in, spanned, in_characters, IsSpan, AreSpans, AreInPlace, AreFoundInText};
+ghost use Rattle.properties_text.specs.Parsing.{stays_in_key, may_end, bytes_in, spanned, in_characters, IsSpan, AreSpans, AreInPlace, AreFoundInText};
 
 use crate::characters::{is_blank, is_comment_sign, is_separator};
 use byte_blocks::{Blanks, Controls, Either, Except, Specials, find_in_block};
@@ -187,10 +187,11 @@ fn key_length(text: &[u8]) -> usize
 }
 
 // A number of bytes at the front that neither end the key nor are backslashes: those before the first special byte or
-// control character, as far as there are blocks of sixteen.
+// control character, unless it is among the last fifteen bytes.
 fn key_front(text: &[u8]) -> usize
     ensures within { result ≤ length text.now }
     ensures plain { All (λ c. stays_in_key c ≡ true) (take result text.now) }
+    ensures far { length text.now < result + 16 ⊎ (may_end (get_or text.now result 0) ≡ true) }
 {
     let mut at = 0;
     while text.len() - at >= 16 {

@@ -14,7 +14,7 @@ use Rattle.properties_format.specs.Edited.{pair_bytes}
 use Rattle.properties_format.specs.Reading.Slots as format
 use Rattle.properties_format.specs.Reading.Slots.{left_out, ended_by, closed_by, is_first, final_slot, last_slot, slot_has, pair_slot, empty_slot, closed_slots, slots_put_at, IsWellEnded}
 use Rattle.properties_format.specs.Reading.Cells.{Cell, live, places, cell_has, closed_cell, EndsAlive, AreLinks}
-use Rattle.properties_format.proofs.Slots.PutCell.{ends-after, ends-set, none-before, some-before, none-after, some-after, pair-same, placed, put-cell, places-set}
+use Rattle.properties_format.proofs.Slots.PutCell.{ends-after, ends-set, none-before, some-before, none-after, some-after, pair-same, IsPlaced, placed, put-cell, places-set}
 use Rattle.properties_format.proofs.Slots.EndCells.{last-at, live-last, final-live, close-end, put-end, places-end}
 use Rattle.properties_format.proofs.Slots.Links.{links-alive, links-push, alive-same}
 use Rattle.java_properties.specs.BodySlots.{LooseCells, is_pair_left, with_index, IsCell, AreCells, no_cell, stack_at, closing_in, HoldsCells, HoldsSome, IsFirstLeft, FindsFirst, IsLastOf, PutsKey, PutsOrKeeps, KeepsAll, Pushes, PushesEmpty}
@@ -315,13 +315,33 @@ place-after key cells i g h = elim (cases_lt 0 i) [
       absurd (cc)
 ]
 
+-- The last place of a key, and the slot there.
+module _ {body : List ℕ} {s : Slots} {cells : List Cell} (key : List ℕ) (place : ℕ) (h : HoldsCells body s cells)
+    (l : IsLastOf (stack_at s.places.entries key) (Some place)) where
+  pub last-stack : places key cells ≡ l.0 ++ place ∷ []
+  last-stack = sym (h.places_are key) ∙ l.1
+
+  pub last-placed : IsPlaced key cells place no_cell
+  last-placed = placed key cells l.0 place no_cell last-stack
+
+  pub last-inside : place < length s.slots.items
+  last-inside =
+      let at = last-placed in
+      let inside = at.inside in
+      let size = cells-length body s.slots.items cells h.cells_are in
+      omega arith
+
+  pub last-cell : (slot : Slot) → slot ≡ get_or s.slots.items place slot → IsCell body slot (get_or cells place no_cell)
+  last-cell slot is =
+      subst (λ v. IsCell body v (get_or cells place no_cell)) (sym is) (cells-at body s.slots.items cells place slot no_cell h.cells_are last-inside)
+
 -- The last place with a key is one of the slots, also after the first one was found.
 pub place-inside : (body key : List ℕ) (start old : Slots) (cells : List Cell) (place n : ℕ) → HoldsCells body start cells
     → IsLastOf (stack_at start.places.entries key) (Some place)
     → FindsFirst start n old
     → place < length old.slots.items
 place-inside body key start old cells place n h l f =
-    let at = placed key cells l.0 place no_cell (sym (h.places_are key) ∙ l.1) in
+    let at = last-placed key place h l in
     let inside = at.inside in
     let size = cells-length body old.slots.items cells (f.finds body cells h).1.cells_are in
     omega arith
@@ -337,8 +357,7 @@ puts-replaced e key value start old new place n bytes l f b r body m w h =
     let cells = h.cells in
     let found = f.finds body cells h.holds in
     let closing : format.Closing = closing_in start.closing start.separation in
-    let stack : places key cells ≡ l.0 ++ place ∷ [] = sym (h.holds.places_are key) ∙ l.1 in
-    let at = placed key cells l.0 place no_cell stack in
+    let at = last-placed key place h.holds l in
     let c : Cell = get_or cells place no_cell in
     let first = is_first (live (take place cells)) in
     let pair : Cell = record { slot = pair_slot e first key value c.slot.ending; alive = true } in
@@ -353,7 +372,7 @@ puts-replaced e key value start old new place n bytes l f b r body m w h =
     (ap₂ (λ u v. record { slot = record { bytes = u; ending = c.slot.ending; key = Some key }; alive = v }) printed at.alive) (r.is body (Some key) c before) in
     let whole =
     ap₂ (λ u v. let s : format.Slots = record { list = u; closing = v } in slots_put_at e key value s (last_slot key s.list)) h.list h.closing
-    ∙ put-cell e key value cells closing l.0 place no_cell stack in
+    ∙ put-cell e key value cells closing l.0 place no_cell (last-stack key place h.holds l) in
     record {
       cells = set cells place pair;
       holds = holds-refilled body old new cells place r.slot pair found.1 at.inside (place-after key cells place found.1.guard at.has) at.alive refl

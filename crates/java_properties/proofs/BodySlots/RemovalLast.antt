@@ -14,7 +14,7 @@ use Rattle.properties_format.specs.Reading.Slots.{empty_slot, left_out, slot_has
 use Rattle.properties_format.specs.Reading.Cells.{Cell, live, cell_has, places}
 use Rattle.properties_format.proofs.Slots.Cells.{places-append}
 use Rattle.properties_format.proofs.Slots.PushCells.{live-push, places-push}
-use Rattle.properties_format.proofs.Slots.PutCell.{ends-set, placed}
+use Rattle.properties_format.proofs.Slots.PutCell.{ends-set}
 use Rattle.properties_format.proofs.Slots.EndCells.{IsLastAt, last-at, live-last}
 use Rattle.properties_format.proofs.Slots.GuardCells.{last_has-cell}
 use Rattle.properties_format.proofs.Slots.Removing.{removing-start}
@@ -24,7 +24,7 @@ use Rattle.java_properties.specs.declared.edit.place.Closing.TheVariants as clos
 use Rattle.java_properties.specs.declared.edit.slots.Slot.{Slot}
 use Rattle.java_properties.specs.declared.edit.slots.Slots.{Slots}
 use Rattle.java_properties.proofs.BodySlots.{cells-length}
-use Rattle.java_properties.proofs.BodySlots.Put.{loose-set, holds-loose}
+use Rattle.java_properties.proofs.BodySlots.Put.{loose-set, holds-loose, last-placed}
 
 -- ---- an empty slot comes last
 
@@ -218,8 +218,7 @@ last-emptied key old new last slot n is popped ordered empty made links first le
     let more = h.holds.others in
     let end : last + 1 ≡ length cells = omega arith in
     let at = last-at cells last no_cell h.holds.ends end in
-    let stack : places key cells ≡ is.0 ++ last ∷ [] = sym (h.holds.places_are key) ∙ is.1 in
-    let there = placed key cells is.0 last no_cell stack in
+    let there = last-placed key last h.holds is in
     let has : cell_has key (get_or cells last no_cell) ≡ true =
     ap (λ b. b && slot_has key (get_or cells last no_cell).slot) there.alive ∙ there.has in
     let had : last_has key m.list ≡ true =

@@ -23,12 +23,11 @@ use Rattle.properties_format.specs.Reading.Body.{held_groups_of}
 use Rattle.properties_format.specs.Reading.Slots as format
 use Rattle.properties_format.specs.Reading.Slots.{left_out, ended_by, closed_by, is_first, slot_has, outcome_key, empty_slot, closed_slots, is_by_lf, is_by_cr, is_lf_alone}
 use Rattle.properties_format.specs.Reading.Settings.{is_good_separator}
-use Rattle.properties_format.specs.Reading.Cells.{Cell, live, places, closed_cell}
+use Rattle.properties_format.specs.Reading.Cells.{Cell, live, closed_cell}
 use Rattle.properties_format.specs.Reading.Valued.{between_if_pair, between_of, front_of, has_value, last_between, or_else, separator_by}
 use Rattle.properties_format.specs.Reading.ValuedSlots.{slot_group, revalued_slot, between_in_slot, last_slot_between, ending_past, ending_in_slots, closing_with, new_slot, slots_valued, IsReadAgain, AreReadAgain}
 use Rattle.properties_format.proofs.Body.Groups.{held_groups_of-meets}
 use Rattle.properties_format.proofs.Slots.Cells.{live-alive, live-dead}
-use Rattle.properties_format.proofs.Slots.PutCell.{placed}
 use Rattle.properties_format.proofs.Slots.EndCells.{close-end}
 use Rattle.properties_format.proofs.Slots.ValueCells.{value-kept, value-cell, value-end, last_slot_between-push, ending_in_slots-push}
 use Rattle.properties_format.proofs.Edited.Pair.{editable-own}
@@ -52,7 +51,7 @@ use Rattle.java_properties.proofs.BodySlots.Trails.{kept-at, kept-first, trails-
 use Rattle.std.specs.List.{remove}
 use Rattle.std.specs.Global.{Vec}
 use Rattle.std.proofs.lemmas.List.Edits.{length-remove, get_or-remove_above}
-use Rattle.java_properties.proofs.BodySlots.Put.{holds-refilled, place-after, last-tells, last-no_key, keeps-found}
+use Rattle.java_properties.proofs.BodySlots.Put.{holds-refilled, last-stack, last-placed, last-inside, last-cell, place-after, last-tells, last-no_key, keeps-found}
 
 -- ---- what is seen of the slots
 
@@ -629,6 +628,10 @@ guard-none cells high g none zero l m =
     and_false false = refl
 guard-none cells high g none (suc k) l m = none (suc k) (omega arith) m
 
+some-slot : (xs : List Slot) → 0 < length xs → Slot
+some-slot [] l = absurd (omega arith)
+some-slot (x ∷ xs) l = x
+
 -- There is no pair at all.
 pub pair-none : (e : Encoding) (body key : List ℕ) (old s : Slots) (count : ℕ) → ReadsIn e body old → SeeksPair e body old count s → count ≡ 0
     → separator_by key None ≡ separator_by key (last_slot_between e (seen body old.slots.items))
@@ -644,10 +647,6 @@ pair-none e body key old s count r h none =
     let d : Slot = some-slot ss (omega arith) in
     no_pair-all e body key ss 0
     (no_pair-to e body ss cells 0 (get_or s.pairs.items count (length ss)) d m.holds.cells_are (subst (HaveContents e) m.list r.told) (omega arith) all h.none) refl
-  where
-    some-slot : (xs : List Slot) → 0 < length xs → Slot
-    some-slot [] l = absurd (omega arith)
-    some-slot (x ∷ xs) l = x
 
 -- ---- the search for the last line ending
 
@@ -761,10 +760,6 @@ left-none body old s count is_before r h none e ok reads =
     (subst (NonePasses (λ c. c.alive) cells 1) end_is first) h.ends in
     sym (ends.same e ok reads ∙ ap (with_lf is_before) (guard-lf e body ss cells m.holds.cells_are held.guard) ∙ either is_before)
   where
-    some-slot : (xs : List Slot) → 0 < length xs → Slot
-    some-slot [] l = absurd (omega arith)
-    some-slot (x ∷ xs) l = x
-
     kept-low : (is : List ℕ) (cells : List Cell) → AreKept (λ c. c.alive) cells 1 is (length cells) → 1 ≤ get_or is 0 (length cells)
     kept-low [] cells h = h.0
     kept-low (i ∷ is) cells h = h.0
@@ -800,22 +795,16 @@ pub record IsPairAt (e : Encoding) (body : List ℕ) (s : Slots) (place : ℕ) (
 pub place-in : (e : Encoding) (body key : List ℕ) (s : Slots) (place : ℕ) → ReadsIn e body s → IsLastOf (stack_at s.places.entries key) (Some place)
     → place < length s.slots.items
 place-in e body key s place r l =
-    let m = r.held.holds in
-    let at = placed key m.cells l.0 place no_cell (sym (m.holds.places_are key) ∙ l.1) in
-    let inside = at.inside in
-    let size = cells-length body s.slots.items m.cells m.holds.cells_are in
-    omega arith
+    let m = r.held.holds in last-inside key place m.holds l
 
 pub pair-at : (e : Encoding) (body key : List ℕ) (s : Slots) (place : ℕ) (slot : Slot) → ReadsIn e body s → IsLastOf (stack_at s.places.entries key) (Some place)
     → slot ≡ get_or s.slots.items place slot → IsPairAt e body s place slot
 pair-at e body key s place slot r l is =
     let m = r.held.holds in
     let cells = m.cells in
-    let at = placed key cells l.0 place no_cell (sym (m.holds.places_are key) ∙ l.1) in
-    let inside = at.inside in
-    let size = cells-length body s.slots.items cells m.holds.cells_are in
+    let at = last-placed key place m.holds l in
     let c : Cell = get_or cells place no_cell in
-    let cell : IsCell body slot c = subst (λ v. IsCell body v c) (sym is) (cells-at body s.slots.items cells place slot no_cell m.holds.cells_are (omega arith)) in
+    let cell = last-cell key place m.holds l slot is in
     let read = read-cell e cells place no_cell (subst (AreReadAgain e) m.list r.again) at.inside at.alive in
     let told = is_pair-from_between key c.slot (outcome_of (joined (as_lines read.group))) at.has read.key_is in
     record {
@@ -838,12 +827,9 @@ pub values-kept : (e : Encoding) (body key value bytes : List ℕ) (s : Slots) (
 values-kept e body key value bytes s place slot l is bytes_are (group, alone, there) m w h =
     let cells = h.cells in
     let closing : format.Closing = closing_in s.closing s.separation in
-    let stack : places key cells ≡ l.0 ++ place ∷ [] = sym (h.holds.places_are key) ∙ l.1 in
-    let at = placed key cells l.0 place no_cell stack in
-    let inside = at.inside in
-    let size = cells-length body s.slots.items cells h.holds.cells_are in
+    let stack = last-stack key place h.holds l in
     let c : Cell = get_or cells place no_cell in
-    let cell : IsCell body slot c = subst (λ v. IsCell body v c) (sym is) (cells-at body s.slots.items cells place slot no_cell h.holds.cells_are (omega arith)) in
+    let cell = last-cell key place h.holds l slot is in
     let same : slot_group e c.slot ≡ group = ap (λ v. final_group (held_groups_of e v)) (cell.bytes ∙ sym bytes_are) ∙ ap final_group alone in
     let whole =
     ap₂ (λ u v. slots_valued e key value (record { list = u; closing = v })) h.list h.closing
@@ -863,20 +849,18 @@ pub values-replaced : (e : Encoding) (body key value bytes all : List ℕ) (old 
 values-replaced e body key value bytes all old new place slot change l is bytes_are g n n_is made r m w h =
     let cells = h.cells in
     let closing : format.Closing = closing_in old.closing old.separation in
-    let stack : places key cells ≡ l.0 ++ place ∷ [] = sym (h.holds.places_are key) ∙ l.1 in
-    let at = placed key cells l.0 place no_cell stack in
-    let inside = at.inside in
+    let stack = last-stack key place h.holds l in
+    let at = last-placed key place h.holds l in
     let size = cells-length body old.slots.items cells h.holds.cells_are in
     let c : Cell = get_or cells place no_cell in
-    let cell : IsCell body slot c = subst (λ v. IsCell body v c) (sym is) (cells-at body old.slots.items cells place slot no_cell h.holds.cells_are (omega arith)) in
+    let cell = last-cell key place h.holds l slot is in
     let same : slot_group e c.slot ≡ g.group = ap (λ v. final_group (held_groups_of e v)) (cell.bytes ∙ sym bytes_are) ∙ ap final_group g.is_group in
     let pair : Cell = record { slot = revalued_slot e value c.slot; alive = true } in
     let printed : all ≡ (revalued_slot e value c.slot).bytes =
     made
     ∙ ap₂ (λ u v. u ++ v) g.front (append-nil n ∙ n_is ∙ g.bytes_are)
     ∙ ap (λ v. front_of e v ++ encoded_text e (value_text e (between_of v) value)) (sym same) in
-    let before : IsCell body r.before c =
-    subst (λ v. IsCell body v c) (sym r.was) (cells-at body old.slots.items cells place r.before no_cell h.holds.cells_are (omega arith)) in
+    let before = last-cell key place h.holds l r.before r.was in
     let is_cell : IsCell body r.slot pair =
     subst (IsCell body r.slot)
     (ap₂ (λ u v. record { slot = record { bytes = u; ending = c.slot.ending; key = c.slot.key }; alive = v }) printed at.alive) (r.is body c.slot.key c before) in
@@ -939,7 +923,6 @@ values-appended e body key value separator bytes by start found new first ok rea
     let parts : List ℕ = separator_by key (last_slot_between e (live cells)) in
     let parts_is : separator ≡ parts = separates ∙ ap (separator_by key) (seen-between e body start.slots.items cells h.holds.cells_are) in
     let kept : List Cell = set cells last (closed_cell (closing_with own closing) (get_or cells last no_cell)) in
-    let two : Cell = record { slot = empty_slot None; alive = true } in
     let found_closing : found.closing ≡ start.closing = ap (λ v. let s : Slots = v in s.closing) f.same in
     let closing_same : closing_in found.closing by ≡ closing_with own closing =
     ap (λ v. closing_in v by) found_closing ∙ closing-by start.closing by start.separation ∙ ap (λ v. closing_with v closing) own_is in

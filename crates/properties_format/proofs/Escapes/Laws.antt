@@ -1,7 +1,7 @@
 -- What a text means, given what it begins with.
 use Rattle.std.proofs.Common.{◌≡◌, ℕ, ◌==◌, ◌<◌, length, true, false, List, [], ◌∷◌, ◌++◌, map, None, refl, ap, ◌∙◌, append-nil, arith}
 use Rattle.properties_format.specs.Text.{backslash}
-use Rattle.properties_format.specs.Escapes.{letter_u, escaped_character, Four, four_text, are_hexadecimal, code_unit, is_high, is_low, is_surrogate, pair_character, Spelling, itself, escaped, unicode, surrogates, last, spelling_character, IsSpelling, spellings_before, AreSpellings, not_enough_digits, not_hex, invalid_character, malformed_by, means, breaks}
+use Rattle.properties_format.specs.Escapes.{Malformed, letter_u, escaped_character, Four, four_text, are_hexadecimal, code_unit, is_high, is_low, is_surrogate, pair_character, Spelling, itself, escaped, unicode, surrogates, last, spelling_character, IsSpelling, spellings_before, AreSpellings, NoSpelling, not_enough_digits, not_hex, invalid_character, malformed_by, means, breaks}
 use Rattle.properties_format.specs.Reading.Escapes.{with_low, after_u, in_front, text_in_front, meaning_of}
 use Rattle.properties_format.specs.Writing.{HoldsNoBackslash}
 use Rattle.properties_format.proofs.Escapes.First.{spelling_of-none}
@@ -85,25 +85,29 @@ meaning_of-all ps h =
 
 -- ---- a `\u` that begins no spelling
 
+-- A `\u` and this text begin no spelling, and are malformed so.
+abbrev pub IsMalformedUnit : List ℕ → Malformed → Type 0
+IsMalformedUnit after kind = NoSpelling (backslash ∷ letter_u ∷ after) × (meaning_of (backslash ∷ letter_u ∷ after) ≡ breaks kind)
+
 -- no spelling is found after the `\u`
-pub meaning_of-none : (after : List ℕ) → after_u after ≡ None → meaning_of (backslash ∷ letter_u ∷ after) ≡ breaks (malformed_by after)
-meaning_of-none after e = meaning_of-fault after (spelling_of-none (backslash ∷ letter_u ∷ after) e)
+malformed-none : (after : List ℕ) (kind : Malformed) → after_u after ≡ None → malformed_by after ≡ kind → IsMalformedUnit after kind
+malformed-none after kind e k = let n = spelling_of-none (backslash ∷ letter_u ∷ after) e in (n, meaning_of-fault after n ∙ ap breaks k)
 
 -- fewer than four characters
-pub meaning_of-short : (after : List ℕ) → length after < 4 → meaning_of (backslash ∷ letter_u ∷ after) ≡ breaks not_enough_digits
-meaning_of-short (a ∷ b ∷ c ∷ d ∷ rest) h = absurd (omega arith)
-meaning_of-short after h = meaning_of-none after refl
+pub malformed-short : (after : List ℕ) → length after < 4 → IsMalformedUnit after not_enough_digits
+malformed-short (a ∷ b ∷ c ∷ d ∷ rest) h = absurd (omega arith)
+malformed-short after h = malformed-none after not_enough_digits refl refl
 
 -- four characters, one of which isn't a digit
-pub meaning_of-not_hex : (d : Four) (rest : List ℕ) → are_hexadecimal d ≡ false → meaning_of (backslash ∷ letter_u ∷ four_text d ++ rest) ≡ breaks not_hex
-meaning_of-not_hex d rest h = meaning_of-none (four_text d ++ rest) (rw h refl) ∙ rw h refl
+pub malformed-not_hex : (d : Four) (rest : List ℕ) → are_hexadecimal d ≡ false → IsMalformedUnit (four_text d ++ rest) not_hex
+malformed-not_hex d rest h = malformed-none (four_text d ++ rest) not_hex (rw h refl) (rw h refl)
 
 -- a low surrogate
-pub meaning_of-lone_low : (d : Four) (rest : List ℕ) → are_hexadecimal d ≡ true → is_high (code_unit d) ≡ false → is_low (code_unit d) ≡ true
-    → meaning_of (backslash ∷ letter_u ∷ four_text d ++ rest) ≡ breaks invalid_character
-meaning_of-lone_low d rest h k l = meaning_of-none (four_text d ++ rest) (rw h (rw k (rw l refl))) ∙ rw h refl
+pub malformed-lone_low : (d : Four) (rest : List ℕ) → are_hexadecimal d ≡ true → is_high (code_unit d) ≡ false → is_low (code_unit d) ≡ true
+    → IsMalformedUnit (four_text d ++ rest) invalid_character
+malformed-lone_low d rest h k l = malformed-none (four_text d ++ rest) invalid_character (rw h (rw k (rw l refl))) (rw h refl)
 
 -- a high surrogate that isn't followed by the `\u` escape of a low one
-pub meaning_of-lone_high : (d : Four) (rest : List ℕ) → are_hexadecimal d ≡ true → is_high (code_unit d) ≡ true → with_low d rest ≡ None
-    → meaning_of (backslash ∷ letter_u ∷ four_text d ++ rest) ≡ breaks invalid_character
-meaning_of-lone_high d rest h k l = meaning_of-none (four_text d ++ rest) (rw h (rw k l)) ∙ rw h refl
+pub malformed-lone_high : (d : Four) (rest : List ℕ) → are_hexadecimal d ≡ true → is_high (code_unit d) ≡ true → with_low d rest ≡ None
+    → IsMalformedUnit (four_text d ++ rest) invalid_character
+malformed-lone_high d rest h k l = malformed-none (four_text d ++ rest) invalid_character (rw h (rw k l)) (rw h refl)

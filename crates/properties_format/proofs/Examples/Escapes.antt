@@ -37,7 +37,7 @@ rows =
     ∷ []
 
 -- Each text resolves to the meaning in its row.
-each : map (λ r. meaning_of r.0) rows ≡ map (λ r. r.1) rows
+each : map (λ (text, meaning). meaning_of text) rows ≡ map (λ (text, meaning). meaning) rows
 unfolding meaning_of
 each = refl
 
@@ -79,6 +79,6 @@ lines =
     ∷ []
 
 -- The texts of each line resolve to the meanings in its row.
-each_line : map (λ r. meanings (split_of r.0)) lines ≡ map (λ r. r.1) lines
+each_line : map (λ (line, expected). meanings (split_of line)) lines ≡ map (λ (line, expected). expected) lines
 unfolding split_of meaning_of
 each_line = refl

@@ -1,13 +1,13 @@
 -- What readers will still return between two calls, computed.
 use Rattle.std.proofs.Common.{◌≡◌, ℕ, Bool, true, false, List, [], ◌∷◌, Some, refl}
-use Rattle.std.specs.Prelude.{codes}
+use Rattle.std.specs.Prelude.{map, codes}
 use Rattle.properties_format.specs.Encoding.{Encoding, windows_1252, utf_8, utf_16le}
 use Rattle.properties_format.specs.Reading.Encoding.{pieces_of}
-use Rattle.properties_format.specs.Lines.{end, fault, more}
+use Rattle.properties_format.specs.Lines.{InputEnd, end, fault, more}
 use Rattle.properties_format.specs.Reading.Split.{split_of}
 use Rattle.properties_format.specs.Escapes.{not_enough_digits}
 use Rattle.properties_format.specs.Reading.Escapes.{meaning_of}
-use Rattle.properties_format.specs.Items.{comment, pair, item, malformed, read_fault}
+use Rattle.properties_format.specs.Items.{Entry, comment, pair, item, malformed, read_fault}
 use Rattle.properties_format.specs.ItemsToCome.{ReaderState}
 use Rattle.properties_format.specs.Reading.ItemsToCome.{items_to_come, natural_to_come, last_to_come, entries_pending}
 
@@ -15,61 +15,36 @@ use Rattle.properties_format.specs.Reading.ItemsToCome.{items_to_come, natural_t
 abbrev going : Encoding → List ℕ → ℕ → Bool → ReaderState
 going e held passed after_cr = record { encoding = e; is_decided = true; held = held; passed = passed; after_cr = after_cr; is_done = false }
 
--- held bytes come before those to come, and line numbers continue
-held_first : items_to_come (going windows_1252 (codes "b=") 3 false) (codes "c\n#d") end ≡ item 4 (pair (codes "b") (codes "c")) ∷ item 5 (comment (codes "d")) ∷ []
-unfolding items_to_come pieces_of split_of meaning_of
-held_first = refl
+-- a reader's state, the bytes to come, how they end, and the items to come
+abbrev rows : List (ReaderState × List ℕ × InputEnd × List Entry)
+rows =
+    -- held bytes come before those to come, and line numbers continue
+    (going windows_1252 (codes "b=") 3 false, codes "c\n#d", end, item 4 (pair (codes "b") (codes "c")) ∷ item 5 (comment (codes "d")) ∷ [])
+    -- an LF after a CR belongs to the same line end
+    ∷ (going windows_1252 [] 1 true, codes "\n\na", end, item 3 (pair (codes "a") []) ∷ [])
+    -- an LF after an LF is another line end
+    ∷ (going windows_1252 [] 1 false, codes "\n\na", end, item 4 (pair (codes "a") []) ∷ [])
+    -- in UTF-16, half of that LF may be held
+    ∷ (going utf_16le (0x0a ∷ []) 1 true, 0x00 ∷ 0x61 ∷ 0x00 ∷ [], end, item 2 (pair (codes "a") []) ∷ [])
+    -- what comes may make a different unit of it
+    ∷ (going utf_16le (0x0a ∷ []) 1 true, 0x0a ∷ [], end, item 2 (pair (codes "ਊ") []) ∷ [])
+    -- once the encoding is determined, bytes like a byte order mark aren't one
+    ∷ (going windows_1252 [] 0 false, 0xef ∷ 0xbb ∷ 0xbf ∷ [], end, item 1 (pair (codes "ï»¿") []) ∷ [])
+    -- a byte order mark, part of which is held
+    ∷ (record { encoding = windows_1252; is_decided = false; held = 0xef ∷ 0xbb ∷ []; passed = 0; after_cr = false; is_done = false }, 0xbf ∷ 0x61 ∷ [], end, item 1 (pair (codes "a") []) ∷ [])
+    -- a failed read has the number of the line in which it fails, even if that line continues another
+    ∷ (going windows_1252 (codes "a\\\n") 6 false, codes "b", fault, read_fault 8 ∷ [])
+    -- if more may come, such a line has no item yet
+    ∷ (going windows_1252 (codes "a\\\n") 6 false, codes "b", more, [])
+    -- nothing follows a malformed escape
+    ∷ (going windows_1252 (codes "a\n\\u1\nb") 2 false, [], fault, item 3 (pair (codes "a") []) ∷ malformed not_enough_digits 4 ∷ [])
+    -- if the reader is permanently at its end, there is nothing, whatever is held
+    ∷ (record { encoding = utf_8; is_decided = true; held = codes "a=b\n"; passed = 4; after_cr = false; is_done = true }, codes "c=d\n", fault, [])
+    ∷ []
 
--- an LF after a CR belongs to the same line end
-lf_after_cr : items_to_come (going windows_1252 [] 1 true) (codes "\n\na") end ≡ item 3 (pair (codes "a") []) ∷ []
+each : map (λ (state, bytes, ending, items). items_to_come state bytes ending) rows ≡ map (λ (state, bytes, ending, items). items) rows
 unfolding items_to_come pieces_of split_of meaning_of
-lf_after_cr = refl
-
--- an LF after an LF is another line end
-lf_after_lf : items_to_come (going windows_1252 [] 1 false) (codes "\n\na") end ≡ item 4 (pair (codes "a") []) ∷ []
-unfolding items_to_come pieces_of split_of meaning_of
-lf_after_lf = refl
-
--- in UTF-16, half of that LF may be held
-half_an_lf : items_to_come (going utf_16le (0x0a ∷ []) 1 true) (0x00 ∷ 0x61 ∷ 0x00 ∷ []) end ≡ item 2 (pair (codes "a") []) ∷ []
-unfolding items_to_come pieces_of split_of meaning_of
-half_an_lf = refl
-
--- what comes may make a different unit of it
-half_no_lf : items_to_come (going utf_16le (0x0a ∷ []) 1 true) (0x0a ∷ []) end ≡ item 2 (pair (codes "ਊ") []) ∷ []
-unfolding items_to_come pieces_of split_of meaning_of
-half_no_lf = refl
-
--- once the encoding is determined, bytes like a byte order mark aren't one
-no_second_mark : items_to_come (going windows_1252 [] 0 false) (0xef ∷ 0xbb ∷ 0xbf ∷ []) end ≡ item 1 (pair (codes "ï»¿") []) ∷ []
-unfolding items_to_come pieces_of split_of meaning_of
-no_second_mark = refl
-
--- a byte order mark, part of which is held
-part_of_a_mark : items_to_come (record { encoding = windows_1252; is_decided = false; held = 0xef ∷ 0xbb ∷ []; passed = 0; after_cr = false; is_done = false }) (0xbf ∷ 0x61 ∷ []) end
-    ≡ item 1 (pair (codes "a") []) ∷ []
-unfolding items_to_come pieces_of split_of meaning_of
-part_of_a_mark = refl
-
--- a failed read has the number of the line in which it fails, even if that line continues another
-fault_in_a_join : items_to_come (going windows_1252 (codes "a\\\n") 6 false) (codes "b") fault ≡ read_fault 8 ∷ []
-unfolding items_to_come pieces_of split_of meaning_of
-fault_in_a_join = refl
-
--- if more may come, such a line has no item yet
-more_in_a_join : items_to_come (going windows_1252 (codes "a\\\n") 6 false) (codes "b") more ≡ []
-unfolding items_to_come pieces_of split_of meaning_of
-more_in_a_join = refl
-
--- nothing follows a malformed escape
-malformed_last : items_to_come (going windows_1252 (codes "a\n\\u1\nb") 2 false) [] fault ≡ item 3 (pair (codes "a") []) ∷ malformed not_enough_digits 4 ∷ []
-unfolding items_to_come pieces_of split_of meaning_of
-malformed_last = refl
-
--- if the reader is permanently at its end, there is nothing, whatever is held
-done_for_good : items_to_come (record { encoding = utf_8; is_decided = true; held = codes "a=b\n"; passed = 4; after_cr = false; is_done = true }) (codes "c=d\n") fault ≡ []
-unfolding items_to_come pieces_of split_of meaning_of
-done_for_good = refl
+each = refl
 
 -- only the natural lines
 natural : natural_to_come (going windows_1252 (codes "a\\\n") 6 false) (codes "b\r\n") end

@@ -1,6 +1,6 @@
 -- Worked examples of lines.
 use Rattle.std.proofs.Common.{◌≡◌, ℕ, true, false, List, [], ◌∷◌, ◌++◌, refl}
-use Rattle.std.specs.Prelude.{codes}
+use Rattle.std.specs.Prelude.{map, codes}
 use Rattle.properties_format.specs.Text.{LineEnding, lf, cr, crlf, line_ending_text}
 use Rattle.properties_format.specs.Lines.{Line, numbered_lines, end, more}
 use Rattle.properties_format.specs.Reading.Lines.{lines_of, lines_to_come}
@@ -20,29 +20,23 @@ of_none = refl
 of_space : read (codes " ") ≡ line 1 (codes " ") ∷ []
 of_space = refl
 
--- a space and any line ending are a line with a space and an empty line
-of_space_ended : (t : LineEnding) → read (codes " " ++ line_ending_text t) ≡ line 1 (codes " ") ∷ line 2 [] ∷ []
-of_space_ended lf = refl
-of_space_ended cr = refl
-of_space_ended crlf = refl
+-- a text before any line ending, a text after it, and their lines
+abbrev around : List (List ℕ × List ℕ × List Line)
+around =
+    -- a space and any line ending are a line with a space and an empty line
+    (codes " ", [], line 1 (codes " ") ∷ line 2 [] ∷ [])
+    -- any line ending between two spaces separates them into two lines
+    ∷ (codes " ", codes " ", line 1 (codes " ") ∷ line 2 (codes " ") ∷ [])
+    -- any line ending by itself comes between two empty lines
+    ∷ ([], [], line 1 [] ∷ line 2 [] ∷ [])
+    -- any line ending before a space ends an empty line
+    ∷ ([], codes " ", line 1 [] ∷ line 2 (codes " ") ∷ [])
+    ∷ []
 
--- any line ending between two spaces separates them into two lines
-of_spaces : (t : LineEnding) → read (codes " " ++ (line_ending_text t ++ codes " ")) ≡ line 1 (codes " ") ∷ line 2 (codes " ") ∷ []
-of_spaces lf = refl
-of_spaces cr = refl
-of_spaces crlf = refl
-
--- any line ending by itself comes between two empty lines
-of_end : (t : LineEnding) → read (line_ending_text t) ≡ line 1 [] ∷ line 2 [] ∷ []
-of_end lf = refl
-of_end cr = refl
-of_end crlf = refl
-
--- any line ending before a space ends an empty line
-of_end_space : (t : LineEnding) → read (line_ending_text t ++ codes " ") ≡ line 1 [] ∷ line 2 (codes " ") ∷ []
-of_end_space lf = refl
-of_end_space cr = refl
-of_end_space crlf = refl
+each_around : (t : LineEnding) → map (λ (before, after, divided). read (before ++ (line_ending_text t ++ after))) around ≡ map (λ (before, after, divided). divided) around
+each_around lf = refl
+each_around cr = refl
+each_around crlf = refl
 
 -- CR CR LF is two line ends, and so is LF CR
 of_cr_crlf : lines_of (13 ∷ 13 ∷ 10 ∷ []) ≡ record { ended = record { text = []; by = cr } ∷ record { text = []; by = crlf } ∷ []; last = [] }

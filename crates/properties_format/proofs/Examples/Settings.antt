@@ -1,120 +1,78 @@
 -- Which prefixes and separators are good.
-use Rattle.std.proofs.Common.{◌≡◌, true, false, [], refl}
-use Rattle.std.specs.Prelude.{codes}
+use Rattle.std.proofs.Common.{◌≡◌, ℕ, Bool, true, false, List, [], ◌∷◌, refl}
+use Rattle.std.specs.Prelude.{map, codes}
 use Rattle.properties_format.specs.Reading.Settings.{is_good_prefix, is_good_separator}
 
--- good prefixes
-number_sign_alone : is_good_prefix (codes "#") ≡ true
-number_sign_alone = refl
+-- a prefix, and whether it is good
+abbrev prefixes : List (List ℕ × Bool)
+prefixes =
+    -- `#` by itself
+    (codes "#", true)
+    -- `!` by itself
+    ∷ (codes "!", true)
+    -- `#` after a space
+    ∷ (codes " #", true)
+    -- `!` after a space
+    ∷ (codes " !", true)
+    -- `#` before a letter
+    ∷ (codes "#x", true)
+    -- `!` before a letter
+    ∷ (codes "!x", true)
+    -- `#` after a form feed
+    ∷ (codes "\u{c}#", true)
+    -- `#` before a backslash
+    ∷ (codes "#\\", true)
+    -- an empty prefix
+    ∷ ([], false)
+    -- a space, without a comment sign
+    ∷ (codes " ", false)
+    -- a letter instead of a comment sign
+    ∷ (codes "x", false)
+    -- an LF before `#`
+    ∷ (codes "\n#", false)
+    -- an LF after `#`
+    ∷ (codes "#\n", false)
+    -- a CR after `#`
+    ∷ (codes "#\r", false)
+    ∷ []
 
--- `!` by itself
-exclamation_mark_alone : is_good_prefix (codes "!") ≡ true
-exclamation_mark_alone = refl
+each_prefix : map (λ (text, good). is_good_prefix text) prefixes ≡ map (λ (text, good). good) prefixes
+each_prefix = refl
 
--- `#` after a space
-blank_and_number_sign : is_good_prefix (codes " #") ≡ true
-blank_and_number_sign = refl
+-- a separator, and whether it is good
+abbrev separators : List (List ℕ × Bool)
+separators =
+    -- `:` by itself
+    (codes ":", true)
+    -- `=` by itself
+    ∷ (codes "=", true)
+    -- a single space
+    ∷ (codes " ", true)
+    -- `:` after a space
+    ∷ (codes " :", true)
+    -- `:` before a space
+    ∷ (codes ": ", true)
+    -- `=` after a space
+    ∷ (codes " =", true)
+    -- `=` before a space
+    ∷ (codes "= ", true)
+    -- a single form feed
+    ∷ (codes "\u{c}", true)
+    -- a single tab
+    ∷ (codes "\t", true)
+    -- an empty separator
+    ∷ ([], false)
+    -- a letter, which is neither a sign nor a blank
+    ∷ (codes "x", false)
+    -- `:` and `=`, which are two signs
+    ∷ (codes ":=", false)
+    -- `=` and `:`
+    ∷ (codes "=:", false)
+    -- an LF, which isn't a blank
+    ∷ (codes "\n", false)
+    -- a CR, which isn't a blank
+    ∷ (codes "\r", false)
+    ∷ []
 
--- `!` after a space
-blank_and_exclamation_mark : is_good_prefix (codes " !") ≡ true
-blank_and_exclamation_mark = refl
-
--- `#` before a letter
-text_behind_number_sign : is_good_prefix (codes "#x") ≡ true
-text_behind_number_sign = refl
-
--- `!` before a letter
-text_behind_exclamation_mark : is_good_prefix (codes "!x") ≡ true
-text_behind_exclamation_mark = refl
-
--- `#` after a form feed
-form_feed_and_number_sign : is_good_prefix (codes "\u{c}#") ≡ true
-form_feed_and_number_sign = refl
-
--- `#` before a backslash
-backslash_behind_number_sign : is_good_prefix (codes "#\\") ≡ true
-backslash_behind_number_sign = refl
-
--- bad prefixes
-empty_prefix : is_good_prefix [] ≡ false
-empty_prefix = refl
-
--- a space, without a comment sign
-blank_prefix : is_good_prefix (codes " ") ≡ false
-blank_prefix = refl
-
--- a letter instead of a comment sign
-no_sign : is_good_prefix (codes "x") ≡ false
-no_sign = refl
-
--- an LF before `#`
-line_feed_before_sign : is_good_prefix (codes "\n#") ≡ false
-line_feed_before_sign = refl
-
--- an LF after `#`
-line_feed_behind_sign : is_good_prefix (codes "#\n") ≡ false
-line_feed_behind_sign = refl
-
--- a CR after `#`
-carriage_return_behind_sign : is_good_prefix (codes "#\r") ≡ false
-carriage_return_behind_sign = refl
-
--- good separators
-colon_alone : is_good_separator (codes ":") ≡ true
-colon_alone = refl
-
--- `=` by itself
-equals_alone : is_good_separator (codes "=") ≡ true
-equals_alone = refl
-
--- a single space
-one_blank : is_good_separator (codes " ") ≡ true
-one_blank = refl
-
--- `:` after a space
-blank_and_colon : is_good_separator (codes " :") ≡ true
-blank_and_colon = refl
-
--- `:` before a space
-colon_and_blank : is_good_separator (codes ": ") ≡ true
-colon_and_blank = refl
-
--- `=` after a space
-blank_and_equals : is_good_separator (codes " =") ≡ true
-blank_and_equals = refl
-
--- `=` before a space
-equals_and_blank : is_good_separator (codes "= ") ≡ true
-equals_and_blank = refl
-
--- a single form feed
-form_feed_alone : is_good_separator (codes "\u{c}") ≡ true
-form_feed_alone = refl
-
--- a single tab
-tab_alone : is_good_separator (codes "\t") ≡ true
-tab_alone = refl
-
--- bad separators
-empty_separator : is_good_separator [] ≡ false
-empty_separator = refl
-
--- a letter, which is neither a sign nor a blank
-letter : is_good_separator (codes "x") ≡ false
-letter = refl
-
--- `:` and `=`, which are two signs
-colon_and_equals : is_good_separator (codes ":=") ≡ false
-colon_and_equals = refl
-
--- `=` and `:`
-equals_and_colon : is_good_separator (codes "=:") ≡ false
-equals_and_colon = refl
-
--- an LF, which isn't a blank
-line_feed_alone : is_good_separator (codes "\n") ≡ false
-line_feed_alone = refl
-
--- a CR, which isn't a blank
-carriage_return_alone : is_good_separator (codes "\r") ≡ false
-carriage_return_alone = refl
+each_separator : map (λ (text, good). is_good_separator text) separators ≡ map (λ (text, good). good) separators
+each_separator = refl

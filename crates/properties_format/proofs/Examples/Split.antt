@@ -1,19 +1,14 @@
 -- Lines and what they are, computed.
-use Rattle.std.specs.Prelude.{◌≡◌, refl, ℕ, List, [], ◌∷◌, ◌++◌, map, codes}
-use Rattle.properties_format.specs.Text.{form_feed}
+use Rattle.std.specs.Prelude.{◌≡◌, refl, ℕ, List, [], ◌∷◌, map, codes}
 use Rattle.properties_format.specs.Split.{Logical, blank, comment, pair}
 use Rattle.properties_format.specs.Reading.Split.{split_of}
 
--- U+1F41E
-bug : List ℕ
-bug = 0x1_f41e ∷ []
-
+-- a line, and what it is
 abbrev rows : List (List ℕ × Logical)
-unfolding bug
 rows =
     (codes "", blank)
     ∷ (codes " ", blank)
-    ∷ (codes " \t" ++ (form_feed ∷ []), blank)
+    ∷ (codes " \t\u{c}", blank)
     ∷ (codes "\\", pair (codes "\\") (codes ""))
     ∷ (codes "a=\\", pair (codes "a") (codes "\\"))
     ∷ (codes "a", pair (codes "a") (codes ""))
@@ -31,7 +26,7 @@ rows =
     ∷ (codes "=", pair (codes "") (codes ""))
     ∷ (codes "\\=x", pair (codes "\\=x") (codes ""))
     ∷ (codes "\\ ", pair (codes "\\ ") (codes ""))
-    ∷ (bug ++ (codes "=" ++ bug), pair bug bug)
+    ∷ (codes "🐞=🐞", pair (codes "🐞") (codes "🐞"))
     ∷ (codes " # foo", comment (codes "foo"))
     ∷ (codes "a # foo", pair (codes "a") (codes "# foo"))
     ∷ (codes "a=:b", pair (codes "a") (codes ":b"))
@@ -47,6 +42,6 @@ rows =
     ∷ []
 
 -- Each line is what its row says.
-each : map (λ r. split_of r.0) rows ≡ map (λ r. r.1) rows
-unfolding split_of bug
+each : map (λ (line, parts). split_of line) rows ≡ map (λ (line, parts). parts) rows
+unfolding split_of
 each = refl

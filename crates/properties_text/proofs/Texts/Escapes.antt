@@ -1,13 +1,13 @@
 -- Escapes at the front of a text.
-use Rattle.std.proofs.Common.{◌≡◌, ℕ, ◌<◌, ◌≤◌, ◌+◌, ◌*◌, ◌==◌, ◌&&◌, if◌then◌else◌, true, false, List, [], ◌∷◌, ◌++◌, length, refl, ap, ap₂, ◌≢◌, sym, ◌∙◌, inl, inr, arith, lit<}
+use Rattle.std.proofs.Common.{◌≡◌, ℕ, ◌<◌, ◌≤◌, ◌+◌, ◌*◌, ◌==◌, ◌&&◌, if◌then◌else◌, true, false, List, [], ◌∷◌, ◌++◌, length, refl, ap, ap₂, ◌≢◌, sym, ◌∙◌, subst, inl, inr, arith, lit<}
 use Rattle.std.specs.Prelude.{Some, None, Err}
 use Rattle.std.proofs.lemmas.Bool.{cases_Bool, cond-true, cond-false, and_parts, and_from, and_left, and_right, false_from_ne_true, eqb-true, ne_eqb}
 use Rattle.std.proofs.lemmas.Bool.Decides.{nat_tests}
 use Rattle.std.specs.Char.{InScalarRange, OutOfScalarRange}
 use Rattle.properties_format.specs.Text.{backslash}
-use Rattle.properties_format.specs.Escapes.{letter_u, is_hexadecimal, hexadecimal_value, Four, four_text, are_hexadecimal, code_unit, is_high, is_low, is_surrogate, pair_character, escaped_character, not_hex, invalid_character, breaks}
+use Rattle.properties_format.specs.Escapes.{letter_u, is_hexadecimal, hexadecimal_value, Four, four_text, are_hexadecimal, code_unit, is_high, is_low, is_surrogate, pair_character, escaped_character, not_hex, invalid_character}
 use Rattle.properties_format.specs.Reading.Escapes.{in_front, with_low, meaning_of}
-use Rattle.properties_format.proofs.Escapes.Laws.{meaning_of-escaped, meaning_of-unicode, meaning_of-surrogates, meaning_of-last, meaning_of-short, meaning_of-not_hex, meaning_of-lone_low, meaning_of-lone_high}
+use Rattle.properties_format.proofs.Escapes.Laws.{meaning_of-escaped, meaning_of-unicode, meaning_of-surrogates, meaning_of-last, IsMalformedUnit, malformed-short, malformed-not_hex, malformed-lone_low, malformed-lone_high}
 use Rattle.properties_format.proofs.Escapes.Scalars.{code_unit-below}
 use Rattle.properties_format.proofs.Escapes.Unique.{meaning_of-empty}
 use lib.Utf8.{encode, encodes}
@@ -75,23 +75,6 @@ meaning-unit text rest value u s =
     ∙ meaning_of-unicode u.digits rest u.hexadecimal (sym (ap is_surrogate u.writes) ∙ s)
     ∙ ap (λ v. in_front v (meaning_of rest)) (sym u.writes)
 
-pub meaning-lacks : (text : List ℕ) → LacksDigit text → meaning_of (backslash ∷ letter_u ∷ text) ≡ breaks not_hex
-meaning-lacks text l = ap (λ v. meaning_of (backslash ∷ letter_u ∷ v)) l.whole ∙ meaning_of-not_hex l.four l.rest l.not_hexadecimal
-
--- The escape of a low surrogate.
-pub meaning-low : (text rest : List ℕ) (value : ℕ) → IsUnit text value rest → is_high value ≡ false → is_low value ≡ true
-    → meaning_of (backslash ∷ letter_u ∷ text) ≡ breaks invalid_character
-meaning-low text rest value u h l =
-    ap (λ v. meaning_of (backslash ∷ letter_u ∷ v)) u.whole
-    ∙ meaning_of-lone_low u.digits rest u.hexadecimal (sym (ap is_high u.writes) ∙ h) (sym (ap is_low u.writes) ∙ l)
-
--- The escape of a high surrogate without a low one after it.
-meaning-high : (text rest : List ℕ) (value : ℕ) → IsUnit text value rest → is_high value ≡ true → ((d : Four) → with_low d rest ≡ None)
-    → meaning_of (backslash ∷ letter_u ∷ text) ≡ breaks invalid_character
-meaning-high text rest value u h l =
-    ap (λ v. meaning_of (backslash ∷ letter_u ∷ v)) u.whole
-    ∙ meaning_of-lone_high u.digits rest u.hexadecimal (sym (ap is_high u.writes) ∙ h) (l u.digits)
-
 -- The escape of a high surrogate with a low one after it.
 pub meaning-pair : (text rest after : List ℕ) (high low : ℕ) → IsUnit text high (backslash ∷ letter_u ∷ rest) → IsUnit rest low after
     → is_high high ≡ true → is_low low ≡ true → meaning_of (backslash ∷ letter_u ∷ text) ≡ in_front (pair_character high low) (meaning_of after)
@@ -137,12 +120,12 @@ high-or-low : (value : ℕ) → 0xd800 ≤ value → value < 0xe000 → is_high 
 high-or-low value l h k = grind (arith, nat_tests)
 
 -- A surrogate without its other half.
-pub meaning-unpaired : (text rest : List ℕ) (value : ℕ) → IsUnit text value rest → 0xd800 ≤ value → value < 0xe000
-    → (is_high value ≡ true → (d : Four) → with_low d rest ≡ None) → meaning_of (backslash ∷ letter_u ∷ text) ≡ breaks invalid_character
-meaning-unpaired text rest value u l h k = elim (cases_Bool (is_high value)) [
-  | inl e ↦ meaning-high text rest value u e (k e)
-  | inr e ↦ meaning-low text rest value u e (high-or-low value l h e)
-]
+pub malformed-unpaired : (text rest : List ℕ) (value : ℕ) → IsUnit text value rest → 0xd800 ≤ value → value < 0xe000
+    → (is_high value ≡ true → (d : Four) → with_low d rest ≡ None) → IsMalformedUnit text invalid_character
+malformed-unpaired text rest value u l h k = subst (λ v. IsMalformedUnit v invalid_character) (sym u.whole) (elim (cases_Bool (is_high value)) [
+  | inl e ↦ malformed-lone_high u.digits rest u.hexadecimal (sym (ap is_high u.writes) ∙ e) (k e u.digits)
+  | inr e ↦ malformed-lone_low u.digits rest u.hexadecimal (sym (ap is_high u.writes) ∙ e) (sym (ap is_low u.writes) ∙ high-or-low value l h e)
+])
 
 -- A unit that is a scalar value isn't a surrogate.
 pub scalar-unit : (value : ℕ) → InScalarRange value → is_surrogate value ≡ false
@@ -170,11 +153,11 @@ other-character c t n f r = rw (ne_eqb c 0x74 t, ne_eqb c 0x6e n, ne_eqb c 0x66 
 
 -- ---- units that were not read
 
-pub meaning-unread : (text : List ℕ) (malformed : Malformed) → ReadsUnit text (Err malformed)
-    → meaning_of (backslash ∷ letter_u ∷ text) ≡ breaks (malformed_in malformed)
-meaning-unread text NotEnoughDigits h = meaning_of-short text h
-meaning-unread text NotHex h = meaning-lacks text h
-meaning-unread text InvalidCharacter h = absurd h
+pub malformed-unread : (text : List ℕ) (malformed : Malformed) → ReadsUnit text (Err malformed)
+    → IsMalformedUnit text (malformed_in malformed)
+malformed-unread text NotEnoughDigits h = malformed-short text h
+malformed-unread text NotHex h = subst (λ v. IsMalformedUnit v not_hex) (sym h.whole) (malformed-not_hex h.four h.rest h.not_hexadecimal)
+malformed-unread text InvalidCharacter h = absurd h
 
 pub low-unread : (d : Four) (text : List ℕ) (malformed : Malformed) → ReadsUnit text (Err malformed) → with_low d (backslash ∷ letter_u ∷ text) ≡ None
 low-unread d text NotEnoughDigits h = low-short d text h
@@ -204,12 +187,12 @@ escape-front bs rest u e =
     let two = character_and (letter_u ∷ rest) rest letter_u one.utf8 (ap (λ v. v ++ rest) (sym (encode-one letter_u (lit< tt)))) in
     one.characters ∙ ap (λ v. backslash ∷ v) two.characters
 
-pub no_escape-front : (bs : List ℕ) → IsUtf8 bs → ((rest : List ℕ) → bs ≢ backslash ∷ letter_u ∷ rest) → (y : List ℕ) → chars bs ≡ backslash ∷ letter_u ∷ y → ⊥
-no_escape-front bs u h y e = h (encodes y) (
+pub escape-bytes : (bs y : List ℕ) → IsUtf8 bs → chars bs ≡ backslash ∷ letter_u ∷ y → bs ≡ backslash ∷ letter_u ∷ encodes y
+escape-bytes bs y u e =
     sym (encodes-chars bs u)
     ∙ ap encodes e
     ∙ ap (λ v. v ++ (encode letter_u ++ encodes y)) (encode-one backslash (lit< tt))
-    ∙ ap (λ v. backslash ∷ v ++ encodes y) (encode-one letter_u (lit< tt)))
+    ∙ ap (λ v. backslash ∷ v ++ encodes y) (encode-one letter_u (lit< tt))
 
 -- ---- the character after a backslash, as it was read from a text
 

@@ -1,6 +1,6 @@
 -- A pair that is printed from where it stands in a line.
 use Rattle.std.proofs.Common.{◌≡◌, ℕ, ◌<◌, ◌≤◌, ◌+◌, ◌-◌, Bool, true, false, List, [], ◌∷◌, ◌++◌, length, take, drop, get_or, lit<, refl, sym, ap, ◌∙◌, subst, inl, inr, append_assoc, arith}
-use Rattle.std.specs.Prelude.{Option, Some}
+use Rattle.std.specs.Prelude.{Option, Some, ◌&&◌, not}
 use Rattle.std.proofs.lemmas.Bool.{cases_lt}
 use Rattle.std.proofs.lemmas.List.{length-append, length-take, length-take-le, drop-take, take-take, take-append-le, get_or-take, get_or_past, get_or-append-add}
 use Rattle.properties_format.specs.Encoding.{begins_like_bom}
@@ -13,7 +13,9 @@ use Rattle.properties_text.specs.Escaping.{IsRefused}
 use Rattle.properties_text.specs.Parsing.{bytes_in, IsPairAt, AreInPlace}
 use Rattle.properties_text.specs.declared.parse.ParsedSpans.{ParsedSpans}
 use Rattle.properties_text.specs.declared.parse.ParsedSpans.TheVariants.{KVPair}
-use Rattle.properties_text.specs.Printing.{text_bytes, key_bytes}
+use Rattle.properties_text.specs.Printing.{all_of_windows_1252, is_windows_1252, is_all_of_windows_1252, text_bytes, key_bytes}
+use Rattle.properties_text.specs.declared.encoding.encode.OutputEncoding.{OutputEncoding}
+use Rattle.properties_text.specs.declared.encoding.encode.OutputEncoding.TheVariants.{Windows1252, Utf8}
 use Rattle.properties_text.specs.declared.encoding.Encoding.TheVariants.{WINDOWS_1252}
 use Rattle.properties_text.specs.declared.escape.UnescapeError.{UnescapeError}
 use Rattle.properties_text.specs.declared.escape.UnescapeError.TheVariants as error
@@ -21,7 +23,7 @@ use Rattle.properties_text.specs.declared.print.undecoded.UndecodedPair.{Undecod
 use Rattle.properties_text.specs.declared.parse.Span.{Span}
 use Rattle.properties_text.specs.declared.print.Place.TheVariants.{KeyOrValue}
 use Rattle.properties_text.specs.declared.print.Repertoire.{Repertoire}
-use Rattle.properties_text.specs.UndecodedTexts.{IsAppended, undecoded_line, IsUndecodedPair, IsPairAppended, IsPairRefused}
+use Rattle.properties_text.specs.UndecodedTexts.{IsAppended, undecoded_line, IsUndecodedPair, IsPairAppended, IsPairRefused, BeginsPastAscii}
 
 -- the text of bytes
 text : (d : List ℕ) → text_of WINDOWS_1252 d ≡ characters_of d
@@ -83,6 +85,16 @@ pair-split p h =
     let value = bytes_in p.bytes.now p.value in
     rw (text (undecoded_line p), text key, text value) ((splitting-commutes (undecoded_line p)).split (pair key value) (line-split p h))
 
+-- the repertoire that is all of windows-1252
+pub all-is : (r : Repertoire) → is_all_of_windows_1252 r ≡ true → r ≡ all_of_windows_1252
+all-is r h = by-parts r.encoding r.ascii_only h
+  where
+    by-parts : (e : OutputEncoding) (only : Bool) → (is_windows_1252 e && not only) ≡ true
+        → let r : Repertoire = record { encoding = e; ascii_only = only } in r ≡ all_of_windows_1252
+    by-parts Windows1252 false k = refl
+    by-parts Windows1252 true k = absurd (cc)
+    by-parts Utf8 only k = absurd (cc)
+
 -- what is appended one after another
 pub parts-appended : (r : Repertoire) (first : Bool) (old one two three four separator ending : List ℕ) (p : UndecodedPair) → IsUndecodedPair p
     → IsAppended r first old (bytes_in p.bytes.now p.key) one → two ≡ one ++ separator
@@ -127,27 +139,37 @@ ascii-unmarked (x ∷ xs) h = byte_order_mark-cut [] x xs h
 key-alike : (r : Repertoire) (key : List ℕ) → begins_like_bom (key_bytes r false key) ≡ false → key_bytes r true key ≡ key_bytes r false key
 key-alike r key h = rw h refl
 
--- one of the first bytes, or the default
-front-small : (at i : ℕ) (bytes : List ℕ) → get_or bytes i 0 < 0x80 → get_or (take at bytes) i 0 < 0x80
-front-small at i bytes h = elim (cases_lt i at) [
-  | inl t ↦ subst (λ v. v < 0x80) (sym (get_or-take at bytes i 0 t)) h
-  | inr f ↦ subst (λ v. v < 0x80) (sym (get_or_past (take at bytes) i 0 (let e = length-take at bytes in omega (arith, e, f)))) (lit< tt)
-]
+-- the first byte that was put for a text
+first-put : (filled at : ℕ) (old key out : List ℕ) → length old ≡ filled → take at out ≡ old ++ key → get_or (take at out) filled 0 ≡ get_or key 0 0
+first-put filled at old key out long e =
+    let place : filled ≡ length old + 0 = omega (arith, long) in
+    ap (λ v. get_or v filled 0) e ∙ ap (λ n. get_or (old ++ key) n 0) place ∙ get_or-append-add old key 0 0
 
--- A first key whose bytes begin with an ASCII byte is printed as any other.
+-- A first key whose bytes are none or begin with an ASCII byte is printed as any other.
 pub first-alike : (r : Repertoire) (first : Bool) (filled at : ℕ) (old bytes out : List ℕ) → length old ≡ filled
-    → (first ≡ true → get_or out filled 0 < 0x80)
+    → (first ≡ true → filled < at → get_or out filled 0 < 0x80)
     → IsAppended r false old bytes (take at out) → IsAppended r first old bytes (take at out)
 first-alike r false filled at old bytes out long h p = p
 first-alike r true filled at old bytes out long h p =
     let key = key_bytes r false p.meant in
-    let place : filled ≡ length old + 0 = omega (arith, long) in
-    let begins = ap (λ v. get_or v filled 0) p.printed ∙ ap (λ n. get_or (old ++ key) n 0) place ∙ get_or-append-add old key 0 0 in
+    let small : get_or (take at out) filled 0 < 0x80 = elim (cases_lt filled at) [
+      | inl t ↦ subst (λ v. v < 0x80) (sym (get_or-take at out filled 0 t)) (h refl t)
+      | inr f ↦ subst (λ v. v < 0x80) (sym (get_or_past (take at out) filled 0 (let e = length-take at out in omega (arith, e, f)))) (lit< tt)
+    ] in
     record {
       meant = p.meant;
       meaning = p.meaning;
-      printed = p.printed ∙ ap (λ k. old ++ k) (sym (key-alike r p.meant (ascii-unmarked key (subst (λ v. v < 0x80) begins (front-small at filled out (h refl))))));
+      printed = p.printed ∙ ap (λ k. old ++ k) (sym (key-alike r p.meant (ascii-unmarked key (subst (λ v. v < 0x80) (first-put filled at old key out long p.printed) small))));
     }
+
+-- A first key that was put with a byte past ASCII at its front begins so.
+pub begins-past : (filled at : ℕ) (old bytes out : List ℕ) → length old ≡ filled → filled < at → 0x80 ≤ get_or out filled 0
+    → IsAppended all_of_windows_1252 false old bytes (take at out) → BeginsPastAscii bytes
+begins-past filled at old bytes out long t past p = record {
+  meant = p.meant;
+  meaning = p.meaning;
+  past = subst (λ v. 0x80 ≤ v) (sym (get_or-take at out filled 0 t) ∙ first-put filled at old (key_bytes all_of_windows_1252 false p.meant) out long p.printed) past;
+}
 
 -- what is put after a place keeps what is before it
 pub put-keeps : (filled at after : ℕ) (old new more : List ℕ) → filled ≤ at → at ≤ length old → at ≤ after

@@ -1,6 +1,6 @@
 -- Runs of bytes that stand for themselves and take no escape of digits.
-use Rattle.std.proofs.Common.{◌≡◌, ℕ, ◌+◌, ◌-◌, ◌*◌, ◌<◌, ◌≤◌, ◌==◌, Bool, false, List, [], ◌∷◌, ◌++◌, length, take, drop, get_or, map, refl, sym, ap, ap₂, ◌∙◌, arith}
-use Rattle.std.specs.Prelude.{Some, ◌||◌}
+use Rattle.std.proofs.Common.{◌≡◌, ℕ, ◌+◌, ◌-◌, ◌*◌, ◌<◌, ◌≤◌, ◌==◌, false, List, [], ◌∷◌, ◌++◌, length, take, drop, get_or, map, refl, sym, ap, ap₂, ◌∙◌, arith}
+use Rattle.std.specs.Prelude.{Some}
 use Rattle.std.specs.List.{All}
 use Rattle.std.proofs.lemmas.Bool.{or_parts, ltb-false}
 use Rattle.std.proofs.lemmas.List.{map-append, take-append-drop, drop-drop, take-take, drop-take}
@@ -19,17 +19,13 @@ use Rattle.properties_text.proofs.Printing.Vectors.{spelt}
 use Rattle.properties_text.specs.declared.print.undecoded.Printed.{Printed}
 use Rattle.properties_format.specs.Reading.Undecoded.{characters_of}
 use Rattle.properties_format.proofs.Undecoded.{same}
-use Rattle.properties_text.specs.UndecodedTexts.{ArePut}
+use Rattle.properties_text.specs.UndecodedTexts.{stops, ArePut}
 use Rattle.properties_text.proofs.UndecodedTexts.Spellings.{put-many}
-
--- where a block cannot be copied
-abbrev pub stops : ℕ → Bool
-stops b = is_control b || (b == 0x5c)
 
 plain : (xs : List ℕ) → All (λ b. stops b ≡ false) xs → HoldsNoBackslash (characters_of xs)
 plain [] h = tt
 plain (b ∷ xs) h = (
-  same backslash (omega arith) b ∙ (or_parts (is_control b) (b == 0x5c) (All-head (λ b. stops b ≡ false) b xs h)).1,
+  same backslash (omega arith) b ∙ (or_parts (is_control b) (b == backslash) (All-head (λ b. stops b ≡ false) b xs h)).1,
   plain xs (All-tail (λ b. stops b ≡ false) b xs h),
 )
 
@@ -38,7 +34,7 @@ bytes [] h = refl
 bytes (b ∷ xs) h = ap₂ (λ x v. x ∷ v) (windows_1252_byte-character b (All-head (λ b. b < 256) b xs h)) (bytes xs (All-tail (λ b. b < 256) b xs h))
 
 no-control : (xs : List ℕ) → All (λ b. stops b ≡ false) xs → All (λ b. space ≤ b) xs
-no-control xs h = All-weaker (λ b. stops b ≡ false) (λ b. space ≤ b) (λ b f. ltb-false b space (or_parts (is_control b) (b == 0x5c) f).0) xs h
+no-control xs h = All-weaker (λ b. stops b ≡ false) (λ b. space ≤ b) (λ b f. ltb-false b space (or_parts (is_control b) (b == backslash) f).0) xs h
 
 -- a run is printed with backslashes alone
 run-printed : (xs : List ℕ) → All (λ b. b < 256) xs → All (λ b. stops b ≡ false) xs → text_bytes all_of_windows_1252 KeyOrValue (characters_of xs) ≡ with_backslashes xs

@@ -123,16 +123,16 @@ escaped-means text at h is other small =
 
 -- ---- digits
 
-digit-ascii : (b : ℕ) → is_hexadecimal b ≡ true → b < 0x80
+pub digit-ascii : (b : ℕ) → is_hexadecimal b ≡ true → b < 0x80
 digit-ascii b h = grind (arith, nat_tests)
 
 -- six bytes of a text
-six : (text : List ℕ) (at : ℕ) → at + 6 ≤ length text → get_or text at 0 ≡ backslash → get_or text (at + 1) 0 ≡ letter_u
-    → drop at text ≡ backslash ∷ letter_u ∷ four_text (digits_at text (at + 2)) ++ drop (at + 6) text
-six text at h s t =
+pub any-six : (text : List ℕ) (at : ℕ) → at + 6 ≤ length text
+    → drop at text ≡ get_or text at 0 ∷ get_or text (at + 1) 0 ∷ four_text (digits_at text (at + 2)) ++ drop (at + 6) text
+any-six text at h =
     drop_more text at 0 (omega arith)
-    ∙ ap₂ (λ x v. x ∷ v) s (drop_more text (at + 1) 0 (omega arith)
-    ∙ ap₂ (λ x v. x ∷ v) t (from (at + 1 + 1) (at + 2) (omega arith)
+    ∙ ap (λ v. get_or text at 0 ∷ v) (drop_more text (at + 1) 0 (omega arith)
+    ∙ ap (λ v. get_or text (at + 1) 0 ∷ v) (from (at + 1 + 1) (at + 2) (omega arith)
     ∙ drop_more text (at + 2) 0 (omega arith)
     ∙ ap (λ v. get_or text (at + 2) 0 ∷ v) (drop_more text (at + 2 + 1) 0 (omega arith)
     ∙ ap (λ v. get_or text (at + 2 + 1) 0 ∷ v) (from (at + 2 + 1 + 1) (at + 2 + 2) (omega arith)
@@ -144,8 +144,13 @@ six text at h s t =
     from : (m n : ℕ) → m ≡ n → drop m text ≡ drop n text
     from m n e = ap (λ k. drop k text) e
 
+-- of which the first two are those of a `\u` escape
+pub six : (text : List ℕ) (at : ℕ) → at + 6 ≤ length text → get_or text at 0 ≡ backslash → get_or text (at + 1) 0 ≡ letter_u
+    → drop at text ≡ backslash ∷ letter_u ∷ four_text (digits_at text (at + 2)) ++ drop (at + 6) text
+six text at h s t = any-six text at h ∙ ap₂ (λ x y. x ∷ y ∷ four_text (digits_at text (at + 2)) ++ drop (at + 6) text) s t
+
 -- digits are their own characters
-four-characters : (d : Four) (rest : List ℕ) → are_hexadecimal d ≡ true → characters_of (four_text d ++ rest) ≡ four_text d ++ characters_of rest
+pub four-characters : (d : Four) (rest : List ℕ) → are_hexadecimal d ≡ true → characters_of (four_text d ++ rest) ≡ four_text d ++ characters_of rest
 four-characters d rest t =
     let p = and_parts (is_hexadecimal d.first && is_hexadecimal d.second) (is_hexadecimal d.third && is_hexadecimal d.fourth) t in
     let q = and_parts (is_hexadecimal d.first) (is_hexadecimal d.second) p.0 in

@@ -1,16 +1,14 @@
 //! Decoding bytes to characters.
 
-ghost use Rattle.std.specs.Prelude.{◌↔◌, IsSome, ◌≡◌, ◌≤◌, ◌<◌, ◌+◌, ◌*◌, ◌%◌, ◌++◌, ◌∷◌, [], length, take, IfSome};
+ghost use Rattle.std.specs.Prelude.{◌↔◌, ◌⊎◌, IsSome, ◌≡◌, ◌≤◌, ◌<◌, ◌+◌, ◌*◌, ◌%◌, ◌++◌, ◌∷◌, [], length, take, IfSome};
 ghost use Rattle.std.specs.Char.{encode_utf8, IsScalar};
 ghost use Rattle.std.specs.Str.{IsUtf8};
 ghost use Rattle.properties_text.specs.Encoding.{encoding_of};
-ghost use Rattle.properties_text.specs.Decoding.{IsText, utf_16_of, DecodesFront, PutsUnits};
+ghost use Rattle.properties_text.specs.Decoding.{IsText, DecodesFront};
 ghost use Rattle.properties_text.specs.declared.encoding.Encoding.TheVariants.{WINDOWS_1252};
 
 use super::first_piece::first_piece;
 use super::latin_1::{put_16, tabled};
-use super::unit_blocks::{Written, put_latin_1, put_sixteen};
-use super::utf_16::ByteOrder;
 use super::windows_1252::text_of_byte;
 use super::{Encoding, utf_8, windows_1252};
 use std::simd::prelude::*;
@@ -49,6 +47,7 @@ pub fn decode_run<'a>(
     requires is_text { IsUtf8 (take start run.old) }
     ensures front { DecodesFront encoding bytes.now run.old start run.new result }
     ensures shorter { 0 < length bytes.now → length result.rest.now < length bytes.now }
+    ensures stops { length result.rest.now ≡ 0 ⊎ length run.new < result.end + 64 }
 {
     // Each encoding has a loop of its own, so the encoding isn't tested at each character.
     match encoding {
@@ -66,6 +65,7 @@ fn decode_windows_1252<'a>(run: &mut [u8], start: usize, bytes: &'a [u8]) -> Dec
     requires is_text { IsUtf8 (take start run.old) }
     ensures front { DecodesFront WINDOWS_1252 bytes.now run.old start run.new result }
     ensures shorter { 0 < length bytes.now → length result.rest.now < length bytes.now }
+    ensures stops { length result.rest.now ≡ 0 ⊎ length run.new < result.end + 64 }
 {
     let front = decode_blocks(run, start, bytes);
     // If more blocks follow, the next run starts with them.
@@ -82,6 +82,7 @@ fn decode_blocks<'a>(run: &mut [u8], start: usize, bytes: &'a [u8]) -> Decoded<'
     requires is_text { IsUtf8 (take start run.old) }
     ensures front { DecodesFront WINDOWS_1252 bytes.now run.old start run.new result }
     ensures shorter { result.end + 4 * length result.rest.now ≤ start + 4 * length bytes.now }
+    ensures stops { length result.rest.now < 16 ⊎ length run.new < result.end + 64 }
 {
     let mut at = start;
     let mut rest = bytes;
@@ -137,85 +138,16 @@ fn decode_run_of<'a>(
     ensures front { DecodesFront encoding bytes.now run.old start run.new result }
     ensures shorter { start + 4 ≤ length run.old → 0 < length bytes.now
         → length result.rest.now < length bytes.now }
+    ensures stops { length result.rest.now ≡ 0 ⊎ length run.new < result.end + 64 }
 {
     let mut at = start;
     let mut rest = bytes;
-    while let Some((first, others)) = rest.split_first() {
-        if run.len() - at < 4 {
-            return Decoded { end: at, rest };
-        }
-        let written = put_units(run, at, encoding, rest);
-        if written.units > 0 {
-            at = written.end;
-            rest = &rest[2 * written.units..];
-        } else {
-            let next = first_piece(encoding, *first, others);
-            at = put_character(run, at, next.character);
-            rest = &rest[next.length..];
-        }
+    while !rest.is_empty() && run.len() - at >= 4 {
+        let next = first_piece(encoding, rest[0], &rest[1..]);
+        at = put_character(run, at, next.character);
+        rest = &rest[next.length..];
     }
     Decoded { end: at, rest }
-}
-
-// Decodes up to sixteen UTF-16 units to the run at index `at`, as long as they are characters of Latin-1. Decodes none
-// in the other encodings, and none if fewer than eight units are left or there is room for fewer.
-#[inline(always)]
-fn put_units(run: &mut [u8], at: usize, encoding: Encoding, bytes: &[u8]) -> Written
-    requires { at ≤ length run.old }
-    ensures { PutsUnits encoding bytes.now run.old at run.new result }
-{
-    match encoding {
-        Encoding::WINDOWS_1252 | Encoding::UTF_8 => Written { units: 0, end: at },
-        Encoding::UTF_16LE => put_block(run, at, ByteOrder::LowFirst, bytes),
-        Encoding::UTF_16BE => put_block(run, at, ByteOrder::HighFirst, bytes),
-    }
-}
-
-// Decodes up to sixteen UTF-16 units, as [`put_units`] does. If the first isn't a character of Latin-1, the others
-// aren't tested.
-#[inline(always)]
-fn put_block(run: &mut [u8], at: usize, order: ByteOrder, bytes: &[u8]) -> Written
-    requires { at ≤ length run.old }
-    ensures { PutsUnits (utf_16_of order) bytes.now run.old at run.new result }
-{
-    let room = run.len() - at;
-    if bytes.len() >= 32 && room >= 32 {
-        put_long_block(run, at, order, bytes)
-    } else if bytes.len() >= 16 && room >= 16 {
-        put_short_block(run, at, order, bytes)
-    } else {
-        Written { units: 0, end: at }
-    }
-}
-
-// Decodes up to sixteen units. The first block may be shorter, so that only whole blocks are left.
-#[inline(always)]
-fn put_long_block(run: &mut [u8], at: usize, order: ByteOrder, bytes: &[u8]) -> Written
-    requires room { at + 32 ≤ length run.old }
-    requires bytes { 32 ≤ length bytes.now }
-    ensures { PutsUnits (utf_16_of order) bytes.now run.old at run.new result }
-{
-    if order.unit(bytes[0], bytes[1]) >= 0x100 {
-        return Written { units: 0, end: at };
-    }
-    let odd = (bytes.len() / 2 - 1) % 16 + 1;
-    let first = u8x16::from_slice(bytes);
-    let second = u8x16::from_slice(&bytes[16..]);
-    put_sixteen(run, at, order, first, second, odd)
-}
-
-// Decodes up to eight units.
-#[inline(always)]
-fn put_short_block(run: &mut [u8], at: usize, order: ByteOrder, bytes: &[u8]) -> Written
-    requires room { at + 16 ≤ length run.old }
-    requires bytes { 16 ≤ length bytes.now }
-    ensures { PutsUnits (utf_16_of order) bytes.now run.old at run.new result }
-{
-    if order.unit(bytes[0], bytes[1]) >= 0x100 {
-        return Written { units: 0, end: at };
-    }
-    let odd = (bytes.len() / 2 - 1) % 8 + 1;
-    put_latin_1(run, at, order, u8x16::from_slice(bytes), odd)
 }
 
 // Writes four bytes at index `at`.

@@ -1,11 +1,11 @@
 // Characters of Latin-1, whose code points are single bytes, encoded in UTF-8 sixteen at a time.
 
-ghost use Rattle.std.specs.Prelude.{◌≡◌, ◌+◌, ◌*◌, ◌≤◌, ◌++◌, ◌↔◌, true, length, take, map, encode_utf8_all};
-ghost use Rattle.std.specs.Str.{IsAscii, all_scalars};
+ghost use Rattle.std.specs.Prelude.{◌≡◌, ◌+◌, ◌*◌, ◌≤◌, ◌++◌, true, length, take, map, encode_utf8_all};
+ghost use Rattle.std.specs.Str.{all_scalars};
 ghost use Rattle.properties_format.specs.Windows1252.{is_in_table};
 ghost use Rattle.properties_text.specs.Latin1.{lead_byte, last_byte};
 
-use byte_blocks::{ByteClass, Marks, PastAscii, Within, put_spread, put_spread_half};
+use byte_blocks::{ByteClass, Marks, PastAscii, Within, put_spread};
 use std::simd::prelude::*;
 
 /// Marks the bytes 80 to 9F, whose characters in windows-1252 have other code points.
@@ -28,62 +28,14 @@ pub fn put_16(run: &mut [u8], at: usize, v: u8x16, kept: usize) -> usize
     ensures scalars { all_scalars (take kept v) ≡ true }
     ensures text { take result run.new ≡ take at run.old ++ encode_utf8_all (take kept v) }
 {
-    if is_ascii(v) {
-        v.copy_to_slice(&mut run[at..]);
-        at + kept
-    } else if kept <= 8 {
-        put_spread_half(
-            run,
-            at,
-            last_bytes(v),
-            lead_bytes(v),
-            PastAscii::marks(v),
-            kept,
-        )
-    } else {
-        put_spread(
-            run,
-            at,
-            last_bytes(v),
-            lead_bytes(v),
-            PastAscii::marks(v),
-            kept,
-        )
-    }
-}
-
-/// Like [`put_16`] for at most the first eight characters. May overwrite up to 16 bytes.
-#[inline(always)]
-pub fn put_half(run: &mut [u8], at: usize, v: u8x16, kept: usize) -> usize
-    requires room { at + 16 ≤ length run.old }
-    requires kept { kept ≤ 8 }
-    ensures same_room { length run.new ≡ length run.old }
-    ensures after { at ≤ result }
-    ensures within { result ≤ at + 2 * kept }
-    ensures scalars { all_scalars (take kept v) ≡ true }
-    ensures text { take result run.new ≡ take at run.old ++ encode_utf8_all (take kept v) }
-{
-    if is_ascii(v) {
-        v.copy_to_slice(&mut run[at..]);
-        at + kept
-    } else {
-        put_spread_half(
-            run,
-            at,
-            last_bytes(v),
-            lead_bytes(v),
-            PastAscii::marks(v),
-            kept,
-        )
-    }
-}
-
-/// Returns whether all sixteen bytes are ASCII.
-#[inline(always)]
-pub fn is_ascii(v: u8x16) -> bool
-    ensures { (result ≡ true) ↔ IsAscii v }
-{
-    PastAscii::marks(v).is_clear()
+    put_spread(
+        run,
+        at,
+        last_bytes(v),
+        lead_bytes(v),
+        PastAscii::marks(v),
+        kept,
+    )
 }
 
 // For each character of two bytes, the first byte.

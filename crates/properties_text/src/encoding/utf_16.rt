@@ -16,8 +16,8 @@ pub enum ByteOrder {
 }
 
 impl ByteOrder {
-    /// Returns the unit that two bytes make.
-    pub fn unit(self, first: u8, second: u8) -> u16
+    // The unit that two bytes make.
+    fn unit(self, first: u8, second: u8) -> u16
         ensures { result ≡ unit_of self first second }
     {
         let (low, high) = match self {

@@ -1,12 +1,12 @@
 // Resolves escapes byte by byte: `\u` escapes, and what a backslash and another ASCII character mean.
 
-ghost use Rattle.std.specs.Prelude.{◌≡◌, ◌∷◌, ◌<◌, ◌≤◌, List, ℕ, length, take, IfSome, Some, None, Ok, if◌then◌else◌};
+ghost use Rattle.std.specs.Prelude.{◌≡◌, ◌∷◌, ◌+◌, ◌<◌, ◌≤◌, ◌⊎◌, List, ℕ, length, take, IfSome, Some, None, Ok, if◌then◌else◌};
 ghost use Rattle.std.specs.Char.{IsScalar};
 ghost use Rattle.std.specs.Str.{IsUtf8, chars};
 ghost use Rattle.properties_format.specs.Text.{backslash};
-ghost use Rattle.properties_format.specs.Escapes.{letter_u, are_hexadecimal, code_unit, escaped_character};
+ghost use Rattle.properties_format.specs.Escapes.{letter_u, NoSpelling, are_hexadecimal, code_unit, escaped_character};
 ghost use Rattle.properties_format.specs.Reading.Escapes.{meaning_of, text_in_front};
-ghost use Rattle.properties_text.specs.Escaping.{Resolves, IsUnit, digit_value, four_bytes};
+ghost use Rattle.properties_text.specs.Escaping.{Resolves, IsUnit, HasNoUnit, HasNoEscape, digit_value, four_bytes};
 
 use super::{CodeUnit, Escape, read_low_surrogate};
 use crate::encoding::put_character;
@@ -54,6 +54,7 @@ pub fn put_units<'a>(run: &mut [u8], text: &'a str) -> Units<'a>
     ensures meaning { meaning_of (chars text.now)
         ≡ text_in_front (chars (take result.end run.new)) (meaning_of (chars result.rest.now)) }
     ensures shorter { 0 < result.end → length result.rest.now < length text.now }
+    ensures stops { length run.new < result.end + 4 ⊎ HasNoEscape (chars result.rest.now) }
 {
     let mut end = 0;
     let mut rest = text;
@@ -71,6 +72,7 @@ pub fn put_units<'a>(run: &mut [u8], text: &'a str) -> Units<'a>
 #[inline(always)]
 fn first_unit(text: &str) -> Option<Escape<'_>>
     ensures meaning { IfSome result (λ escape. Resolves (chars text.now) (Ok escape)) }
+    ensures none { result ≡ None → HasNoEscape (chars text.now) }
     ensures scalar { IfSome result (λ escape. IsScalar escape.character) }
     ensures shorter { IfSome result (λ escape. length escape.rest.now < length text.now) }
 {
@@ -78,11 +80,13 @@ fn first_unit(text: &str) -> Option<Escape<'_>>
     if bytes.len() < 6 || bytes[0] != b'\\' || bytes[1] != b'u' {
         return None;
     }
-    let value = value_of(bytes[2], bytes[3], bytes[4], bytes[5])?;
-    let rest = &text[6..];
-    match char::from_u32(value) {
-        Some(character) => Some(Escape { character, rest }),
-        None => first_pair(value, rest),
+    let unit = first_digits(&text[2..])?;
+    match char::from_u32(unit.value) {
+        Some(character) => Some(Escape {
+            character,
+            rest: unit.rest,
+        }),
+        None => first_pair(unit.value, unit.rest),
     }
 }
 
@@ -94,6 +98,8 @@ fn first_pair(high: u32, rest: &str) -> Option<Escape<'_>>
     requires high { high < 0xe000 }
     ensures meaning { IfSome result (λ escape. (text : List ℕ) → IsUnit text high (chars rest.now)
         → Resolves (backslash ∷ letter_u ∷ text) (Ok escape)) }
+    ensures none { result ≡ None → (text : List ℕ) → IsUnit text high (chars rest.now)
+        → NoSpelling (backslash ∷ letter_u ∷ text) }
     ensures scalar { IfSome result (λ escape. IsScalar escape.character) }
     ensures shorter { IfSome result (λ escape. length escape.rest.now ≤ length rest.now) }
 {
@@ -125,6 +131,7 @@ pub fn escaped_byte(byte: u8) -> u8
 #[inline(always)]
 pub fn first_digits(text: &str) -> Option<CodeUnit<'_>>
     ensures digits { IfSome result (λ unit. IsUnit (chars text.now) unit.value (chars unit.rest.now)) }
+    ensures none { result ≡ None → HasNoUnit (chars text.now) }
     ensures shorter { IfSome result (λ unit. length unit.rest.now ≤ length text.now) }
 {
     let bytes = text.as_bytes();

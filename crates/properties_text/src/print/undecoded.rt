@@ -1,10 +1,10 @@
 // Prints undecoded pairs of windows-1252. In all of windows-1252, most are neither decoded nor resolved.
 
-ghost use Rattle.std.specs.Prelude.{◌-◌, ◌++◌, ◌≡◌, ◌+◌, ◌*◌, ◌<◌, ◌≤◌, ◌==◌, length, take, get_or, true, false, None, IfSome, OnErr};
+ghost use Rattle.std.specs.Prelude.{◌⊎◌, ◌-◌, ◌++◌, ◌≡◌, ◌+◌, ◌*◌, ◌<◌, ◌≤◌, ◌==◌, length, take, get_or, true, false, None, IfSome, OnErr};
 ghost use Rattle.properties_format.specs.Text.{backslash};
 ghost use Rattle.properties_format.specs.Escapes.{letter_u, is_surrogate, are_hexadecimal, code_unit};
-ghost use Rattle.properties_text.specs.Printing.{all_of_windows_1252};
-ghost use Rattle.properties_text.specs.UndecodedTexts.{PrintsUndecoded, undecoded_line, IsUndecodedPair, IsNoPair, PrintsPair, IsPairAppended, IsAppended, ArePut, IsPrinted, IsByteOf, digits_at};
+ghost use Rattle.properties_text.specs.Printing.{all_of_windows_1252, backslashes_before};
+ghost use Rattle.properties_text.specs.UndecodedTexts.{PrintsUndecoded, undecoded_line, IsUndecodedPair, IsNoPair, PrintsPair, IsPairAppended, IsAppended, HasNoMeaning, IsUnusual, IsUnusualPair, NoEscapeNear, stops, ArePut, IsPrinted, IsByteOf, digits_at};
 
 use super::bytes::{backslashes_before, put_16, put_byte};
 use super::escapes::put_unit;
@@ -80,17 +80,26 @@ pub fn print_undecoded_pair(
     ensures printed { PrintsPair repertoire first line.old pair.entry separator.now ending.now result line.new }
     ensures unchanged { OnErr result (line.new ≡ line.old) }
 {
-    if repertoire.is_all_of_windows_1252()
-        && print_usual_pair(line, first, pair, separator, ending)
-    {
-        return Ok(());
+    if repertoire.is_all_of_windows_1252() {
+        // Two bytes for each byte of a text, and for each text 32 bytes that a block may overwrite.
+        let room = (2 * (pair.key.end - pair.key.start))
+            .saturating_add(2 * (pair.value.end - pair.value.start))
+            .saturating_add(64)
+            .saturating_add(separator.len())
+            .saturating_add(ending.len());
+        make_room(&mut line.bytes, line.filled, room)?;
+        let usual = put_pair(&mut line.bytes, line.filled, first, pair, separator, ending);
+        if let Some(filled) = usual {
+            line.filled = filled;
+            return Ok(());
+        }
     }
     print_decoded_pair(alloc, line, repertoire, first, pair, separator, ending)
 }
 
 // Decodes and resolves the key and the value, and appends the pair as it is printed. On an error nothing is appended.
-// In all of windows-1252 few pairs come here: those with a malformed escape, a backslash at the end of a text or some
-// control characters, and a first one that may be like a byte order mark.
+// In all of windows-1252 few pairs come here: those with an unusual text, and a first pair whose key may begin like a
+// byte order mark.
 #[inline(never)]
 fn print_decoded_pair(
     alloc: Global,
@@ -133,38 +142,8 @@ fn print_decoded(
     Ok(())
 }
 
-// Appends a pair of usual texts as it is printed in all of windows-1252, or nothing. Returns whether it did.
-#[inline(always)]
-fn print_usual_pair(
-    line: &mut LineBuffer,
-    first: bool,
-    pair: UndecodedPair<'_>,
-    separator: &[u8],
-    ending: &[u8],
-) -> bool
-    requires { IsUndecodedPair pair }
-    ensures printed { result ≡ true → IsPairAppended all_of_windows_1252 first line.old (undecoded_line pair.entry) separator.now ending.now line.new }
-    ensures unchanged { result ≡ false → line.new ≡ line.old }
-{
-    let key_length = pair.key.end - pair.key.start;
-    let value_length = pair.value.end - pair.value.start;
-    // Two bytes for each byte of a text, and for each text 32 bytes that a block may overwrite.
-    let room = (2 * key_length)
-        .saturating_add(2 * value_length)
-        .saturating_add(64)
-        .saturating_add(separator.len())
-        .saturating_add(ending.len());
-    if make_room(&mut line.bytes, line.filled, room).is_err() {
-        return false;
-    }
-    let Some(filled) = put_pair(&mut line.bytes, line.filled, first, pair, separator, ending) else {
-        return false;
-    };
-    line.filled = filled;
-    true
-}
-
-// Puts a pair of usual texts after the first `filled` bytes, and returns the index after it.
+// Puts a pair of usual texts after the first `filled` bytes, and returns the index after it. Returns `None` if a text
+// is unusual, or if a first key is printed with a byte past ASCII at its front.
 #[inline(always)]
 fn put_pair(
     out: &mut [u8],
@@ -180,11 +159,12 @@ fn put_pair(
     ensures kept { take filled out.new ≡ take filled out.old }
     ensures inside { IfSome result (λ at. at ≤ length out.new) }
     ensures printed { IfSome result (λ at. IsPairAppended all_of_windows_1252 first (take filled out.old) (undecoded_line pair.entry) separator.now ending.now (take at out.new)) }
+    ensures none { result ≡ None → IsUnusualPair first pair.entry }
 {
     let key = &pair.bytes[pair.key.start..];
     let after_key = put_after(out, filled, key, pair.key.end - pair.key.start)?;
     // A byte order mark begins with a byte past ASCII.
-    if first && out[filled] >= 0x80 {
+    if first && after_key > filled && out[filled] >= 0x80 {
         return None;
     }
     let after_separator = put_raw(out, after_key, separator);
@@ -212,7 +192,8 @@ fn put_raw(out: &mut [u8], at: usize, bytes: &[u8]) -> usize
     end
 }
 
-// Puts what a usual text is printed as after the first `filled` bytes, and returns the index after it.
+// Puts what a text is printed as after the first `filled` bytes, and returns the index after it, or `None` if the text
+// is unusual.
 #[inline(always)]
 fn put_after(out: &mut [u8], filled: usize, bytes: &[u8], end: usize) -> Option<usize>
     requires within { end ≤ length bytes.now }
@@ -223,6 +204,7 @@ fn put_after(out: &mut [u8], filled: usize, bytes: &[u8], end: usize) -> Option<
     ensures onwards { IfSome result (λ at. filled ≤ at) }
     ensures most { IfSome result (λ at. at ≤ filled + 2 * end) }
     ensures printed { IfSome result (λ at. IsAppended all_of_windows_1252 false (take filled out.old) (take end bytes.now) (take at out.new)) }
+    ensures none { result ≡ None → IsUnusual (take end bytes.now) }
 {
     let written = put_printed(&mut out[filled..], bytes, end)?;
     Some(filled + written)
@@ -235,7 +217,7 @@ const FEW: usize = 5;
 type Stops = Either<Controls, Byte<b'\\'>>;
 
 // Puts what a text is printed as at the front of a buffer, and returns its length. Returns `None` if the text is
-// malformed, ends with a backslash or has some control characters.
+// unusual: malformed, with a backslash at its end, or with a control character that is printed by its number.
 #[inline(always)]
 fn put_printed(out: &mut [u8], bytes: &[u8], end: usize) -> Option<usize>
     requires within { end ≤ length bytes.now }
@@ -243,6 +225,7 @@ fn put_printed(out: &mut [u8], bytes: &[u8], end: usize) -> Option<usize>
     ensures same_room { length out.new ≡ length out.old }
     ensures most { IfSome result (λ written. written ≤ 2 * end) }
     ensures printed { IfSome result (λ written. IsPrinted (take end bytes.now) written out.new) }
+    ensures none { result ≡ None → IsUnusual (take end bytes.now) }
 {
     let most = put_most(out, bytes, end);
     if most.read == end {
@@ -256,13 +239,14 @@ fn put_printed(out: &mut [u8], bytes: &[u8], end: usize) -> Option<usize>
     }
 }
 
-// Puts the text as far as its bytes can be copied and its escapes are usual.
+// Puts the text as far as it goes by blocks and usual escapes, at least up to a byte that a block stops at.
 #[inline(always)]
 fn put_most(out: &mut [u8], bytes: &[u8], end: usize) -> Printed
     requires within { end ≤ length bytes.now }
     requires room { 2 * end + 32 ≤ length out.old }
     ensures same_room { length out.new ≡ length out.old }
     ensures put { ArePut (take end bytes.now) result out.new }
+    ensures far { result.read < end → length bytes.now < result.read + 16 ⊎ (stops (get_or bytes.now result.read 0) ≡ true) }
 {
     if end < FEW {
         return put_few(out, &bytes[..end]);
@@ -270,12 +254,13 @@ fn put_most(out: &mut [u8], bytes: &[u8], end: usize) -> Printed
     put_blocks(out, bytes, end)
 }
 
-// Puts byte by byte, up to a backslash or a control character.
+// Puts byte by byte, up to a backslash or a control character that is printed by its number.
 #[inline(always)]
 fn put_few(out: &mut [u8], text: &[u8]) -> Printed
     requires room { 2 * length text.now ≤ length out.old }
     ensures same_room { length out.new ≡ length out.old }
     ensures put { ArePut text.now result out.new }
+    ensures far { result.read < length text.now → stops (get_or text.now result.read 0) ≡ true }
 {
     let mut reached = NOTHING;
     while reached.read < text.len() && text[reached.read] != b'\\' {
@@ -295,6 +280,7 @@ fn put_blocks(out: &mut [u8], bytes: &[u8], end: usize) -> Printed
     requires room { 2 * end + 32 ≤ length out.old }
     ensures same_room { length out.new ≡ length out.old }
     ensures put { ArePut (take end bytes.now) result out.new }
+    ensures far { result.read < end → length bytes.now < result.read + 16 ⊎ (stops (get_or bytes.now result.read 0) ≡ true) }
 {
     let mut reached = NOTHING;
     while reached.read < end && bytes.len() - reached.read >= 16 {
@@ -322,6 +308,7 @@ fn put_block(out: &mut [u8], bytes: &[u8], end: usize, so_far: Printed) -> Print
     ensures same_room { length out.new ≡ length out.old }
     ensures onwards { so_far.read ≤ result.read }
     ensures put { ArePut (take end bytes.now) result out.new }
+    ensures far { result.read < end → result.read ≡ so_far.read + 16 ⊎ (stops (get_or bytes.now result.read 0) ≡ true) }
 {
     let v = u8x16::from_slice(&bytes[so_far.read..]);
     let kept = Stops::marks(v).front().min(end - so_far.read);
@@ -332,13 +319,14 @@ fn put_block(out: &mut [u8], bytes: &[u8], end: usize, so_far: Printed) -> Print
     }
 }
 
-// Goes on spelling by spelling, up to one that is malformed or unusual.
+// Puts the rest spelling by spelling. Stops before the end only if the text is unusual.
 #[inline(never)]
 fn put_singly(out: &mut [u8], text: &[u8], so_far: Printed) -> Printed
     requires room { 2 * length text.now ≤ length out.old }
     requires so_far { ArePut text.now so_far out.old }
     ensures same_room { length out.new ≡ length out.old }
     ensures put { ArePut text.now result out.new }
+    ensures whole { result.read < length text.now → IsUnusual text.now }
 {
     let mut reached = so_far;
     while reached.read < text.len() {
@@ -351,8 +339,8 @@ fn put_singly(out: &mut [u8], text: &[u8], so_far: Printed) -> Printed
     reached
 }
 
-// Goes on by escapes that stand side by side, or with a character between two of them. Kept out of line because most
-// texts have no escapes.
+// Goes on by escapes that stand side by side, or with a character between two of them. Stops before two bytes that
+// aren't backslashes, or if the text is unusual. Kept out of line because most texts have no escapes.
 #[inline(never)]
 fn put_escapes(out: &mut [u8], text: &[u8], so_far: Printed) -> Printed
     requires room { 2 * length text.now ≤ length out.old }
@@ -360,20 +348,14 @@ fn put_escapes(out: &mut [u8], text: &[u8], so_far: Printed) -> Printed
     ensures same_room { length out.new ≡ length out.old }
     ensures onwards { so_far.read ≤ result.read }
     ensures put { ArePut text.now result out.new }
+    ensures far { result.read + 2 ≤ length text.now → NoEscapeNear text.now result.read ⊎ IsUnusual text.now }
 {
     let mut reached = so_far;
-    while text.len() - reached.read >= 2 {
+    while text.len() - reached.read >= 2
+        && (text[reached.read] == b'\\' || text[reached.read + 1] == b'\\')
+    {
         let read = reached.read;
-        if text[read] != b'\\' {
-            if text[read + 1] != b'\\' {
-                break;
-            }
-            reached = put_itself(out, text, reached);
-        } else if text[read + 1] != b'u' {
-            reached = put_escaped(out, text, reached);
-        } else {
-            reached = put_unicode(out, text, reached);
-        }
+        reached = put_one(out, text, reached);
         if reached.read == read {
             break;
         }
@@ -381,7 +363,7 @@ fn put_escapes(out: &mut [u8], text: &[u8], so_far: Printed) -> Printed
     reached
 }
 
-// Puts the next spelling, or nothing.
+// Puts the next spelling, or nothing; then the text is unusual.
 #[inline(always)]
 fn put_one(out: &mut [u8], text: &[u8], so_far: Printed) -> Printed
     requires room { 2 * length text.now ≤ length out.old }
@@ -390,6 +372,7 @@ fn put_one(out: &mut [u8], text: &[u8], so_far: Printed) -> Printed
     ensures same_room { length out.new ≡ length out.old }
     ensures onwards { so_far.read ≤ result.read }
     ensures put { ArePut text.now result out.new }
+    ensures stuck { result.read ≡ so_far.read → IsUnusual text.now }
 {
     if text[so_far.read] != b'\\' {
         return put_itself(out, text, so_far);
@@ -403,7 +386,7 @@ fn put_one(out: &mut [u8], text: &[u8], so_far: Printed) -> Printed
     put_unicode(out, text, so_far)
 }
 
-// Puts a byte that stands for itself.
+// Puts a byte that stands for itself, unless it is printed by its number.
 #[inline(always)]
 fn put_itself(out: &mut [u8], text: &[u8], so_far: Printed) -> Printed
     requires room { 2 * length text.now ≤ length out.old }
@@ -413,6 +396,7 @@ fn put_itself(out: &mut [u8], text: &[u8], so_far: Printed) -> Printed
     ensures same_room { length out.new ≡ length out.old }
     ensures onwards { so_far.read ≤ result.read }
     ensures put { ArePut text.now result out.new }
+    ensures stuck { result.read ≡ so_far.read → 1 < backslashes_before (get_or text.now so_far.read 0) }
 {
     let byte = text[so_far.read];
     if backslashes_before(byte) > 1 {
@@ -425,7 +409,7 @@ fn put_itself(out: &mut [u8], text: &[u8], so_far: Printed) -> Printed
     }
 }
 
-// Puts the character of a backslash and a byte.
+// Puts the character of a backslash and a byte, unless it is printed by its number.
 #[inline(always)]
 fn put_escaped(out: &mut [u8], text: &[u8], so_far: Printed) -> Printed
     requires room { 2 * length text.now ≤ length out.old }
@@ -436,6 +420,7 @@ fn put_escaped(out: &mut [u8], text: &[u8], so_far: Printed) -> Printed
     ensures same_room { length out.new ≡ length out.old }
     ensures onwards { so_far.read ≤ result.read }
     ensures put { ArePut text.now result out.new }
+    ensures stuck { result.read ≡ so_far.read → 1 < backslashes_before (get_or text.now (so_far.read + 1) 0) }
 {
     let byte = escaped_byte(text[so_far.read + 1]);
     if backslashes_before(byte) > 1 {
@@ -448,7 +433,7 @@ fn put_escaped(out: &mut [u8], text: &[u8], so_far: Printed) -> Printed
     }
 }
 
-// Puts the character of a `\u` escape, or of two surrogates.
+// Puts the character of a `\u` escape, or of two surrogates, or nothing if the escape is malformed.
 #[inline(always)]
 fn put_unicode(out: &mut [u8], text: &[u8], so_far: Printed) -> Printed
     requires room { 2 * length text.now ≤ length out.old }
@@ -459,6 +444,7 @@ fn put_unicode(out: &mut [u8], text: &[u8], so_far: Printed) -> Printed
     ensures same_room { length out.new ≡ length out.old }
     ensures onwards { so_far.read ≤ result.read }
     ensures put { ArePut text.now result out.new }
+    ensures stuck { result.read ≡ so_far.read → HasNoMeaning text.now }
 {
     let at = so_far.read;
     if text.len() - at < 6 {
@@ -482,7 +468,8 @@ fn put_unicode(out: &mut [u8], text: &[u8], so_far: Printed) -> Printed
     }
 }
 
-// Puts the character of two surrogates, of which the first was read. Kept out of line because they are rare.
+// Puts the character of two surrogates, of which the first was read, or nothing if no pair stands there. Kept out of
+// line because they are rare.
 #[inline(never)]
 fn put_surrogate_pair(out: &mut [u8], text: &[u8], so_far: Printed, high: u32) -> Printed
     requires room { 2 * length text.now ≤ length out.old }
@@ -496,6 +483,7 @@ fn put_surrogate_pair(out: &mut [u8], text: &[u8], so_far: Printed, high: u32) -
     ensures same_room { length out.new ≡ length out.old }
     ensures onwards { so_far.read ≤ result.read }
     ensures put { ArePut text.now result out.new }
+    ensures stuck { result.read ≡ so_far.read → HasNoMeaning text.now }
 {
     let at = so_far.read;
     if high >= 0xdc00 || text.len() - at < 12 || text[at + 6] != b'\\' || text[at + 7] != b'u' {

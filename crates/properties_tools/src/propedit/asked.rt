@@ -41,7 +41,7 @@ Status: 0 done or found, 1 not found or check found something, 2 wrong arguments
 ";
 
 /// What `--version` prints.
-pub const VERSION: &str = "propedit 1.5.1\n";
+pub const VERSION: &str = "propedit 1.6.0\n";
 
 /// What the arguments ask for.
 #[derive(Drop)]

@@ -23,7 +23,7 @@ returns-in-Err c =
     let s = split_at c.as_bytes.result.now rest at c.loop-at.invariant.utf8 c.as_bytes.ensures.value c.in-Some.ensures in
     let kind = malformed_in c.in-Err.malformed in
     resolved_broken (chars c.args.s.now) _ _ (chars rest) (chars (take at rest)) (chars (drop at rest)) kind c.loop-at.invariant.resolved s.meaning
-    (ap meaning_of (s.characters ∙ ap (λ v. backslash ∷ chars v) (sym c.range_from.ensures.value)) ∙ c.in-Err.ensures.meaning)
+    (ap meaning_of (s.characters ∙ ap (λ v. backslash ∷ chars v) (sym c.range_from.ensures.value)) ∙ c.in-Err.ensures.meaning.1)
 
 pub loop-at-preserved : goal.loop-at-preserved
 loop-at-preserved c =

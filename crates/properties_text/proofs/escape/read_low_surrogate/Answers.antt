@@ -1,10 +1,11 @@
 use Rattle.std.proofs.Common.{◌∷◌, sym, ap, ◌∙◌, subst}
+use lib.Utf8.{encodes}
 use Rattle.std.specs.Str.{chars}
 use Rattle.properties_format.specs.Text.{backslash}
 use Rattle.properties_format.specs.Escapes.{letter_u}
 use Rattle.properties_format.specs.Reading.Escapes.{in_front, with_low, meaning_of}
 use Rattle.properties_text.specs.Escaping.{IsUnit}
-use Rattle.properties_text.proofs.Texts.Escapes.{meaning-pair, meaning-unpaired, low-no_escape, low-unread, low-other, joined-parts, not_joined, escape-front, no_escape-front}
+use Rattle.properties_text.proofs.Texts.Escapes.{meaning-pair, malformed-unpaired, low-no_escape, low-unread, low-other, joined-parts, not_joined, escape-front, escape-bytes}
 use Rattle.properties_text.proofs.escape.read_low_surrogate.Goals as goal
 use Rattle.properties_text.proofs.escape.read_low_surrogate.Goals.{in-Some+in-Ok+in_default-join_surrogates, in-Some+in_default-read_unit, in_default}
 
@@ -21,7 +22,7 @@ pub returns-clause-meaning : goal.returns-clause-meaning
 returns-clause-meaning c = λ text u.
     let high = c.args.high in
     let rest = c.args.rest.now in
-    meaning-unpaired text (chars rest) high u c.requires.low c.requires.high (λ is d. elim c.match-strip_prefix.branch [
+    malformed-unpaired text (chars rest) high u c.requires.low c.requires.high (λ is d. elim c.match-strip_prefix.branch [
       | in-Some+in-Ok+in_default-join_surrogates w ↦
           let h = w.in-Some.ensures.cases in
           let front = escape-front rest w.in-Some.text.now c.utf8.rest (h.1.1 ∙ ap (λ v. backslash ∷ letter_u ∷ v) (sym h.2)) in
@@ -32,5 +33,5 @@ returns-clause-meaning c = λ text u.
           let h = w.in-Some.ensures.cases in
           let front = escape-front rest w.in-Some.text.now c.utf8.rest (h.1.1 ∙ ap (λ v. backslash ∷ letter_u ∷ v) (sym h.2)) in
           ap (with_low d) front ∙ low-unread d (chars w.in-Some.text.now) w.in_default-read_unit.field-0 w.in_default-read_unit.ensures.digits
-      | in_default w ↦ low-no_escape d (chars rest) (no_escape-front rest c.utf8.rest w.in_default.ensures.cases)
+      | in_default w ↦ low-no_escape d (chars rest) (λ y e. w.in_default.ensures.cases (encodes y) (escape-bytes rest y c.utf8.rest e))
     ])

@@ -2,13 +2,13 @@ use Rattle.std.proofs.Common.{sym, ap, ◌∙◌}
 use Rattle.std.proofs.lemmas.Result.{err_from_is_err_and}
 use Rattle.std.specs.Str.{chars}
 use Rattle.properties_format.specs.Reading.Escapes.{in_front, meaning_of}
-use Rattle.properties_text.proofs.Texts.Escapes.{meaning-unit, meaning-unread, scalar-unit, surrogate-unit}
+use Rattle.properties_text.proofs.Texts.Escapes.{meaning-unit, malformed-unread, scalar-unit, surrogate-unit}
 use Rattle.properties_text.proofs.escape.read_unicode.Goals as goal
 
 pub returns-in_err-unit-clause-meaning : goal.returns-in_err-unit-clause-meaning
 returns-in_err-unit-clause-meaning c =
     let p = err_from_is_err_and c.from_residual.result c.from_residual.ensures.1 in
-    rw (p.1, p.2) (meaning-unread (chars c.args.text.now) c.in_err-unit.field-0.0 c.in_err-unit.ensures.digits)
+    rw (p.1, p.2) (malformed-unread (chars c.args.text.now) c.in_err-unit.field-0.0 c.in_err-unit.ensures.digits)
 
 pub read_low_surrogate-requires : goal.read_low_surrogate-requires
 read_low_surrogate-requires c =

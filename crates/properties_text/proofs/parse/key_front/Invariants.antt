@@ -1,6 +1,6 @@
 use Rattle.std.proofs.Common.{◌≤◌, ◌-◌, length}
 use Rattle.memchr.specs.Find.{Nowhere, Passes}
-use Rattle.properties_text.proofs.KeyFronts.{may_end}
+use Rattle.properties_text.specs.Parsing.{may_end}
 use Rattle.properties_text.proofs.parse.key_front.Given as goal
 
 abbrev pub invariant-loop-at : goal.invariant-loop-at

@@ -2,15 +2,14 @@ use Rattle.std.proofs.Common.{◌≡◌, ◌<◌, arith, [], refl, ap, ◌∙◌
 use Rattle.std.specs.Prelude.{None}
 use Rattle.counted_io.specs.Streams.{reader, sink, IsSameSink}
 use Rattle.properties_lines.specs.LineReader.{lines_left}
-use Rattle.properties_lines.specs.LineJoiner.{Joining, numbered_line}
-use Rattle.properties_text.specs.Decoding.{text_of}
-use Rattle.properties_text.specs.declared.encoding.Encoding.TheVariants.{WINDOWS_1252}
+use Rattle.properties_lines.specs.LineJoiner.{Joining}
 use Rattle.java_properties.specs.Copying.{reading}
 use Rattle.java_properties.specs.Engine.{writing}
 use Rattle.java_properties.proofs.Items.{passed-start}
 use Rattle.java_properties.proofs.Copying.{CameLine, copied-item, copied-nothing, copied-failed, copied-none}
+use Rattle.java_properties.proofs.iter.copy.copy_next.Given.{Over}
 use Rattle.java_properties.proofs.iter.copy.copy_next.Goals as goal
-use Rattle.java_properties.proofs.iter.copy.copy_next.Goals.{in-Undecoded, in-Text}
+use Rattle.java_properties.proofs.iter.copy.copy_next.Goals.{Joined-next_undecoded, in-Undecoded, in-Text}
 
 pub loop-number-init : goal.loop-number-init
 loop-number-init g c =
@@ -32,57 +31,36 @@ returns-in-None-clause-copies g c =
     copied-none c.loop-number.lines c.next_undecoded.new.self c.keep_error.new.lines c.next_undecoded.new.reader (writing c.loop-number.engine c.loop-number.sink)
     c.loop-number.error c.keep_error.new.error held.passed.1 held.written held.kept held.none joins c.keep_error.ensures
 
+-- what became of the line that came
+came : (g : Over) (c : Joined-next_undecoded g) → let m = c.match-next_undecoded in
+    CameLine (reader g.R.Read g.R.CountedRead) (sink g.W.Write g.W.CountedWrite) c.loop-number.lines.at.state c.loop-number.reader c.next_undecoded.new.self
+    c.next_undecoded.new.reader (writing c.loop-number.engine c.loop-number.sink) c.loop-number.error m.copied m.lines (writing m.engine m.sink) m.error
+came g c = elim c.match-next_undecoded.branch [
+  | in-Undecoded w ↦ (_, w.in-Undecoded.ensures.joins.joins, rw (w.lines-is, w.engine-is, w.sink-is, w.error-is, w.copied-is) w.copy_undecoded-copied.ensures.copies)
+  | in-Text w ↦ (_, w.in-Text.ensures.joins.joins, rw (w.lines-is, w.engine-is, w.sink-is, w.error-is, w.copied-is) w.copy_text-copied.ensures.copies)
+]
+
 pub returns-in-Item-clause-copies : goal.returns-in-Item-clause-copies
 returns-in-Item-clause-copies g c =
     let held = c.loop-number.invariant in
-    let r = reader g.R.Read g.R.CountedRead in
-    let s = sink g.W.Write g.W.CountedWrite in
     let before = c.loop-number in
-    let lines = c.next_undecoded.new.self in
-    let next = c.next_undecoded.new.reader in
     let m = c.match-next_undecoded in
-    let came : CameLine r s before.lines.at.state before.reader lines next (writing before.engine before.sink) before.error m.copied m.lines (writing m.engine m.sink) m.error =
-    elim m.branch [
-      | in-Undecoded w ↦ (
-        record { number = w.in-Undecoded.number; text = text_of WINDOWS_1252 lines.bytes },
-        w.in-Undecoded.ensures.joins.joins,
-        rw (w.lines-is, w.engine-is, w.sink-is, w.error-is, w.copied-is) w.copy_undecoded-copied.ensures.copies,
-      )
-      | in-Text w ↦ (
-        numbered_line w.in-Text.number lines.at,
-        w.in-Text.ensures.joins.joins,
-        rw (w.lines-is, w.engine-is, w.sink-is, w.error-is, w.copied-is) w.copy_text-copied.ensures.copies,
-      )
-    ] in
-    copied-item lines m.lines next (writing before.engine before.sink) (writing m.engine m.sink) before.error m.error held.passed.1 held.written held.kept (rw c.in-Item.is at came)
+    copied-item c.next_undecoded.new.self m.lines c.next_undecoded.new.reader (writing before.engine before.sink) (writing m.engine m.sink) before.error m.error held.passed.1 held.written held.kept
+    (rw c.in-Item.is at (came g (goal.at.returns-in-Item-clause-copies g c).Joined-next_undecoded))
 
 pub loop-number-preserved : goal.loop-number-preserved
 loop-number-preserved g c =
     let held = c.loop-number.invariant in
-    let r = reader g.R.Read g.R.CountedRead in
     let s = sink g.W.Write g.W.CountedWrite in
     let before = c.loop-number in
     let lines = c.next_undecoded.new.self in
     let next = c.next_undecoded.new.reader in
     let m = c.match-next_undecoded in
-    let came : CameLine r s before.lines.at.state before.reader lines next (writing before.engine before.sink) before.error m.copied m.lines (writing m.engine m.sink) m.error =
-    elim m.branch [
-      | in-Undecoded w ↦ (
-        record { number = w.in-Undecoded.number; text = text_of WINDOWS_1252 lines.bytes },
-        w.in-Undecoded.ensures.joins.joins,
-        rw (w.lines-is, w.engine-is, w.sink-is, w.error-is, w.copied-is) w.copy_undecoded-copied.ensures.copies,
-      )
-      | in-Text w ↦ (
-        numbered_line w.in-Text.number lines.at,
-        w.in-Text.ensures.joins.joins,
-        rw (w.lines-is, w.engine-is, w.sink-is, w.error-is, w.copied-is) w.copy_text-copied.ensures.copies,
-      )
-    ] in
     let start = writing c.args.engine.now c.args.sink.now in
     let old = reading c.args.lines.now.at c.args.reader.now c.args.error.now in
     let nothing =
     copied-nothing s old start lines m.lines next (writing before.engine before.sink) (writing m.engine m.sink) before.error m.error held.passed.1 held.written held.kept
-    (rw c.in-Nothing.is at came) in
+    (rw c.in-Nothing.is at (came g (goal.at.loop-number-preserved g c).Joined-next_undecoded)) in
     let nearer : lines_left lines.at.state < lines_left before.lines.at.state = elim m.branch [
       | in-Undecoded w ↦ w.in-Undecoded.ensures.nearer
       | in-Text w ↦ w.in-Text.ensures.nearer
@@ -109,23 +87,7 @@ loop-number-preserved g c =
 pub returns-in-Failed-clause-copies : goal.returns-in-Failed-clause-copies
 returns-in-Failed-clause-copies g c =
     let held = c.loop-number.invariant in
-    let r = reader g.R.Read g.R.CountedRead in
-    let s = sink g.W.Write g.W.CountedWrite in
     let before = c.loop-number in
-    let lines = c.next_undecoded.new.self in
-    let next = c.next_undecoded.new.reader in
     let m = c.match-next_undecoded in
-    let came : CameLine r s before.lines.at.state before.reader lines next (writing before.engine before.sink) before.error m.copied m.lines (writing m.engine m.sink) m.error =
-    elim m.branch [
-      | in-Undecoded w ↦ (
-        record { number = w.in-Undecoded.number; text = text_of WINDOWS_1252 lines.bytes },
-        w.in-Undecoded.ensures.joins.joins,
-        rw (w.lines-is, w.engine-is, w.sink-is, w.error-is, w.copied-is) w.copy_undecoded-copied.ensures.copies,
-      )
-      | in-Text w ↦ (
-        numbered_line w.in-Text.number lines.at,
-        w.in-Text.ensures.joins.joins,
-        rw (w.lines-is, w.engine-is, w.sink-is, w.error-is, w.copied-is) w.copy_text-copied.ensures.copies,
-      )
-    ] in
-    copied-failed lines m.lines next (writing before.engine before.sink) (writing m.engine m.sink) before.error m.error held.passed.1 held.written held.kept (rw c.in-Failed.is at came)
+    copied-failed c.next_undecoded.new.self m.lines c.next_undecoded.new.reader (writing before.engine before.sink) (writing m.engine m.sink) before.error m.error held.passed.1 held.written held.kept
+    (rw c.in-Failed.is at (came g (goal.at.returns-in-Failed-clause-copies g c).Joined-next_undecoded))

@@ -1,11 +1,12 @@
-use Rattle.std.proofs.Common.{◌≡◌, ◌∙◌, refl, ap, sym, subst, inl, inr}
+use Rattle.std.proofs.Common.{◌∙◌, refl, ap, sym, subst, inr}
 use Rattle.std.proofs.lemmas.Result.{err_from_is_err_and}
 use Rattle.properties_text.specs.Encoding.{encoding_of}
-use Rattle.properties_lines.specs.LineJoiner.{Joiner, Joining}
-use Rattle.java_properties.specs.Errors.{IsBareError, IsLineError}
+use Rattle.properties_lines.specs.LineJoiner.{Joiner}
+use Rattle.java_properties.specs.Errors.{IsBareError}
 use Rattle.java_properties.specs.declared.error.ErrorKind.TheVariants.{Memory}
 use Rattle.java_properties.specs.declared.error.PropertiesError.{PropertiesError}
 use Rattle.java_properties.proofs.MalformedEscapes.{found-start, found-next, found-all, found-error, found-lost}
+use Rattle.java_properties.proofs.Items.{stopped, ended}
 use Rattle.java_properties.proofs.iter.malformed.malformed_escapes.Goals as goal
 
 pub loop-number-init : goal.loop-number-init
@@ -34,18 +35,11 @@ returns-in_err-push_malformed-clause-finds g c =
     (inr (found-lost c.in-Some.number c.next_line.new.self.at c.loop-number.invariant.found next (subst P (sym error.2) c.in_err-push_malformed.ensures)))
 
 pub returns-in-Some-take_error-clause-finds : goal.returns-in-Some-take_error-clause-finds
-returns-in-Some-take_error-clause-finds g c = elim c.in_default.ensures.joins [
-  | inl k ↦
-      let none = ap (λ v. let w : Joining = v in w.error) k.1 ∙ c.loop-number.invariant.error in
-      absurd (cc (c.in-Some-take_error.is, c.take_error.ensures.error, none))
-  | inr k ↦
-      let same : k.error ≡ c.in-Some-take_error.error = cc (c.in-Some-take_error.is, c.take_error.ensures.error, k.kept) in
-      let says = subst (λ v. IsLineError v c.from.result) (sym same) c.from.ensures in
-      found-error c.loop-number.invariant.found k.live k.why says
-]
+returns-in-Some-take_error-clause-finds g c =
+    let stop = stopped c.in_default.ensures.joins c.loop-number.invariant.error (sym c.take_error.ensures.error ∙ c.in-Some-take_error.is) in
+    found-error c.loop-number.invariant.found stop.0 stop.2 c.from.ensures
 
 pub returns-clause-finds : goal.returns-clause-finds
-returns-clause-finds g c = elim c.in_default.ensures.joins [
-  | inl k ↦ found-all c.loop-number.invariant.found k.0 k.2
-  | inr k ↦ absurd (cc (c.take_error.ensures.error, k.kept))
-]
+returns-clause-finds g c =
+    let end = ended c.in_default.ensures.joins (sym c.take_error.ensures.error ∙ c.in_default-take_error.is) in
+    found-all c.loop-number.invariant.found end.0 end.2

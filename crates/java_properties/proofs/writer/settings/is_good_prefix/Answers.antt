@@ -1,71 +1,50 @@
-use Rattle.std.proofs.Common.{true, false, sym, ◌∙◌}
-use Rattle.std.specs.Str.{chars}
+use Rattle.std.proofs.Common.{◌≡◌, ◌∷◌, Bool, true, false, sym, ◌∙◌}
+use Rattle.std.specs.Str.{IsUtf8, chars}
 use Rattle.std.specs.Str.Iter.{chars_rest}
 use Rattle.std.proofs.lemmas.Str.{IsUtf8-past_char}
+use Rattle.properties_format.specs.Reading.Settings.{is_good_prefix}
 use Rattle.java_properties.proofs.Settings.Tests.{prefix_left, past_first, past_last, prefix_left-end, prefix_left-in_line, prefix_left-line_end, prefix_left-sign, prefix_left-blank, prefix_left-other}
 use Rattle.java_properties.proofs.writer.settings.is_good_prefix.Goals as goal
+use Rattle.java_properties.proofs.writer.settings.is_good_prefix.Goals.{In-Some}
+
+-- what is to hold of the prefix, by the character at hand and by those after it
+past : (c : In-Some) (signed last : Bool) → c.loop-character.signed ≡ signed → prefix_left signed (c.in-Some.character ∷ chars (chars_rest c.next.new.self)) ≡ last
+    → is_good_prefix (chars c.args.text.now) ≡ last
+past c signed last is left =
+    let held = c.loop-character.invariant in
+    past_first (prefix_left signed) _ last _ _ c.in-Some.character held.utf8 c.in-Some.ensures.steps.0 (rw is at held.same) left
+
+past-utf8 : (c : In-Some) → IsUtf8 (chars_rest c.next.new.self)
+past-utf8 c = IsUtf8-past_char _ _ c.in-Some.character c.loop-character.invariant.utf8 c.in-Some.ensures.steps.0
 
 pub returns-then-is_line_end : goal.returns-then-is_line_end
 returns-then-is_line_end c =
-    let here = c.in-Some.character in
-    let rest = chars (chars_rest c.next.new.self) in
-    let parts = c.in-Some.ensures.steps.0 in
-    let held = c.loop-character.invariant in
-    let same = rw c.if-signed.true at held.same in
     let ends = sym c.is_line_end.ensures ∙ c.if-is_line_end.true in
-    sym (past_first (prefix_left true) _ false _ _ here held.utf8 parts same (prefix_left-line_end here rest ends))
+    sym (past (goal.at.returns-then-is_line_end c).In-Some true false c.if-signed.true (prefix_left-line_end c.in-Some.character (chars (chars_rest c.next.new.self)) ends))
 
 pub loop-character-preserved-else-is_line_end : goal.loop-character-preserved-else-is_line_end
 loop-character-preserved-else-is_line_end c =
-    let here = c.in-Some.character in
-    let rest = chars (chars_rest c.next.new.self) in
-    let parts = c.in-Some.ensures.steps.0 in
-    let held = c.loop-character.invariant in
-    let same = rw c.if-signed.true at held.same in
+    let at = (goal.at.loop-character-preserved-else-is_line_end c).In-Some in
     let stays = sym c.is_line_end.ensures ∙ c.if-is_line_end.false in
-    record {
-      utf8 = IsUtf8-past_char _ _ here held.utf8 parts;
-      same = rw c.if-signed.true (past_first (prefix_left true) _ _ _ _ here held.utf8 parts same
-          (prefix_left-in_line here rest stays));
-    }
+    record { utf8 = past-utf8 at; same = rw c.if-signed.true (past at true _ c.if-signed.true (prefix_left-in_line c.in-Some.character (chars (chars_rest c.next.new.self)) stays)) }
 
 pub loop-character-preserved-then-is_comment_sign : goal.loop-character-preserved-then-is_comment_sign
 loop-character-preserved-then-is_comment_sign c =
-    let here = c.in-Some.character in
-    let rest = chars (chars_rest c.next.new.self) in
-    let parts = c.in-Some.ensures.steps.0 in
-    let held = c.loop-character.invariant in
-    let same = rw c.if-signed.false at held.same in
+    let at = (goal.at.loop-character-preserved-then-is_comment_sign c).In-Some in
     let marks = sym c.is_comment_sign.ensures ∙ c.if-is_comment_sign.true in
-    record {
-      utf8 = IsUtf8-past_char _ _ here held.utf8 parts;
-      same = past_first (prefix_left false) _ _ _ _ here held.utf8 parts same (prefix_left-sign here rest marks);
-    }
+    record { utf8 = past-utf8 at; same = past at false _ c.if-signed.false (prefix_left-sign c.in-Some.character (chars (chars_rest c.next.new.self)) marks) }
 
 pub returns-then-not-is_blank : goal.returns-then-not-is_blank
 returns-then-not-is_blank c =
-    let here = c.in-Some.character in
-    let rest = chars (chars_rest c.next.new.self) in
-    let parts = c.in-Some.ensures.steps.0 in
-    let held = c.loop-character.invariant in
-    let same = rw c.if-signed.false at held.same in
     let marks = sym c.is_comment_sign.ensures ∙ c.if-is_comment_sign.false in
     let blank = sym c.is_blank.ensures ∙ c.if-not-is_blank.true in
-    sym (past_first (prefix_left false) _ false _ _ here held.utf8 parts same (prefix_left-other here rest marks blank))
+    sym (past (goal.at.returns-then-not-is_blank c).In-Some false false c.if-signed.false (prefix_left-other c.in-Some.character (chars (chars_rest c.next.new.self)) marks blank))
 
 pub loop-character-preserved : goal.loop-character-preserved
 loop-character-preserved c =
-    let here = c.in-Some.character in
-    let rest = chars (chars_rest c.next.new.self) in
-    let parts = c.in-Some.ensures.steps.0 in
-    let held = c.loop-character.invariant in
-    let same = rw c.if-signed.false at held.same in
+    let at = (goal.at.loop-character-preserved c).In-Some in
     let blank = sym c.is_blank.ensures ∙ c.if-not-is_blank.false in
-    record {
-      utf8 = IsUtf8-past_char _ _ here held.utf8 parts;
-      same = rw c.if-signed.false (past_first (prefix_left false) _ _ _ _ here held.utf8 parts same
-          (prefix_left-blank here rest blank));
-    }
+    record { utf8 = past-utf8 at; same = rw c.if-signed.false (past at false _ c.if-signed.false (prefix_left-blank c.in-Some.character (chars (chars_rest c.next.new.self)) blank)) }
 
 pub returns : goal.returns
 returns c =

@@ -4,8 +4,8 @@ use Rattle.properties_text.specs.Decoding.{text_of}
 use Rattle.properties_text.proofs.encoding.decode.decode_run_of.Given as goal
 
 -- The text so far, followed by the text of the rest, is the text of all bytes.
-abbrev pub invariant-loop-first : goal.invariant-loop-first
-invariant-loop-first l = record {
+abbrev pub invariant-loop-encoding : goal.invariant-loop-encoding
+invariant-loop-encoding l = record {
   same_room : length l.run ≡ length l.fn.run;
   within : l.at ≤ length l.run;
   onwards : l.start ≤ l.at;
@@ -14,5 +14,5 @@ invariant-loop-first l = record {
   text : chars (take l.at l.run) ++ text_of l.encoding l.rest ≡ chars (take l.start l.fn.run) ++ text_of l.encoding l.bytes;
 }
 
-abbrev pub decreases-loop-first : goal.decreases-loop-first
-decreases-loop-first l = length l.rest
+abbrev pub decreases-loop-encoding : goal.decreases-loop-encoding
+decreases-loop-encoding l = length l.rest

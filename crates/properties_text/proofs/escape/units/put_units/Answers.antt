@@ -1,9 +1,10 @@
-use Rattle.std.proofs.Common.{◌≡◌, [], length, refl, sym, ap, ◌∙◌, arith}
+use Rattle.std.proofs.Common.{◌≡◌, [], length, refl, sym, ap, ◌∙◌, inl, inr, arith}
 use Rattle.std.specs.Str.{chars}
 use Rattle.std.proofs.lemmas.Str.{chars-nil}
 use Rattle.properties_format.specs.Reading.Escapes.{in_front, meaning_of, text_in_front}
 use Rattle.properties_text.proofs.Texts.Units.{units-more}
 use Rattle.properties_text.proofs.escape.units.put_units.Goals as goal
+use Rattle.properties_text.proofs.escape.units.put_units.Goals.{else-loop-run-test, then-loop-run-test+in_default}
 
 pub loop-run-init : goal.loop-run-init
 loop-run-init c = record {
@@ -36,3 +37,9 @@ loop-run-preserved c =
       left = omega (arith, held.left, c.in-Some.ensures.shorter, ap length left);
       shorter = λ _. omega (arith, held.left, c.in-Some.ensures.shorter, ap length left);
     }
+
+pub returns-clause-stops : goal.returns-clause-stops
+returns-clause-stops c = elim c.loop-run-test.branch [
+  | else-loop-run-test w ↦ inl (omega (arith, w.loop-run-test.false))
+  | then-loop-run-test+in_default w ↦ inr (w.in_default.ensures.none refl)
+]

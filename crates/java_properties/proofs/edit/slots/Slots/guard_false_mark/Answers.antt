@@ -1,8 +1,9 @@
-use Rattle.std.proofs.Common.{true, arith, refl}
+use Rattle.std.proofs.Common.{get_or, true, arith, refl}
 use Rattle.std.specs.Vec.{with_item}
+use Rattle.java_properties.specs.BodySlots.{IsCell, no_cell}
 use Rattle.java_properties.proofs.BodySlots.RemovalEnd.{holds-length, held-slot, guards-marked, guards-not, guards-set}
 use Rattle.java_properties.proofs.edit.slots.Slots.guard_false_mark.Goals as goal
-use Rattle.java_properties.proofs.edit.slots.Slots.guard_false_mark.Goals.{else-not-is_marked-via-then-not-is_marked+else-begins_like_bom, else-not-is_marked-via-else-not-is_marked}
+use Rattle.java_properties.proofs.edit.slots.Slots.guard_false_mark.Goals.{After-index, else-not-is_marked-via-then-not-is_marked+else-begins_like_bom, else-not-is_marked-via-else-not-is_marked}
 
 pub index-requires : goal.index-requires
 index-requires c =
@@ -12,23 +13,18 @@ index-requires c =
     let inside = found.0.inside in
     omega arith
 
-pub begins_like_bom-requires-clause-ordered : goal.begins_like_bom-requires-clause-ordered
-begins_like_bom-requires-clause-ordered c =
+-- the first slot that is left is that of a cell
+first : (c : After-index) → IsCell c.args.body.now c.index.result.now (get_or c.requires.cells c.first_left-first.result no_cell)
+first c =
     let r = c.requires in
     let found = c.first_left-first.ensures.finds c.args.body.now r.cells r.holds in
-    let cell = held-slot c.args.body.now c.first_left-first.new.self r.cells c.first_left-first.result
-    c.index.result.now found.1 found.0.inside
-    c.index.ensures in
-    cell.ordered
+    held-slot c.args.body.now c.first_left-first.new.self r.cells c.first_left-first.result c.index.result.now found.1 found.0.inside c.index.ensures
+
+pub begins_like_bom-requires-clause-ordered : goal.begins_like_bom-requires-clause-ordered
+begins_like_bom-requires-clause-ordered c = (first (goal.at.begins_like_bom-requires-clause-ordered c).After-index).ordered
 
 pub begins_like_bom-requires-clause-within : goal.begins_like_bom-requires-clause-within
-begins_like_bom-requires-clause-within c =
-    let r = c.requires in
-    let found = c.first_left-first.ensures.finds c.args.body.now r.cells r.holds in
-    let cell = held-slot c.args.body.now c.first_left-first.new.self r.cells c.first_left-first.result
-    c.index.result.now found.1 found.0.inside
-    c.index.ensures in
-    cell.within
+begins_like_bom-requires-clause-within c = (first (goal.at.begins_like_bom-requires-clause-within c).After-index).within
 
 pub returns-then-begins_like_bom : goal.returns-then-begins_like_bom
 returns-then-begins_like_bom c =

@@ -1,15 +1,19 @@
-use Rattle.std.proofs.Common.{◌≡◌, ◌++◌, ◌∙◌, ◌-◌, ◌^◌, arith, sym, ap, subst, inl, inr, List, ℕ, [], refl}
+use Rattle.std.proofs.Common.{◌≡◌, ◌++◌, ◌∙◌, ◌-◌, ◌^◌, arith, sym, ap, subst, inr, List, ℕ, [], refl}
+use Rattle.std.specs.Prelude.{Some, Ok}
 use Rattle.std.specs.Str.{chars}
+use Rattle.properties_format.specs.Items.{ignored}
 use Rattle.properties_format.specs.Reading.Items.{outcome_of}
 use Rattle.properties_format.specs.ItemsToCome.{ReaderState}
 use Rattle.counted_io.specs.Streams.{reader}
 use Rattle.properties_lines.specs.LineReader.{lines_left}
 use Rattle.properties_lines.specs.LineJoiner.{Joiner, Joining, numbered_line}
 use Rattle.java_properties.specs.BorrowedItems.{found_content, IsFoundIn}
-use Rattle.java_properties.specs.Errors.{IsLineError}
-use Rattle.java_properties.specs.GivenItems.{IsNoItem}
-use Rattle.java_properties.proofs.Items.{Passed, passed-start, passed-error, passed-no_item, found-item, gives-item, passed-blank, plain-blank}
+use Rattle.java_properties.specs.GivenItems.{FindsItem, IsNoItem}
+use Rattle.java_properties.specs.declared.iter.found.Found.{Found}
+use Rattle.java_properties.proofs.Items.{Passed, passed-start, passed-error, passed-no_item, found-item, gives-item, passed-blank, plain-blank, stopped}
+use Rattle.java_properties.proofs.iter.items.ItemReader.advance.Given.{Over}
 use Rattle.java_properties.proofs.iter.items.ItemReader.advance.Goals as goal
+use Rattle.java_properties.proofs.iter.items.ItemReader.advance.Goals.{After-line-line}
 
 pub loop-number-init : goal.loop-number-init
 loop-number-init g c =
@@ -22,29 +26,37 @@ loop-number-init g c =
       same_reader = refl;
     }
 
-pub returns-in-Some-find_plain-clause-finds : goal.returns-in-Some-find_plain-clause-finds
-returns-in-Some-find_plain-clause-finds g c =
+-- an item that was found in the line is given,
+gives-found : (g : Over) (c : After-line-line g) (item : Found) → (item.line_number ≡ c.in-Some.number) × IsFoundIn c.line-line.result.now item
+    → FindsItem (reader g.R.Read g.R.CountedRead) c.args.self.now.state c.args.reader.now (Some (Ok item)) c.next_line.new.self.at c.next_line.new.reader
+gives-found g c item found =
     let new = c.next_line.new.self.at in
-    let item = c.in-Some-find_plain.item in
     let P : List ℕ → Type 0 = λ v. (item.line_number ≡ c.in-Some.number) × IsFoundIn v item in
-    let is = subst P c.line-line.ensures c.in-Some-find_plain.ensures in
+    let is = subst P c.line-line.ensures found in
     let line = numbered_line c.in-Some.number new in
     let content = found_content new.line item.content in (
       rw is.0 (gives-item line new.state content c.loop-number.invariant.passed.1 c.in-Some.ensures.joins.0 (found-item new.line item is.1)),
       is.1,
     )
 
-pub loop-number-preserved-then-not-has_backslash : goal.loop-number-preserved-then-not-has_backslash
-loop-number-preserved-then-not-has_backslash g c =
+-- and a blank line is passed
+passes-blank : (g : Over) (c : After-line-line g) → outcome_of (chars c.line-line.result.now) ≡ ignored
+    → (bytes : List ℕ) × Passed (reader g.R.Read g.R.CountedRead) c.args.self.now.state c.args.reader.now bytes c.next_line.new.self.at.state c.next_line.new.reader
+passes-blank g c none =
     let next = c.in-Some.ensures.joins.0 in
     let new = c.next_line.new.self.at in
-    let none = plain-blank c.line-line.result.now c.in-Some.number c.find_plain.result c.find_plain.ensures c.in_default-find_plain.not-Some in
     let blank = ap (λ v. outcome_of (chars v)) (sym c.line-line.ensures) ∙ none in
+    (c.loop-number.invariant.passed.0 ++ next.bytes, passed-blank (numbered_line c.in-Some.number new) new.state c.loop-number.invariant.passed.1 next blank)
+
+pub returns-in-Some-find_plain-clause-finds : goal.returns-in-Some-find_plain-clause-finds
+returns-in-Some-find_plain-clause-finds g c =
+    gives-found g (goal.at.returns-in-Some-find_plain-clause-finds g c).After-line-line c.in-Some-find_plain.item c.in-Some-find_plain.ensures
+
+pub loop-number-preserved-then-not-has_backslash : goal.loop-number-preserved-then-not-has_backslash
+loop-number-preserved-then-not-has_backslash g c =
+    let none = plain-blank c.line-line.result.now c.in-Some.number c.find_plain.result c.find_plain.ensures c.in_default-find_plain.not-Some in
     record {
-      passed = (
-        c.loop-number.invariant.passed.0 ++ next.bytes,
-        passed-blank (numbered_line c.in-Some.number new) new.state c.loop-number.invariant.passed.1 next blank,
-      );
+      passed = passes-blank g (goal.at.loop-number-preserved-then-not-has_backslash g c).After-line-line none;
       left = omega (arith, c.loop-number.invariant.left, c.in-Some.ensures.nearer);
       error = c.in-Some.ensures.joins.2;
       same_reader = c.next_line.ensures.same_reader ∙ c.loop-number.invariant.same_reader;
@@ -52,31 +64,15 @@ loop-number-preserved-then-not-has_backslash g c =
 
 pub returns-in-Ok-Some-clause-finds : goal.returns-in-Ok-Some-clause-finds
 returns-in-Ok-Some-clause-finds g c =
-    let new = c.next_line.new.self.at in
-    let item = c.in-Ok-Some.item in
-    let P : List ℕ → Type 0 = λ v. (item.line_number ≡ c.in-Some.number) × IsFoundIn v item in
-    let is = subst P c.line-line.ensures (rw c.in-Ok-Some.field-0-is at c.in-Ok-Some.ensures) in
-    let line = numbered_line c.in-Some.number new in
-    let content = found_content new.line item.content in (
-      rw is.0 (gives-item line new.state content c.loop-number.invariant.passed.1 c.in-Some.ensures.joins.0 (found-item new.line item is.1)),
-      is.1,
-    )
+    gives-found g (goal.at.returns-in-Ok-Some-clause-finds g c).After-line-line c.in-Ok-Some.item (rw c.in-Ok-Some.field-0-is at c.in-Ok-Some.ensures)
 
 pub loop-number-preserved : goal.loop-number-preserved
-loop-number-preserved g c =
-    let next = c.in-Some.ensures.joins.0 in
-    let new = c.next_line.new.self.at in
-    let none = rw c.in-Ok-None.field-0-is at c.in-Ok-None.ensures in
-    let blank = ap (λ v. outcome_of (chars v)) (sym c.line-line.ensures) ∙ none in
-    record {
-      passed = (
-        c.loop-number.invariant.passed.0 ++ next.bytes,
-        passed-blank (numbered_line c.in-Some.number new) new.state c.loop-number.invariant.passed.1 next blank,
-      );
-      left = omega (arith, c.loop-number.invariant.left, c.in-Some.ensures.nearer);
-      error = c.in-Some.ensures.joins.2;
-      same_reader = c.next_line.ensures.same_reader ∙ c.loop-number.invariant.same_reader;
-    }
+loop-number-preserved g c = record {
+  passed = passes-blank g (goal.at.loop-number-preserved g c).After-line-line (rw c.in-Ok-None.field-0-is at c.in-Ok-None.ensures);
+  left = omega (arith, c.loop-number.invariant.left, c.in-Some.ensures.nearer);
+  error = c.in-Some.ensures.joins.2;
+  same_reader = c.next_line.ensures.same_reader ∙ c.loop-number.invariant.same_reader;
+}
 
 pub returns-in-Err-clause-finds : goal.returns-in-Err-clause-finds
 returns-in-Err-clause-finds g c =
@@ -88,26 +84,16 @@ returns-in-Err-clause-finds g c =
     (k.0, done, k.1)
 
 pub returns-clause-finds : goal.returns-clause-finds
-returns-clause-finds g c = elim c.in_default.ensures.joins [
-  | inl k ↦
-      let none = ap (λ v. let w : Joining = v in w.error) k.1 ∙ c.loop-number.invariant.error in
-      absurd (cc (c.in_ok-error.was, c.take_error.ensures.error, none))
-  | inr k ↦
-      let done = ap (λ v. let w : Joining = v in w.at.state.is_done) c.take_error.ensures.taken ∙ k.done in
-      let same : k.error ≡ c.in_ok-error.error = cc (c.in_ok-error.was, c.take_error.ensures.error, k.kept) in
-      let says = subst (λ v. IsLineError v c.from.result) (sym same) c.from.ensures in
-      let p = passed-error c.loop-number.invariant.passed.1 k.live (record { why = k.error; last = _; joins = k.why; is = says }) in
-      (p.0, done, inr p.1)
-]
+returns-clause-finds g c =
+    let stop = stopped c.in_default.ensures.joins c.loop-number.invariant.error (sym c.take_error.ensures.error ∙ c.in_ok-error.was) in
+    let done = ap (λ v. let w : Joining = v in w.at.state.is_done) c.take_error.ensures.taken ∙ stop.1 in
+    let p = passed-error c.loop-number.invariant.passed.1 stop.0 (record { why = c.in_ok-error.error; last = _; joins = stop.2; is = c.from.ensures }) in
+    (p.0, done, inr p.1)
 
 pub returns-clause-nearer : goal.returns-clause-nearer
-returns-clause-nearer g c = elim c.in_default.ensures.joins [
-  | inl k ↦
-      let none = ap (λ v. let w : Joining = v in w.error) k.1 ∙ c.loop-number.invariant.error in
-      absurd (cc (c.in_ok-error.was, c.take_error.ensures.error, none))
-  | inr k ↦
-      let done = ap (λ v. let w : Joining = v in w.at.state.is_done) c.take_error.ensures.taken ∙ k.done in
-      let left : lines_left c.take_error.new.self.at.state ≡ 0 = rw done refl in
-      let all : lines_left c.loop-number.self-inside.lines.at.state ≡ 2 ^ 64 - c.loop-number.self-inside.lines.at.state.passed = rw k.live refl in
-      omega (arith, left, all, c.next_line.ensures.fits, c.loop-number.invariant.left)
-]
+returns-clause-nearer g c =
+    let stop = stopped c.in_default.ensures.joins c.loop-number.invariant.error (sym c.take_error.ensures.error ∙ c.in_ok-error.was) in
+    let done = ap (λ v. let w : Joining = v in w.at.state.is_done) c.take_error.ensures.taken ∙ stop.1 in
+    let left : lines_left c.take_error.new.self.at.state ≡ 0 = rw done refl in
+    let all : lines_left c.loop-number.self-inside.lines.at.state ≡ 2 ^ 64 - c.loop-number.self-inside.lines.at.state.passed = rw stop.0 refl in
+    omega (arith, left, all, c.next_line.ensures.fits, c.loop-number.invariant.left)
