@@ -14,6 +14,8 @@
 //! A heading says what the rows below it are of, and in which encodings each is run. What comes of the left side is
 //! printed in this notation, and compared with the right side letter by letter.
 //!
+//! If the first argument is `quick`, an input is read whole and byte by byte, and not in all other ways.
+//!
 //! The expected values come from the rules of the format, and from the tests of the Rust crate that this is a port of.
 #![tactic(auto)]
 
@@ -26,6 +28,7 @@ mod shown;
 mod table;
 mod writing;
 
+use reading::Pace;
 use std::process::ExitCode;
 use std::{env, fs, io};
 use table::check_table;
@@ -37,7 +40,12 @@ fn main(rt: HostRuntime) -> ExitCode {
 // Runs each table, and returns the exit status: 1 where a row doesn't hold, or a table can't be read or understood.
 fn run(rt: &HostRuntime) -> io::Result<u8> {
     let mut status = 0;
+    let mut pace = Pace::Thorough;
     for name in env::args(rt)?.skip(1) {
+        if name.as_str() == "quick" {
+            pace = Pace::Quick;
+            continue;
+        }
         let text = match fs::read_to_string(rt, name.as_str()) {
             Ok(text) => text,
             Err(error) => {
@@ -46,7 +54,7 @@ fn run(rt: &HostRuntime) -> io::Result<u8> {
                 continue;
             }
         };
-        let report = check_table(rt.alloc(), text.as_str())?;
+        let report = check_table(rt.alloc(), text.as_str(), pace)?;
         if report.failures.is_empty() {
             println!(rt; "{name}: {} rows hold", report.rows)?;
         } else {

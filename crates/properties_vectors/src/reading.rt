@@ -38,11 +38,30 @@ pub enum Reading {
     Map,
 }
 
+/// In how many ways an input is read.
+#[derive(Clone, Copy)]
+pub enum Pace {
+    /// Whole and byte by byte.
+    Quick,
+    /// In pieces of each size, and up to a fault after each byte.
+    Thorough,
+}
+
+impl Pace {
+    fn sizes(self) -> &'static [usize] {
+        match self {
+            Pace::Quick => &SIZES[..1],
+            Pace::Thorough => &SIZES,
+        }
+    }
+}
+
 // What is read, and from which encoding.
 #[derive(Clone, Copy)]
 struct Task {
     alloc: Global,
     reading: Reading,
+    pace: Pace,
     encoding: Encoding,
 }
 
@@ -63,11 +82,12 @@ impl Task {
     }
 }
 
-/// A text alone is read whole and in pieces, and up to a fault after each of its bytes. A text with a fault after it is
+/// A text alone is read whole and in pieces, and up to a fault after each of its bytes, at a thorough pace. A text with a fault after it is
 /// read whole and byte by byte. Other texts are read piece by piece as they are.
 pub fn check_reading(
     alloc: Global,
     reading: Reading,
+    pace: Pace,
     encoding: Encoding,
     clauses: &[Clause],
     outcome: &mut Outcome,
@@ -75,6 +95,7 @@ pub fn check_reading(
     let task = Task {
         alloc,
         reading,
+        pace,
         encoding,
     };
     let script = Script::new(alloc, clauses)?;
@@ -102,11 +123,14 @@ fn check_bytes(task: Task, bytes: &[u8], outcome: &mut Outcome) -> Result<(), Ha
             outcome.fail(format!(in alloc; "whole, by {way:?}: {came}")?);
         }
     }
-    for size in SIZES {
-        let script = Script::of_bytes(alloc, bytes, size, Tail::End)?;
+    for size in task.pace.sizes() {
+        let script = Script::of_bytes(alloc, bytes, *size, Tail::End)?;
         check_script(task, &script, outcome)?;
     }
-    check_fronts(task, bytes, outcome)
+    match task.pace {
+        Pace::Quick => Ok(()),
+        Pace::Thorough => check_fronts(task, bytes, outcome),
+    }
 }
 
 // The bytes are read up to a fault after each of them.

@@ -4,7 +4,7 @@ use crate::copying::check_copying;
 use crate::editing::check_edit;
 use crate::notation::{Clause, Halt, clauses};
 use crate::outcome::Outcome;
-use crate::reading::{Reading, check_compared, check_printed, check_reading};
+use crate::reading::{Pace, Reading, check_compared, check_printed, check_reading};
 use crate::writing::maps::check_maps;
 use crate::writing::{check_printing, check_writing};
 use java_properties::Encoding;
@@ -35,10 +35,11 @@ enum Kind {
 struct Heading {
     kind: Kind,
     encodings: Vec<Encoding>,
+    pace: Pace,
 }
 
 /// Runs each row of a table.
-pub fn check_table(alloc: Global, table: &str) -> Result<Report, AllocError> {
+pub fn check_table(alloc: Global, table: &str, pace: Pace) -> Result<Report, AllocError> {
     let mut report = Report {
         rows: 0,
         failures: String::new(alloc),
@@ -54,7 +55,7 @@ pub fn check_table(alloc: Global, table: &str) -> Result<Report, AllocError> {
             None => {
                 let is_empty = heading.is_some() && report.rows == rows_above;
                 rows_above = report.rows;
-                heading = heading_of(alloc, line)?;
+                heading = heading_of(alloc, line, pace)?;
                 failure_of_heading(alloc, is_empty, heading.is_some())?
             }
             Some((left, right)) => match &heading {
@@ -89,7 +90,7 @@ fn failure_of_heading(
 }
 
 // A kind and the encodings after it, of which there is one at least.
-fn heading_of(alloc: Global, line: &str) -> Result<Option<Heading>, AllocError> {
+fn heading_of(alloc: Global, line: &str, pace: Pace) -> Result<Option<Heading>, AllocError> {
     let Some((first, rest)) = line.split_once(' ') else {
         return Ok(None);
     };
@@ -106,7 +107,11 @@ fn heading_of(alloc: Global, line: &str) -> Result<Option<Heading>, AllocError> 
     if encodings.is_empty() {
         return Ok(None);
     }
-    Ok(Some(Heading { kind, encodings }))
+    Ok(Some(Heading {
+        kind,
+        encodings,
+        pace,
+    }))
 }
 
 fn kind_of(word: &str) -> Option<Kind> {
@@ -135,7 +140,7 @@ fn check_row(
 ) -> Result<Option<String>, AllocError> {
     for encoding in heading.encodings.as_slice() {
         *rows = rows.saturating_add(1);
-        match outcome_of(alloc, heading.kind, *encoding, left, right) {
+        match outcome_of(alloc, heading, *encoding, left, right) {
             Ok(outcome) => {
                 if let Some(text) = outcome.failure() {
                     return Ok(Some(format!(in alloc; "{encoding:?}, {text}")?));
@@ -152,7 +157,7 @@ fn check_row(
 
 fn outcome_of(
     alloc: Global,
-    kind: Kind,
+    heading: &Heading,
     encoding: Encoding,
     left: &str,
     right: &str,
@@ -160,8 +165,17 @@ fn outcome_of(
     let clauses: Vec<Clause> = clauses(alloc, left)?;
     let clauses = clauses.as_slice();
     let mut outcome = Outcome::new(alloc, right)?;
-    match kind {
-        Kind::Read(reading) => check_reading(alloc, reading, encoding, clauses, &mut outcome)?,
+    match heading.kind {
+        Kind::Read(reading) => {
+            check_reading(
+                alloc,
+                reading,
+                heading.pace,
+                encoding,
+                clauses,
+                &mut outcome,
+            )?;
+        }
         Kind::ReadPrint => check_printed(alloc, encoding, clauses, &mut outcome)?,
         Kind::Compare => check_compared(alloc, encoding, clauses, &mut outcome)?,
         Kind::Copy => check_copying(alloc, encoding, clauses, &mut outcome)?,
