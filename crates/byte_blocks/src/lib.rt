@@ -30,6 +30,3 @@ pub use classes::{
 pub use marks::Marks;
 pub use search::{find, find_in_block};
 pub use spread::put_spread;
-
-#[cfg(test)]
-mod tests;

@@ -200,6 +200,3 @@ impl<W: Write + Drop> CountedWrite for Counted<W> {
         self.flush()
     }
 }
-
-#[cfg(test)]
-mod tests;

@@ -183,6 +183,3 @@ impl CountedRead for ScriptedReader {
         self.read(buf)
     }
 }
-
-#[cfg(test)]
-mod tests;

@@ -228,6 +228,3 @@ impl CountedWrite for ScriptedSink {
         self.flush()
     }
 }
-
-#[cfg(test)]
-mod tests;

@@ -262,6 +262,3 @@ fn join_lines<R: CountedRead>(
     }
     !lines.has_failed()
 }
-
-#[cfg(test)]
-mod tests;

@@ -129,14 +129,6 @@ impl LineReader {
         self.scanner.encoding()
     }
 
-    // Sets the number of lines found, so that a test can reach the last number.
-    #[cfg(test)]
-    fn count_from(&mut self, passed: usize)
-        ensures { self.new ≡ record self.old { state = record self.old.state { passed = passed } } }
-    {
-        self.scanner.count_from(passed);
-    }
-
     /// Ends the reading permanently.
     pub fn end(&mut self)
         ensures { self.new ≡ record self.old { state = record self.old.state { is_done = true } } }
@@ -243,6 +235,3 @@ impl LineReader {
         }
     }
 }
-
-#[cfg(test)]
-mod tests;

@@ -144,14 +144,6 @@ impl Scanner {
         self.at
     }
 
-    // Sets the number of lines found, so that a test can reach the last number.
-    #[cfg(test)]
-    pub(crate) fn count_from(&mut self, passed: usize)
-        ensures { self.new ≡ record self.old { passed = passed } }
-    {
-        self.passed = passed;
-    }
-
     /// Ends the scan permanently.
     pub fn end(&mut self)
         ensures { self.new ≡ record self.old { is_done = true } }
@@ -480,6 +472,3 @@ fn is_undecided(mark: ByteOrderMark) -> bool
 {
     matches!(mark, ByteOrderMark::Undecided)
 }
-
-#[cfg(test)]
-mod tests;

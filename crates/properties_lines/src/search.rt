@@ -97,6 +97,3 @@ fn line_end_unit(encoding: Encoding, first: u8, second: u8) -> Option<bool>
         _ => None,
     }
 }
-
-#[cfg(test)]
-mod tests;

@@ -5,8 +5,12 @@
 #[cfg(test)]
 mod edits;
 #[cfg(test)]
+mod parts;
+#[cfg(test)]
 mod printed;
 #[cfg(test)]
 mod reading;
 #[cfg(test)]
 mod refused;
+#[cfg(test)]
+mod same;

@@ -31,6 +31,3 @@ pub fn is_line_end(character: char) -> bool
 {
     matches!(character, '\n' | '\r')
 }
-
-#[cfg(test)]
-mod tests;

@@ -104,6 +104,3 @@ impl fmt::Display for Encoding {
         f.write_str(self.name())
     }
 }
-
-#[cfg(test)]
-mod tests;

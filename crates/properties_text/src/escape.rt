@@ -328,6 +328,3 @@ pub fn count_ending_backslashes(s: &str) -> usize
     }
     bytes.len() - start
 }
-
-#[cfg(test)]
-mod tests;

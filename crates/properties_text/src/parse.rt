@@ -223,6 +223,3 @@ fn ends_key(byte: u8) -> bool
 {
     is_blank(char::from(byte)) || is_separator(char::from(byte))
 }
-
-#[cfg(test)]
-mod tests;

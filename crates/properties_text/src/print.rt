@@ -465,6 +465,3 @@ fn print_escape(line: &mut LineBuffer, character: char) -> Result<(), AllocError
     line.filled = put_escape(&mut line.bytes, line.filled, character);
     Ok(())
 }
-
-#[cfg(test)]
-mod tests;

@@ -10,5 +10,3 @@ pub mod logical;
 pub mod natural;
 pub mod parse;
 mod read_ahead;
-#[cfg(test)]
-mod tests;

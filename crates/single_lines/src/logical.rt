@@ -79,6 +79,3 @@ impl<I: Iterator<Item = Result<NaturalLine, LineError>>> Iterator for LogicalLin
         }
     }
 }
-
-#[cfg(test)]
-mod tests;

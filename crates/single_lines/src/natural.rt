@@ -82,6 +82,3 @@ fn line_text(alloc: Global, lines: &LineReader) -> Result<String, AllocError>
         CowStr::Owned(text) => Ok(text),
     }
 }
-
-#[cfg(test)]
-mod tests;

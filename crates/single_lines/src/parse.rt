@@ -44,6 +44,3 @@ fn cut(spans: ParsedSpans, line: &str) -> ParsedLine<'_>
         ParsedSpans::KVPair(key, value) => ParsedLine::KVPair(key.cut(line), value.cut(line)),
     }
 }
-
-#[cfg(test)]
-mod tests;

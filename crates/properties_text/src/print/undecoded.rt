@@ -520,6 +520,3 @@ fn byte_for(character: char) -> Option<u8>
     }
     Some(byte)
 }
-
-#[cfg(test)]
-mod tests;

@@ -1,10 +1,10 @@
-// The slices of a line, with their escapes as they stand.
+// The slices of a line, with their escapes as they are.
 
-use super::*;
+use crate::same::shows;
+use single_lines::parse::{ParsedLine, parse_line};
 use std::alloc::{AllocError, Global};
-use std::test::Fail;
 
-fn shown(alloc: Global, line: &str) -> Result<String, AllocError> {
+fn slices(alloc: Global, line: &str) -> Result<String, AllocError> {
     match parse_line(line) {
         None => String::from_str(alloc, "none"),
         Some(ParsedLine::Comment(text)) => format!(in alloc; "comment {text:?}"),
@@ -13,7 +13,7 @@ fn shown(alloc: Global, line: &str) -> Result<String, AllocError> {
 }
 
 #[test]
-fn cuts_lines_into_slices(rt: HostRuntime) -> Result<(), Fail> {
+fn lines_are_cut_into_slices(rt: HostRuntime) {
     let rows = [
         ("", "none"),
         (" ", "none"),
@@ -64,8 +64,6 @@ fn cuts_lines_into_slices(rt: HostRuntime) -> Result<(), Fail> {
         ("\u{1f41e}=\u{1f41e}", "pair \"\u{1f41e}\" \"\u{1f41e}\""),
     ];
     for (line, wanted) in rows {
-        let found = shown(rt.alloc(), line)?;
-        assert_eq!(rt; found.as_str(), wanted);
+        shows(&rt, slices(rt.alloc(), line), wanted);
     }
-    Ok(())
 }

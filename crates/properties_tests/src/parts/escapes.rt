@@ -1,18 +1,21 @@
-// Tests of resolving escapes.
+// Escapes, and the backslashes at the end of a line.
 
-use super::*;
-use std::test::Fail;
+use crate::same::{same, shows};
+use properties_text::escape::{count_ending_backslashes, unescape};
+use std::alloc::{AllocError, Global};
+use std::borrow::CowStr;
 
-fn shown(alloc: Global, text: &str) -> Result<String, Fail> {
+// What a text means, and whether it is borrowed, or why it is malformed.
+fn meaning(alloc: Global, text: &str) -> Result<String, AllocError> {
     match unescape(alloc, text) {
-        Ok(CowStr::Borrowed(same)) => Ok(format!(in alloc; "borrowed {same:?}")?),
-        Ok(CowStr::Owned(resolved)) => Ok(format!(in alloc; "{resolved:?}")?),
-        Err(error) => Ok(format!(in alloc; "{error:?}")?),
+        Ok(CowStr::Borrowed(same)) => format!(in alloc; "borrowed {same:?}"),
+        Ok(CowStr::Owned(resolved)) => format!(in alloc; "{resolved:?}"),
+        Err(error) => format!(in alloc; "{error:?}"),
     }
 }
 
 #[test]
-fn resolves_escapes(rt: HostRuntime) -> Result<(), Fail> {
+fn escapes_are_resolved_or_refused(rt: HostRuntime) {
     let rows = [
         (r"\\\n\r\t\f\u0001\b", r#""\\\n\r\t\u{c}\u{1}b""#),
         (r"\", r#""\0""#),
@@ -57,47 +60,12 @@ fn resolves_escapes(rt: HostRuntime) -> Result<(), Fail> {
         (r"\u0041\ud83d\u0041", "Malformed(InvalidCharacter)"),
     ];
     for (text, wanted) in rows {
-        let found = shown(rt.alloc(), text)?;
-        assert_eq!(rt; found.as_str(), wanted);
-    }
-    Ok(())
-}
-
-// More characters than are collected at once.
-#[test]
-fn resolves_many_escapes(rt: HostRuntime) -> Result<(), Fail> {
-    let alloc = rt.alloc();
-    let mut text = String::new(alloc);
-    let mut wanted = String::new(alloc);
-    for _ in 0..40 {
-        text.push_str(r"\u4e00\t\ud83d\udc1e")?;
-        wanted.push_str("\u{4e00}\t\u{1f41e}")?;
-    }
-    let found = shown(alloc, text.as_str())?;
-    let wanted = format!(in alloc; "{wanted:?}")?;
-    assert_eq!(rt; found.as_str(), wanted.as_str());
-    Ok(())
-}
-
-#[test]
-fn finds_a_backslash(rt: HostRuntime) {
-    for (text, wanted) in [
-        ("", false),
-        ("a/b = \u{1f41e}", false),
-        (r"\", true),
-        (r"a\b", true),
-        ("eight/by", false),
-        (r"eight by\tes", true),
-        ("sixteen bytes and more", false),
-        (r"sixteen bytes an\d more", true),
-        (r"sixteen bytes, and sixteen more,\\", true),
-    ] {
-        assert_eq!(rt; has_backslash(text), wanted);
+        shows(&rt, meaning(rt.alloc(), text), wanted);
     }
 }
 
 #[test]
-fn counts_ending_backslashes(rt: HostRuntime) -> Result<(), Fail> {
+fn ending_backslashes_are_counted(rt: HostRuntime) {
     let rows = [
         ("", 0),
         ("x", 0),
@@ -120,7 +88,6 @@ fn counts_ending_backslashes(rt: HostRuntime) -> Result<(), Fail> {
         (r"\\\", 3),
     ];
     for (text, wanted) in rows {
-        assert_eq!(rt; count_ending_backslashes(text), wanted);
+        same(&rt, count_ending_backslashes(text), wanted);
     }
-    Ok(())
 }

@@ -1,14 +1,15 @@
 // Lines that are found among bytes and then decoded, beside the lines of the text that the whole input is decoded to.
 
-use crate::decode_iter::DecodeIter;
-use crate::natural::{NaturalLine, NaturalLines};
-use counted_io::{ScriptedReader, Tail};
+use super::script;
+use crate::same::same;
+use counted_io::Tail;
 use properties_text::encoding::Encoding;
+use single_lines::decode_iter::DecodeIter;
+use single_lines::natural::{NaturalLine, NaturalLines};
 use std::alloc::{AllocError, Global};
 use std::process::Abort;
-use std::test::Fail;
 
-// What the other tests read, in these encodings.
+// Inputs of the other tests and of the tables, in these encodings.
 const INPUTS: [(Encoding, &[u8]); 84] = [
     (Encoding::WINDOWS_1252, b""),
     (
@@ -108,76 +109,57 @@ const INPUTS: [(Encoding, &[u8]); 84] = [
     (Encoding::UTF_16LE, b"=\xd8\r\x00\x1e\xdc"),
 ];
 
-fn script(alloc: Global, bytes: &[u8], size: usize) -> Result<ScriptedReader, AllocError> {
-    let mut pieces = Vec::new(alloc);
-    for piece in bytes.chunks(size.max(1)) {
-        pieces.push(Vec::from_slice(alloc, piece)?)?;
-    }
-    Ok(ScriptedReader::new(pieces, Tail::End))
-}
-
-// The text of the whole input.
-fn decoded(alloc: Global, encoding: Encoding, bytes: &[u8], size: usize) -> Result<String, Fail> {
-    let characters = DecodeIter::new(alloc, script(alloc, bytes, size)?, encoding)?;
-    let mut text = String::new(alloc);
-    // Each character has a byte at least, so no more of them come.
-    for character in characters.take(bytes.len() + 1) {
-        text.push(character?)?;
-    }
-    Ok(text)
-}
-
-fn split(alloc: Global, text: &str) -> Result<Vec<String>, AllocError> {
-    let mut lines = Vec::new(alloc);
-    let mut line = String::new(alloc);
-    let mut after_cr = false;
-    for character in text.chars() {
-        match character {
-            '\n' if after_cr => {}
-            '\r' | '\n' => {
-                lines.push(line)?;
-                line = String::new(alloc);
-            }
-            _ => line.push(character)?,
-        }
-        after_cr = character == '\r';
-    }
-    lines.push(line)?;
-    Ok(lines)
-}
-
-// The two ways give the same lines, numbered from 1.
-fn check_lines(
-    rt: &impl Abort,
+// The text of the whole input, with LF as each line ending.
+fn decoded(
     alloc: Global,
     encoding: Encoding,
     bytes: &[u8],
     size: usize,
-) -> Result<(), Fail> {
-    let text = decoded(alloc, encoding, bytes, size)?;
-    let wanted = split(alloc, text.as_str())?;
-    let mut found = Vec::new(alloc);
-    for line in NaturalLines::new(alloc, script(alloc, bytes, size)?, encoding) {
-        let Ok(NaturalLine(number, text)) = line else {
-            return Err(Fail::from("no line comes"));
-        };
-        found.push(text)?;
-        assert_eq!(rt; number, found.len());
+) -> Result<String, AllocError> {
+    let characters = DecodeIter::new(alloc, script(alloc, bytes, size, Tail::End)?, encoding)?;
+    let mut text = String::new(alloc);
+    // Each character has a byte at least, so no more of them come.
+    for character in characters.take(bytes.len() + 1) {
+        text.push(character.unwrap_or('?'))?;
     }
-    assert_eq!(rt;
-        found.as_slice(),
-        wanted.as_slice(),
-        "of {bytes:?} by {size}"
-    );
-    Ok(())
+    let text = text.replace(alloc, "\r\n", "\n")?;
+    text.replace(alloc, '\r', "\n")
+}
+
+// Its lines, with an LF between two.
+fn lines(
+    alloc: Global,
+    encoding: Encoding,
+    bytes: &[u8],
+    size: usize,
+) -> Result<String, AllocError> {
+    let mut all = String::new(alloc);
+    for line in NaturalLines::new(alloc, script(alloc, bytes, size, Tail::End)?, encoding) {
+        let Ok(NaturalLine(number, text)) = line else {
+            return String::from_str(alloc, "an error");
+        };
+        if number > 1 {
+            all.push('\n')?;
+        }
+        all.push_str(text.as_str())?;
+    }
+    Ok(all)
+}
+
+// In pieces of this size, the two ways give the same.
+fn agree(rt: &impl Abort, alloc: Global, encoding: Encoding, bytes: &[u8], size: usize) {
+    let found = lines(alloc, encoding, bytes, size);
+    match (found, decoded(alloc, encoding, bytes, size)) {
+        (Ok(found), Ok(wanted)) => same(rt, found.as_str(), wanted.as_str()),
+        _ => panic!(*rt; "no memory for {bytes:?}"),
+    }
 }
 
 #[test]
-fn lines_are_those_of_the_decoded_text(rt: HostRuntime) -> Result<(), Fail> {
+fn lines_are_those_of_the_decoded_text(rt: HostRuntime) {
     for (encoding, bytes) in &INPUTS {
         for size in [1, 2, 3, 1000] {
-            check_lines(&rt, rt.alloc(), *encoding, bytes, size)?;
+            agree(&rt, rt.alloc(), *encoding, bytes, size);
         }
     }
-    Ok(())
 }
