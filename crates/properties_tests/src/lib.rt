@@ -1,12 +1,18 @@
-//! What no table of rows shows: refused memory, what items borrow, and values as they are compared, copied and
-//! debugged.
+//! What no table of rows shows: refused memory, what items borrow, sources that are read and written whole, and values
+//! as they are compared, copied, printed and debugged.
 #![tactic(auto)]
 
 #[cfg(test)]
-mod edits;
+mod failure;
 #[cfg(test)]
 mod printed;
 #[cfg(test)]
 mod reading;
 #[cfg(test)]
 mod refused;
+#[cfg(test)]
+mod same;
+#[cfg(test)]
+mod streams;
+#[cfg(test)]
+mod values;
