@@ -4,6 +4,7 @@
 
 #[cfg(test)]
 mod failure;
+pub mod last_number;
 #[cfg(test)]
 mod printed;
 #[cfg(test)]
