@@ -16,56 +16,47 @@ fn text(rt: &impl Abort, alloc: Global, text: &str) -> String {
 
 #[test]
 fn calls_are_compared_copied_and_debugged(rt: HostRuntime) -> Result<(), Fail> {
-    let alloc = rt.alloc();
-    let (a, b, c) = (
-        text(&rt, alloc, "a"),
-        text(&rt, alloc, "b"),
-        text(&rt, alloc, "c"),
-    );
+    let (rt, alloc) = (&rt, rt.alloc());
     let rows = [
-        (Call::Comment(text(&rt, alloc, "a")), r#"Comment("a")"#),
-        (Call::Pair(text(&rt, alloc, "a"), b), r#"Pair("a", "b")"#),
-        (Call::Pair(text(&rt, alloc, "a"), c), r#"Pair("a", "c")"#),
-        (Call::Prefix(text(&rt, alloc, "a")), r#"Prefix("a")"#),
-        (Call::Separator(a), r#"Separator("a")"#),
+        (Call::Comment(text(rt, alloc, "a")), r#"Comment("a")"#),
+        (call_of_pair(rt, alloc, "a", "b"), r#"Pair("a", "b")"#),
+        (call_of_pair(rt, alloc, "a", "c"), r#"Pair("a", "c")"#),
+        (Call::Prefix(text(rt, alloc, "a")), r#"Prefix("a")"#),
+        (Call::Separator(text(rt, alloc, "a")), r#"Separator("a")"#),
         (Call::Ending(LineEnding::CR), "Ending(CR)"),
         (Call::Ending(LineEnding::LF), "Ending(LF)"),
         (Call::Flush, "Flush"),
         (Call::AsciiOnly(true), "AsciiOnly(true)"),
         (Call::AsciiOnly(false), "AsciiOnly(false)"),
     ];
-    check_values(&rt, alloc, rows.as_slice())
+    check_values(rt, alloc, rows.as_slice())
+}
+
+fn call_of_pair(rt: &impl Abort, alloc: Global, key: &str, value: &str) -> Call {
+    Call::Pair(text(rt, alloc, key), text(rt, alloc, value))
 }
 
 #[test]
 fn edits_are_compared_copied_and_debugged(rt: HostRuntime) -> Result<(), Fail> {
-    let alloc = rt.alloc();
-    let (rt, alloc) = (&rt, alloc);
+    let (rt, alloc) = (&rt, rt.alloc());
     let rows = [
-        (
-            Edit::Put(text(rt, alloc, "a"), text(rt, alloc, "b")),
-            r#"Put("a", "b")"#,
-        ),
-        (
-            Edit::Put(text(rt, alloc, "a"), text(rt, alloc, "\n")),
-            r#"Put("a", "\n")"#,
-        ),
-        (
-            Edit::Put(text(rt, alloc, "b"), text(rt, alloc, "b")),
-            r#"Put("b", "b")"#,
-        ),
+        (put(rt, alloc, "a", "b"), r#"Put("a", "b")"#),
+        (put(rt, alloc, "a", "\n"), r#"Put("a", "\n")"#),
+        (put(rt, alloc, "b", "b"), r#"Put("b", "b")"#),
         (Edit::Remove(text(rt, alloc, "a")), r#"Remove("a")"#),
         (Edit::Remove(text(rt, alloc, "")), r#"Remove("")"#),
-        (
-            Edit::SetValue(text(rt, alloc, "a"), text(rt, alloc, "b")),
-            r#"SetValue("a", "b")"#,
-        ),
-        (
-            Edit::SetValue(text(rt, alloc, "a"), text(rt, alloc, "\n")),
-            r#"SetValue("a", "\n")"#,
-        ),
+        (value_set(rt, alloc, "a", "b"), r#"SetValue("a", "b")"#),
+        (value_set(rt, alloc, "a", "\n"), r#"SetValue("a", "\n")"#),
     ];
     check_values(rt, alloc, rows.as_slice())
+}
+
+fn put(rt: &impl Abort, alloc: Global, key: &str, value: &str) -> Edit {
+    Edit::Put(text(rt, alloc, key), text(rt, alloc, value))
+}
+
+fn value_set(rt: &impl Abort, alloc: Global, key: &str, value: &str) -> Edit {
+    Edit::SetValue(text(rt, alloc, key), text(rt, alloc, value))
 }
 
 // Each value is equal to its copy and to no other, and is debugged as the text beside it.
