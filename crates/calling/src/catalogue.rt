@@ -45,18 +45,25 @@ impl Catalogue {
 #[cfg(test)]
 mod tests {
     use super::*;
+    use crate::same::same;
     use std::test::Fail;
 
     #[test]
     fn falls_back_to_the_general_message(rt: HostRuntime) -> Result<(), Fail> {
         let mut catalogue = Catalogue::new(rt.alloc());
-        let mut general: &[u8] = b"hello = Hello\nbye = Good bye\n";
-        let mut german: &[u8] = "# nur die Begrüßung\nhello = Grüß Gott\n".as_bytes();
-        assert!(rt; catalogue.add(rt.alloc(), &mut general).is_ok());
-        assert!(rt; catalogue.add(rt.alloc(), &mut german).is_ok());
-        assert_eq!(rt; catalogue.message("hello"), "Grüß Gott");
-        assert_eq!(rt; catalogue.message("bye"), "Good bye");
-        assert_eq!(rt; catalogue.message("thanks"), "thanks");
+        let general = b"hello = Hello\nbye = Good bye\n".as_slice();
+        let german = "# nur die Begrüßung\nhello = Grüß Gott\n".as_bytes();
+        for file in [general, german] {
+            let mut input = file;
+            catalogue.add(rt.alloc(), &mut input)?;
+        }
+        for (key, message) in [
+            ("hello", "Grüß Gott"),
+            ("bye", "Good bye"),
+            ("thanks", "thanks"),
+        ] {
+            same(&rt, catalogue.message(key), message);
+        }
         Ok(())
     }
 }

@@ -23,27 +23,34 @@ pub fn are_same_pairs<W: CountedWrite>(
 #[cfg(test)]
 mod tests {
     use super::*;
+    use crate::same::same;
     use counted_io::Counted;
     use java_properties::Encoding;
     use std::alloc::Global;
     use std::test::Fail;
 
-    fn written(alloc: Global, key: &str, value: &str) -> Result<Vec<u8>, Fail> {
+    type BytesWriter = PropertiesWriter<Counted<Vec<u8>>>;
+
+    fn writer(alloc: Global) -> Result<BytesWriter, Fail> {
         let sink = Counted::new(Vec::new(alloc));
-        let mut writer = PropertiesWriter::new_with_encoding(alloc, sink, Encoding::UTF_8)?;
+        Ok(PropertiesWriter::new_with_encoding(alloc, sink, Encoding::UTF_8)?)
+    }
+
+    fn written(alloc: Global, key: &str, value: &str) -> Result<Vec<u8>, Fail> {
+        let mut writer = writer(alloc)?;
         writer.write(key, value)?;
         Ok(writer.into_inner().into_inner())
     }
 
     #[test]
     fn tells_pairs_apart(rt: HostRuntime) -> Result<(), Fail> {
-        let alloc = rt.alloc();
-        let sink = Counted::new(Vec::new(alloc));
-        let writer = PropertiesWriter::new_with_encoding(alloc, sink, Encoding::UTF_8)?;
-        let first = written(alloc, "a=", "b")?;
-        let second = written(alloc, "a", "=b")?;
-        assert!(rt; are_same_pairs(&writer, first.as_slice(), first.as_slice()));
-        assert!(rt; !are_same_pairs(&writer, first.as_slice(), second.as_slice()));
+        let writer = writer(rt.alloc())?;
+        let first = written(rt.alloc(), "a=", "b")?;
+        let second = written(rt.alloc(), "a", "=b")?;
+        for (other, wanted) in [(first.as_slice(), true), (second.as_slice(), false)] {
+            let is_same = are_same_pairs(&writer, first.as_slice(), other);
+            same(&rt, is_same, wanted);
+        }
         Ok(())
     }
 }

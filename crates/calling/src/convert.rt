@@ -30,12 +30,12 @@ pub fn convert<R: CountedRead, W: CountedWrite>(
 #[cfg(test)]
 mod tests {
     use super::*;
+    use crate::same::same;
     use counted_io::Counted;
     use std::test::Fail;
 
     #[test]
     fn converts_between_encodings(rt: HostRuntime) -> Result<(), Fail> {
-        let alloc = rt.alloc();
         let rows: [(&[u8], Encoding, Encoding, &[u8]); 3] = [
             (
                 b"# caf\xe9\nprice = 3 \x80",
@@ -58,9 +58,9 @@ mod tests {
         ];
         for (bytes, from, to, wanted) in rows {
             let mut input = bytes;
-            let mut output = Counted::new(Vec::new(alloc));
-            convert(alloc, &mut input, from, &mut output, to)?;
-            assert_eq!(rt; output.into_inner().as_slice(), wanted);
+            let mut output = Counted::new(Vec::new(rt.alloc()));
+            convert(rt.alloc(), &mut input, from, &mut output, to)?;
+            same(&rt, output.into_inner().as_slice(), wanted);
         }
         Ok(())
     }

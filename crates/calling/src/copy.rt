@@ -34,56 +34,59 @@ pub fn copy_pairs<R: CountedRead, W: CountedWrite>(
 #[cfg(test)]
 mod tests {
     use super::*;
+    use crate::same::same;
     use counted_io::Counted;
     use java_properties::ErrorKind;
-    use std::test::Fail;
+
+    // An error has its kind and its line.
+    type Failure = (ErrorKind, Option<usize>);
 
     #[test]
-    fn copies_pairs_between_encodings(rt: HostRuntime) -> Result<(), Fail> {
-        let alloc = rt.alloc();
-        let rows: [(&[u8], Encoding, Encoding, &[u8]); 3] = [
+    fn copies_the_pairs_before_an_error(rt: HostRuntime) {
+        let malformed = Some((ErrorKind::NotEnoughDigits, Some(2)));
+        let rows: [(&[u8], Encoding, Encoding, &[u8], Option<Failure>); 4] = [
             (
                 b"# caf\xe9\nprice = 3 \x80\nlong = 1\\\n  2",
                 Encoding::WINDOWS_1252,
                 Encoding::WINDOWS_1252,
                 b"price=3\\ \x80\nlong=12\n",
+                None,
             ),
             (
                 b"# caf\xe9\nprice = 3 \x80",
                 Encoding::WINDOWS_1252,
                 Encoding::UTF_8,
                 "price=3\\ €\n".as_bytes(),
+                None,
             ),
             (
                 "k=\u{65e5}".as_bytes(),
                 Encoding::UTF_8,
                 Encoding::WINDOWS_1252,
                 b"k=\\u65e5\n",
+                None,
+            ),
+            (
+                b"a=1\nb=\\u12",
+                Encoding::WINDOWS_1252,
+                Encoding::WINDOWS_1252,
+                b"a=1\n",
+                malformed,
             ),
         ];
-        for (bytes, from, to, wanted) in rows {
+        for (bytes, from, to, wanted, failure) in rows {
             let mut input = bytes;
-            let mut output = Counted::new(Vec::new(alloc));
-            copy_pairs(alloc, &mut input, from, &mut output, to)?;
-            assert_eq!(rt; output.into_inner().as_slice(), wanted);
+            let mut output = Counted::new(Vec::new(rt.alloc()));
+            let answer = copy_pairs(rt.alloc(), &mut input, from, &mut output, to);
+            same(&rt, failure_of(&answer), failure);
+            same(&rt, output.into_inner().as_slice(), wanted);
         }
-        Ok(())
     }
 
-    #[test]
-    fn keeps_the_pairs_before_an_error(rt: HostRuntime) -> Result<(), Fail> {
-        let alloc = rt.alloc();
-        let mut input: &[u8] = b"a=1\nb=\\u12";
-        let mut output = Counted::new(Vec::new(alloc));
-        let encoding = Encoding::WINDOWS_1252;
-        match copy_pairs(alloc, &mut input, encoding, &mut output, encoding) {
-            Ok(()) => return Err(Fail::from("a malformed escape was copied")),
-            Err(error) => {
-                assert_eq!(rt; error.kind(), ErrorKind::NotEnoughDigits);
-                assert_eq!(rt; error.line_number(), Some(2));
-            }
+    fn failure_of(answer: &Result<(), PropertiesError>) -> Option<Failure> {
+        match answer {
+            Ok(()) => None,
+            Err(error) => Some((error.kind(), error.line_number())),
         }
-        assert_eq!(rt; output.into_inner().as_slice(), b"a=1\n".as_slice());
-        Ok(())
     }
 }

@@ -29,18 +29,19 @@ pub fn count_items<R: CountedRead>(
 #[cfg(test)]
 mod tests {
     use super::*;
+    use crate::same::same;
     use counted_io::{ScriptedReader, Tail};
     use std::io::ErrorKind;
     use std::test::Fail;
 
     #[test]
     fn counts_items(rt: HostRuntime) -> Result<(), Fail> {
-        let alloc = rt.alloc();
         let mut input: &[u8] = b"# x\na = \\\n  1\n\nb";
-        assert_eq!(rt; count_items(alloc, &mut input, Encoding::UTF_8)?, 3);
-        let mut broken = ScriptedReader::new(Vec::new(alloc), Tail::Fault(ErrorKind::Other));
-        assert!(rt; count_items(alloc, &mut broken, Encoding::UTF_8).is_err());
-        assert_eq!(rt; broken.faults(), 1);
+        let count = count_items(rt.alloc(), &mut input, Encoding::UTF_8)?;
+        same(&rt, count, 3);
+        let mut broken = ScriptedReader::new(Vec::new(rt.alloc()), Tail::Fault(ErrorKind::Other));
+        let answer = count_items(rt.alloc(), &mut broken, Encoding::UTF_8);
+        same(&rt, (answer.is_err(), broken.faults()), (true, 1));
         Ok(())
     }
 }

@@ -20,15 +20,16 @@ pub fn value_or<'a>(document: &'a Document, key: &str, default: &'a str) -> &'a 
 #[cfg(test)]
 mod tests {
     use super::*;
+    use crate::same::same;
     use java_properties::Encoding;
     use std::test::Fail;
 
     #[test]
     fn falls_back_to_a_default(rt: HostRuntime) -> Result<(), Fail> {
-        let mut document = Document::parse(rt.alloc(), b"port = 80\n", Encoding::UTF_8)?;
-        assert_eq!(rt; value_or(&document, "port", "8080"), "80");
-        document.remove("port");
-        assert_eq!(rt; value_or(&document, "port", "8080"), "8080");
+        let document = Document::parse(rt.alloc(), b"port = 80\n", Encoding::UTF_8)?;
+        for (key, value) in [("port", "80"), ("host", "none")] {
+            same(&rt, value_or(&document, key, "none"), value);
+        }
         Ok(())
     }
 }

@@ -36,29 +36,33 @@ fn edits_from(alloc: Global, settings: &BTreeMap<String, String>) -> Result<Vec<
 #[cfg(test)]
 mod tests {
     use super::*;
+    use crate::same::same;
     use std::test::Fail;
 
     #[test]
-    fn sets_a_port(rt: HostRuntime) -> Result<(), Fail> {
+    fn sets_a_port_and_a_url(rt: HostRuntime) -> Result<(), Fail> {
         let file = b"# the front door\r\nport : 80\r\n\r\nhost = a\r\n".as_slice();
         let edited = set_port(rt.alloc(), file, 8080)?;
         let wanted = b"# the front door\r\nport=8080\r\n\r\nhost = a\r\n".as_slice();
-        assert_eq!(rt; edited.as_slice(), wanted);
-        Ok(())
-    }
-
-    #[test]
-    fn sets_a_url(rt: HostRuntime) -> Result<(), Fail> {
+        same(&rt, edited.as_slice(), wanted);
         let file = b"# the back end\n  url : x\n".as_slice();
         let edited = set_url(rt.alloc(), file, "https://a:1")?;
         let wanted = b"# the back end\n  url : https://a:1\n".as_slice();
-        assert_eq!(rt; edited.as_slice(), wanted);
+        same(&rt, edited.as_slice(), wanted);
         Ok(())
     }
 
     #[test]
     fn sets_what_a_map_has(rt: HostRuntime) -> Result<(), Fail> {
-        let alloc = rt.alloc();
+        let settings = settings(rt.alloc())?;
+        let file = b"# both\nhost = a\n! and\nport = 80".as_slice();
+        let edited = set_all(rt.alloc(), file, &settings)?;
+        let wanted = b"# both\nhost=b\n! and\nport=8080\ndoor=d\nuser=c\n".as_slice();
+        same(&rt, edited.as_slice(), wanted);
+        Ok(())
+    }
+
+    fn settings(alloc: Global) -> Result<BTreeMap<String, String>, Fail> {
         let mut settings = BTreeMap::new(alloc);
         for (key, value) in [
             ("user", "c"),
@@ -71,10 +75,6 @@ mod tests {
                 String::from_str(alloc, value)?,
             )?;
         }
-        let file = b"# both\nhost = a\n! and\nport = 80".as_slice();
-        let edited = set_all(alloc, file, &settings)?;
-        let wanted = b"# both\nhost=b\n! and\nport=8080\ndoor=d\nuser=c\n".as_slice();
-        assert_eq!(rt; edited.as_slice(), wanted);
-        Ok(())
+        Ok(settings)
     }
 }

@@ -28,14 +28,14 @@ pub fn find<R: CountedRead>(
 #[cfg(test)]
 mod tests {
     use super::*;
+    use crate::same::same;
     use std::test::Fail;
 
     #[test]
     fn finds_a_value(rt: HostRuntime) -> Result<(), Fail> {
-        let alloc = rt.alloc();
         let mut input: &[u8] = b"# port = 1\nhost = here\nport = 8080\nport = 9090\n";
-        let found = find(alloc, &mut input, "port")?;
-        assert_eq!(rt; found.as_deref(), Some("8080"));
+        let found = find(rt.alloc(), &mut input, "port")?;
+        same(&rt, found.as_deref(), Some("8080"));
         Ok(())
     }
 }

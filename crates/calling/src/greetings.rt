@@ -34,6 +34,7 @@ pub fn written(alloc: Global) -> Result<Vec<u8>, PropertiesError> {
 #[cfg(test)]
 mod tests {
     use super::*;
+    use crate::same::same;
     use std::test::Fail;
 
     #[test]
@@ -41,7 +42,7 @@ mod tests {
         print_pairs(&rt, rt.alloc())?;
         let bytes = written(rt.alloc())?;
         let wanted: &[u8] = b"# for the front page\ngreeting=hello\\ world\n";
-        assert_eq!(rt; bytes.as_slice(), wanted);
+        same(&rt, bytes.as_slice(), wanted);
         Ok(())
     }
 }

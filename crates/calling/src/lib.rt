@@ -18,3 +18,15 @@ pub mod ordered;
 pub mod pairs;
 pub mod replace;
 pub mod settings;
+
+// How tests compare: a call of `same` is proved in no time, and an `assert_eq!` in the body of a test with all that the
+// test holds.
+#[cfg(test)]
+mod same {
+    use std::fmt::Debug;
+    use std::process::Abort;
+
+    pub fn same<T: PartialEq + Debug + Copy>(rt: &impl Abort, found: T, wanted: T) {
+        assert_eq!(*rt; found, wanted);
+    }
+}

@@ -57,35 +57,48 @@ fn read_file(rt: &impl Files, path: &str, source: &mut Vec<u8>) -> Result<(), io
 #[cfg(test)]
 mod tests {
     use super::*;
+    use crate::same::same;
+    use std::process::Abort;
     use std::test::Fail;
 
     #[test]
     fn finds_what_is_wrong(rt: HostRuntime) -> Result<(), Fail> {
-        let source =
-            b"# C:\\users\na = 1\nb = 2\na : 3\nc = \\uzzzz\nd = \\\n  \\ud83d\na = 4\n".as_slice();
-        let messages = lint(rt.alloc(), "my.properties", source)?;
-        let wanted = [
-            "my.properties:1: Malformed \\uxxxx encoding: not hex. (in a comment)",
-            "my.properties:5: Malformed \\uxxxx encoding: not hex.",
-            "my.properties:6: Malformed \\uxxxx encoding: invalid character.",
-            "my.properties:4: this key is in line 2 too",
-            "my.properties:8: this key is in line 2 too",
-        ];
-        assert_eq!(rt; messages.len(), wanted.len());
-        for (message, text) in messages.iter().zip(wanted) {
-            assert_eq!(rt; message.as_str(), text);
-        }
-        let messages = lint(
+        check_lint(
+            &rt,
             rt.alloc(),
-            "my.properties",
-            b"a = 1\nb = 2\na : 3\nc = \\u12",
+            b"# C:\\users\na = 1\nb = 2\na : 3\nc = \\uzzzz\nd = \\\n  \\ud83d\na = 4\n",
+            &[
+                "my.properties:1: Malformed \\uxxxx encoding: not hex. (in a comment)",
+                "my.properties:5: Malformed \\uxxxx encoding: not hex.",
+                "my.properties:6: Malformed \\uxxxx encoding: invalid character.",
+                "my.properties:4: this key is in line 2 too",
+                "my.properties:8: this key is in line 2 too",
+            ],
         )?;
-        assert_eq!(rt; messages.len(), 2);
-        assert_eq!(rt;
-            messages[1].as_str(),
-            "my.properties:3: this key is in line 1 too"
-        );
-        assert!(rt; lint_file(&rt, rt.alloc(), "no/such.properties").is_ok());
+        check_lint(
+            &rt,
+            rt.alloc(),
+            b"a = 1\nb = 2\na : 3\nc = \\u12",
+            &[
+                "my.properties:4: Malformed \\uxxxx encoding: not enough digits.",
+                "my.properties:3: this key is in line 1 too",
+            ],
+        )?;
+        lint_file(&rt, rt.alloc(), "no/such.properties")?;
+        Ok(())
+    }
+
+    fn check_lint(
+        rt: &impl Abort,
+        alloc: Global,
+        source: &[u8],
+        wanted: &[&str],
+    ) -> Result<(), Fail> {
+        let messages = lint(alloc, "my.properties", source)?;
+        same(rt, messages.len(), wanted.len());
+        for (message, text) in messages.iter().zip(wanted) {
+            same(rt, message.as_str(), *text);
+        }
         Ok(())
     }
 }

@@ -85,25 +85,24 @@ fn default_server(alloc: Global) -> Result<Server, AllocError> {
 #[cfg(test)]
 mod tests {
     use super::*;
+    use crate::same::same;
+    use std::process::Abort;
     use std::test::Fail;
 
     #[test]
     fn loads_settings(rt: HostRuntime) -> Result<(), Fail> {
-        let alloc = rt.alloc();
         let mut input: &[u8] = b"# the front end\nport : 8080\n";
-        match load(alloc, &mut input) {
-            Ok(server) => {
-                assert_eq!(rt; server.host.as_str(), "localhost");
-                assert_eq!(rt; server.port, 8080);
-            }
-            Err(error) => panic!(rt; "{error:?}"),
-        }
+        let server = load(rt.alloc(), &mut input)?;
+        same(
+            &rt,
+            (server.host.as_str(), server.port),
+            ("localhost", 8080),
+        );
         Ok(())
     }
 
     #[test]
     fn names_file_and_line(rt: HostRuntime) -> Result<(), Fail> {
-        let alloc = rt.alloc();
         let rows: [(&[u8], &str); 3] = [
             (b"host = a\n\nport = many\n", "s:3: port is no number"),
             (b"hots = a\n", "s:1: unknown key"),
@@ -114,12 +113,24 @@ mod tests {
         ];
         for (bytes, wanted) in rows {
             let mut input = bytes;
-            match load(alloc, &mut input) {
-                Ok(_) => panic!(rt; "settings were loaded"),
-                Err(error) => assert_eq!(rt; error.message(alloc, "s")?.as_str(), wanted),
-            }
+            let answer = load(rt.alloc(), &mut input);
+            check_message(&rt, rt.alloc(), answer, wanted)?;
         }
-        assert!(rt; load_file(&rt, alloc, "no/such.properties").is_err());
+        let answer = load_file(&rt, rt.alloc(), "no/such.properties");
+        same(&rt, answer.is_err(), true);
+        Ok(())
+    }
+
+    fn check_message(
+        rt: &impl Abort,
+        alloc: Global,
+        answer: Result<Server, LoadError>,
+        wanted: &str,
+    ) -> Result<(), Fail> {
+        match answer {
+            Ok(_) => panic!(*rt; "settings were loaded"),
+            Err(error) => same(rt, error.message(alloc, "s")?.as_str(), wanted),
+        }
         Ok(())
     }
 }

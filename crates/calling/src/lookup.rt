@@ -76,26 +76,19 @@ fn value_of_sorted<'a>(map: &'a BTreeMap<String, String>, key: &str) -> Option<&
 #[cfg(test)]
 mod tests {
     use super::*;
+    use crate::same::same;
     use std::test::Fail;
 
     #[test]
     fn looks_up_the_last_value(rt: HostRuntime) -> Result<(), Fail> {
-        let alloc = rt.alloc();
-        let text = b"caf\\u00e9 = 1\nb = 2\ncaf\xe9 = 3\n";
-        let mut input: &[u8] = text;
-        let found = lookup(alloc, &mut input, "caf\u{e9}")?;
-        assert_eq!(rt; found.as_deref(), Some("3"));
-        let mut input: &[u8] = text;
-        assert!(rt; lookup(alloc, &mut input, "c")?.is_none());
-        Ok(())
-    }
-
-    #[test]
-    fn looks_up_in_an_encoding(rt: HostRuntime) -> Result<(), Fail> {
-        let alloc = rt.alloc();
+        for (key, value) in [("caf\u{e9}", Some("3")), ("c", None)] {
+            let mut input: &[u8] = b"caf\\u00e9 = 1\nb = 2\ncaf\xe9 = 3\n";
+            let found = lookup(rt.alloc(), &mut input, key)?;
+            same(&rt, found.as_deref(), value);
+        }
         let mut input: &[u8] = "café = 1\nb = 2\ncaf\\u00e9 = 3 €\n".as_bytes();
-        let found = lookup_sorted(alloc, &mut input, Encoding::UTF_8, "café")?;
-        assert_eq!(rt; found.as_deref(), Some("3 €"));
+        let found = lookup_sorted(rt.alloc(), &mut input, Encoding::UTF_8, "café")?;
+        same(&rt, found.as_deref(), Some("3 €"));
         Ok(())
     }
 }

@@ -31,6 +31,7 @@ pub fn pairs_in_file_order<R: CountedRead>(
 #[cfg(test)]
 mod tests {
     use super::*;
+    use crate::same::same;
     use std::test::Fail;
 
     #[test]
@@ -38,10 +39,9 @@ mod tests {
         let mut input: &[u8] = b"z=1\n# c\na=2\nz=3\nm=4";
         let pairs = pairs_in_file_order(rt.alloc(), &mut input)?;
         let wanted = [("z", "3"), ("a", "2"), ("m", "4")];
-        assert_eq!(rt; pairs.len(), wanted.len());
-        for (pair, (key, value)) in pairs.iter().zip(wanted) {
-            assert_eq!(rt; pair.0.as_str(), key);
-            assert_eq!(rt; pair.1.as_str(), value);
+        same(&rt, pairs.len(), wanted.len());
+        for (pair, wanted) in pairs.iter().zip(wanted) {
+            same(&rt, (pair.0.as_str(), pair.1.as_str()), wanted);
         }
         Ok(())
     }

@@ -28,27 +28,27 @@ pub fn pairs_alone<R: CountedRead>(
 #[cfg(test)]
 mod tests {
     use super::*;
+    use crate::same::same;
     use counted_io::{ScriptedReader, Tail};
     use std::io::ErrorKind;
     use std::test::Fail;
 
     #[test]
     fn keeps_the_pairs(rt: HostRuntime) -> Result<(), Fail> {
-        let alloc = rt.alloc();
-        let mut input: &[u8] = b"# the front door\nport : 80\n\nhost = \\\n    localhost";
-        let bytes = pairs_alone(alloc, &mut input, Encoding::UTF_8)?;
-        assert_eq!(rt; bytes.as_slice(), b"port=80\nhost=localhost\n".as_slice());
-        let mut same = bytes.as_slice();
-        let again = pairs_alone(alloc, &mut same, Encoding::UTF_8)?;
-        assert_eq!(rt; again.as_slice(), bytes.as_slice());
+        let wanted = b"port=80\nhost=localhost\n".as_slice();
+        let laid_out = b"# the front door\nport : 80\n\nhost = \\\n    localhost".as_slice();
+        for file in [laid_out, wanted] {
+            let mut input = file;
+            let bytes = pairs_alone(rt.alloc(), &mut input, Encoding::UTF_8)?;
+            same(&rt, bytes.as_slice(), wanted);
+        }
         Ok(())
     }
 
     #[test]
     fn keeps_nothing_of_a_broken_input(rt: HostRuntime) {
-        let alloc = rt.alloc();
-        let mut broken = ScriptedReader::new(Vec::new(alloc), Tail::Fault(ErrorKind::Other));
-        assert!(rt; pairs_alone(alloc, &mut broken, Encoding::UTF_8).is_err());
-        assert_eq!(rt; broken.faults(), 1);
+        let mut broken = ScriptedReader::new(Vec::new(rt.alloc()), Tail::Fault(ErrorKind::Other));
+        let answer = pairs_alone(rt.alloc(), &mut broken, Encoding::UTF_8);
+        same(&rt, (answer.is_err(), broken.faults()), (true, 1));
     }
 }

@@ -40,6 +40,7 @@ pub fn replace(
 #[cfg(test)]
 mod tests {
     use super::*;
+    use crate::same::same;
     use std::io::{Read, Write};
     use std::test::Fail;
 
@@ -52,7 +53,7 @@ mod tests {
         let mut found = Vec::new(alloc);
         File::open(&rt, path)?.read_to_end(&mut found)?;
         fs::remove_file(&rt, path)?;
-        assert_eq!(rt; found.as_slice(), b"# ports\nport=8080\n".as_slice());
+        same(&rt, found.as_slice(), b"# ports\nport=8080\n".as_slice());
         Ok(())
     }
 }

@@ -58,27 +58,27 @@ pub fn put_in_file(
 #[cfg(test)]
 mod tests {
     use super::*;
+    use crate::same::same;
     use std::test::Fail;
 
     #[test]
     fn puts_a_value(rt: HostRuntime) -> Result<(), Fail> {
-        let alloc = rt.alloc();
+        let file: &[u8] = b"# settings\nport = 80\nhost = here";
         let wanted: &[u8] = b"host=here\nport=8080\n";
-        let bytes: &[u8] = b"# settings\nport = 80\nhost = here";
-        let mut input = bytes;
-        let mut output = Counted::new(Vec::new(alloc));
-        put(alloc, &mut input, "port", "8080", &mut output)?;
-        assert_eq!(rt; output.into_inner().as_slice(), wanted);
-        let mut input = bytes;
-        let mut output = Counted::new(Vec::new(alloc));
-        put_windows_1252(alloc, &mut input, "port", "8080", &mut output)?;
-        assert_eq!(rt; output.into_inner().as_slice(), wanted);
+        let mut input = file;
+        let mut output = Counted::new(Vec::new(rt.alloc()));
+        put(rt.alloc(), &mut input, "port", "8080", &mut output)?;
+        same(&rt, output.into_inner().as_slice(), wanted);
+        let mut input = file;
+        let mut output = Counted::new(Vec::new(rt.alloc()));
+        put_windows_1252(rt.alloc(), &mut input, "port", "8080", &mut output)?;
+        same(&rt, output.into_inner().as_slice(), wanted);
         Ok(())
     }
 
     #[test]
     fn a_file_that_is_not_there_is_an_error(rt: HostRuntime) {
         let answer = put_in_file(&rt, rt.alloc(), "no/such", "a", "b", "no/other");
-        assert!(rt; answer.is_err());
+        same(&rt, answer.is_err(), true);
     }
 }

@@ -402,6 +402,3 @@ impl ErrorKind {
         }
     }
 }
-
-#[cfg(test)]
-mod tests;

@@ -100,16 +100,3 @@ pub fn editing()
     ensures one { (e : Encoding) (source : List ℕ) (edit : Edit) → OneEditIsItsCall e source edit }
     ensures lists { (e : Encoding) (source : List ℕ) (xs ys : List Edit) → ListsOfEditsFollow e source xs ys }
 {}
-
-#[cfg(test)]
-mod tests {
-    use super::*;
-
-    #[test]
-    fn laws_return(_rt: HostRuntime) {
-        one_reading();
-        reading_inverts_writing();
-        splitting_commutes_with_decoding();
-        editing();
-    }
-}

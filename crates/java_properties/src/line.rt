@@ -90,6 +90,3 @@ impl fmt::Display for Line {
         write!(f, "Line {{line_number: {line_number}, content: {content}}}")
     }
 }
-
-#[cfg(test)]
-mod tests;

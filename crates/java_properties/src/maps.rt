@@ -128,6 +128,3 @@ fn pairs_in_order<'a>(
     pairs.sort_unstable();
     Ok(pairs)
 }
-
-#[cfg(test)]
-mod tests;

@@ -79,19 +79,6 @@ impl<W: CountedWrite> PropertiesWriter<W> {
         })
     }
 
-    // Creates a writer of windows-1252 as if this many lines had been written.
-    #[cfg(test)]
-    fn after_lines(alloc: Global, writer: W, lines: usize) -> PropertiesWriter<W>
-        ensures { result ≡ record (new_writer windows_1252 writer) { lines = lines } }
-    {
-        let mut engine = Engine::new(alloc, OutputEncoding::from(Encoding::WINDOWS_1252));
-        engine.count_from(lines);
-        PropertiesWriter {
-            sink: writer,
-            engine,
-        }
-    }
-
     /// Writes a comment as one line: the prefix, the text and the line ending.
     ///
     /// Line endings in the text are written as escapes, so the comment stays on one line.
@@ -206,6 +193,3 @@ impl<W: CountedWrite> PropertiesWriter<W> {
         sink
     }
 }
-
-#[cfg(test)]
-mod tests;

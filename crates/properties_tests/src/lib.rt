@@ -1,9 +1,10 @@
-//! What no table of rows shows: refused memory, what items borrow, and values as they are compared, copied and
-//! debugged.
+//! What no table of rows shows: refused memory, what items borrow, sources that are read and written whole, and values
+//! as they are compared, copied, printed and debugged.
 #![tactic(auto)]
 
 #[cfg(test)]
-mod edits;
+mod failure;
+pub mod last_number;
 #[cfg(test)]
 mod parts;
 #[cfg(test)]
@@ -14,3 +15,7 @@ mod reading;
 mod refused;
 #[cfg(test)]
 mod same;
+#[cfg(test)]
+mod streams;
+#[cfg(test)]
+mod values;

@@ -1,5 +1,6 @@
 // What is read, where no row of a table can say it.
 
 mod borrowed;
+mod keys;
 mod lazy;
 mod malformed;

@@ -149,6 +149,3 @@ pub fn write_source<W: CountedWrite>(writer: &mut W, bytes: &[u8]) -> Result<(),
     writer.flush_counted()?;
     Ok(())
 }
-
-#[cfg(test)]
-mod tests;

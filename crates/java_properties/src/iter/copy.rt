@@ -277,6 +277,3 @@ fn refuse(
     *error = Some(CopyError::Read(PropertiesError::unresolved(number, unresolved)));
     Copied::Failed
 }
-
-#[cfg(test)]
-mod tests;

@@ -34,6 +34,3 @@ impl<R: CountedRead> PropertiesIter<R> {
         Ok(())
     }
 }
-
-#[cfg(test)]
-mod tests;

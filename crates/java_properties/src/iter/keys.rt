@@ -140,24 +140,3 @@ fn keep_first(
     firsts.insert(key.clone()?, line_number)?;
     Ok(line_number)
 }
-
-#[cfg(test)]
-mod tests {
-    use super::*;
-    use std::test::Fail;
-
-    #[test]
-    fn finds_keys_past_malformed_lines(rt: HostRuntime) -> Result<(), Fail> {
-        let mut input: &[u8] = b"# C:\\users\na=1\nb\\\n c=2\na=\\u12\n\\u0061=3\n!x\n\na";
-        let keys = key_lines(rt.alloc(), &mut input, Encoding::UTF_8)?;
-        let mut found = Vec::new(rt.alloc());
-        for key in &keys {
-            found.push((key.line_number, key.key.as_str(), key.first))?;
-        }
-        assert_eq!(rt;
-            found.as_slice(),
-            [(2, "a", 2), (3, "bc", 3), (6, "a", 2), (9, "a", 2)].as_slice()
-        );
-        Ok(())
-    }
-}

@@ -106,6 +106,3 @@ fn pairs_of<'a>(
     }
     Ok(pairs)
 }
-
-#[cfg(test)]
-mod tests;

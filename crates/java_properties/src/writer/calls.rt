@@ -105,6 +105,3 @@ fn was_accepted(done: Result<(), PropertiesError>) -> Result<bool, PropertiesErr
         },
     }
 }
-
-#[cfg(test)]
-mod tests;

@@ -76,14 +76,6 @@ impl Engine {
         }
     }
 
-    /// Sets the number of lines written, so that a test can reach the last number.
-    #[cfg(test)]
-    pub fn count_from(&mut self, lines: usize)
-        ensures { self.new ≡ record self.old { lines = lines } }
-    {
-        self.lines = lines;
-    }
-
     /// Writes a line, which is built completely before its first byte is sent.
     #[inline(always)]
     pub fn write_line<W: CountedWrite>(

@@ -2,7 +2,8 @@
 
 use self::Item::{Comment, Pair};
 use self::Text::{Borrowed, Owned};
-use java_properties::{ContentRef, Encoding, LineRef, PropertiesIter};
+use crate::same::same;
+use java_properties::{ContentRef, LineRef, PropertiesIter};
 use std::alloc::Global;
 use std::borrow::CowStr;
 use std::process::Abort;
@@ -47,68 +48,21 @@ fn texts_without_escapes_are_borrowed(rt: HostRuntime) -> Result<(), Fail> {
     Ok(())
 }
 
-#[test]
-fn owned_and_borrowed_items_may_be_mixed(rt: HostRuntime) -> Result<(), Fail> {
-    let input: &[u8] = b"a\nb\nc";
-    let mut items = PropertiesIter::new(rt.alloc(), input)?;
-    match items.next() {
-        Some(Ok(line)) => {
-            assert_eq!(rt; line.line_number(), 1);
-        }
-        _ => panic!(rt; "no item a"),
-    }
-    match items.next_ref() {
-        Some(Ok(line)) => {
-            assert_eq!(rt; item_of(&line), Pair(2, Borrowed("b"), Borrowed("")));
-        }
-        _ => panic!(rt; "no item b"),
-    }
-    match items.next() {
-        Some(Ok(line)) => {
-            assert_eq!(rt; line.line_number(), 3);
-        }
-        _ => panic!(rt; "no item c"),
-    }
-    assert!(rt; items.next_ref().is_none());
-    assert!(rt; items.next().is_none());
-    Ok(())
-}
-
-#[test]
-fn to_line_gives_the_line_of_next(rt: HostRuntime) -> Result<(), Fail> {
-    let alloc = rt.alloc();
-    let input: &[u8] = b"a=b\nc=d\\te";
-    let mut borrowed = PropertiesIter::new(alloc, input)?;
-    for wanted in PropertiesIter::new(alloc, input)? {
-        match borrowed.next_ref() {
-            Some(Ok(line)) => {
-                let line = line.to_line(alloc)?;
-                let wanted = wanted?;
-                assert_eq!(rt; line, wanted);
-            }
-            _ => panic!(rt; "no item"),
-        }
-    }
-    assert!(rt; borrowed.next_ref().is_none());
-    Ok(())
-}
-
+// These items come, and then none.
 fn check_borrowed(
     rt: &impl Abort,
     alloc: Global,
     bytes: &[u8],
     wanted: &[Item<'_>],
 ) -> Result<(), Fail> {
-    let mut items = PropertiesIter::new_with_encoding(alloc, bytes, Encoding::WINDOWS_1252)?;
+    let mut items = PropertiesIter::new(alloc, bytes)?;
     for wanted in wanted {
         match items.next_ref() {
-            Some(Ok(line)) => {
-                assert_eq!(rt; item_of(&line), *wanted);
-            }
-            _ => panic!(rt; "no item {wanted:?}"),
+            Some(Ok(line)) => same(rt, item_of(&line), *wanted),
+            _ => panic!(*rt; "no item {wanted:?}"),
         }
     }
-    assert!(rt; items.next_ref().is_none());
+    same(rt, items.next_ref().is_none(), true);
     Ok(())
 }
 

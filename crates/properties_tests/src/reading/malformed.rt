@@ -1,11 +1,13 @@
 // All malformed escapes of an input.
 
+use crate::failure::failure_of;
+use crate::same::same;
 use counted_io::{ScriptedReader, Tail};
-use java_properties::{Cause, Encoding, ErrorKind, MalformedEscape, malformed_escapes};
+use java_properties::{Encoding, ErrorKind, MalformedEscape, malformed_escapes};
 use std::io;
 use std::test::Fail;
 
-fn escape(line_number: usize, kind: ErrorKind, in_comment: bool) -> MalformedEscape {
+const fn escape(line_number: usize, kind: ErrorKind, in_comment: bool) -> MalformedEscape {
     MalformedEscape {
         line_number,
         kind,
@@ -25,22 +27,19 @@ fn malformed_escapes_are_found_to_the_end(rt: HostRuntime) -> Result<(), Fail> {
         escape(6, ErrorKind::NotEnoughDigits, true),
         escape(7, ErrorKind::InvalidCharacter, false),
     ];
-    assert_eq!(rt; escapes.as_slice(), wanted.as_slice());
+    same(&rt, escapes.as_slice(), wanted.as_slice());
     Ok(())
 }
 
 #[test]
 fn a_fault_is_told_in_place_of_the_escapes_before_it(rt: HostRuntime) -> Result<(), Fail> {
-    let mut pieces = Vec::new(rt.alloc());
-    pieces.push(b"a = \\u12\nb".to_vec(rt.alloc())?)?;
+    let pieces = vec![in rt.alloc(); Vec::from_slice(rt.alloc(), b"a = \\u12\nb")?]?;
     let mut input = ScriptedReader::new(pieces, Tail::Fault(io::ErrorKind::TimedOut));
-    match malformed_escapes(rt.alloc(), &mut input, Encoding::UTF_8) {
-        Ok(_) => Err(Fail::from("there is no error")),
-        Err(error) => {
-            assert_eq!(rt; error.kind(), ErrorKind::Io);
-            assert_eq!(rt; error.line_number(), Some(2));
-            assert!(rt; matches!(error.cause(), Cause::Io(_)));
-            Ok(())
-        }
-    }
+    let failure = match malformed_escapes(rt.alloc(), &mut input, Encoding::UTF_8) {
+        Ok(_) => None,
+        Err(error) => Some(failure_of(&error)),
+    };
+    let timed_out = (ErrorKind::Io, Some(2), Some(io::ErrorKind::TimedOut));
+    same(&rt, failure, Some(timed_out));
+    Ok(())
 }
