@@ -1,0 +1,248 @@
+// Files that are edited in place.
+
+use crate::same::same;
+use crate::streams::{AMPLE, owned, sink};
+use properties_tools::propedit::asked::{Command, Request, Source, Work, asked_for};
+use properties_tools::propedit::in_place::{Original, edit_file};
+use std::alloc::Global;
+use std::fs::{self, File, Permissions};
+use std::io::{self, Read, Write};
+use std::os::unix::fs::{PermissionsExt, symlink};
+use std::process::Abort;
+use std::test::Fail;
+
+// Makes a file of these bytes, where no test that was cut off has left one.
+fn make(rt: &HostRuntime, path: &str, bytes: &[u8]) -> io::Result<()> {
+    let _ = fs::remove_file(rt, path);
+    File::create_new(rt, path)?.write_all(bytes)
+}
+
+fn content(rt: &HostRuntime, path: &str) -> io::Result<Vec<u8>> {
+    let mut bytes = Vec::new(rt.alloc());
+    File::open(rt, path)?.read_to_end(&mut bytes)?;
+    Ok(bytes)
+}
+
+fn set_mode(rt: &HostRuntime, path: &str, mode: u32) -> io::Result<()> {
+    fs::set_permissions(rt, path, Permissions::from_mode(mode))
+}
+
+fn mode_of(rt: &HostRuntime, path: &str) -> io::Result<u32> {
+    Ok(fs::metadata(rt, path)?.permissions().mode() & 0o7777)
+}
+
+// The text of the error with which these bytes are not put into a file that was read, or nothing.
+fn replace(rt: &HostRuntime, original: Original, bytes: &[u8]) -> Result<String, Fail> {
+    let alloc = rt.alloc();
+    match original.replace(rt, alloc, bytes) {
+        Ok(()) => Ok(String::new(alloc)),
+        Err(error) => Ok(format!(in alloc; "{error}")?),
+    }
+}
+
+const KEPT: &str = "kept.properties";
+
+// A file with these permissions takes other bytes and keeps them.
+fn check_kept(abort: &impl Abort, rt: &HostRuntime, row: usize, mode: u32) -> Result<(), Fail> {
+    make(rt, KEPT, b"port = 80\n")?;
+    set_mode(rt, KEPT, mode)?;
+    let original = Original::read(rt, rt.alloc(), KEPT)?;
+    same(abort, row, original.bytes(), b"port = 80\n".as_slice());
+    same(
+        abort,
+        row,
+        replace(rt, original, b"port=8080\n")?.as_str(),
+        "",
+    );
+    same(
+        abort,
+        row,
+        content(rt, KEPT)?.as_slice(),
+        b"port=8080\n".as_slice(),
+    );
+    same(abort, row, mode_of(rt, KEPT)?, mode);
+    same(
+        abort,
+        row,
+        fs::exists(rt, "kept.properties.propedit")?,
+        false,
+    );
+    fs::remove_file(rt, KEPT)?;
+    Ok(())
+}
+
+#[test]
+fn a_replaced_file_keeps_its_permissions(rt: HostRuntime) -> Result<(), Fail> {
+    for (number, mode) in (1usize..).zip([0o600, 0o644, 0o664, 0o640].as_slice()) {
+        check_kept(&rt, &rt, number, *mode)?;
+    }
+    Ok(())
+}
+
+const CHANGED: &str = "changed.properties";
+
+// A file that has these bytes and permissions by the time that it is to be replaced stays as it is.
+fn check_changed(
+    abort: &impl Abort,
+    rt: &HostRuntime,
+    row: usize,
+    bytes: &[u8],
+    mode: u32,
+) -> Result<(), Fail> {
+    make(rt, CHANGED, b"a=1")?;
+    set_mode(rt, CHANGED, 0o644)?;
+    let original = Original::read(rt, rt.alloc(), CHANGED)?;
+    File::create(rt, CHANGED)?.write_all(bytes)?;
+    set_mode(rt, CHANGED, mode)?;
+    let said = replace(rt, original, b"a=2")?;
+    same(abort, row, said.as_str(), "changed while it was edited");
+    same(abort, row, content(rt, CHANGED)?.as_slice(), bytes);
+    same(abort, row, mode_of(rt, CHANGED)?, mode);
+    same(
+        abort,
+        row,
+        fs::exists(rt, "changed.properties.propedit")?,
+        false,
+    );
+    fs::remove_file(rt, CHANGED)?;
+    Ok(())
+}
+
+#[test]
+fn a_file_that_changed_meanwhile_stays(rt: HostRuntime) -> Result<(), Fail> {
+    check_changed(&rt, &rt, 1, b"a=3", 0o644)?;
+    check_changed(&rt, &rt, 2, b"a=1", 0o600)?;
+    Ok(())
+}
+
+fn check_link(abort: &impl Abort, rt: &HostRuntime, path: &str, link: &str) -> Result<(), Fail> {
+    make(rt, path, b"a=1")?;
+    let _ = fs::remove_file(rt, link);
+    symlink(rt, path, link)?;
+    let original = Original::read(rt, rt.alloc(), link)?;
+    same(abort, 1, replace(rt, original, b"a=2")?.as_str(), "");
+    same(abort, 1, fs::symlink_metadata(rt, link)?.is_symlink(), true);
+    same(abort, 1, fs::symlink_metadata(rt, path)?.is_file(), true);
+    same(abort, 1, content(rt, path)?.as_slice(), b"a=2".as_slice());
+    fs::remove_file(rt, link)?;
+    fs::remove_file(rt, path)?;
+    Ok(())
+}
+
+#[test]
+fn the_target_of_a_link_is_replaced(rt: HostRuntime) -> Result<(), Fail> {
+    check_link(&rt, &rt, "target.properties", "link.properties")
+}
+
+#[test]
+fn regular_files_alone_are_read(rt: HostRuntime) {
+    let paths = ["no such file", "no such folder/a", ".", "/dev/null"];
+    for (number, path) in (1usize..).zip(paths.as_slice()) {
+        let is_refused = Original::read(&rt, rt.alloc(), path).is_err();
+        same(&rt, number, is_refused, true);
+    }
+}
+
+const EDITED: &str = "edited.properties";
+
+// Arguments that edit the file, its bytes, the status, what is printed on standard error, and the bytes of the file then.
+type Row = (
+    &'static [&'static str],
+    &'static [u8],
+    u8,
+    &'static str,
+    &'static [u8],
+);
+
+const EDITS: &[Row] = &[
+    (
+        &["-i", EDITED, "set", "a", "3"],
+        b"# x\na : 1\nb = 2",
+        0,
+        "",
+        b"# x\na : 3\nb = 2",
+    ),
+    // Nothing changes.
+    (
+        &["-i", EDITED, "set", "a", "3"],
+        b"# x\na=3",
+        0,
+        "",
+        b"# x\na=3",
+    ),
+    (
+        &["-e", "windows-1252", "-i", EDITED, "remove", "a"],
+        b"b=\xff\na=1",
+        0,
+        "",
+        b"b=\xff\n",
+    ),
+    (
+        &["-i", EDITED, "set", "a", "3"],
+        b"b=1\na=\xff",
+        2,
+        "propedit: edited.properties:2: not UTF-8; -e windows-1252 reads it\n",
+        b"b=1\na=\xff",
+    ),
+    (
+        &["-i", "no such file", "set", "a", "3"],
+        b"a=1",
+        2,
+        "propedit: no such file: No such file or directory (os error 2)\n",
+        b"a=1",
+    ),
+];
+
+const HELD: Row = (
+    &["-i", EDITED, "set", "a", "3"],
+    b"a=1",
+    2,
+    "propedit: edited.properties: cannot create edited.properties.propedit: File exists (os error 17)\n",
+    b"a=1",
+);
+
+fn work_of(alloc: Global, words: &[&str]) -> Result<Work, Fail> {
+    match asked_for(alloc, owned(alloc, words)?.as_slice())? {
+        Some(Request::Work(work)) => Ok(work),
+        _ => Err(Fail::from("no command")),
+    }
+}
+
+fn check_edit(abort: &impl Abort, rt: &HostRuntime, number: usize, row: Row) -> Result<(), Fail> {
+    let (words, bytes, status, said, after) = row;
+    let alloc = rt.alloc();
+    make(rt, EDITED, bytes)?;
+    let mut errors = sink(alloc, AMPLE);
+    let found = match work_of(alloc, words)? {
+        Work {
+            encoding,
+            source: Source::InPlace(path),
+            command: Command::Change(edits),
+        } => edit_file(rt, alloc, path.as_str(), encoding, &edits, &mut errors),
+        _ => return Err(Fail::from("no edits in place")),
+    };
+    let now = content(rt, EDITED)?;
+    let found = (found, errors.bytes(), now.as_slice());
+    same(abort, number, found, (status, said.as_bytes(), after));
+    fs::remove_file(rt, EDITED)?;
+    Ok(())
+}
+
+// Where a file has the name of the new one, neither is written over.
+#[test]
+fn files_are_edited_whole_or_not_at_all(rt: HostRuntime) -> Result<(), Fail> {
+    for (number, row) in (1usize..).zip(EDITS) {
+        check_edit(&rt, &rt, number, *row)?;
+    }
+    let other = "edited.properties.propedit";
+    make(&rt, other, b"of another")?;
+    check_edit(&rt, &rt, 6, HELD)?;
+    same(
+        &rt,
+        6,
+        content(&rt, other)?.as_slice(),
+        b"of another".as_slice(),
+    );
+    fs::remove_file(&rt, other)?;
+    Ok(())
+}
