@@ -31,13 +31,52 @@ fn mode_of(rt: &HostRuntime, path: &str) -> io::Result<u32> {
     Ok(fs::metadata(rt, path)?.permissions().mode() & 0o7777)
 }
 
-// The text of the error with which these bytes are not put into a file that was read, or nothing.
-fn replace(rt: &HostRuntime, original: Original, bytes: &[u8]) -> Result<String, Fail> {
+// What there is after a file was to be replaced: the text of the error, or nothing; the bytes of the file, its
+// permissions, and whether a new file is left beside it.
+#[derive(Drop)]
+struct Outcome {
+    said: String,
+    bytes: Vec<u8>,
+    mode: u32,
+    is_left: bool,
+}
+
+// Puts these bytes into a file that was read.
+fn replace(
+    rt: &HostRuntime,
+    original: Original,
+    path: &str,
+    bytes: &[u8],
+) -> Result<Outcome, Fail> {
     let alloc = rt.alloc();
-    match original.replace(rt, alloc, bytes) {
-        Ok(()) => Ok(String::new(alloc)),
-        Err(error) => Ok(format!(in alloc; "{error}")?),
-    }
+    let said = match original.replace(rt, alloc, bytes) {
+        Ok(()) => String::new(alloc),
+        Err(error) => format!(in alloc; "{error}")?,
+    };
+    let beside = format!(in alloc; "{path}.propedit")?;
+    Ok(Outcome {
+        said,
+        bytes: content(rt, path)?,
+        mode: mode_of(rt, path)?,
+        is_left: fs::exists(rt, beside.as_str())?,
+    })
+}
+
+fn check_outcome(
+    abort: &impl Abort,
+    row: usize,
+    outcome: &Outcome,
+    said: &str,
+    bytes: &[u8],
+    mode: u32,
+) {
+    let found = (
+        outcome.said.as_str(),
+        outcome.bytes.as_slice(),
+        outcome.mode,
+        outcome.is_left,
+    );
+    same(abort, row, found, (said, bytes, mode, false));
 }
 
 const KEPT: &str = "kept.properties";
@@ -48,25 +87,8 @@ fn check_kept(abort: &impl Abort, rt: &HostRuntime, row: usize, mode: u32) -> Re
     set_mode(rt, KEPT, mode)?;
     let original = Original::read(rt, rt.alloc(), KEPT)?;
     same(abort, row, original.bytes(), b"port = 80\n".as_slice());
-    same(
-        abort,
-        row,
-        replace(rt, original, b"port=8080\n")?.as_str(),
-        "",
-    );
-    same(
-        abort,
-        row,
-        content(rt, KEPT)?.as_slice(),
-        b"port=8080\n".as_slice(),
-    );
-    same(abort, row, mode_of(rt, KEPT)?, mode);
-    same(
-        abort,
-        row,
-        fs::exists(rt, "kept.properties.propedit")?,
-        false,
-    );
+    let outcome = replace(rt, original, KEPT, b"port=8080\n")?;
+    check_outcome(abort, row, &outcome, "", b"port=8080\n", mode);
     fs::remove_file(rt, KEPT)?;
     Ok(())
 }
@@ -94,15 +116,14 @@ fn check_changed(
     let original = Original::read(rt, rt.alloc(), CHANGED)?;
     File::create(rt, CHANGED)?.write_all(bytes)?;
     set_mode(rt, CHANGED, mode)?;
-    let said = replace(rt, original, b"a=2")?;
-    same(abort, row, said.as_str(), "changed while it was edited");
-    same(abort, row, content(rt, CHANGED)?.as_slice(), bytes);
-    same(abort, row, mode_of(rt, CHANGED)?, mode);
-    same(
+    let outcome = replace(rt, original, CHANGED, b"a=2")?;
+    check_outcome(
         abort,
         row,
-        fs::exists(rt, "changed.properties.propedit")?,
-        false,
+        &outcome,
+        "changed while it was edited",
+        bytes,
+        mode,
     );
     fs::remove_file(rt, CHANGED)?;
     Ok(())
@@ -115,15 +136,18 @@ fn a_file_that_changed_meanwhile_stays(rt: HostRuntime) -> Result<(), Fail> {
     Ok(())
 }
 
+// The link stays a link, and its target a file, which takes the bytes.
 fn check_link(abort: &impl Abort, rt: &HostRuntime, path: &str, link: &str) -> Result<(), Fail> {
     make(rt, path, b"a=1")?;
+    set_mode(rt, path, 0o644)?;
     let _ = fs::remove_file(rt, link);
     symlink(rt, path, link)?;
     let original = Original::read(rt, rt.alloc(), link)?;
-    same(abort, 1, replace(rt, original, b"a=2")?.as_str(), "");
-    same(abort, 1, fs::symlink_metadata(rt, link)?.is_symlink(), true);
-    same(abort, 1, fs::symlink_metadata(rt, path)?.is_file(), true);
-    same(abort, 1, content(rt, path)?.as_slice(), b"a=2".as_slice());
+    let outcome = replace(rt, original, path, b"a=2")?;
+    check_outcome(abort, 1, &outcome, "", b"a=2", 0o644);
+    let is_link = fs::symlink_metadata(rt, link)?.is_symlink();
+    let is_file = fs::symlink_metadata(rt, path)?.is_file();
+    same(abort, 1, (is_link, is_file), (true, true));
     fs::remove_file(rt, link)?;
     fs::remove_file(rt, path)?;
     Ok(())
