@@ -1,6 +1,6 @@
 // What `filter` and `filter_ascii` write, and where they stop.
 
-use crate::same::same;
+use crate::same::{Bytes, same};
 use crate::streams::{AMPLE, OTHER, Plan, reader, sink};
 use counted_io::{CountedWrite, ScriptedReader, ScriptedSink, SinkFault, Tail};
 use java_properties::{Cause, Encoding, ErrorKind, PropertiesError};
@@ -113,8 +113,8 @@ fn check_filtered(
         same(
             rt,
             number,
-            (ending_of(&answer), output.bytes()),
-            (None, wanted),
+            (ending_of(&answer), Bytes(output.bytes())),
+            (None, Bytes(wanted)),
         );
     }
     Ok(())
@@ -221,8 +221,8 @@ fn check_stopped(rt: &impl Abort, alloc: Global) -> Result<(), AllocError> {
         let mut input = reader(alloc, input, 1024, tail)?;
         let mut output = sink(alloc, plan);
         let answer = filter(alloc, &mut input, &mut output, Encoding::WINDOWS_1252);
-        let found = (ending_of(&answer), output.bytes(), output.faults());
-        same(rt, number, found, (ending, wanted, faults));
+        let found = (ending_of(&answer), Bytes(output.bytes()), output.faults());
+        same(rt, number, found, (ending, Bytes(wanted), faults));
     }
     Ok(())
 }
@@ -255,8 +255,8 @@ fn check_cut_off(rt: &impl Abort, alloc: Global, encoding: Encoding) -> Result<(
             Some(line_number),
             Some(io::ErrorKind::TimedOut),
         ));
-        let found = (ending_of(&answer), output.bytes(), input.faults());
-        same(rt, number, found, (ending, wanted, 1));
+        let found = (ending_of(&answer), Bytes(output.bytes()), input.faults());
+        same(rt, number, found, (ending, Bytes(wanted), 1));
     }
     Ok(())
 }
@@ -303,10 +303,11 @@ fn check_failing_write(
     let mut output = ScriptedSink::new(alloc, most, Some(fail_at), how);
     let answer = filter(alloc, &mut input, &mut output, Encoding::WINDOWS_1252);
     let (taken, failing) = taken_before(alloc, most, fail_at)?;
-    let found = (ending_of(&answer), output.bytes(), output.faults());
+    let found = (ending_of(&answer), Bytes(output.bytes()), output.faults());
+    let taken = Bytes(taken.as_slice());
     let wanted = match failing {
-        Some(line_number) => (write_failed(line_number, how), taken.as_slice(), 1),
-        None => (None, taken.as_slice(), 0),
+        Some(line_number) => (write_failed(line_number, how), taken, 1),
+        None => (None, taken, 0),
     };
     same(rt, fail_at, found, wanted);
     if failing.is_some() {

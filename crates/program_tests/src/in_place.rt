@@ -1,6 +1,6 @@
 // Files that are edited in place.
 
-use crate::same::same;
+use crate::same::{Bytes, same};
 use crate::streams::{AMPLE, owned, sink};
 use properties_tools::propedit::asked::{Command, Request, Source, Work, asked_for};
 use properties_tools::propedit::in_place::{Original, edit_file};
@@ -72,11 +72,11 @@ fn check_outcome(
 ) {
     let found = (
         outcome.said.as_str(),
-        outcome.bytes.as_slice(),
+        Bytes(outcome.bytes.as_slice()),
         outcome.mode,
         outcome.is_left,
     );
-    same(abort, row, found, (said, bytes, mode, false));
+    same(abort, row, found, (said, Bytes(bytes), mode, false));
 }
 
 const KEPT: &str = "kept.properties";
@@ -86,7 +86,7 @@ fn check_kept(abort: &impl Abort, rt: &HostRuntime, row: usize, mode: u32) -> Re
     make(rt, KEPT, b"port = 80\n")?;
     set_mode(rt, KEPT, mode)?;
     let original = Original::read(rt, rt.alloc(), KEPT)?;
-    same(abort, row, original.bytes(), b"port = 80\n".as_slice());
+    same(abort, row, Bytes(original.bytes()), Bytes(b"port = 80\n"));
     let outcome = replace(rt, original, KEPT, b"port=8080\n")?;
     check_outcome(abort, row, &outcome, "", b"port=8080\n", mode);
     fs::remove_file(rt, KEPT)?;
@@ -246,8 +246,9 @@ fn check_edit(abort: &impl Abort, rt: &HostRuntime, number: usize, row: Row) -> 
         _ => return Err(Fail::from("no edits in place")),
     };
     let now = content(rt, EDITED)?;
-    let found = (found, errors.bytes(), now.as_slice());
-    same(abort, number, found, (status, said.as_bytes(), after));
+    let found = (found, Bytes(errors.bytes()), Bytes(now.as_slice()));
+    let wanted = (status, Bytes(said.as_bytes()), Bytes(after));
+    same(abort, number, found, wanted);
     fs::remove_file(rt, EDITED)?;
     Ok(())
 }
@@ -261,12 +262,8 @@ fn files_are_edited_whole_or_not_at_all(rt: HostRuntime) -> Result<(), Fail> {
     let other = "edited.properties.propedit";
     make(&rt, other, b"of another")?;
     check_edit(&rt, &rt, 6, HELD)?;
-    same(
-        &rt,
-        6,
-        content(&rt, other)?.as_slice(),
-        b"of another".as_slice(),
-    );
+    let now = content(&rt, other)?;
+    same(&rt, 6, Bytes(now.as_slice()), Bytes(b"of another"));
     fs::remove_file(&rt, other)?;
     Ok(())
 }

@@ -1,7 +1,7 @@
 // Runs of the program `propedit`.
 
 use crate::runs::{Program, Row, SOUND, Streams, check_run, check_runs, check_words};
-use crate::same::same;
+use crate::same::{Bytes, same};
 use crate::streams::{AMPLE, OTHER, Plan, sink};
 use counted_io::{SinkFault, Tail};
 use java_properties::PropertiesError;
@@ -569,7 +569,7 @@ fn failures_before_a_run_are_printed(rt: HostRuntime) {
     same(
         &rt,
         1,
-        (statuses, errors.bytes()),
-        ((2, 2, 2, 1), wanted.as_slice()),
+        (statuses, Bytes(errors.bytes())),
+        ((2, 2, 2, 1), Bytes(wanted)),
     );
 }

@@ -1,7 +1,7 @@
 // Runs of the program `propfilter`.
 
 use crate::runs::{Program, Row, SOUND, Streams, check_run, check_runs, check_words};
-use crate::same::same;
+use crate::same::{Bytes, same};
 use crate::streams::{AMPLE, sink};
 use counted_io::Tail;
 use properties_tools::propfilter::refuse_bytes;
@@ -128,6 +128,6 @@ fn errors_are_printed(rt: HostRuntime) -> Result<(), Fail> {
 fn an_argument_that_is_not_utf_8_is_refused(rt: HostRuntime) {
     let mut errors = sink(rt.alloc(), AMPLE);
     let status = refuse_bytes(&mut errors);
-    let wanted = b"propfilter: an argument is not UTF-8\n".as_slice();
-    same(&rt, 1, (status, errors.bytes()), (1, wanted));
+    let wanted = Bytes(b"propfilter: an argument is not UTF-8\n");
+    same(&rt, 1, (status, Bytes(errors.bytes())), (1, wanted));
 }

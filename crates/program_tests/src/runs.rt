@@ -1,6 +1,6 @@
 // Runs of both programs over streams.
 
-use crate::same::same;
+use crate::same::{Bytes, same};
 use crate::streams::{AMPLE, Plan, owned, reader, sink};
 use counted_io::{CountedRead, CountedWrite, Tail};
 use properties_tools::propedit::asked::{Request, USAGE, VERSION, asked_for};
@@ -121,7 +121,8 @@ pub fn check_run(
         &mut output_sink,
         &mut error_sink,
     )?;
-    let found = (found, output_sink.bytes(), error_sink.bytes());
-    same(rt, number, found, (status, output, errors.as_bytes()));
+    let found = (found, Bytes(output_sink.bytes()), Bytes(error_sink.bytes()));
+    let wanted = (status, Bytes(output), Bytes(errors.as_bytes()));
+    same(rt, number, found, wanted);
     Ok(())
 }
