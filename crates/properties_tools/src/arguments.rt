@@ -32,35 +32,3 @@ fn words_after_name(alloc: Global, mut arguments: Args) -> Result<Vec<String>, A
     let _ = arguments.next();
     arguments.collect(alloc)
 }
-
-#[cfg(test)]
-mod tests {
-    use super::*;
-    use std::test::Fail;
-
-    #[test]
-    fn takes_the_words_after_the_name(rt: HostRuntime) -> Result<(), Fail> {
-        let alloc = rt.alloc();
-        let mut arguments = Vec::new(alloc);
-        for argument in ["propfilter", "utf-8", "ascii"] {
-            arguments.push(String::from_str(alloc, argument)?)?;
-        }
-        let Some(words) = words(alloc, Ok(arguments.into_iter()))? else {
-            assert!(rt; false);
-            return Ok(());
-        };
-        assert_eq!(rt; words.len(), 2);
-        assert_eq!(rt; words[0].as_str(), "utf-8");
-        assert_eq!(rt; words[1].as_str(), "ascii");
-        Ok(())
-    }
-
-    #[test]
-    fn has_none_where_one_is_not_utf_8(rt: HostRuntime) -> Result<(), Fail> {
-        let error = io::Error::from(ErrorKind::InvalidData);
-        assert!(rt; words(rt.alloc(), Err(error))?.is_none());
-        let error = io::Error::from(ErrorKind::OutOfMemory);
-        assert!(rt; words(rt.alloc(), Err(error)).is_err());
-        Ok(())
-    }
-}

@@ -117,6 +117,3 @@ fn write_pairs<R: CountedRead, W: CountedWrite>(
         Some(CopyError::Write(error)) => Err(error),
     }
 }
-
-#[cfg(test)]
-mod tests;

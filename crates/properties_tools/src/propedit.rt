@@ -203,6 +203,3 @@ pub fn lack_memory<E: CountedWrite>(errors: &mut E) -> u8
     say(errors, NO_MEMORY);
     FAILED
 }
-
-#[cfg(test)]
-mod tests;

@@ -143,6 +143,3 @@ fn asked_by_name(name: &str, ascii_only: bool) -> Option<Asked>
         ascii_only,
     })
 }
-
-#[cfg(test)]
-mod tests;

@@ -168,6 +168,3 @@ fn work_in(
         command,
     }))
 }
-
-#[cfg(test)]
-mod tests;

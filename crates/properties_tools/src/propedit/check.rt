@@ -90,32 +90,3 @@ fn push_repeat(text: &mut String, name: &str, key: &KeyLine) -> Result<(), Alloc
         key.line_number, key.first
     )
 }
-
-#[cfg(test)]
-mod tests {
-    use super::*;
-    use std::test::Fail;
-
-    #[test]
-    fn reports_in_three_groups(rt: HostRuntime) -> Result<(), Fail> {
-        let source = b"# C:\\users\na=1\na=\xe9\nb=\\u12\nc=2\na=4";
-        let text = report(rt.alloc(), "x", source, Encoding::UTF_8)?;
-        assert_eq!(rt;
-            text.as_str(),
-            "x:3: not UTF-8\nx:1: Malformed \\uxxxx encoding: not hex. (in a comment)\nx:4: Malformed \\uxxxx encoding: not enough digits.\nx:3: repeats the key of line 2\nx:6: repeats the key of line 2\n"
-        );
-        Ok(())
-    }
-
-    #[test]
-    fn reports_nothing_of_a_clean_source(rt: HostRuntime) -> Result<(), Fail> {
-        let text = report(
-            rt.alloc(),
-            "x",
-            b"# caf\xe9\na=1\nb=2",
-            Encoding::WINDOWS_1252,
-        )?;
-        assert_eq!(rt; text.as_str(), "");
-        Ok(())
-    }
-}

@@ -373,6 +373,3 @@ impl fmt::Display for Failed<'_> {
         }
     }
 }
-
-#[cfg(test)]
-mod tests;

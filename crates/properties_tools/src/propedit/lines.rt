@@ -86,26 +86,3 @@ fn is_well_formed(body: &[u8], line: &RawLine) -> bool
 {
     line.is_ascii || str::from_utf8(&body[line.start..line.end]).is_ok()
 }
-
-#[cfg(test)]
-mod tests {
-    use super::*;
-    use std::test::Fail;
-
-    #[test]
-    fn finds_lines_that_are_not_utf_8(rt: HostRuntime) -> Result<(), Fail> {
-        let source = b"\xef\xbb\xbfa=1\r\nb=caf\xe9\rc=\xc3\xa9\n\xc3\n\xa9";
-        let numbers = ill_formed_lines(rt.alloc(), source, Encoding::WINDOWS_1252)?;
-        assert_eq!(rt; numbers.as_slice(), [2, 4, 5].as_slice());
-        Ok(())
-    }
-
-    #[test]
-    fn finds_none_in_other_encodings(rt: HostRuntime) -> Result<(), Fail> {
-        let numbers = ill_formed_lines(rt.alloc(), b"b=caf\xe9", Encoding::WINDOWS_1252)?;
-        assert!(rt; numbers.is_empty());
-        let numbers = ill_formed_lines(rt.alloc(), b"\xff\xfe\xe9\x00", Encoding::UTF_8)?;
-        assert!(rt; numbers.is_empty());
-        Ok(())
-    }
-}

@@ -1,0 +1,269 @@
+// Files that are edited in place.
+
+use crate::same::{Bytes, same};
+use crate::streams::{AMPLE, owned, sink};
+use properties_tools::propedit::asked::{Command, Request, Source, Work, asked_for};
+use properties_tools::propedit::in_place::{Original, edit_file};
+use std::alloc::Global;
+use std::fs::{self, File, Permissions};
+use std::io::{self, Read, Write};
+use std::os::unix::fs::{PermissionsExt, symlink};
+use std::process::Abort;
+use std::test::Fail;
+
+// Makes a file of these bytes, where no test that was cut off has left one.
+fn make(rt: &HostRuntime, path: &str, bytes: &[u8]) -> io::Result<()> {
+    let _ = fs::remove_file(rt, path);
+    File::create_new(rt, path)?.write_all(bytes)
+}
+
+fn content(rt: &HostRuntime, path: &str) -> io::Result<Vec<u8>> {
+    let mut bytes = Vec::new(rt.alloc());
+    File::open(rt, path)?.read_to_end(&mut bytes)?;
+    Ok(bytes)
+}
+
+fn set_mode(rt: &HostRuntime, path: &str, mode: u32) -> io::Result<()> {
+    fs::set_permissions(rt, path, Permissions::from_mode(mode))
+}
+
+fn mode_of(rt: &HostRuntime, path: &str) -> io::Result<u32> {
+    Ok(fs::metadata(rt, path)?.permissions().mode() & 0o7777)
+}
+
+// What there is after a file was to be replaced: the text of the error, or nothing; the bytes of the file, its
+// permissions, and whether a new file is left beside it.
+#[derive(Drop)]
+struct Outcome {
+    said: String,
+    bytes: Vec<u8>,
+    mode: u32,
+    is_left: bool,
+}
+
+// Puts these bytes into a file that was read.
+fn replace(
+    rt: &HostRuntime,
+    original: Original,
+    path: &str,
+    bytes: &[u8],
+) -> Result<Outcome, Fail> {
+    let alloc = rt.alloc();
+    let said = match original.replace(rt, alloc, bytes) {
+        Ok(()) => String::new(alloc),
+        Err(error) => format!(in alloc; "{error}")?,
+    };
+    let beside = format!(in alloc; "{path}.propedit")?;
+    Ok(Outcome {
+        said,
+        bytes: content(rt, path)?,
+        mode: mode_of(rt, path)?,
+        is_left: fs::exists(rt, beside.as_str())?,
+    })
+}
+
+fn check_outcome(
+    abort: &impl Abort,
+    row: usize,
+    outcome: &Outcome,
+    said: &str,
+    bytes: &[u8],
+    mode: u32,
+) {
+    let found = (
+        outcome.said.as_str(),
+        Bytes(outcome.bytes.as_slice()),
+        outcome.mode,
+        outcome.is_left,
+    );
+    same(abort, row, found, (said, Bytes(bytes), mode, false));
+}
+
+const KEPT: &str = "kept.properties";
+
+// A file with these permissions takes other bytes and keeps them.
+fn check_kept(abort: &impl Abort, rt: &HostRuntime, row: usize, mode: u32) -> Result<(), Fail> {
+    make(rt, KEPT, b"port = 80\n")?;
+    set_mode(rt, KEPT, mode)?;
+    let original = Original::read(rt, rt.alloc(), KEPT)?;
+    same(abort, row, Bytes(original.bytes()), Bytes(b"port = 80\n"));
+    let outcome = replace(rt, original, KEPT, b"port=8080\n")?;
+    check_outcome(abort, row, &outcome, "", b"port=8080\n", mode);
+    fs::remove_file(rt, KEPT)?;
+    Ok(())
+}
+
+#[test]
+fn a_replaced_file_keeps_its_permissions(rt: HostRuntime) -> Result<(), Fail> {
+    for (number, mode) in (1usize..).zip([0o600, 0o644, 0o664, 0o640].as_slice()) {
+        check_kept(&rt, &rt, number, *mode)?;
+    }
+    Ok(())
+}
+
+const CHANGED: &str = "changed.properties";
+
+// A file that has these bytes and permissions by the time that it is to be replaced stays as it is.
+fn check_changed(
+    abort: &impl Abort,
+    rt: &HostRuntime,
+    row: usize,
+    bytes: &[u8],
+    mode: u32,
+) -> Result<(), Fail> {
+    make(rt, CHANGED, b"a=1")?;
+    set_mode(rt, CHANGED, 0o644)?;
+    let original = Original::read(rt, rt.alloc(), CHANGED)?;
+    File::create(rt, CHANGED)?.write_all(bytes)?;
+    set_mode(rt, CHANGED, mode)?;
+    let outcome = replace(rt, original, CHANGED, b"a=2")?;
+    check_outcome(
+        abort,
+        row,
+        &outcome,
+        "changed while it was edited",
+        bytes,
+        mode,
+    );
+    fs::remove_file(rt, CHANGED)?;
+    Ok(())
+}
+
+#[test]
+fn a_file_that_changed_meanwhile_stays(rt: HostRuntime) -> Result<(), Fail> {
+    check_changed(&rt, &rt, 1, b"a=3", 0o644)?;
+    check_changed(&rt, &rt, 2, b"a=1", 0o600)?;
+    Ok(())
+}
+
+// The link stays a link, and its target a file, which takes the bytes.
+fn check_link(abort: &impl Abort, rt: &HostRuntime, path: &str, link: &str) -> Result<(), Fail> {
+    make(rt, path, b"a=1")?;
+    set_mode(rt, path, 0o644)?;
+    let _ = fs::remove_file(rt, link);
+    symlink(rt, path, link)?;
+    let original = Original::read(rt, rt.alloc(), link)?;
+    let outcome = replace(rt, original, path, b"a=2")?;
+    check_outcome(abort, 1, &outcome, "", b"a=2", 0o644);
+    let is_link = fs::symlink_metadata(rt, link)?.is_symlink();
+    let is_file = fs::symlink_metadata(rt, path)?.is_file();
+    same(abort, 1, (is_link, is_file), (true, true));
+    fs::remove_file(rt, link)?;
+    fs::remove_file(rt, path)?;
+    Ok(())
+}
+
+#[test]
+fn the_target_of_a_link_is_replaced(rt: HostRuntime) -> Result<(), Fail> {
+    check_link(&rt, &rt, "target.properties", "link.properties")
+}
+
+#[test]
+fn regular_files_alone_are_read(rt: HostRuntime) {
+    let paths = ["no such file", "no such folder/a", ".", "/dev/null"];
+    for (number, path) in (1usize..).zip(paths.as_slice()) {
+        let is_refused = Original::read(&rt, rt.alloc(), path).is_err();
+        same(&rt, number, is_refused, true);
+    }
+}
+
+const EDITED: &str = "edited.properties";
+
+// Arguments that edit the file, its bytes, the status, what is printed on standard error, and the bytes of the file then.
+type Row = (
+    &'static [&'static str],
+    &'static [u8],
+    u8,
+    &'static str,
+    &'static [u8],
+);
+
+const EDITS: &[Row] = &[
+    (
+        &["-i", EDITED, "set", "a", "3"],
+        b"# x\na : 1\nb = 2",
+        0,
+        "",
+        b"# x\na : 3\nb = 2",
+    ),
+    // Nothing changes.
+    (
+        &["-i", EDITED, "set", "a", "3"],
+        b"# x\na=3",
+        0,
+        "",
+        b"# x\na=3",
+    ),
+    (
+        &["-e", "windows-1252", "-i", EDITED, "remove", "a"],
+        b"b=\xff\na=1",
+        0,
+        "",
+        b"b=\xff\n",
+    ),
+    (
+        &["-i", EDITED, "set", "a", "3"],
+        b"b=1\na=\xff",
+        2,
+        "propedit: edited.properties:2: not UTF-8; -e windows-1252 reads it\n",
+        b"b=1\na=\xff",
+    ),
+    (
+        &["-i", "no such file", "set", "a", "3"],
+        b"a=1",
+        2,
+        "propedit: no such file: No such file or directory (os error 2)\n",
+        b"a=1",
+    ),
+];
+
+const HELD: Row = (
+    &["-i", EDITED, "set", "a", "3"],
+    b"a=1",
+    2,
+    "propedit: edited.properties: cannot create edited.properties.propedit: File exists (os error 17)\n",
+    b"a=1",
+);
+
+fn work_of(alloc: Global, words: &[&str]) -> Result<Work, Fail> {
+    match asked_for(alloc, owned(alloc, words)?.as_slice())? {
+        Some(Request::Work(work)) => Ok(work),
+        _ => Err(Fail::from("no command")),
+    }
+}
+
+fn check_edit(abort: &impl Abort, rt: &HostRuntime, number: usize, row: Row) -> Result<(), Fail> {
+    let (words, bytes, status, said, after) = row;
+    let alloc = rt.alloc();
+    make(rt, EDITED, bytes)?;
+    let mut errors = sink(alloc, AMPLE);
+    let found = match work_of(alloc, words)? {
+        Work {
+            encoding,
+            source: Source::InPlace(path),
+            command: Command::Change(edits),
+        } => edit_file(rt, alloc, path.as_str(), encoding, &edits, &mut errors),
+        _ => return Err(Fail::from("no edits in place")),
+    };
+    let now = content(rt, EDITED)?;
+    let found = (found, Bytes(errors.bytes()), Bytes(now.as_slice()));
+    let wanted = (status, Bytes(said.as_bytes()), Bytes(after));
+    same(abort, number, found, wanted);
+    fs::remove_file(rt, EDITED)?;
+    Ok(())
+}
+
+// Where a file has the name of the new one, neither is written over.
+#[test]
+fn files_are_edited_whole_or_not_at_all(rt: HostRuntime) -> Result<(), Fail> {
+    for (number, row) in (1usize..).zip(EDITS) {
+        check_edit(&rt, &rt, number, *row)?;
+    }
+    let other = "edited.properties.propedit";
+    make(&rt, other, b"of another")?;
+    check_edit(&rt, &rt, 6, HELD)?;
+    let now = content(&rt, other)?;
+    same(&rt, 6, Bytes(now.as_slice()), Bytes(b"of another"));
+    fs::remove_file(&rt, other)?;
+    Ok(())
+}

@@ -1,0 +1,575 @@
+// Runs of the program `propedit`.
+
+use crate::runs::{Program, Row, SOUND, Streams, check_run, check_runs, check_words};
+use crate::same::{Bytes, same};
+use crate::streams::{AMPLE, OTHER, Plan, sink};
+use counted_io::{SinkFault, Tail};
+use java_properties::PropertiesError;
+use properties_tools::propedit::asked::{USAGE, VERSION};
+use properties_tools::propedit::error::Failure;
+use properties_tools::propedit::{exit_status, lack_memory, refuse_bytes};
+use std::io::{self, ErrorKind};
+use std::test::Fail;
+
+// With a value in windows-1252, and a pair without one.
+const VALUES: &[u8] = b"b = 1\n# b\nb = caf\xe9\nc";
+
+const GET: &[Row] = &[
+    (&["get", "a"], b"a=1\nb=2\na = 3", 0, b"3\n", ""),
+    (&["get", "c"], b"a=1", 1, b"", ""),
+    (&["get", "-f"], b"-f=1", 0, b"1\n", ""),
+    (&["--", "get", "a"], b"a=1", 0, b"1\n", ""),
+    (&["-d", "none", "get", "b"], b"a=1", 0, b"none\n", ""),
+    (&["-d", "-z", "get", "b"], b"a=1", 0, b"-z\n", ""),
+    (&["-z", "get", "a"], b"a=1", 0, b"1\0", ""),
+    (&["-z", "-d", "x", "get", "b"], b"a=1", 0, b"x\0", ""),
+    (
+        &["-e", "windows-1252", "get", "b"],
+        VALUES,
+        0,
+        b"caf\xc3\xa9\n",
+        "",
+    ),
+    (
+        &["-z", "-d", "x", "-e", "windows-1252", "get", "c"],
+        VALUES,
+        0,
+        b"\0",
+        "",
+    ),
+    (
+        &["-e", "windows-1252", "-d", "x", "get", "a"],
+        VALUES,
+        0,
+        b"x\n",
+        "",
+    ),
+    (&["-e", "windows-1252", "get", "a"], VALUES, 1, b"", ""),
+    (
+        &["-f", "x", "-e", "windows-1252", "get", "a"],
+        b"a=\xe9",
+        0,
+        b"\xc3\xa9\n",
+        "",
+    ),
+    (
+        &[
+            "-z", "-d", "n", "-e", "utf-16be", "-f", "x", "--", "get", "a",
+        ],
+        b"\0a\0=\01",
+        0,
+        b"1\0",
+        "",
+    ),
+];
+
+#[test]
+fn get_prints_the_last_value_or_the_default(rt: HostRuntime) -> Result<(), Fail> {
+    check_runs(&rt, rt.alloc(), Program::Propedit, GET)?;
+    Ok(())
+}
+
+const KEYS: &[u8] = b"b.x = 1\n# b\n! c\nb.\\u0079 = 2\na=\nb.x = 3\nb";
+
+const LIST: &[Row] = &[
+    (&["list"], b"a=1\nb=2\na = 3", 0, b"a\nb\n", ""),
+    (&["list", "c"], b"a=1", 1, b"", ""),
+    (&["list", "--help"], b"--help=1\na=2", 0, b"--help\n", ""),
+    (&["-z", "list", "a"], b"a=1", 0, b"a\0", ""),
+    (&["-e", "utf-16le", "list"], b"a\0=\01\0", 0, b"a\n", ""),
+    (&["list"], KEYS, 0, b"b.x\nb.y\na\nb\n", ""),
+    (&["-z", "list", "b."], KEYS, 0, b"b.x\0b.y\0", ""),
+    (&["list", "b.z"], KEYS, 1, b"", ""),
+];
+
+#[test]
+fn list_prints_each_key_once(rt: HostRuntime) -> Result<(), Fail> {
+    check_runs(&rt, rt.alloc(), Program::Propedit, LIST)?;
+    Ok(())
+}
+
+const CHECK: &[Row] = &[
+    (&["check"], b"a=1", 0, b"", ""),
+    (
+        &["check"],
+        b"a=1\nb=2\na=3",
+        1,
+        b"standard input:3: repeats the key of line 1\n",
+        "",
+    ),
+    (
+        &["-f", "--", "check"],
+        b"a=1\na=2",
+        1,
+        b"--:2: repeats the key of line 1\n",
+        "",
+    ),
+    (
+        &["check"],
+        b"# C:\\users\na=\\u00e9\nb=\\u12",
+        1,
+        b"standard input:1: Malformed \\uxxxx encoding: not hex. (in a comment)\nstandard input:3: Malformed \\uxxxx encoding: not enough digits.\n",
+        "",
+    ),
+    // All three kinds of findings, one kind after another.
+    (
+        &["-f", "x", "check"],
+        b"# C:\\users\na=1\na=\xe9\nb=\\u12\nc=2\na=4",
+        1,
+        b"x:3: not UTF-8\nx:1: Malformed \\uxxxx encoding: not hex. (in a comment)\nx:4: Malformed \\uxxxx encoding: not enough digits.\nx:3: repeats the key of line 2\nx:6: repeats the key of line 2\n",
+        "",
+    ),
+    // A byte order mark overrules the option. Two keys are U+FFFD.
+    (
+        &["-e", "windows-1252", "check"],
+        b"\xef\xbb\xbfa=1\r\nb=caf\xe9\rc=\xc3\xa9\n\xc3\n\xa9",
+        1,
+        b"standard input:2: not UTF-8\nstandard input:4: not UTF-8\nstandard input:5: not UTF-8\nstandard input:5: repeats the key of line 4\n",
+        "",
+    ),
+    (&["check"], b"\xff\xfe\xe9\x00", 0, b"", ""),
+    (
+        &["-e", "windows-1252", "check"],
+        b"# caf\xe9\na=1\nb=2",
+        0,
+        b"",
+        "",
+    ),
+];
+
+#[test]
+fn check_prints_what_is_wrong(rt: HostRuntime) -> Result<(), Fail> {
+    check_runs(&rt, rt.alloc(), Program::Propedit, CHECK)?;
+    Ok(())
+}
+
+const EDITS: &[Row] = &[
+    (&["remove", "a"], b"a=1\nb=2\na=3", 0, b"b=2\n", ""),
+    (&["-e", "utf-8", "set", "a", ""], b"a=1\n", 0, b"a=\n", ""),
+    (
+        &["set", "a", "\u{e9}"],
+        b"# x\r\na : 1\r\nb=c",
+        0,
+        b"# x\r\na : \xc3\xa9\r\nb=c",
+        "",
+    ),
+    (
+        &["set", "host", "\u{17c}"],
+        b"# a\nport=1\nhost : x\r\n",
+        0,
+        b"# a\nport=1\nhost : \xc5\xbc\r\n",
+        "",
+    ),
+    // Words after `set` and `remove` are keys and values, whatever they are.
+    (
+        &["set", "a", "-1", "remove", "--", "set", "set", "remove"],
+        b"a=0\n--=1\nset=2\n",
+        0,
+        b"a=-1\nset=remove\n",
+        "",
+    ),
+    // The layout of a line stays.
+    (
+        &["set", "key", "a b"],
+        b"  \\u006bey    = old\r\n# x",
+        0,
+        b"  \\u006bey    = a b\r\n# x",
+        "",
+    ),
+    (
+        &["set", "url", "http://a:1?b=c"],
+        b"url\thttp://a",
+        0,
+        b"url\thttp://a:1?b=c",
+        "",
+    ),
+    // A value that stays leaves its lines as they are.
+    (
+        &["set", "a", "1 2"],
+        b"a : 1\\\n  \\ 2\n",
+        0,
+        b"a : 1\\\n  \\ 2\n",
+        "",
+    ),
+    (
+        &["set", "a", "3"],
+        b"a: 1\\\n   2\nb = c",
+        0,
+        b"a: 3\nb = c",
+        "",
+    ),
+    // A new line looks like the last pair.
+    (
+        &["set", "c", "3"],
+        b"a = 1\r\nb: 2\r\n",
+        0,
+        b"a = 1\r\nb: 2\r\nc: 3\r\n",
+        "",
+    ),
+];
+
+#[test]
+fn set_and_remove_print_the_edited_source(rt: HostRuntime) -> Result<(), Fail> {
+    check_runs(&rt, rt.alloc(), Program::Propedit, EDITS)?;
+    Ok(())
+}
+
+const REFUSED: &[Row] = &[
+    (
+        &["get", "b"],
+        b"a=\xe9\nb=1",
+        2,
+        b"",
+        "propedit: standard input:1: not UTF-8; -e windows-1252 reads it\n",
+    ),
+    // Lines that aren't UTF-8 are refused before malformed escapes.
+    (
+        &["list"],
+        b"a=\\u12\nb=\xe9",
+        2,
+        b"",
+        "propedit: standard input:2: not UTF-8; -e windows-1252 reads it\n",
+    ),
+    (
+        &["set", "a", "1"],
+        b"a=\xe9",
+        2,
+        b"",
+        "propedit: standard input:1: not UTF-8; -e windows-1252 reads it\n",
+    ),
+    (
+        &["get", "a"],
+        b"a=1\nk=\\u12",
+        2,
+        b"",
+        "propedit: standard input:2: Malformed \\uxxxx encoding: not enough digits.\n",
+    ),
+    (
+        &["set", "a", "2"],
+        b"a=1\nk=\\u12",
+        2,
+        b"",
+        "propedit: standard input:2: Malformed \\uxxxx encoding: not enough digits.\n",
+    ),
+    (
+        &["-z", "list"],
+        b"a=1\n#\\u12",
+        2,
+        b"",
+        "propedit: standard input:2: Malformed \\uxxxx encoding: not enough digits. (in a comment)\n",
+    ),
+    (
+        &["-e", "windows-1252", "get", "c"],
+        b"# C:\\users\nb=\\u12\nc=\xe9\n\xe9",
+        2,
+        b"",
+        "propedit: standard input:1: Malformed \\uxxxx encoding: not hex. (in a comment)\n",
+    ),
+    // The message has the name of the file.
+    (
+        &["-f", "app.properties", "-e", "windows-1252", "get", "a"],
+        b"a=\\ux",
+        2,
+        b"",
+        "propedit: app.properties:1: Malformed \\uxxxx encoding: not enough digits.\n",
+    ),
+    (
+        &["-i", "x", "remove", "c"],
+        b"# C:\\users",
+        2,
+        b"",
+        "propedit: x:1: Malformed \\uxxxx encoding: not hex. (in a comment)\n",
+    ),
+    (
+        &["set", "a", "2"],
+        b"\xfe\xff\0a",
+        2,
+        b"",
+        "propedit: standard input: Encoding can't be edited.\n",
+    ),
+    (
+        &["-e", "utf-16le", "set", "a", "1"],
+        b"a\0",
+        2,
+        b"",
+        "propedit: standard input: Encoding can't be edited.\n",
+    ),
+];
+
+#[test]
+fn sources_that_are_not_sound_are_refused(rt: HostRuntime) -> Result<(), Fail> {
+    check_runs(&rt, rt.alloc(), Program::Propedit, REFUSED)?;
+    Ok(())
+}
+
+const HELP: &[&[&str]] = &[
+    &["-h"],
+    &["--help", "nonsense"],
+    &["-z", "-e", "utf-8", "--help", "--version"],
+];
+
+const THE_VERSION: &[&[&str]] = &[&["--version"], &["-i", "x", "--version", "-h"]];
+
+#[test]
+fn help_and_the_version_are_printed(rt: HostRuntime) -> Result<(), Fail> {
+    let alloc = rt.alloc();
+    check_words(&rt, alloc, Program::Propedit, HELP, (0, USAGE, ""))?;
+    check_words(&rt, alloc, Program::Propedit, THE_VERSION, (0, VERSION, ""))?;
+    Ok(())
+}
+
+const OTHER_WORDS: &[&[&str]] = &[
+    &[],
+    &["--"],
+    &["--", "--help"],
+    &["--", "--", "check"],
+    &["show", "a"],
+    &["get"],
+    &["get", "a", "b"],
+    &["get", "a", "set", "a", "1"],
+    &["list", "a", "b"],
+    &["check", "a"],
+    &["set", "a"],
+    &["set", "a", "1", "check"],
+    &["remove"],
+    // Options that there are not, without their value, or after the command.
+    &["-x", "check"],
+    &["-zf", "x", "list"],
+    &["-e", "latin1", "check"],
+    &["-e"],
+    &["-f"],
+    &["-f", "x"],
+    &["check", "-e", "utf-8"],
+    // Twice the same option.
+    &["-z", "-z", "--help"],
+    &["-z", "-z", "get", "a"],
+    &["-d", "x", "-d", "x", "get", "a"],
+    &["-e", "utf-8", "-e", "utf-8", "check"],
+    &["-f", "x", "-f", "x", "check"],
+    &["-f", "x", "-i", "x", "set", "a", "1"],
+    &["-i", "x", "-f", "x", "set", "a", "1"],
+    // Options that the command doesn't have.
+    &["-i", "x", "get", "a"],
+    &["-i", "x", "list"],
+    &["-i", "x", "check"],
+    &["-d", "x", "list"],
+    &["-d", "x", "check"],
+    &["-z", "check"],
+    &["-z", "set", "a", "1"],
+];
+
+#[test]
+fn other_words_print_the_usage(rt: HostRuntime) -> Result<(), Fail> {
+    check_words(
+        &rt,
+        rt.alloc(),
+        Program::Propedit,
+        OTHER_WORDS,
+        (2, "", USAGE),
+    )?;
+    Ok(())
+}
+
+const ABSENT: SinkFault = SinkFault::Fault(ErrorKind::NotFound);
+
+// Streams that fail, and what is printed then.
+const FAILING: &[(Streams, Row)] = &[
+    (
+        Streams {
+            tail: Tail::Fault(ErrorKind::NotFound),
+            ..SOUND
+        },
+        (
+            &["get", "a"],
+            b"a=1\nb=2",
+            2,
+            b"",
+            "propedit: standard input:2: entity not found\n",
+        ),
+    ),
+    (
+        Streams {
+            tail: Tail::Fault(ErrorKind::NotFound),
+            ..SOUND
+        },
+        (
+            &["list"],
+            b"a=1\nb=2",
+            2,
+            b"",
+            "propedit: standard input:2: entity not found\n",
+        ),
+    ),
+    (
+        Streams {
+            tail: Tail::Fault(ErrorKind::NotFound),
+            ..SOUND
+        },
+        (
+            &["check"],
+            b"a=1\nb=2",
+            2,
+            b"",
+            "propedit: standard input:2: entity not found\n",
+        ),
+    ),
+    (
+        Streams {
+            tail: Tail::Fault(ErrorKind::NotFound),
+            ..SOUND
+        },
+        (
+            &["set", "a", "2"],
+            b"a=1\nb=2",
+            2,
+            b"",
+            "propedit: standard input:2: entity not found\n",
+        ),
+    ),
+    // The output takes two bytes and fails, takes two and then none, and can't be flushed.
+    (
+        Streams {
+            output: Plan {
+                most: 1,
+                fail_at: Some(3),
+                how: ABSENT,
+                flush_fault: None,
+            },
+            ..SOUND
+        },
+        (
+            &["get", "a"],
+            b"a=123",
+            2,
+            b"12",
+            "propedit: standard output: entity not found\n",
+        ),
+    ),
+    (
+        Streams {
+            output: Plan {
+                most: 1,
+                fail_at: Some(3),
+                ..AMPLE
+            },
+            ..SOUND
+        },
+        (
+            &["get", "a"],
+            b"a=123",
+            2,
+            b"12",
+            "propedit: standard output: I/O error\n",
+        ),
+    ),
+    (
+        Streams {
+            output: Plan {
+                flush_fault: Some(ErrorKind::NotFound),
+                ..AMPLE
+            },
+            ..SOUND
+        },
+        (
+            &["get", "a"],
+            b"a=123",
+            2,
+            b"123\n",
+            "propedit: standard output: entity not found\n",
+        ),
+    ),
+    (
+        Streams {
+            output: Plan {
+                most: 1,
+                fail_at: Some(3),
+                how: ABSENT,
+                flush_fault: None,
+            },
+            ..SOUND
+        },
+        (
+            &["--version"],
+            b"",
+            2,
+            b"pr",
+            "propedit: standard output: entity not found\n",
+        ),
+    ),
+    // What can't be printed is dropped, and the status stays.
+    (
+        Streams {
+            errors: Plan {
+                most: 1,
+                fail_at: Some(3),
+                how: OTHER,
+                flush_fault: None,
+            },
+            ..SOUND
+        },
+        (&["get", "a"], b"a=\\u12", 2, b"", "pr"),
+    ),
+    (
+        Streams {
+            errors: Plan {
+                most: 1,
+                fail_at: Some(3),
+                ..AMPLE
+            },
+            ..SOUND
+        },
+        (&["get", "a"], b"a=\\u12", 2, b"", "pr"),
+    ),
+    (
+        Streams {
+            errors: Plan {
+                flush_fault: Some(ErrorKind::NotFound),
+                ..AMPLE
+            },
+            ..SOUND
+        },
+        (
+            &["get", "a"],
+            b"a=\\u12",
+            2,
+            b"",
+            "propedit: standard input:1: Malformed \\uxxxx encoding: not enough digits.\n",
+        ),
+    ),
+];
+
+#[test]
+fn streams_that_fail_are_named(rt: HostRuntime) -> Result<(), Fail> {
+    for (number, row) in (1usize..).zip(FAILING) {
+        let (streams, row) = *row;
+        check_run(&rt, rt.alloc(), number, Program::Propedit, streams, row)?;
+    }
+    Ok(())
+}
+
+// What `main` prints where it has no arguments or no file.
+#[test]
+fn failures_before_a_run_are_printed(rt: HostRuntime) {
+    let alloc = rt.alloc();
+    let mut errors = sink(alloc, AMPLE);
+    let absent = PropertiesError::from(io::Error::from(ErrorKind::NotFound));
+    let statuses = (
+        refuse_bytes(&mut errors),
+        lack_memory(&mut errors),
+        exit_status(
+            alloc,
+            &mut errors,
+            "app.properties",
+            Err(Failure::from(absent)),
+        ),
+        exit_status(alloc, &mut errors, "app.properties", Ok(1)),
+    );
+    let wanted =
+        b"propedit: an argument is not UTF-8\npropedit: Out of memory.\npropedit: app.properties: entity not found\n";
+    same(
+        &rt,
+        1,
+        (statuses, Bytes(errors.bytes())),
+        ((2, 2, 2, 1), Bytes(wanted)),
+    );
+}

@@ -1,0 +1,128 @@
+// Runs of both programs over streams.
+
+use crate::same::{Bytes, same};
+use crate::streams::{AMPLE, Plan, owned, reader, sink};
+use counted_io::{CountedRead, CountedWrite, Tail};
+use properties_tools::propedit::asked::{Request, USAGE, VERSION, asked_for};
+use properties_tools::{propedit, propfilter};
+use std::alloc::{AllocError, Global};
+use std::process::Abort;
+
+#[derive(Clone, Copy)]
+pub enum Program {
+    Propfilter,
+    Propedit,
+}
+
+impl Program {
+    /// Runs it as its `main` does, but a source that is a file is read from the stream, and stays as it is.
+    pub fn run<R: CountedRead, W: CountedWrite, E: CountedWrite>(
+        self,
+        alloc: Global,
+        words: &[String],
+        input: &mut R,
+        output: &mut W,
+        errors: &mut E,
+    ) -> Result<u8, AllocError> {
+        match self {
+            Program::Propfilter => Ok(propfilter::run(alloc, words, input, output, errors)),
+            Program::Propedit => edit(alloc, words, input, output, errors),
+        }
+    }
+}
+
+fn edit<R: CountedRead, W: CountedWrite, E: CountedWrite>(
+    alloc: Global,
+    words: &[String],
+    input: &mut R,
+    output: &mut W,
+    errors: &mut E,
+) -> Result<u8, AllocError> {
+    match asked_for(alloc, words)? {
+        Some(Request::Help) => Ok(propedit::show(alloc, USAGE, output, errors)),
+        Some(Request::Version) => Ok(propedit::show(alloc, VERSION, output, errors)),
+        Some(Request::Work(work)) => Ok(propedit::run(alloc, &work, input, output, errors)),
+        None => Ok(propedit::refuse(errors)),
+    }
+}
+
+/// The arguments, the input, the status, the output, and what is printed on standard error.
+pub type Row = (
+    &'static [&'static str],
+    &'static [u8],
+    u8,
+    &'static [u8],
+    &'static str,
+);
+
+/// How the streams of a run behave.
+#[derive(Clone, Copy)]
+pub struct Streams {
+    /// What comes after the input.
+    pub tail: Tail,
+    pub output: Plan,
+    pub errors: Plan,
+}
+
+/// Streams that don't fail.
+pub const SOUND: Streams = Streams {
+    tail: Tail::End,
+    output: AMPLE,
+    errors: AMPLE,
+};
+
+/// Compares the runs of a program over sound streams with the rows.
+pub fn check_runs(
+    rt: &impl Abort,
+    alloc: Global,
+    program: Program,
+    rows: &[Row],
+) -> Result<(), AllocError> {
+    for (number, row) in (1usize..).zip(rows) {
+        check_run(rt, alloc, number, program, SOUND, *row)?;
+    }
+    Ok(())
+}
+
+/// Compares runs of a program, with each of these arguments, with one status, output and text on standard error.
+pub fn check_words(
+    rt: &impl Abort,
+    alloc: Global,
+    program: Program,
+    words: &[&'static [&'static str]],
+    wanted: (u8, &'static str, &'static str),
+) -> Result<(), AllocError> {
+    let (status, output, errors) = wanted;
+    for (number, words) in (1usize..).zip(words) {
+        let row = (*words, b"a=1".as_slice(), status, output.as_bytes(), errors);
+        check_run(rt, alloc, number, program, SOUND, row)?;
+    }
+    Ok(())
+}
+
+/// Compares a run of a program with the row of this number.
+pub fn check_run(
+    rt: &impl Abort,
+    alloc: Global,
+    number: usize,
+    program: Program,
+    streams: Streams,
+    row: Row,
+) -> Result<(), AllocError> {
+    let (words, input, status, output, errors) = row;
+    let words = owned(alloc, words)?;
+    let mut input = reader(alloc, input, 1024, streams.tail)?;
+    let mut output_sink = sink(alloc, streams.output);
+    let mut error_sink = sink(alloc, streams.errors);
+    let found = program.run(
+        alloc,
+        words.as_slice(),
+        &mut input,
+        &mut output_sink,
+        &mut error_sink,
+    )?;
+    let found = (found, Bytes(output_sink.bytes()), Bytes(error_sink.bytes()));
+    let wanted = (status, Bytes(output), Bytes(errors.as_bytes()));
+    same(rt, number, found, wanted);
+    Ok(())
+}

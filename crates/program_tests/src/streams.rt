@@ -1,0 +1,57 @@
+// Streams that follow a plan, and arguments as owned texts.
+
+use counted_io::{ScriptedReader, ScriptedSink, SinkFault, Tail};
+use std::alloc::{AllocError, Global};
+use std::io;
+
+/// A write that fails by an error.
+pub const OTHER: SinkFault = SinkFault::Fault(io::ErrorKind::Other);
+
+/// How a sink takes bytes.
+#[derive(Clone, Copy)]
+pub struct Plan {
+    /// The number of bytes that a write takes at most.
+    pub most: usize,
+    /// The write that fails, counted from 1.
+    pub fail_at: Option<usize>,
+    /// How that write fails.
+    pub how: SinkFault,
+    /// How each flush fails.
+    pub flush_fault: Option<io::ErrorKind>,
+}
+
+/// A sink that takes everything.
+pub const AMPLE: Plan = Plan {
+    most: 1024,
+    fail_at: None,
+    how: SinkFault::Nothing,
+    flush_fault: None,
+};
+
+pub fn sink(alloc: Global, plan: Plan) -> ScriptedSink {
+    let mut sink = ScriptedSink::new(alloc, plan.most, plan.fail_at, plan.how);
+    sink.set_flush_fault(plan.flush_fault);
+    sink
+}
+
+/// A reader of these bytes, so many at a read, and then of this tail.
+pub fn reader(
+    alloc: Global,
+    bytes: &[u8],
+    most: usize,
+    tail: Tail,
+) -> Result<ScriptedReader, AllocError> {
+    let mut pieces = Vec::new(alloc);
+    for piece in bytes.chunks(most.max(1)) {
+        pieces.push(piece.to_vec(alloc)?)?;
+    }
+    Ok(ScriptedReader::new(pieces, tail))
+}
+
+pub fn owned(alloc: Global, words: &[&str]) -> Result<Vec<String>, AllocError> {
+    let mut texts = Vec::new(alloc);
+    for word in words {
+        texts.push(String::from_str(alloc, word)?)?;
+    }
+    Ok(texts)
+}
