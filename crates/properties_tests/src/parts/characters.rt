@@ -1,8 +1,8 @@
 // Characters of bytes: one by one, in pieces of any size and up to a fault, and all at once.
 
 use super::script;
-use crate::same::shows;
-use counted_io::Tail;
+use crate::same::same;
+use counted_io::{CountedRead, Tail};
 use properties_text::encoding::Encoding;
 use properties_text::encoding::byte_order_mark::{ByteOrderMark, byte_order_mark};
 use single_lines::decode::decode_line;
@@ -77,7 +77,16 @@ fn decoded_whole(alloc: Global, asked: Encoding, bytes: &[u8]) -> Result<String,
     decode_line(alloc, encoding, body)?.into_owned(alloc)
 }
 
-// The text of all characters up to the end, or the text before a fault. What is amiss stands in their place.
+// The next character, or a bar in the place of a fault.
+fn next_shown<R: CountedRead>(characters: &mut DecodeIter<R>) -> Option<char> {
+    match characters.next() {
+        Some(Ok(character)) => Some(character),
+        Some(Err(_)) => Some('|'),
+        None => None,
+    }
+}
+
+// The text of all characters and a fault. A plus shows that more come after it.
 fn decoded_singly(
     alloc: Global,
     asked: Encoding,
@@ -87,34 +96,49 @@ fn decoded_singly(
 ) -> Result<String, AllocError> {
     let mut characters = DecodeIter::new(alloc, script(alloc, bytes, size, tail)?, asked)?;
     let mut text = String::new(alloc);
-    let mut is_faulty = false;
     // Each character has a byte at least, so no more of them come.
     for _ in 0..bytes.len() + 1 {
-        match characters.next() {
-            Some(Ok(character)) => text.push(character)?,
-            Some(Err(_)) => is_faulty = true,
-            None => {}
+        if let Some(character) = next_shown(&mut characters) {
+            text.push(character)?;
         }
     }
-    if is_faulty == (tail == Tail::End) || characters.next().is_some() {
-        return String::from_str(alloc, "a fault or an end in another place");
+    if next_shown(&mut characters).is_some() {
+        text.push('+')?;
     }
     Ok(text)
 }
 
-// The bytes of a row are decoded to its text in each way.
-fn decodes(rt: &impl Abort, alloc: Global, asked: Encoding, bytes: &[u8], text: &str) {
-    shows(rt, decoded_whole(alloc, asked, bytes), text);
+// These bytes are decoded to this text, and come to this end.
+fn decodes(rt: &impl Abort, found: Result<String, AllocError>, text: &str, end: &str) {
+    match found {
+        Ok(found) => same(rt, found.as_str().strip_suffix(end), Some(text)),
+        Err(_) => panic!(*rt; "no memory for {text:?}"),
+    }
+}
+
+// So they are in pieces of any size, and before a fault too.
+fn decodes_in_pieces(rt: &impl Abort, alloc: Global, asked: Encoding, bytes: &[u8], text: &str) {
+    let fault = Tail::Fault(io::ErrorKind::Other);
     for size in [1, 2, 3, 100] {
-        for tail in [Tail::End, Tail::Fault(io::ErrorKind::Other)] {
-            shows(rt, decoded_singly(alloc, asked, bytes, size, tail), text);
-        }
+        decodes(
+            rt,
+            decoded_singly(alloc, asked, bytes, size, Tail::End),
+            text,
+            "",
+        );
+        decodes(
+            rt,
+            decoded_singly(alloc, asked, bytes, size, fault),
+            text,
+            "|",
+        );
     }
 }
 
 #[test]
 fn bytes_are_decoded_to_their_characters(rt: HostRuntime) {
     for (asked, bytes, text) in &ROWS {
-        decodes(&rt, rt.alloc(), *asked, bytes, text);
+        decodes(&rt, decoded_whole(rt.alloc(), *asked, bytes), text, "");
+        decodes_in_pieces(&rt, rt.alloc(), *asked, bytes, text);
     }
 }
