@@ -1,5 +1,5 @@
 -- What a writer answers that has no number left for a line.
-use Rattle.std.specs.Prelude.{◌≡◌, ◌×◌, ◌+◌, ◌^◌, false, Result, Unit, IsErrAnd, IfErr}
+use Rattle.std.specs.Prelude.{◌≡◌, ◌+◌, ◌^◌, false, Result, IsErrAnd, IfErr}
 use Rattle.counted_io.specs.Streams.{Sink}
 use Rattle.java_properties.specs.Errors.{IsBareError}
 use Rattle.java_properties.specs.PropertiesWriter.{Writing, Flushes, FailsInFlush}
