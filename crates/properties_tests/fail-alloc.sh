@@ -7,11 +7,11 @@
 # `refused::`, `refused_memory` or `without_memory` hold all the same. Those of other names fail where their own data is
 # refused, and aren't looked at. None of these tests takes more than LAST allocations.
 first=${1:-1}
-last=${2:-32}
+last=${2:-96}
 crates=$(cd "$(dirname "$0")/.." && pwd)
 status=0
 for number in $(seq "$first" "$last"); do
-    for crate in properties_tests properties_tools; do
+    for crate in properties_tests program_tests; do
         told=$(cd "$crates/$crate" && rt try --test --fail-alloc "$number" 2>&1)
         looked_at=$(echo "$told" | grep -cE '^test .*(refused::|refused_memory|without_memory).* \.\.\. ')
         failed=$(echo "$told" | grep -E '^test .*(refused::|refused_memory|without_memory).* \.\.\. FAILED')

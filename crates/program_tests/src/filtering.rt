@@ -10,7 +10,7 @@ use std::io;
 use std::process::Abort;
 use std::test::Fail;
 
-// The kind of the error, its line, and the error of the stream that caused it; or nothing where there is no error.
+// The kind of the error, its line, and the error of the stream that caused it. None is no error.
 type Ending = Option<(ErrorKind, Option<usize>, Option<io::ErrorKind>)>;
 
 fn ending_of(answer: &Result<(), PropertiesError>) -> Ending {
@@ -127,8 +127,8 @@ fn pairs_are_written_one_a_line(rt: HostRuntime) -> Result<(), Fail> {
     Ok(())
 }
 
-// An input in windows-1252, what comes after it, the sink, how the call ends, what was written, and how many I/O errors
-// the sink counted.
+// An input in windows-1252, what comes after it, the sink, how the call ends, what was written, and
+// how many I/O errors the sink counted.
 const STOPPED: &[(&[u8], Tail, Plan, Ending, &[u8], usize)] = &[
     (
         b"a=1\nb=2\n",
@@ -233,7 +233,7 @@ fn errors_come_with_their_line(rt: HostRuntime) -> Result<(), Fail> {
     Ok(())
 }
 
-// An input that is cut off by an error of the reader, the line in which it is, and what was written before.
+// An input that is cut off by an error of the reader, the line of that error, and what was written.
 const CUT_OFF: &[(&[u8], usize, &[u8])] = &[
     (b"", 1, b""),
     (b"a=1", 1, b""),
@@ -270,8 +270,8 @@ fn each_read_may_fail(rt: HostRuntime) -> Result<(), Fail> {
 
 const LINES: [&[u8]; 3] = [b"a=1\n", b"b\\ c=\n", b"\\u65e5=x\n"];
 
-// What a sink that fails at this write holds of the lines, and the number of the line that it fails in. It takes so
-// many bytes at a write.
+// What a sink that fails at this write holds of the lines, and the number of the line that it fails
+// in. It takes so many bytes at a write.
 fn taken_before(
     alloc: Global,
     most: usize,

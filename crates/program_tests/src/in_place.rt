@@ -31,8 +31,8 @@ fn mode_of(rt: &HostRuntime, path: &str) -> io::Result<u32> {
     Ok(fs::metadata(rt, path)?.permissions().mode() & 0o7777)
 }
 
-// What there is after a file was to be replaced: the text of the error, or nothing; the bytes of the file, its
-// permissions, and whether a new file is left beside it.
+// What there is after a file was to be replaced: the text of the error, or nothing; the bytes of
+// the file, its permissions, and whether a new file is left beside it.
 #[derive(Drop)]
 struct Outcome {
     said: String,
@@ -103,7 +103,7 @@ fn a_replaced_file_keeps_its_permissions(rt: HostRuntime) -> Result<(), Fail> {
 
 const CHANGED: &str = "changed.properties";
 
-// A file that has these bytes and permissions by the time that it is to be replaced stays as it is.
+// A file that has these bytes and permissions by the time that it is to be replaced keeps them.
 fn check_changed(
     abort: &impl Abort,
     rt: &HostRuntime,
@@ -169,7 +169,8 @@ fn regular_files_alone_are_read(rt: HostRuntime) {
 
 const EDITED: &str = "edited.properties";
 
-// Arguments that edit the file, its bytes, the status, what is printed on standard error, and the bytes of the file then.
+// Arguments that edit the file, its bytes, the status, what is printed on standard error, and the
+// bytes of the file then.
 type Row = (
     &'static [&'static str],
     &'static [u8],
@@ -221,7 +222,8 @@ const HELD: Row = (
     &["-i", EDITED, "set", "a", "3"],
     b"a=1",
     2,
-    "propedit: edited.properties: cannot create edited.properties.propedit: File exists (os error 17)\n",
+    "propedit: edited.properties: cannot create edited.properties.propedit: \
+     File exists (os error 17)\n",
     b"a=1",
 );
 

@@ -1,6 +1,6 @@
-//! What the programs `propfilter` and `propedit` print, and with which status, over streams and over real files.
+//! What the programs `propfilter` and `propedit` print and return, over streams and real files.
 //!
-//! The tests are tables: a run is its arguments, its input, its status and what it prints.
+//! The tests are tables. A row is a run: its arguments, its input, its status, and what it prints.
 #![tactic(auto)]
 
 #[cfg(test)]

@@ -108,7 +108,8 @@ const CHECK: &[Row] = &[
         &["check"],
         b"# C:\\users\na=\\u00e9\nb=\\u12",
         1,
-        b"standard input:1: Malformed \\uxxxx encoding: not hex. (in a comment)\nstandard input:3: Malformed \\uxxxx encoding: not enough digits.\n",
+        b"standard input:1: Malformed \\uxxxx encoding: not hex. (in a comment)\n\
+          standard input:3: Malformed \\uxxxx encoding: not enough digits.\n",
         "",
     ),
     // All three kinds of findings, one kind after another.
@@ -116,7 +117,11 @@ const CHECK: &[Row] = &[
         &["-f", "x", "check"],
         b"# C:\\users\na=1\na=\xe9\nb=\\u12\nc=2\na=4",
         1,
-        b"x:3: not UTF-8\nx:1: Malformed \\uxxxx encoding: not hex. (in a comment)\nx:4: Malformed \\uxxxx encoding: not enough digits.\nx:3: repeats the key of line 2\nx:6: repeats the key of line 2\n",
+        b"x:3: not UTF-8\n\
+          x:1: Malformed \\uxxxx encoding: not hex. (in a comment)\n\
+          x:4: Malformed \\uxxxx encoding: not enough digits.\n\
+          x:3: repeats the key of line 2\n\
+          x:6: repeats the key of line 2\n",
         "",
     ),
     // A byte order mark overrules the option. Two keys are U+FFFD.
@@ -124,7 +129,10 @@ const CHECK: &[Row] = &[
         &["-e", "windows-1252", "check"],
         b"\xef\xbb\xbfa=1\r\nb=caf\xe9\rc=\xc3\xa9\n\xc3\n\xa9",
         1,
-        b"standard input:2: not UTF-8\nstandard input:4: not UTF-8\nstandard input:5: not UTF-8\nstandard input:5: repeats the key of line 4\n",
+        b"standard input:2: not UTF-8\n\
+          standard input:4: not UTF-8\n\
+          standard input:5: not UTF-8\n\
+          standard input:5: repeats the key of line 4\n",
         "",
     ),
     (&["check"], b"\xff\xfe\xe9\x00", 0, b"", ""),
@@ -256,7 +264,8 @@ const REFUSED: &[Row] = &[
         b"a=1\n#\\u12",
         2,
         b"",
-        "propedit: standard input:2: Malformed \\uxxxx encoding: not enough digits. (in a comment)\n",
+        "propedit: standard input:2: Malformed \\uxxxx encoding: not enough digits. \
+         (in a comment)\n",
     ),
     (
         &["-e", "windows-1252", "get", "c"],
@@ -547,7 +556,11 @@ fn streams_that_fail_are_named(rt: HostRuntime) -> Result<(), Fail> {
     Ok(())
 }
 
-// What `main` prints where it has no arguments or no file.
+// What `main` prints where it has no arguments, no memory for them, or no file.
+const BEFORE_A_RUN: &[u8] = b"propedit: an argument is not UTF-8\n\
+    propedit: Out of memory.\n\
+    propedit: app.properties: entity not found\n";
+
 #[test]
 fn failures_before_a_run_are_printed(rt: HostRuntime) {
     let alloc = rt.alloc();
@@ -564,12 +577,6 @@ fn failures_before_a_run_are_printed(rt: HostRuntime) {
         ),
         exit_status(alloc, &mut errors, "app.properties", Ok(1)),
     );
-    let wanted =
-        b"propedit: an argument is not UTF-8\npropedit: Out of memory.\npropedit: app.properties: entity not found\n";
-    same(
-        &rt,
-        1,
-        (statuses, Bytes(errors.bytes())),
-        ((2, 2, 2, 1), Bytes(wanted)),
-    );
+    let found = (statuses, Bytes(errors.bytes()));
+    same(&rt, 1, found, ((2, 2, 2, 1), Bytes(BEFORE_A_RUN)));
 }

@@ -1,7 +1,7 @@
 // Memory that is refused.
 //
-// The test holds with memory to spare, and where any one growth is refused. What it takes for its own use may be
-// refused as well, and then it says nothing.
+// The test holds with memory to spare, and where any one growth is refused. What it takes for its
+// own use may be refused as well, and then it says nothing.
 
 use crate::filtering::filter_by;
 use crate::runs::Program;
@@ -21,8 +21,8 @@ enum Call {
     Run(Program, &'static [&'static str]),
 }
 
-// A status, an output, and what is printed on standard error. The status of `filter` is 0, 1 where memory was refused,
-// and 3 at any other error; it prints nothing.
+// A status, an output, and what is printed on standard error. The status of `filter` is 0, or 1
+// where memory was refused, or 3 at any other error; it prints nothing.
 type Outcome = (u8, &'static [u8], &'static [u8]);
 
 // The call and its input, what it comes to, and what it may come to where a growth is refused.
@@ -107,8 +107,8 @@ fn is_memory(error: &PropertiesError) -> bool {
         && matches!(error.cause(), Cause::None)
 }
 
-// The status, the output and the errors, which have room for all, so that none of their growths is refused. It fails
-// only where memory is refused for what the test itself takes.
+// The status, the output and the errors, which have room for all, so that none of their growths is
+// refused. It fails only where memory is refused for what the test itself takes.
 fn outcome_of(
     alloc: Global,
     call: Call,
@@ -147,7 +147,8 @@ fn check(rt: &impl Abort, number: usize, found: (u8, &[u8], &[u8]), wanted: Outc
     );
 }
 
-// One growth at most is refused: so the call comes to what it should at once, or is refused and does so then.
+// One growth at most is refused: so the call comes to what it should at once, or is refused and
+// does so the next time.
 fn check_call(rt: &impl Abort, alloc: Global, number: usize, row: Row) {
     let (call, input, wanted, refused) = row;
     let Ok((status, output, errors)) = outcome_of(alloc, call, input) else {

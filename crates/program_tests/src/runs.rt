@@ -15,7 +15,8 @@ pub enum Program {
 }
 
 impl Program {
-    /// Runs it as its `main` does, but a source that is a file is read from the stream, and stays as it is.
+    /// Runs it as its `main` does, but of a source that is a file the input has the bytes, and no
+    /// file is edited.
     pub fn run<R: CountedRead, W: CountedWrite, E: CountedWrite>(
         self,
         alloc: Global,
@@ -84,7 +85,8 @@ pub fn check_runs(
     Ok(())
 }
 
-/// Compares runs of a program, with each of these arguments, with one status, output and text on standard error.
+/// Compares a run of a program with each of these arguments with one status, one output, and one
+/// text on standard error.
 pub fn check_words(
     rt: &impl Abort,
     alloc: Global,
