@@ -12,8 +12,6 @@ mod propedit;
 #[cfg(test)]
 mod propfilter;
 #[cfg(test)]
-mod refused;
-#[cfg(test)]
 mod runs;
 #[cfg(test)]
 mod same;

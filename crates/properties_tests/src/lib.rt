@@ -1,4 +1,4 @@
-//! What no table of rows shows: refused memory, what items borrow, sources that are read and written whole, and values
+//! What no table of rows shows: what items borrow, sources that are read and written whole, and values
 //! as they are compared, copied, printed and debugged.
 #![tactic(auto)]
 
@@ -11,8 +11,6 @@ mod parts;
 mod printed;
 #[cfg(test)]
 mod reading;
-#[cfg(test)]
-mod refused;
 #[cfg(test)]
 mod same;
 #[cfg(test)]
