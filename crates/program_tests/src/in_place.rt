@@ -2,9 +2,9 @@
 
 use crate::same::{Bytes, same};
 use crate::streams::{AMPLE, owned, sink};
-use properties_tools::propedit::asked::{Command, Request, Source, Work, asked_for};
+use counted_io::CountedWrite;
+use properties_tools::propedit::asked::{Command, Request, Source, asked_for};
 use properties_tools::propedit::in_place::{Original, edit_file};
-use std::alloc::Global;
 use std::fs::{self, File, Permissions};
 use std::io::{self, Read, Write};
 use std::os::unix::fs::{PermissionsExt, symlink};
@@ -227,26 +227,25 @@ const HELD: Row = (
     b"a=1",
 );
 
-fn work_of(alloc: Global, words: &[&str]) -> Result<Work, Fail> {
-    match asked_for(alloc, owned(alloc, words)?.as_slice())? {
-        Some(Request::Work(work)) => Ok(work),
-        _ => Err(Fail::from("no command")),
+// Edits the file that the words name, and returns the status.
+fn edit<E: CountedWrite>(rt: &HostRuntime, words: &[&str], errors: &mut E) -> Result<u8, Fail> {
+    let alloc = rt.alloc();
+    let Some(Request::Work(work)) = asked_for(alloc, owned(alloc, words)?.as_slice())? else {
+        return Err(Fail::from("no command"));
+    };
+    match (&work.source, &work.command) {
+        (Source::InPlace(path), Command::Change(edits)) => {
+            Ok(edit_file(rt, alloc, path.as_str(), work.encoding, edits, errors))
+        }
+        _ => Err(Fail::from("no edits in place")),
     }
 }
 
 fn check_edit(abort: &impl Abort, rt: &HostRuntime, number: usize, row: Row) -> Result<(), Fail> {
     let (words, bytes, status, said, after) = row;
-    let alloc = rt.alloc();
     make(rt, EDITED, bytes)?;
-    let mut errors = sink(alloc, AMPLE);
-    let found = match work_of(alloc, words)? {
-        Work {
-            encoding,
-            source: Source::InPlace(path),
-            command: Command::Change(edits),
-        } => edit_file(rt, alloc, path.as_str(), encoding, &edits, &mut errors),
-        _ => return Err(Fail::from("no edits in place")),
-    };
+    let mut errors = sink(rt.alloc(), AMPLE);
+    let found = edit(rt, words, &mut errors)?;
     let now = content(rt, EDITED)?;
     let found = (found, Bytes(errors.bytes()), Bytes(now.as_slice()));
     let wanted = (status, Bytes(said.as_bytes()), Bytes(after));
