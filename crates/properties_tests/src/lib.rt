@@ -1,5 +1,4 @@
-//! What no table of rows shows: refused memory, what items borrow, and values as they are compared, copied and
-//! debugged.
+//! What no table of rows shows: what items borrow, and values as they are compared, copied and debugged.
 #![tactic(auto)]
 
 #[cfg(test)]
@@ -8,5 +7,3 @@ mod edits;
 mod printed;
 #[cfg(test)]
 mod reading;
-#[cfg(test)]
-mod refused;
