@@ -12,6 +12,7 @@ mod copies;
 mod copying;
 mod documents;
 mod editing;
+mod files;
 mod filtering;
 mod items;
 mod maps;
@@ -42,10 +43,11 @@ enum Part {
     Filtering,
     Propedit,
     Messages,
+    Files,
 }
 
 // How many rows each has.
-const PARTS: [(Part, usize); 12] = [
+const PARTS: [(Part, usize); 13] = [
     (Part::Items, 5),
     (Part::Whole, 7),
     (Part::Maps, 5),
@@ -54,10 +56,11 @@ const PARTS: [(Part, usize); 12] = [
     (Part::Copying, 2),
     (Part::Editing, 14),
     (Part::Documents, 8),
-    (Part::Single, 3),
+    (Part::Single, 4),
     (Part::Filtering, 4),
     (Part::Propedit, 18),
     (Part::Messages, 3),
+    (Part::Files, 1),
 ];
 
 fn main(rt: HostRuntime) -> ExitCode {
@@ -99,12 +102,12 @@ fn take_memory(alloc: Global, times: usize) {
 
 // Prints the line of a row, and returns the status that it asks for.
 fn tell(rt: &HostRuntime, part: Part, at: usize) -> io::Result<u8> {
-    let Some((name, seen)) = row(rt.alloc(), part, at) else {
+    let Some((name, seen)) = row(rt, part, at) else {
         return Ok(1);
     };
     let word = match seen {
         Ok(()) => "ok",
-        Err(Fault::Memory) if is_right(row(rt.alloc(), part, at)) => "out of memory",
+        Err(Fault::Memory) if is_right(row(rt, part, at)) => "out of memory",
         Err(_) => "wrong",
     };
     println!(rt; "{name}: {word}")?;
@@ -116,7 +119,8 @@ fn is_right(again: Option<Row>) -> bool {
     matches!(again, Some((_, Ok(()))))
 }
 
-fn row(alloc: Global, part: Part, at: usize) -> Option<Row> {
+fn row(rt: &HostRuntime, part: Part, at: usize) -> Option<Row> {
+    let alloc = rt.alloc();
     match part {
         Part::Items => items::row(alloc, at),
         Part::Whole => whole::row(alloc, at),
@@ -130,5 +134,6 @@ fn row(alloc: Global, part: Part, at: usize) -> Option<Row> {
         Part::Filtering => filtering::row(alloc, at),
         Part::Propedit => propedit::row(alloc, at),
         Part::Messages => messages::row(alloc, at),
+        Part::Files => files::row(rt, at),
     }
 }

@@ -62,7 +62,7 @@ fn command(alloc: Global, wish: Wish) -> Result<Command, AllocError> {
     }
 }
 
-const SET: [Change; 1] = [Change::SetValue("b", "x")];
+pub const SET: [Change; 1] = [Change::SetValue("b", "x")];
 
 // A command over standard input.
 fn work(alloc: Global, wish: Wish) -> Result<Work, AllocError> {
@@ -215,7 +215,7 @@ fn asked_to_change(alloc: Global) -> Seen {
 fn arguments(alloc: Global) -> Seen {
     let all = owned(alloc, &["propedit", "get", "a"])?;
     match words(alloc, Ok(all.into_iter())) {
-        Ok(Some(words)) => hold(words.len() == 2 && words.iter().all(is_word)),
+        Ok(Some(words)) => hold(are_words(&words)),
         Ok(None) => Err(Fault::Wrong),
         Err(error) => {
             hold(error.kind() == ErrorKind::OutOfMemory)?;
@@ -224,6 +224,9 @@ fn arguments(alloc: Global) -> Seen {
     }
 }
 
-fn is_word(word: &String) -> bool {
-    matches!(word.as_str(), "get" | "a")
+fn are_words(words: &[String]) -> bool {
+    match words {
+        [first, second] => first.as_str() == "get" && second.as_str() == "a",
+        _ => false,
+    }
 }

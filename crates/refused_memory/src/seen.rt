@@ -11,7 +11,7 @@ pub type Seen = Result<(), Fault>;
 /// A call by its name, and what was seen of it.
 pub type Row = (&'static str, Seen);
 
-#[derive(Clone, Copy, PartialEq, Eq)]
+#[derive(Clone, Copy)]
 pub enum Fault {
     /// Memory was refused, and what the call left is right.
     Memory,

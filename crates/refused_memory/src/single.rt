@@ -4,6 +4,7 @@ use crate::seen::{Fault, Row, Seen, hold};
 use properties_text::encoding::Encoding;
 use single_lines::decode::decode_line;
 use single_lines::decode_iter::DecodeIter;
+use single_lines::logical::{LogicalLine, LogicalLines};
 use single_lines::natural::{NaturalLine, NaturalLines};
 use std::alloc::Global;
 
@@ -13,6 +14,7 @@ pub fn row(alloc: Global, at: usize) -> Option<Row> {
         0 => ("decode_line", decoded(alloc)),
         1 => ("DecodeIter", characters(alloc)),
         2 => ("NaturalLines", natural(alloc)),
+        3 => ("LogicalLines", logical(alloc)),
         _ => return None,
     };
     Some(row)
@@ -48,4 +50,16 @@ fn natural(alloc: Global) -> Seen {
         }
     }
     hold(lines.next().is_none())
+}
+
+const LOGICAL: [(usize, &str); 2] = [(1, "a\u{e9}"), (3, "")];
+
+fn logical(alloc: Global) -> Seen {
+    let mut count = 0usize;
+    for line in LogicalLines::new(NaturalLines::new(alloc, INPUT, Encoding::WINDOWS_1252)) {
+        let LogicalLine(number, text) = line?;
+        hold(LOGICAL.get(count) == Some(&(number, text.as_str())))?;
+        count = count.saturating_add(1);
+    }
+    hold(count == LOGICAL.len())
 }

@@ -26,7 +26,12 @@ pub fn row(alloc: Global, at: usize) -> Option<Row> {
 }
 
 fn are_items(lines: &[Line]) -> bool {
-    lines.iter().enumerate().all(|(at, line)| is_item(line, at))
+    for (at, line) in lines.iter().enumerate() {
+        if !is_item(line, at) {
+            return false;
+        }
+    }
+    true
 }
 
 // The lines before an error are a beginning of the items.
@@ -46,7 +51,7 @@ fn long_line(alloc: Global) -> Seen {
     let bytes = [b'x'; LONG];
     let mut input = bytes.as_slice();
     match read_lines(alloc, &mut input, Encoding::UTF_16LE) {
-        Ok(lines) => hold(lines.len() == 1 && lines.iter().all(is_long)),
+        Ok(lines) => hold(matches!(lines.as_slice(), [line] if is_long(line))),
         Err(Stopped { lines, error }) => Err(left(lines.is_empty(), error)),
     }
 }
@@ -93,10 +98,12 @@ fn keys(alloc: Global) -> Seen {
 }
 
 pub fn are_keys(lines: &[KeyLine]) -> bool {
-    let are_right = lines.iter().zip(&KEYS_IN_LINES).all(|(line, (number, key, first))| {
-        line.line_number == *number && line.key.as_str() == *key && line.first == *first
-    });
-    are_right && lines.len() == KEYS_IN_LINES.len()
+    for (line, (number, key, first)) in lines.iter().zip(KEYS_IN_LINES) {
+        if line.line_number != number || line.key.as_str() != key || line.first != first {
+            return false;
+        }
+    }
+    lines.len() == KEYS_IN_LINES.len()
 }
 
 pub const ESCAPES: &[u8] = b"a=\\u12\nb=1\n# \\uzzzz\nk\xe9=\\ud83d\\\nx\n\\u\n\\u00\n";
@@ -116,13 +123,12 @@ fn escapes(alloc: Global) -> Seen {
 }
 
 pub fn are_escapes(escapes: &[MalformedEscape]) -> bool {
-    let are_right = escapes.iter().zip(&ESCAPES_IN_LINES).all(|(
-        escape,
-        (number, kind, in_comment),
-    )| {
-        escape.line_number == *number && escape.kind == *kind && escape.in_comment == *in_comment
-    });
-    are_right && escapes.len() == ESCAPES_IN_LINES.len()
+    for (escape, wanted) in escapes.iter().zip(ESCAPES_IN_LINES) {
+        if (escape.line_number, escape.kind, escape.in_comment) != wanted {
+            return false;
+        }
+    }
+    escapes.len() == ESCAPES_IN_LINES.len()
 }
 
 fn source(alloc: Global) -> Seen {

@@ -85,7 +85,7 @@ fn write_comment(writer: &mut Writer, comment: &str) -> Seen {
 
 // What is seen of two calls and of what they left.
 fn both(first: Seen, second: Seen, is_right: bool) -> Seen {
-    hold(is_right && second != Err(Fault::Wrong))?;
+    hold(is_right && !matches!(second, Err(Fault::Wrong)))?;
     first?;
     second
 }
