@@ -83,21 +83,6 @@ searched-whole e bytes h =
     let both : HoldsNoLineEndUnit e (take n bytes ++ drop n bytes) = subst (HoldsNoLineEndUnit e) (sym (take-append-drop n bytes)) h in
     record { within = le; aligned = aligned; none_before = no_end_unit-left e (take n bytes) (drop n bytes) aligned both }
 
--- and stay so where more bytes come
-pub searched-more : (e : Encoding) (bytes more : List ℕ) → HoldsNoLineEndUnit e bytes
-    → IsSearched e (bytes ++ more) (whole_units e (length bytes))
-searched-more e bytes more h = searched-grown e bytes more (whole_units e (length bytes)) (searched-whole e bytes h)
-
--- First bytes that hold no line end are searched up to the end of their last whole unit.
-pub searched-taken : (e : Encoding) (bytes : List ℕ) (count : ℕ) → count ≤ length bytes → HoldsNoLineEndUnit e (take count bytes)
-    → IsSearched e bytes (whole_units e count)
-searched-taken e bytes count le h =
-    let first = take count bytes in
-    let size : length first ≡ count = length-take-le count bytes le in
-    let more : IsSearched e (first ++ drop count bytes) (whole_units e (length first)) = searched-more e first (drop count bytes) h in
-    subst (λ v. IsSearched e v (whole_units e count)) (take-append-drop count bytes)
-    (subst (λ n. IsSearched e (first ++ drop count bytes) (whole_units e n)) size more)
-
 -- ---- Bytes that are no CR and no LF.
 
 -- the bytes before a place, where none of them is a CR or an LF

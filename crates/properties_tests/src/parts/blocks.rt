@@ -10,7 +10,7 @@ use std::simd::prelude::*;
 // The bytes that end a field of CSV.
 type FieldEnds = Either<Byte<b','>, LineEnds>;
 
-const TEXT: &[u8; 16] = b"a\t= \xe2\x82\xac,\r\nb\\# x:";
+const TEXT: &[u8; 16] = b"a\t= \xe2\x82\xac,\r\n\x0c\\# !:";
 
 fn marked<C: ByteClass>() -> u64 {
     C::marks(u8x16::from_array(*TEXT)).bits()
@@ -29,11 +29,11 @@ fn classes_mark_their_bytes(rt: HostRuntime) {
         (marked::<Byte<b','>>(), 0b0000_0000_1000_0000),
         (marked::<LineEnds>(), 0b0000_0011_0000_0000),
         (marked::<PlainEnds>(), 0b0000_1011_0000_0000),
-        (marked::<Blanks>(), 0b0010_0000_0000_1010),
-        (marked::<Specials>(), 0b1011_1000_0000_1100),
-        (marked::<Controls>(), 0b0000_0011_0000_0010),
+        (marked::<Blanks>(), 0b0010_0100_0000_1010),
+        (marked::<Specials>(), 0b1111_1000_0000_1100),
+        (marked::<Controls>(), 0b0000_0111_0000_0010),
         (marked::<PastAscii>(), 0b0000_0000_0111_0000),
-        (marked::<Within<0x20, 0x3d>>(), 0b1011_0000_1000_1100),
+        (marked::<Within<0x20, 0x3d>>(), 0b1111_0000_1000_1100),
         (marked::<Within<0x3d, 0x20>>(), 0),
         (marked::<FieldEnds>(), 0b0000_0011_1000_0000),
         (marked::<Except<FieldEnds>>(), 0b1111_1100_0111_1111),
@@ -56,6 +56,8 @@ fn searches_return_the_first_place(rt: HostRuntime) {
         (find_in_block::<Byte<b','>>(text, 4), Some(3)),
         (find_in_block::<Byte<b';'>>(text, 7), None),
         (marks.first(), Some(5)),
+        (Marks::from_bits(1).first(), Some(0)),
+        (Marks::from_bits(0).first(), None),
         (marks.or(Marks::from_bits(1)).first(), Some(0)),
         (marks.complement().first(), Some(0)),
         (Some(marks.front()), Some(5)),
