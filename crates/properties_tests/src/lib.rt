@@ -1,5 +1,5 @@
-//! What no table of rows shows: what items borrow, sources that are read and written whole, and values
-//! as they are compared, copied, printed and debugged.
+//! What no table of rows shows: what items borrow, the parts of the library from outside, sources that are read and
+//! written whole, and values as they are compared, copied, printed and debugged.
 #![tactic(auto)]
 
 #[cfg(test)]

@@ -1,4 +1,4 @@
-//! Makes each public call that takes memory, and prints whether what it gave is right, or that memory ran out.
+//! Makes each call that takes memory, and prints whether what it gave is right, or that memory ran out.
 //!
 //! With memory to spare each line ends in `ok`. Where a growth is refused, a line ends in `out of memory`: what the call
 //! left was right, and so was all when it was made again. A line that ends in `wrong` tells of a defect, and then the
@@ -78,6 +78,10 @@ fn run(rt: &HostRuntime) -> io::Result<u8> {
             if only == 0 || only == number {
                 status = tell(rt, part, at)?.max(status);
             }
+        }
+        if only == 0 && row(rt, part, count).is_some() {
+            println!(rt; "a call is left out: PARTS has too few rows")?;
+            status = 1;
         }
     }
     Ok(status)
