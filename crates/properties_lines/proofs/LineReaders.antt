@@ -251,7 +251,11 @@ module _ {R : Type 0} {reader : Reader R} where
   pub refused : {s : ReaderState} {t u : Finder} {from to : R} {r : List ℕ} (next : R) (new : ReaderState) (e : LineError) → Along reader s from r t.state to → HoldsNone t u
       → IsReadError reader u to e next → FindsError reader s from e new next
   refused {r = r} next new why.Memory h k same =
-      inr (inr (record { room = record { bytes = r; read = rw same h.read; lazy = inr (along-none h k.none) }; is = refl }))
+      inr (inr (record {
+        room = record { bytes = r; read = rw same h.read; lazy = inr (along-none h k.none) };
+        numbered = omega (arith, k.numbered, h.passed);
+        is = refl;
+      }))
   refused next new why.TooManyLines h k none = absurd none
   refused {s} {t} {u} {r = r} next new (why.Io number error) h k (is, failed) =
       let now = fault-held t.state k.live k.none in
@@ -261,6 +265,7 @@ module _ {R : Type 0} {reader : Reader R} where
       inl (record {
         bytes = r ++ [];
         error = error;
+        numbered = omega (arith, k.numbered, h.passed);
         failed = failed-more h.read failed;
         is = ap (λ n. why.Io n error) (is ∙ ap (λ n. n + 1) (k.passed ∙ h.passed));
         natural = subst Failed (sym (append-nil r)) (before.natural ∙ now.0);

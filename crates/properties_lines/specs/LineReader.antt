@@ -146,6 +146,7 @@ pub record FindsNext {R : Type 0} (reader : Reader R) (old : ReaderState) (from 
 pub record FindsFault {R : Type 0} (reader : Reader R) (old : ReaderState) (from : R) (e : LineError) (to : R) : Type 0 where
   pub bytes : List ℕ
   pub error : Error
+  pub numbered : old.passed + 1 < 2 ^ 64
   pub failed : HasFailed reader from bytes error to
   pub is : e ≡ why.Io (old.passed + 1) error
   pub natural : natural_to_come old bytes fault ≡ []
@@ -158,9 +159,10 @@ pub record FindsTooMany {R : Type 0} (old : ReaderState) (from : R) (e : LineErr
   pub is : e ≡ why.TooManyLines
   pub untouched : to ≡ from
 
--- Memory ran out.
+-- Memory ran out while there was a number for another line.
 pub record FindsNoRoom {R : Type 0} (reader : Reader R) (old : ReaderState) (from : R) (e : LineError) (to : R) : Type 0 where
   pub room : HasNoRoom reader old from to
+  pub numbered : old.passed + 1 < 2 ^ 64
   pub is : e ≡ why.Memory
 
 -- Why no line was found.
