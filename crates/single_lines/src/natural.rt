@@ -63,8 +63,9 @@ impl<R: CountedRead> Iterator for NaturalLines<R> {
             let error = self.lines.take_error()?;
             return Some(Err(error));
         }
+        let number = self.lines.number();
         match line_text(self.alloc, &self.lines) {
-            Ok(text) => Some(Ok(NaturalLine(self.lines.number(), text))),
+            Ok(text) => Some(Ok(NaturalLine(number, text))),
             Err(error) => {
                 self.lines.end();
                 Some(Err(LineError::from(error)))
