@@ -26,6 +26,7 @@ mod same {
     use std::fmt::Debug;
     use std::process::Abort;
 
+    /// Fails the test unless what was found is what was wanted.
     pub fn same<T: PartialEq + Debug + Copy>(rt: &impl Abort, found: T, wanted: T) {
         assert_eq!(*rt; found, wanted);
     }
