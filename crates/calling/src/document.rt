@@ -27,7 +27,7 @@ mod tests {
     fn falls_back_to_a_default(rt: HostRuntime) -> Result<(), Fail> {
         let mut document = Document::parse(rt.alloc(), b"port = 80\n", Encoding::UTF_8)?;
         assert_eq!(rt; value_or(&document, "port", "8080"), "80");
-        document.remove("port");
+        document.remove("port")?;
         assert_eq!(rt; value_or(&document, "port", "8080"), "8080");
         Ok(())
     }

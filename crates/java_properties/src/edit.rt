@@ -3,29 +3,26 @@
 ghost use Rattle.std.specs.Str.{chars};
 ghost use Rattle.properties_format.specs.Laws.{SplittingCommutes};
 ghost use Rattle.properties_text.specs.Encoding.{encoding_of};
-ghost use Rattle.java_properties.specs.Editing.{EditsAll, RemovesKey, SetsKey, SetsValue, edits_in};
+ghost use Rattle.java_properties.specs.Editing.{EditsAll, MakesEdit, RemovesKey, SetsKey, SetsValue, edit_in, edits_in};
 
 mod document;
 mod front;
 mod groups;
+mod index;
 mod kept;
 mod keys;
-mod lines;
 mod new_pair;
 mod place;
 mod result;
-mod slots;
 mod source;
 mod streams;
 mod value;
-mod values;
 
 pub use crate::edit::document::Document;
 use crate::edit::kept::spans_without_key;
 use crate::edit::new_pair::{layout_after, with_new_pair};
 use crate::edit::place::find_key;
 use crate::edit::result::{appended, reduced_to, replaced};
-use crate::edit::slots::Slots;
 use crate::edit::source::BodyStart;
 pub use crate::edit::streams::{read_source, write_source};
 use crate::edit::value::with_value;
@@ -186,11 +183,26 @@ pub fn edit_all(
     ensures splitting { SplittingCommutes (encoding_of encoding) source.now }
 {
     let opened = BodyStart::open(source, encoding)?;
-    let body = &source[opened.start..];
-    let is_marked = opened.start != 0;
-    let mut slots = Slots::parse(alloc, opened.encoding, body)?;
+    let _ = find_key(alloc, opened.encoding, &source[opened.start..], "")?;
+    let mut bytes = source.to_vec(alloc)?;
     for edit in edits {
-        slots.make(alloc, opened.encoding, body, is_marked, edit)?;
+        bytes = make(alloc, &bytes, encoding, edit)?;
     }
-    Ok(slots.to_bytes(alloc, source, opened.start)?)
+    Ok(bytes)
+}
+
+// Returns the source after an edit.
+fn make(
+    alloc: Global,
+    source: &[u8],
+    encoding: Encoding,
+    edit: &Edit,
+) -> Result<Vec<u8>, PropertiesError>
+    ensures { MakesEdit (encoding_of encoding) source.now (edit_in edit.now) result }
+{
+    match edit {
+        Edit::Put(key, value) => set_key(alloc, source, encoding, key, value),
+        Edit::Remove(key) => remove_key(alloc, source, encoding, key),
+        Edit::SetValue(key, value) => set_value(alloc, source, encoding, key, value),
+    }
 }

@@ -10,7 +10,7 @@ ghost use Rattle.properties_format.specs.Reading.Body.{is_pair_with};
 ghost use Rattle.properties_format.specs.Reading.Slots.{outcome_key};
 ghost use Rattle.properties_format.specs.Reading.Valued.{is_pair_to};
 ghost use Rattle.java_properties.specs.Maps.{characters};
-ghost use Rattle.java_properties.specs.BodyDocuments.{pair_characters, outcome_pair};
+ghost use Rattle.java_properties.specs.BodyIndex.{pair_characters, outcome_pair};
 ghost use Rattle.properties_format.specs.Split.{IsSplit};
 ghost use Rattle.properties_text.specs.Escaping.{holds_backslash};
 ghost use Rattle.java_properties.specs.BorrowedItems.{borrowed_entry, borrowed_content, is_borrowed, BorrowsPlain, found_bytes, found_content, found_entry, AreTextsIn, spans_of, IsFoundIn, IsTextIn};

@@ -1,9 +1,0 @@
-use Rattle.std.proofs.Common.{sym}
-use Rattle.java_properties.proofs.BodyDocuments.Edits.{slots-some, keys-made}
-use Rattle.java_properties.proofs.edit.document.Document.keys.Goals as goal
-
-pub keys-requires : goal.keys-requires
-keys-requires c = slots-some c.self.inside c.self.invariant
-
-pub returns : goal.returns
-returns c = rw (sym c.self.view_is) (keys-made c.self.inside c.self.invariant c.keys.result c.keys.ensures)
