@@ -302,7 +302,7 @@ no_bom-begins b = elim (cases_Bool (begins_with utf_8_bom b)) [
 ]
 
 -- a source starts with its body where it begins with no byte order mark,
-unmarked : {source : List ℕ} {e : Encoding} {opened : BodyStart} → IsInForce source e opened → (opened.start == 0) ≡ not (begins_like_bom source)
+pub unmarked : {source : List ℕ} {e : Encoding} {opened : BodyStart} → IsInForce source e opened → (opened.start == 0) ≡ not (begins_like_bom source)
 unmarked {source} {e} {opened} h =
     let size : length (bom_of source) ≡ opened.start = ap length (bom-front h) ∙ length-take-le opened.start source h.within in
     ap (λ n. n == 0) (sym size) ∙ no_bom-begins source
@@ -328,20 +328,26 @@ removed-edits {e} {source} {key} {bytes} is =
       keeps = key_removed-keeps e source key bytes meets.2;
     }
 
+-- The source with what is left of its body is its result.
+pub removed-bytes : {source : List ℕ} {e : Encoding} {opened : BodyStart} (key bytes : List ℕ) → IsInForce source e opened
+    → is_editable (encoding_of opened.encoding) ≡ true → AreSound (held_groups_of (encoding_of opened.encoding) (drop opened.start source))
+    → (let rest = without key (held_groups_of (encoding_of opened.encoding) (drop opened.start source)) in
+    bytes ≡ take opened.start source ++ ((if opened.start == 0 && begins_like_bom rest then line_feed ∷ [] else []) ++ rest))
+    → remove_key_result e source key ≡ edited bytes
+removed-bytes {source} {e} {opened} key bytes h ok sound made =
+    let rest = without key (held_groups_of (encoding_of opened.encoding) (drop opened.start source)) in
+    let set : key_removed e source key ≡ bytes =
+    ap (λ v. key_removed_in v source key) h.in_force
+    ∙ sym (made ∙ ap₂ (λ v b. v ++ ((if b && begins_like_bom rest then line_feed ∷ [] else []) ++ rest)) (sym (bom-front h)) (unmarked h)) in
+    ap (result_of e source) set ∙ result-made bytes h ok sound
+
 -- The source with the parts that are left is its result.
 pub removed-result : {source : List ℕ} {e : Encoding} {opened : BodyStart} (key bytes : List ℕ) (others : List BodySpan) → IsInForce source e opened
     → is_editable (encoding_of opened.encoding) ≡ true → AreOthersFound (encoding_of opened.encoding) (drop opened.start source) key others
     → bytes ≡ left_bytes source opened.start others → remove_key_result e source key ≡ edited bytes
 removed-result {source} {e} {opened} key bytes others h ok k made =
-    let f = encoding_of opened.encoding in
-    let body = drop opened.start source in
-    let rest = without key (held_groups_of f body) in
-    let set : key_removed e source key ≡ bytes =
-    ap (λ v. key_removed_in v source key) h.in_force
-    ∙ sym (made
-    ∙ ap (λ v. take opened.start source ++ ((if opened.start == 0 && begins_like_bom v then line_feed ∷ [] else []) ++ v)) k.bytes
-    ∙ ap₂ (λ v b. v ++ ((if b && begins_like_bom rest then line_feed ∷ [] else []) ++ rest)) (sym (bom-front h)) (unmarked h)) in
-    ap (result_of e source) set ∙ result-made bytes h ok k.sound
+    removed-bytes key bytes h ok k.sound
+    (made ∙ ap (λ v. take opened.start source ++ ((if opened.start == 0 && begins_like_bom v then line_feed ∷ [] else []) ++ v)) k.bytes)
 
 -- ---- edits in turn
 

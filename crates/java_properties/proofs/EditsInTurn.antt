@@ -35,22 +35,3 @@ result-made {e} {source} {bytes} edits scalar h = record {
   only = λ other k. edit_all_result-only e source edits other k ∙ sym (edit_all_result-only e source edits (edited bytes) h);
   reads = edit_all-reads e source edits bytes scalar h;
 }
-
-none-malformed : (how : Malformed) (n : ℕ) (entries : List Entry) → AreItems entries → IsFirstMalformed how n entries → ⊥
-none-malformed how n [] h k = k
-none-malformed how n (item m content ∷ entries) h k = none-malformed how n entries h k
-none-malformed how n (malformed kind m ∷ entries) h k = h
-none-malformed how n (read_fault m ∷ entries) h k = h
-
--- What edits made of a source is refused only for want of memory, so the source is.
-pub refused-again : {e : Encoding} {source middle : List ℕ} {error : PropertiesError} (edits : List Edit) (edit : Edit) (Makes : List ℕ → Type 0) → AreScalarEdits edits
-    → IsEditAllResult e source edits (edited middle) → IsRefusal (IsEditResult e middle (IsEdited e middle edit)) error
-    → IsRefusal (IsEditResult e source Makes) error
-refused-again {e} {source} {middle} {error} edits edit Makes scalar h refused =
-    by (edits-contents e source edits middle (readable e source h.0 h.1) scalar h.2).readable refused
-  where
-    by : IsReadable e middle → IsRefusal (IsEditResult e middle (IsEdited e middle edit)) error → IsRefusal (IsEditResult e source Makes) error
-    by r (inl k) = let a = k.0 in let b = r.editable in absurd (cc)
-    by r (inr (inl (how, n, m, is))) =
-        absurd (none-malformed how n m.1.0 (subst AreItems (sym (items_of-only e middle end m.1.0 m.1.1)) r.no_fault) m.1.2)
-    by r (inr (inr (supported, bare))) = inr (inr ((λ none. let a = h.0 in absurd (cc)), bare))

@@ -1,5 +1,5 @@
 -- The index of a body to which a pair with a new key was added.
-use Rattle.std.proofs.Common.{◌≡◌, ◌≢◌, ◌<◌, ◌≤◌, ℕ, ◌+◌, Bool, true, false, List, [], ◌∷◌, ◌++◌, Option, Some, None, All, take, drop, ◌-◌, length, length-drop, refl, ap, ap₂, sym, ◌∙◌, inl, inr, append_assoc, length-append, subst, arith}
+use Rattle.std.proofs.Common.{◌≡◌, ◌≢◌, ◌<◌, ◌≤◌, ℕ, ◌+◌, Bool, true, false, List, [], ◌∷◌, ◌++◌, Option, Some, None, All, take, drop, ◌-◌, ◌^◌, length, length-drop, refl, ap, ap₂, sym, ◌∙◌, inl, inr, append_assoc, length-append, subst, arith}
 use Rattle.std.specs.Prelude.{Result, Ok, Err, unwrap_or, if◌then◌else◌}
 use Rattle.properties_format.specs.Text.{LineEnding, lf, cr, scalar, carriage_return, line_ending_text}
 use Rattle.properties_format.specs.Encoding.{Encoding}
@@ -17,6 +17,8 @@ use Rattle.properties_format.specs.Reading.Body.{held_of, held_groups_of}
 use Rattle.properties_format.specs.Reading.Edited.{AreSound}
 use Rattle.properties_format.specs.Reading.Valued.{last_between, separator_by}
 use Rattle.properties_format.proofs.Body.Groups.{groups-bytes, held-body, held_groups_of-meets}
+use Rattle.properties_format.proofs.Edited.AppendedPair.{appended_groups, appended-held}
+use Rattle.properties_format.proofs.Edited.Closed.{IsSeam, closed-by, opened_by, put-seam, value-seam}
 use Rattle.properties_format.proofs.Edited.Contents.{ends-right}
 use Rattle.properties_format.proofs.Edited.Pair.{pair_text, pair-decoded, pair-whole, pair-outcome, pair-plain}
 use Rattle.properties_format.proofs.Edited.Steps.{final_group-push}
@@ -33,8 +35,8 @@ use Rattle.properties_format.specs.Edited.{added_ending}
 use Rattle.properties_format.specs.Writing.{is_empty}
 use Rattle.properties_format.proofs.Edited.Pair.{editable-own}
 use Rattle.properties_text.specs.Encoding.{encoding_of}
-use Rattle.java_properties.specs.BodyIndex.{AddsKey, AddsValue, AppendsPair, IsKeyAdded, GrowsIndex, IsIndex, IsPairAppended, IsStored, IsValueAdded, opened_closing, stored_at}
-use Rattle.java_properties.specs.BodyKeys.{IsKeyFound}
+use Rattle.java_properties.specs.BodyIndex.{AddsKey, AddsValue, AppendsPair, IsKeyAdded, GrowsIndex, IsIndex, IsPairAppended, IsValueAdded, PutsPair, PutsValue, last_span, opened_closing, stored_at}
+use Rattle.java_properties.specs.BodyKeys.{IsKeyFound, IsPlace}
 use Rattle.java_properties.specs.BodyValues.{IsLayoutAfter, unended_pair}
 use Rattle.java_properties.specs.Maps.{characters}
 use Rattle.java_properties.specs.Settings.{ending_of}
@@ -47,10 +49,10 @@ use Rattle.java_properties.specs.BodyKeys.{closing_bytes, closing_of}
 use Rattle.java_properties.specs.declared.edit.index.Index.{Index}
 use Rattle.java_properties.specs.declared.edit.place.BodySpan.{BodySpan}
 use Rattle.java_properties.specs.declared.edit.place.Closing.{Closing}
+use Rattle.java_properties.specs.declared.edit.place.Closing.TheVariants as closing
 use Rattle.java_properties.proofs.BodyKeys.{some-groups}
-use Rattle.java_properties.proofs.IndexClosed.{AreClosedBy, IsSeam, closed-by, opened_by}
-use Rattle.java_properties.proofs.IndexAppended.{appended_groups, appended-held}
-use Rattle.java_properties.proofs.IndexGrown.{grown-sound, grown-index}
+use Rattle.java_properties.proofs.IndexAppended.{appended-index, appended-sound}
+use Rattle.java_properties.proofs.IndexFound.{found-place}
 
 some-size : (x : List ℕ) → x ≢ [] → 0 < length x
 some-size [] h = absurd (h refl)
@@ -70,6 +72,11 @@ opened ending true opens = refl
 opened ending false true = refl
 opened ending false false = refl
 
+opened-fits : (ending : List ℕ) (c : Closing) → length (closing_bytes ending (opened_closing c)) ≤ length (closing_bytes ending c)
+opened-fits ending closing.Nothing = omega arith
+opened-fits ending closing.OneEnding = omega arith
+opened-fits ending closing.TwoEndings = let size = length-append ending ending in omega arith
+
 -- ---- a pair is added
 
 -- A body and its index, after a pair with these properties.
@@ -78,17 +85,18 @@ pub added-index : (e : Encoding) (by second : LineEnding) (body key value pb add
     → HoldsNoLineEnd pb → pb ≢ [] → IsWhole (record { number = 0; text = decoded_line e pb } ∷ [])
     → outcome_of (joined (record { number = 0; text = decoded_line e pb } ∷ [])) ≡ given (pair key value)
     → AreSound (held_groups_of e body) → IsIndex (held_groups_of e body) old
+    → length added < 2 ^ 64
     → added ≡ body ++ (closing_bytes (line_ending_text by) old.closing ++ (pb ++ line_ending_text second))
     → (let start = length body + length (closing_bytes (line_ending_text by) old.closing) in
     GrowsIndex key value (record { start = start; end = start + length pb }) (length body) (length (closing_bytes (line_ending_text by) (opened_closing old.closing))) old new)
     → AreSound (held_groups_of e added) × IsIndex (held_groups_of e added) new
-added-index e by second body key value pb added old new ok seam plain some whole outcome sounds h is grows =
+added-index e by second body key value pb added old new ok seam plain some whole outcome sounds h fits is grows =
     let gs = held_groups_of e body in
     let k = closed-by e by gs (groups-lined e body gs ok (held_groups_of-meets e body)) seam in
     let ending = line_ending_text by in
     let final : final_group gs ≡ k.final = ap final_group k.division ∙ final_group-push k.before k.final in
     let told : old.closing ≡ closing_of (is_empty_line k.final) (is_left_open k.final) =
-    elim h.closing [ inl none ↦ absurd (some-groups e body none) | inr closing ↦ closing ∙ ap (λ v. closing_of (is_empty_line v) (is_left_open v)) final ] in
+    elim h.closing [ inl none ↦ absurd (some-groups e body none) | inr stored ↦ stored ∙ ap (λ v. closing_of (is_empty_line v) (is_left_open v)) final ] in
     let sep : closing_bytes ending old.closing ≡ separation_by ending k.final = ap (closing_bytes ending) told ∙ separated ending (is_empty_line k.final) (is_left_open k.final) in
     let extra : closing_bytes ending (opened_closing old.closing) ≡ opened_by ending k.final =
     ap (λ c. closing_bytes ending (opened_closing c)) told ∙ opened ending (is_empty_line k.final) (is_left_open k.final) in
@@ -101,67 +109,48 @@ added-index e by second body key value pb added old new ok seam plain some whole
     let start : length body + length (closing_bytes ending old.closing) ≡ length (groups_bytes (k.before ++ k.left)) = omega arith in
     let more = some-size pb some in
     let behind : length (groups_bytes gs) < (length body + length (closing_bytes ending old.closing)) + length pb = omega arith in
-    let longer = rw (sym body_size, extra) at grows.longer in
+    let more_size = opened-fits ending old.closing in
+    let added_size = ap length is ∙ length-append body (closing_bytes ending old.closing ++ (pb ++ line_ending_text second))
+    ∙ ap (λ n. length body + n) (length-append (closing_bytes ending old.closing) (pb ++ line_ending_text second)) in
+    let place_fits : length (groups_bytes gs) + length (closing_bytes ending (opened_closing old.closing)) < 2 ^ 64 = omega arith in
+    let grows_at = subst (λ n. GrowsIndex key value (record { start = length body + length (closing_bytes ending old.closing); end = length body + length (closing_bytes ending old.closing) + length pb }) n
+    (length (closing_bytes ending (opened_closing old.closing))) old new) (sym body_size) grows in
     let groups : appended_groups e by second gs key value pb ok k plain some whole outcome ≡ held_groups_of e added =
     appended-held e by second gs key value pb ok k plain some whole outcome added bytes in (
-      subst AreSound groups
-          (grown-sound e by second gs key value pb ok k plain some whole outcome old grows.mid new _ h sounds grows.keeps start refl behind grows.pairs longer grows.last grows.closing),
+      subst AreSound groups (appended-sound e by second gs key value pb ok k plain some whole outcome sounds),
       subst (λ v. IsIndex v new) groups
-          (grown-index e by second gs key value pb ok k plain some whole outcome old grows.mid new _ h sounds grows.keeps start refl behind grows.pairs longer grows.last grows.closing),
+          (appended-index e by second gs key value pb ok k plain some whole outcome (length body + length (closing_bytes ending old.closing)) (length (closing_bytes ending (opened_closing old.closing)))
+          old new h (ap length extra) start behind place_fits grows_at),
     )
-
--- ---- line endings that fit
-
--- The last line ending of the groups does.
-pub value-seam : (e : Encoding) (gs : List (List HeldLine)) (h : AreLined e gs) (by : LineEnding) → by ≡ ending_among lf (held_in gs) → IsSeam by h
-value-seam e gs h by is q z =
-    let told = is ∙ ap (ending_among lf) h.held ∙ ending-held e lf h.ended h.last in
-    let m : by ≡ cr = told ∙ ap (λ v. unwrap_or v lf) q in
-    absurd (cc (z.1, m))
-
--- Lines of which the last ends in a CR, and nothing more.
-ended-cr : (e : Encoding) (ls : List Ended) → last_by ls ≡ Some cr → ends_in_cr (group_bytes (held_of e ls [])) ≡ true
-ended-cr e [] q = absurd (cc)
-ended-cr e (l ∷ []) q =
-    let by : l.by ≡ cr = cc in
-    ap (λ o. ends_in_cr (l.text ++ (line_ending_text o ++ []))) by ∙ ends-right l.text (carriage_return ∷ []) refl
-ended-cr e (l ∷ m ∷ ls) q =
-    ends-right l.text (line_ending_text l.by ++ group_bytes (held_of e (m ∷ ls) [])) (ends-right (line_ending_text l.by) (group_bytes (held_of e (m ∷ ls) [])) (ended-cr e (m ∷ ls) q))
-
--- A CR does where the groups end in one, and else an LF.
-pub put-seam : (e : Encoding) (gs : List (List HeldLine)) (h : AreLined e gs) (by : LineEnding) → (ends_in_cr (groups_bytes gs) ≡ true → by ≡ cr) → IsSeam by h
-put-seam e gs h by is q z =
-    let ends : ends_in_cr (groups_bytes gs) ≡ true =
-    ap ends_in_cr (groups-bytes gs ∙ ap group_bytes (h.held ∙ ap (held_of e h.ended) z.0)) ∙ ended-cr e h.ended q in
-    let m = is ends in
-    absurd (cc (z.1, m))
 
 -- ---- the two new pairs
 
 -- The pair that setting a value adds.
 pub value-added : (e : Encoding) (by : LineEnding) (body key value added : List ℕ) (first : Bool) (old new : Index) → is_editable e ≡ true → All scalar key → All scalar value
     → AreSound (held_groups_of e body) → IsIndex (held_groups_of e body) old → by ≡ ending_among lf (held_in (held_groups_of e body))
+    → length added < 2 ^ 64
     → (let pb = added_bytes e first key (separator_by key (last_between (held_groups_of e body))) value in
     let start = length body + length (closing_bytes (line_ending_text by) old.closing) in
     (added ≡ body ++ (closing_bytes (line_ending_text by) old.closing ++ (pb ++ line_ending_text by)))
     × GrowsIndex key value (record { start = start; end = start + length pb }) (length body) (length (closing_bytes (line_ending_text by) (opened_closing old.closing))) old new)
     → AreSound (held_groups_of e added) × IsIndex (held_groups_of e added) new
-value-added e by body key value added first old new ok k v sounds h is made =
+value-added e by body key value added first old new ok k v sounds h is fits made =
     let gs = held_groups_of e body in
     let sep = separator_by key (last_between gs) in
     let p = added-pair e first key sep value by ok k v (new_separator-fit gs key sep (new_separator-meets gs key)) in
     added-index e by by body key value (added_bytes e first key sep value) added old new ok (value-seam e gs (groups-lined e body gs ok (held_groups_of-meets e body)) by is) p.plain p.some p.whole
-    (sym (outcome_of-only _ (given (pair key value)) p.has_pair)) sounds h made.0 made.1
+    (sym (outcome_of-only _ (given (pair key value)) p.has_pair)) sounds h fits made.0 made.1
 
 -- The pair that setting a key adds.
 pub put-added : (e : Encoding) (by : LineEnding) (body key value added : List ℕ) (first : Bool) (old new : Index) → is_editable e ≡ true → All scalar key → All scalar value
     → AreSound (held_groups_of e body) → IsIndex (held_groups_of e body) old → (ends_in_cr body ≡ true → by ≡ cr)
+    → length added < 2 ^ 64
     → (let pb = pair_bytes e first key value in
     let start = length body + length (closing_bytes (line_ending_text by) old.closing) in
     (added ≡ body ++ (closing_bytes (line_ending_text by) old.closing ++ (pb ++ line_ending_text lf)))
     × GrowsIndex key value (record { start = start; end = start + length pb }) (length body) (length (closing_bytes (line_ending_text by) (opened_closing old.closing))) old new)
     → AreSound (held_groups_of e added) × IsIndex (held_groups_of e added) new
-put-added e by body key value added first old new ok k v sounds h is made =
+put-added e by body key value added first old new ok k v sounds h is fits made =
     let gs = held_groups_of e body in
     let pb = pair_bytes e first key value in
     let all : groups_bytes gs ≡ body = held-body e body gs ok (held_groups_of-meets e body) in
@@ -171,7 +160,7 @@ put-added e by body key value added first old new ok k v sounds h is made =
     ap (λ w. outcome_of (joined (record { number = 0; text = w } ∷ []))) (sym text) ∙ pair-outcome e first key value k v in
     added-index e by lf body key value pb added old new ok
     (put-seam e gs (groups-lined e body gs ok (held_groups_of-meets e body)) by (λ q. is (ap ends_in_cr (sym all) ∙ q)))
-    (pair-plain e first key value ok k v) (pair-some e first key value) whole outcome sounds h made.0 made.1
+    (pair-plain e first key value ok k v) (pair-some e first key value) whole outcome sounds h fits made.0 made.1
 
 -- ---- in a source
 
@@ -196,7 +185,7 @@ found-none e body key index sound h none =
     let gs = held_groups_of e body in
     record {
       sound = sound;
-      pair = subst (IsStored gs index.spans.items key) none (h.stored key);
+      pair = subst (IsPlace key gs) (ap (last_span index.spans.items) none) (found-place gs index h key);
       closing = λ source. elim h.closing [
         | inl empty ↦ absurd (some-groups e body empty)
         | inr told ↦ closes source (is_empty_line (final_group gs)) (is_left_open (final_group gs)) ∙ ap (closing_bytes (added_ending source)) (sym told)
@@ -210,9 +199,10 @@ pub pair-added : (opened : BodyStart) (old new key value line : List ℕ) (layou
     → All scalar key → All scalar value → IsLayoutAfter (encoding_of opened.encoding) (drop opened.start old) was.closing key layout
     → line ≡ unended_pair (output_encoding (encoding_of opened.encoding)) (is_empty (drop opened.start old ++ closing_bytes (line_ending_text (ending_of layout.ending)) was.closing)) key
     (characters layout.separator) value
+    → length new < 2 ^ 64
     → IsPairAppended opened key value (line_ending_text (ending_of layout.ending)) line (line_ending_text (ending_of layout.ending)) old was new is
     → IsValueAdded opened key value old new is
-pair-added opened old new key value line layout was is ok start sound h none k v l printed made =
+pair-added opened old new key value line layout was is ok start sound h none k v l printed fits made =
     let f = encoding_of opened.encoding in
     let body = drop opened.start old in
     let gs = held_groups_of f body in
@@ -226,7 +216,9 @@ pair-added opened old new key value line layout was is ok start sound h none k v
     let place : length old - opened.start ≡ length body = sym (length-drop opened.start old) in
     let bytes : drop opened.start new ≡ body ++ (separation ++ (line ++ ending)) = ap (drop opened.start) made.bytes ∙ drop-front opened.start old (separation ++ (line ++ ending)) start in
     let grown = rw (place, line_is) at made.index in
-    let added = value-added f by body key value (drop opened.start new) first was is ok k v sound h (l.ends f gs ok (held_groups_of-meets f body))
+    let left_size = length-drop opened.start new in
+    let left_fits : length (drop opened.start new) < 2 ^ 64 = omega arith in
+    let added = value-added f by body key value (drop opened.start new) first was is ok k v sound h (l.ends f gs ok (held_groups_of-meets f body)) left_fits
     (bytes ∙ ap (λ w. body ++ (separation ++ (w ++ ending))) line_is, grown) in
     record {
       set = λ e force. value-edits k v
@@ -250,9 +242,10 @@ pub key-added : (opened : BodyStart) (old new key value line : List ℕ) (by : L
     → IsIndex (held_groups_of (encoding_of opened.encoding) (drop opened.start old)) was → stored_at was.pairs.entries key ≡ None
     → All scalar key → All scalar value → by ≡ (if ends_in_cr old then cr else lf)
     → line ≡ pair_bytes (output_encoding (encoding_of opened.encoding)) (is_empty (drop opened.start old ++ closing_bytes (line_ending_text by) was.closing)) key value
+    → length new < 2 ^ 64
     → IsPairAppended opened key value (line_ending_text by) line (line_ending_text lf) old was new is
     → IsKeyAdded opened key value old new is
-key-added opened old new key value line by was is ok start sound h none k v fits printed made =
+key-added opened old new key value line by was is ok start sound h none k v ends printed fits made =
     let f = encoding_of opened.encoding in
     let body = drop opened.start old in
     let gs = held_groups_of f body in
@@ -264,17 +257,19 @@ key-added opened old new key value line by was is ok start sound h none k v fits
     let bytes : drop opened.start new ≡ body ++ (separation ++ (line ++ line_ending_text lf)) =
     ap (drop opened.start) made.bytes ∙ drop-front opened.start old (separation ++ (line ++ line_ending_text lf)) start in
     let grown = rw (place, line_is) at made.index in
+    let left_size = length-drop opened.start new in
+    let left_fits : length (drop opened.start new) < 2 ^ 64 = omega arith in
     let seam : ends_in_cr body ≡ true → by ≡ cr = λ q.
     let whole : ends_in_cr old ≡ true = ap ends_in_cr (sym (take-append-drop opened.start old)) ∙ ends-right (take opened.start old) body q in
-    fits ∙ cond-true (ends_in_cr old) cr lf whole in
-    let added = put-added f by body key value (drop opened.start new) first was is ok k v sound h seam
+    ends ∙ cond-true (ends_in_cr old) cr lf whole in
+    let added = put-added f by body key value (drop opened.start new) first was is ok k v sound h seam left_fits
     (bytes ∙ ap (λ w. body ++ (separation ++ (w ++ line_ending_text lf))) line_is, grown) in
     record {
       set = λ e force. set-edits k v
           (appended-result key value new force ok (found-none f body key was sound h none) refl
           (made.bytes ∙ ap (λ w. old ++ (separation ++ (w ++ line_ending_text lf))) printed
           ∙ ap (λ b. let s : List ℕ = closing_bytes (line_ending_text b) was.closing in
-          old ++ (s ++ (pair_bytes (output_encoding f) (is_empty (body ++ s)) key value ++ line_ending_text lf))) fits));
+          old ++ (s ++ (pair_bytes (output_encoding f) (is_empty (body ++ s)) key value ++ line_ending_text lf))) ends));
       sound = added.0;
       is_index = added.1;
     }
@@ -284,3 +279,16 @@ pub adds-key : {E : Type 0} (result : Result Unit E) (opened : BodyStart) (key v
     → AppendsPair opened key value by line ending old was result new is → AddsKey opened key value old was result new is
 adds-key (Ok done) opened key value by line ending old new was is made none h = made h
 adds-key (Err error) opened key value by line ending old new was is made none h = (h.0, h.1 none)
+
+-- ---- a key that is there or not
+
+-- So it is in each encoding.
+pub puts-value : {E : Type 0} (opened : BodyStart) (key value old new : List ℕ) (was is : Index) (result : Result Unit E) → AddsValue opened key value old was result new is
+    → PutsValue opened key value old was result new is
+puts-value opened key value old new was is (Ok done) h = λ e force. record { set = h.set e force; sound = h.sound; is_index = h.is_index }
+puts-value opened key value old new was is (Err error) h = h
+
+pub puts-pair : {E : Type 0} (opened : BodyStart) (key value old new : List ℕ) (was is : Index) (result : Result Unit E) → AddsKey opened key value old was result new is
+    → PutsPair opened key value old was result new is
+puts-pair opened key value old new was is (Ok done) h = λ e force. record { set = h.set e force; sound = h.sound; is_index = h.is_index }
+puts-pair opened key value old new was is (Err error) h = h

@@ -1,41 +1,42 @@
--- A value in place, and where the pairs are then.
+-- A value in place, and the index then.
 use Rattle.std.proofs.Common.{◌≡◌, ◌==◌, ◌<◌, ◌≤◌, ℕ, ◌+◌, ◌-◌, ◌^◌, Bool, true, false, List, [], ◌∷◌, ◌++◌, All, length, take, drop, refl, ap, ap₂, sym, ◌∙◌, subst, inl, inr, length-append, length-drop, arith}
 use Rattle.std.specs.Prelude.{Some, None, if◌then◌else◌}
 use Rattle.std.proofs.Math.Seq.{drop-append_seam}
-use Rattle.std.proofs.lemmas.Bool.{cases_Bool, cases_lt, cond-true, cond-false}
+use Rattle.std.proofs.lemmas.Bool.{cases_Bool, cond-true, cond-false}
 use Rattle.std.proofs.lemmas.List.{length-take-le}
 use Rattle.properties_format.specs.Text.{scalar}
-use Rattle.properties_format.specs.Encoding.{Encoding, InForce}
+use Rattle.properties_format.specs.Encoding.{Encoding, InForce, output_encoding}
+use Rattle.properties_format.specs.Groups.{IsWhole, joined}
+use Rattle.properties_format.specs.Entries as content
+use Rattle.properties_format.specs.Items.{given}
 use Rattle.properties_format.specs.Printing.{encoded_text}
-use Rattle.properties_format.specs.Body.{HeldLine, groups_bytes, ending_bytes, last_ending}
-use Rattle.properties_format.specs.Edited.{bom_of, separation, added_ending, is_editable, is_empty_line, is_left_open, final_group, edited}
-use Rattle.properties_format.specs.Valued.{value_text}
+use Rattle.properties_format.specs.Body.{HeldLine, HasKey, as_lines, groups_bytes, ending_bytes, last_ending}
+use Rattle.properties_format.specs.Edited.{bom_of, separation, added_ending, is_editable, is_empty_line, is_left_open, final_group, edited, pair_bytes}
+use Rattle.properties_format.specs.Valued.{HasPair, value_text}
 use Rattle.properties_format.specs.Reading.Body.{held_groups_of}
-use Rattle.properties_format.specs.Reading.Edited.{AreSound, KeyPlace, last_place}
+use Rattle.properties_format.specs.Reading.Edited.{AreSound, key_set, key_set_in, last_place, set_at}
 use Rattle.properties_format.specs.Reading.Slots.{unended_bytes}
-use Rattle.properties_format.specs.Reading.Valued.{front_of, between_of, has_value, revalued_at, valued_at, value_set, value_set_in, set_value_result}
+use Rattle.properties_format.specs.Reading.Valued.{front_of, between_of, has_value, revalued_at, valued_at, value_set, value_set_in}
 use Rattle.properties_format.proofs.Body.Groups.{held_groups_of-meets, held-body}
 use Rattle.properties_format.proofs.Edited.Made as made
 use Rattle.properties_format.proofs.Edited.Made.{last_place-meets}
+use Rattle.properties_format.proofs.Edited.Replaced.{reput-of}
+use Rattle.properties_format.proofs.Items.Unique.{outcome_of-only}
+use Rattle.properties_format.proofs.Slots.Merged.{AreInTurn, in-turn}
 use Rattle.properties_text.specs.Encoding.{encoding_of}
-use Rattle.java_properties.specs.BodyIndex.{IsMoved, IsSpanMoved}
+use Rattle.java_properties.specs.BodyIndex.{FollowsPair, IsIndex, IsPairPut, IsValuePut, KeepsNothing, outcome}
 use Rattle.java_properties.specs.BodyKeys.{IsPlaceOf, IsKeyFound, closing_bytes, closing_of}
 use Rattle.java_properties.specs.BodyValues.{IsPairAlone, revalued_in}
-use Rattle.java_properties.specs.Editing.{HasValueSet}
 use Rattle.java_properties.specs.Sources.{IsInForce}
+use Rattle.java_properties.specs.declared.edit.index.Index.{Index}
 use Rattle.java_properties.specs.declared.edit.place.BodySpan.{BodySpan}
 use Rattle.java_properties.specs.declared.edit.place.KeyPlace as place
 use Rattle.java_properties.specs.declared.edit.source.BodyStart.{BodyStart}
-use Rattle.java_properties.proofs.Editing.{bom-front, place-split, result-made}
-use Rattle.java_properties.proofs.SetValues.{value-edits, revalued-result, found-alone}
-use Rattle.java_properties.proofs.IndexMoved.{size-around, place-moved, none-moved}
+use Rattle.java_properties.proofs.Editing.{bom-front, place-split, replaced-result, result-made, set-edits}
+use Rattle.java_properties.proofs.SetValues.{alone-value, value-edits, revalued-result, found-alone}
+use Rattle.java_properties.proofs.IndexChanged.{IsLastTold, changed-index, changed-sound, last-told, whole-closed}
 use Rattle.java_properties.proofs.IndexRevalued.{regrouped}
-use Rattle.java_properties.proofs.IndexReput.{reput-of}
-use Rattle.properties_format.specs.Encoding.{output_encoding}
-use Rattle.properties_format.specs.Edited.{pair_bytes}
-use Rattle.properties_format.specs.Reading.Edited.{key_set, key_set_in, set_at}
-use Rattle.java_properties.specs.Editing.{IsSet}
-use Rattle.java_properties.proofs.Editing.{replaced-result, set-edits}
+use Rattle.java_properties.proofs.IndexSpans.{size-around}
 
 -- ---- what is found without a search
 
@@ -96,152 +97,131 @@ module _ (opened : BodyStart) (old : List ℕ) (ok : is_editable (encoding_of op
         omega arith
   ]
 
+-- Where nothing is done, nothing changes.
+pub keeps-nothing : (groups : List (List HeldLine)) (index : Index) → IsIndex groups index → KeepsNothing index index
+keeps-nothing groups index h = record { stored = λ k. refl; spans = inl refl; closing = refl; ordered = h.ordered }
+
 -- ---- the source after it
 
--- a part that nothing moves
-stays : (end : ℕ) (s u : BodySpan) → s.start < 2 ^ 64 → s.end < 2 ^ 64 → IsSpanMoved end end s u → s ≡ u
-stays end s u a b moved = ap₂ (λ m n. let v : BodySpan = record { start = m; end = n } in v) (one s.start u.start a moved.0) (one s.end u.end b moved.1)
-  where
-    one : (p q : ℕ) → p < 2 ^ 64 → IsMoved end end p q → p ≡ q
-    one p q fits m = elim (cases_lt p end) [
-      | inl low ↦ sym (m.before low)
-      | inr high ↦ let is = m.behind high (omega arith) in omega arith
-    ]
+some-value : (key : List ℕ) (g : List HeldLine) → HasKey key g → (was : List ℕ) × (outcome g ≡ given (content.pair key was))
+some-value key g (was, h) = (was, sym (outcome_of-only (joined (as_lines g)) (given (content.pair key was)) h))
 
-pub record IsInPlace (e : Encoding) (opened : BodyStart) (old new key value : List ℕ) (pair : BodySpan) : Type 0 where
-  pub set : HasValueSet e old key value new
-  pub places : (k : List ℕ) (s u : BodySpan) → IsPlaceOf k (held_groups_of (encoding_of opened.encoding) (drop opened.start old)) s
-      → IsSpanMoved pair.end (pair.end + length new - length old) s u → IsPlaceOf k (held_groups_of (encoding_of opened.encoding) (drop opened.start new)) u
-  pub none : (k : List ℕ) → last_place k (held_groups_of (encoding_of opened.encoding) (drop opened.start old)) ≡ None
-      → last_place k (held_groups_of (encoding_of opened.encoding) (drop opened.start new)) ≡ None
+-- The group that a pair is in, and the source, after it was replaced.
+module _ (e : Encoding) (opened : BodyStart) (old new key value : List ℕ) (pair : BodySpan) (was is : Index) (v : All scalar value) (h : IsInForce old e opened)
+    (ok : is_editable (encoding_of opened.encoding) ≡ true) (sound : AreSound (held_groups_of (encoding_of opened.encoding) (drop opened.start old)))
+    (at : IsPlaceOf key (held_groups_of (encoding_of opened.encoding) (drop opened.start old)) pair)
+    (index : IsIndex (held_groups_of (encoding_of opened.encoding) (drop opened.start old)) was) (old_fits : length old < 2 ^ 63) (new_fits : length new < 2 ^ 63) where
+  -- The groups of the new source are those of the old one with one replaced, and the index follows.
+  pub followed-index : (group : List HeldLine) (edited_body : List ℕ) → new ≡ bom_of old ++ edited_body → at.place.before ++ group ∷ at.place.after ≡ held_groups_of (encoding_of opened.encoding) edited_body
+      → HasPair key value group
+      → last_ending group ≡ last_ending at.place.group → is_empty_line group ≡ false → IsWhole (as_lines group)
+      → FollowsPair key value pair.end (pair.end + length new - length old) (opened.start + pair.end == length old) was is
+      → AreSound (held_groups_of (encoding_of opened.encoding) (drop opened.start new)) × IsIndex (held_groups_of (encoding_of opened.encoding) (drop opened.start new)) is
+  followed-index group edited_body whole groups has ending full closed follows =
+      let f = encoding_of opened.encoding in
+      let body = drop opened.start old in
+      let gs = held_groups_of f body in
+      let p = at.place in
+      let m = subst (made.IsPlace key gs) at.is (last_place-meets key gs) in
+      let start_size : length (take opened.start old) ≡ opened.start = length-take-le opened.start old h.within in
+      let front : new ≡ take opened.start old ++ edited_body = whole ∙ ap (λ w. w ++ edited_body) (bom-front h) in
+      let rest : drop opened.start new ≡ edited_body = ap₂ drop (sym start_size) front ∙ drop-append_seam (take opened.start old) edited_body in
+      let all : groups_bytes gs ≡ body = held-body f body gs ok (held_groups_of-meets f body) in
+      let new_size : length new ≡ opened.start + length edited_body =
+      ap length front ∙ length-append (take opened.start old) edited_body ∙ ap (λ n. n + length edited_body) start_size in
+      let old_size : length body ≡ length old - opened.start = length-drop opened.start old in
+      let start_in = h.within in
+      let next : List (List HeldLine) = p.before ++ group ∷ p.after in
+      let next_groups : next ≡ held_groups_of f (drop opened.start new) = groups ∙ ap (held_groups_of f) (sym rest) in
+      let next_size : length (groups_bytes next) ≡ length edited_body =
+      ap length (ap groups_bytes groups ∙ held-body f edited_body (held_groups_of f edited_body) ok (held_groups_of-meets f edited_body)) in
+      let next_parts = size-around p.before group p.after in
+      let old_whole = ap length (sym all ∙ ap groups_bytes at.division) in
+      let old_parts : length body ≡ _ = old_whole ∙ size-around p.before p.group p.after in
+      let ending_size = ap (λ o. length (ending_bytes o)) ending in
+      let starts = at.starts in
+      let ends = at.ends in
+      let some = (regrouped f body key value p ok v m).old_size in
+      let new_is : pair.end + length new - length old ≡ length (groups_bytes p.before) + length (unended_bytes group) = omega arith in
+      let old_is : pair.end ≡ length (groups_bytes p.before) + length (unended_bytes p.group) = omega arith in
+      let fits : length (groups_bytes next) < 2 ^ 64 = omega arith in
+      let was_pair = some-value key p.group m.has in
+      let is_pair = sym (outcome_of-only (joined (as_lines group)) (given (content.pair key value)) has) in
+      let turn = subst (AreInTurn f) at.division (in-turn f body gs ok (held_groups_of-meets f body)) in
+      let told : IsLastTold (opened.start + pair.end == length old) p.after =
+      last-told f p.before p.group p.after (opened.start + pair.end) (length old) opened.start turn (omega arith) (omega arith) in
+      let left = whole-closed group closed in (
+        subst AreSound next_groups
+            (changed-sound p.before p.group group p.after key was_pair.0 value was_pair.1 is_pair m.no_later ending some pair.end (pair.end + length new - length old) old_is new_is fits full left
+            (subst AreSound at.division sound)),
+        subst (λ w. IsIndex w is) next_groups
+            (changed-index p.before p.group group p.after key was_pair.0 value was_pair.1 is_pair m.no_later ending some pair.end (pair.end + length new - length old) old_is new_is fits full left
+            (opened.start + pair.end == length old) was is told (subst (λ w. IsIndex w was) at.division index) follows),
+      )
 
-pub in-place : (e : Encoding) (opened : BodyStart) (old new key value : List ℕ) (pair : BodySpan) → All scalar key → All scalar value → IsInForce old e opened
-    → is_editable (encoding_of opened.encoding) ≡ true → AreSound (held_groups_of (encoding_of opened.encoding) (drop opened.start old))
-    → IsPlaceOf key (held_groups_of (encoding_of opened.encoding) (drop opened.start old)) pair
-    → ((group : List HeldLine)
-    × (held_groups_of (encoding_of opened.encoding) (take ((opened.start + pair.end) - (opened.start + pair.start)) (drop (opened.start + pair.start) old)) ≡ group ∷ [])
-    × (new ≡ revalued_in (encoding_of opened.encoding) old (opened.start + pair.start) (opened.start + pair.end) value group))
-    → length old < 2 ^ 63 → length new < 2 ^ 63 → IsInPlace e opened old new key value pair
-in-place e opened old new key value pair k v h ok sound at revalues old_fits new_fits =
-    let f = encoding_of opened.encoding in
-    let body = drop opened.start old in
-    let gs = held_groups_of f body in
-    let p = at.place in
-    let result = revalued-result key value new pair h ok (found-at f body key pair sound at) refl revalues in
-    let set = value_set e old key value in
-    let same : edited set ≡ edited new = sym (result-made set h ok sound) ∙ result in
-    let set_is : set ≡ new = cc in
-    let made_is : set ≡ bom_of old ++ valued_at f gs key value (Some p) =
-    ap (λ w. value_set_in w old key value) h.in_force ∙ ap (λ w. bom_of old ++ valued_at f gs key value w) at.is in
-    let start_size : length (take opened.start old) ≡ opened.start = length-take-le opened.start old h.within in
-    let whole : new ≡ take opened.start old ++ valued_at f gs key value (Some p) = sym set_is ∙ made_is ∙ ap (λ w. w ++ valued_at f gs key value (Some p)) (bom-front h) in
-    let rest : drop opened.start new ≡ valued_at f gs key value (Some p) =
-    ap₂ drop (sym start_size) whole ∙ drop-append_seam (take opened.start old) (valued_at f gs key value (Some p)) in
-    let all : groups_bytes gs ≡ body = held-body f body gs ok (held_groups_of-meets f body) in
-    let new_size : length new ≡ opened.start + length (valued_at f gs key value (Some p)) =
-    ap length whole ∙ length-append (take opened.start old) (valued_at f gs key value (Some p)) ∙ ap (λ n. n + length (valued_at f gs key value (Some p))) start_size in
-    let old_size : length body ≡ length old - opened.start = length-drop opened.start old in
-    let start_in = h.within in
-    elim (cases_Bool (has_value value p.group)) [
-      | inl there ↦
-          let keeps : valued_at f gs key value (Some p) ≡ body = cond-true (has_value value p.group) (groups_bytes gs) (revalued_at f value p) there ∙ all in
-          let groups : gs ≡ held_groups_of f (drop opened.start new) = ap (held_groups_of f) (sym (rest ∙ keeps)) in
-          let keeps_size = ap length keeps in
-          let ends : pair.end + length new - length old ≡ pair.end = omega arith in
-          record {
-            set = value-edits k v result;
-            places = λ j s u q moved.
-                let split = place-split f body j s ok q in
-                let ordered = split.ordered in
-                let within = split.within in
-                let is = stays pair.end s u (omega arith) (omega arith) (subst (λ n. IsSpanMoved pair.end n s u) ends moved) in
-                subst (λ w. IsPlaceOf j w u) groups (subst (IsPlaceOf j gs) is q);
-            none = λ j q. subst (λ w. last_place j w ≡ None) groups q;
-          }
-      | inr other ↦
-          let changed : valued_at f gs key value (Some p) ≡ revalued_at f value p = cond-false (has_value value p.group) (groups_bytes gs) (revalued_at f value p) other in
-          let m = subst (made.IsPlace key gs) at.is (last_place-meets key gs) in
-          let r = regrouped f body key value p ok v m in
-          let next : List (List HeldLine) = p.before ++ r.group ∷ p.after in
-          let groups : next ≡ held_groups_of f (drop opened.start new) = r.is_groups ∙ ap (held_groups_of f) (sym (rest ∙ changed)) in
-          let next_body : groups_bytes next ≡ revalued_at f value p =
-          ap groups_bytes r.is_groups ∙ held-body f (revalued_at f value p) (held_groups_of f (revalued_at f value p)) ok (held_groups_of-meets f (revalued_at f value p)) in
-          let next_size : length (groups_bytes next) ≡ length (valued_at f gs key value (Some p)) = ap length next_body ∙ ap length (sym changed) in
-          let next_parts = size-around p.before r.group p.after in
-          let old_parts : length body ≡ _ = ap length (sym all ∙ ap groups_bytes at.division) ∙ size-around p.before p.group p.after in
-          let ending_size = ap (λ o. length (ending_bytes o)) r.ending in
-          let starts = at.starts in
-          let ends = at.ends in
-          let new_is : pair.end + length new - length old ≡ pair.start + length (unended_bytes r.group) = omega arith in
-          record {
-            set = value-edits k v result;
-            places = λ j s u q moved.
-                subst (λ w. IsPlaceOf j w u) groups
-                (place-moved key value p.before p.group r.group p.after m.has r.has_pair r.ending pair at.starts at.ends r.old_size (pair.end + length new - length old) new_is (omega arith)
-                j s u (subst (λ w. IsPlaceOf j w s) m.division q) moved);
-            none = λ j q.
-                subst (λ w. last_place j w ≡ None) groups
-                (none-moved key value p.before p.group r.group p.after m.has r.has_pair r.ending pair at.starts at.ends r.old_size (pair.end + length new - length old) new_is (omega arith)
-                j (subst (λ w. last_place j w ≡ None) m.division q));
-          }
-    ]
+  -- The pair has another value.
+  pub revalued-index : All scalar key
+      → ((group : List HeldLine)
+      × (held_groups_of (encoding_of opened.encoding) (take ((opened.start + pair.end) - (opened.start + pair.start)) (drop (opened.start + pair.start) old)) ≡ group ∷ [])
+      × (has_value value group ≡ false)
+      × (new ≡ revalued_in (encoding_of opened.encoding) old (opened.start + pair.start) (opened.start + pair.end) value group))
+      → FollowsPair key value pair.end (pair.end + length new - length old) (opened.start + pair.end == length old) was is
+      → IsValuePut e opened key value old new is
+  revalued-index k revalues follows =
+      let f = encoding_of opened.encoding in
+      let body = drop opened.start old in
+      let gs = held_groups_of f body in
+      let p = at.place in
+      let m = subst (made.IsPlace key gs) at.is (last_place-meets key gs) in
+      let result = revalued-result key value new pair h ok (found-at f body key pair sound at) refl (revalues.0, revalues.1, revalues.3) in
+      let set = value_set e old key value in
+      let same : edited set ≡ edited new = sym (result-made set h ok sound) ∙ result in
+      let set_is : set ≡ new = cc in
+      let other : has_value value p.group ≡ false = sym (alone-value old key value opened pair ok at revalues.0 revalues.1) ∙ revalues.2 in
+      let edited_body = revalued_at f value p in
+      let whole : new ≡ bom_of old ++ edited_body =
+      sym set_is
+      ∙ ap (λ w. value_set_in w old key value) h.in_force
+      ∙ ap (λ w. bom_of old ++ valued_at f gs key value w) at.is
+      ∙ ap (λ w. bom_of old ++ w) (cond-false (has_value value p.group) (groups_bytes gs) edited_body other) in
+      let r = regrouped f body key value p ok v m in
+      let kept = followed-index r.group edited_body whole r.is_groups r.has_pair r.ending r.full r.whole follows in
+      record { set = value-edits k v result; sound = kept.0; is_index = kept.1 }
 
--- ---- a pair that is printed anew
+  -- The printed pair is in its place.
+  pub reput-index : All scalar key
+      → new ≡ take (opened.start + pair.start) old
+      ++ (pair_bytes (output_encoding (encoding_of opened.encoding)) (pair.start == 0) key value ++ drop (opened.start + pair.end) old)
+      → FollowsPair key value pair.end (pair.end + length new - length old) (opened.start + pair.end == length old) was is
+      → IsPairPut e opened key value old new is
+  reput-index k bytes follows =
+      let f = encoding_of opened.encoding in
+      let body = drop opened.start old in
+      let gs = held_groups_of f body in
+      let p = at.place in
+      let m = subst (made.IsPlace key gs) at.is (last_place-meets key gs) in
+      let result = replaced-result key value new pair h ok (found-at f body key pair sound at) refl bytes in
+      let set = key_set e old key value in
+      let same : edited set ≡ edited new = sym (result-made set h ok sound) ∙ result in
+      let set_is : set ≡ new = cc in
+      let edited_body = set_at f old gs key value (Some p) in
+      let whole : new ≡ bom_of old ++ edited_body =
+      sym set_is ∙ ap (λ w. key_set_in w old key value) h.in_force ∙ ap (λ w. bom_of old ++ set_at f old gs key value w) at.is in
+      let r = reput-of f old body key value p.before p.group p.after ok k v m.has m.division in
+      let kept = followed-index r.group edited_body whole r.is_groups r.has_pair r.ending r.full r.whole follows in
+      record { set = set-edits k v result; sound = kept.0; is_index = kept.1 }
 
-pub record IsPutInPlace (e : Encoding) (opened : BodyStart) (old new key value : List ℕ) (pair : BodySpan) : Type 0 where
-  pub set : IsSet e old key value new
-  pub places : (k : List ℕ) (s u : BodySpan) → IsPlaceOf k (held_groups_of (encoding_of opened.encoding) (drop opened.start old)) s
-      → IsSpanMoved pair.end (pair.end + length new - length old) s u → IsPlaceOf k (held_groups_of (encoding_of opened.encoding) (drop opened.start new)) u
-  pub none : (k : List ℕ) → last_place k (held_groups_of (encoding_of opened.encoding) (drop opened.start old)) ≡ None
-      → last_place k (held_groups_of (encoding_of opened.encoding) (drop opened.start new)) ≡ None
-
-pub put-in-place : (e : Encoding) (opened : BodyStart) (old new key value : List ℕ) (pair : BodySpan) → All scalar key → All scalar value → IsInForce old e opened
-    → is_editable (encoding_of opened.encoding) ≡ true → AreSound (held_groups_of (encoding_of opened.encoding) (drop opened.start old))
-    → IsPlaceOf key (held_groups_of (encoding_of opened.encoding) (drop opened.start old)) pair
-    → new ≡ take (opened.start + pair.start) old
-    ++ (pair_bytes (output_encoding (encoding_of opened.encoding)) (pair.start == 0) key value ++ drop (opened.start + pair.end) old)
-    → length old < 2 ^ 63 → length new < 2 ^ 63 → IsPutInPlace e opened old new key value pair
-put-in-place e opened old new key value pair k v h ok sound at bytes old_fits new_fits =
-    let f = encoding_of opened.encoding in
-    let body = drop opened.start old in
-    let gs = held_groups_of f body in
-    let p = at.place in
-    let m = subst (made.IsPlace key gs) at.is (last_place-meets key gs) in
-    let result = replaced-result key value new pair h ok (found-at f body key pair sound at) refl bytes in
-    let set = key_set e old key value in
-    let same : edited set ≡ edited new = sym (result-made set h ok sound) ∙ result in
-    let set_is : set ≡ new = cc in
-    let made_is : set ≡ bom_of old ++ set_at f old gs key value (Some p) =
-    ap (λ w. key_set_in w old key value) h.in_force ∙ ap (λ w. bom_of old ++ set_at f old gs key value w) at.is in
-    let start_size : length (take opened.start old) ≡ opened.start = length-take-le opened.start old h.within in
-    let whole : new ≡ take opened.start old ++ set_at f old gs key value (Some p) = sym set_is ∙ made_is ∙ ap (λ w. w ++ set_at f old gs key value (Some p)) (bom-front h) in
-    let rest : drop opened.start new ≡ set_at f old gs key value (Some p) =
-    ap₂ drop (sym start_size) whole ∙ drop-append_seam (take opened.start old) (set_at f old gs key value (Some p)) in
-    let all : groups_bytes gs ≡ body = held-body f body gs ok (held_groups_of-meets f body) in
-    let new_size : length new ≡ opened.start + length (set_at f old gs key value (Some p)) =
-    ap length whole ∙ length-append (take opened.start old) (set_at f old gs key value (Some p)) ∙ ap (λ n. n + length (set_at f old gs key value (Some p))) start_size in
-    let old_size : length body ≡ length old - opened.start = length-drop opened.start old in
-    let start_in = h.within in
-    let r = reput-of f old body key value p.before p.group p.after ok k v m.has m.division in
-    let some = (regrouped f body key value p ok v m).old_size in
-    let next : List (List HeldLine) = p.before ++ r.group ∷ p.after in
-    let groups : next ≡ held_groups_of f (drop opened.start new) = r.is_groups ∙ ap (held_groups_of f) (sym rest) in
-    let next_size : length (groups_bytes next) ≡ length (set_at f old gs key value (Some p)) =
-    ap length (ap groups_bytes r.is_groups ∙ held-body f (set_at f old gs key value (Some p)) (held_groups_of f (set_at f old gs key value (Some p))) ok (held_groups_of-meets f (set_at f old gs key value (Some p)))) in
-    let next_parts = size-around p.before r.group p.after in
-    let old_parts : length body ≡ _ = ap length (sym all ∙ ap groups_bytes at.division) ∙ size-around p.before p.group p.after in
-    let ending_size = ap (λ o. length (ending_bytes o)) r.ending in
-    let starts = at.starts in
-    let ends = at.ends in
-    let new_is : pair.end + length new - length old ≡ pair.start + length (unended_bytes r.group) = omega arith in
-    record {
-      set = set-edits k v result;
-      places = λ j s u q moved.
-          subst (λ w. IsPlaceOf j w u) groups
-          (place-moved key value p.before p.group r.group p.after m.has r.has_pair r.ending pair at.starts at.ends some (pair.end + length new - length old) new_is (omega arith)
-          j s u (subst (λ w. IsPlaceOf j w s) m.division q) moved);
-      none = λ j q.
-          subst (λ w. last_place j w ≡ None) groups
-          (none-moved key value p.before p.group r.group p.after m.has r.has_pair r.ending pair at.starts at.ends some (pair.end + length new - length old) new_is (omega arith)
-          j (subst (λ w. last_place j w ≡ None) m.division q));
-    }
+  -- The pair has the value.
+  pub same-value : All scalar key
+      → ((group : List HeldLine)
+      × (held_groups_of (encoding_of opened.encoding) (take ((opened.start + pair.end) - (opened.start + pair.start)) (drop (opened.start + pair.start) old)) ≡ group ∷ [])
+      × (has_value value group ≡ true))
+      → IsValuePut e opened key value old old was
+  same-value k there =
+      let f = encoding_of opened.encoding in
+      let bytes : old ≡ revalued_in f old (opened.start + pair.start) (opened.start + pair.end) value there.0 = sym (cond-true (has_value value there.0) old _ there.2) in
+      record {
+        set = value-edits k v (revalued-result key value old pair h ok (found-at f (drop opened.start old) key pair sound at) refl (there.0, there.1, bytes));
+        sound = sound;
+        is_index = index;
+      }

@@ -7,7 +7,8 @@ use Rattle.properties_format.specs.Split.{AreBlanks}
 use Rattle.properties_format.specs.Reading.Cut.{decoded_line}
 use Rattle.properties_format.specs.Printing.{encoded_text}
 use Rattle.properties_format.specs.Body.{HeldLine, as_lines, HasKey, NoneHasKey, AreGroupsOf, group_bytes, groups_bytes, ending_bytes, last_ending}
-use Rattle.properties_format.specs.Edited.{is_editable}
+use Rattle.properties_format.specs.Groups.{IsWhole}
+use Rattle.properties_format.specs.Edited.{is_editable, is_empty_line}
 use Rattle.properties_format.specs.Valued.{HasPair, IsFrontOf, value_text}
 use Rattle.properties_format.specs.Reading.Body.{held_groups_of}
 use Rattle.properties_format.specs.Reading.Edited.{KeyPlace, last_place}
@@ -26,6 +27,7 @@ use Rattle.properties_format.proofs.Valued.Pair.{new_bytes, new_line, changed-pa
 use Rattle.properties_format.proofs.Valued.Groups.{revalued-bytes}
 use Rattle.properties_format.proofs.Valued.Read.{front-unended}
 use Rattle.properties_format.proofs.Slots.Revalued.{unended-kept}
+use Rattle.properties_format.proofs.Edited.Replaced.{push-full}
 
 -- ---- sizes
 
@@ -53,6 +55,8 @@ pub record IsRegrouped (e : Encoding) (key value : List ℕ) (p : KeyPlace) : Ty
   pub ending : last_ending group ≡ last_ending p.group
   pub bytes : unended_bytes group ≡ front_of e p.group ++ encoded_text e (value_text e (between_of p.group) value)
   pub old_size : 0 < length (unended_bytes p.group)
+  pub full : is_empty_line group ≡ false
+  pub whole : IsWhole (as_lines group)
 
 pub regrouped : (e : Encoding) (body key value : List ℕ) (p : KeyPlace) → is_editable e ≡ true → All scalar value → made.IsLastPlace key (held_groups_of e body) p
     → IsRegrouped e key value p
@@ -87,4 +91,6 @@ regrouped e body key value p ok v m =
           ∙ sym (append_assoc (group_bytes f.kept) f.head (encoded_text e (value_text e between value)))
           ∙ ap (λ w. w ++ encoded_text e (value_text e between value)) (sym f.bytes);
       old_size = pair-size e p.group between front f;
+      full = push-full f.kept line c.some;
+      whole = c.whole;
     }

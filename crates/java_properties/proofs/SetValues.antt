@@ -81,6 +81,23 @@ value-alone e body key pair bytes ok k is =
       is_pair = ap outcome_of (unended-joined p.group) ∙ m.1;
     }
 
+-- Whether the pair has a value doesn't depend on its last line ending.
+pub alone-value : (source key value : List ℕ) (opened : BodyStart) (pair : BodySpan) → is_editable (encoding_of opened.encoding) ≡ true
+    → (at : IsPlaceOf key (held_groups_of (encoding_of opened.encoding) (drop opened.start source)) pair) → (group : List HeldLine)
+    → held_groups_of (encoding_of opened.encoding) (take ((opened.start + pair.end) - (opened.start + pair.start)) (drop (opened.start + pair.start) source)) ≡ group ∷ []
+    → has_value value group ≡ has_value value at.place.group
+alone-value source key value opened pair ok at group alone =
+    let f = encoding_of opened.encoding in
+    let body = drop opened.start source in
+    let p = at.place in
+    let part = value-part f body key pair ok at in
+    let size : (opened.start + pair.end) - (opened.start + pair.start) ≡ pair.end - pair.start = omega arith in
+    let bytes_are : take ((opened.start + pair.end) - (opened.start + pair.start)) (drop (opened.start + pair.start) source) ≡ unended_bytes p.group =
+    ap₂ take size (sym (drop-drop pair.start opened.start source)) ∙ part.part in
+    let one = part-group f body p.before p.group p.after _ ok at.division bytes_are in
+    let same : group ≡ without_ending p.group = let q = sym alone ∙ one in cc in
+    ap (has_value value) same ∙ unended-value value p.group
+
 -- The source with the value of the pair is its result.
 pub revalued-result : {source : List ℕ} {e : Encoding} {opened : BodyStart} {found : place.KeyPlace} (key value bytes : List ℕ) (pair : BodySpan) → IsInForce source e opened
     → is_editable (encoding_of opened.encoding) ≡ true → IsKeyFound (encoding_of opened.encoding) (drop opened.start source) key found → found.pair ≡ Some pair

@@ -1,42 +1,39 @@
 -- Which pair a logical line is, and what an index of a body's pairs says.
-use Rattle.std.specs.Prelude.{◌≡◌, ◌⊎◌, bytes_eq, ℕ, ◌+◌, ◌-◌, ◌^◌, ◌≤◌, ◌<◌, true, false, List, [], ◌∷◌, ◌++◌, length, drop, get_or, All, Option, Some, None, Result, Ok, Err}
-use Rattle.std.specs.Option.{option_map, option_map_or}
+use Rattle.std.specs.Prelude.{◌≡◌, ◌⊎◌, bytes_eq, nat_lt, ◌==◌, ℕ, ◌+◌, ◌-◌, ◌^◌, ◌≤◌, ◌<◌, min, Bool, true, false, if◌then◌else◌, List, [], ◌∷◌, ◌++◌, map, length, take, drop, get_or, All, Option, Some, None, option_and_then, Result, Ok, Err}
+use Rattle.std.specs.Option.{option_map}
 use Rattle.std.specs.Map.{lookup, update}
 use Rattle.std.specs.BTreeMap.{IsOrdered}
 use Rattle.std.specs.String.{string_cmp}
-use Rattle.properties_format.specs.Body.{HeldLine}
-use Rattle.properties_format.specs.Edited.{final_group, is_empty_line, is_left_open}
-use Rattle.properties_format.specs.Reading.Body.{entries_in}
-use Rattle.properties_format.specs.Reading.Edited.{AreSound}
-use Rattle.properties_format.specs.Maps.{IsMap}
-use Rattle.java_properties.specs.BodyKeys.{IsErrorOfGroups, closing_bytes, closing_of}
-use Rattle.java_properties.specs.declared.edit.place.Closing.{Closing}
-use Rattle.java_properties.specs.declared.edit.place.Closing.TheVariants as closing
+use Rattle.std.specs.declared.string.String.{String}
+use Rattle.properties_format.specs.Text.{carriage_return, line_feed}
+use Rattle.properties_format.specs.Encoding.{Encoding}
 use Rattle.properties_format.specs.Groups.{joined}
-use Rattle.properties_format.specs.Body.{as_lines, groups_bytes}
+use Rattle.properties_format.specs.Entries.{comment, pair}
+use Rattle.properties_format.specs.Items.{Outcome, ignored, given, broken}
+use Rattle.properties_format.specs.Body.{HeldLine, as_lines, group_bytes}
+use Rattle.properties_format.specs.Edited.{final_group, edited, is_empty_line, is_left_open, IsEditResult}
+use Rattle.properties_format.specs.Edits.{Edit, IsEdited, IsEditAllResult}
+use Rattle.properties_format.specs.Reading.Body.{held_groups_of, is_pair_with}
+use Rattle.properties_format.specs.Reading.Edited.{IsSound, AreSound}
+use Rattle.properties_format.specs.Reading.Items.{outcome_of}
+use Rattle.properties_format.specs.Reading.Lines.{begins_with_lf}
+use Rattle.properties_format.specs.Reading.Maps.{first_value}
 use Rattle.properties_format.specs.Reading.Slots.{unended_bytes}
-use Rattle.properties_format.specs.Reading.Split.{split_of}
-use Rattle.properties_format.specs.Reading.Valued.{between_if_pair}
+use Rattle.properties_text.specs.Encoding.{encoding_of}
+use Rattle.java_properties.specs.BodyKeys.{IsErrorOfGroups, closing_bytes, closing_of}
+use Rattle.java_properties.specs.Editing.{HasValueSet, IsRemoved, IsSet}
+use Rattle.java_properties.specs.GivenItems.{IsNoItem}
+use Rattle.java_properties.specs.Maps.{characters}
+use Rattle.java_properties.specs.Sources.{IsInForce}
 use Rattle.java_properties.specs.declared.edit.groups.Group.{Group}
 use Rattle.java_properties.specs.declared.edit.index.Index.{Index}
 use Rattle.java_properties.specs.declared.edit.index.IndexedPair.{IndexedPair}
-use Rattle.std.specs.declared.string.String.{String}
-use Rattle.properties_format.specs.Encoding.{Encoding}
-use Rattle.properties_format.specs.Text.{scalar}
-use Rattle.properties_format.specs.Reading.Body.{held_groups_of}
-use Rattle.properties_format.specs.Reading.Edited.{last_place}
-use Rattle.properties_format.specs.Entries.{comment, pair}
-use Rattle.properties_format.specs.Items.{Outcome, ignored, given, broken}
-use Rattle.properties_format.specs.Reading.Edited.{IsSound}
-use Rattle.properties_format.specs.Reading.Items.{outcome_of}
-use Rattle.java_properties.specs.GivenItems.{IsNoItem}
-use Rattle.java_properties.specs.Maps.{characters}
-use Rattle.java_properties.specs.BodyKeys.{IsPlaceOf}
-use Rattle.java_properties.specs.Editing.{HasValueSet, IsSet}
-use Rattle.java_properties.specs.Sources.{IsInForce}
-use Rattle.properties_text.specs.Encoding.{encoding_of}
-use Rattle.java_properties.specs.declared.edit.source.BodyStart.{BodyStart}
+use Rattle.java_properties.specs.declared.edit.index.Shift.{Shift}
+use Rattle.java_properties.specs.declared.edit.index.Shift.TheVariants as shift
 use Rattle.java_properties.specs.declared.edit.place.BodySpan.{BodySpan}
+use Rattle.java_properties.specs.declared.edit.place.Closing.{Closing}
+use Rattle.java_properties.specs.declared.edit.place.Closing.TheVariants as closing
+use Rattle.java_properties.specs.declared.edit.source.BodyStart.{BodyStart}
 use Rattle.java_properties.specs.declared.error.PropertiesError.{PropertiesError}
 
 -- the pair that a logical line is, if it is one
@@ -55,13 +52,48 @@ abbrev pub FindsPairOfLine : {Y Z : Type 0} → List ℕ → ℕ → Result (Opt
 FindsPairOfLine line number (Ok answer) = IsSound (outcome_of line) × (option_map pair_characters answer ≡ outcome_pair (outcome_of line))
 FindsPairOfLine line number (Err e) = IsNoItem number line e
 
--- no part
-abbrev pub no_span : BodySpan
-no_span = record { start = 0; end = 0 }
+-- ---- the parts of groups
+
+-- what a group says
+abbrev pub outcome : List HeldLine → Outcome
+outcome g = outcome_of (joined (as_lines g))
+
+-- a part, if there is one, before others
+abbrev pub some_span : Bool → BodySpan → List BodySpan → List BodySpan
+some_span true s ss = s ∷ ss
+some_span false s ss = ss
+
+-- the part of a group that starts here, without its last line ending
+abbrev pub span_of : ℕ → List HeldLine → BodySpan
+span_of n g = record { start = n; end = n + length (unended_bytes g) }
+
+-- the parts of the groups that say such things, where the first group starts here
+abbrev pub spans_where : (Outcome → Bool) → ℕ → List (List HeldLine) → List BodySpan
+spans_where such n [] = []
+spans_where such n (g ∷ gs) = some_span (such (outcome g)) (span_of n g) (spans_where such (n + length (group_bytes g)) gs)
+
+-- whether a logical line is a pair
+abbrev pub is_pair : Outcome → Bool
+is_pair ignored = false
+is_pair (given (comment text)) = false
+is_pair (given (pair key value)) = true
+is_pair (broken kind) = false
+
+-- the value that a logical line gives a key
+abbrev pub value_by : List ℕ → Outcome → Option (List ℕ)
+value_by key ignored = None
+value_by key (given (comment text)) = None
+value_by key (given (pair k value)) = if bytes_eq k key then Some value else None
+value_by key (broken kind) = None
+
+-- the value of a key in groups: that of the last pair with it
+abbrev pub last_value : List ℕ → List (List HeldLine) → Option (List ℕ)
+last_value key [] = None
+last_value key (g ∷ gs) = first_value (last_value key gs) (value_by key (outcome g))
 
 -- ---- what is stored
 
--- what is stored of the last pair with a key
+-- what is stored of the pairs with a key
 abbrev pub stored_at : {Y : Type 0} → List (String Y × IndexedPair) → List ℕ → Option IndexedPair
 stored_at entries key = lookup (λ k. bytes_eq key (characters k)) entries
 
@@ -69,38 +101,57 @@ stored_at entries key = lookup (λ k. bytes_eq key (characters k)) entries
 abbrev pub stored_value : {Y : Type 0} → List (String Y × IndexedPair) → List ℕ → Option (List ℕ)
 stored_value entries key = option_map (λ p. characters p.value) (stored_at entries key)
 
--- Each place that is stored is one of the parts.
-abbrev pub AreInside : {Y : Type 0} → List (String Y × IndexedPair) → List BodySpan → Type 0
-AreInside entries spans = (k : List ℕ) (p : IndexedPair) → stored_at entries k ≡ Some p → p.place < length spans
+-- the places of the pairs with a key
+abbrev pub places_of : Option IndexedPair → List ℕ
+places_of None = []
+places_of (Some p) = p.earlier.items ++ p.place ∷ []
 
--- A part was stored in its place, and the others are as they were.
-pub record PutsSpan (place : ℕ) (span : BodySpan) (old new : List BodySpan) : Type 0 where
-  pub size : length old ≤ length new
-  pub inside : place < length new
-  pub here : get_or new place no_span ≡ span
-  pub others : (i : ℕ) → i < length old → (i ≡ place → ⊥) → get_or new i no_span ≡ get_or old i no_span
+-- the part in a place, if there is one
+abbrev pub span_at : List (Option BodySpan) → ℕ → Option BodySpan
+span_at spans place = get_or spans place None
 
--- The last pair of the body was stored: in the place of its key, if that has one, and else in a new one.
+-- where the last pair with a key is
+abbrev pub last_span : List (Option BodySpan) → Option IndexedPair → Option BodySpan
+last_span spans None = None
+last_span spans (Some p) = span_at spans p.place
+
+abbrev pub found_span : Index → List ℕ → Option BodySpan
+found_span index key = last_span index.spans.items (stored_at index.pairs.entries key)
+
+-- the parts that are there
+abbrev pub live_spans : List (Option BodySpan) → List BodySpan
+live_spans [] = []
+live_spans (None ∷ spans) = live_spans spans
+live_spans (Some s ∷ spans) = s ∷ live_spans spans
+
+-- the first if there is one, otherwise the second
+abbrev pub span_or : Option BodySpan → Option BodySpan → Option BodySpan
+span_or None t = t
+span_or (Some s) t = Some s
+
+-- the last part that is there
+abbrev pub last_live : List (Option BodySpan) → Option BodySpan
+last_live [] = None
+last_live (s ∷ spans) = span_or (last_live spans) s
+
+-- A pair more was stored, after all others.
 pub record KeepsPair (key value : List ℕ) (span : BodySpan) (old new : Index) : Type 0 where
   pub pair : IndexedPair
   pub has_value : characters pair.value ≡ value
   pub stored : (k : List ℕ) → stored_at new.pairs.entries k ≡ update bytes_eq (stored_at old.pairs.entries) key (Some pair) k
-  pub place : pair.place ≡ option_map_or (λ p. p.place) (stored_at old.pairs.entries key) (length old.spans.items)
-  pub spans : PutsSpan pair.place span old.spans.items new.spans.items
-  pub last : new.last ≡ Some span
+  pub places : places_of (Some pair) ≡ places_of (stored_at old.pairs.entries key) ++ length old.spans.items ∷ []
+  pub spans : new.spans.items ≡ old.spans.items ++ Some span ∷ []
   pub ordered : IsOrdered string_cmp new.pairs
 
--- What is stored is as it was. There may be parts that no key has.
+-- What is stored is as it was. There may be a place more that is empty.
 pub record KeepsNothing (old new : Index) : Type 0 where
-  pub pairs : new.pairs.entries ≡ old.pairs.entries
-  pub ordered : IsOrdered string_cmp new.pairs
-  pub size : length old.spans.items ≤ length new.spans.items
-  pub spans : (i : ℕ) → i < length old.spans.items → get_or new.spans.items i no_span ≡ get_or old.spans.items i no_span
-  pub last : new.last ≡ old.last
+  pub stored : (k : List ℕ) → stored_at new.pairs.entries k ≡ stored_at old.pairs.entries k
+  pub spans : (new.spans.items ≡ old.spans.items) ⊎ (new.spans.items ≡ old.spans.items ++ None ∷ [])
   pub closing : new.closing ≡ old.closing
+  pub ordered : IsOrdered string_cmp new.pairs
 
 abbrev pub AddsPair : Option (List ℕ × List ℕ) → BodySpan → Index → Index → Type 0
-AddsPair None span old new = (new.pairs ≡ old.pairs) × (new.spans ≡ old.spans) × (new.last ≡ old.last)
+AddsPair None span old new = (new.pairs ≡ old.pairs) × (new.spans ≡ old.spans)
 AddsPair (Some (key, value)) span old new = KeepsPair key value span old new
 
 -- The group and its pair, if it is one, were stored.
@@ -110,43 +161,16 @@ pub record AddsGroup (group : Group) (told : Option (List ℕ × List ℕ)) (old
 
 -- ---- an index of groups
 
--- The last pair with the key is in the part that is stored for it; or no pair has it.
-abbrev pub IsStored : List (List HeldLine) → List BodySpan → List ℕ → Option IndexedPair → Type 0
-IsStored groups spans key None = last_place key groups ≡ None
-IsStored groups spans key (Some p) = (p.place < length spans) × IsPlaceOf key groups (get_or spans p.place no_span)
+-- The parts that are there are those of all pairs of these groups, in order. In the places of each key are the parts of the
+-- pairs with it, in order, and the value of the last one is stored.
+pub record IsListed {Y : Type 0} (groups : List (List HeldLine)) (entries : List (String Y × IndexedPair)) (spans : List (Option BodySpan)) : Type 0 where
+  pub live : live_spans spans ≡ spans_where is_pair 0 groups
+  pub stored : (k : List ℕ) → map (span_at spans) (places_of (stored_at entries k)) ≡ map Some (spans_where (is_pair_with k) 0 groups)
+  pub values : (k : List ℕ) → stored_value entries k ≡ last_value k groups
 
--- what separates key and value, if the group is a pair
-abbrev pub told : List HeldLine → Option (List ℕ)
-told g = between_if_pair (split_of (joined (as_lines g))) (joined (as_lines g))
-
--- None of the groups is a pair.
-abbrev pub AreNoPairs : List (List HeldLine) → Type 0
-AreNoPairs [] = Unit {0}
-AreNoPairs (g ∷ gs) = (told g ≡ None) × AreNoPairs gs
-
--- The last pair, whatever its key, is in this part.
-pub record IsLastAt (gs : List (List HeldLine)) (span : BodySpan) : Type 0 where
-  pub before : List (List HeldLine)
-  pub group : List HeldLine
-  pub after : List (List HeldLine)
-  pub division : gs ≡ before ++ group ∷ after
-  pub between : List ℕ
-  pub of_pair : told group ≡ Some between
-  pub none_later : AreNoPairs after
-  pub starts : span.start ≡ length (groups_bytes before)
-  pub ends : span.end ≡ span.start + length (unended_bytes group)
-
-abbrev pub IsLast : List (List HeldLine) → Option BodySpan → Type 0
-IsLast gs None = AreNoPairs gs
-IsLast gs (Some span) = IsLastAt gs span
-
--- The last pair of each key of these groups is stored, in a place of its own, with its value; and so are the last pair
--- of all, and what separates a new pair from the last group.
+-- So it is of an index, which also says what separates a new pair from the last group.
 pub record IsIndex (groups : List (List HeldLine)) (index : Index) : Type 0 where
-  pub stored : (k : List ℕ) → IsStored groups index.spans.items k (stored_at index.pairs.entries k)
-  pub apart : (k l : List ℕ) (p q : IndexedPair) → stored_at index.pairs.entries k ≡ Some p → stored_at index.pairs.entries l ≡ Some q → p.place ≡ q.place → k ≡ l
-  pub values : IsMap (entries_in 1 groups) (stored_value index.pairs.entries)
-  pub last : IsLast groups index.last
+  pub listed : IsListed groups index.pairs.entries index.spans.items
   pub closing : (groups ≡ []) ⊎ (index.closing ≡ closing_of (is_empty_line (final_group groups)) (is_left_open (final_group groups)))
   pub ordered : IsOrdered string_cmp index.pairs
 
@@ -156,53 +180,51 @@ abbrev pub ParsesIndex : Encoding → List ℕ → Result Index PropertiesError 
 ParsesIndex e body (Ok index) = AreSound (held_groups_of e body) × IsIndex (held_groups_of e body) index
 ParsesIndex e body (Err error) = IsErrorOfGroups (held_groups_of e body) error
 
--- ---- what is moved
+-- ---- parts that change
 
--- A position, after what ended in one place ends in another.
-pub record IsMoved (old new p q : ℕ) : Type 0 where
-  pub before : p < old → q ≡ p
-  pub behind : old ≤ p → p - old + new < 2 ^ 64 → q ≡ p - old + new
+-- a position, after what ended in one place ends in another
+abbrev pub moved_to : ℕ → ℕ → ℕ → ℕ
+moved_to old new p = if nat_lt p old then p else min (p - old + new) (2 ^ 64 - 1)
 
-abbrev pub IsSpanMoved : ℕ → ℕ → BodySpan → BodySpan → Type 0
-IsSpanMoved old new s t = IsMoved old new s.start t.start × IsMoved old new s.end t.end
+abbrev pub moved_span : ℕ → ℕ → BodySpan → BodySpan
+moved_span old new s = record { start = moved_to old new s.start; end = moved_to old new s.end }
 
--- A part is moved, if there is one.
-abbrev pub IsLastMoved : ℕ → ℕ → Option BodySpan → Option BodySpan → Type 0
-IsLastMoved old new None None = Unit {0}
-IsLastMoved old new None (Some t) = ⊥
-IsLastMoved old new (Some s) None = ⊥
-IsLastMoved old new (Some s) (Some t) = IsSpanMoved old new s t
+-- a part, after what ended in this place is so much longer
+abbrev pub lengthened_span : ℕ → ℕ → BodySpan → BodySpan
+lengthened_span place more s = record { start = s.start; end = if s.end == place then min (place + more) (2 ^ 64 - 1) else s.end }
 
-pub record AreAllMoved (old new : ℕ) (ss ts : List BodySpan) : Type 0 where
-  pub size : length ts ≡ length ss
-  pub each : (i : ℕ) → i < length ss → IsSpanMoved old new (get_or ss i no_span) (get_or ts i no_span)
+-- a part after a change, unless it is cut out
+abbrev pub shifted : Shift → BodySpan → Option BodySpan
+shifted (shift.Moved old new) s = Some (moved_span old new s)
+shifted (shift.Lengthened place more) s = Some (lengthened_span place more s)
+shifted (shift.Cut start end) s = if s.start == start then None else Some (moved_span end start s)
 
--- A part that ended in this place is so much longer, and others are as they were.
-pub record IsLengthened (place more : ℕ) (s t : BodySpan) : Type 0 where
-  pub start : t.start ≡ s.start
-  pub here : s.end ≡ place → t.end ≡ s.end + more
-  pub before : s.end < place → t.end ≡ s.end
-  pub behind : place < s.end → t.end ≡ s.end
-  pub nothing : more ≡ 0 → t.end ≡ s.end
+-- all parts after a change
+abbrev pub all_shifted : Shift → List (Option BodySpan) → List (Option BodySpan)
+all_shifted change spans = map (option_and_then (shifted change)) spans
 
-pub record AreAllLengthened (place more : ℕ) (ss ts : List BodySpan) : Type 0 where
-  pub size : length ts ≡ length ss
-  pub each : (i : ℕ) → i < length ss → IsLengthened place more (get_or ss i no_span) (get_or ts i no_span)
-
--- The first so many parts are moved, and the others are not yet.
-pub record AreMovedTo (old new : ℕ) (count : ℕ) (ss ts : List BodySpan) : Type 0 where
-  pub size : length ts ≡ length ss
-  pub done : (i : ℕ) → i < count → IsSpanMoved old new (get_or ss i no_span) (get_or ts i no_span)
-  pub left : (i : ℕ) → count ≤ i → get_or ts i no_span ≡ get_or ss i no_span
+-- The first so many parts were changed, and the others are not yet.
+pub record AreShiftedTo (change : Shift) (count : ℕ) (old new : List (Option BodySpan)) : Type 0 where
+  pub size : length new ≡ length old
+  pub done : (i : ℕ) → i < count → span_at new i ≡ option_and_then (shifted change) (span_at old i)
+  pub left : (i : ℕ) → count ≤ i → span_at new i ≡ span_at old i
 
 -- A pair was stored that was appended, where what ended in this place is so much longer.
 pub record GrowsIndex (key value : List ℕ) (span : BodySpan) (place more : ℕ) (old new : Index) : Type 0 where
   pub mid : Index
   pub keeps : KeepsPair key value span old mid
   pub pairs : new.pairs ≡ mid.pairs
-  pub longer : AreAllLengthened place more mid.spans.items new.spans.items
-  pub last : new.last ≡ Some span
+  pub longer : new.spans.items ≡ all_shifted (shift.Lengthened place more) mid.spans.items
   pub closing : new.closing ≡ closing.Nothing
+
+-- The last pair with a key has another value and ends in another place.
+pub record FollowsPair (key value : List ℕ) (old_end new_end : ℕ) (is_last : Bool) (old new : Index) : Type 0 where
+  pub spans : new.spans.items ≡ all_shifted (shift.Moved old_end new_end) old.spans.items
+  pub closing : new.closing ≡ (if is_last then closing.OneEnding else old.closing)
+  pub places : (k : List ℕ) → places_of (stored_at new.pairs.entries k) ≡ places_of (stored_at old.pairs.entries k)
+  pub values : (k : List ℕ) → stored_value new.pairs.entries k
+      ≡ (if bytes_eq key k then option_map (λ v. value) (stored_value old.pairs.entries k) else stored_value old.pairs.entries k)
+  pub ordered : IsOrdered string_cmp new.pairs
 
 -- what a line ending adds to a group that is left open, by what separates a new pair from it
 abbrev pub opened_closing : Closing → Closing
@@ -243,44 +265,77 @@ abbrev pub AddsKey : {E : Type 0} → BodyStart → List ℕ → List ℕ → Li
 AddsKey opened key value old was (Ok done) new is = IsKeyAdded opened key value old new is
 AddsKey opened key value old was (Err error) new is = (new ≡ old) × KeepsNothing was is
 
--- The first so many parts are lengthened, and the others are not yet.
-pub record AreLengthenedTo (place more : ℕ) (count : ℕ) (ss ts : List BodySpan) : Type 0 where
-  pub size : length ts ≡ length ss
-  pub done : (i : ℕ) → i < count → IsLengthened place more (get_or ss i no_span) (get_or ts i no_span)
-  pub left : (i : ℕ) → count ≤ i → get_or ts i no_span ≡ get_or ss i no_span
+-- ---- a key that is there or not
 
--- ---- a value in place
+-- The source has the value for the key, and the index is that of its groups.
+pub record IsValuePut (e : Encoding) (opened : BodyStart) (key value old new : List ℕ) (index : Index) : Type 0 where
+  pub set : HasValueSet e old key value new
+  pub sound : AreSound (held_groups_of (encoding_of opened.encoding) (drop opened.start new))
+  pub is_index : IsIndex (held_groups_of (encoding_of opened.encoding) (drop opened.start new)) index
 
--- A part is where the last pair with some key is, in a body whose groups are not malformed.
-pub record IsPlaced (e : Encoding) (body : List ℕ) (pair : BodySpan) : Type 0 where
-  pub key : List ℕ
-  pub scalar : All scalar key
-  pub place : IsPlaceOf key (held_groups_of e body) pair
+-- So it is in each encoding that may have been requested; or memory ran out, and nothing changed that is looked at.
+abbrev pub PutsValue : {E : Type 0} → BodyStart → List ℕ → List ℕ → List ℕ → Index → Result Unit E → List ℕ → Index → Type 0
+PutsValue opened key value old was (Ok done) new is = (e : Encoding) → IsInForce old e opened → IsValuePut e opened key value old new is
+PutsValue opened key value old was (Err error) new is = (new ≡ old) × KeepsNothing was is
 
--- The source has the value for the key at this place, and each key is in the part that had it.
-pub record IsRevaluedIn (opened : BodyStart) (place : ℕ) (value old new : List ℕ) (spans moved : List BodySpan) : Type 0 where
-  pub size : length moved ≡ length spans
-  pub set : (e : Encoding) (key : List ℕ) → All scalar key → IsInForce old e opened
-      → IsPlaceOf key (held_groups_of (encoding_of opened.encoding) (drop opened.start old)) (get_or spans place no_span) → HasValueSet e old key value new
-  pub places : (e : Encoding) → IsInForce old e opened → (k : List ℕ) (i : ℕ) → i < length spans → IsPlaceOf k (held_groups_of (encoding_of opened.encoding) (drop opened.start old)) (get_or spans i no_span)
-      → IsPlaceOf k (held_groups_of (encoding_of opened.encoding) (drop opened.start new)) (get_or moved i no_span)
-  pub none : (e : Encoding) → IsInForce old e opened → (k : List ℕ) → last_place k (held_groups_of (encoding_of opened.encoding) (drop opened.start old)) ≡ None
-      → last_place k (held_groups_of (encoding_of opened.encoding) (drop opened.start new)) ≡ None
+-- The source has the printed pair for the key, and the index is that of its groups.
+pub record IsPairPut (e : Encoding) (opened : BodyStart) (key value old new : List ℕ) (index : Index) : Type 0 where
+  pub set : IsSet e old key value new
+  pub sound : AreSound (held_groups_of (encoding_of opened.encoding) (drop opened.start new))
+  pub is_index : IsIndex (held_groups_of (encoding_of opened.encoding) (drop opened.start new)) index
 
--- So it is; or memory ran out, and nothing changed.
-abbrev pub RevaluesIn : {E : Type 0} → BodyStart → ℕ → List ℕ → List ℕ → List BodySpan → Result Unit E → List ℕ → List BodySpan → Type 0
-RevaluesIn opened place value old spans (Ok done) new moved = IsRevaluedIn opened place value old new spans moved
-RevaluesIn opened place value old spans (Err error) new moved = (new ≡ old) × (moved ≡ spans)
+abbrev pub PutsPair : {E : Type 0} → BodyStart → List ℕ → List ℕ → List ℕ → Index → Result Unit E → List ℕ → Index → Type 0
+PutsPair opened key value old was (Ok done) new is = (e : Encoding) → IsInForce old e opened → IsPairPut e opened key value old new is
+PutsPair opened key value old was (Err error) new is = (new ≡ old) × KeepsNothing was is
 
--- The source has the printed pair for the key at this place, and each key is in the part that had it.
-pub record IsReputIn (opened : BodyStart) (place : ℕ) (key value old new : List ℕ) (spans moved : List BodySpan) : Type 0 where
-  pub size : length moved ≡ length spans
-  pub set : (e : Encoding) → IsInForce old e opened → IsSet e old key value new
-  pub places : (e : Encoding) → IsInForce old e opened → (k : List ℕ) (i : ℕ) → i < length spans → IsPlaceOf k (held_groups_of (encoding_of opened.encoding) (drop opened.start old)) (get_or spans i no_span)
-      → IsPlaceOf k (held_groups_of (encoding_of opened.encoding) (drop opened.start new)) (get_or moved i no_span)
-  pub none : (e : Encoding) → IsInForce old e opened → (k : List ℕ) → last_place k (held_groups_of (encoding_of opened.encoding) (drop opened.start old)) ≡ None
-      → last_place k (held_groups_of (encoding_of opened.encoding) (drop opened.start new)) ≡ None
+-- ---- a key that is removed
 
-abbrev pub ReputsIn : {E : Type 0} → BodyStart → ℕ → List ℕ → List ℕ → List ℕ → List BodySpan → Result Unit E → List ℕ → List BodySpan → Type 0
-ReputsIn opened place key value old spans (Ok done) new moved = IsReputIn opened place key value old new spans moved
-ReputsIn opened place key value old spans (Err error) new moved = (new ≡ old) × (moved ≡ spans)
+-- the size of the line ending that bytes begin with
+abbrev pub ending_size : List ℕ → ℕ
+ending_size [] = 0
+ending_size (b ∷ bs) = if b == carriage_return then (if begins_with_lf bs then 2 else 1) else (if b == line_feed then 1 else 0)
+
+-- The part is one of the body that starts here.
+abbrev pub IsInSource : ℕ → List ℕ → Option BodySpan → Type 0
+IsInSource start source None = Unit {0}
+IsInSource start source (Some span) = (span.start ≤ span.end) × (start + span.end ≤ length source)
+
+-- A part and the line ending after it were cut out.
+pub record IsCutOut (start : ℕ) (span : BodySpan) (old : List ℕ) (was : Index) (new : List ℕ) (is : Index) : Type 0 where
+  pub bytes : let end = start + span.end + ending_size (drop (start + span.end) old) in new ≡ take (start + span.start) old ++ drop end old
+  pub spans : is.spans.items ≡ all_shifted (shift.Cut span.start (span.end + ending_size (drop (start + span.end) old))) was.spans.items
+  pub pairs : is.pairs ≡ was.pairs
+  pub closing : is.closing ≡ (if start + span.end == length old then closing.Nothing else was.closing)
+
+-- So it is, if there is a part.
+abbrev pub CutsOut : ℕ → Option BodySpan → List ℕ → Index → List ℕ → Index → Type 0
+CutsOut start None old was new is = (new ≡ old) × (is ≡ was)
+CutsOut start (Some span) old was new is = IsCutOut start span old was new is
+
+-- The source is without the key, and the index is that of its groups.
+pub record ArePairsRemoved (e : Encoding) (opened : BodyStart) (key old new : List ℕ) (index : Index) : Type 0 where
+  pub removed : IsRemoved e old key new
+  pub sound : AreSound (held_groups_of (encoding_of opened.encoding) (drop opened.start new))
+  pub is_index : IsIndex (held_groups_of (encoding_of opened.encoding) (drop opened.start new)) index
+
+abbrev pub RemovesPairs : BodyStart → List ℕ → List ℕ → List ℕ → Index → Type 0
+RemovesPairs opened key old new is = (e : Encoding) → IsInForce old e opened → ArePairsRemoved e opened key old new is
+
+-- ---- an edit
+
+-- The source was edited, and the index is that of its groups.
+pub record IsEditMade (e : Encoding) (opened : BodyStart) (edit : Edit) (old new : List ℕ) (index : Index) : Type 0 where
+  pub result : IsEditResult e old (IsEdited e old edit) (edited new)
+  pub in_force : IsInForce new e opened
+  pub sound : AreSound (held_groups_of (encoding_of opened.encoding) (drop opened.start new))
+  pub is_index : IsIndex (held_groups_of (encoding_of opened.encoding) (drop opened.start new)) index
+
+abbrev pub MakesEdit : BodyStart → Edit → List ℕ → List ℕ → Index → Type 0
+MakesEdit opened edit old new is = (e : Encoding) → IsInForce old e opened → IsEditMade e opened edit old new is
+
+-- So it is of edits in turn.
+pub record AreEditsMade (e : Encoding) (opened : BodyStart) (source : List ℕ) (edits : List Edit) (bytes : List ℕ) (index : Index) : Type 0 where
+  pub result : IsEditAllResult e source edits (edited bytes)
+  pub in_force : IsInForce bytes e opened
+  pub sound : AreSound (held_groups_of (encoding_of opened.encoding) (drop opened.start bytes))
+  pub is_index : IsIndex (held_groups_of (encoding_of opened.encoding) (drop opened.start bytes)) index

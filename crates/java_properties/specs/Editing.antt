@@ -4,8 +4,8 @@ use Rattle.std.specs.Str.{chars}
 use Rattle.std.specs.Global.{Vec}
 use Rattle.properties_format.specs.Encoding.{Encoding}
 use Rattle.properties_format.specs.Escapes.{Malformed}
-use Rattle.properties_format.specs.Edited.{EditResult, edited, unsupported, unreadable, IsEditResult, IsSetKeyResult, IsRemoveKeyResult}
-use Rattle.properties_format.specs.Edits.{put, remove, set_value, IsEdited, IsEditAllResult}
+use Rattle.properties_format.specs.Edited.{EditResult, edited, unsupported, unreadable, IsSetKeyResult, IsRemoveKeyResult}
+use Rattle.properties_format.specs.Edits.{put, remove, set_value, IsEditAllResult}
 use Rattle.properties_format.specs.Edits as format
 use Rattle.properties_format.specs.Valued.{IsSetValueResult, KeepsFront}
 use Rattle.properties_format.specs.Changed.{IsSetIn, IsRemovedIn, AreEditedIn, map_edited, map_after, AreOthersThanLast, AreOthers, ReadsAfter, KeepsOthers}
@@ -76,11 +76,6 @@ AreMade e source edits bytes = IsEdit (IsEditAllResult e source edits) (ReadsAft
 abbrev pub EditsAll : Encoding → List ℕ → List format.Edit → Result (Vec ℕ) PropertiesError → Type 0
 EditsAll e source edits (Ok bytes) = AreMade e source edits bytes.items
 EditsAll e source edits (Err error) = IsRefusal (IsEditAllResult e source edits) error
-
--- The source after one edit; or it was refused.
-abbrev pub MakesEdit : Encoding → List ℕ → format.Edit → Result (Vec ℕ) PropertiesError → Type 0
-MakesEdit e source edit (Ok bytes) = IsEditResult e source (IsEdited e source edit) (edited bytes.items)
-MakesEdit e source edit (Err error) = IsRefusal (IsEditResult e source (IsEdited e source edit)) error
 
 -- Both are the same edit, with the same texts.
 abbrev pub IsSameEdit : Edit → Edit → Type 0

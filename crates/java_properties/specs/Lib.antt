@@ -23,6 +23,7 @@ pub mod BodyGroups
 pub mod BodyKeys
 pub mod BodyValues
 pub mod BodyIndex
+pub mod BodyDocuments
 pub mod Sources
 pub mod Editing
 pub mod WholeSources

@@ -168,7 +168,7 @@ unended-no_lf e o (h ∷ i ∷ hs) a f =
     closed p q = cc
 
 -- After a CR, no LF comes first unless the two are one line ending.
-after-cr : (e : Encoding) (g h : List HeldLine) (gs : List (List HeldLine)) → AreInTurn e (h ∷ gs) → last_ending g ≡ Some cr
+pub after-cr : (e : Encoding) (g h : List HeldLine) (gs : List (List HeldLine)) → AreInTurn e (h ∷ gs) → last_ending g ≡ Some cr
     → are_one_ending (slot_of g) (slot_of h) ≡ false
     → begins_with_lf (groups_bytes (h ∷ gs)) ≡ false
 after-cr e g h gs a s k = of-turn gs a

@@ -86,7 +86,7 @@ fn change_document(document: &mut Document, change: Change<'_>) -> Result<(), Al
     match change {
         Change::Put(key, value) => document.put(key, value),
         Change::Remove(key) => {
-            document.remove(key)?;
+            document.remove(key);
             Ok(())
         }
         Change::SetValue(key, value) => document.set_value(key, value),

@@ -1,4 +1,4 @@
-use Rattle.std.proofs.Common.{◌≡◌, ◌-◌, ◌++◌, drop, take, length, ap, ap₂, ◌∙◌}
+use Rattle.std.proofs.Common.{◌≡◌, ◌-◌, ◌++◌, drop, take, length, ap, ap₂, ◌∙◌, arith}
 use Rattle.std.specs.Prelude.{if◌then◌else◌}
 use Rattle.std.specs.Str.{chars}
 use Rattle.std.proofs.lemmas.List.{take_rest}
@@ -26,7 +26,9 @@ returns c =
     let body = ap (λ v. take (length v - opened.start) (drop opened.start v)) c.deref-2.ensures.value ∙ take_rest old opened.start in
     let first = c.are_empty-first.ensures ∙ ap₂ (λ v w. is_empty (v ++ w)) body (c.as_bytes-separation.ensures.value ∙ c.closing_bytes.ensures) in
     let printed = c.deref-3.ensures.value ∙ c.in_ok-line.ensures ∙ ap (λ b. pair_bytes out b key value) first in
+    let small = c.append_pair.new.source.small in
+    let len = c.append_pair.new.source.ok in
     adds-key c.append_pair.result opened key value (line_ending_text by) c.deref-3.result.now (line_ending_text lf) old c.append_pair.new.source.items was c.append_pair.new.index
     (key-added opened old c.append_pair.new.source.items key value c.deref-3.result.now by was c.append_pair.new.index c.requires.editable
-    c.requires.start c.requires.sound c.requires.is_index c.requires.is_new (chars-scalars c.args.key.now c.utf8.key) (chars-scalars c.args.value.now c.utf8.value) fits printed)
+    c.requires.start c.requires.sound c.requires.is_index c.requires.is_new (chars-scalars c.args.key.now c.utf8.key) (chars-scalars c.args.value.now c.utf8.value) fits printed (omega arith))
     c.requires.is_new c.append_pair.ensures

@@ -13,9 +13,8 @@ returns c =
             pair = k.pair;
             has_value = k.has_value;
             stored = k.stored;
-            place = k.place;
+            places = k.places;
             spans = k.spans;
-            last = k.last;
             ordered = k.ordered;
           };
     })

@@ -5,7 +5,6 @@ use Rattle.properties_text.specs.Encoding.{encoding_of}
 use Rattle.properties_lines.specs.LineSearch.{unit_size}
 use Rattle.java_properties.specs.BodyGroups.{IsWithin}
 use Rattle.java_properties.specs.BodyIndex.{pair_characters}
-use Rattle.std.specs.Prelude.{None}
 use Rattle.java_properties.specs.declared.edit.index.Index.{Index}
 use Rattle.java_properties.specs.declared.edit.place.Closing.TheVariants.{Nothing}
 use Rattle.java_properties.proofs.BodyKeys.{read-fault}
@@ -19,8 +18,8 @@ loop-index-init c =
     let new = c.new-groups.ensures in
     let same = ap encoding_of new.encoding in
     let within : IsWithin body reader = record { bytes = ap unit_size same ∙ c.requires; within_body = new.within_body body } in
-    let index : Index = record { pairs = c.new.result; spans = c.new-2.result; last = None; closing = Nothing } in
-    subst (λ e. HasIndexed e body reader index) same (indexed-none body reader index new.start new.none new.going within c.new.ensures.empty c.new.ensures.ordered refl)
+    let index : Index = record { pairs = c.new.result; spans = c.new-2.result; closing = Nothing } in
+    subst (λ e. HasIndexed e body reader index) same (indexed-none body reader index new.start new.none new.going within c.new.ensures.empty c.new.ensures.ordered c.new-2.ensures.items)
 
 pub returns-in_err-pair : goal.returns-in_err-pair
 returns-in_err-pair c =

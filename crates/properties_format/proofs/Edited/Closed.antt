@@ -2,7 +2,8 @@
 use Rattle.std.proofs.Common.{◌≡◌, ◌≢◌, ◌<◌, ◌≤◌, ℕ, ◌+◌, Bool, true, false, List, [], ◌∷◌, ◌++◌, Option, Some, None, length, refl, ap, ap₂, sym, ◌∙◌, inl, inr, append_assoc, append-nil, length-append, subst, arith}
 use Rattle.std.specs.Prelude.{◌⊎◌, unwrap_or, if◌then◌else◌}
 use Rattle.std.proofs.lemmas.Bool.{cases_Bool, cond-true, cond-false}
-use Rattle.properties_format.specs.Text.{LineEnding, lf, cr, crlf, line_ending_text}
+use Rattle.properties_format.specs.Text.{LineEnding, lf, cr, crlf, carriage_return, line_ending_text}
+use Rattle.properties_format.specs.Reading.Lines.{ends_in_cr}
 use Rattle.properties_format.specs.Encoding.{Encoding}
 use Rattle.properties_format.specs.Lines.{Ended, HoldsNoLineEnd, BeginsWithNoLoneLf, AreLines}
 use Rattle.properties_format.specs.Reading.Cut.{decoded_line}
@@ -15,20 +16,16 @@ use Rattle.properties_format.specs.Reading.Items.{outcome_of}
 use Rattle.properties_format.specs.Reading.Body.{held_of, has_key, is_pair_with, held_groups_of}
 use Rattle.properties_format.specs.Reading.Edited.{KeyPlace, last_place}
 use Rattle.properties_format.specs.Reading.Slots.{unended_bytes}
-use Rattle.properties_format.specs.Valued.{separation_by}
+use Rattle.properties_format.specs.Valued.{ending_among, separation_by}
 use Rattle.properties_format.proofs.Body.Decoded.{decoded-nil}
-use Rattle.properties_format.proofs.Body.Groups.{IsLastFit, AreFit, held_ended, cut-off, lines-front, group_bytes-append, groups_bytes-append, held_groups_of-meets, held_groups_of-only}
-use Rattle.properties_format.proofs.Edited.Contents.{fit-closed, fit-open, closed-by_empty}
+use Rattle.properties_format.proofs.Body.Groups.{IsLastFit, AreFit, held_ended, cut-off, groups-bytes, lines-front, group_bytes-append, groups_bytes-append}
+use Rattle.properties_format.proofs.Edited.Contents.{ends-right, fit-closed, fit-open, closed-by_empty}
 use Rattle.properties_format.proofs.Edited.Made as made
 use Rattle.properties_format.proofs.Edited.Made.{has_key-true, HasKey-test, last_place-meets, last_place-none, last_place-some}
 use Rattle.properties_format.proofs.Slots.Lines.{bytes-unended}
 use Rattle.properties_format.proofs.Slots.Revalued.{unended-kept}
-use Rattle.properties_format.proofs.Valued.Added.{empty_line, outcomes-empty}
+use Rattle.properties_format.proofs.Valued.Added.{empty_line, ending-held, outcomes-empty}
 use Rattle.properties_format.proofs.Valued.Lined.{AreLined, groups-lined, lined-groups, last_by, lines-join, held_of-append, held_ended-append, held_in-append, AreAllWhole, fit-parts, fit-join}
-use Rattle.java_properties.specs.BodyIndex.{IsLengthened}
-use Rattle.java_properties.specs.BodyKeys.{IsPlaceOf}
-use Rattle.java_properties.specs.declared.edit.place.BodySpan.{BodySpan}
-use Rattle.java_properties.proofs.IndexMoved.{compare, IsEarlier, size-around}
 
 -- ---- ended lines
 
@@ -311,3 +308,29 @@ closed-by e by (g1 ∷ gs1) h good = of-parts (last-group g1 gs1)
         let t : held_in init ++ g ≡ held_of e h.ended h.last = ap (λ v. held_in init ++ v) (sym (append-nil g)) ∙ sym (held_in-append init (g ∷ [])) ∙ ap held_in (sym s) ∙ h.held in
         let a = cut-off e (held_in init) g h.ended h.last (fit-lines g f.1) t in
         of-closing init g a.front a.back s a.all a.group a.others f.0 f.1
+
+-- ---- line endings that fit
+
+-- The last line ending of the groups does.
+pub value-seam : (e : Encoding) (gs : List (List HeldLine)) (h : AreLined e gs) (by : LineEnding) → by ≡ ending_among lf (held_in gs) → IsSeam by h
+value-seam e gs h by is q z =
+    let told = is ∙ ap (ending_among lf) h.held ∙ ending-held e lf h.ended h.last in
+    let m : by ≡ cr = told ∙ ap (λ v. unwrap_or v lf) q in
+    absurd (cc (z.1, m))
+
+-- Lines of which the last ends in a CR, and nothing more.
+ended-cr : (e : Encoding) (ls : List Ended) → last_by ls ≡ Some cr → ends_in_cr (group_bytes (held_of e ls [])) ≡ true
+ended-cr e [] q = absurd (cc)
+ended-cr e (l ∷ []) q =
+    let by : l.by ≡ cr = cc in
+    ap (λ o. ends_in_cr (l.text ++ (line_ending_text o ++ []))) by ∙ ends-right l.text (carriage_return ∷ []) refl
+ended-cr e (l ∷ m ∷ ls) q =
+    ends-right l.text (line_ending_text l.by ++ group_bytes (held_of e (m ∷ ls) [])) (ends-right (line_ending_text l.by) (group_bytes (held_of e (m ∷ ls) [])) (ended-cr e (m ∷ ls) q))
+
+-- A CR does where the groups end in one, and else an LF.
+pub put-seam : (e : Encoding) (gs : List (List HeldLine)) (h : AreLined e gs) (by : LineEnding) → (ends_in_cr (groups_bytes gs) ≡ true → by ≡ cr) → IsSeam by h
+put-seam e gs h by is q z =
+    let ends : ends_in_cr (groups_bytes gs) ≡ true =
+    ap ends_in_cr (groups-bytes gs ∙ ap group_bytes (h.held ∙ ap (held_of e h.ended) z.0)) ∙ ended-cr e h.ended q in
+    let m = is ends in
+    absurd (cc (z.1, m))

@@ -10,7 +10,7 @@ use Rattle.properties_format.specs.Reading.Items.{outcome_of}
 use Rattle.properties_format.specs.Reading.Cut.{decoded_line}
 use Rattle.properties_format.specs.Writing.{is_empty}
 use Rattle.properties_format.specs.Body.{HeldLine, as_lines, HasKey, AreGroupsOf, group_bytes, groups_bytes, ending_bytes, last_ending}
-use Rattle.properties_format.specs.Edited.{is_editable, pair_bytes}
+use Rattle.properties_format.specs.Edited.{is_editable, is_empty_line, pair_bytes}
 use Rattle.properties_format.specs.Valued.{HasPair}
 use Rattle.properties_format.specs.Reading.Body.{held_groups_of}
 use Rattle.properties_format.specs.Reading.Edited.{KeyPlace, set_at}
@@ -24,6 +24,16 @@ use Rattle.properties_format.proofs.Slots.Put.{pair-some}
 use Rattle.properties_format.proofs.Valued.Fronts.{no_lines-no_pair}
 use Rattle.properties_format.proofs.Valued.Made.{raw-pair}
 
+-- A group that ends in a line with bytes is no empty line.
+pub push-full : (kept : List HeldLine) (l : HeldLine) → l.bytes ≢ [] → is_empty_line (kept ++ l ∷ []) ≡ false
+push-full [] l n = some-bytes l.bytes n
+  where
+    some-bytes : (x : List ℕ) → x ≢ [] → is_empty x ≡ false
+    some-bytes [] n = absurd (n refl)
+    some-bytes (c ∷ x) n = refl
+push-full (h ∷ []) l n = refl
+push-full (h ∷ i ∷ kept) l n = refl
+
 -- The group of a pair is replaced by that of the printed pair, and ends as it did.
 pub record IsReput (e : Encoding) (source key value : List ℕ) (gs : List (List HeldLine)) (p : KeyPlace) : Type 0 where
   pub group : List HeldLine
@@ -31,6 +41,8 @@ pub record IsReput (e : Encoding) (source key value : List ℕ) (gs : List (List
   pub has_pair : HasPair key value group
   pub ending : last_ending group ≡ last_ending p.group
   pub bytes : unended_bytes group ≡ pair_bytes e (is_empty (groups_bytes p.before)) key value
+  pub full : is_empty_line group ≡ false
+  pub whole : IsWhole (as_lines group)
 
 pub reput : (e : Encoding) (source body key value : List ℕ) (before : List (List HeldLine)) (i : HeldLine) (is : List HeldLine) (after : List (List HeldLine)) → is_editable e ≡ true
     → All scalar key → All scalar value → held_groups_of e body ≡ before ++ (i ∷ is) ∷ after
@@ -59,6 +71,8 @@ reput e source body key value before i is after ok k v division =
       has_pair = subst (IsOutcome (joined (as_lines (line ∷ [])))) outcome (outcome_of-meets (joined (as_lines (line ∷ []))));
       ending = refl;
       bytes = refl;
+      full = push-full [] line (pair-some e first key value);
+      whole = whole;
     }
 
 pub reput-of : (e : Encoding) (source body key value : List ℕ) (before : List (List HeldLine)) (g : List HeldLine) (after : List (List HeldLine)) → is_editable e ≡ true
