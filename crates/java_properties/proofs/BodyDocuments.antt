@@ -79,7 +79,7 @@ editable-unit utf_16be h = absurd (cc)
 
 -- ---- what a document tells
 
-items-sound : (n : ℕ) (gs : List (List HeldLine)) → AreSound gs → AreItems (entries_in n gs)
+pub items-sound : (n : ℕ) (gs : List (List HeldLine)) → AreSound gs → AreItems (entries_in n gs)
 items-sound n [] s = tt
 items-sound n (g ∷ gs) s = of-outcome (outcome g) s.0 (items-sound (n + length g) gs s.1)
   where

@@ -24,7 +24,7 @@ use Rattle.properties_format.specs.Edited.{unreadable, final_group, added_ending
 use Rattle.properties_format.specs.Items.{broken}
 use Rattle.properties_format.specs.Reading.Items.{outcome_of, followed}
 use Rattle.properties_format.specs.Reading.Body.{is_pair_with, has_key, entries_in, held_of, held_lines_of, held_groups_after, held_groups_of}
-use Rattle.properties_format.specs.Reading.Slots.{unended_bytes}
+use Rattle.properties_format.specs.Reading.Parts.{unended_bytes}
 use Rattle.properties_format.specs.Reading.Edited.{IsSound, AreSound, result_by}
 use Rattle.properties_format.proofs.Body.Groups.{groups_bytes-append, groups-close, groups-leave}
 use Rattle.properties_format.proofs.Edited.Made.{has_key-true}

@@ -1,9 +1,10 @@
 -- The keys of an input, each once: those that come first where their lines say so.
-use Rattle.std.proofs.Common.{◌≡◌, ◌≢◌, ◌==◌, ◌<◌, ◌≤◌, ℕ, Bool, true, false, List, [], ◌∷◌, ◌++◌, Option, Some, None, length, refl, ap, ap₂, sym, ◌∙◌, inl, inr, subst, append_assoc, arith}
+use Rattle.std.proofs.Common.{◌≡◌, ◌≢◌, ◌==◌, ◌<◌, ◌≤◌, ℕ, zero, suc, ◌+◌, take, get_or, Bool, true, false, List, [], ◌∷◌, ◌++◌, Option, Some, None, length, refl, ap, ap₂, sym, ◌∙◌, inl, inr, subst, append_assoc, arith}
 use Rattle.std.specs.Prelude.{◌⊎◌, bytes_eq, map, Contains, AllPairs}
 use Rattle.std.specs.List.{AllByRecursion}
 use Rattle.std.proofs.lemmas.Bool.{cases_Bool}
 use Rattle.std.proofs.lemmas.Bool.Decides.{nat_tests}
+use Rattle.std.proofs.lemmas.List.{map-append, take_more}
 use Rattle.std.proofs.lemmas.List.Elements.{All-from_recursion}
 use Rattle.std.proofs.lemmas.List.Kept.{AllPairs-cons}
 use Rattle.std.proofs.lemmas.Slice.Eq.{bytes_eq-Decides}
@@ -16,11 +17,13 @@ use Rattle.properties_format.specs.Entries.{comment, pair, Entry, item, malforme
 use Rattle.properties_format.specs.Items.{IsItems, Outcome, ignored, given, broken}
 use Rattle.properties_format.specs.Maps as maps
 use Rattle.properties_format.specs.Reading.Items.{outcome_of, followed, entries_of, items_of}
-use Rattle.properties_format.specs.Reading.Slots.{outcome_key}
+use Rattle.properties_format.specs.Reading.Parts.{outcome_key}
 use Rattle.properties_format.specs.Reading.Keys.{Has, HasNot, ComesBefore, AreFirstOf}
 use Rattle.properties_format.proofs.Items.Numbers.{items_of-ascend}
-use Rattle.properties_format.proofs.Slots.Keys.{pair_keys, are-keys}
-use Rattle.java_properties.specs.KeyLines.{KeyPlace, KeyEntry, AreFirstsOf, AreKeyLines, HasFirstNumber, HasNoKey}
+use Rattle.properties_format.proofs.Keys.{pair_keys, are-keys, contains}
+use Rattle.java_properties.specs.KeyLines.{KeyPlace, KeyEntry, AreFirstsOf, AreKeyLines, HasFirstNumber, HasNoKey, key_line_entries, key_line_entry}
+use Rattle.java_properties.specs.Maps.{characters}
+use Rattle.java_properties.specs.declared.iter.keys.KeyLine as code
 use Rattle.java_properties.proofs.KeyLines.{are_keys-only, groups_in, key_before, keys_in}
 
 -- ---- the places of keys
@@ -242,3 +245,38 @@ first-are e bytes lines whole h =
     let same : h.keys ≡ places_in entries = are_keys-only e bytes h.keys h.are_keys ∙ places-of (line_ends (lines_of (decoded_of e bytes))) (groups_in e bytes) whole in
     let ascends = subst (Ascend 0) (sym same) (places-ascend 0 entries (items_of-ascend e bytes end)) in
     are-keys entries (keys_of h.keys) (first_keys lines) (sym (keys-in entries) ∙ ap keys_of (sym same)) (are-firsts h.keys 0 ascends lines h.are_firsts)
+
+-- ---- line by line
+
+first-append : (xs ys : List KeyEntry) → first_keys (xs ++ ys) ≡ first_keys xs ++ first_keys ys
+first-append [] ys = refl
+first-append (x ∷ xs) ys = ap (if_first (x.first == x.number) x.key) (first-append xs ys) ∙ either (x.first == x.number)
+  where
+    either : (b : Bool) → if_first b x.key (first_keys xs ++ first_keys ys) ≡ if_first b x.key (first_keys xs) ++ first_keys ys
+    either true = refl
+    either false = refl
+
+-- The keys that come first after a line more.
+pub first-more : (lines : List code.KeyLine) (i : ℕ) (d : code.KeyLine) → i < length lines
+    → first_keys (key_line_entries (take (i + 1) lines))
+    ≡ first_keys (key_line_entries (take i lines)) ++ if_first ((get_or lines i d).first == (get_or lines i d).line_number) (characters (get_or lines i d).key) []
+first-more lines i d low =
+    ap (λ v. first_keys (key_line_entries v)) (take_more lines i d low)
+    ∙ ap first_keys (map-append key_line_entry (take i lines) (get_or lines i d ∷ []))
+    ∙ first-append (key_line_entries (take i lines)) (key_line_entries (get_or lines i d ∷ []))
+
+-- A line that is the first with its key tells one of them.
+first-has : (lines : List code.KeyLine) (i : ℕ) (d : code.KeyLine) → i < length lines → ((get_or lines i d).first == (get_or lines i d).line_number) ≡ true
+    → Has (characters (get_or lines i d).key) (first_keys (key_line_entries lines))
+first-has [] i d low is = absurd (omega arith)
+first-has (l ∷ lines) zero d low is = subst (λ b. Has (characters l.key) (if_first b (characters l.key) (first_keys (key_line_entries lines)))) (sym is) (inl refl)
+first-has (l ∷ lines) (suc i) d low is =
+    if-later (l.first == l.line_number) (characters l.key) (characters (get_or lines i d).key) (first_keys (key_line_entries lines)) (first-has lines i d (omega arith) is)
+
+-- So its key has a value.
+pub first-value : (e : Encoding) (bytes : List ℕ) (lines : List code.KeyLine) (i : ℕ) (d : code.KeyLine) → AreItems (items_of e bytes end) → AreKeyLines e bytes (key_line_entries lines)
+    → i < length lines → ((get_or lines i d).first == (get_or lines i d).line_number) ≡ true
+    → (value : List ℕ) × maps.IsLastValue (items_of e bytes end) (characters (get_or lines i d).key) value
+first-value e bytes lines i d whole h low is =
+    let keys = first-are e bytes (key_line_entries lines) whole h in
+    (keys.each (characters (get_or lines i d).key)).0 (contains (characters (get_or lines i d).key) (first_keys (key_line_entries lines)) (first-has lines i d low is))

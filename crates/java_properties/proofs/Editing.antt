@@ -20,14 +20,14 @@ use Rattle.properties_format.specs.Body.{ending_bytes, groups_bytes, last_ending
 use Rattle.properties_format.specs.Edited.{bom_of, pair_bytes, separation, added_ending, is_editable, edited, unsupported, IsEditResult, IsSetKeyResult, IsRemoveKeyResult}
 use Rattle.properties_format.specs.Reading.Items.{items_of}
 use Rattle.properties_format.specs.Reading.Body.{held_groups_of, entries_in}
-use Rattle.properties_format.specs.Reading.Slots.{unended_bytes}
+use Rattle.properties_format.specs.Reading.Parts.{unended_bytes}
 use Rattle.properties_format.specs.Reading.Edited.{AreSound, without, key_removed, key_removed_in, result_by, result_of, key_set, key_set_in, set_at, set_key_result, remove_key_result, KeyPlace, last_place}
 use Rattle.properties_format.proofs.Body.Groups.{groups_bytes-append, held_groups_of-meets, held-body}
 use Rattle.properties_format.proofs.Body.Numbers.{items_of-groups}
 use Rattle.properties_format.proofs.Edited.ByteOrderMarks.{source-whole}
 use Rattle.properties_format.proofs.Edited.Results.{set_key_result-meets, set_key_result-only, remove_key_result-meets, remove_key_result-only}
 use Rattle.properties_format.proofs.Edited.Steps.{result-after}
-use Rattle.properties_format.proofs.Slots.Lines.{bytes-unended}
+use Rattle.properties_format.proofs.InTurn.Lines.{bytes-unended}
 use Rattle.properties_format.proofs.Changed.Read.{set_key-reads, remove_key-reads, readable}
 use Rattle.properties_format.specs.Edits.{Edit, AreScalarEdits, IsEditAllResult}
 use Rattle.properties_format.specs.Reading.Edits.{edit_all_result, edits_made}

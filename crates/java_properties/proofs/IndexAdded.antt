@@ -23,7 +23,7 @@ use Rattle.properties_format.proofs.Edited.Contents.{ends-right}
 use Rattle.properties_format.proofs.Edited.Pair.{pair_text, pair-decoded, pair-whole, pair-outcome, pair-plain}
 use Rattle.properties_format.proofs.Edited.Steps.{final_group-push}
 use Rattle.properties_format.proofs.Items.Unique.{outcome_of-only}
-use Rattle.properties_format.proofs.Slots.Put.{pair-some}
+use Rattle.properties_format.proofs.Edited.Parts.{pair-some}
 use Rattle.properties_format.proofs.Valued.Added.{ending-held}
 use Rattle.properties_format.proofs.Valued.Lined.{AreLined, groups-lined, last_by}
 use Rattle.properties_format.proofs.Valued.Made.{new_separator-meets}

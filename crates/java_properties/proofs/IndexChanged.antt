@@ -13,10 +13,10 @@ use Rattle.properties_format.specs.Body.{HeldLine, AreGroupsOf, NoneHasKey, as_l
 use Rattle.properties_format.specs.Edited.{final_group, is_editable, is_empty_line, is_last_open, is_left_open}
 use Rattle.properties_format.specs.Reading.Body.{is_pair_with}
 use Rattle.properties_format.specs.Reading.Edited.{IsSound, AreSound}
-use Rattle.properties_format.specs.Reading.Slots.{unended_bytes}
+use Rattle.properties_format.specs.Reading.Parts.{unended_bytes}
 use Rattle.properties_format.specs.Writing.{is_empty}
-use Rattle.properties_format.proofs.Slots.Lines.{ending-of}
-use Rattle.properties_format.proofs.Slots.Merged.{AreInTurn, in-turn}
+use Rattle.properties_format.proofs.InTurn.Lines.{ending-of}
+use Rattle.properties_format.proofs.InTurn.Merged.{AreInTurn, in-turn}
 use Rattle.java_properties.specs.BodyIndex.{FollowsPair, IsIndex, all_shifted, is_pair, last_value, live_spans, outcome, places_of, shifted, span_at, spans_where, stored_at, stored_value}
 use Rattle.java_properties.specs.BodyKeys.{closing_of}
 use Rattle.java_properties.specs.declared.edit.index.Index.{Index}

@@ -8,7 +8,7 @@ use Rattle.std.proofs.lemmas.List.{map-append}
 use Rattle.properties_format.specs.Items.{Outcome, ignored}
 use Rattle.properties_format.specs.Body.{HeldLine, NoneHasKey, group_bytes, groups_bytes}
 use Rattle.properties_format.specs.Reading.Body.{has_key, is_pair_with}
-use Rattle.properties_format.specs.Reading.Slots.{unended_bytes}
+use Rattle.properties_format.specs.Reading.Parts.{unended_bytes}
 use Rattle.properties_format.proofs.Body.Groups.{groups_bytes-append}
 use Rattle.java_properties.specs.BodyIndex.{all_shifted, is_pair, live_spans, moved_span, moved_to, outcome, shifted, some_span, span_at, span_of, spans_where}
 use Rattle.java_properties.specs.declared.edit.index.Shift.TheVariants as shift

@@ -15,14 +15,14 @@ use Rattle.properties_format.specs.Edited.{bom_of, separation, added_ending, is_
 use Rattle.properties_format.specs.Valued.{HasPair, value_text}
 use Rattle.properties_format.specs.Reading.Body.{held_groups_of}
 use Rattle.properties_format.specs.Reading.Edited.{AreSound, key_set, key_set_in, last_place, set_at}
-use Rattle.properties_format.specs.Reading.Slots.{unended_bytes}
+use Rattle.properties_format.specs.Reading.Parts.{unended_bytes}
 use Rattle.properties_format.specs.Reading.Valued.{front_of, between_of, has_value, revalued_at, valued_at, value_set, value_set_in}
 use Rattle.properties_format.proofs.Body.Groups.{held_groups_of-meets, held-body}
 use Rattle.properties_format.proofs.Edited.Made as made
 use Rattle.properties_format.proofs.Edited.Made.{last_place-meets}
 use Rattle.properties_format.proofs.Edited.Replaced.{reput-of}
 use Rattle.properties_format.proofs.Items.Unique.{outcome_of-only}
-use Rattle.properties_format.proofs.Slots.Merged.{AreInTurn, in-turn}
+use Rattle.properties_format.proofs.InTurn.Merged.{AreInTurn, in-turn}
 use Rattle.properties_text.specs.Encoding.{encoding_of}
 use Rattle.java_properties.specs.BodyIndex.{FollowsPair, IsIndex, IsPairPut, IsValuePut, KeepsNothing, outcome}
 use Rattle.java_properties.specs.BodyKeys.{IsPlaceOf, IsKeyFound, closing_bytes, closing_of}
@@ -96,6 +96,19 @@ module _ (opened : BodyStart) (old : List ℕ) (ok : is_editable (encoding_of op
         let first : length (take s old) ≡ s = length-take-le s old (omega arith) in
         omega arith
   ]
+
+  pub put-size : (text new : List ℕ) → new ≡ take (opened.start + pair.start) old ++ (text ++ drop (opened.start + pair.end) old) → length old ≤ pair.end + length new
+  put-size text new is =
+      let s = opened.start + pair.start in
+      let t = opened.start + pair.end in
+      let in_old = pair-within in
+      let ordered = in_old.0 in
+      let within = in_old.1 in
+      let all : length new ≡ length (take s old) + (length text + length (drop t old)) =
+      ap length is ∙ length-append (take s old) (text ++ drop t old) ∙ ap (λ n. length (take s old) + n) (length-append text (drop t old)) in
+      let left : length (drop t old) ≡ length old - t = length-drop t old in
+      let first : length (take s old) ≡ s = length-take-le s old (omega arith) in
+      omega arith
 
 -- Where nothing is done, nothing changes.
 pub keeps-nothing : (groups : List (List HeldLine)) (index : Index) → IsIndex groups index → KeepsNothing index index

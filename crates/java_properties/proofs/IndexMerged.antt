@@ -15,13 +15,13 @@ use Rattle.properties_format.specs.Reading.Cut.{decoded_line}
 use Rattle.properties_format.specs.Reading.Edited.{IsSound, AreSound}
 use Rattle.properties_format.specs.Reading.Items.{outcome_of}
 use Rattle.properties_format.specs.Reading.Maps.{first_value}
-use Rattle.properties_format.specs.Reading.Slots.{unended_bytes, slot_of, are_one_ending}
+use Rattle.properties_format.specs.Reading.Parts.{unended_bytes, are_one_ending}
 use Rattle.properties_format.proofs.Body.Decoded.{decoded-nil}
 use Rattle.properties_format.proofs.Body.Groups.{held_groups_of-only}
 use Rattle.properties_format.proofs.Edited.Outcomes.{outcome-empty}
 use Rattle.properties_format.proofs.Maps.{first-none}
-use Rattle.properties_format.proofs.Slots.Lines.{AreLinesBy, unended-some, with_ending, texts-with, unended-with}
-use Rattle.properties_format.proofs.Slots.Merged.{AreInTurn, after-lf, merged, merged-groups, merged-one, merged-two, one-bytes, one-ending}
+use Rattle.properties_format.proofs.InTurn.Lines.{AreLinesBy, unended-some, with_ending, texts-with, unended-with}
+use Rattle.properties_format.proofs.InTurn.Merged.{AreInTurn, after-lf, merged, merged-groups, merged-one, merged-two, one-bytes, one-ending}
 use Rattle.java_properties.specs.BodyIndex.{IsListed, all_shifted, is_pair, last_value, outcome, places_of, shifted, some_span, span_of, spans_where, stored_at, value_by}
 use Rattle.java_properties.specs.declared.edit.index.IndexedPair.{IndexedPair}
 use Rattle.java_properties.specs.declared.edit.index.Shift.TheVariants as shift
@@ -61,7 +61,7 @@ module _ (e : Encoding) where
   pub merged-spans : (such : Outcome → Bool) → such ignored ≡ false → (n : ℕ) (gs : List (List HeldLine)) → AreInTurn e gs → spans_where such n (merged gs) ≡ spans_where such n gs
   merged-spans such no n [] a = absurd a
   merged-spans such no n (g ∷ []) a = refl
-  merged-spans such no n (g ∷ h ∷ gs) (a, r) = elim (cases_Bool (are_one_ending (slot_of g) (slot_of h))) [
+  merged-spans such no n (g ∷ h ∷ gs) (a, r) = elim (cases_Bool (are_one_ending g h)) [
     | inl k ↦
         let m = one-ending g h k in
         let w = with_ending (Some crlf) g in
@@ -85,7 +85,7 @@ module _ (e : Encoding) where
   pub merged-value : (j : List ℕ) (gs : List (List HeldLine)) → AreInTurn e gs → last_value j (merged gs) ≡ last_value j gs
   merged-value j [] a = absurd a
   merged-value j (g ∷ []) a = refl
-  merged-value j (g ∷ h ∷ gs) (a, r) = elim (cases_Bool (are_one_ending (slot_of g) (slot_of h))) [
+  merged-value j (g ∷ h ∷ gs) (a, r) = elim (cases_Bool (are_one_ending g h)) [
     | inl k ↦
         let m = one-ending g h k in
         let lines = turn-lines e h gs r in
@@ -99,7 +99,7 @@ module _ (e : Encoding) where
   pub merged-sound : (gs : List (List HeldLine)) → AreInTurn e gs → AreSound gs → AreSound (merged gs)
   merged-sound [] a s = absurd a
   merged-sound (g ∷ []) a s = s
-  merged-sound (g ∷ h ∷ gs) (a, r) s = elim (cases_Bool (are_one_ending (slot_of g) (slot_of h))) [
+  merged-sound (g ∷ h ∷ gs) (a, r) s = elim (cases_Bool (are_one_ending g h)) [
     | inl k ↦
         let m = one-ending g h k in
         subst AreSound (sym (merged-one g h gs k)) (subst IsSound (sym (with-said (Some crlf) g)) s.0, merged-sound gs (after-lf e h gs r m.by_lf) s.1.1)

@@ -20,7 +20,7 @@ use Rattle.properties_format.specs.Edited.{final_group, is_empty_line, is_left_o
 use Rattle.properties_format.specs.Reading.Body.{held_groups_of, is_pair_with}
 use Rattle.properties_format.specs.Reading.Edited.{IsSound, AreSound}
 use Rattle.properties_format.specs.Reading.Items.{outcome_of}
-use Rattle.properties_format.specs.Reading.Slots.{unended_bytes}
+use Rattle.properties_format.specs.Reading.Parts.{unended_bytes}
 use Rattle.properties_format.proofs.Edited.Steps.{final_group-push}
 use Rattle.properties_text.specs.Encoding.{encoding_of}
 use Rattle.java_properties.specs.BodyGroups.{IsWithin, TakesGroup, text_of}

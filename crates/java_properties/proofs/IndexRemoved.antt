@@ -21,15 +21,15 @@ use Rattle.properties_format.specs.Reading.Body.{has_key, held_groups_of, is_pai
 use Rattle.properties_format.specs.Reading.Edited.{IsSound, AreSound, without}
 use Rattle.properties_format.specs.Reading.Lines.{begins_with_lf}
 use Rattle.properties_format.specs.Reading.Maps.{first_value}
-use Rattle.properties_format.specs.Reading.Slots.{unended_bytes}
+use Rattle.properties_format.specs.Reading.Parts.{unended_bytes}
 use Rattle.properties_format.proofs.Body.Groups.{groups_bytes-append, held_groups_of-meets, held-body}
 use Rattle.properties_format.proofs.Edited.Made.{has_key-true, has_key-false}
 use Rattle.properties_format.proofs.Edited.Steps.{final_group-push, without-append}
 use Rattle.properties_format.proofs.Items.Unique.{outcome_of-only}
-use Rattle.properties_format.proofs.Slots.Lines.{bytes-unended, ending-of}
-use Rattle.properties_format.proofs.Slots.Merged.{AreInTurn, IsEndedGroup, after-cr, in-turn, merged, merged-final}
-use Rattle.properties_format.proofs.Slots.Removed.{empty_group, empty-lines, empty-whole}
-use Rattle.properties_format.proofs.Slots.Unmerged.{AreUnmerged, merged-unmerged}
+use Rattle.properties_format.proofs.InTurn.Lines.{bytes-unended, ending-of}
+use Rattle.properties_format.proofs.InTurn.Merged.{AreInTurn, IsEndedGroup, after-cr, in-turn, merged, merged-final}
+use Rattle.properties_format.proofs.Edited.Parts.{empty_group, empty-lines, empty-whole}
+use Rattle.properties_format.proofs.InTurn.Unmerged.{AreUnmerged, merged-unmerged}
 use Rattle.properties_text.specs.Encoding.{encoding_of}
 use Rattle.java_properties.specs.BodyIndex.{ArePairsRemoved, CutsOut, IsCutOut, IsInSource, IsIndex, IsListed, KeepsNothing, all_shifted, ending_size, is_pair, last_value, live_spans, outcome, outcome_pair, places_of, shifted, span_at, span_of, spans_where, stored_at, stored_value, value_by}
 use Rattle.java_properties.specs.BodyKeys.{closing_of}
@@ -213,7 +213,7 @@ closing-same [] [] x ys now was q c = absurd (cc)
 closing-same [] (w ∷ xs) x ys now was q c = absurd (cc)
 closing-same (r ∷ rest) xs x ys now was q c = c
 
-parted : (ds xs : List (List HeldLine)) (x : List HeldLine) (ys : List (List HeldLine)) → ds ++ (xs ++ x ∷ ys) ≡ (ds ++ xs ++ x ∷ []) ++ ys
+parted : (ds xs : List (List HeldLine)) (x : List HeldLine) (ys : List (List HeldLine)) → ds ++ (xs ++ x ∷ ys) ≡ ((ds ++ xs) ++ x ∷ []) ++ ys
 parted ds xs x ys = sym (append_assoc ds xs (x ∷ ys)) ∙ sym (append_assoc (ds ++ xs) (x ∷ []) ys)
 
 drop-at : (n : ℕ) (x y : List ℕ) → n ≡ length x → drop n (x ++ y) ≡ y
@@ -330,15 +330,10 @@ module _ (e : Encoding) (key : List ℕ) (gs : List (List HeldLine)) (start : �
   cut-end : n + length (unended_bytes g) + ending_size (drop (start + (n + length (unended_bytes g))) source) ≡ end
   cut-end = let size = group-size g in let own = own-size in omega arith
 
-  -- Without the pair it is known of the source and of the index what was.
-  pub cut-step : (new : List ℕ) (is : Index) → CutsOut start (span_at index.spans.items place) source index new is → IsCutTo e key gs front was new is places
-  cut-step new is cuts =
+  -- the bytes without it
+  cut-made : (new : List ℕ) (is : Index) → CutsOut start (span_at index.spans.items place) source index new is → new ≡ front ++ groups_bytes (skip ++ after)
+  cut-made new is cuts =
       let k : IsCutOut start (span_of n g) source index new is = subst (λ o. CutsOut start o source index new is) first.0 cuts in
-      let key_pair = has_key-true key g some-first.has in
-      let said : outcome g ≡ given (content.pair key key_pair.0) = sym (outcome_of-only (joined (as_lines g)) (given (content.pair key key_pair.0)) key_pair.1) in
-      let entries = ap (λ m. m.entries) k.pairs in
-      let spans : is.spans.items ≡ all_shifted (shift.Cut n end) index.spans.items = k.spans ∙ ap (λ m. all_shifted (shift.Cut n m) index.spans.items) cut-end in
-      let assoc : skip ++ after ≡ h.kept ++ (some-first.skip ++ after) = append_assoc h.kept some-first.skip after in
       let x = front ++ groups_bytes skip in
       let front_size : start + n ≡ length x = let a = length-append front (groups_bytes skip) in omega arith in
       let head : take (start + n) source ≡ x =
@@ -349,12 +344,33 @@ module _ (e : Encoding) (key : List ℕ) (gs : List (List HeldLine)) (start : �
       sym (drop-drop (ending_size (drop text_end source)) text_end source)
       ∙ ap₂ drop own-size behind
       ∙ drop-at (length (ending_bytes (last_ending g))) (ending_bytes (last_ending g)) (groups_bytes after) refl in
-      let bytes : new ≡ front ++ groups_bytes (skip ++ after) =
-      k.bytes ∙ ap₂ (λ v w. v ++ w) head tail ∙ append_assoc front (groups_bytes skip) (groups_bytes after) ∙ ap (λ v. front ++ v) (sym (groups_bytes-append skip after)) in
+      k.bytes ∙ ap₂ (λ v w. v ++ w) head tail ∙ append_assoc front (groups_bytes skip) (groups_bytes after) ∙ ap (λ v. front ++ v) (sym (groups_bytes-append skip after))
+
+  -- They are fewer.
+  pub cut-shorter : (new : List ℕ) (is : Index) → CutsOut start (span_at index.spans.items place) source index new is → length new < length source
+  cut-shorter new is cuts =
+      let made : length new ≡ length front + length (groups_bytes (skip ++ after)) = ap length (cut-made new is cuts) ∙ length-append front (groups_bytes (skip ++ after)) in
+      let one = size-around skip g after in
+      let two = ap length (groups_bytes-append skip after) ∙ length-append (groups_bytes skip) (groups_bytes after) in
+      let all = whole-size in
+      let some = some-bytes in
+      omega arith
+
+  -- Without the pair it is known of the source and of the index what was.
+  pub cut-step : (new : List ℕ) (is : Index) → CutsOut start (span_at index.spans.items place) source index new is → IsCutTo e key gs front was new is places
+  cut-step new is cuts =
+      let k : IsCutOut start (span_of n g) source index new is = subst (λ o. CutsOut start o source index new is) first.0 cuts in
+      let key_pair = has_key-true key g some-first.has in
+      let said : outcome g ≡ given (content.pair key key_pair.0) = sym (outcome_of-only (joined (as_lines g)) (given (content.pair key key_pair.0)) key_pair.1) in
+      let entries = ap (λ m. m.entries) k.pairs in
+      let spans : is.spans.items ≡ all_shifted (shift.Cut n end) index.spans.items = k.spans ∙ ap (λ m. all_shifted (shift.Cut n m) index.spans.items) cut-end in
+      let assoc : skip ++ after ≡ h.kept ++ (some-first.skip ++ after) = append_assoc h.kept some-first.skip after in
+      let text_end = start + (n + length (unended_bytes g)) in
+      let bytes : new ≡ front ++ groups_bytes (skip ++ after) = cut-made new is cuts in
       let told : IsLastTold (text_end == length source) after = last-told e skip g after text_end (length source) start all-turn refl whole-size in
       let closes : (rest : List (List HeldLine)) → rest ≡ some-first.skip ++ g ∷ after → IsClosingOf rest was index.closing → index.closing ≡ was = λ rest q c. closing-same rest some-first.skip g after index.closing was q c in
       record {
-        done = h.done ++ some-first.skip ++ g ∷ [];
+        done = (h.done ++ some-first.skip) ++ g ∷ [];
         kept = skip;
         rest = after;
         from = h.from ∙ ap (λ v. h.done ++ v) some-first.division ∙ parted h.done some-first.skip g after;

@@ -12,7 +12,7 @@ use Rattle.properties_format.specs.Edited.{is_editable, is_empty_line}
 use Rattle.properties_format.specs.Valued.{HasPair, IsFrontOf, value_text}
 use Rattle.properties_format.specs.Reading.Body.{held_groups_of}
 use Rattle.properties_format.specs.Reading.Edited.{KeyPlace, last_place}
-use Rattle.properties_format.specs.Reading.Slots.{unended_bytes}
+use Rattle.properties_format.specs.Reading.Parts.{unended_bytes}
 use Rattle.properties_format.specs.Reading.Valued.{front_of, between_of, has_value, revalued_at}
 use Rattle.properties_format.proofs.Cut.Byline.{decoded_line-only}
 use Rattle.properties_format.proofs.Body.Decoded.{decoded-nil}
@@ -26,7 +26,7 @@ use Rattle.properties_format.proofs.Valued.Lined.{AreLined, groups-lined, lined-
 use Rattle.properties_format.proofs.Valued.Pair.{new_bytes, new_line, changed-pair}
 use Rattle.properties_format.proofs.Valued.Groups.{revalued-bytes}
 use Rattle.properties_format.proofs.Valued.Read.{front-unended}
-use Rattle.properties_format.proofs.Slots.Revalued.{unended-kept}
+use Rattle.properties_format.proofs.Edited.Parts.{unended-kept}
 use Rattle.properties_format.proofs.Edited.Replaced.{push-full}
 
 -- ---- sizes

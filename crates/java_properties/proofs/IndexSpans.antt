@@ -6,9 +6,9 @@ use Rattle.std.proofs.lemmas.Bool.Decides.{nat_tests}
 use Rattle.std.proofs.lemmas.List.{map-append}
 use Rattle.properties_format.specs.Items.{Outcome}
 use Rattle.properties_format.specs.Body.{HeldLine, group_bytes, groups_bytes, ending_bytes, last_ending}
-use Rattle.properties_format.specs.Reading.Slots.{unended_bytes}
+use Rattle.properties_format.specs.Reading.Parts.{unended_bytes}
 use Rattle.properties_format.proofs.Body.Groups.{groups_bytes-append}
-use Rattle.properties_format.proofs.Slots.Lines.{bytes-unended}
+use Rattle.properties_format.proofs.InTurn.Lines.{bytes-unended}
 use Rattle.java_properties.specs.BodyIndex.{all_shifted, lengthened_span, live_spans, moved_span, moved_to, outcome, shifted, some_span, span_at, span_of, spans_where}
 use Rattle.java_properties.specs.declared.edit.index.Shift.{Shift}
 use Rattle.java_properties.specs.declared.edit.index.Shift.TheVariants as shift
@@ -140,7 +140,7 @@ pub moved-high : (old new p q : ℕ) → old ≤ p → q + old ≡ p + new → q
 moved-high old new p q high is fits =
     cond-false (nat_lt p old) p (min (p - old + new) (2 ^ 64 - 1)) (grind (arith, nat_tests)) ∙ (let small : min (p - old + new) (2 ^ 64 - 1) ≡ q = omega arith in small)
 
-span-is : (a b c d : ℕ) → a ≡ c → b ≡ d → (let s : BodySpan = record { start = a; end = b } in s) ≡ (let t : BodySpan = record { start = c; end = d } in t)
+pub span-is : (a b c d : ℕ) → a ≡ c → b ≡ d → (let s : BodySpan = record { start = a; end = b } in s) ≡ (let t : BodySpan = record { start = c; end = d } in t)
 span-is a b c d h k = ap₂ (λ v w. let s : BodySpan = record { start = v; end = w } in s) h k
 
 -- Parts before a change stay,

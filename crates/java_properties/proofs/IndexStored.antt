@@ -46,3 +46,15 @@ module _ {Y : Type 0} (m n : BTreeMap (String Y) IndexedPair) (key : List ℕ) (
         ap (option_map (λ r. characters r.value)) (cond-false (bytes_eq (chars key) k) (Some q) (stored_at m.entries k) b)
         ∙ sym (cond-false (bytes_eq (chars key) k) (option_map (λ v. characters q.value) (stored_value m.entries k)) (stored_value m.entries k) b)
   ]
+
+-- Where a key isn't stored, nothing has to change.
+pub missing-values : {Y : Type 0} (entries : List (String Y × IndexedPair)) (key value : List ℕ) → stored_at entries key ≡ None → (k : List ℕ)
+    → stored_value entries k ≡ (if bytes_eq key k then option_map (λ v. value) (stored_value entries k) else stored_value entries k)
+missing-values entries key value none k = elim (cases_Bool (bytes_eq key k)) [
+  | inl b ↦
+      let nothing : stored_value entries k ≡ None = ap (option_map (λ r. characters r.value)) (ap (stored_at entries) (sym ((bytes_eq-Decides key k).0 b)) ∙ none) in
+      nothing
+      ∙ ap (option_map (λ v. value)) (sym nothing)
+      ∙ sym (cond-true (bytes_eq key k) (option_map (λ v. value) (stored_value entries k)) (stored_value entries k) b)
+  | inr b ↦ sym (cond-false (bytes_eq key k) (option_map (λ v. value) (stored_value entries k)) (stored_value entries k) b)
+]

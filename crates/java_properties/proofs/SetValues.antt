@@ -11,7 +11,7 @@ use Rattle.properties_format.specs.Edited.{bom_of, separation, added_ending, is_
 use Rattle.properties_format.specs.Valued.{value_text, separation_by, ending_in, new_pair_bytes, IsSetValueResult}
 use Rattle.properties_format.specs.Reading.Items.{outcome_of}
 use Rattle.properties_format.specs.Reading.Body.{held_groups_of}
-use Rattle.properties_format.specs.Reading.Slots.{unended_bytes}
+use Rattle.properties_format.specs.Reading.Parts.{unended_bytes}
 use Rattle.properties_format.specs.Reading.Edited.{result_of, last_place}
 use Rattle.properties_format.specs.Reading.Valued.{front_of, between_of, has_value, last_between, separator_by, revalued_at, valued_at, value_set, value_set_in, set_value_result}
 use Rattle.properties_format.proofs.Body.Groups.{held_groups_of-meets, held-body}

@@ -18,7 +18,7 @@ use Rattle.properties_format.specs.Reading.Edited.{IsSound, AreSound}
 use Rattle.properties_format.specs.Reading.Items.{outcome_of}
 use Rattle.properties_format.specs.Reading.Lines.{begins_with_lf}
 use Rattle.properties_format.specs.Reading.Maps.{first_value}
-use Rattle.properties_format.specs.Reading.Slots.{unended_bytes}
+use Rattle.properties_format.specs.Reading.Parts.{unended_bytes}
 use Rattle.properties_text.specs.Encoding.{encoding_of}
 use Rattle.java_properties.specs.BodyKeys.{IsErrorOfGroups, closing_bytes, closing_of}
 use Rattle.java_properties.specs.Editing.{HasValueSet, IsRemoved, IsSet}

@@ -5,6 +5,7 @@ pub mod ByteOrderMarks
 pub mod Pair
 pub mod Contents
 pub mod Steps
+pub mod Parts
 pub mod Replaced
 pub mod Closed
 pub mod AppendedPair

@@ -109,13 +109,18 @@ impl Document {
         ensures { IfOk result (λ keys. HasKeysInOrder self.now keys.items) }
     {
         let mut input = self.source.as_slice();
-        let lines = only_memory(key_lines(alloc, &mut input, self.encoding))?;
+        let lines = match key_lines(alloc, &mut input, self.encoding) {
+            Ok(lines) => lines,
+            // The source was read before, so only memory can run out.
+            Err(_) => return Err(AllocError),
+        };
         let mut keys = Vec::new(alloc);
         for line in &lines {
             if line.first == line.line_number {
-                if let Some((key, _)) = self.index.pairs.get_key_value(line.key.as_str()) {
-                    keys.push(key.as_str())?;
-                }
+                let Some((key, _)) = self.index.pairs.get_key_value(line.key.as_str()) else {
+                    unreachable!()
+                };
+                keys.push(key.as_str())?;
             }
         }
         Ok(keys)
@@ -162,13 +167,5 @@ impl Document {
         ensures { IfOk result (λ bytes. bytes.items ≡ self.now.bytes) }
     {
         self.source.to_vec(alloc)
-    }
-}
-
-// The source was read before, so only memory can run out.
-fn only_memory<T: Drop>(done: Result<T, PropertiesError>) -> Result<T, AllocError> {
-    match done {
-        Ok(value) => Ok(value),
-        Err(_) => Err(AllocError),
     }
 }

@@ -14,7 +14,7 @@ ghost use Rattle.properties_format.specs.Reading.Body.{held_groups_of};
 ghost use Rattle.properties_format.specs.Reading.Edited.{AreSound};
 ghost use Rattle.properties_text.specs.Encoding.{encoding_of};
 ghost use Rattle.java_properties.specs.declared.edit.index.Shift.TheVariants as shift;
-ghost use Rattle.java_properties.specs.BodyIndex.{AddsGroup, CutsOut, IsInSource, PutsPair, PutsValue, RemovesPairs, ending_size, AddsKey, AddsValue, AppendsPair, FollowsPair, GrowsIndex, IsIndex, KeepsNothing, KeepsPair, ParsesIndex, all_shifted, found_span, last_live, lengthened_span, moved_span, moved_to, opened_closing, pair_characters, places_of, shifted, span_at, stored_at};
+ghost use Rattle.java_properties.specs.BodyIndex.{AddsGroup, CutsOut, IsCutOut, IsInSource, PutsPair, PutsValue, RemovesPairs, ending_size, AddsKey, AddsValue, AppendsPair, FollowsPair, GrowsIndex, IsIndex, KeepsNothing, KeepsPair, ParsesIndex, all_shifted, found_span, last_live, lengthened_span, moved_span, moved_to, opened_closing, pair_characters, places_of, shifted, span_at, stored_at};
 ghost use Rattle.java_properties.specs.BodyKeys.{IsPlaceOf};
 
 use crate::edit::groups::{Group, GroupReader};
@@ -182,9 +182,7 @@ impl Index {
         ensures { FollowsPair (chars key.now) (characters value) old_end new_end is_last self.old self.new }
     {
         shift_spans(&mut self.spans, Shift::Moved(old_end, new_end));
-        if is_last {
-            self.closing = Closing::OneEnding;
-        }
+        self.closing = closing_if(is_last, Closing::OneEnding, self.closing);
         if let Some(pair) = self.pairs.get_mut(key) {
             pair.value = value;
         }
@@ -251,9 +249,9 @@ pub fn remove_pairs(
         return false;
     };
     for place in &pair.earlier {
-        cut_out(source, opened.start, index, *place);
+        cut_at(source, opened.start, index, *place);
     }
-    cut_out(source, opened.start, index, pair.place);
+    cut_at(source, opened.start, index, pair.place);
     if opened.start == 0 && begins_like_bom(source) {
         put_lf_first(source, index);
     }
@@ -261,25 +259,32 @@ pub fn remove_pairs(
 }
 
 // Cuts the pair in this place, and its last line ending, out of a source.
-fn cut_out(source: &mut Vec<u8>, start: usize, index: &mut Index, place: usize)
+fn cut_at(source: &mut Vec<u8>, start: usize, index: &mut Index, place: usize)
     requires { IsInSource start source.old.items (span_at index.old.spans.items place) }
     ensures cuts { CutsOut start (span_at index.old.spans.items place) source.old.items index.old source.new.items index.new }
     ensures capacity { vec_capacity source.new ≡ vec_capacity source.old }
 {
-    let Some(pair) = span_at(&index.spans, place) else {
-        return;
-    };
+    if let Some(pair) = span_at(&index.spans, place) {
+        cut_out(source, start, index, pair);
+    }
+}
+
+// Cuts a part of the body, and the line ending after it, out of a source.
+fn cut_out(source: &mut Vec<u8>, start: usize, index: &mut Index, pair: BodySpan)
+    requires ordered { pair.start ≤ pair.end }
+    requires within { start + pair.end ≤ length source.old.items }
+    ensures cuts { IsCutOut start pair source.old.items index.old source.new.items index.new }
+    ensures capacity { vec_capacity source.new ≡ vec_capacity source.old }
+{
     let size = source.len();
     let front = start + pair.start;
     let text_end = start + pair.end;
     let ending = ending_size(&source[text_end..]);
     let end = text_end + ending;
-    if text_end == size {
-        index.closing = Closing::Nothing;
-    }
-    source.copy_within(end..size, front);
+    source.as_mut_slice().copy_within(end..size, front);
     source.truncate(size - (end - front));
     shift_spans(&mut index.spans, Shift::Cut(pair.start, pair.end + ending));
+    index.closing = closing_if(text_end == size, Closing::Nothing, index.closing);
 }
 
 // Puts an LF before a source for which there is room.
@@ -298,7 +303,8 @@ fn put_lf_first(source: &mut Vec<u8>, index: &mut Index)
 
 // Returns the size of the line ending that these bytes begin with.
 fn ending_size(bytes: &[u8]) -> usize
-    ensures { result ≡ ending_size bytes.now }
+    ensures size { result ≡ ending_size bytes.now }
+    ensures fits { result ≤ length bytes.now }
 {
     match bytes {
         [b'\r', b'\n', ..] => 2,
@@ -510,6 +516,13 @@ fn opened_closing(closing: Closing) -> Closing
         Closing::Nothing | Closing::OneEnding => Closing::Nothing,
         Closing::TwoEndings => Closing::OneEnding,
     }
+}
+
+// Returns what separates a new pair from the last group, which has changed or not.
+fn closing_if(is_changed: bool, new: Closing, old: Closing) -> Closing
+    ensures { result ≡ (if is_changed then new else old) }
+{
+    if is_changed { new } else { old }
 }
 
 // Returns the places of the pairs with a key, in order.

@@ -7,7 +7,7 @@ ghost use Rattle.std.specs.Cow.{cow_str_bytes};
 ghost use Rattle.properties_text.specs.Parsing.{AreSpans, IsSpan, in_characters, spanned};
 ghost use Rattle.properties_format.specs.Items.{given};
 ghost use Rattle.properties_format.specs.Reading.Body.{is_pair_with};
-ghost use Rattle.properties_format.specs.Reading.Slots.{outcome_key};
+ghost use Rattle.properties_format.specs.Reading.Parts.{outcome_key};
 ghost use Rattle.properties_format.specs.Reading.Valued.{is_pair_to};
 ghost use Rattle.java_properties.specs.Maps.{characters};
 ghost use Rattle.java_properties.specs.BodyIndex.{pair_characters, outcome_pair};

@@ -15,15 +15,15 @@ use Rattle.properties_format.specs.Edited.{is_editable, is_empty_line, is_left_o
 use Rattle.properties_format.specs.Reading.Items.{outcome_of}
 use Rattle.properties_format.specs.Reading.Body.{held_of, has_key, is_pair_with, held_groups_of}
 use Rattle.properties_format.specs.Reading.Edited.{KeyPlace, last_place}
-use Rattle.properties_format.specs.Reading.Slots.{unended_bytes}
+use Rattle.properties_format.specs.Reading.Parts.{unended_bytes}
 use Rattle.properties_format.specs.Valued.{ending_among, separation_by}
 use Rattle.properties_format.proofs.Body.Decoded.{decoded-nil}
 use Rattle.properties_format.proofs.Body.Groups.{IsLastFit, AreFit, held_ended, cut-off, groups-bytes, lines-front, group_bytes-append, groups_bytes-append}
 use Rattle.properties_format.proofs.Edited.Contents.{ends-right, fit-closed, fit-open, closed-by_empty}
 use Rattle.properties_format.proofs.Edited.Made as made
 use Rattle.properties_format.proofs.Edited.Made.{has_key-true, HasKey-test, last_place-meets, last_place-none, last_place-some}
-use Rattle.properties_format.proofs.Slots.Lines.{bytes-unended}
-use Rattle.properties_format.proofs.Slots.Revalued.{unended-kept}
+use Rattle.properties_format.proofs.InTurn.Lines.{bytes-unended}
+use Rattle.properties_format.proofs.Edited.Parts.{unended-kept}
 use Rattle.properties_format.proofs.Valued.Added.{empty_line, ending-held, outcomes-empty}
 use Rattle.properties_format.proofs.Valued.Lined.{AreLined, groups-lined, lined-groups, last_by, lines-join, held_of-append, held_ended-append, held_in-append, AreAllWhole, fit-parts, fit-join}
 

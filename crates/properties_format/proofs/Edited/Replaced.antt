@@ -14,13 +14,13 @@ use Rattle.properties_format.specs.Edited.{is_editable, is_empty_line, pair_byte
 use Rattle.properties_format.specs.Valued.{HasPair}
 use Rattle.properties_format.specs.Reading.Body.{held_groups_of}
 use Rattle.properties_format.specs.Reading.Edited.{KeyPlace, set_at}
-use Rattle.properties_format.specs.Reading.Slots.{unended_bytes}
+use Rattle.properties_format.specs.Reading.Parts.{unended_bytes}
 use Rattle.properties_format.proofs.Items.Unique.{outcome_of-meets}
 use Rattle.properties_format.proofs.Body.Groups.{held_groups_of-meets, held_groups_of-only, groups_bytes-append}
 use Rattle.properties_format.proofs.Edited.Made as made
 use Rattle.properties_format.proofs.Edited.Pair.{pair_text, pair_line, pair-decoded, pair-whole, pair-outcome, pair-plain}
 use Rattle.properties_format.proofs.Valued.Lined.{AreLined, groups-lined, lined-groups, changed-lined}
-use Rattle.properties_format.proofs.Slots.Put.{pair-some}
+use Rattle.properties_format.proofs.Edited.Parts.{pair-some}
 use Rattle.properties_format.proofs.Valued.Fronts.{no_lines-no_pair}
 use Rattle.properties_format.proofs.Valued.Made.{raw-pair}
 

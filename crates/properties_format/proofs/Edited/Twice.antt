@@ -27,7 +27,7 @@ use Rattle.properties_format.proofs.Edited.Pair.{pair_text, pair-decoded, pair-w
 use Rattle.properties_format.proofs.Edited.Replaced.{reput-of}
 use Rattle.properties_format.proofs.Edited.Steps.{final_group-push}
 use Rattle.properties_format.proofs.Items.Unique.{outcome_of-meets}
-use Rattle.properties_format.proofs.Slots.Put.{pair-some}
+use Rattle.properties_format.proofs.Edited.Parts.{pair-some}
 use Rattle.properties_format.proofs.Valued.Added.{empty_line, outcomes-empty}
 use Rattle.properties_format.proofs.Valued.Lined.{groups-lined}
 

@@ -49,9 +49,6 @@ loop-edit-init c =
     } in
     subst (λ v. AreEditsMade e opened source [] v index) (sym copy) made
 
-pub returns-in_err-make-clause-edits : goal.returns-in_err-make-clause-edits
-returns-in_err-make-clause-edits c = ?
-
 pub returns-in_err-make-clause-splitting : goal.returns-in_err-make-clause-splitting
 returns-in_err-make-clause-splitting c = splitting-commutes (encoding_of c.args.encoding) c.args.source.now
 

@@ -6,7 +6,7 @@ use Rattle.properties_text.specs.Encoding.{encoding_of}
 use Rattle.java_properties.specs.BodyIndex.{FollowsPair, IsPairPut}
 use Rattle.java_properties.specs.Maps.{characters}
 use Rattle.java_properties.proofs.Editing.{chars-scalars}
-use Rattle.java_properties.proofs.IndexEdits.{keeps-nothing, pair-within, reput-index}
+use Rattle.java_properties.proofs.IndexEdits.{keeps-nothing, pair-within, put-size, reput-index}
 use Rattle.java_properties.proofs.edit.index.reput.Goals as goal
 
 pub returns-in_err-text : goal.returns-in_err-text
@@ -28,6 +28,12 @@ pub put_back-requires-clause-within : goal.put_back-requires-clause-within
 put_back-requires-clause-within c =
     let r = c.requires in
     (pair-within c.args.opened c.args.source.now.items r.editable r.start r.sound c.args.pair (chars c.args.key.now) r.placed).1
+
+pub put_back-requires-clause-longer : goal.put_back-requires-clause-longer
+put_back-requires-clause-longer c =
+    let r = c.requires in
+    let made = rw c.deref.ensures.value at c.in_ok-bytes.ensures in
+    put-size c.args.opened c.args.source.now.items r.editable r.start r.sound c.args.pair (chars c.args.key.now) r.placed _ c.in_ok-bytes.bytes.items made
 
 pub returns : goal.returns
 returns c = λ e force.

@@ -14,12 +14,12 @@ use Rattle.properties_format.specs.Body.{HeldLine, AreHeld, as_lines, as_groups,
 use Rattle.properties_format.specs.Edited.{is_editable, final_group}
 use Rattle.properties_format.specs.Reading.Cut.{cut_of, decoded_line}
 use Rattle.properties_format.specs.Reading.Body.{held_of, held_lines_of}
-use Rattle.properties_format.specs.Reading.Slots.{unended_bytes, slot_of, is_by_lf, is_by_cr, are_one_ending}
+use Rattle.properties_format.specs.Reading.Parts.{unended_bytes, is_by_lf, is_by_cr, are_one_ending}
 use Rattle.properties_format.proofs.Lines.Plain.{plain-no_lf, no_lf_first}
 use Rattle.properties_format.proofs.Cut.Meets.{cut_of-meets}
 use Rattle.properties_format.proofs.Body.Decoded.{decoded-nil}
 use Rattle.properties_format.proofs.Body.Groups.{as_lines-append, held_of-meets, IsLastFit, AreFit, held_ended, ended-bytes, held-bytes, IsHeldFront, IsHeldLast, AreHeldGroups, held-groups}
-use Rattle.properties_format.proofs.Slots.Lines.{AreLinesBy, first-none, lines-front, lines-last, bytes-unended, ending-of, with_ending, texts-with, bytes-with, lines-with}
+use Rattle.properties_format.proofs.InTurn.Lines.{AreLinesBy, first-none, lines-front, lines-last, bytes-unended, ending-of, with_ending, texts-with, bytes-with, lines-with}
 
 -- ---- groups in turn
 
@@ -83,15 +83,15 @@ in-turn e body gs ok h = held-turn e gs (held-groups e body gs ok h)
 abbrev pub merged : List (List HeldLine) → List (List HeldLine)
 merged [] = []
 merged (g ∷ []) = g ∷ []
-merged (g ∷ h ∷ gs) = if are_one_ending (slot_of g) (slot_of h) then with_ending (Some crlf) g ∷ merged gs else g ∷ merged (h ∷ gs)
+merged (g ∷ h ∷ gs) = if are_one_ending g h then with_ending (Some crlf) g ∷ merged gs else g ∷ merged (h ∷ gs)
 
 -- A group that ends in a CR takes the single LF after it, and ends in CR LF.
-pub merged-one : (g h : List HeldLine) (gs : List (List HeldLine)) → are_one_ending (slot_of g) (slot_of h) ≡ true
+pub merged-one : (g h : List HeldLine) (gs : List (List HeldLine)) → are_one_ending g h ≡ true
     → merged (g ∷ h ∷ gs) ≡ with_ending (Some crlf) g ∷ merged gs
 merged-one g h gs k = rw k refl
 
 -- Any other group at the front is unchanged.
-pub merged-two : (g h : List HeldLine) (gs : List (List HeldLine)) → are_one_ending (slot_of g) (slot_of h) ≡ false
+pub merged-two : (g h : List HeldLine) (gs : List (List HeldLine)) → are_one_ending g h ≡ false
     → merged (g ∷ h ∷ gs) ≡ g ∷ merged (h ∷ gs)
 merged-two g h gs k = rw k refl
 
@@ -120,8 +120,8 @@ pub record IsOneEnding (g h : List HeldLine) : Type 0 where
   pub by_lf : last_ending h ≡ Some lf
   pub empty : unended_bytes h ≡ []
 
--- Two groups are of this kind if their slots pass the test for one line ending.
-pub one-ending : (g h : List HeldLine) → are_one_ending (slot_of g) (slot_of h) ≡ true → IsOneEnding g h
+-- Two groups are of this kind if they pass the test for one line ending.
+pub one-ending : (g h : List HeldLine) → are_one_ending g h ≡ true → IsOneEnding g h
 one-ending g h k =
     let m = and_parts (is_by_cr (last_ending g)) (is_by_lf (last_ending h) && is_empty (unended_bytes h)) k in
     let n = and_parts (is_by_lf (last_ending h)) (is_empty (unended_bytes h)) m.1 in
@@ -140,7 +140,7 @@ one-bytes (i ∷ is) h k =
 pub merged-bytes : (gs : List (List HeldLine)) → groups_bytes (merged gs) ≡ groups_bytes gs
 merged-bytes [] = refl
 merged-bytes (g ∷ []) = refl
-merged-bytes (g ∷ h ∷ gs) = elim (cases_Bool (are_one_ending (slot_of g) (slot_of h))) [
+merged-bytes (g ∷ h ∷ gs) = elim (cases_Bool (are_one_ending g h)) [
   | inl k ↦
       ap groups_bytes (merged-one g h gs k)
       ∙ ap₂ (λ u v. u ++ v) (one-bytes g h (one-ending g h k)) (merged-bytes gs)
@@ -169,7 +169,7 @@ unended-no_lf e o (h ∷ i ∷ hs) a f =
 
 -- After a CR, no LF comes first unless the two are one line ending.
 pub after-cr : (e : Encoding) (g h : List HeldLine) (gs : List (List HeldLine)) → AreInTurn e (h ∷ gs) → last_ending g ≡ Some cr
-    → are_one_ending (slot_of g) (slot_of h) ≡ false
+    → are_one_ending g h ≡ false
     → begins_with_lf (groups_bytes (h ∷ gs)) ≡ false
 after-cr e g h gs a s k = of-turn gs a
   where
@@ -204,7 +204,7 @@ after-lf e h (i ∷ gs) a s = a.1
 merged-lines : (e : Encoding) (gs : List (List HeldLine)) → is_editable e ≡ true → AreInTurn e gs → held_lines_of e (groups_bytes gs) ≡ held_in (merged gs)
 merged-lines e [] ok a = absurd a
 merged-lines e (g ∷ []) ok a = ap (held_lines_of e) (append-nil (group_bytes g)) ∙ lines-last e g ok a.0 ∙ sym (append-nil g)
-merged-lines e (g ∷ h ∷ gs) ok ((by, a, w), r) = elim (cases_Bool (are_one_ending (slot_of g) (slot_of h))) [
+merged-lines e (g ∷ h ∷ gs) ok ((by, a, w), r) = elim (cases_Bool (are_one_ending g h)) [
   | inl k ↦
       let m = one-ending g h k in
       ap (held_lines_of e) (sym (append_assoc (group_bytes g) (group_bytes h) (groups_bytes gs)) ∙ ap (λ v. v ++ groups_bytes gs) (sym (one-bytes g h m)))
@@ -226,7 +226,7 @@ fit-before g (h ∷ gs) w f = (w, f)
 merged-fit : (e : Encoding) (gs : List (List HeldLine)) → AreInTurn e gs → AreFit (merged gs)
 merged-fit e [] a = absurd a
 merged-fit e (g ∷ []) a = a.1
-merged-fit e (g ∷ h ∷ gs) ((by, a, w), r) = elim (cases_Bool (are_one_ending (slot_of g) (slot_of h))) [
+merged-fit e (g ∷ h ∷ gs) ((by, a, w), r) = elim (cases_Bool (are_one_ending g h)) [
   | inl k ↦
       let m = one-ending g h k in
       subst AreFit (sym (merged-one g h gs k))
@@ -290,7 +290,7 @@ no_key-with key o g n (value, h) = n (value, subst (λ v. IsOutcome (joined v) (
 pub merged-none : (key : List ℕ) (gs : List (List HeldLine)) → NoneHasKey key gs → NoneHasKey key (merged gs)
 merged-none key [] n = tt
 merged-none key (g ∷ []) n = n
-merged-none key (g ∷ h ∷ gs) n = elim (cases_Bool (are_one_ending (slot_of g) (slot_of h))) [
+merged-none key (g ∷ h ∷ gs) n = elim (cases_Bool (are_one_ending g h)) [
   | inl k ↦ subst (NoneHasKey key) (sym (merged-one g h gs k)) (no_key-with key (Some crlf) g n.0, merged-none key gs n.1.1)
   | inr k ↦ subst (NoneHasKey key) (sym (merged-two g h gs k)) (n.0, merged-none key (h ∷ gs) n.1)
 ]
@@ -304,7 +304,7 @@ final-next g (h ∷ gs) n = refl
 merged-some : (gs : List (List HeldLine)) → gs ≢ [] → merged gs ≢ []
 merged-some [] n = n
 merged-some (g ∷ []) n = n
-merged-some (g ∷ h ∷ gs) n = elim (cases_Bool (are_one_ending (slot_of g) (slot_of h))) [
+merged-some (g ∷ h ∷ gs) n = elim (cases_Bool (are_one_ending g h)) [
   | inl k ↦ let s = merged-one g h gs k in λ q. cc
   | inr k ↦ let s = merged-two g h gs k in λ q. cc
 ]
@@ -318,7 +318,7 @@ turn-some e (g ∷ gs) a q = cc
 pub merged-final : (e : Encoding) (gs : List (List HeldLine)) → AreInTurn e gs → final_group (merged gs) ≡ final_group gs
 merged-final e [] a = absurd a
 merged-final e (g ∷ []) a = refl
-merged-final e (g ∷ h ∷ gs) a = elim (cases_Bool (are_one_ending (slot_of g) (slot_of h))) [
+merged-final e (g ∷ h ∷ gs) a = elim (cases_Bool (are_one_ending g h)) [
   | inl k ↦
       let r = after-lf e h gs a.1 (one-ending g h k).by_lf in
       ap final_group (merged-one g h gs k)
