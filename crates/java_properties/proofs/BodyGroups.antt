@@ -16,12 +16,12 @@ use Rattle.properties_format.specs.Reading.Groups.{closes}
 use Rattle.properties_format.specs.Reading.Cut.{decoded_line}
 use Rattle.properties_format.specs.Body.{HeldLine, as_lines, ending_bytes, group_bytes}
 use Rattle.properties_format.specs.Reading.Body.{held_groups_after, held_groups_of}
-use Rattle.properties_format.specs.Reading.Slots.{unended_bytes}
+use Rattle.properties_format.specs.Reading.Parts.{unended_bytes}
 use Rattle.properties_format.proofs.Body.Groups.{as_lines-append, groups-close, groups-leave, group_bytes-append}
 use Rattle.properties_format.proofs.Cut.Only.{ending-windows_1252, ending-utf_8}
 use Rattle.properties_format.proofs.Edited.Steps.{last_ending-push, is_left_open-push, is_empty_line-push}
 use Rattle.properties_format.proofs.Groups.Joined.{joined-push, joined-one, joined-closed, joined-comment_line}
-use Rattle.properties_format.proofs.Slots.Revalued.{unended-kept}
+use Rattle.properties_format.proofs.Edited.Parts.{unended-kept}
 use Rattle.properties_text.specs.Encoding.{encoding_of}
 use Rattle.properties_lines.specs.LineSearch.{unit_size}
 use Rattle.properties_lines.specs.HeldLines.{held_line, lines_left}

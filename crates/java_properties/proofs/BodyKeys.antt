@@ -24,7 +24,7 @@ use Rattle.properties_format.specs.Edited.{unreadable, final_group, added_ending
 use Rattle.properties_format.specs.Items.{broken}
 use Rattle.properties_format.specs.Reading.Items.{outcome_of, followed}
 use Rattle.properties_format.specs.Reading.Body.{is_pair_with, has_key, entries_in, held_of, held_lines_of, held_groups_after, held_groups_of}
-use Rattle.properties_format.specs.Reading.Slots.{unended_bytes}
+use Rattle.properties_format.specs.Reading.Parts.{unended_bytes}
 use Rattle.properties_format.specs.Reading.Edited.{IsSound, AreSound, result_by}
 use Rattle.properties_format.proofs.Body.Groups.{groups_bytes-append, groups-close, groups-leave}
 use Rattle.properties_format.proofs.Edited.Made.{has_key-true}
@@ -62,7 +62,7 @@ read-none body s at passed going w = record {
   encoding = refl;
 }
 
-sound-append : (gs hs : List (List HeldLine)) → AreSound gs → AreSound hs → AreSound (gs ++ hs)
+pub sound-append : (gs hs : List (List HeldLine)) → AreSound gs → AreSound hs → AreSound (gs ++ hs)
 sound-append [] hs h k = k
 sound-append (g ∷ gs) hs h k = (h.0, sound-append gs hs h.1 k)
 
@@ -138,7 +138,7 @@ closing_bytes-group source g group a b = rw (a, b) (closing_bytes-tests source (
     closing_bytes-tests source false false = refl
 
 -- the place with one more group after it
-place-kept : (key : List ℕ) (groups : List (List HeldLine)) (g : List HeldLine) (pair : Option BodySpan) → IsPlace key groups pair → has_key key g ≡ false
+pub place-kept : (key : List ℕ) (groups : List (List HeldLine)) (g : List HeldLine) (pair : Option BodySpan) → IsPlace key groups pair → has_key key g ≡ false
     → IsPlace key (groups ++ g ∷ []) pair
 place-kept key groups g None h other = last_place-other key groups g other ∙ ap (with_after g) h
 place-kept key groups g (Some pair) h other = record {

@@ -40,10 +40,10 @@ use Rattle.properties_format.specs.Printing.{encoded_text}
 use Rattle.properties_format.specs.Valued.{value_text}
 use Rattle.properties_format.specs.Body.{group_bytes, last_ending}
 use Rattle.properties_format.specs.Reading.Items.{outcome_of}
-use Rattle.properties_format.specs.Reading.Slots.{unended_bytes}
+use Rattle.properties_format.specs.Reading.Parts.{unended_bytes}
 use Rattle.properties_format.specs.Reading.Valued.{between_of, is_pair_to}
 use Rattle.properties_format.proofs.Body.Groups.{held-body}
-use Rattle.properties_format.proofs.Slots.Lines.{bytes-unended}
+use Rattle.properties_format.proofs.InTurn.Lines.{bytes-unended}
 use Rattle.properties_format.proofs.Split.Unique.{split_of-meets}
 use Rattle.properties_format.proofs.Valued.Fronts.{front_of-meets}
 use Rattle.properties_format.proofs.Valued.Read.{front-unended}

@@ -20,14 +20,14 @@ use Rattle.properties_format.specs.Body.{ending_bytes, groups_bytes, last_ending
 use Rattle.properties_format.specs.Edited.{bom_of, pair_bytes, separation, added_ending, is_editable, edited, unsupported, IsEditResult, IsSetKeyResult, IsRemoveKeyResult}
 use Rattle.properties_format.specs.Reading.Items.{items_of}
 use Rattle.properties_format.specs.Reading.Body.{held_groups_of, entries_in}
-use Rattle.properties_format.specs.Reading.Slots.{unended_bytes, slots_bytes, slots_of}
+use Rattle.properties_format.specs.Reading.Parts.{unended_bytes}
 use Rattle.properties_format.specs.Reading.Edited.{AreSound, without, key_removed, key_removed_in, result_by, result_of, key_set, key_set_in, set_at, set_key_result, remove_key_result, KeyPlace, last_place}
 use Rattle.properties_format.proofs.Body.Groups.{groups_bytes-append, held_groups_of-meets, held-body}
 use Rattle.properties_format.proofs.Body.Numbers.{items_of-groups}
 use Rattle.properties_format.proofs.Edited.ByteOrderMarks.{source-whole}
 use Rattle.properties_format.proofs.Edited.Results.{set_key_result-meets, set_key_result-only, remove_key_result-meets, remove_key_result-only}
 use Rattle.properties_format.proofs.Edited.Steps.{result-after}
-use Rattle.properties_format.proofs.Slots.Lines.{bytes-unended}
+use Rattle.properties_format.proofs.InTurn.Lines.{bytes-unended}
 use Rattle.properties_format.proofs.Changed.Read.{set_key-reads, remove_key-reads, readable}
 use Rattle.properties_format.specs.Edits.{Edit, AreScalarEdits, IsEditAllResult}
 use Rattle.properties_format.specs.Reading.Edits.{edit_all_result, edits_made}
@@ -35,16 +35,8 @@ use Rattle.properties_format.proofs.Edits.Results.{edit_all_result-meets, edit_a
 use Rattle.java_properties.proofs.ReadBack.Scalars.{string-scalars}
 use Rattle.java_properties.specs.declared.edit.Edit as edit
 use Rattle.java_properties.specs.declared.edit.Edit.TheVariants as variant
-use Rattle.properties_format.specs.Reading.EditedSlots.{slots_edited, source_slots, slots_after, slots_made}
-use Rattle.properties_format.proofs.Slots.Edits.{edit_all_result-slots, slots_after-push}
-use Rattle.properties_format.proofs.Slots.WellEnded.{slots_after-well_ended}
-use Rattle.properties_format.specs.Reading.ValuedSlots.{AreReadAgain}
-use Rattle.properties_format.proofs.Slots.ValuedBody.{slots_after-read_again}
 use Rattle.java_properties.specs.Editing.{edit_in, edits_in, AreMade, IsRefusal, IsSet, IsRemoved}
 use Rattle.properties_format.proofs.Edits.Contents.{edits-contents, edit_all-reads}
-use Rattle.java_properties.proofs.BodySlots.SoundSlots.{slots_after-contents}
-use Rattle.java_properties.specs.BodySlots.{HaveContents, Holds, HoldsIn, ReadsIn, Changes}
-use Rattle.java_properties.specs.declared.edit.slots.Slots.{Slots}
 use Rattle.properties_format.proofs.Changed.Occur.{key_set-keeps, key_removed-keeps}
 use Rattle.properties_format.proofs.Edited.Pair.{editable-own}
 use Rattle.properties_text.specs.Encoding.{encoding_of}
@@ -310,7 +302,7 @@ no_bom-begins b = elim (cases_Bool (begins_with utf_8_bom b)) [
 ]
 
 -- a source starts with its body where it begins with no byte order mark,
-unmarked : {source : List ℕ} {e : Encoding} {opened : BodyStart} → IsInForce source e opened → (opened.start == 0) ≡ not (begins_like_bom source)
+pub unmarked : {source : List ℕ} {e : Encoding} {opened : BodyStart} → IsInForce source e opened → (opened.start == 0) ≡ not (begins_like_bom source)
 unmarked {source} {e} {opened} h =
     let size : length (bom_of source) ≡ opened.start = ap length (bom-front h) ∙ length-take-le opened.start source h.within in
     ap (λ n. n == 0) (sym size) ∙ no_bom-begins source
@@ -336,20 +328,26 @@ removed-edits {e} {source} {key} {bytes} is =
       keeps = key_removed-keeps e source key bytes meets.2;
     }
 
+-- The source with what is left of its body is its result.
+pub removed-bytes : {source : List ℕ} {e : Encoding} {opened : BodyStart} (key bytes : List ℕ) → IsInForce source e opened
+    → is_editable (encoding_of opened.encoding) ≡ true → AreSound (held_groups_of (encoding_of opened.encoding) (drop opened.start source))
+    → (let rest = without key (held_groups_of (encoding_of opened.encoding) (drop opened.start source)) in
+    bytes ≡ take opened.start source ++ ((if opened.start == 0 && begins_like_bom rest then line_feed ∷ [] else []) ++ rest))
+    → remove_key_result e source key ≡ edited bytes
+removed-bytes {source} {e} {opened} key bytes h ok sound made =
+    let rest = without key (held_groups_of (encoding_of opened.encoding) (drop opened.start source)) in
+    let set : key_removed e source key ≡ bytes =
+    ap (λ v. key_removed_in v source key) h.in_force
+    ∙ sym (made ∙ ap₂ (λ v b. v ++ ((if b && begins_like_bom rest then line_feed ∷ [] else []) ++ rest)) (sym (bom-front h)) (unmarked h)) in
+    ap (result_of e source) set ∙ result-made bytes h ok sound
+
 -- The source with the parts that are left is its result.
 pub removed-result : {source : List ℕ} {e : Encoding} {opened : BodyStart} (key bytes : List ℕ) (others : List BodySpan) → IsInForce source e opened
     → is_editable (encoding_of opened.encoding) ≡ true → AreOthersFound (encoding_of opened.encoding) (drop opened.start source) key others
     → bytes ≡ left_bytes source opened.start others → remove_key_result e source key ≡ edited bytes
 removed-result {source} {e} {opened} key bytes others h ok k made =
-    let f = encoding_of opened.encoding in
-    let body = drop opened.start source in
-    let rest = without key (held_groups_of f body) in
-    let set : key_removed e source key ≡ bytes =
-    ap (λ v. key_removed_in v source key) h.in_force
-    ∙ sym (made
-    ∙ ap (λ v. take opened.start source ++ ((if opened.start == 0 && begins_like_bom v then line_feed ∷ [] else []) ++ v)) k.bytes
-    ∙ ap₂ (λ v b. v ++ ((if b && begins_like_bom rest then line_feed ∷ [] else []) ++ rest)) (sym (bom-front h)) (unmarked h)) in
-    ap (result_of e source) set ∙ result-made bytes h ok k.sound
+    removed-bytes key bytes h ok k.sound
+    (made ∙ ap (λ v. take opened.start source ++ ((if opened.start == 0 && begins_like_bom v then line_feed ∷ [] else []) ++ v)) k.bytes)
 
 -- ---- edits in turn
 
@@ -374,62 +372,7 @@ pub edits_in-more : (edits : List edit.Edit) (i : ℕ) (d : edit.Edit) → i < l
     → edits_in (take (i + 1) edits) ≡ edits_in (take i edits) ++ edit_in (get_or edits i d) ∷ []
 edits_in-more edits i d h = ap edits_in (take_more edits i d h) ∙ map-append edit_in (take i edits) (get_or edits i d ∷ [])
 
--- ---- edits of slots
-
 -- a source that is edited is in an encoding that is edited
 pub editable : {source : List ℕ} {e : Encoding} {opened : BodyStart} → IsInForce source e opened → is_editable (encoding_of opened.encoding) ≡ true
     → is_editable (byte_order_mark e source).encoding ≡ true
 editable h ok = ap (λ v. let w : InForce = v in is_editable w.encoding) h.in_force ∙ ok
-
--- before any edits the slots are those of the body,
-pub slots-none : {source : List ℕ} {e : Encoding} {opened : BodyStart} (slots : Slots) → IsInForce source e opened
-    → Holds (drop opened.start source) slots (slots_of (held_groups_of (encoding_of opened.encoding) (drop opened.start source)))
-    → Holds (drop opened.start source) slots (slots_after e source [])
-slots-none {source} {e} {opened} slots h holds =
-    subst (Holds (drop opened.start source) slots) (sym (ap (λ v. let w : InForce = v in slots_of (held_groups_of w.encoding w.body)) h.in_force)) holds
-
--- after any they hold what is left of it,
-pub slots-held : {source : List ℕ} {e : Encoding} {opened : BodyStart} (body : List ℕ) (slots : Slots) (edits : List Edit) → IsInForce source e opened
-    → is_editable (encoding_of opened.encoding) ≡ true → AreScalarEdits edits → Holds body slots (slots_after e source edits) → HoldsIn body slots
-slots-held {source} {e} {opened} body slots edits h ok scalar holds =
-    record { slots = slots_after e source edits; holds = holds; well_ended = slots_after-well_ended e source edits (editable h ok) scalar }
-
--- each of which is read again as it is,
-pub slots-read : {source : List ℕ} {e : Encoding} {opened : BodyStart} (body : List ℕ) (slots : Slots) (edits : List Edit) → IsInForce source e opened
-    → is_editable (encoding_of opened.encoding) ≡ true → AreSound (held_groups_of (encoding_of opened.encoding) (drop opened.start source))
-    → AreScalarEdits edits → Holds body slots (slots_after e source edits)
-    → ReadsIn (encoding_of opened.encoding) body slots
-slots-read {source} {e} {opened} body slots edits h ok sound scalar holds =
-    let made = edits_made e source edits in
-    let is = subst (IsEditAllResult e source edits) (result-made made h ok sound) (edit_all_result-meets e source edits) in
-    let said = edits-contents e source edits made (readable e source is.0 is.1) scalar (edits_made-meets e source edits is.0) in
-    record {
-      held = record { slots = slots_after e source edits; holds = holds; well_ended = slots_after-well_ended e source edits (editable h ok) scalar };
-      again = subst (λ v. AreReadAgain v (slots_after e source edits).list) (ap (λ v. let w : InForce = v in w.encoding) h.in_force)
-          (slots_after-read_again e source edits (editable h ok) scalar);
-      told = subst (λ v. HaveContents v (slots_after e source edits).list) (ap (λ v. let w : InForce = v in w.encoding) h.in_force)
-          (slots_after-contents e source edits (editable h ok) scalar said.readable.no_fault);
-    }
-
--- and one more edit is made to them.
-pub slots-more : {source : List ℕ} {e : Encoding} {opened : BodyStart} (slots next : Slots) (edits : List Edit) (edit : Edit) → IsInForce source e opened
-    → is_editable (encoding_of opened.encoding) ≡ true → AreScalarEdits edits → Holds (drop opened.start source) slots (slots_after e source edits)
-    → Changes (drop opened.start source) (slots_edited (output_encoding (encoding_of opened.encoding)) (not (opened.start == 0)) edit) slots next
-    → Holds (drop opened.start source) next (slots_after e source (edits ++ edit ∷ []))
-slots-more {source} {e} {opened} slots next edits edit h ok scalar before change =
-    let f = encoding_of opened.encoding in
-    let front = slots_after e source edits in
-    let in_force : output_encoding f ≡ (byte_order_mark e source).encoding =
-    editable-own f ok ∙ sym (ap (λ v. let w : InForce = v in w.encoding) h.in_force) in
-    let more : slots_edited (output_encoding f) (not (opened.start == 0)) edit front ≡ slots_after e source (edits ++ edit ∷ []) =
-    ap₂ (λ v b. slots_edited v b edit front) in_force (marked h)
-    ∙ sym (slots_after-push (byte_order_mark e source).encoding (begins_like_bom source) edits edit (source_slots e source)) in
-    subst (Holds (drop opened.start source) next) more (change front (slots_after-well_ended e source edits (editable h ok) scalar) before)
-
--- The bytes of the slots after edits are their result.
-pub slots-edits : {source : List ℕ} {e : Encoding} {opened : BodyStart} (edits : List Edit) (bytes : List ℕ) → IsInForce source e opened
-    → is_editable (encoding_of opened.encoding) ≡ true → AreSound (held_groups_of (encoding_of opened.encoding) (drop opened.start source))
-    → AreScalarEdits edits → bytes ≡ take opened.start source ++ slots_bytes (slots_after e source edits).list → AreMade e source edits bytes
-slots-edits {source} {e} {opened} edits bytes h ok sound scalar made =
-    let is : slots_made e source edits ≡ bytes = ap (λ v. v ++ slots_bytes (slots_after e source edits).list) (bom-front h) ∙ sym made in
-    made-edits edits scalar (edit_all_result-slots e source edits scalar ∙ ap (result_of e source) is ∙ result-made bytes h ok sound)

@@ -37,7 +37,7 @@ use Rattle.properties_format.specs.Reading.Settings.{is_good_separator}
 use Rattle.properties_format.specs.Reading.Valued.{separator_by}
 use Rattle.properties_format.proofs.Body.Groups.{held-body, held_groups_of-meets}
 use Rattle.properties_format.proofs.Settings.Tests.{is_good_separator-from}
-use Rattle.properties_format.proofs.Slots.Lines.{bytes-unended}
+use Rattle.properties_format.proofs.InTurn.Lines.{bytes-unended}
 use Rattle.properties_format.proofs.Valued.Made.{new_separator-meets}
 use Rattle.properties_format.proofs.Valued.Separators.{new_separator-fit}
 use Rattle.properties_format.proofs.Valued.Unended.{without_ending, unended-groups, unended-joined}
@@ -49,7 +49,7 @@ use Rattle.properties_format.specs.Groups.{joined}
 use Rattle.properties_format.specs.Reading.Split.{split_of}
 use Rattle.properties_format.specs.Body.{HeldLine, as_lines, group_bytes, groups_bytes}
 use Rattle.properties_format.specs.Reading.Body.{held_groups_of}
-use Rattle.properties_format.specs.Reading.Slots.{unended_bytes}
+use Rattle.properties_format.specs.Reading.Parts.{unended_bytes}
 use Rattle.properties_format.specs.Reading.Valued.{between_if_pair, last_between, or_else}
 use Rattle.properties_format.proofs.Body.Groups.{groups_bytes-append}
 use Rattle.properties_format.proofs.Valued.Made.{last_between-push}

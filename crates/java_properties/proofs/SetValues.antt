@@ -11,7 +11,7 @@ use Rattle.properties_format.specs.Edited.{bom_of, separation, added_ending, is_
 use Rattle.properties_format.specs.Valued.{value_text, separation_by, ending_in, new_pair_bytes, IsSetValueResult}
 use Rattle.properties_format.specs.Reading.Items.{outcome_of}
 use Rattle.properties_format.specs.Reading.Body.{held_groups_of}
-use Rattle.properties_format.specs.Reading.Slots.{unended_bytes}
+use Rattle.properties_format.specs.Reading.Parts.{unended_bytes}
 use Rattle.properties_format.specs.Reading.Edited.{result_of, last_place}
 use Rattle.properties_format.specs.Reading.Valued.{front_of, between_of, has_value, last_between, separator_by, revalued_at, valued_at, value_set, value_set_in, set_value_result}
 use Rattle.properties_format.proofs.Body.Groups.{held_groups_of-meets, held-body}
@@ -80,6 +80,23 @@ value-alone e body key pair bytes ok k is =
       value = m.0;
       is_pair = ap outcome_of (unended-joined p.group) ∙ m.1;
     }
+
+-- Whether the pair has a value doesn't depend on its last line ending.
+pub alone-value : (source key value : List ℕ) (opened : BodyStart) (pair : BodySpan) → is_editable (encoding_of opened.encoding) ≡ true
+    → (at : IsPlaceOf key (held_groups_of (encoding_of opened.encoding) (drop opened.start source)) pair) → (group : List HeldLine)
+    → held_groups_of (encoding_of opened.encoding) (take ((opened.start + pair.end) - (opened.start + pair.start)) (drop (opened.start + pair.start) source)) ≡ group ∷ []
+    → has_value value group ≡ has_value value at.place.group
+alone-value source key value opened pair ok at group alone =
+    let f = encoding_of opened.encoding in
+    let body = drop opened.start source in
+    let p = at.place in
+    let part = value-part f body key pair ok at in
+    let size : (opened.start + pair.end) - (opened.start + pair.start) ≡ pair.end - pair.start = omega arith in
+    let bytes_are : take ((opened.start + pair.end) - (opened.start + pair.start)) (drop (opened.start + pair.start) source) ≡ unended_bytes p.group =
+    ap₂ take size (sym (drop-drop pair.start opened.start source)) ∙ part.part in
+    let one = part-group f body p.before p.group p.after _ ok at.division bytes_are in
+    let same : group ≡ without_ending p.group = let q = sym alone ∙ one in cc in
+    ap (has_value value) same ∙ unended-value value p.group
 
 -- The source with the value of the pair is its result.
 pub revalued-result : {source : List ℕ} {e : Encoding} {opened : BodyStart} {found : place.KeyPlace} (key value bytes : List ℕ) (pair : BodySpan) → IsInForce source e opened

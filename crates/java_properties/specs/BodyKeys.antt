@@ -10,7 +10,7 @@ use Rattle.properties_format.specs.Edited.{unreadable, final_group, added_ending
 use Rattle.properties_format.specs.Items.{ignored}
 use Rattle.properties_format.specs.Reading.Items.{outcome_of}
 use Rattle.properties_format.specs.Reading.Body.{is_pair_with, entries_in, held_groups_of}
-use Rattle.properties_format.specs.Reading.Slots.{unended_bytes}
+use Rattle.properties_format.specs.Reading.Parts.{unended_bytes}
 use Rattle.properties_format.specs.Reading.Edited.{KeyPlace, last_place, without, IsSound, AreSound, result_by}
 use Rattle.java_properties.specs.BorrowedItems.{IsFoundIn}
 use Rattle.java_properties.specs.GivenItems.{IsNoItem}

@@ -19,7 +19,7 @@ use Rattle.properties_format.specs.Valued.{value_text, printed_value, ending_amo
 use Rattle.properties_format.specs.Reading.Body.{held_groups_of}
 use Rattle.properties_format.specs.Reading.Edited.{IsSound}
 use Rattle.properties_format.specs.Reading.Settings.{is_good_separator}
-use Rattle.properties_format.specs.Reading.Slots.{unended_bytes}
+use Rattle.properties_format.specs.Reading.Parts.{unended_bytes}
 use Rattle.properties_format.specs.Reading.Valued.{before_value, between_if_pair, between_of, front_of, has_value, is_pair_to, last_between, separator_by}
 use Rattle.properties_text.specs.Parsing.{bytes_in, IsSpan}
 use Rattle.properties_text.specs.declared.parse.Span.{Span}

@@ -22,9 +22,9 @@ pub mod BodyLines
 pub mod BodyGroups
 pub mod BodyKeys
 pub mod BodyValues
-pub mod BodySlots
+pub mod BodyIndex
+pub mod BodyDocuments
 pub mod Sources
 pub mod Editing
 pub mod WholeSources
 pub mod Documents
-pub mod BodyDocuments

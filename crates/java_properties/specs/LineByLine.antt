@@ -6,7 +6,7 @@ use Rattle.std.specs.declared.string.String.{String}
 use Rattle.std.specs.declared.vec.Vec.{Vec}
 use Rattle.properties_format.specs.MalformedEscapes.{escapes_from}
 use Rattle.properties_format.specs.Reading.Items.{outcome_of}
-use Rattle.properties_format.specs.Reading.Slots.{outcome_key}
+use Rattle.properties_format.specs.Reading.Parts.{outcome_key}
 use Rattle.java_properties.specs.Errors.{IsBareError}
 use Rattle.java_properties.specs.Maps.{characters}
 use Rattle.java_properties.specs.MalformedEscapes.{escape_records}

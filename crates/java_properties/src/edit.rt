@@ -1,37 +1,40 @@
 //! Sets and removes keys of a file, and keeps every other byte.
 
+ghost use Rattle.std.specs.Prelude.{◌≡◌, ◌≤◌, true, drop, length, OnOk};
 ghost use Rattle.std.specs.Str.{chars};
 ghost use Rattle.properties_format.specs.Laws.{SplittingCommutes};
 ghost use Rattle.properties_text.specs.Encoding.{encoding_of};
-ghost use Rattle.java_properties.specs.Editing.{EditsAll, RemovesKey, SetsKey, SetsValue, edits_in};
+ghost use Rattle.properties_format.specs.Edited.{is_editable};
+ghost use Rattle.properties_format.specs.Reading.Body.{held_groups_of};
+ghost use Rattle.properties_format.specs.Reading.Edited.{AreSound};
+ghost use Rattle.java_properties.specs.BodyIndex.{IsIndex, MakesEdit};
+ghost use Rattle.java_properties.specs.Editing.{EditsAll, RemovesKey, SetsKey, SetsValue, edit_in, edits_in};
 
 mod document;
 mod front;
 mod groups;
+mod index;
 mod kept;
 mod keys;
-mod lines;
 mod new_pair;
 mod place;
 mod result;
-mod slots;
 mod source;
 mod streams;
 mod value;
-mod values;
 
 pub use crate::edit::document::Document;
+use crate::edit::index::{Index, put_pair, put_value, remove_pairs};
 use crate::edit::kept::spans_without_key;
 use crate::edit::new_pair::{layout_after, with_new_pair};
 use crate::edit::place::find_key;
 use crate::edit::result::{appended, reduced_to, replaced};
-use crate::edit::slots::Slots;
 use crate::edit::source::BodyStart;
 pub use crate::edit::streams::{read_source, write_source};
 use crate::edit::value::with_value;
 use crate::error::PropertiesError;
 use properties_text::encoding::Encoding;
-use std::alloc::Global;
+use std::alloc::{AllocError, Global};
 
 /// Returns the source with a key set to a value.
 ///
@@ -164,10 +167,10 @@ pub enum Edit {
 
 /// Returns the source after these edits, in order: each edit applies to the result of the one before it.
 ///
-/// Without edits, the result is a copy of the source. The source is read once and the result is built once, so the time
-/// is proportional to the size of the source and the edits together. In addition, the key of each pair and of each edit
-/// is looked up among the others, which takes a few comparisons for each doubling of their number; and each
-/// [`Edit::SetValue`] reads the pair that it changes or, if no pair has the key, the last pair that is left.
+/// Without edits, the result is a copy of the source. The source is read once. Each edit looks up its key, which takes a
+/// few comparisons for each doubling of their number, and moves the bytes and the positions behind the pair that it
+/// changes; and each [`Edit::SetValue`] reads the pair that it changes or, if no pair has the key, the last pair that is
+/// left.
 ///
 /// UTF-16 is refused. A source with a malformed escape anywhere is refused with the error that reading the source would
 /// return.
@@ -186,11 +189,34 @@ pub fn edit_all(
     ensures splitting { SplittingCommutes (encoding_of encoding) source.now }
 {
     let opened = BodyStart::open(source, encoding)?;
-    let body = &source[opened.start..];
-    let is_marked = opened.start != 0;
-    let mut slots = Slots::parse(alloc, opened.encoding, body)?;
+    let mut index = Index::parse(alloc, opened.encoding, &source[opened.start..])?;
+    let mut bytes = source.to_vec(alloc)?;
     for edit in edits {
-        slots.make(alloc, opened.encoding, body, is_marked, edit)?;
+        make(alloc, &mut bytes, opened, &mut index, edit)?;
     }
-    Ok(slots.to_bytes(alloc, source, opened.start)?)
+    Ok(bytes)
+}
+
+// Makes an edit to a source.
+fn make(
+    alloc: Global,
+    source: &mut Vec<u8>,
+    opened: BodyStart,
+    index: &mut Index,
+    edit: &Edit,
+) -> Result<(), AllocError>
+    requires editable { is_editable (encoding_of opened.encoding) ≡ true }
+    requires start { opened.start ≤ length source.old.items }
+    requires sound { AreSound (held_groups_of (encoding_of opened.encoding) (drop opened.start source.old.items)) }
+    requires is_index { IsIndex (held_groups_of (encoding_of opened.encoding) (drop opened.start source.old.items)) index.old }
+    ensures { OnOk result (MakesEdit opened (edit_in edit.now) source.old.items source.new.items index.new) }
+{
+    match edit {
+        Edit::Put(key, value) => put_pair(alloc, source, opened, index, key, value),
+        Edit::SetValue(key, value) => put_value(alloc, source, opened, index, key, value),
+        Edit::Remove(key) => {
+            remove_pairs(source, opened, index, key);
+            Ok(())
+        }
+    }
 }

@@ -29,9 +29,7 @@ use Rattle.properties_format.proofs.Edits.Results.{edits_made-only, edit_all_res
 use Rattle.properties_format.proofs.Valued.Made.{set_value_result-meets, set_value_result-only}
 use Rattle.properties_format.proofs.Edited.ByteOrderMarks.{has_bom, source-whole}
 use Rattle.properties_format.proofs.Changed.Maps.{other-test}
-use Rattle.properties_format.specs.Reading.Slots.{slots_bytes, slots_of}
-use Rattle.properties_format.proofs.Slots.Places.{put-twice}
-use Rattle.properties_format.proofs.Slots.Edits.{edits_made-slots}
+use Rattle.properties_format.proofs.Edited.Twice.{set-twice}
 use Rattle.properties_format.proofs.Changed.Laws.{IsReadable, key_set-contents}
 use Rattle.properties_format.proofs.Edits.Contents.{edits-contents}
 use Rattle.properties_format.proofs.Changed.Read.{readable, set_key-reads, remove_key-reads}
@@ -99,15 +97,10 @@ result-made e source made r = result-editable e source made r.editable ∙ resul
 -- Setting a key twice equals setting it once, to the later value.
 pub setting-twice : (e : Encoding) (source key first second : List ℕ) → SettingTwiceIsSettingOnce e source key first second
 setting-twice e source key first second k v w between h result =
-    let f = byte_order_mark e source in
-    let slots = slots_of (held_groups_of f.encoding f.body) in
     let r = readable e source h.0 h.1 in
     let next = (key_set-contents e source key first between r k v h.2).readable in
     let bytes : key_set e between key second ≡ key_set e source key second =
-    ap (λ x. key_set e x key second) (key_set-only e source key first between h.2)
-    ∙ edits_made-slots e source (put key first ∷ put key second ∷ []) h.0 ((k, v), ((k, w), tt))
-    ∙ ap (λ x. bom_of source ++ slots_bytes x) (put-twice f.encoding key first second slots)
-    ∙ sym (edits_made-slots e source (put key second ∷ []) h.0 ((k, w), tt)) in
+    ap (λ x. key_set e x key second) (key_set-only e source key first between h.2) ∙ set-twice e source key first second h.0 k v in
     let same : set_key_result e between key second ≡ set_key_result e source key second =
     result-made e between (key_set e between key second) next ∙ ap edited bytes ∙ sym (result-made e source (key_set e source key second) r) in (
       (λ i. subst (IsSetKeyResult e source key second) (sym (set_key_result-only e between key second result i ∙ same)) (set_key_result-meets e source key second)),

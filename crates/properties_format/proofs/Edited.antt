@@ -5,3 +5,8 @@ pub mod ByteOrderMarks
 pub mod Pair
 pub mod Contents
 pub mod Steps
+pub mod Parts
+pub mod Replaced
+pub mod Closed
+pub mod AppendedPair
+pub mod Twice

@@ -2,7 +2,6 @@
 pub mod Cut
 pub mod Edited
 pub mod Valued
-pub mod ValuedSlots
 pub mod Encodings
 pub mod Escapes
 pub mod Groups

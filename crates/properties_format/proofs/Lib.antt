@@ -14,9 +14,10 @@ pub mod Writing
 pub mod ReadBack
 pub mod AsciiOnly
 pub mod Maps
+pub mod Keys
 pub mod Body
 pub mod Edited
-pub mod Slots
+pub mod InTurn
 pub mod Valued
 pub mod Edits
 pub mod Changed

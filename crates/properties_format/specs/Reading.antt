@@ -18,9 +18,6 @@ pub mod Body
 pub mod Edited
 pub mod Valued
 pub mod Edits
-pub mod Slots
-pub mod ValuedSlots
-pub mod EditedSlots
-pub mod Cells
+pub mod Parts
 pub mod Keys
 pub mod Undecoded

@@ -7,21 +7,19 @@ ghost use Rattle.properties_format.specs.Laws.{SplittingCommutes};
 ghost use Rattle.properties_text.specs.Encoding.{encoding_of};
 ghost use Rattle.java_properties.specs.Documents.{HasKeysInOrder, HasValueAt, OpensDocument, PutsInto, RemovesFrom, SetsValueIn, ChecksHasKey};
 
-use crate::edit::slots::Slots;
+use crate::edit::index::{Index, put_pair, put_value, remove_pairs};
 use crate::edit::source::BodyStart;
-use crate::edit::values::{put_value, restored_on_error};
 use crate::error::PropertiesError;
+use crate::iter::key_lines;
 use properties_text::encoding::Encoding;
 use std::alloc::{AllocError, Global};
-use std::collections::BTreeMap;
 use std::marker::Model;
 
 /// A source that is kept open for edits.
 ///
 /// Use it in a program that changes keys one at a time and looks at values in between, such as an editor with a window:
-/// only `parse` reads the whole source. `set_value` reads again the pair that it changes or, if no pair has the key, the
-/// last pair. What is removed keeps its memory until the document is dropped. For a list of edits that is known
-/// beforehand, [`edit_all`](crate::edit_all) needs less memory.
+/// only `parse` and `keys` read the whole source. `set_value` reads again the pair that it changes or, if no pair has the
+/// key, the last pair. The bytes behind a change are moved.
 ///
 /// ```text
 /// let mut document = Document::parse(alloc, b"# the front door\nport = 80\n", Encoding::UTF_8)?;
@@ -35,13 +33,12 @@ use std::marker::Model;
 pub struct Document {
     alloc: Global,
     source: Vec<u8>,
-    // The requested encoding, which contracts refer to. No code reads it.
+    // The requested encoding.
     encoding: Encoding,
     // The encoding in force, and where the body starts.
     opened: BodyStart,
-    slots: Slots,
-    // The value of each key.
-    values: BTreeMap<String, String>,
+    // Where its pairs are.
+    index: Index,
 }
 
 impl Model for Document {
@@ -70,18 +67,13 @@ impl Document {
         ensures splitting { SplittingCommutes (encoding_of encoding) source.now }
     {
         let opened = BodyStart::open(source, encoding)?;
-        let (slots, values) = Slots::parse_with_values(
-            alloc,
-            opened.encoding,
-            &source[opened.start..],
-        )?;
+        let index = Index::parse(alloc, opened.encoding, &source[opened.start..])?;
         Ok(Document {
             alloc,
             source: source.to_vec(alloc)?,
             encoding,
             opened,
-            slots,
-            values,
+            index,
         })
     }
 
@@ -89,7 +81,7 @@ impl Document {
     pub fn get(&self, key: &str) -> Option<&str>
         ensures { HasValueAt self.now (chars key.now) (option_map (λ value. chars value.now) result) }
     {
-        Some(self.values.get(key)?.as_str())
+        Some(self.index.pairs.get(key)?.value.as_str())
     }
 
     /// Returns whether a pair has the key.
@@ -116,16 +108,29 @@ impl Document {
     pub fn keys(&self, alloc: Global) -> Result<Vec<&str>, AllocError>
         ensures { IfOk result (λ keys. HasKeysInOrder self.now keys.items) }
     {
-        self.slots.keys(alloc)
+        let mut input = self.source.as_slice();
+        let lines = match key_lines(alloc, &mut input, self.encoding) {
+            Ok(lines) => lines,
+            // The source was read before, so only memory can run out.
+            Err(_) => return Err(AllocError),
+        };
+        let mut keys = Vec::new(alloc);
+        for line in &lines {
+            if line.first == line.line_number {
+                let Some((key, _)) = self.index.pairs.get_key_value(line.key.as_str()) else {
+                    unreachable!()
+                };
+                keys.push(key.as_str())?;
+            }
+        }
+        Ok(keys)
     }
 
     /// Sets a key to a value, as [`set_key`](crate::set_key) does. If memory runs out, nothing changes.
     pub fn put(&mut self, key: &str, value: &str) -> Result<(), AllocError>
         ensures { PutsInto (chars key.now) (chars value.now) self.old result self.new }
     {
-        let before = put_value(self.alloc, &mut self.values, key, value)?;
-        let edited = self.slots.put(self.alloc, self.opened.encoding, key, value);
-        restored_on_error(&mut self.values, key, before, edited)
+        put_pair(self.alloc, &mut self.source, self.opened, &mut self.index, key, value)
     }
 
     /// Sets the value of a key and keeps the layout of its line, as [`set_value`](crate::set_value) does. If memory runs
@@ -140,29 +145,27 @@ impl Document {
     pub fn set_value(&mut self, key: &str, value: &str) -> Result<(), AllocError>
         ensures { SetsValueIn (chars key.now) (chars value.now) self.old result self.new }
     {
-        let alloc = self.alloc;
-        let before = put_value(alloc, &mut self.values, key, value)?;
-        let body = &self.source[self.opened.start..];
-        let edited = self
-            .slots
-            .set_value(alloc, self.opened.encoding, body, key, value);
-        restored_on_error(&mut self.values, key, before, edited)
+        put_value(self.alloc, &mut self.source, self.opened, &mut self.index, key, value)
     }
 
     /// Removes a key, as [`remove_key`](crate::remove_key) does, and returns whether a pair had it. Allocates nothing.
     pub fn remove(&mut self, key: &str) -> bool
         ensures { RemovesFrom (chars key.now) self.old result self.new }
     {
-        let is_marked = self.opened.start != 0;
-        let body = &self.source[self.opened.start..];
-        self.slots.remove(self.alloc, body, is_marked, key);
-        self.values.remove(key).is_some()
+        remove_pairs(&mut self.source, self.opened, &mut self.index, key)
+    }
+
+    /// Returns the file after the edits, without a copy.
+    pub fn source(&self) -> &[u8]
+        ensures { result.now ≡ self.now.bytes }
+    {
+        self.source.as_slice()
     }
 
     /// Returns the file after the edits. What wasn't edited is unchanged.
     pub fn to_bytes(&self, alloc: Global) -> Result<Vec<u8>, AllocError>
         ensures { IfOk result (λ bytes. bytes.items ≡ self.now.bytes) }
     {
-        self.slots.to_bytes(alloc, &self.source, self.opened.start)
+        self.source.to_vec(alloc)
     }
 }

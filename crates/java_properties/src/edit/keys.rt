@@ -2,8 +2,7 @@
 
 ghost use Rattle.std.specs.Str.{chars};
 ghost use Rattle.java_properties.specs.BodyKeys.{FindsItem, ChecksKeyOfLine};
-ghost use Rattle.java_properties.specs.BodySlots.{FindsKeyOfLine};
-ghost use Rattle.java_properties.specs.BodyDocuments.{FindsPairOfLine};
+ghost use Rattle.java_properties.specs.BodyIndex.{FindsPairOfLine};
 ghost use Rattle.java_properties.specs.BodyValues.{ChecksValueOfLine};
 
 use crate::error::PropertiesError;
@@ -35,17 +34,6 @@ pub fn has_value(
     match find_item(alloc, number, line)? {
         Some(found) => Ok(found.has_value(line, value)),
         None => Ok(false),
-    }
-}
-
-/// Returns the key of a logical line, or `None` if it isn't a pair. Fails if an escape in the line, which has this
-/// number, is malformed, or if memory runs out.
-pub fn key_of(alloc: Global, number: usize, line: &str) -> Result<Option<String>, PropertiesError>
-    ensures { FindsKeyOfLine (chars line.now) number result }
-{
-    match find_item(alloc, number, line)? {
-        Some(found) => Ok(found.key(alloc, line)?),
-        None => Ok(None),
     }
 }
 

@@ -72,7 +72,44 @@ fn separator_after(
     requires { unit_size (encoding_of encoding) ≡ 1 }
     ensures { IfOk result (λ text. characters text ≡ separator_by (chars key.now) (last_between (held_groups_of (encoding_of encoding) body.now))) }
 {
-    let separator = match last_pair(alloc, encoding, body)? {
+    let last = last_pair(alloc, encoding, body)?;
+    separator_at(alloc, encoding, body, last, key)
+}
+
+/// Returns the layout of a new pair after a body, of which this is the last pair. `closing` says how the last group of the
+/// body ends. The encoding's units are one byte long.
+pub fn layout_at(
+    alloc: Global,
+    encoding: Encoding,
+    body: &[u8],
+    closing: Closing,
+    last: Option<BodySpan>,
+    key: &str,
+) -> Result<Layout, AllocError>
+    requires unit { unit_size (encoding_of encoding) ≡ 1 }
+    requires last { FindsLastPair (encoding_of encoding) body.now last }
+    ensures { IfOk result (λ layout. IsLayoutAfter (encoding_of encoding) body.now closing (chars key.now) layout) }
+{
+    Ok(Layout {
+        closing,
+        separator: separator_at(alloc, encoding, body, last, key)?,
+        ending: last_ending(body),
+    })
+}
+
+// Returns the separator of a new pair with this key: that of the last pair of the body, or an equals sign.
+fn separator_at(
+    alloc: Global,
+    encoding: Encoding,
+    body: &[u8],
+    last: Option<BodySpan>,
+    key: &str,
+) -> Result<String, AllocError>
+    requires unit { unit_size (encoding_of encoding) ≡ 1 }
+    requires last { FindsLastPair (encoding_of encoding) body.now last }
+    ensures { IfOk result (λ text. characters text ≡ separator_by (chars key.now) (last_between (held_groups_of (encoding_of encoding) body.now))) }
+{
+    let separator = match last {
         Some(pair) => separator_like(alloc, encoding, part(body, pair), key)?,
         None => None,
     };
@@ -167,8 +204,8 @@ fn push_shortened(short: &mut String, was_blank: bool, character: char) -> Resul
     Ok(())
 }
 
-// Returns the last line ending of a body, or an LF if it has none.
-fn last_ending(body: &[u8]) -> LineEnding
+/// Returns the last line ending of a body, or an LF if it has none.
+pub fn last_ending(body: &[u8]) -> LineEnding
     ensures { IsLastEnding body.now result }
 {
     ending_within(body).unwrap_or(LineEnding::LF)

@@ -4,7 +4,7 @@ ghost use Rattle.std.specs.Prelude.{◌≡◌};
 ghost use Rattle.std.specs.Str.{chars};
 ghost use Rattle.properties_format.specs.Text.{line_ending_text};
 ghost use Rattle.properties_format.specs.Reading.Lines.{ends_in_cr};
-ghost use Rattle.properties_format.specs.Reading.Slots.{safe_ending};
+ghost use Rattle.properties_format.specs.Reading.Parts.{safe_ending};
 ghost use Rattle.properties_text.specs.Encoding.{encoding_of};
 ghost use Rattle.properties_lines.specs.LineSearch.{unit_size};
 ghost use Rattle.java_properties.specs.Settings.{ending_of};

@@ -119,7 +119,8 @@ pub fn part(body: &[u8], span: BodySpan) -> &[u8]
     &body[span.start..span.end]
 }
 
-fn begins_like_bom(bytes: &[u8]) -> bool
+/// Returns whether the bytes begin like a byte order mark.
+pub fn begins_like_bom(bytes: &[u8]) -> bool
     ensures { result ≡ begins_like_bom bytes.now }
 {
     match byte_order_mark(bytes) {

@@ -11,7 +11,7 @@ use Rattle.properties_format.specs.Changed.{IsSetIn, map_edited, AreOthersThanLa
 use Rattle.properties_format.specs.Valued.{value_text, ending_in, separation_by, new_pair_bytes, IsFrontOf, IsValueSet, IsSetValueResult, KeepsFront}
 use Rattle.properties_format.specs.Reading.Body.{held_groups_of}
 use Rattle.properties_format.specs.Reading.Edited.{last_place}
-use Rattle.properties_format.specs.Reading.Slots.{unended_bytes}
+use Rattle.properties_format.specs.Reading.Parts.{unended_bytes}
 use Rattle.properties_format.specs.Reading.Valued.{front_of, between_of, valued_at, value_set}
 use Rattle.properties_format.proofs.Body.Groups.{held_groups_of-only, held-groups, held-body, groups_bytes-append}
 use Rattle.properties_format.proofs.Edited.Outcomes.{outcomes_in, givens}

@@ -9,7 +9,7 @@ use Rattle.properties_format.specs.Edited.{is_editable}
 use Rattle.properties_format.specs.Valued.{IsFrontOf}
 use Rattle.properties_format.specs.Reading.Body.{held_of, held_groups_of}
 use Rattle.properties_format.specs.Reading.Cut.{decoded_line}
-use Rattle.properties_format.specs.Reading.Slots.{unended_bytes}
+use Rattle.properties_format.specs.Reading.Parts.{unended_bytes}
 use Rattle.properties_format.specs.Reading.Valued.{between_in, front_of, between_of, is_pair_to, has_value}
 use Rattle.properties_format.specs.Reading.Items.{outcome_of}
 use Rattle.properties_format.proofs.Body.Groups.{EndsOpen, IsLastFit, held_ended, cut-off, held_groups_of-only, lines-front, lines-back, fit-some}

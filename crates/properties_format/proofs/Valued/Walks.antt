@@ -17,7 +17,7 @@ use Rattle.properties_format.specs.Reading.Split.{ends_key}
 use Rattle.properties_format.specs.Reading.Cut.{decoded_line}
 use Rattle.properties_format.specs.Body.{HeldLine, as_lines}
 use Rattle.properties_format.specs.Edited.{is_editable}
-use Rattle.properties_format.specs.Reading.Slots.{unended_bytes}
+use Rattle.properties_format.specs.Reading.Parts.{unended_bytes}
 use Rattle.properties_format.specs.Reading.Valued.{without_indent, added_by, before_value, front_in, front_of, between_of, ascii_count, after_ascii}
 use Rattle.properties_format.proofs.Body.Decoded.{decoded-nil}
 use Rattle.properties_format.proofs.Valued.Parts.{pair-line, before_value-pair}

@@ -1,6 +1,6 @@
 use Rattle.std.proofs.Common.{ap, sym, ◌∙◌, subst}
 use Rattle.properties_format.specs.Reading.Edited.{IsSound}
-use Rattle.java_properties.specs.BodyDocuments.{outcome_pair}
+use Rattle.java_properties.specs.BodyIndex.{outcome_pair}
 use Rattle.java_properties.proofs.Items.{found-item}
 use Rattle.java_properties.proofs.edit.keys.pair_of.Goals as goal
 

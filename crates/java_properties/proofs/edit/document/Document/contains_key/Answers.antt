@@ -1,5 +1,5 @@
 use Rattle.std.specs.Str.{chars}
-use Rattle.java_properties.proofs.BodyDocuments.Calls.{checks_has_key}
+use Rattle.java_properties.proofs.BodyDocuments.{checks_has_key}
 use Rattle.java_properties.proofs.edit.document.Document.contains_key.Goals as goal
 
 pub returns : goal.returns

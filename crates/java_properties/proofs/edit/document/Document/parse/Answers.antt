@@ -6,24 +6,24 @@ use Rattle.properties_format.proofs.Edits.Results.{edit_all_result-meets}
 use Rattle.properties_format.proofs.Laws.{splitting-commutes}
 use Rattle.properties_text.specs.Encoding.{encoding_of}
 use Rattle.java_properties.specs.declared.edit.document.Document.TheInside.{Inside}
-use Rattle.java_properties.proofs.BodyDocuments.Edits.{IsOpened, opens-document}
+use Rattle.java_properties.proofs.BodyDocuments.{IsOpened, opens-document}
 use Rattle.java_properties.proofs.Editing.{refusal}
 use Rattle.java_properties.proofs.edit.document.Document.parse.Goals as goal
 
 pub returns-in_err-opened-clause-splitting : goal.returns-in_err-opened-clause-splitting
 returns-in_err-opened-clause-splitting c = splitting-commutes (encoding_of c.args.encoding) c.args.source.now
 
-pub returns-in_err-slots-clause-opens : goal.returns-in_err-slots-clause-opens
-returns-in_err-slots-clause-opens c =
+pub returns-in_err-index-clause-opens : goal.returns-in_err-index-clause-opens
+returns-in_err-index-clause-opens c =
     let e = encoding_of c.args.encoding in
     let source = c.args.source.now in
     let opened = c.in_ok-opened.ensures in
-    let refused = refusal c.from_residual-in_err-slots.result (AreEdited e source []) (edits_made e source []) opened.0 opened.1 (edit_all_result-meets e source [])
-    c.in_err-slots.ensures c.from_residual-in_err-slots.ensures.1 in
+    let refused = refusal c.from_residual-in_err-index.result (AreEdited e source []) (edits_made e source []) opened.0 opened.1 (edit_all_result-meets e source [])
+    c.in_err-index.ensures c.from_residual-in_err-index.ensures.1 in
     rw refused.1 refused.2
 
-pub returns-in_err-slots-clause-splitting : goal.returns-in_err-slots-clause-splitting
-returns-in_err-slots-clause-splitting c = splitting-commutes (encoding_of c.args.encoding) c.args.source.now
+pub returns-in_err-index-clause-splitting : goal.returns-in_err-index-clause-splitting
+returns-in_err-index-clause-splitting c = splitting-commutes (encoding_of c.args.encoding) c.args.source.now
 
 pub returns-in_err-to_vec-clause-splitting : goal.returns-in_err-to_vec-clause-splitting
 returns-in_err-to_vec-clause-splitting c = splitting-commutes (encoding_of c.args.encoding) c.args.source.now
@@ -36,8 +36,7 @@ document c =
       source = c.in_ok-to_vec.field-0;
       encoding = c.args.encoding;
       opened = c.in_ok-opened.opened;
-      slots = c.in_ok-slots.slots;
-      values = c.in_ok-slots.values;
+      index = c.in_ok-index.index;
     }
 
 is-opened : (c : goal.In_ok-to_vec) → IsOpened (document c) c.args.source.now
@@ -45,15 +44,8 @@ unfolding document
 is-opened c =
     let source = c.args.source.now in
     let opened = c.in_ok-opened in
-    let parsed = rw (take_rest source opened.opened.start) at c.in_ok-slots.ensures in
-    opens-document (document c) source (c.in_ok-to_vec.ensures.items_if_clones_equal (λ x y same. same)) (record {
-      in_force = opened.ensures.0;
-      editable = opened.ensures.1;
-      sound = parsed.0.0;
-      slots = parsed.0.1;
-      is_map = parsed.1;
-      ordered = parsed.2;
-    })
+    let parsed = rw (take_rest source opened.opened.start) at c.in_ok-index.ensures in
+    opens-document (document c) source (c.in_ok-to_vec.ensures.items_if_clones_equal (λ x y same. same)) opened.ensures.0 opened.ensures.1 parsed.0 parsed.1
 
 pub invariant_of-result : goal.invariant_of-result
 unfolding document

@@ -1,0 +1,96 @@
+-- A body in which a pair gets another value: its groups are those of the body with one replaced.
+use Rattle.std.proofs.Common.{◌≡◌, ◌≢◌, ◌<◌, ◌≤◌, ℕ, ◌+◌, true, false, List, [], ◌∷◌, ◌++◌, Option, Some, None, refl, ap, ap₂, sym, ◌∙◌, append_assoc, subst, length, length-append, arith}
+use Rattle.std.specs.Prelude.{All}
+use Rattle.properties_format.specs.Text.{scalar, LineEnding}
+use Rattle.properties_format.specs.Encoding.{Encoding}
+use Rattle.properties_format.specs.Split.{AreBlanks}
+use Rattle.properties_format.specs.Reading.Cut.{decoded_line}
+use Rattle.properties_format.specs.Printing.{encoded_text}
+use Rattle.properties_format.specs.Body.{HeldLine, as_lines, HasKey, NoneHasKey, AreGroupsOf, group_bytes, groups_bytes, ending_bytes, last_ending}
+use Rattle.properties_format.specs.Groups.{IsWhole}
+use Rattle.properties_format.specs.Edited.{is_editable, is_empty_line}
+use Rattle.properties_format.specs.Valued.{HasPair, IsFrontOf, value_text}
+use Rattle.properties_format.specs.Reading.Body.{held_groups_of}
+use Rattle.properties_format.specs.Reading.Edited.{KeyPlace, last_place}
+use Rattle.properties_format.specs.Reading.Parts.{unended_bytes}
+use Rattle.properties_format.specs.Reading.Valued.{front_of, between_of, has_value, revalued_at}
+use Rattle.properties_format.proofs.Cut.Byline.{decoded_line-only}
+use Rattle.properties_format.proofs.Body.Decoded.{decoded-nil}
+use Rattle.properties_format.proofs.Body.Groups.{IsLastFit, AreFit, held_groups_of-meets, held_groups_of-only}
+use Rattle.properties_format.proofs.Edited.Made as made
+use Rattle.properties_format.proofs.Edited.Made.{last_place-meets}
+use Rattle.properties_format.proofs.Edited.Steps.{last_ending-push}
+use Rattle.properties_format.proofs.Valued.Fronts.{front_of-meets}
+use Rattle.properties_format.proofs.Valued.Made.{group-decoded, raw-pair}
+use Rattle.properties_format.proofs.Valued.Lined.{AreLined, groups-lined, lined-groups, fit-parts, fit-first, changed-lined, plain-lines, group-plain}
+use Rattle.properties_format.proofs.Valued.Pair.{new_bytes, new_line, changed-pair}
+use Rattle.properties_format.proofs.Valued.Groups.{revalued-bytes}
+use Rattle.properties_format.proofs.Valued.Read.{front-unended}
+use Rattle.properties_format.proofs.Edited.Parts.{unended-kept}
+use Rattle.properties_format.proofs.Edited.Replaced.{push-full}
+
+-- ---- sizes
+
+some-size : (x : List ℕ) → x ≢ [] → 0 < length x
+some-size [] h = absurd (h refl)
+some-size (c ∷ x) h = omega arith
+
+-- The head of a pair isn't empty, so neither is the pair.
+pair-size : (e : Encoding) (group : List HeldLine) (between front : List ℕ) (f : IsFrontOf e group between front) → 0 < length (unended_bytes group)
+pair-size e group between front f =
+    let head : 0 < length f.head =
+    some-size f.head (λ q. f.not_blank (subst AreBlanks (sym (decoded_line-only e f.head f.head_text f.is_head ∙ ap (decoded_line e) q ∙ decoded-nil e)) tt)) in
+    let rest = unended_bytes (record { bytes = f.tail; text = f.line.text; ending = f.line.ending } ∷ f.more) in
+    let whole : length (unended_bytes group) ≡ length front + length rest = ap length (front-unended e group between front f) ∙ length-append front rest in
+    let front_size : length front ≡ length (group_bytes f.kept) + length f.head = ap length f.bytes ∙ length-append (group_bytes f.kept) f.head in
+    omega arith
+
+-- ---- the groups
+
+-- The group of a pair is replaced by one that is the pair with its key and the value, and ends as it did.
+pub record IsRegrouped (e : Encoding) (key value : List ℕ) (p : KeyPlace) : Type 0 where
+  pub group : List HeldLine
+  pub is_groups : p.before ++ group ∷ p.after ≡ held_groups_of e (revalued_at e value p)
+  pub has_pair : HasPair key value group
+  pub ending : last_ending group ≡ last_ending p.group
+  pub bytes : unended_bytes group ≡ front_of e p.group ++ encoded_text e (value_text e (between_of p.group) value)
+  pub old_size : 0 < length (unended_bytes p.group)
+  pub full : is_empty_line group ≡ false
+  pub whole : IsWhole (as_lines group)
+
+pub regrouped : (e : Encoding) (body key value : List ℕ) (p : KeyPlace) → is_editable e ≡ true → All scalar value → made.IsLastPlace key (held_groups_of e body) p
+    → IsRegrouped e key value p
+regrouped e body key value p ok v m =
+    let gs = held_groups_of e body in
+    let held = held_groups_of-meets e body in
+    let raw = raw-pair key p.group m.has in
+    let between = between_of p.group in
+    let front = front_of e p.group in
+    let f = front_of-meets e p.group raw.0 raw.1 ok (group-decoded e body gs p.before p.group p.after held m.division) raw.2 in
+    let l = groups-lined e body gs ok held in
+    let lined : AreLined e (p.before ++ (f.kept ++ f.line ∷ f.more) ∷ p.after) = subst (AreLined e) (m.division ∙ ap (λ w. p.before ++ w ∷ p.after) f.division) l in
+    let fit : IsLastFit p.group = fit-first p.group p.after (fit-parts p.before p.group p.after (subst AreFit m.division l.fit)).1 in
+    let line_plain = plain-lines f.kept f.line f.more (group-plain e p.before (f.kept ++ f.line ∷ f.more) p.after lined) in
+    let ending = last_ending (f.kept ++ f.line ∷ f.more) in
+    let ends : ending ≡ last_ending p.group = ap last_ending (sym f.division) in
+    let c = changed-pair e p.group key between front value ending f ok v fit line_plain m.has in
+    let line = new_line e f.head between value ending in
+    let g = f.kept ++ line ∷ [] in
+    let groups = p.before ++ g ∷ p.after in
+    let next : AreLined e groups = changed-lined e p.before f.kept f.line f.more p.after (new_bytes e f.head between value) lined c.plain c.some c.whole in
+    let bytes : groups_bytes groups ≡ revalued_at e value p =
+    revalued-bytes e p.before f.kept f.head between front value ending p.after f.bytes
+    ∙ ap (λ o. groups_bytes p.before ++ (front ++ (encoded_text e (value_text e between value) ++ (ending_bytes o ++ groups_bytes p.after)))) ends in
+    record {
+      group = g;
+      is_groups = held_groups_of-only e (revalued_at e value p) groups (subst (λ w. AreGroupsOf e w groups) bytes (lined-groups e groups ok next));
+      has_pair = c.has_pair;
+      ending = last_ending-push f.kept line ∙ ends;
+      bytes =
+          unended-kept f.kept line
+          ∙ sym (append_assoc (group_bytes f.kept) f.head (encoded_text e (value_text e between value)))
+          ∙ ap (λ w. w ++ encoded_text e (value_text e between value)) (sym f.bytes);
+      old_size = pair-size e p.group between front f;
+      full = push-full f.kept line c.some;
+      whole = c.whole;
+    }

@@ -1,0 +1,91 @@
+use Rattle.std.proofs.Common.{◌≡◌, ◌==◌, ◌<◌, ◌≤◌, ◌+◌, ◌-◌, ◌^◌, ◌++◌, drop, take, length, ◌∙◌, ap, ap₂, refl, sym, subst, arith}
+use Rattle.std.specs.Str.{chars}
+use Rattle.std.proofs.lemmas.Result.{err_from_is_err_and}
+use Rattle.properties_text.specs.Encoding.{encoding_of}
+use Rattle.std.proofs.lemmas.List.{take_rest}
+use Rattle.java_properties.specs.BodyIndex.{FollowsPair}
+use Rattle.java_properties.specs.BodyValues.{IsNewValue, revalued_in}
+use Rattle.java_properties.proofs.BodyKeys.{editable-bytes}
+use Rattle.java_properties.proofs.BodyValues.{revalued-made}
+use Rattle.java_properties.proofs.Editing.{chars-scalars}
+use Rattle.java_properties.proofs.IndexEdits.{keeps-nothing, pair-within, pair-alone, revalued-index, same-value, value-size}
+use Rattle.java_properties.proofs.edit.index.revalue.Goals as goal
+
+pub new_value-requires-clause-alone : goal.new_value-requires-clause-alone
+new_value-requires-clause-alone c =
+    let r = c.requires in
+    let opened = c.args.opened in
+    let pair = c.args.pair in
+    let ok = editable-bytes (encoding_of opened.encoding) r.unit in
+    let alone = pair-alone opened c.args.source.now.items ok r.start r.sound pair (chars c.args.key.now) r.placed in
+    let size : (opened.start + pair.end) - (opened.start + pair.start) ≡ pair.end - pair.start = omega arith in
+    rw (c.deref.ensures.value, size) alone
+
+pub returns-in_err-text : goal.returns-in_err-text
+returns-in_err-text c =
+    let r = err_from_is_err_and c.from_residual-in_err-text.result c.from_residual-in_err-text.ensures in
+    rw r.1 (refl, keeps-nothing _ c.args.index.now c.requires.is_index)
+
+pub returns-in_err-bytes : goal.returns-in_err-bytes
+returns-in_err-bytes c =
+    let r = err_from_is_err_and c.from_residual-in_err-bytes.result c.from_residual-in_err-bytes.ensures in
+    rw r.1 (refl, keeps-nothing _ c.args.index.now c.requires.is_index)
+
+pub returns-in-Ok-None : goal.returns-in-Ok-None
+returns-in-Ok-None c = λ e force.
+    let r = c.requires in
+    let opened = c.args.opened in
+    let old = c.args.source.now.items in
+    let key = chars c.args.key.now in
+    let value = chars c.args.value.now in
+    let was = c.args.index.now in
+    let small = c.args.source.now.small in
+    let len = c.args.source.now.ok in
+    let there = rw c.deref.ensures.value at (rw c.in-Ok-None.field-0-is at c.in-Ok-None.ensures) in
+    same-value e opened old old key value c.args.pair was was (chars-scalars c.args.value.now c.utf8.value) force (editable-bytes (encoding_of opened.encoding) r.unit) r.sound r.placed r.is_index
+    (omega arith) (omega arith) (chars-scalars c.args.key.now c.utf8.key) there
+
+pub put_back-requires-clause-longer : goal.put_back-requires-clause-longer
+put_back-requires-clause-longer c =
+    let r = c.requires in
+    let opened = c.args.opened in
+    let old = c.args.source.now.items in
+    let value = chars c.args.value.now in
+    let f = encoding_of opened.encoding in
+    let start = opened.start + c.args.pair.start in
+    let end = opened.start + c.args.pair.end in
+    let n : IsNewValue f (take (end - start) (drop start old)) value c.in-Ok-Some.new = rw c.deref.ensures.value at (rw c.in-Ok-Some.field-0-is at c.in-Ok-Some.ensures) in
+    let made : c.in_ok-bytes.bytes.items ≡ revalued_in f old start end value n.group =
+    revalued-made f old start end value c.in_ok-bytes.bytes.items c.in-Ok-Some.new n
+    (c.in_ok-bytes.ensures ∙ ap₂ (λ v w. take (start + c.in-Ok-Some.new.front_size) old ++ (v ++ w)) c.as_slice.ensures (take_rest old end)) in
+    value-size opened old (editable-bytes (encoding_of opened.encoding) r.unit) r.start r.sound c.args.pair (chars c.args.key.now) r.placed value c.in_ok-bytes.bytes.items n.group made
+
+pub returns : goal.returns
+returns c = λ e force.
+    let r = c.requires in
+    let opened = c.args.opened in
+    let old = c.args.source.now.items in
+    let bytes = c.in_ok-bytes.bytes.items in
+    let put = c.put_back.new.source.items in
+    let pair = c.args.pair in
+    let key = chars c.args.key.now in
+    let value = chars c.args.value.now in
+    let was = c.args.index.now in
+    let is = c.put_back.new.index in
+    let old_small = c.args.source.now.small in
+    let old_len = c.args.source.now.ok in
+    let small = c.put_back.new.source.small in
+    let len = c.put_back.new.source.ok in
+    let told : FollowsPair key value pair.end (pair.end + length bytes - length old) (opened.start + pair.end == length old) was is =
+    subst (λ v. FollowsPair key v pair.end (pair.end + length bytes - length old) (opened.start + pair.end == length old) was is) (ap chars c.in_ok-text.ensures.ok) c.put_back.ensures.follows in
+    let follows : FollowsPair key value pair.end (pair.end + length put - length old) (opened.start + pair.end == length old) was is =
+    subst (λ v. FollowsPair key value pair.end (pair.end + length v - length old) (opened.start + pair.end == length old) was is) (sym c.put_back.ensures.bytes) told in
+    let f = encoding_of opened.encoding in
+    let start = opened.start + c.args.pair.start in
+    let end = opened.start + c.args.pair.end in
+    let n : IsNewValue f (take (end - start) (drop start old)) value c.in-Ok-Some.new = rw c.deref.ensures.value at (rw c.in-Ok-Some.field-0-is at c.in-Ok-Some.ensures) in
+    let made : c.in_ok-bytes.bytes.items ≡ revalued_in f old start end value n.group =
+    revalued-made f old start end value c.in_ok-bytes.bytes.items c.in-Ok-Some.new n
+    (c.in_ok-bytes.ensures ∙ ap₂ (λ v w. take (start + c.in-Ok-Some.new.front_size) old ++ (v ++ w)) c.as_slice.ensures (take_rest old end)) in
+    revalued-index e opened old put key value pair was is (chars-scalars c.args.value.now c.utf8.value) force (editable-bytes (encoding_of opened.encoding) r.unit) r.sound r.placed r.is_index
+    (omega arith) (omega arith) (chars-scalars c.args.key.now c.utf8.key) (n.group, n.is_group, n.other, c.put_back.ensures.bytes ∙ made) follows

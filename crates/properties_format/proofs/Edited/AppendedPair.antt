@@ -1,0 +1,58 @@
+-- The groups of a body to which a pair is appended, after closed groups.
+use Rattle.std.proofs.Common.{◌≡◌, ◌≢◌, ℕ, true, List, [], ◌∷◌, ◌++◌, Option, Some, None, refl, ap, ap₂, sym, ◌∙◌, inl, inr, append-nil, subst}
+use Rattle.properties_format.specs.Text.{LineEnding, line_ending_text}
+use Rattle.properties_format.specs.Encoding.{Encoding}
+use Rattle.properties_format.specs.Lines.{Ended, HoldsNoLineEnd}
+use Rattle.properties_format.specs.Reading.Cut.{decoded_line}
+use Rattle.properties_format.specs.Groups.{IsWhole, joined}
+use Rattle.properties_format.specs.Entries.{pair}
+use Rattle.properties_format.specs.Items.{given}
+use Rattle.properties_format.specs.Body.{HeldLine, AreGroupsOf, as_lines, held_in, groups_bytes}
+use Rattle.properties_format.specs.Valued.{separation_by}
+use Rattle.properties_format.specs.Edited.{is_editable}
+use Rattle.properties_format.specs.Reading.Items.{outcome_of}
+use Rattle.properties_format.specs.Reading.Body.{held_groups_of}
+use Rattle.properties_format.proofs.Body.Decoded.{decoded-nil}
+use Rattle.properties_format.proofs.Body.Groups.{groups_bytes-append, held_groups_of-only}
+use Rattle.properties_format.proofs.Edited.Closed.{AreClosedBy}
+use Rattle.properties_format.proofs.Valued.Added.{empty_line}
+use Rattle.properties_format.proofs.Valued.Lined.{AreLined, lined-groups, lines-join, held_of-append, held_in-append, fit-join}
+
+-- ---- a pair after closed groups
+
+module _ (e : Encoding) (by second : LineEnding) (gs : List (List HeldLine)) (key value pb : List ℕ) (ok : is_editable e ≡ true) (k : AreClosedBy e by gs)
+    (plain : HoldsNoLineEnd pb) (some : pb ≢ []) (whole : IsWhole (record { number = 0; text = decoded_line e pb } ∷ []))
+    (said : outcome_of (joined (record { number = 0; text = decoded_line e pb } ∷ [])) ≡ given (pair key value)) where
+  abbrev pub line : HeldLine
+  line = record { bytes = pb; text = decoded_line e pb; ending = Some second }
+
+  abbrev pub last : List HeldLine
+  last = empty_line e None ∷ []
+
+  abbrev pub closed : List (List HeldLine)
+  closed = k.before ++ k.left
+
+  abbrev pub appended_groups : List (List HeldLine)
+  appended_groups = closed ++ (line ∷ []) ∷ last ∷ []
+
+  next : AreLined e appended_groups
+  next =
+      let n : Ended = record { text = pb; by = second } in
+      let empty_whole : IsWhole (as_lines last) = subst (λ w. IsWhole (record { number = 0; text = w } ∷ [])) (sym (decoded-nil e)) (inr (refl, refl)) in
+      record {
+        ended = k.lines ++ n ∷ [];
+        last = [];
+        held = held_in-append closed ((line ∷ []) ∷ last ∷ []) ∙ ap (λ w. w ++ line ∷ empty_line e None ∷ []) k.held ∙ sym (held_of-append e k.lines (n ∷ []) []);
+        are_lines = lines-join k.lines (n ∷ []) [] k.are_lines (λ q. λ y. some y.0) (plain, (λ q. tt), tt);
+        fit = fit-join closed (line ∷ []) (last ∷ []) k.whole (whole, inl empty_whole);
+      }
+
+  pub appended-bytes : groups_bytes appended_groups ≡ (groups_bytes gs ++ separation_by (line_ending_text by) k.final) ++ (pb ++ line_ending_text second)
+  appended-bytes =
+      groups_bytes-append closed ((line ∷ []) ∷ last ∷ [])
+      ∙ ap₂ (λ v w. v ++ w) k.bytes (append-nil (pb ++ (line_ending_text second ++ [])) ∙ ap (λ w. pb ++ w) (append-nil (line_ending_text second)))
+
+  -- They are the groups of their bytes.
+  pub appended-held : (body : List ℕ) → body ≡ (groups_bytes gs ++ separation_by (line_ending_text by) k.final) ++ (pb ++ line_ending_text second)
+      → appended_groups ≡ held_groups_of e body
+  appended-held body is = held_groups_of-only e body appended_groups (subst (λ w. AreGroupsOf e w appended_groups) (appended-bytes ∙ sym is) (lined-groups e appended_groups ok next))

@@ -1,0 +1,330 @@
+-- Groups in which a CR may come before a single LF: the groups of their bytes are these, with each such CR and LF made
+-- one line ending.
+use Rattle.std.proofs.Common.{◌≡◌, ◌≢◌, ℕ, ◌&&◌, true, false, List, [], ◌∷◌, ◌++◌, Option, Some, None, refl, ap, ap₂, sym, ◌∙◌, inl, inr, append_assoc, append-nil, subst, if◌then◌else◌}
+use Rattle.std.proofs.lemmas.Bool.{cases_Bool, and_parts}
+use Rattle.properties_format.specs.Text.{LineEnding, lf, cr, crlf, carriage_return, line_feed}
+use Rattle.properties_format.specs.Encoding.{Encoding}
+use Rattle.properties_format.specs.Lines.{Ended, AreLines, end}
+use Rattle.properties_format.specs.Reading.Lines.{begins_with_lf}
+use Rattle.properties_format.specs.Groups.{is_open, IsGroups, IsWhole, lines_in, last_group, joined}
+use Rattle.properties_format.specs.Items.{IsOutcome, given}
+use Rattle.properties_format.specs.Entries.{pair}
+use Rattle.properties_format.specs.Writing.{is_empty}
+use Rattle.properties_format.specs.Body.{HeldLine, AreHeld, as_lines, as_groups, held_in, AreGroupsOf, HasKey, NoneHasKey, ending_bytes, group_bytes, groups_bytes, last_ending}
+use Rattle.properties_format.specs.Edited.{is_editable, final_group}
+use Rattle.properties_format.specs.Reading.Cut.{cut_of, decoded_line}
+use Rattle.properties_format.specs.Reading.Body.{held_of, held_lines_of}
+use Rattle.properties_format.specs.Reading.Parts.{unended_bytes, is_by_lf, is_by_cr, are_one_ending}
+use Rattle.properties_format.proofs.Lines.Plain.{plain-no_lf, no_lf_first}
+use Rattle.properties_format.proofs.Cut.Meets.{cut_of-meets}
+use Rattle.properties_format.proofs.Body.Decoded.{decoded-nil}
+use Rattle.properties_format.proofs.Body.Groups.{as_lines-append, held_of-meets, IsLastFit, AreFit, held_ended, ended-bytes, held-bytes, IsHeldFront, IsHeldLast, AreHeldGroups, held-groups}
+use Rattle.properties_format.proofs.InTurn.Lines.{AreLinesBy, first-none, lines-front, lines-last, bytes-unended, ending-of, with_ending, texts-with, bytes-with, lines-with}
+
+-- ---- groups in turn
+
+-- a whole group that has a line ending
+abbrev pub IsEndedGroup : Encoding → List HeldLine → Type 0
+IsEndedGroup e g = (by : LineEnding) × AreLinesBy e (Some by) g × IsWhole (as_lines g)
+
+-- the last group
+abbrev pub IsLastGroup : Encoding → List HeldLine → Type 0
+IsLastGroup e g = AreLinesBy e None g × IsLastFit g
+
+-- Groups in turn: there is at least one, and all but the last have line endings.
+abbrev pub AreInTurn : Encoding → List (List HeldLine) → Type 0
+AreInTurn e [] = ⊥
+AreInTurn e (g ∷ []) = IsLastGroup e g
+AreInTurn e (g ∷ h ∷ gs) = IsEndedGroup e g × AreInTurn e (h ∷ gs)
+
+-- ---- the groups of a body are in turn
+
+-- Ended lines are lines, the last of which has a line ending.
+ended-lines : (e : Encoding) (l : Ended) (ls : List Ended) → AreLines (l ∷ ls) [] → (by : LineEnding) × AreLinesBy e (Some by) (held_ended e (l ∷ ls))
+ended-lines e l [] h = (l.by, (h.0, refl, refl))
+ended-lines e l (m ∷ ls) h =
+    let n = ended-lines e m ls h.2 in
+    (n.0, (h.0, refl, (l.by, refl, (λ q. ap begins_with_lf (ended-bytes e (m ∷ ls)) ∙ no_lf_first (m ∷ ls) [] h.2 (h.1 q))), n.1))
+
+-- The lines of a text are lines, the last of which has no line ending.
+last-lines : (e : Encoding) (ls : List Ended) (last : List ℕ) → AreLines ls last → AreLinesBy e None (held_of e ls last)
+last-lines e [] last h = (h, refl, refl)
+last-lines e (l ∷ []) last h =
+    (h.0, refl, (l.by, refl, (λ q. ap begins_with_lf (held-bytes e [] last) ∙ no_lf_first [] last h.2 (h.1 q))), last-lines e [] last h.2)
+last-lines e (l ∷ m ∷ ls) last h =
+    (h.0, refl, (l.by, refl, (λ q. ap begins_with_lf (held-bytes e (m ∷ ls) last) ∙ no_lf_first (m ∷ ls) last h.2 (h.1 q))), last-lines e (m ∷ ls) last h.2)
+
+-- A group that others follow is a whole one with a line ending.
+ended-group : (e : Encoding) (g : List HeldLine) → IsHeldFront e g → IsEndedGroup e g
+ended-group e g h = of-lines h.lines h.held h.are_lines
+  where
+    of-lines : (ls : List Ended) → g ≡ held_ended e ls → AreLines ls [] → IsEndedGroup e g
+    of-lines [] s a = absurd (subst (λ v. IsWhole (as_lines v)) s h.front.whole)
+    of-lines (l ∷ ls) s a =
+        let n = ended-lines e l ls a in (n.0, subst (AreLinesBy e (Some n.0)) (sym s) n.1, h.front.whole)
+
+-- The last group of a body has no line ending, and is whole or ends open.
+last-group : (e : Encoding) (g : List HeldLine) → IsHeldLast e g → IsLastGroup e g
+last-group e g h = (subst (AreLinesBy e None) (sym h.held) (last-lines e h.lines.ended h.lines.last h.are_lines), h.fits)
+
+-- The groups of a body, one by one, are in turn.
+held-turn : (e : Encoding) (gs : List (List HeldLine)) → AreHeldGroups e gs → AreInTurn e gs
+held-turn e [] h = absurd h
+held-turn e (g ∷ []) h = last-group e g h
+held-turn e (g ∷ i ∷ gs) h = (ended-group e g h.0, held-turn e (i ∷ gs) h.1)
+
+-- The groups of a body are in turn.
+pub in-turn : (e : Encoding) (body : List ℕ) (gs : List (List HeldLine)) → is_editable e ≡ true → AreGroupsOf e body gs → AreInTurn e gs
+in-turn e body gs ok h = held-turn e gs (held-groups e body gs ok h)
+
+-- ---- a CR and a single LF
+
+-- the groups, with each CR and the single LF after it made one line ending
+abbrev pub merged : List (List HeldLine) → List (List HeldLine)
+merged [] = []
+merged (g ∷ []) = g ∷ []
+merged (g ∷ h ∷ gs) = if are_one_ending g h then with_ending (Some crlf) g ∷ merged gs else g ∷ merged (h ∷ gs)
+
+-- A group that ends in a CR takes the single LF after it, and ends in CR LF.
+pub merged-one : (g h : List HeldLine) (gs : List (List HeldLine)) → are_one_ending g h ≡ true
+    → merged (g ∷ h ∷ gs) ≡ with_ending (Some crlf) g ∷ merged gs
+merged-one g h gs k = rw k refl
+
+-- Any other group at the front is unchanged.
+pub merged-two : (g h : List HeldLine) (gs : List (List HeldLine)) → are_one_ending g h ≡ false
+    → merged (g ∷ h ∷ gs) ≡ g ∷ merged (h ∷ gs)
+merged-two g h gs k = rw k refl
+
+-- A line ending that passes the test for an LF is one.
+pub by_lf-is : (o : Option LineEnding) → is_by_lf o ≡ true → o ≡ Some lf
+by_lf-is None k = absurd (cc)
+by_lf-is (Some lf) k = refl
+by_lf-is (Some cr) k = absurd (cc)
+by_lf-is (Some crlf) k = absurd (cc)
+
+-- A line ending that passes the test for a CR is one.
+pub by_cr-is : (o : Option LineEnding) → is_by_cr o ≡ true → o ≡ Some cr
+by_cr-is None k = absurd (cc)
+by_cr-is (Some lf) k = absurd (cc)
+by_cr-is (Some cr) k = refl
+by_cr-is (Some crlf) k = absurd (cc)
+
+-- A text that passes the test for an empty one is empty.
+pub empty-is : (x : List ℕ) → is_empty x ≡ true → x ≡ []
+empty-is [] k = refl
+empty-is (c ∷ x) k = absurd (cc)
+
+-- The first group ends in a CR, and the second is a single LF.
+pub record IsOneEnding (g h : List HeldLine) : Type 0 where
+  pub by_cr : last_ending g ≡ Some cr
+  pub by_lf : last_ending h ≡ Some lf
+  pub empty : unended_bytes h ≡ []
+
+-- Two groups are of this kind if they pass the test for one line ending.
+pub one-ending : (g h : List HeldLine) → are_one_ending g h ≡ true → IsOneEnding g h
+one-ending g h k =
+    let m = and_parts (is_by_cr (last_ending g)) (is_by_lf (last_ending h) && is_empty (unended_bytes h)) k in
+    let n = and_parts (is_by_lf (last_ending h)) (is_empty (unended_bytes h)) m.1 in
+    record { by_cr = by_cr-is (last_ending g) m.0; by_lf = by_lf-is (last_ending h) n.0; empty = empty-is (unended_bytes h) n.1 }
+
+-- Their bytes are those of the first group with a CR LF.
+pub one-bytes : (g h : List HeldLine) → IsOneEnding g h → group_bytes (with_ending (Some crlf) g) ≡ group_bytes g ++ group_bytes h
+one-bytes [] h k = let s = k.by_cr in absurd (cc)
+one-bytes (i ∷ is) h k =
+    let x = unended_bytes (i ∷ is) in
+    bytes-with (Some crlf) i is
+    ∙ sym (append_assoc x (carriage_return ∷ []) (line_feed ∷ []))
+    ∙ sym (ap₂ (λ u v. u ++ v) (bytes-unended (i ∷ is) ∙ ap (λ o. x ++ ending_bytes o) k.by_cr) (bytes-unended h ∙ ap₂ (λ u o. u ++ ending_bytes o) k.empty k.by_lf))
+
+-- The bytes are unchanged.
+pub merged-bytes : (gs : List (List HeldLine)) → groups_bytes (merged gs) ≡ groups_bytes gs
+merged-bytes [] = refl
+merged-bytes (g ∷ []) = refl
+merged-bytes (g ∷ h ∷ gs) = elim (cases_Bool (are_one_ending g h)) [
+  | inl k ↦
+      ap groups_bytes (merged-one g h gs k)
+      ∙ ap₂ (λ u v. u ++ v) (one-bytes g h (one-ending g h k)) (merged-bytes gs)
+      ∙ append_assoc (group_bytes g) (group_bytes h) (groups_bytes gs)
+  | inr k ↦ ap groups_bytes (merged-two g h gs k) ∙ ap (λ v. group_bytes g ++ v) (merged-bytes (h ∷ gs))
+]
+
+-- ---- which groups begin with an LF
+
+-- The first of several lines of a group is open.
+fit-open_line : (h i : HeldLine) (hs : List HeldLine) → IsLastFit (h ∷ i ∷ hs) → is_open h.text ≡ true
+fit-open_line h i hs (inl (inl w)) = absurd (cc (w.1))
+fit-open_line h i hs (inl (inr w)) = w.1.0
+fit-open_line h i hs (inr u) = u.1.0
+
+-- No LF comes before the last line ending of a group.
+unended-no_lf : (e : Encoding) (o : Option LineEnding) (g : List HeldLine) → AreLinesBy e o g → IsLastFit g → begins_with_lf (unended_bytes g) ≡ false
+unended-no_lf e o [] a f = absurd a
+unended-no_lf e o (h ∷ []) a f = plain-no_lf h.bytes a.0
+unended-no_lf e o (h ∷ i ∷ hs) a f =
+    first-none h.bytes (ending_bytes h.ending ++ unended_bytes (i ∷ hs)) (plain-no_lf h.bytes a.0)
+    (λ r. absurd (closed (ap is_open (a.1 ∙ ap (decoded_line e) r ∙ decoded-nil e)) (fit-open_line h i hs f)))
+  where
+    closed : is_open h.text ≡ false → is_open h.text ≡ true → ⊥
+    closed p q = cc
+
+-- After a CR, no LF comes first unless the two are one line ending.
+pub after-cr : (e : Encoding) (g h : List HeldLine) (gs : List (List HeldLine)) → AreInTurn e (h ∷ gs) → last_ending g ≡ Some cr
+    → are_one_ending g h ≡ false
+    → begins_with_lf (groups_bytes (h ∷ gs)) ≡ false
+after-cr e g h gs a s k = of-turn gs a
+  where
+    no_lf : (x : List ℕ) (o : Option LineEnding) (y : List ℕ) → begins_with_lf x ≡ false → (is_by_lf o && is_empty x) ≡ false → (o ≡ None → y ≡ [])
+        → begins_with_lf ((x ++ ending_bytes o) ++ y) ≡ false
+    no_lf (c ∷ x) o y p q n = p
+    no_lf [] None y p q n = ap begins_with_lf (n refl)
+    no_lf [] (Some lf) y p q n = absurd (cc)
+    no_lf [] (Some cr) y p q n = refl
+    no_lf [] (Some crlf) y p q n = refl
+
+    other : (is_by_lf (last_ending h) && is_empty (unended_bytes h)) ≡ false
+    other = ap (λ o. is_by_cr o && (is_by_lf (last_ending h) && is_empty (unended_bytes h))) (sym s) ∙ k
+
+    of-turn : (gs : List (List HeldLine)) → AreInTurn e (h ∷ gs) → begins_with_lf (groups_bytes (h ∷ gs)) ≡ false
+    of-turn [] (b, f) =
+        ap (λ v. begins_with_lf (v ++ [])) (bytes-unended h) ∙ no_lf (unended_bytes h) (last_ending h) [] (unended-no_lf e None h b f) other (λ q. refl)
+    of-turn (i ∷ gs) ((by, b, w), r) =
+        ap (λ v. begins_with_lf (v ++ groups_bytes (i ∷ gs))) (bytes-unended h)
+        ∙ no_lf (unended_bytes h) (last_ending h) (groups_bytes (i ∷ gs)) (unended-no_lf e (Some by) h b (inl w)) other
+        (λ q. let t = ending-of e (Some by) h b in absurd (cc))
+
+-- ---- the groups of the bytes
+
+-- After a single LF, other groups follow.
+pub after-lf : (e : Encoding) (h : List HeldLine) (gs : List (List HeldLine)) → AreInTurn e (h ∷ gs) → last_ending h ≡ Some lf → AreInTurn e gs
+after-lf e h [] a s = let t = ending-of e None h a.0 in absurd (cc)
+after-lf e h (i ∷ gs) a s = a.1
+
+-- The lines of the bytes of groups in turn are the groups' lines, with each CR and the single LF after it made one line
+-- ending.
+merged-lines : (e : Encoding) (gs : List (List HeldLine)) → is_editable e ≡ true → AreInTurn e gs → held_lines_of e (groups_bytes gs) ≡ held_in (merged gs)
+merged-lines e [] ok a = absurd a
+merged-lines e (g ∷ []) ok a = ap (held_lines_of e) (append-nil (group_bytes g)) ∙ lines-last e g ok a.0 ∙ sym (append-nil g)
+merged-lines e (g ∷ h ∷ gs) ok ((by, a, w), r) = elim (cases_Bool (are_one_ending g h)) [
+  | inl k ↦
+      let m = one-ending g h k in
+      ap (held_lines_of e) (sym (append_assoc (group_bytes g) (group_bytes h) (groups_bytes gs)) ∙ ap (λ v. v ++ groups_bytes gs) (sym (one-bytes g h m)))
+      ∙ lines-front e crlf (with_ending (Some crlf) g) (groups_bytes gs) ok (lines-with e (Some by) (Some crlf) g a (λ c. refl)) (λ q. absurd (cc))
+      ∙ ap (λ v. with_ending (Some crlf) g ++ v) (merged-lines e gs ok (after-lf e h gs r m.by_lf))
+      ∙ ap held_in (sym (merged-one g h gs k))
+  | inr k ↦
+      lines-front e by g (groups_bytes (h ∷ gs)) ok a (λ q. after-cr e g h gs r (ending-of e (Some by) g a ∙ ap Some q) k)
+      ∙ ap (λ v. g ++ v) (merged-lines e (h ∷ gs) ok r)
+      ∙ ap held_in (sym (merged-two g h gs k))
+]
+
+-- A whole group before groups, all of which but the last are whole.
+fit-before : (g : List HeldLine) (gs : List (List HeldLine)) → IsWhole (as_lines g) → AreFit gs → AreFit (g ∷ gs)
+fit-before g [] w f = inl w
+fit-before g (h ∷ gs) w f = (w, f)
+
+-- With such line endings made one, all groups in turn but the last are whole.
+merged-fit : (e : Encoding) (gs : List (List HeldLine)) → AreInTurn e gs → AreFit (merged gs)
+merged-fit e [] a = absurd a
+merged-fit e (g ∷ []) a = a.1
+merged-fit e (g ∷ h ∷ gs) ((by, a, w), r) = elim (cases_Bool (are_one_ending g h)) [
+  | inl k ↦
+      let m = one-ending g h k in
+      subst AreFit (sym (merged-one g h gs k))
+      (fit-before (with_ending (Some crlf) g) (merged gs) (subst IsWhole (sym (texts-with (Some crlf) g)) w) (merged-fit e gs (after-lf e h gs r m.by_lf)))
+  | inr k ↦ subst AreFit (sym (merged-two g h gs k)) (fit-before g (merged (h ∷ gs)) w (merged-fit e (h ∷ gs) r))
+]
+
+-- If all groups but the last are whole, and the last is whole or ends open, they are the groups of their lines.
+fit-groups : (gs : List (List HeldLine)) → AreFit gs → IsGroups (as_lines (held_in gs)) end (as_groups gs)
+fit-groups [] f = record { whole = []; unfinished = []; are_lines = refl; are_whole = tt; is_unfinished = tt; are_groups = refl }
+fit-groups (g ∷ []) (inl w) = record {
+  whole = as_lines g ∷ [];
+  unfinished = [];
+  are_lines = ap as_lines (append-nil g) ∙ sym (append-nil (as_lines g)) ∙ sym (append-nil (as_lines g ++ []));
+  are_whole = (w, tt);
+  is_unfinished = tt;
+  are_groups = refl;
+}
+fit-groups ([] ∷ []) (inr u) = absurd u
+fit-groups ((h ∷ hs) ∷ []) (inr u) = record {
+  whole = [];
+  unfinished = as_lines (h ∷ hs);
+  are_lines = ap as_lines (append-nil (h ∷ hs));
+  are_whole = tt;
+  is_unfinished = u;
+  are_groups = refl;
+}
+fit-groups (g ∷ h ∷ gs) (w, f) =
+    let m = fit-groups (h ∷ gs) f in
+    record {
+      whole = as_lines g ∷ m.whole;
+      unfinished = m.unfinished;
+      are_lines = as_lines-append g (held_in (h ∷ gs)) ∙ ap (λ v. as_lines g ++ v) m.are_lines ∙ sym (append_assoc (as_lines g) (lines_in m.whole) m.unfinished);
+      are_whole = (w, m.are_whole);
+      is_unfinished = m.is_unfinished;
+      are_groups = ap (λ v. as_lines g ∷ v) {y = m.whole ++ last_group m.unfinished end} m.are_groups;
+    }
+
+-- Groups in turn, with each CR and single LF made one line ending, are the groups of their bytes.
+pub merged-groups : (e : Encoding) (gs : List (List HeldLine)) → is_editable e ≡ true → AreInTurn e gs → AreGroupsOf e (groups_bytes gs) (merged gs)
+merged-groups e gs ok a =
+    let body = groups_bytes gs in
+    record {
+      cut = cut_of e body;
+      is_cut = cut_of-meets e body;
+      are_held = subst (AreHeld e (cut_of e body).ended (cut_of e body).last) (merged-lines e gs ok a) (held_of-meets e (cut_of e body).ended (cut_of e body).last);
+      grouped = fit-groups (merged gs) (merged-fit e gs a);
+    }
+
+-- ---- what else is unchanged
+
+-- Whether a group has the key doesn't depend on its last line ending.
+pub key-with : (key : List ℕ) (o : Option LineEnding) (g : List HeldLine) → HasKey key g → HasKey key (with_ending o g)
+key-with key o g (value, h) = (value, subst (λ v. IsOutcome (joined v) (given (pair key value))) (sym (texts-with o g)) h)
+
+-- Whether a group doesn't have the key doesn't depend on its last line ending.
+no_key-with : (key : List ℕ) (o : Option LineEnding) (g : List HeldLine) → ¬ (HasKey key g) → ¬ (HasKey key (with_ending o g))
+no_key-with key o g n (value, h) = n (value, subst (λ v. IsOutcome (joined v) (given (pair key value))) (texts-with o g) h)
+
+-- If no group has the key, none has it once line endings are made one.
+pub merged-none : (key : List ℕ) (gs : List (List HeldLine)) → NoneHasKey key gs → NoneHasKey key (merged gs)
+merged-none key [] n = tt
+merged-none key (g ∷ []) n = n
+merged-none key (g ∷ h ∷ gs) n = elim (cases_Bool (are_one_ending g h)) [
+  | inl k ↦ subst (NoneHasKey key) (sym (merged-one g h gs k)) (no_key-with key (Some crlf) g n.0, merged-none key gs n.1.1)
+  | inr k ↦ subst (NoneHasKey key) (sym (merged-two g h gs k)) (n.0, merged-none key (h ∷ gs) n.1)
+]
+
+-- the last group
+pub final-next : (g : List HeldLine) (gs : List (List HeldLine)) → gs ≢ [] → final_group (g ∷ gs) ≡ final_group gs
+final-next g [] n = absurd (n refl)
+final-next g (h ∷ gs) n = refl
+
+-- If there is a group, there is one once line endings are made one.
+merged-some : (gs : List (List HeldLine)) → gs ≢ [] → merged gs ≢ []
+merged-some [] n = n
+merged-some (g ∷ []) n = n
+merged-some (g ∷ h ∷ gs) n = elim (cases_Bool (are_one_ending g h)) [
+  | inl k ↦ let s = merged-one g h gs k in λ q. cc
+  | inr k ↦ let s = merged-two g h gs k in λ q. cc
+]
+
+-- Groups in turn are at least one.
+pub turn-some : (e : Encoding) (gs : List (List HeldLine)) → AreInTurn e gs → gs ≢ []
+turn-some e [] a q = a
+turn-some e (g ∷ gs) a q = cc
+
+-- Once line endings are made one, the last group is the same.
+pub merged-final : (e : Encoding) (gs : List (List HeldLine)) → AreInTurn e gs → final_group (merged gs) ≡ final_group gs
+merged-final e [] a = absurd a
+merged-final e (g ∷ []) a = refl
+merged-final e (g ∷ h ∷ gs) a = elim (cases_Bool (are_one_ending g h)) [
+  | inl k ↦
+      let r = after-lf e h gs a.1 (one-ending g h k).by_lf in
+      ap final_group (merged-one g h gs k)
+      ∙ final-next (with_ending (Some crlf) g) (merged gs) (merged-some gs (turn-some e gs r))
+      ∙ merged-final e gs r
+      ∙ sym (final-next h gs (turn-some e gs r))
+  | inr k ↦
+      ap final_group (merged-two g h gs k) ∙ final-next g (merged (h ∷ gs)) (merged-some (h ∷ gs) (λ q. cc)) ∙ merged-final e (h ∷ gs) a.1
+]
