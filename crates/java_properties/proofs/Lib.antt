@@ -30,6 +30,7 @@ pub mod IndexFound
 pub mod IndexStored
 pub mod IndexParsed
 pub mod IndexCut
+pub mod IndexCutOut
 pub mod IndexMerged
 pub mod IndexRemoved
 pub mod BodyDocuments

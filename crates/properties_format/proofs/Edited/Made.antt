@@ -118,6 +118,13 @@ key_set-meets e source key value =
       whole = refl;
     }
 
+-- The body of that result is the computed one.
+pub key_set-body : (e : Encoding) (source key value : List ℕ)
+    → (key_set-meets e source key value).body
+    ≡ (let f = byte_order_mark e source in set_at f.encoding source (held_groups_of f.encoding f.body) key value (last_place key (held_groups_of f.encoding f.body)))
+unfolding key_set-meets
+key_set-body e source key value = refl
+
 -- A source with the key set is the computed one.
 pub key_set-only : (e : Encoding) (source key value result : List ℕ) → IsKeySet e source key value result → result ≡ key_set e source key value
 key_set-only e source key value result h =

@@ -22,7 +22,7 @@ use Rattle.properties_format.proofs.Edited.ByteOrderMarks.{key_set-in_force, sou
 use Rattle.properties_format.proofs.Edited.Closed.{closed-by, put-seam}
 use Rattle.properties_format.proofs.Edited.Contents.{ends-right}
 use Rattle.properties_format.proofs.Edited.Made as made
-use Rattle.properties_format.proofs.Edited.Made.{has_key-false, key_set-meets, last_place-meets, last_place-some}
+use Rattle.properties_format.proofs.Edited.Made.{has_key-false, key_set-body, key_set-meets, last_place-meets, last_place-some}
 use Rattle.properties_format.proofs.Edited.Pair.{pair_text, pair-decoded, pair-whole, pair-outcome, pair-plain}
 use Rattle.properties_format.proofs.Edited.Replaced.{reput-of}
 use Rattle.properties_format.proofs.Edited.Steps.{final_group-push}
@@ -85,7 +85,9 @@ set-twice e source key first second ok k v =
     let all = held_groups_of f.encoding f.body in
     let between = key_set e source key first in
     let body = set_at f.encoding source all key first (last_place key all) in
-    let force : byte_order_mark e between ≡ record { encoding = f.encoding; body = body } = key_set-in_force e source key first between ok (key_set-meets e source key first) in
+    let force : byte_order_mark e between ≡ record { encoding = f.encoding; body = body } =
+    key_set-in_force e source key first between ok (key_set-meets e source key first)
+    ∙ ap (λ b. record { encoding = f.encoding; body = b }) (key_set-body e source key first) in
     let mark : bom_of between ≡ bom_of source =
     append_cancel_right (bom_of between) (bom_of source) body
     (ap (λ w. let g : InForce = w in bom_of between ++ g.body) (sym force) ∙ sym (source-whole e between)) in
