@@ -4,7 +4,7 @@ use Rattle.std.specs.Prelude.{◌&&◌, bytes_eq, get_or, map, if◌then◌else�
 use Rattle.std.specs.BTreeMap.{IsOrdered}
 use Rattle.std.specs.Map.{update}
 use Rattle.std.specs.String.{string_cmp}
-use Rattle.core.specs.List.{copy_within}
+use Rattle.std.specs.List.{copy_within}
 use Rattle.std.proofs.Math.ListN.{drop_of_length-le}
 use Rattle.std.proofs.Math.Seq.{drop-append_seam}
 use Rattle.std.proofs.lemmas.Bool.{cases_Bool}

@@ -59,9 +59,9 @@ with-said o g = ap (λ v. outcome_of (joined v)) (texts-with o g)
 
 module _ (e : Encoding) where
   pub merged-spans : (such : Outcome → Bool) → such ignored ≡ false → (n : ℕ) (gs : List (List HeldLine)) → AreInTurn e gs → spans_where such n (merged gs) ≡ spans_where such n gs
-  merged-spans such no n [] a = absurd a
-  merged-spans such no n (g ∷ []) a = refl
-  merged-spans such no n (g ∷ h ∷ gs) (a, r) = elim (cases_Bool (are_one_ending g h)) [
+  merged-spans such un n [] a = absurd a
+  merged-spans such un n (g ∷ []) a = refl
+  merged-spans such un n (g ∷ h ∷ gs) (a, r) = elim (cases_Bool (are_one_ending g h)) [
     | inl k ↦
         let m = one-ending g h k in
         let w = with_ending (Some crlf) g in
@@ -69,9 +69,9 @@ module _ (e : Encoding) where
         let size = ap length (one-bytes g h m) ∙ length-append (group_bytes g) (group_bytes h) in
         let place : n + length (group_bytes w) ≡ n + length (group_bytes g) + length (group_bytes h) = omega arith in
         let rest : spans_where such (n + length (group_bytes w)) (merged gs) ≡ spans_where such (n + length (group_bytes g)) (h ∷ gs) =
-        merged-spans such no (n + length (group_bytes w)) gs (after-lf e h gs r m.by_lf)
+        merged-spans such un (n + length (group_bytes w)) gs (after-lf e h gs r m.by_lf)
         ∙ ap (λ p. spans_where such p gs) place
-        ∙ sym (spans-skip such (n + length (group_bytes g)) h gs (ap such (empty-said e lines.0 h lines.1 m.empty) ∙ no)) in
+        ∙ sym (spans-skip such (n + length (group_bytes g)) h gs (ap such (empty-said e lines.0 h lines.1 m.empty) ∙ un)) in
         let own : span_of n w ≡ span_of n g =
         ap (λ v. let s : BodySpan = record { start = n; end = n + length v } in s) (unended-with (Some crlf) g) in
         ap (spans_where such n) (merged-one g h gs k)
@@ -79,7 +79,7 @@ module _ (e : Encoding) where
         ∙ ap₂ (λ s ss. some_span (such (outcome g)) s ss) own rest
     | inr k ↦
         ap (spans_where such n) (merged-two g h gs k)
-        ∙ ap (some_span (such (outcome g)) (span_of n g)) (merged-spans such no (n + length (group_bytes g)) (h ∷ gs) r)
+        ∙ ap (some_span (such (outcome g)) (span_of n g)) (merged-spans such un (n + length (group_bytes g)) (h ∷ gs) r)
   ]
 
   pub merged-value : (j : List ℕ) (gs : List (List HeldLine)) → AreInTurn e gs → last_value j (merged gs) ≡ last_value j gs

@@ -353,6 +353,7 @@ module _ (e : Encoding) (key : List ℕ) (gs : List (List HeldLine)) (start : �
       let one = size-around skip g after in
       let two = ap length (groups_bytes-append skip after) ∙ length-append (groups_bytes skip) (groups_bytes after) in
       let all = whole-size in
+      let own = group-size g in
       let some = some-bytes in
       omega arith
 

@@ -248,10 +248,11 @@ pub fn remove_pairs(
     let Some(pair) = index.pairs.remove(key) else {
         return false;
     };
+    let last = pair.place;
     for place in &pair.earlier {
         cut_at(source, opened.start, index, *place);
     }
-    cut_at(source, opened.start, index, pair.place);
+    cut_at(source, opened.start, index, last);
     if opened.start == 0 && begins_like_bom(source) {
         put_lf_first(source, index);
     }

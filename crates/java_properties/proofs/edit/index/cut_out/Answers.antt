@@ -1,6 +1,6 @@
 use Rattle.std.proofs.Common.{◌≡◌, ◌==◌, ◌<◌, ◌≤◌, ◌+◌, ◌-◌, ◌++◌, length, take, drop, refl, ap, ap₂, sym, ◌∙◌, length-drop, arith, rules}
 use Rattle.std.specs.Prelude.{if◌then◌else◌}
-use Rattle.core.specs.List.{copy_within}
+use Rattle.std.specs.List.{copy_within}
 use Rattle.std.proofs.lemmas.List.{places, take_rest, with_items_is}
 use Rattle.java_properties.specs.BodyIndex.{all_shifted, ending_size}
 use Rattle.java_properties.specs.declared.edit.index.Shift.TheVariants as shift

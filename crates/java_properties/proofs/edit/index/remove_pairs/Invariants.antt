@@ -9,4 +9,4 @@ abbrev pub invariant-loop-place : goal.invariant-loop-place
 invariant-loop-place l =
     let f = encoding_of l.fn.opened.encoding in
     IsCutTo f (chars l.fn.key) (held_groups_of f (drop l.fn.opened.start l.fn.source.items)) (take l.fn.opened.start l.fn.source.items) l.fn.index.closing
-    l.source.items l.index (drop l.place-index l.place-items ++ l.pair.place ∷ [])
+    l.source.items l.index (drop l.place-index l.place-items ++ l.last ∷ [])

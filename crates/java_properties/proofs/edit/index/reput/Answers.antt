@@ -11,7 +11,7 @@ use Rattle.java_properties.proofs.edit.index.reput.Goals as goal
 
 pub returns-in_err-text : goal.returns-in_err-text
 returns-in_err-text c =
-    let r = err_from_is_err_and c.from_residual-in_err-text.result c.from_residual-in_err-text.ensures in
+    let r = err_from_is_err_and c.from_residual.result c.from_residual.ensures.1 in
     rw r.1 (refl, keeps-nothing _ c.args.index.now c.requires.is_index)
 
 pub replaced-requires-clause-within : goal.replaced-requires-clause-within
@@ -21,7 +21,7 @@ replaced-requires-clause-within c =
 
 pub returns-in_err-bytes : goal.returns-in_err-bytes
 returns-in_err-bytes c =
-    let r = err_from_is_err_and c.from_residual-in_err-bytes.result c.from_residual-in_err-bytes.ensures in
+    let r = err_from_is_err_and c.from_residual-in_err-bytes.result c.from_residual-in_err-bytes.ensures.1 in
     rw r.1 (refl, keeps-nothing _ c.args.index.now c.requires.is_index)
 
 pub put_back-requires-clause-within : goal.put_back-requires-clause-within

@@ -21,14 +21,102 @@ new_value-requires-clause-alone c =
     let size : (opened.start + pair.end) - (opened.start + pair.start) ≡ pair.end - pair.start = omega arith in
     rw (c.deref.ensures.value, size) alone
 
+pub overflow_add-start : goal.overflow_add-start
+overflow_add-start c =
+    let r = c.requires in
+    let ok = editable-bytes (encoding_of c.args.opened.encoding) r.unit in
+    let at = pair-within c.args.opened c.args.source.now.items ok r.start r.sound c.args.pair (chars c.args.key.now) r.placed in
+    let low = at.0 in
+    let high = at.1 in
+    let small = c.args.source.now.small in
+    let len = c.args.source.now.ok in
+    omega arith
+
+pub overflow_add-end : goal.overflow_add-end
+overflow_add-end c =
+    let r = c.requires in
+    let ok = editable-bytes (encoding_of c.args.opened.encoding) r.unit in
+    let at = pair-within c.args.opened c.args.source.now.items ok r.start r.sound c.args.pair (chars c.args.key.now) r.placed in
+    let low = at.0 in
+    let high = at.1 in
+    let small = c.args.source.now.small in
+    let len = c.args.source.now.ok in
+    omega arith
+
+pub slice_bounds-new_value-end : goal.slice_bounds-new_value-end
+slice_bounds-new_value-end c =
+    let r = c.requires in
+    let ok = editable-bytes (encoding_of c.args.opened.encoding) r.unit in
+    let at = pair-within c.args.opened c.args.source.now.items ok r.start r.sound c.args.pair (chars c.args.key.now) r.placed in
+    let low = at.0 in
+    let high = at.1 in
+    let small = c.args.source.now.small in
+    let len = c.args.source.now.ok in
+    omega arith
+
+pub overflow_add-front : goal.overflow_add-front
+overflow_add-front c =
+    let r = c.requires in
+    let ok = editable-bytes (encoding_of c.args.opened.encoding) r.unit in
+    let at = pair-within c.args.opened c.args.source.now.items ok r.start r.sound c.args.pair (chars c.args.key.now) r.placed in
+    let low = at.0 in
+    let high = at.1 in
+    let small = c.args.source.now.small in
+    let len = c.args.source.now.ok in
+    omega arith
+
+pub slice_bounds-front-end : goal.slice_bounds-front-end
+slice_bounds-front-end c =
+    let r = c.requires in
+    let ok = editable-bytes (encoding_of c.args.opened.encoding) r.unit in
+    let at = pair-within c.args.opened c.args.source.now.items ok r.start r.sound c.args.pair (chars c.args.key.now) r.placed in
+    let low = at.0 in
+    let high = at.1 in
+    let small = c.args.source.now.small in
+    let len = c.args.source.now.ok in
+    omega arith
+
+pub slice_bounds-concatenated-count : goal.slice_bounds-concatenated-count
+slice_bounds-concatenated-count c =
+    let r = c.requires in
+    let ok = editable-bytes (encoding_of c.args.opened.encoding) r.unit in
+    let at = pair-within c.args.opened c.args.source.now.items ok r.start r.sound c.args.pair (chars c.args.key.now) r.placed in
+    let low = at.0 in
+    let high = at.1 in
+    let small = c.args.source.now.small in
+    let len = c.args.source.now.ok in
+    omega arith
+
+pub slice_bounds-concatenated-start : goal.slice_bounds-concatenated-start
+slice_bounds-concatenated-start c =
+    let r = c.requires in
+    let ok = editable-bytes (encoding_of c.args.opened.encoding) r.unit in
+    let at = pair-within c.args.opened c.args.source.now.items ok r.start r.sound c.args.pair (chars c.args.key.now) r.placed in
+    let low = at.0 in
+    let high = at.1 in
+    let small = c.args.source.now.small in
+    let len = c.args.source.now.ok in
+    omega arith
+
+pub put_back-requires-clause-within : goal.put_back-requires-clause-within
+put_back-requires-clause-within c =
+    let r = c.requires in
+    let ok = editable-bytes (encoding_of c.args.opened.encoding) r.unit in
+    let at = pair-within c.args.opened c.args.source.now.items ok r.start r.sound c.args.pair (chars c.args.key.now) r.placed in
+    let low = at.0 in
+    let high = at.1 in
+    let small = c.args.source.now.small in
+    let len = c.args.source.now.ok in
+    omega arith
+
 pub returns-in_err-text : goal.returns-in_err-text
 returns-in_err-text c =
-    let r = err_from_is_err_and c.from_residual-in_err-text.result c.from_residual-in_err-text.ensures in
+    let r = err_from_is_err_and c.from_residual.result c.from_residual.ensures.1 in
     rw r.1 (refl, keeps-nothing _ c.args.index.now c.requires.is_index)
 
 pub returns-in_err-bytes : goal.returns-in_err-bytes
 returns-in_err-bytes c =
-    let r = err_from_is_err_and c.from_residual-in_err-bytes.result c.from_residual-in_err-bytes.ensures in
+    let r = err_from_is_err_and c.from_residual-in_err-bytes.result c.from_residual-in_err-bytes.ensures.1 in
     rw r.1 (refl, keeps-nothing _ c.args.index.now c.requires.is_index)
 
 pub returns-in-Ok-None : goal.returns-in-Ok-None

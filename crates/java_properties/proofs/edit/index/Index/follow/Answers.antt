@@ -20,7 +20,7 @@ returns-in-Some c =
     let found = sym c.in-Some.ensures.value in
     record {
       spans = c.shift_spans.ensures;
-      closing = c.closing_if.ensures;
+      closing = c.closing_if-self.ensures;
       places = written-places old new key c.utf8.key pair next found written refl refl;
       values = written-values old new key c.utf8.key pair next found written;
       ordered = written.4;
@@ -33,7 +33,7 @@ returns-in_default c =
     let none = at_chars-sorted old c.args.key.now c.utf8.key ∙ sym c.in_default.ensures.value in
     record {
       spans = c.shift_spans.ensures;
-      closing = c.closing_if.ensures;
+      closing = c.closing_if-self.ensures;
       places = λ k. ap (λ m. places_of (stored_at m.entries k)) same;
       values = λ k. ap (λ m. stored_value m.entries k) same ∙ missing-values old.entries (chars c.args.key.now) (characters c.args.value) none k;
       ordered = subst (IsOrdered string_cmp) (sym same) c.requires;

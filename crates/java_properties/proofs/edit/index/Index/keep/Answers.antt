@@ -1,4 +1,4 @@
-use Rattle.std.proofs.Common.{◌≡◌, ◌++◌, ◌∷◌, [], ℕ, List, Bool, true, false, length, refl, ap, ap₂, sym, ◌∙◌, arith}
+use Rattle.std.proofs.Common.{◌≡◌, ◌++◌, ◌∷◌, [], ℕ, List, Bool, true, false, length, refl, ap, ap₂, sym, inr, ◌∙◌, arith}
 use Rattle.std.specs.Prelude.{Option, Some, None, bytes_eq, cond, string_bytes}
 use Rattle.std.specs.Map.{update}
 use Rattle.std.specs.Str.{chars}
@@ -42,3 +42,35 @@ returns-clause-kept c =
       spans = ap (λ v. set v c.len-place.result (Some c.args.span)) c.in_ok-push.ensures.items ∙ set-end old.spans.items c.len-place.result (Some c.args.span) size;
       ordered = c.insert.ensures.ordered;
     }
+
+pub returns-in_err-earlier-clause-same : goal.returns-in_err-earlier-clause-same
+returns-in_err-earlier-clause-same c =
+    let old = c.args.self.now in
+    let key = c.args.key in
+    let bytes = string_bytes key in
+    let utf8 = IsUtf8-string_bytes key in
+    let removed = rw c.as_str.ensures.value at c.remove-known.ensures.updates in
+    at-error c.from_residual-in_err-earlier.result (λ none. record {
+      stored = none-removed (characters key) (stored_at old.pairs.entries) (stored_at c.remove-known.new.self.entries)
+          (at_chars-updated old.pairs c.remove-known.new.self bytes utf8 None removed) none;
+      spans = inr c.in_ok-push.ensures.items;
+      closing = refl;
+      ordered = c.remove-known.ensures.ordered;
+    })
+
+pub returns-in_err-insert-clause-same : goal.returns-in_err-insert-clause-same
+returns-in_err-insert-clause-same c =
+    let old = c.args.self.now in
+    let key = c.args.key in
+    let bytes = string_bytes key in
+    let utf8 = IsUtf8-string_bytes key in
+    let removed = rw c.as_str.ensures.value at c.remove-known.ensures.updates in
+    let same : c.insert.new.self.entries ≡ c.remove-known.new.self.entries = c.in_err-insert.ensures.err in
+    at-error c.from_residual-in_err-insert.result (λ none. record {
+      stored = λ j. ap (λ es. stored_at es j) same
+          ∙ none-removed (characters key) (stored_at old.pairs.entries) (stored_at c.remove-known.new.self.entries)
+          (at_chars-updated old.pairs c.remove-known.new.self bytes utf8 None removed) none j;
+      spans = inr c.in_ok-push.ensures.items;
+      closing = refl;
+      ordered = c.insert.ensures.ordered;
+    })
