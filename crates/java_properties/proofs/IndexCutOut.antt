@@ -19,14 +19,15 @@ use Rattle.properties_format.specs.Reading.Body.{held_groups_of, is_pair_with}
 use Rattle.properties_format.specs.Reading.Edited.{AreSound, without}
 use Rattle.properties_format.specs.Reading.Lines.{begins_with_lf}
 use Rattle.properties_text.specs.Encoding.{encoding_of}
-use Rattle.java_properties.specs.BodyIndex.{CutsOut, IsInSource, IsIndex, ending_size, places_of, span_at, spans_where, stored_at}
+use Rattle.java_properties.specs.BodyIndex.{ArePairsRemoved, CutsOut, GuardsFront, IsInSource, IsIndex, ending_size, places_of, span_at, spans_where, stored_at}
 use Rattle.java_properties.specs.BodyKeys.{closing_of}
+use Rattle.java_properties.specs.Sources.{IsInForce}
 use Rattle.java_properties.specs.declared.edit.index.Index.{Index}
 use Rattle.java_properties.specs.declared.edit.index.IndexedPair.{IndexedPair}
 use Rattle.java_properties.specs.declared.edit.place.BodySpan.{BodySpan}
 use Rattle.java_properties.specs.declared.edit.source.BodyStart.{BodyStart}
 use Rattle.java_properties.proofs.BodyGroups.{front-of}
-use Rattle.java_properties.proofs.IndexRemoved.{IsCutTo, IsCutWhole, cut-begin, cut-inside, cut-shorter, cut-step, cut-whole, held-rest}
+use Rattle.java_properties.proofs.IndexRemoved.{IsCutTo, IsCutWhole, cut-begin, cut-inside, cut-shorter, cut-step, cut-whole, held-rest, removed-guarded, removed-plain}
 
 -- ---- bytes
 
@@ -162,3 +163,27 @@ same-mark start old mid rest is = elim (cases_Bool (start == 0)) [
       ap (λ v. start == 0 && begins_like_bom v) all
   | inr other ↦ ap (λ a. a && begins_like_bom mid) other ∙ sym (ap (λ a. a && begins_like_bom rest) other)
 ]
+
+both-true : (a b : Bool) → (a && b) ≡ true → (a ≡ true) × (b ≡ true)
+both-true true b told = (refl, told)
+both-true false b told = absurd (cc)
+
+-- What is left is guarded if it begins like a mark.
+pub removal-ends : (e : Encoding) (opened : BodyStart) (old key : List ℕ) → IsInForce old e opened → is_editable (encoding_of opened.encoding) ≡ true
+    → AreSound (held_groups_of (encoding_of opened.encoding) (drop opened.start old))
+    → (mid : List ℕ) (cut : Index) (new : List ℕ) (is : Index)
+    → IsCutWhole (encoding_of opened.encoding) key (held_groups_of (encoding_of opened.encoding) (drop opened.start old)) (take opened.start old) mid cut
+    → length new < 2 ^ 64 → GuardsFront (opened.start == 0 && begins_like_bom mid) mid cut new is → ArePairsRemoved e opened key old new is
+removal-ends e opened old key force ok sound mid cut new is whole fits guards =
+    let rest = without key (held_groups_of (encoding_of opened.encoding) (drop opened.start old)) in
+    let same = same-mark opened.start old mid rest whole.bytes in
+    elim (cases_Bool (opened.start == 0 && begins_like_bom mid)) [
+      | inl told ↦
+          let put = subst (λ b. GuardsFront b mid cut new is) told guards in
+          let both = both-true (opened.start == 0) (begins_like_bom rest) (sym same ∙ told) in
+          removed-guarded e opened old key force ok sound mid new cut is whole both.0 both.1 put.bytes put.spans put.pairs put.closing fits
+      | inr told ↦
+          let kept = subst (λ b. GuardsFront b mid cut new is) told guards in
+          let plain = removed-plain e opened old key force ok sound mid cut whole (sym same ∙ told) in
+          subst (λ v. ArePairsRemoved e opened key old v is) (sym kept.0) (subst (ArePairsRemoved e opened key old mid) (sym kept.1) plain)
+    ]

@@ -312,6 +312,18 @@ abbrev pub CutsOut : ℕ → Option BodySpan → List ℕ → Index → List ℕ
 CutsOut start None old was new is = (new ≡ old) × (is ≡ was)
 CutsOut start (Some span) old was new is = IsCutOut start span old was new is
 
+-- An LF was put before the source.
+pub record PutsFirst (old : List ℕ) (was : Index) (new : List ℕ) (is : Index) : Type 0 where
+  pub bytes : new ≡ line_feed ∷ old
+  pub spans : is.spans.items ≡ all_shifted (shift.Moved 0 1) was.spans.items
+  pub pairs : is.pairs ≡ was.pairs
+  pub closing : is.closing ≡ was.closing
+
+-- So it was if the source began like a byte order mark; otherwise nothing changed.
+abbrev pub GuardsFront : Bool → List ℕ → Index → List ℕ → Index → Type 0
+GuardsFront true old was new is = PutsFirst old was new is
+GuardsFront false old was new is = (new ≡ old) × (is ≡ was)
+
 -- The source is without the key, and the index is that of its groups.
 pub record ArePairsRemoved (e : Encoding) (opened : BodyStart) (key old new : List ℕ) (index : Index) : Type 0 where
   pub removed : IsRemoved e old key new

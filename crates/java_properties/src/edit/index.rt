@@ -1,20 +1,20 @@
 // Where the pairs of a body are, by their keys.
 
-ghost use Rattle.std.specs.Prelude.{◌≡◌, ◌==◌, ◌<◌, ◌≤◌, ◌+◌, ◌-◌, ◌^◌, ◌++◌, [], ◌∷◌, true, drop, length, map, if◌then◌else◌, None, Some, OnOk, OnErr, IfOk, option_and_then, vec_capacity, vec_len};
+ghost use Rattle.std.specs.Prelude.{◌≡◌, ◌==◌, ◌&&◌, ◌<◌, ◌≤◌, ◌+◌, ◌-◌, ◌^◌, ◌++◌, [], ◌∷◌, true, drop, length, map, if◌then◌else◌, None, Some, OnOk, OnErr, IfOk, option_and_then, vec_capacity, vec_len};
 ghost use Rattle.std.specs.Option.{is_some, option_map};
 ghost use Rattle.std.specs.BTreeMap.{IsOrdered};
 ghost use Rattle.std.specs.String.{string_cmp};
 ghost use Rattle.properties_lines.specs.LineSearch.{unit_size};
 ghost use Rattle.java_properties.specs.Maps.{characters};
 ghost use Rattle.java_properties.specs.Settings.{ending_of};
-ghost use Rattle.properties_format.specs.Text.{line_ending_text, line_feed};
+ghost use Rattle.properties_format.specs.Encoding.{begins_like_bom};
+ghost use Rattle.properties_format.specs.Text.{line_ending_text};
 ghost use Rattle.std.specs.Str.{chars};
 ghost use Rattle.properties_format.specs.Edited.{is_editable};
 ghost use Rattle.properties_format.specs.Reading.Body.{held_groups_of};
 ghost use Rattle.properties_format.specs.Reading.Edited.{AreSound};
 ghost use Rattle.properties_text.specs.Encoding.{encoding_of};
-ghost use Rattle.java_properties.specs.declared.edit.index.Shift.TheVariants as shift;
-ghost use Rattle.java_properties.specs.BodyIndex.{AddsGroup, CutsOut, IsCutOut, IsInSource, PutsPair, PutsValue, RemovesPairs, ending_size, AddsKey, AddsValue, AppendsPair, FollowsPair, GrowsIndex, IsIndex, KeepsNothing, KeepsPair, ParsesIndex, all_shifted, found_span, last_live, lengthened_span, moved_span, moved_to, opened_closing, pair_characters, places_of, shifted, span_at, stored_at};
+ghost use Rattle.java_properties.specs.BodyIndex.{AddsGroup, CutsOut, IsCutOut, IsInSource, PutsPair, PutsValue, RemovesPairs, ending_size, AddsKey, AddsValue, AppendsPair, FollowsPair, GrowsIndex, GuardsFront, IsIndex, KeepsNothing, KeepsPair, ParsesIndex, PutsFirst, all_shifted, found_span, last_live, lengthened_span, moved_span, moved_to, opened_closing, pair_characters, places_of, shifted, span_at, stored_at};
 ghost use Rattle.java_properties.specs.BodyKeys.{IsPlaceOf};
 
 use crate::edit::groups::{Group, GroupReader};
@@ -253,9 +253,7 @@ pub fn remove_pairs(
         cut_at(source, opened.start, index, *place);
     }
     cut_at(source, opened.start, index, last);
-    if opened.start == 0 && begins_like_bom(source) {
-        put_lf_first(source, index);
-    }
+    guard_front(source, opened.start, index);
     true
 }
 
@@ -288,13 +286,20 @@ fn cut_out(source: &mut Vec<u8>, start: usize, index: &mut Index, pair: BodySpan
     index.closing = closing_if(text_end == size, Closing::Nothing, index.closing);
 }
 
+// Puts an LF before a source that begins like a byte order mark, unless a mark comes before its body.
+fn guard_front(source: &mut Vec<u8>, start: usize, index: &mut Index)
+    requires { vec_len source.old < vec_capacity source.old }
+    ensures { GuardsFront (start == 0 && begins_like_bom source.old.items) source.old.items index.old source.new.items index.new }
+{
+    if start == 0 && begins_like_bom(source) {
+        put_lf_first(source, index);
+    }
+}
+
 // Puts an LF before a source for which there is room.
 fn put_lf_first(source: &mut Vec<u8>, index: &mut Index)
     requires { vec_len source.old < vec_capacity source.old }
-    ensures bytes { source.new.items ≡ line_feed ∷ source.old.items }
-    ensures spans { index.new.spans.items ≡ all_shifted (shift.Moved 0 1) index.old.spans.items }
-    ensures pairs { index.new.pairs ≡ index.old.pairs }
-    ensures closing { index.new.closing ≡ index.old.closing }
+    ensures { PutsFirst source.old.items index.old source.new.items index.new }
 {
     match source.insert(0, b'\n') {
         Ok(()) => shift_spans(&mut index.spans, Shift::Moved(0, 1)),

@@ -35,5 +35,5 @@ returns-clause-cuts c =
       bytes = cut ∙ ap (λ n. take front old ++ drop (text_end + n) old) ending_is;
       spans = c.shift_spans.ensures ∙ ap (λ n. all_shifted (shift.Cut pair.start (pair.end + n)) c.args.index.now.spans.items) ending_is;
       pairs = refl;
-      closing = c.closing_if.ensures ∙ ap (λ n. if text_end == n then closing.Nothing else c.args.index.now.closing) size;
+      closing = c.closing_if-index.ensures ∙ ap (λ n. if text_end == n then closing.Nothing else c.args.index.now.closing) size;
     }

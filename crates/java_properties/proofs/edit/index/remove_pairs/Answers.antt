@@ -8,12 +8,11 @@ use Rattle.properties_format.specs.Reading.Edited.{without}
 use Rattle.properties_text.specs.Encoding.{encoding_of}
 use Rattle.java_properties.specs.BodyIndex.{KeepsNothing, stored_at}
 use Rattle.java_properties.specs.declared.edit.index.Index.{Index}
-use Rattle.java_properties.proofs.IndexCutOut.{IsGoing, going-inside, going-on, last-cut, last-inside, last-shorter, removal-begins, same-mark}
+use Rattle.java_properties.proofs.IndexCutOut.{IsGoing, going-inside, going-on, last-cut, last-inside, last-shorter, removal-begins, removal-ends}
 use Rattle.java_properties.proofs.IndexParsed.{none-removed}
-use Rattle.java_properties.proofs.IndexRemoved.{removed-guarded, removed-none, removed-plain}
+use Rattle.java_properties.proofs.IndexRemoved.{removed-none}
 use Rattle.java_properties.proofs.TextMaps.Values.{at_chars-sorted, at_chars-updated}
 use Rattle.java_properties.proofs.edit.index.remove_pairs.Goals as goal
-use Rattle.java_properties.proofs.edit.index.remove_pairs.Goals.{else-opened-start-eq0-via-then-opened-start-eq0+else-begins_like_bom, else-opened-start-eq0-via-else-opened-start-eq0}
 
 pub returns-in_default-clause-told : goal.returns-in_default-clause-told
 returns-in_default-clause-told c =
@@ -86,8 +85,8 @@ cut_at-requires-2 c =
     last-inside c.args.opened c.args.source.now.items (chars c.args.key.now) r.editable r.start r.sound was r.is_index pair stored source.items c.loop-place.index
     c.deref-place-items.result.now c.loop-place.place-index pair.place (omega arith) (omega arith) c.loop-place.invariant
 
-pub put_lf_first-requires : goal.put_lf_first-requires
-put_lf_first-requires c =
+pub guard_front-requires : goal.guard_front-requires
+guard_front-requires c =
     let r = c.requires in
     let was = c.args.index.now in
     let source = c.loop-place.source in
@@ -101,13 +100,13 @@ put_lf_first-requires c =
     c.deref-place-items.result.now c.loop-place.place-index pair.place c.cut_at-2.new.source.items c.cut_at-2.new.index (omega arith) (omega arith) c.loop-place.invariant c.cut_at-2.ensures.cuts in
     omega arith
 
-pub returns-then-begins_like_bom-clause-told : goal.returns-then-begins_like_bom-clause-told
-returns-then-begins_like_bom-clause-told c =
+pub returns-clause-told : goal.returns-clause-told
+returns-clause-told c =
     let some = at_chars-sorted c.args.index.now.pairs c.args.key.now c.utf8.key ∙ sym c.in-Some.ensures.value in
     rw some refl
 
-pub returns-then-begins_like_bom-clause-removes : goal.returns-then-begins_like_bom-clause-removes
-returns-then-begins_like_bom-clause-removes c = λ e force.
+pub returns-clause-removes : goal.returns-clause-removes
+returns-clause-removes c = λ e force.
     let r = c.requires in
     let opened = c.args.opened in
     let old = c.args.source.now.items in
@@ -120,48 +119,8 @@ returns-then-begins_like_bom-clause-removes c = λ e force.
     let size = source.ok in
     let mid = c.cut_at-2.new.source.items in
     let cut = c.cut_at-2.new.index in
-    let new = c.put_lf_first.new.source.items in
-    let rest = without key (held_groups_of (encoding_of opened.encoding) (drop opened.start old)) in
     let whole = last-cut opened old key r.editable r.start r.sound was r.is_index pair stored source.items c.loop-place.index
     c.deref-place-items.result.now c.loop-place.place-index pair.place mid cut (omega arith) (omega arith) c.loop-place.invariant c.cut_at-2.ensures.cuts in
-    let first : (opened.start == 0) ≡ true = grind (arith, nat_tests) in
-    let seen : begins_like_bom mid ≡ true = sym (ap begins_like_bom c.deref.ensures.value) ∙ sym c.begins_like_bom.ensures ∙ c.if-begins_like_bom.true in
-    let told : (opened.start == 0 && begins_like_bom mid) ≡ true = ap₂ (λ a b. a && b) first seen in
-    let marked : begins_like_bom rest ≡ true = ap (λ a. a && begins_like_bom rest) (sym first) ∙ sym (same-mark opened.start old mid rest whole.bytes) ∙ told in
-    let new_small = c.put_lf_first.new.source.small in
-    let new_size = c.put_lf_first.new.source.ok in
-    removed-guarded e opened old key force r.editable r.sound mid new cut c.put_lf_first.new.index whole first marked c.put_lf_first.ensures.bytes c.put_lf_first.ensures.spans
-    c.put_lf_first.ensures.pairs c.put_lf_first.ensures.closing (omega arith)
-
-pub returns-else-opened-start-eq0-clause-told : goal.returns-else-opened-start-eq0-clause-told
-returns-else-opened-start-eq0-clause-told c =
-    let some = at_chars-sorted c.args.index.now.pairs c.args.key.now c.utf8.key ∙ sym c.in-Some.ensures.value in
-    rw some refl
-
-pub returns-else-opened-start-eq0-clause-removes : goal.returns-else-opened-start-eq0-clause-removes
-returns-else-opened-start-eq0-clause-removes c = λ e force.
-    let r = c.requires in
-    let opened = c.args.opened in
-    let old = c.args.source.now.items in
-    let key = chars c.args.key.now in
-    let was = c.args.index.now in
-    let source = c.loop-place.source in
-    let pair = c.in-Some.pair in
-    let stored = at_chars-sorted was.pairs c.args.key.now c.utf8.key ∙ sym c.in-Some.ensures.value in
-    let small = source.small in
-    let size = source.ok in
-    let new = c.cut_at-2.new.source.items in
-    let is = c.cut_at-2.new.index in
-    let rest = without key (held_groups_of (encoding_of opened.encoding) (drop opened.start old)) in
-    let whole = last-cut opened old key r.editable r.start r.sound was r.is_index pair stored source.items c.loop-place.index
-    c.deref-place-items.result.now c.loop-place.place-index pair.place new is (omega arith) (omega arith) c.loop-place.invariant c.cut_at-2.ensures.cuts in
-    let told : (opened.start == 0 && begins_like_bom new) ≡ false = elim c.else-opened-start-eq0.branch [
-      | else-opened-start-eq0-via-then-opened-start-eq0+else-begins_like_bom w ↦
-          let first : (opened.start == 0) ≡ true = grind (arith, nat_tests) in
-          let seen : begins_like_bom new ≡ false = sym (ap begins_like_bom w.deref.ensures.value) ∙ sym w.begins_like_bom.ensures ∙ w.if-begins_like_bom.false in
-          ap₂ (λ a b. a && b) first seen
-      | else-opened-start-eq0-via-else-opened-start-eq0 w ↦
-          let other : (opened.start == 0) ≡ false = grind (arith, nat_tests) in
-          ap (λ a. a && begins_like_bom new) other
-    ] in
-    removed-plain e opened old key force r.editable r.sound new is whole (sym (same-mark opened.start old new rest whole.bytes) ∙ told)
+    let new_small = c.guard_front.new.source.small in
+    let new_size = c.guard_front.new.source.ok in
+    removal-ends e opened old key force r.editable r.sound mid cut c.guard_front.new.source.items c.guard_front.new.index whole (omega arith) c.guard_front.ensures

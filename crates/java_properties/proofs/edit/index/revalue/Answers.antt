@@ -1,8 +1,8 @@
-use Rattle.std.proofs.Common.{◌≡◌, ◌==◌, ◌<◌, ◌≤◌, ◌+◌, ◌-◌, ◌^◌, ◌++◌, drop, take, length, ◌∙◌, ap, ap₂, refl, sym, subst, arith}
+use Rattle.std.proofs.Common.{◌≡◌, ◌==◌, ◌<◌, ◌≤◌, ◌+◌, ◌-◌, ◌^◌, ◌++◌, drop, take, length, length-drop, ◌∙◌, ap, ap₂, refl, sym, subst, arith}
 use Rattle.std.specs.Str.{chars}
 use Rattle.std.proofs.lemmas.Result.{err_from_is_err_and}
 use Rattle.properties_text.specs.Encoding.{encoding_of}
-use Rattle.std.proofs.lemmas.List.{take_rest}
+use Rattle.std.proofs.lemmas.List.{length-take-le, take_rest}
 use Rattle.java_properties.specs.BodyIndex.{FollowsPair}
 use Rattle.java_properties.specs.BodyValues.{IsNewValue, revalued_in}
 use Rattle.java_properties.proofs.BodyKeys.{editable-bytes}
@@ -63,6 +63,13 @@ overflow_add-front c =
     let high = at.1 in
     let small = c.args.source.now.small in
     let len = c.args.source.now.ok in
+    let start = c.args.opened.start + c.args.pair.start in
+    let end = c.args.opened.start + c.args.pair.end in
+    let n : IsNewValue (encoding_of c.args.opened.encoding) (take (end - start) (drop start c.args.source.now.items)) (chars c.args.value.now) c.in-Ok-Some.new =
+    rw c.deref.ensures.value at (rw c.in-Ok-Some.field-0-is at c.in-Ok-Some.ensures) in
+    let front = n.within in
+    let left = length-drop start c.args.source.now.items in
+    let size : length (take (end - start) (drop start c.args.source.now.items)) ≡ end - start = length-take-le (end - start) (drop start c.args.source.now.items) (omega arith) in
     omega arith
 
 pub slice_bounds-front-end : goal.slice_bounds-front-end
@@ -74,6 +81,14 @@ slice_bounds-front-end c =
     let high = at.1 in
     let small = c.args.source.now.small in
     let len = c.args.source.now.ok in
+    let start = c.args.opened.start + c.args.pair.start in
+    let end = c.args.opened.start + c.args.pair.end in
+    let n : IsNewValue (encoding_of c.args.opened.encoding) (take (end - start) (drop start c.args.source.now.items)) (chars c.args.value.now) c.in-Ok-Some.new =
+    rw c.deref.ensures.value at (rw c.in-Ok-Some.field-0-is at c.in-Ok-Some.ensures) in
+    let front = n.within in
+    let left = length-drop start c.args.source.now.items in
+    let size : length (take (end - start) (drop start c.args.source.now.items)) ≡ end - start = length-take-le (end - start) (drop start c.args.source.now.items) (omega arith) in
+    let whole = ap length c.deref-2.ensures.value in
     omega arith
 
 pub slice_bounds-concatenated-count : goal.slice_bounds-concatenated-count
@@ -145,7 +160,9 @@ put_back-requires-clause-longer c =
     let n : IsNewValue f (take (end - start) (drop start old)) value c.in-Ok-Some.new = rw c.deref.ensures.value at (rw c.in-Ok-Some.field-0-is at c.in-Ok-Some.ensures) in
     let made : c.in_ok-bytes.bytes.items ≡ revalued_in f old start end value n.group =
     revalued-made f old start end value c.in_ok-bytes.bytes.items c.in-Ok-Some.new n
-    (c.in_ok-bytes.ensures ∙ ap₂ (λ v w. take (start + c.in-Ok-Some.new.front_size) old ++ (v ++ w)) c.as_slice.ensures (take_rest old end)) in
+    (c.in_ok-bytes.ensures
+    ∙ ap₂ (λ v w. take (start + c.in-Ok-Some.new.front_size) v ++ w) c.deref-2.ensures.value
+    (ap₂ (λ v w. v ++ w) c.as_slice.ensures (ap (λ v. take (length v - end) (drop end v)) c.deref-3.ensures.value ∙ take_rest old end))) in
     value-size opened old (editable-bytes (encoding_of opened.encoding) r.unit) r.start r.sound c.args.pair (chars c.args.key.now) r.placed value c.in_ok-bytes.bytes.items n.group made
 
 pub returns : goal.returns
@@ -174,6 +191,8 @@ returns c = λ e force.
     let n : IsNewValue f (take (end - start) (drop start old)) value c.in-Ok-Some.new = rw c.deref.ensures.value at (rw c.in-Ok-Some.field-0-is at c.in-Ok-Some.ensures) in
     let made : c.in_ok-bytes.bytes.items ≡ revalued_in f old start end value n.group =
     revalued-made f old start end value c.in_ok-bytes.bytes.items c.in-Ok-Some.new n
-    (c.in_ok-bytes.ensures ∙ ap₂ (λ v w. take (start + c.in-Ok-Some.new.front_size) old ++ (v ++ w)) c.as_slice.ensures (take_rest old end)) in
+    (c.in_ok-bytes.ensures
+    ∙ ap₂ (λ v w. take (start + c.in-Ok-Some.new.front_size) v ++ w) c.deref-2.ensures.value
+    (ap₂ (λ v w. v ++ w) c.as_slice.ensures (ap (λ v. take (length v - end) (drop end v)) c.deref-3.ensures.value ∙ take_rest old end))) in
     revalued-index e opened old put key value pair was is (chars-scalars c.args.value.now c.utf8.value) force (editable-bytes (encoding_of opened.encoding) r.unit) r.sound r.placed r.is_index
     (omega arith) (omega arith) (chars-scalars c.args.key.now c.utf8.key) (n.group, n.is_group, n.other, c.put_back.ensures.bytes ∙ made) follows
