@@ -9,8 +9,8 @@ pub returns-in-Put : goal.returns-in-Put
 returns-in-Put c =
     let made =
     edit-put c.args.opened c.requires.editable c.args.source.now.items c.put_pair.new.source.items c.args.index.now c.put_pair.new.index
-    (chars c.deref-in-Put.result.now) (chars c.deref-in-Put-2.result.now) c.put_pair.result c.put_pair.ensures in
-    let told = rw (c.deref-in-Put.ensures, c.deref-in-Put-2.ensures) at made in
+    (chars c.deref.result.now) (chars c.deref-in-Put.result.now) c.put_pair.result c.put_pair.ensures in
+    let told = rw (c.deref.ensures, c.deref-in-Put.ensures) at made in
     rw c.in-Put.is told
 
 pub returns-in-SetValue : goal.returns-in-SetValue

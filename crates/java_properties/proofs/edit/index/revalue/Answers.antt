@@ -89,7 +89,7 @@ slice_bounds-front-end c =
     let left = length-drop start c.args.source.now.items in
     let size : length (take (end - start) (drop start c.args.source.now.items)) ≡ end - start = length-take-le (end - start) (drop start c.args.source.now.items) (omega arith) in
     let whole = ap length c.deref-2.ensures.value in
-    omega arith
+    sym (length-take-le (start + c.in-Ok-Some.new.front_size) c.deref-2.result.now (omega arith))
 
 pub slice_bounds-concatenated-count : goal.slice_bounds-concatenated-count
 slice_bounds-concatenated-count c =
