@@ -10,6 +10,8 @@ mod parts;
 #[cfg(test)]
 mod printed;
 #[cfg(test)]
+mod random_edits;
+#[cfg(test)]
 mod reading;
 #[cfg(test)]
 mod same;

@@ -1,0 +1,133 @@
+// Documents and lists of edits, beside the calls on single keys made one after another, on sources and edits that a
+// seed gives. The bytes are those by which groups run into each other: blanks, separators, backslashes, line ends and
+// the bytes of a byte order mark.
+
+ghost use Rattle.std.specs.Prelude.{◌<◌};
+
+use crate::same::same;
+use java_properties::{Document, Edit, Encoding, edit_all, remove_key, set_key, set_value};
+use java_properties::PropertiesError;
+use std::alloc::{AllocError, Global};
+use std::process::Abort;
+use std::test::Fail;
+
+const BYTES: [u8; 19] = *b"aaab==: \\\\\n\n\r\r\n#\xef\xbb\xbf";
+const KEYS: [&str; 7] = ["a", "b", "", "aa", "ab", "\u{ef}\u{bb}\u{bf}", "ba"];
+const VALUES: [&str; 7] = ["", "a", "b c", " x ", "=", "\\", "\u{ef}"];
+
+#[test]
+fn documents_and_lists_are_edited_as_single_calls_edit_sources(
+    rt: HostRuntime,
+) -> Result<(), Fail> {
+    let mut numbers = Numbers { seed: 12345 };
+    for _ in 0..1700 {
+        let source = numbers.source(rt.alloc())?;
+        check_edits(&rt, rt.alloc(), &mut numbers, &source)?;
+    }
+    Ok(())
+}
+
+// Six edits of a source.
+fn check_edits(
+    rt: &impl Abort,
+    alloc: Global,
+    numbers: &mut Numbers,
+    source: &[u8],
+) -> Result<(), Fail> {
+    let mut document = Document::parse(alloc, source, Encoding::WINDOWS_1252)?;
+    let mut edits = Vec::new(alloc);
+    let mut wanted = source.to_vec(alloc)?;
+    for _ in 0..6 {
+        let edit = numbers.edit(alloc)?;
+        change(&mut document, &edit)?;
+        wanted = changed(alloc, &wanted, &edit)?;
+        edits.push(edit)?;
+        check_document(rt, alloc, &document, &wanted)?;
+    }
+    let listed = edit_all(alloc, source, Encoding::WINDOWS_1252, &edits)?;
+    same(rt, listed.as_slice(), wanted.as_slice());
+    Ok(())
+}
+
+fn change(document: &mut Document, edit: &Edit) -> Result<(), AllocError> {
+    match edit {
+        Edit::Put(key, value) => document.put(key.as_str(), value.as_str()),
+        Edit::SetValue(key, value) => document.set_value(key.as_str(), value.as_str()),
+        Edit::Remove(key) => {
+            let _ = document.remove(key.as_str());
+            Ok(())
+        }
+    }
+}
+
+fn changed(alloc: Global, source: &[u8], edit: &Edit) -> Result<Vec<u8>, PropertiesError> {
+    let encoding = Encoding::WINDOWS_1252;
+    match edit {
+        Edit::Put(key, value) => set_key(alloc, source, encoding, key.as_str(), value.as_str()),
+        Edit::SetValue(key, value) => {
+            set_value(alloc, source, encoding, key.as_str(), value.as_str())
+        }
+        Edit::Remove(key) => remove_key(alloc, source, encoding, key.as_str()),
+    }
+}
+
+// The document has these bytes, and answers as one that was opened on them.
+fn check_document(
+    rt: &impl Abort,
+    alloc: Global,
+    document: &Document,
+    wanted: &[u8],
+) -> Result<(), Fail> {
+    same(rt, document.source(), wanted);
+    let opened = Document::parse(alloc, wanted, Encoding::WINDOWS_1252)?;
+    for key in KEYS {
+        same(rt, document.get(key), opened.get(key));
+    }
+    let keys = document.keys(alloc)?;
+    let others = opened.keys(alloc)?;
+    same(rt, keys.as_slice(), others.as_slice());
+    Ok(())
+}
+
+// Numbers that look random, and what they choose.
+#[derive(Drop)]
+struct Numbers {
+    seed: u64,
+}
+
+impl Numbers {
+    fn below(&mut self, count: usize) -> usize
+        requires { 0 < count }
+        ensures { result < count }
+    {
+        self.seed = self
+            .seed
+            .wrapping_mul(6364136223846793005)
+            .wrapping_add(1442695040888963407);
+        (self.seed >> 33) as usize % count
+    }
+
+    fn source(&mut self, alloc: Global) -> Result<Vec<u8>, AllocError> {
+        let mut source = Vec::new(alloc);
+        if self.below(8) == 0 {
+            source.extend_from_slice(b"\xef\xbb\xbf")?;
+        }
+        for _ in 0..self.below(14) {
+            source.push(BYTES[self.below(19)])?;
+        }
+        Ok(source)
+    }
+
+    fn edit(&mut self, alloc: Global) -> Result<Edit, AllocError> {
+        let key = String::from_str(alloc, KEYS[self.below(7)])?;
+        let kind = self.below(3);
+        if kind == 0 {
+            return Ok(Edit::Remove(key));
+        }
+        let value = String::from_str(alloc, VALUES[self.below(7)])?;
+        Ok(match kind {
+            1 => Edit::Put(key, value),
+            _ => Edit::SetValue(key, value),
+        })
+    }
+}
