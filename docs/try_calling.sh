@@ -1,7 +1,7 @@
 #!/usr/bin/env bash
 # Does what docs/CALLING.md says under "In a repository of your own", command by command, in a new temporary folder. There it
 # runs the programs of CALLING and of README, and the examples of the libraries' doc comments. It compares the examples of
-# CALLING and of PROVING_CALLERS with their sources, and docs/API.md with the sources too.
+# CALLING and of PROVING_CALLERS with their sources, and docs/API.md and the manual pages with theirs too.
 #
 #     docs/try_calling.sh            a minute or two: compiles and runs, and proves nothing
 #     docs/try_calling.sh --check    proves the two programs too, which takes a quarter of an hour or more
@@ -31,6 +31,7 @@ print(f"{len(examples)} examples and {len(definitions)} pages of definitions are
 PY
 
 "$top/docs/api.py" --check
+"$top/docs/manual.py" --check
 
 work=$(mktemp -d)
 trap 'rm -rf "$work"' EXIT
