@@ -20,9 +20,9 @@ def filled(lines):
     """One paragraph, or one point of a list."""
     marker = MARKER.match(lines[0])
     front = marker[0] if marker else ""
-    text = " ".join(" ".join(lines).split())[len(front.strip()) :].strip()
-    # Code isn't broken.
-    text = re.sub("`[^`]*`", lambda code: code[0].replace(" ", "\0"), text)
+    # Code isn't broken, and keeps its blanks.
+    text = re.sub("`[^`]*`", lambda code: code[0].replace(" ", "\0"), " ".join(line.strip() for line in lines))
+    text = " ".join(text.split())[len(front.strip()) :].strip()
     rows = textwrap.wrap(
         text, WIDTH, initial_indent=front, subsequent_indent=" " * len(front), break_long_words=False, break_on_hyphens=False
     )
