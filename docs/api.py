@@ -1,21 +1,41 @@
 #!/usr/bin/env python3
-"""Writes docs/API.md, the public names of each crate with their signatures, from the sources.
+"""Writes docs/API.md, the public names of each crate with their signatures and the first sentence of what is said of each, from
+the sources.
 
     docs/api.py            writes the page
     docs/api.py --check    compares it, and ends with 1 where it is not what the sources say
 
-A name is public where `lib.rt` of its crate, or a public module of it, has or re-exports it.
+A name is public where `lib.rt` of its crate, or a public module of it, has or re-exports it. What a crate re-exports of another
+one is shown with it, and left out of that other one's section.
 """
 import pathlib
 import re
 import sys
+import textwrap
 
 sys.dont_write_bytecode = True
-from wrap import wrapped
+from wrap import WIDTH, wrapped
 
 TOP = pathlib.Path(__file__).resolve().parent.parent
-CRATES = ["java_properties", "properties_tools", "counted_io", "properties_text", "properties_lines", "single_lines", "byte_blocks"]
+FOR_CALLERS = ["java_properties", "counted_io", "properties_tools"]
+INNER = ["properties_text", "properties_lines", "byte_blocks", "single_lines"]
+ABOUT = {
+    "java_properties": "The library. The functions of the module `laws` do nothing when they run; their contracts are laws.",
+    "counted_io": "Readers and writers that count their I/O errors. `Counted` makes one of any reader or writer.",
+    "properties_tools": "What the programs `propfilter` and `propedit` do, over any streams.",
+    "properties_text": "Calls for a single line, in the modules `encoding`, `escape`, `parse` and others.",
+    "properties_lines": "The natural and the logical lines of a reader.",
+    "byte_blocks": "Classes of bytes, and searches for them, sixteen bytes at once.",
+    "single_lines": "Characters and lines one at a time; only tests call it.",
+}
 ITEM = re.compile(r"^(    )?pub (const fn|fn|struct|enum|trait|const|mod|use)\b")
+IMPL = re.compile(r"impl(?:<.*?>)? (?:(?P<of>[\w:]+(?:<.*>)?) for )?(?P<type>&?\w+)")
+SENTENCE = re.compile(r"(?:`[^`]*`|[^`.]|\.(?!\s|$))*\.?")
+
+
+def source_of(path):
+    """The folder src/ that a file is in."""
+    return next(parent for parent in path.parents if parent.name == "src")
 
 
 def files(crate):
@@ -25,14 +45,20 @@ def files(crate):
     return sorted(found, key=lambda path: path.name != "lib.rt")
 
 
-def uses(path, source):
+def uses(path):
     """The names that a file hands on, each with the file of the module that it has them from."""
+    source = source_of(path)
     folder = source if path.stem == "lib" else path.with_suffix("")
     for use in re.findall(r"^pub use ([^;]+);", path.read_text(), re.M):
         modules, group = re.match(r"((?:\w+::)*)(.*)", use, re.S).groups()
-        top = source if modules.startswith("crate::") else folder
-        of = (top / modules.removeprefix("crate::").replace("::", "/")).with_suffix(".rt")
-        yield from ((name, of) for name in re.findall(r"(\w+)\s*(?:,|\}|$)", group))
+        first, *rest = modules.split("::")[:-1]
+        if first == "crate":
+            of = source.joinpath(*rest)
+        elif (TOP / "crates" / first / "src").is_dir():
+            of = (TOP / "crates" / first / "src").joinpath(*(rest or ["lib"]))
+        else:
+            of = folder.joinpath(first, *rest)
+        yield from ((name, of.with_suffix(".rt")) for name in re.findall(r"(\w+)\s*(?:,|\}|$)", group))
 
 
 def exported(crate):
@@ -43,20 +69,46 @@ def exported(crate):
     while left:
         path, module = left.pop(0)
         pages[path] = module
-        for name, of in uses(path, source):
+        for name, of in uses(path):
             # A module may hand on what it has from another.
             while of and of.exists():
                 names.setdefault((name, of), module)
-                of = dict(uses(of, source)).get(name)
+                of = dict(uses(of)).get(name)
         folder = source if path.stem == "lib" else path.with_suffix("")
         for inner in re.findall(r"^pub mod (\w+);", path.read_text(), re.M):
             left.append((folder / (inner + ".rt"), f"{module}::{inner}".removeprefix("::")))
     return names, pages
 
 
-def without_comments(text):
-    code = text.split("#[cfg(test)]\nmod tests {")[0]
-    return [line for line in code.splitlines() if not line.lstrip().startswith("//")]
+def first_sentence(comment):
+    """Of a doc comment's lines."""
+    text = " ".join(" ".join(comment).split("\0")[0].split())
+    text = re.sub(r"\[(`[^`]+`)\](?:\([^)]*\))?", r"\1", text)
+    return SENTENCE.match(text)[0].strip()
+
+
+def code_and_docs(path):
+    """The lines of a file without comments and tests, and the first sentence of the doc comment of each line that has one."""
+    lines, docs, comment, in_attribute = [], {}, [], False
+    for line in path.read_text().split("#[cfg(test)]\nmod tests {")[0].splitlines():
+        stripped = line.strip()
+        if stripped.startswith("///"):
+            comment.append(stripped[3:].strip() or "\0")
+        elif not stripped.startswith("//"):
+            lines.append(line)
+            in_attribute = in_attribute or stripped.startswith("#[")
+            if in_attribute:
+                in_attribute = not stripped.endswith("]")
+            elif comment and stripped:
+                docs[len(lines) - 1] = first_sentence(comment)
+                comment = []
+    return lines, docs
+
+
+def said(sentence, indent=""):
+    """A sentence as the lines of a doc comment."""
+    front = indent + "/// "
+    return textwrap.wrap(sentence, WIDTH, initial_indent=front, subsequent_indent=front, break_long_words=False, break_on_hyphens=False)
 
 
 def signature(lines, at):
@@ -76,18 +128,18 @@ def signature(lines, at):
 
 
 def body(lines, at, indent):
-    """The lines of a block, up to its closing brace."""
-    taken = [lines[at]]
+    """The numbers of the lines of a block, up to its closing brace."""
+    taken = [at]
     if lines[at].rstrip().endswith((";", "}")):
         return taken
-    for line in lines[at + 1 :]:
-        taken.append(line)
-        if line.rstrip() == indent + "}":
+    for number in range(at + 1, len(lines)):
+        taken.append(number)
+        if lines[number].rstrip() == indent + "}":
             break
     return taken
 
 
-def fields(lines, at):
+def fields(lines, docs, at):
     """A struct, an enum or a trait as it stands, with its public fields or its functions alone."""
     head = lines[at].strip()
     if "const" in head.split()[:2] and not head.endswith(";"):
@@ -99,9 +151,8 @@ def fields(lines, at):
     kind = head.split()[1]
     shown = [re.sub(r"^pub ", "", head)]
     hidden = False
-    position = 1
-    while position < len(block) - 1:
-        line = block[position]
+    for number in block[1:-1]:
+        line = lines[number]
         if kind == "enum":
             if line.strip() and not line.strip().startswith("#"):
                 shown.append(line)
@@ -111,8 +162,7 @@ def fields(lines, at):
             else:
                 hidden = True
         elif line.startswith("    fn "):
-            shown.append("    " + signature(block, position) + ";")
-        position += 1
+            shown += said(docs.get(number, ""), "    ") + ["    " + signature(lines, number) + ";"]
     if hidden:
         shown.append("    // private fields")
     shown.append("}")
@@ -120,68 +170,83 @@ def fields(lines, at):
 
 
 def entries(crate):
-    """The lines of each public item by its name and its module, which they begin with where it isn't the root, the functions
-    of each type, and what it implements."""
+    """The lines of each public item by its name, its module and its file, which they begin with where it isn't the root; by the
+    file's crate and the type's name, the blocks of its functions by their heads, and what it implements."""
     names, pages = exported(crate)
-    items, methods, implements = {}, {}, {}
-    for path in files(crate):
-        lines = without_comments(path.read_text())
-        inside = None
+    crates = dict.fromkeys([crate, *(source_of(path).parent.name for _, path in names)])
+    items, blocks, implements = {}, {}, {}
+    for path in (path for name in crates for path in files(name)):
+        lines, docs = code_and_docs(path)
+        of = source_of(path).parent.name
+        head = None
         for at, line in enumerate(lines):
-            start = re.match(r"impl(?:<.*?>)? (?:(?P<of>[\w:]+(?:<.*>)?) for )?(?P<type>&?\w+)", line)
+            start = IMPL.match(line)
             if line.startswith("impl") and start:
-                inside = start["type"]
+                owner, head = (of, start["type"]), line.removesuffix(" {")
                 if start["of"]:
-                    kind = re.sub(r"^\w+::", "", start["of"])
+                    kind, head = re.sub(r"^\w+::", "", start["of"]), None
+                    if kind == "Iterator":
+                        kind += "<" + next(re.sub(r"^type (Item = .*);", r"\1", text.strip()) for text in lines[at:] if "type Item" in text) + ">"
                     if kind != "Model":
-                        implements.setdefault(inside, []).append(kind)
-                    inside = None
+                        implements.setdefault(owner, []).append(kind)
             elif line.startswith("}"):
-                inside = None
+                head = None
             derive = re.match(r"#\[derive\((.*)\)\]", line)
             if derive:
                 public, name = re.search(r"^(pub(?:\(crate\))? )?(?:struct|enum) (\w+)", "\n".join(lines[at:]), re.M).groups()
                 if public:
-                    implements.setdefault(name, []).extend(derive[1].split(", "))
+                    implements.setdefault((of, name), []).extend(derive[1].split(", "))
             public = ITEM.match(line)
             if not public or public[2] in ("mod", "use"):
                 continue
             name = re.search(r"(?:fn|struct|enum|trait|const) (\w+)", line)[1]
             if public[1]:
-                if inside:
-                    methods.setdefault(inside, []).append("    " + signature(lines, at) + ";")
+                if head:
+                    functions = blocks.setdefault(owner, {}).setdefault(head, [])
+                    functions += said(docs.get(at, ""), "    ") + ["    " + signature(lines, at) + ";"]
             elif (name, path) in names or path in pages:
-                text = [signature(lines, at)] if public[2].endswith("fn") else fields(lines, at)
+                text = [signature(lines, at)] if public[2].endswith("fn") else fields(lines, docs, at)
                 module = names.get((name, path), pages.get(path))
-                items[name, module] = [f"// in module {module}"] + text if module else text
-    return items, methods, implements
+                items[name, module, path] = ([f"// in module {module}"] if module else []) + said(docs.get(at, "")) + text
+    return items, blocks, implements
+
+
+def section(crate, level, shown):
+    """The section of a crate, without what another one's has shown."""
+    items, blocks, implements = entries(crate)
+    out = ["", f"{level} `{crate}`", "", ABOUT[crate], "", "```rust"]
+    for name, module, path in sorted(items, key=lambda item: (item[0].lower(), item[1])):
+        if (name, path) in shown:
+            continue
+        shown.add((name, path))
+        out += items[name, module, path]
+        owner = (source_of(path).parent.name, name)
+        for head, functions in blocks.get(owner, {}).items():
+            out += [head + " {"] + functions + ["}"]
+        kinds = [kind for kind in dict.fromkeys(implements.get(owner, [])) if kind]
+        if kinds:
+            out.append("// " + name + ": " + ", ".join(kinds))
+        out.append("")
+    out[-1] = "```"
+    return out
 
 
 def page():
     out = [
         "# Public names",
         "",
-        "`docs/api.py` makes this page from the sources, and `docs/api.py --check` compares it with them. A comment after a type names",
-        "what it implements, and a comment before a name its module, if that isn't the crate's root. Contracts are left out: they are",
-        "beside the functions, and docs/PROMISES.md explains them.",
+        "First come the crates that programs call, and the library before the others; then those that these stand on.",
+        "",
+        "`docs/api.py` makes this page from the sources, and `docs/api.py --check` compares it with them. Before a name stands the",
+        "first sentence of what its source says of it, and its module, if that isn't the crate's root. A comment after a type names",
+        "what it implements. Contracts are left out: they are beside the functions, and docs/PROMISES.md explains them.",
     ]
-    for crate in CRATES:
-        items, methods, implements = entries(crate)
-        out += ["", f"## `{crate}`", ""]
-        if crate == "java_properties":
-            out += ["`Encoding` of `properties_text` is re-exported. The functions of the module `laws` do nothing when they run; their contracts are laws.", ""]
-        if crate == "properties_text":
-            out += ["Calls for a single line, in the modules `encoding`, `escape`, `parse` and others. Most callers only need `Encoding`.", ""]
-        out.append("```rust")
-        for name, module in sorted(items, key=lambda item: (item[0].lower(), item[1])):
-            out += items[name, module]
-            if name in methods:
-                out += ["impl " + name + " {"] + methods[name] + ["}"]
-            kinds = [kind for kind in dict.fromkeys(implements.get(name, [])) if kind]
-            if kinds:
-                out.append("// " + name + ": " + ", ".join(kinds))
-            out.append("")
-        out[-1] = "```"
+    shown = set()
+    for crate in FOR_CALLERS:
+        out += section(crate, "##", shown)
+    out += ["", "## Inner crates", "", "Most callers need none of these. What the library re-exports is shown above."]
+    for crate in INNER:
+        out += section(crate, "###", shown)
     return wrapped("\n".join(out) + "\n")
 
 

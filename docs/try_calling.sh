@@ -1,7 +1,7 @@
 #!/usr/bin/env bash
 # Does what docs/CALLING.md says under "In a repository of your own", command by command, in a new temporary folder. There it
 # runs the programs of CALLING and of README, and the examples of the libraries' doc comments. It compares the examples of
-# CALLING with their sources, and docs/API.md with the sources too.
+# CALLING and of PROVING_CALLERS with their sources, and docs/API.md and the manual pages with theirs too.
 #
 #     docs/try_calling.sh            a minute or two: compiles and runs, and proves nothing
 #     docs/try_calling.sh --check    proves the two programs too, which takes a quarter of an hour or more
@@ -11,17 +11,27 @@ top=$(cd "$(dirname "${BASH_SOURCE[0]}")/.." && pwd)
 python3 - "$top" <<'PY'
 import pathlib, re, sys
 top = pathlib.Path(sys.argv[1])
-page = (top / "docs/CALLING.md").read_text()
-examples = re.findall(r"^`(\w+\.rt)`\..*?```rust\n(.*?)```", page, re.S | re.M)
-sources = top / "crates/calling/src"
-wrong = [name for name, text in examples if text.strip() not in (sources / name).read_text()]
-missing = {path.name for path in sources.glob("*.rt")} - {"lib.rt"} - {name for name, _ in examples}
+pages = [(top / "docs" / name).read_text() for name in ("CALLING.md", "PROVING_CALLERS.md")]
+# A section that begins with the name of a file shows that file, and may show pages of specs/.
+examples, definitions = [], []
+for section in re.split("^## ", "\n".join(pages), flags=re.M):
+    file = re.match(r".*\n\n`(\w+\.rt)`\.", section)
+    if file:
+        examples.append((file[1], re.search("^```rust\n(.*?)^```", section, re.S | re.M)[1]))
+    named = re.findall(r"`crates/calling/specs/(\w+\.antt)`.*?^```antt\n(.*?)^```", section, re.S | re.M)
+    definitions += named
+crate = top / "crates/calling"
+wrong = [name for name, text in examples if text.strip() not in (crate / "src" / name).read_text()]
+wrong += [name for name, text in definitions if text.strip() not in (crate / "specs" / name).read_text()]
+missing = {path.name for path in (crate / "src").glob("*.rt")} - {"lib.rt"} - {name for name, _ in examples}
+missing |= {path.name for path in (crate / "specs").glob("*.antt")} - {"Lib.antt"} - {name for name, _ in definitions}
 if wrong or missing:
     sys.exit(f"try_calling.sh: not as their sources: {wrong}; not shown: {sorted(missing)}")
-print(f"{len(examples)} examples are as their sources")
+print(f"{len(examples)} examples and {len(definitions)} pages of definitions are as their sources")
 PY
 
 "$top/docs/api.py" --check
+"$top/docs/manual.py" --check
 
 work=$(mktemp -d)
 trap 'rm -rf "$work"' EXIT
