@@ -27,7 +27,7 @@ use Rattle.java_properties.specs.BodyDocuments.{IsDocument, open_document}
 use Rattle.java_properties.specs.BodyIndex.{IsIndex, MakesEdit, PutsPair, PutsValue, RemovesPairs, outcome, stored_at, stored_value}
 use Rattle.java_properties.specs.Documents.{OpenDocument, HasValueAt, ChecksHasKey, PutsInto, SetsValueIn, RemovesFrom}
 use Rattle.java_properties.specs.Editing.{AreMade, HasValueSet, IsRemoved, IsSet}
-use Rattle.java_properties.specs.Maps.{characters}
+use Rattle.java_properties.specs.Texts.{characters}
 use Rattle.java_properties.specs.Sources.{IsInForce}
 use Rattle.java_properties.specs.declared.edit.document.Document.TheInside.{Inside}
 use Rattle.java_properties.specs.declared.edit.index.Index.{Index}

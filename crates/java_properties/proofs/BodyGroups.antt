@@ -34,7 +34,7 @@ use Rattle.properties_lines.proofs.LineJoiner.{kept-text, kept-utf8}
 use Rattle.properties_lines.proofs.HeldLines.{body-next, body-after, body-lines_left}
 use Rattle.java_properties.specs.BodyLines.{ending_in}
 use Rattle.java_properties.specs.BodyGroups.{IsWithin, groups_left, TakesLine, IsSpanOf, TakesGroup, groups_from, ReadsGroup}
-use Rattle.java_properties.specs.declared.writer.settings.LineEnding.{LineEnding}
+use Rattle.java_properties.specs.declared.line.LineEnding.{LineEnding}
 use Rattle.java_properties.specs.declared.edit.groups.Group.{Group}
 use Rattle.java_properties.specs.declared.edit.groups.GroupReader.{GroupReader}
 

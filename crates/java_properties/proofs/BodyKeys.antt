@@ -11,7 +11,7 @@ use Rattle.properties_format.specs.Edited.{is_editable}
 use Rattle.properties_format.specs.Reading.Edited.{without}
 use Rattle.properties_format.proofs.Body.Groups.{held-body, held_groups_of-meets}
 use Rattle.properties_format.proofs.Edited.Steps.{without-append}
-use Rattle.java_properties.specs.BodyKeys.{spans_bytes, AreWithin, AreOthersFound}
+use Rattle.java_properties.specs.BodyKeys.{spans_bytes, AreWithin, AreOthersFound, IsErrorOfGroups, IsPlace, closing_of, closing_bytes, IsKeyFound, found_after}
 use Rattle.std.specs.Str.{chars}
 use Rattle.properties_format.specs.Encoding.{Encoding, windows_1252, utf_8, utf_16le, utf_16be}
 use Rattle.properties_lines.specs.LineSearch.{unit_size}
@@ -33,8 +33,7 @@ use Rattle.properties_format.proofs.Valued.Lined.{held_in-append}
 use Rattle.properties_text.specs.Encoding.{encoding_of}
 use Rattle.java_properties.proofs.BodyGroups.{front-of}
 use Rattle.java_properties.specs.BodyGroups.{IsWithin, groups_left, text_of, TakesGroup}
-use Rattle.java_properties.specs.BodyKeys.{IsErrorOfGroups, IsPlace, closing_of, closing_bytes, IsKeyFound, found_after}
-use Rattle.java_properties.specs.GivenItems.{IsNoItem}
+use Rattle.java_properties.specs.FoundItems.{IsNoItem}
 use Rattle.java_properties.specs.declared.edit.groups.Group.{Group}
 use Rattle.java_properties.specs.declared.edit.groups.GroupReader.{GroupReader}
 use Rattle.java_properties.specs.declared.edit.place.BodySpan.{BodySpan}

@@ -10,12 +10,12 @@ use Rattle.properties_text.specs.Escaping.{holds_backslash}
 use Rattle.java_properties.specs.Errors.{IsUnresolved}
 use Rattle.java_properties.specs.BorrowedItems.{found_bytes, IsTextIn, IsFoundIn}
 use Rattle.properties_text.specs.Parsing.{bytes_in, IsSpan}
-use Rattle.java_properties.specs.GivenItems.{IsNoItem}
+use Rattle.java_properties.specs.FoundItems.{IsNoItem}
 use Rattle.java_properties.specs.declared.error.PropertiesError.{PropertiesError}
 use Rattle.java_properties.specs.declared.iter.found.FoundText.{FoundText}
 use Rattle.java_properties.specs.declared.iter.found.FoundContent.TheVariants as found
 use Rattle.properties_text.specs.declared.parse.Span.{Span}
-use Rattle.java_properties.proofs.Items.{value-no_item}
+use Rattle.java_properties.proofs.FoundItems.{value-no_item}
 use Rattle.properties_text.proofs.Texts.Resolving.{holds-part, no_backslash, means_plain}
 
 no_other : (b : Bool) → true ≡ not b → b ≡ false

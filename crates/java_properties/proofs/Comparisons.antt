@@ -10,8 +10,8 @@ use Rattle.std.specs.String.{string_bytes}
 use Rattle.java_properties.specs.declared.line.LineContent.{LineContent}
 use Rattle.java_properties.specs.declared.line.LineContent.TheVariants.{Comment, KVPair}
 use Rattle.java_properties.specs.declared.line.Line.{Line}
-use Rattle.java_properties.specs.declared.writer.settings.LineEnding.{LineEnding}
-use Rattle.java_properties.specs.declared.writer.settings.LineEnding.TheVariants.{CR, LF, CRLF}
+use Rattle.java_properties.specs.declared.line.LineEnding.{LineEnding}
+use Rattle.java_properties.specs.declared.line.LineEnding.TheVariants.{CR, LF, CRLF}
 use Rattle.java_properties.specs.contracts.line.LineContentPartialEq.TheImpl as content_eq
 use Rattle.java_properties.specs.contracts.line.LinePartialEq.TheImpl as line_eq
 use Rattle.java_properties.specs.contracts.line.LineContentOrd.TheImpl as content_cmp
@@ -22,18 +22,8 @@ use Rattle.java_properties.specs.contracts.line.LineContentHash.TheImpl as conte
 use Rattle.java_properties.specs.contracts.line.LineContentHash.TheImpl.Laws as content_hash_laws
 use Rattle.java_properties.specs.contracts.line.LineContentClone.TheImpl as content_clone
 use Rattle.java_properties.specs.contracts.line.LineClone.TheImpl as line_clone
-use Rattle.java_properties.specs.declared.writer.calls.Call.{Call}
-use Rattle.java_properties.specs.declared.writer.calls.Call.TheVariants as call
-use Rattle.java_properties.specs.contracts.writer.settings.LineEndingPartialEq.TheImpl as ending_eq
-use Rattle.java_properties.specs.contracts.writer.settings.LineEndingHash.TheImpl as ending_hash
-use Rattle.java_properties.specs.contracts.writer.calls.CallPartialEq.TheImpl as call_eq
-use Rattle.java_properties.specs.contracts.writer.calls.CallClone.TheImpl as call_clone
-use Rattle.java_properties.specs.Calls.{IsSameCall}
-use Rattle.java_properties.specs.declared.edit.Edit.{Edit}
-use Rattle.java_properties.specs.declared.edit.Edit.TheVariants as edit
-use Rattle.java_properties.specs.contracts.edit.EditPartialEq.TheImpl as edit_eq
-use Rattle.java_properties.specs.contracts.edit.EditClone.TheImpl as edit_clone
-use Rattle.java_properties.specs.Editing.{IsSameEdit}
+use Rattle.java_properties.specs.contracts.line.LineEndingPartialEq.TheImpl as ending_eq
+use Rattle.java_properties.specs.contracts.line.LineEndingHash.TheImpl as ending_hash
 use Rattle.java_properties.specs.Line.{number_of, content_of, IsSameContent, IsSameLine, content_order, line_order}
 
 -- ---- which comes first
@@ -60,7 +50,7 @@ line-cmp x y = ap (ordering_then (nat_cmp (number_of x) (number_of y))) (content
 -- ---- which are equal
 
 -- both tests, where each says its fact
-both-tests : {P Q : Type 0} (s t : Bool) → (s ≡ true ↔ P) → (t ≡ true ↔ Q) → (s && t) ≡ true ↔ (P × Q)
+pub both-tests : {P Q : Type 0} (s t : Bool) → (s ≡ true ↔ P) → (t ≡ true ↔ Q) → (s && t) ≡ true ↔ (P × Q)
 both-tests true true e f = ((λ _. (e.0 refl, f.0 refl)), (λ _. refl))
 both-tests true false e f = ((λ h. cc), (λ h. f.1 h.1))
 both-tests false t e f = ((λ h. cc), (λ h. e.1 h.0))
@@ -104,8 +94,6 @@ content-clone (KVPair k v) (KVPair l w) e = (refl, cc)
 pub line-clone : (x y : Line) → (line_clone.ghosts).is_clone x y → IsSameLine x y
 line-clone x y e = (cc, content-clone (content_of x) (content_of y) e.1)
 
--- ---- calls
-
 -- `==` of two line endings
 pub ending-eq : (x y : LineEnding) → IsTrue ((ending_eq.ghosts).eq x y) ↔ (x ≡ y)
 ending-eq CR CR = ((λ e. refl), (λ h. refl))
@@ -114,63 +102,3 @@ ending-eq LF LF = ((λ e. refl), (λ h. refl))
 ending-eq LF other = ((λ e. absurd (cc)), (λ h. absurd (cc)))
 ending-eq CRLF CRLF = ((λ e. refl), (λ h. refl))
 ending-eq CRLF other = ((λ e. absurd (cc)), (λ h. absurd (cc)))
-
--- `==` of two calls
-pub call-eq : (x y : Call) → IsTrue ((call_eq.ghosts).eq x y) ↔ IsSameCall x y
-call-eq (call.Comment x) (call.Comment y) = bytes_decides (string_bytes x) (string_bytes y)
-call-eq (call.Comment x) other = ((λ e. absurd (cc)), (λ h. absurd h))
-call-eq (call.Pair k v) (call.Pair l w) =
-    both-tests _ _ (bytes_decides (string_bytes k) (string_bytes l)) (bytes_decides (string_bytes v) (string_bytes w))
-call-eq (call.Pair k v) other = ((λ e. absurd (cc)), (λ h. absurd h))
-call-eq (call.Prefix x) (call.Prefix y) = bytes_decides (string_bytes x) (string_bytes y)
-call-eq (call.Prefix x) other = ((λ e. absurd (cc)), (λ h. absurd h))
-call-eq (call.Separator x) (call.Separator y) = bytes_decides (string_bytes x) (string_bytes y)
-call-eq (call.Separator x) other = ((λ e. absurd (cc)), (λ h. absurd h))
-call-eq (call.Ending x) (call.Ending y) = ending-eq x y
-call-eq (call.Ending x) other = ((λ e. absurd (cc)), (λ h. absurd h))
-call-eq call.Flush call.Flush = ((λ e. tt), (λ h. refl))
-call-eq call.Flush other = ((λ e. absurd (cc)), (λ h. absurd h))
-call-eq (call.AsciiOnly true) (call.AsciiOnly true) = ((λ e. refl), (λ h. refl))
-call-eq (call.AsciiOnly true) (call.AsciiOnly false) = ((λ e. absurd (cc)), (λ h. absurd (cc)))
-call-eq (call.AsciiOnly false) (call.AsciiOnly true) = ((λ e. absurd (cc)), (λ h. absurd (cc)))
-call-eq (call.AsciiOnly false) (call.AsciiOnly false) = ((λ e. refl), (λ h. refl))
-call-eq (call.AsciiOnly on) other = ((λ e. absurd (cc)), (λ h. absurd h))
-
--- a clone of a call
-pub call-clone : (x y : Call) → (call_clone.ghosts).is_clone x y → IsSameCall x y
-call-clone (call.Comment x) (call.Comment y) e = cc
-call-clone (call.Comment x) other e = absurd e
-call-clone (call.Pair k v) (call.Pair l w) e = (cc, cc)
-call-clone (call.Pair k v) other e = absurd e
-call-clone (call.Prefix x) (call.Prefix y) e = cc
-call-clone (call.Prefix x) other e = absurd e
-call-clone (call.Separator x) (call.Separator y) e = cc
-call-clone (call.Separator x) other e = absurd e
-call-clone (call.Ending x) (call.Ending y) e = cc
-call-clone (call.Ending x) other e = absurd e
-call-clone call.Flush call.Flush e = tt
-call-clone call.Flush other e = absurd e
-call-clone (call.AsciiOnly on) (call.AsciiOnly same) e = cc
-call-clone (call.AsciiOnly on) other e = absurd e
-
--- ---- edits
-
--- `==` of two edits
-pub edit-eq : (x y : Edit) → IsTrue ((edit_eq.ghosts).eq x y) ↔ IsSameEdit x y
-edit-eq (edit.Put k v) (edit.Put l w) =
-    both-tests _ _ (bytes_decides (string_bytes k) (string_bytes l)) (bytes_decides (string_bytes v) (string_bytes w))
-edit-eq (edit.Put k v) other = ((λ e. absurd (cc)), (λ h. absurd h))
-edit-eq (edit.Remove k) (edit.Remove l) = bytes_decides (string_bytes k) (string_bytes l)
-edit-eq (edit.Remove k) other = ((λ e. absurd (cc)), (λ h. absurd h))
-edit-eq (edit.SetValue k v) (edit.SetValue l w) =
-    both-tests _ _ (bytes_decides (string_bytes k) (string_bytes l)) (bytes_decides (string_bytes v) (string_bytes w))
-edit-eq (edit.SetValue k v) other = ((λ e. absurd (cc)), (λ h. absurd h))
-
--- a clone of an edit
-pub edit-clone : (x y : Edit) → (edit_clone.ghosts).is_clone x y → IsSameEdit x y
-edit-clone (edit.Put k v) (edit.Put l w) e = (cc, cc)
-edit-clone (edit.Put k v) other e = absurd e
-edit-clone (edit.Remove k) (edit.Remove l) e = cc
-edit-clone (edit.Remove k) other e = absurd e
-edit-clone (edit.SetValue k v) (edit.SetValue l w) e = (cc, cc)
-edit-clone (edit.SetValue k v) other e = absurd e

@@ -26,7 +26,7 @@ use Rattle.java_properties.specs.BodyDocuments.{IsDocument, open_document}
 use Rattle.java_properties.specs.BodyIndex.{last_value, stored_at, stored_value}
 use Rattle.java_properties.specs.Documents.{HasKeysInOrder, characters_of}
 use Rattle.java_properties.specs.KeyLines.{AreKeyLines, FindsAllKeys, key_line_entries}
-use Rattle.java_properties.specs.Maps.{characters}
+use Rattle.java_properties.specs.Texts.{characters}
 use Rattle.java_properties.specs.declared.edit.document.Document.TheInside.{Inside}
 use Rattle.java_properties.specs.declared.edit.index.IndexedPair.{IndexedPair}
 use Rattle.java_properties.specs.declared.iter.keys.KeyLine as code

@@ -22,7 +22,7 @@ use Rattle.properties_format.specs.Reading.Keys.{Has, HasNot, ComesBefore, AreFi
 use Rattle.properties_format.proofs.Items.Numbers.{items_of-ascend}
 use Rattle.properties_format.proofs.Keys.{pair_keys, are-keys, contains}
 use Rattle.java_properties.specs.KeyLines.{KeyPlace, KeyEntry, AreFirstsOf, AreKeyLines, HasFirstNumber, HasNoKey, key_line_entries, key_line_entry}
-use Rattle.java_properties.specs.Maps.{characters}
+use Rattle.java_properties.specs.Texts.{characters}
 use Rattle.java_properties.specs.declared.iter.keys.KeyLine as code
 use Rattle.java_properties.proofs.KeyLines.{are_keys-only, groups_in, key_before, keys_in}
 

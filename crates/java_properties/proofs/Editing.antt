@@ -1,8 +1,5 @@
 -- What an edit of a source comes to.
 use Rattle.std.proofs.Common.{◌≡◌, ◌==◌, ℕ, ◌+◌, ◌-◌, ◌≤◌, List, [], ◌∷◌, ◌++◌, All, length, take, drop, refl, ap, ap₂, sym, ◌∙◌, subst, inl, inr, append-nil, append_assoc, length-append, length-drop, arith, lit<, take-add, ◌<◌, get_or}
-use Rattle.std.specs.Str.{chars, IsUtf8}
-use Rattle.std.proofs.lemmas.Str.{scalars-chars}
-use Rattle.properties_text.proofs.Printing.Keys.{scalars-all}
 use Rattle.std.specs.Prelude.{Bool, true, false, if◌then◌else◌, Some, None, Result, Err, IsErrAnd, not, ◌&&◌, unwrap_or}
 use Rattle.std.proofs.Math.Seq.{drop-append_seam}
 use Rattle.std.proofs.lemmas.List.{length-take-le, drop-drop, take_rest, take_more, map-append}
@@ -28,15 +25,15 @@ use Rattle.properties_format.proofs.Edited.ByteOrderMarks.{source-whole}
 use Rattle.properties_format.proofs.Edited.Results.{set_key_result-meets, set_key_result-only, remove_key_result-meets, remove_key_result-only}
 use Rattle.properties_format.proofs.Edited.Steps.{result-after}
 use Rattle.properties_format.proofs.InTurn.Lines.{bytes-unended}
-use Rattle.properties_format.proofs.Changed.Read.{set_key-reads, remove_key-reads, readable}
+use Rattle.properties_format.proofs.Changed.Read.{set_key-reads, remove_key-reads}
 use Rattle.properties_format.specs.Edits.{Edit, AreScalarEdits, IsEditAllResult}
-use Rattle.properties_format.specs.Reading.Edits.{edit_all_result, edits_made}
-use Rattle.properties_format.proofs.Edits.Results.{edit_all_result-meets, edit_all_result-only, edits_made-meets}
-use Rattle.java_properties.proofs.ReadBack.Scalars.{string-scalars}
+use Rattle.properties_format.specs.Reading.Edits.{edit_all_result}
+use Rattle.properties_format.proofs.Edits.Results.{edit_all_result-meets, edit_all_result-only}
+use Rattle.java_properties.proofs.Scalars.{string-scalars}
 use Rattle.java_properties.specs.declared.edit.Edit as edit
 use Rattle.java_properties.specs.declared.edit.Edit.TheVariants as variant
 use Rattle.java_properties.specs.Editing.{edit_in, edits_in, AreMade, IsRefusal, IsSet, IsRemoved}
-use Rattle.properties_format.proofs.Edits.Contents.{edits-contents, edit_all-reads}
+use Rattle.properties_format.proofs.Edits.Contents.{edit_all-reads}
 use Rattle.properties_format.proofs.Changed.Occur.{key_set-keeps, key_removed-keeps}
 use Rattle.properties_format.proofs.Edited.Pair.{editable-own}
 use Rattle.properties_text.specs.Encoding.{encoding_of}
@@ -260,10 +257,6 @@ span-within {source} {e} {opened} {found} {key} pair h ok k is =
     let left : length body ≡ length source - opened.start = length-drop opened.start source in
     let start = h.within in
     omega arith
-
--- the characters of a text are scalar values
-pub chars-scalars : (bytes : List ℕ) → IsUtf8 bytes → All scalar (chars bytes)
-chars-scalars bytes h = scalars-all (chars bytes) (scalars-chars bytes h)
 
 -- ---- a byte order mark at the front
 

@@ -3,16 +3,11 @@ use Rattle.std.proofs.Common.{◌≡◌, ◌<◌, ◌==◌, ◌++◌, ◌+◌, �
 use Rattle.std.specs.Prelude.{Some, Option, Result, Ok, Err}
 use Rattle.std.specs.declared.io.Error.{Error}
 use Rattle.counted_io.specs.Streams.{Sink, HasWritten, HasSentPart}
-use Rattle.std.specs.Str.{chars, IsUtf8}
-use Rattle.properties_format.specs.Text.{LineEnding, line_ending_text}
-use Rattle.properties_format.specs.Encoding.{Encoding}
+use Rattle.properties_format.specs.Text.{line_ending_text}
 use Rattle.properties_format.specs.Entries.{Content, comment, pair}
-use Rattle.properties_format.specs.Reading.Settings.{is_good_separator}
 use Rattle.properties_format.specs.Writing.{is_accepted}
 use Rattle.properties_format.specs.Printing.{encoded_text, printed_characters, printed_key, in_prefix, in_comment, in_key_or_value}
-use Rattle.properties_format.proofs.Printing.Characters.{printed-comment, printed-pair, line_end-ascii, good_separator-ascii}
-use Rattle.properties_format.proofs.Settings.Tests.{IsGoodSeparator-from_test}
-use Rattle.properties_text.proofs.Printing.Characters.{encoded_text-raw}
+use Rattle.properties_format.proofs.Printing.Characters.{printed-comment, printed-pair}
 use Rattle.properties_text.specs.Encoding.{output_of}
 use Rattle.java_properties.specs.Errors.{IsError, IsBareError, cause_of_write}
 use Rattle.java_properties.specs.PropertiesWriter.{Writing, call_of, TakesLine, HasWrittenLine, RefusesLine, FailsInLine}
@@ -46,14 +41,6 @@ line-parts w (pair key value) =
     append_assoc front (middle ++ back) (ending_bytes w)
     ∙ ap (λ v. front ++ v) (append_assoc middle back (ending_bytes w))
     ∙ sym (printed-pair e w.settings (w.lines == 0) key value)
-
--- the bytes of a line ending are its characters, encoded
-pub line_ending-bytes : (e : Encoding) (bs : List ℕ) (by : LineEnding) → IsUtf8 bs → chars bs ≡ line_ending_text by → bs ≡ encoded_text e (line_ending_text by)
-line_ending-bytes e bs by u h = sym (encoded_text-raw e bs u (rw h (line_end-ascii by))) ∙ ap (encoded_text e) h
-
--- and so are those of a separator
-pub separator-bytes : (e : Encoding) (bs separator : List ℕ) → IsUtf8 bs → chars bs ≡ separator → is_good_separator (chars bs) ≡ true → bs ≡ encoded_text e separator
-separator-bytes e bs separator u h good = sym (encoded_text-raw e bs u (good_separator-ascii (chars bs) (IsGoodSeparator-from_test (chars bs) good))) ∙ ap (encoded_text e) h
 
 -- ---- what is put together in a buffer
 

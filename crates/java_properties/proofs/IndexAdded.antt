@@ -36,16 +36,15 @@ use Rattle.properties_format.specs.Writing.{is_empty}
 use Rattle.properties_format.proofs.Edited.Pair.{editable-own}
 use Rattle.properties_text.specs.Encoding.{encoding_of}
 use Rattle.java_properties.specs.BodyIndex.{AddsKey, AddsValue, AppendsPair, IsKeyAdded, GrowsIndex, IsIndex, IsPairAppended, IsValueAdded, PutsPair, PutsValue, last_span, opened_closing, stored_at}
-use Rattle.java_properties.specs.BodyKeys.{IsKeyFound, IsPlace}
+use Rattle.java_properties.specs.BodyKeys.{IsKeyFound, IsPlace, closing_bytes, closing_of}
 use Rattle.java_properties.specs.BodyValues.{IsLayoutAfter, unended_pair}
-use Rattle.java_properties.specs.Maps.{characters}
-use Rattle.java_properties.specs.Settings.{ending_of}
+use Rattle.java_properties.specs.Texts.{characters}
+use Rattle.java_properties.specs.LineEndings.{ending_of}
 use Rattle.java_properties.specs.declared.edit.new_pair.Layout.{Layout}
 use Rattle.java_properties.specs.declared.edit.source.BodyStart.{BodyStart}
 use Rattle.std.proofs.lemmas.Bool.{cond-true}
 use Rattle.java_properties.proofs.Editing.{appended-result, set-edits}
 use Rattle.java_properties.proofs.SetValues.{new_pair-result, value-edits}
-use Rattle.java_properties.specs.BodyKeys.{closing_bytes, closing_of}
 use Rattle.java_properties.specs.declared.edit.index.Index.{Index}
 use Rattle.java_properties.specs.declared.edit.place.BodySpan.{BodySpan}
 use Rattle.java_properties.specs.declared.edit.place.Closing.{Closing}

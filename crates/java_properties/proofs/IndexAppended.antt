@@ -26,7 +26,8 @@ use Rattle.properties_format.proofs.Edited.AppendedPair as appended
 use Rattle.properties_format.proofs.Edited.Closed.{AreClosedBy, IsLeft, opened_by}
 use Rattle.properties_format.proofs.Edited.Steps.{final_group-push}
 use Rattle.properties_format.proofs.Valued.Added.{empty_line, outcomes-empty}
-use Rattle.java_properties.specs.BodyIndex.{GrowsIndex, IsIndex, IsListed, all_shifted, is_pair, last_value, live_spans, outcome, outcome_pair, places_of, shifted, some_span, span_at, span_of, spans_where, stored_at, stored_value, value_by}
+use Rattle.java_properties.specs.BodyIndex.{GrowsIndex, IsIndex, IsListed, all_shifted, is_pair, last_value, live_spans, outcome, places_of, shifted, some_span, span_at, span_of, spans_where, stored_at, stored_value, value_by}
+use Rattle.java_properties.specs.FoundItems.{outcome_pair}
 use Rattle.java_properties.specs.BodyKeys.{closing_of}
 use Rattle.java_properties.specs.declared.edit.index.Index.{Index}
 use Rattle.java_properties.specs.declared.edit.index.IndexedPair.{IndexedPair}

@@ -89,9 +89,9 @@ module _ (opened : BodyStart) (old key : List ℕ) (ok : is_editable (encoding_o
   -- A pair is in some group.
   some-groups : gs ≢ []
   some-groups none = nothing pair.earlier.items (
-        ap (λ o. map (span_at was.spans.items) (places_of o)) (sym stored)
-        ∙ index.listed.stored key
-        ∙ ap (λ v. map Some (spans_where (is_pair_with key) 0 v)) none
+      ap (λ o. map (span_at was.spans.items) (places_of o)) (sym stored)
+      ∙ index.listed.stored key
+      ∙ ap (λ v. map Some (spans_where (is_pair_with key) 0 v)) none
       )
     where
       nothing : (xs : List ℕ) → map (span_at was.spans.items) (xs ++ pair.place ∷ []) ≡ [] → ⊥

@@ -160,9 +160,9 @@ last-pair-of : (gs : List (List HeldLine)) → AreNoPairs gs ⊎ HasLastPair gs
 last-pair-of [] = inl tt
 last-pair-of (g ∷ gs) = elim (last-pair-of gs) [
   | inl none ↦ elim (cases_Bool (is_pair (outcome g))) [
-      | inl is ↦ inr (record { before = []; group = g; after = gs; division = refl; is = is; none_later = none })
-      | inr other ↦ inl (other, none)
-    ]
+    | inl is ↦ inr (record { before = []; group = g; after = gs; division = refl; is = is; none_later = none })
+    | inr other ↦ inl (other, none)
+  ]
   | inr p ↦ inr (record { before = g ∷ p.before; group = p.group; after = p.after; division = ap (λ v. g ∷ v) p.division; is = p.is; none_later = p.none_later })
 ]
 

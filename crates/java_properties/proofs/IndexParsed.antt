@@ -24,9 +24,10 @@ use Rattle.properties_format.specs.Reading.Parts.{unended_bytes}
 use Rattle.properties_format.proofs.Edited.Steps.{final_group-push}
 use Rattle.properties_text.specs.Encoding.{encoding_of}
 use Rattle.java_properties.specs.BodyGroups.{IsWithin, TakesGroup, text_of}
-use Rattle.java_properties.specs.BodyIndex.{AddsGroup, AddsPair, IsIndex, IsListed, KeepsNothing, KeepsPair, is_pair, last_value, live_spans, outcome, outcome_pair, places_of, some_span, span_at, span_of, spans_where, stored_at, stored_value}
+use Rattle.java_properties.specs.BodyIndex.{AddsGroup, AddsPair, IsIndex, IsListed, KeepsNothing, KeepsPair, is_pair, last_value, live_spans, outcome, places_of, some_span, span_at, span_of, spans_where, stored_at, stored_value}
+use Rattle.java_properties.specs.FoundItems.{outcome_pair}
 use Rattle.java_properties.specs.BodyKeys.{closing_of}
-use Rattle.java_properties.specs.Maps.{characters}
+use Rattle.java_properties.specs.Texts.{characters}
 use Rattle.java_properties.specs.declared.edit.groups.Group.{Group}
 use Rattle.java_properties.specs.declared.edit.groups.GroupReader.{GroupReader}
 use Rattle.java_properties.specs.declared.edit.index.Index.{Index}

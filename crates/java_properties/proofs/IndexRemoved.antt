@@ -31,9 +31,10 @@ use Rattle.properties_format.proofs.InTurn.Merged.{AreInTurn, IsEndedGroup, afte
 use Rattle.properties_format.proofs.Edited.Parts.{empty_group, empty-lines, empty-whole}
 use Rattle.properties_format.proofs.InTurn.Unmerged.{AreUnmerged, merged-unmerged}
 use Rattle.properties_text.specs.Encoding.{encoding_of}
-use Rattle.java_properties.specs.BodyIndex.{ArePairsRemoved, CutsOut, IsCutOut, IsInSource, IsIndex, IsListed, KeepsNothing, all_shifted, ending_size, is_pair, last_value, live_spans, outcome, outcome_pair, places_of, shifted, span_at, span_of, spans_where, stored_at, stored_value, value_by}
+use Rattle.java_properties.specs.BodyIndex.{ArePairsRemoved, CutsOut, IsCutOut, IsInSource, IsIndex, IsListed, KeepsNothing, all_shifted, ending_size, is_pair, last_value, live_spans, outcome, places_of, shifted, span_at, span_of, spans_where, stored_at, stored_value, value_by}
+use Rattle.java_properties.specs.FoundItems.{outcome_pair}
 use Rattle.java_properties.specs.BodyKeys.{closing_of}
-use Rattle.java_properties.specs.Maps.{characters}
+use Rattle.java_properties.specs.Texts.{characters}
 use Rattle.java_properties.specs.Sources.{IsInForce}
 use Rattle.java_properties.specs.declared.edit.index.Index.{Index}
 use Rattle.java_properties.specs.declared.edit.index.IndexedPair.{IndexedPair}
@@ -127,16 +128,16 @@ first-with key [] = inl tt
 first-with key (g ∷ gs) = elim (cases_Bool (has_key key g)) [
   | inl h ↦ inr (record { skip = []; group = g; after = gs; division = refl; none = tt; has = h })
   | inr h ↦ elim (first-with key gs) [
-      | inl none ↦ inl (has_key-false key g h, none)
-      | inr f ↦ inr (record {
-          skip = g ∷ f.skip;
-          group = f.group;
-          after = f.after;
-          division = ap (λ v. g ∷ v) f.division;
-          none = (has_key-false key g h, f.none);
-          has = f.has;
-        })
-    ]
+    | inl none ↦ inl (has_key-false key g h, none)
+    | inr f ↦ inr (record {
+      skip = g ∷ f.skip;
+      group = f.group;
+      after = f.after;
+      division = ap (λ v. g ∷ v) f.division;
+      none = (has_key-false key g h, f.none);
+      has = f.has;
+    })
+  ]
 ]
 
 none-append : (key : List ℕ) (xs ys : List (List HeldLine)) → NoneHasKey key xs → NoneHasKey key ys → NoneHasKey key (xs ++ ys)

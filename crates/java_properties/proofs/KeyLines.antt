@@ -40,9 +40,9 @@ use Rattle.java_properties.specs.declared.error.PropertiesError.{PropertiesError
 use Rattle.properties_text.specs.declared.escape.Malformed.{Malformed}
 use Rattle.properties_text.specs.declared.escape.UnescapeError.TheVariants as unescape
 use Rattle.java_properties.specs.BorrowedItems.{found_content}
-use Rattle.java_properties.specs.GivenItems.{FindsIn}
+use Rattle.java_properties.specs.FoundItems.{FindsIn}
 use Rattle.java_properties.specs.declared.iter.found.Found as found
-use Rattle.java_properties.proofs.Items.{found-item}
+use Rattle.java_properties.proofs.FoundItems.{found-item}
 use Rattle.java_properties.proofs.TextMaps.Values.{at_chars-sorted, at_chars-updated}
 use Rattle.java_properties.specs.KeyLines.{KeyPlace, keys_from, AreKeysIn, AreKeys, HasNoKey, HasFirstNumber, KeyEntry, AreFirstsOf, AreKeyLines, key_line_entry, key_line_entries, FindsAllKeys}
 use Rattle.java_properties.specs.LineByLine.{number_at, KeepsFirst, AddsKeyLine, AddsIfKey, PushesKey}

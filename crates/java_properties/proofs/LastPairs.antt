@@ -23,10 +23,10 @@ use Rattle.properties_format.proofs.Body.Groups.{held_of-only}
 use Rattle.properties_format.proofs.Valued.Lined.{last_by, last_by-append}
 use Rattle.properties_format.proofs.Valued.Added.{ending-held}
 use Rattle.java_properties.specs.BodyLines.{ending_in}
-use Rattle.java_properties.specs.Settings.{ending_of}
-use Rattle.java_properties.specs.BodyValues.{IsEndingWithin, IsLastEnding}
-use Rattle.java_properties.specs.declared.writer.settings.LineEnding.{LineEnding}
-use Rattle.java_properties.specs.declared.writer.settings.LineEnding.TheVariants.{CR, LF}
+use Rattle.java_properties.specs.LineEndings.{ending_of}
+use Rattle.java_properties.specs.BodyValues.{IsEndingWithin, IsLastEnding, IsLastPairOf, IsGroupAlone, IsBetweenIn, IsLastPair, FindsLastPair}
+use Rattle.java_properties.specs.declared.line.LineEnding.{LineEnding}
+use Rattle.java_properties.specs.declared.line.LineEnding.TheVariants.{CR, LF}
 use Rattle.properties_text.specs.Parsing.{bytes_in}
 use Rattle.std.proofs.Math.Seq.{take-append_seam, drop-append_seam}
 use Rattle.properties_format.specs.Settings.{IsGoodSeparator}
@@ -41,7 +41,6 @@ use Rattle.properties_format.proofs.InTurn.Lines.{bytes-unended}
 use Rattle.properties_format.proofs.Valued.Made.{new_separator-meets}
 use Rattle.properties_format.proofs.Valued.Separators.{new_separator-fit}
 use Rattle.properties_format.proofs.Valued.Unended.{without_ending, unended-groups, unended-joined}
-use Rattle.java_properties.specs.BodyValues.{IsLastPairOf, IsGroupAlone}
 use Rattle.java_properties.proofs.BodyValues.{middle-of}
 use Rattle.std.specs.Str.{chars}
 use Rattle.properties_format.specs.Encoding.{Encoding}
@@ -56,7 +55,6 @@ use Rattle.properties_format.proofs.Valued.Made.{last_between-push}
 use Rattle.properties_text.specs.Encoding.{encoding_of}
 use Rattle.properties_text.specs.declared.parse.Span.{Span}
 use Rattle.java_properties.specs.BodyGroups.{IsWithin, groups_left, text_of, TakesGroup}
-use Rattle.java_properties.specs.BodyValues.{IsBetweenIn, IsLastPair, FindsLastPair}
 use Rattle.java_properties.specs.declared.edit.groups.Group.{Group}
 use Rattle.java_properties.specs.declared.edit.groups.GroupReader.{GroupReader}
 use Rattle.java_properties.specs.declared.edit.place.BodySpan.{BodySpan}

@@ -1,10 +1,14 @@
+pub mod Scalars
 pub mod Settings
+pub mod RawTexts
 pub mod Engine
 pub mod UndecodedPairs
 pub mod Calls
 pub mod ReadBack
 pub mod AsciiOnly
 pub mod Comparisons
+pub mod CallComparisons
+pub mod FoundItems
 pub mod Items
 pub mod BorrowedItems
 pub mod CopiedLines
@@ -39,5 +43,6 @@ pub mod DocumentCalls
 pub mod IndexAppended
 pub mod IndexChanged
 pub mod IndexAdded
+pub mod EditComparisons
 pub mod Editing
 pub mod WholeSources

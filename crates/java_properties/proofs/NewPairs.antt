@@ -13,7 +13,7 @@ use Rattle.properties_format.specs.Valued.{value_text, printed_value, new_pair_b
 use Rattle.properties_format.proofs.Printing.Characters.{encoded-ascii, encoded_text-append, encoded_text-ascii, line_end-ascii}
 use Rattle.std.specs.Char.{IsScalar, encode_utf8}
 use Rattle.properties_text.proofs.TextFronts.{chars-more}
-use Rattle.java_properties.proofs.Engine.{line_ending-bytes}
+use Rattle.java_properties.proofs.RawTexts.{line_ending-bytes}
 use Rattle.java_properties.proofs.BodyGroups.{no-bytes}
 
 -- ---- a value after its separator

@@ -27,8 +27,8 @@ use Rattle.properties_text.specs.Encoding.{encoding_of}
 use Rattle.java_properties.specs.BodyKeys.{IsPlaceOf, IsPlace, IsKeyFound, closing_bytes}
 use Rattle.java_properties.specs.BodyValues.{IsPairAlone, IsLayoutAfter, revalued_in}
 use Rattle.java_properties.specs.Editing.{HasValueSet}
-use Rattle.java_properties.specs.Maps.{characters}
-use Rattle.java_properties.specs.Settings.{ending_of}
+use Rattle.java_properties.specs.Texts.{characters}
+use Rattle.java_properties.specs.LineEndings.{ending_of}
 use Rattle.java_properties.specs.Sources.{IsInForce}
 use Rattle.java_properties.specs.declared.edit.new_pair.Layout.{Layout}
 use Rattle.java_properties.specs.declared.edit.place.BodySpan.{BodySpan}

@@ -12,7 +12,7 @@ use Rattle.properties_lines.specs.declared.error.LineError.TheVariants as why
 use Rattle.java_properties.specs.Errors.{IsLineError}
 use Rattle.java_properties.specs.GivenItems as given
 use Rattle.java_properties.specs.GivenItems.{FindsItem}
-use Rattle.java_properties.specs.BorrowedItems.{AdvancesTo}
+use Rattle.java_properties.specs.Borrowing.{AdvancesTo}
 use Rattle.java_properties.specs.PropertiesIter as stated
 use Rattle.java_properties.specs.PropertiesIter.{Reading}
 use Rattle.java_properties.specs.declared.error.PropertiesError.{PropertiesError}

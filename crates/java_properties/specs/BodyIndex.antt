@@ -1,5 +1,5 @@
 -- Which pair a logical line is, and what an index of a body's pairs says.
-use Rattle.std.specs.Prelude.{◌≡◌, ◌⊎◌, bytes_eq, nat_lt, ◌==◌, ℕ, ◌+◌, ◌-◌, ◌^◌, ◌≤◌, ◌<◌, min, Bool, true, false, if◌then◌else◌, List, [], ◌∷◌, ◌++◌, map, length, take, drop, get_or, All, Option, Some, None, option_and_then, Result, Ok, Err}
+use Rattle.std.specs.Prelude.{◌≡◌, ◌⊎◌, bytes_eq, nat_lt, ◌==◌, ℕ, ◌+◌, ◌-◌, ◌^◌, ◌≤◌, ◌<◌, min, Bool, true, false, if◌then◌else◌, List, [], ◌∷◌, ◌++◌, map, length, take, drop, get_or, Option, Some, None, option_and_then, Result, Ok, Err}
 use Rattle.std.specs.Option.{option_map}
 use Rattle.std.specs.Map.{lookup, update}
 use Rattle.std.specs.BTreeMap.{IsOrdered}
@@ -22,8 +22,8 @@ use Rattle.properties_format.specs.Reading.Parts.{unended_bytes}
 use Rattle.properties_text.specs.Encoding.{encoding_of}
 use Rattle.java_properties.specs.BodyKeys.{IsErrorOfGroups, closing_bytes, closing_of}
 use Rattle.java_properties.specs.Editing.{HasValueSet, IsRemoved, IsSet}
-use Rattle.java_properties.specs.GivenItems.{IsNoItem}
-use Rattle.java_properties.specs.Maps.{characters}
+use Rattle.java_properties.specs.FoundItems.{IsNoItem, outcome_pair, pair_characters}
+use Rattle.java_properties.specs.Texts.{characters}
 use Rattle.java_properties.specs.Sources.{IsInForce}
 use Rattle.java_properties.specs.declared.edit.groups.Group.{Group}
 use Rattle.java_properties.specs.declared.edit.index.Index.{Index}
@@ -35,17 +35,6 @@ use Rattle.java_properties.specs.declared.edit.place.Closing.{Closing}
 use Rattle.java_properties.specs.declared.edit.place.Closing.TheVariants as closing
 use Rattle.java_properties.specs.declared.edit.source.BodyStart.{BodyStart}
 use Rattle.java_properties.specs.declared.error.PropertiesError.{PropertiesError}
-
--- the pair that a logical line is, if it is one
-abbrev pub outcome_pair : Outcome → Option (List ℕ × List ℕ)
-outcome_pair ignored = None
-outcome_pair (given (comment text)) = None
-outcome_pair (given (pair key value)) = Some (key, value)
-outcome_pair (broken kind) = None
-
--- the characters of a key and of its value
-abbrev pub pair_characters : {Y Z : Type 0} → String Y × String Z → List ℕ × List ℕ
-pair_characters p = (characters p.0, characters p.1)
 
 -- The pair that a logical line is, if it is one, was returned; or an error in the line with this number.
 abbrev pub FindsPairOfLine : {Y Z : Type 0} → List ℕ → ℕ → Result (Option (String Y × String Z)) PropertiesError → Type 0

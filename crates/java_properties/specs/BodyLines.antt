@@ -2,8 +2,8 @@
 use Rattle.std.specs.Prelude.{◌≡◌, ℕ, List, Option, Some, None}
 use Rattle.properties_format.specs.Text as text
 use Rattle.properties_format.specs.Body.{ending_bytes}
-use Rattle.java_properties.specs.Settings.{ending_of}
-use Rattle.java_properties.specs.declared.writer.settings.LineEnding.{LineEnding}
+use Rattle.java_properties.specs.LineEndings.{ending_of}
+use Rattle.java_properties.specs.declared.line.LineEnding.{LineEnding}
 
 -- the line ending of a line; the last line has none
 abbrev pub ending_in : Option LineEnding → Option text.LineEnding

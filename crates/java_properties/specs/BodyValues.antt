@@ -23,12 +23,12 @@ use Rattle.properties_format.specs.Reading.Parts.{unended_bytes}
 use Rattle.properties_format.specs.Reading.Valued.{before_value, between_if_pair, between_of, front_of, has_value, is_pair_to, last_between, separator_by}
 use Rattle.properties_text.specs.Parsing.{bytes_in, IsSpan}
 use Rattle.properties_text.specs.declared.parse.Span.{Span}
-use Rattle.java_properties.specs.Maps.{characters}
-use Rattle.java_properties.specs.Settings.{ending_of}
+use Rattle.java_properties.specs.Texts.{characters}
+use Rattle.java_properties.specs.LineEndings.{ending_of}
 use Rattle.java_properties.specs.BodyLines.{ending_in}
-use Rattle.java_properties.specs.GivenItems.{IsNoItem}
+use Rattle.java_properties.specs.FoundItems.{IsNoItem}
 use Rattle.java_properties.specs.Errors.{IsBareError}
-use Rattle.java_properties.specs.declared.writer.settings.LineEnding.{LineEnding}
+use Rattle.java_properties.specs.declared.line.LineEnding.{LineEnding}
 use Rattle.java_properties.specs.declared.edit.new_pair.Layout.{Layout}
 use Rattle.java_properties.specs.declared.edit.place.BodySpan.{BodySpan}
 use Rattle.java_properties.specs.declared.edit.place.Closing.{Closing}

@@ -1,5 +1,5 @@
 -- Borrowed items as contracts see them, and what is found of them before they are borrowed.
-use Rattle.std.specs.Prelude.{◌≡◌, ◌⊎◌, ℕ, Bool, true, false, not, List, Option, Some, None, Result, Ok, Err}
+use Rattle.std.specs.Prelude.{◌≡◌, ℕ, Bool, true, false, not, List, Option, Some, None, Result, Ok, Err}
 use Rattle.std.specs.Option.{is_some}
 use Rattle.std.specs.Str.{chars}
 use Rattle.std.specs.String.{string_bytes}
@@ -7,7 +7,6 @@ use Rattle.std.specs.Cow.{cow_str_bytes}
 use Rattle.std.specs.declared.borrow.CowStr.{CowStr}
 use Rattle.std.specs.declared.borrow.CowStr.TheVariants.{Borrowed, Owned}
 use Rattle.std.specs.declared.string.String.{String}
-use Rattle.counted_io.specs.Streams.{Reader, IsSameReader}
 use Rattle.properties_format.specs.Entries as entry
 use Rattle.properties_format.specs.Entries.{Content, Entry, item}
 use Rattle.properties_format.specs.Escapes.{Means}
@@ -17,7 +16,6 @@ use Rattle.java_properties.specs.Errors.{IsBareError}
 use Rattle.properties_text.specs.Escaping.{holds_backslash}
 use Rattle.java_properties.specs.Line.{number_of, content_of}
 use Rattle.properties_text.specs.Parsing.{bytes_in, spanned, in_characters, IsSpan}
-use Rattle.java_properties.specs.PropertiesIter.{Reading, GivesEntry, GivesNone, GivesMalformed, GivesError}
 use Rattle.java_properties.specs.declared.error.ErrorKind.TheVariants as kind
 use Rattle.java_properties.specs.declared.error.PropertiesError.{PropertiesError}
 use Rattle.java_properties.specs.declared.iter.found.Found.{Found}
@@ -107,32 +105,3 @@ AreTextsIn line (found.KVPair key value) = IsTextIn line key × IsTextIn line va
 pub record IsFoundIn (line : List ℕ) (found : Found) : Type 0 where
   pub slices : IsSplit (chars line) (in_characters (spanned line (Some (spans_of found.content))))
   pub texts : AreTextsIn line found.content
-
--- ---- the calls
-
--- The next item of an iterator as it is found. After `None` and after an error the iterator is at its end.
-abbrev pub AdvancesTo : {R : Type 0} → Reader R → Reading R → Option (Result Found PropertiesError) → Reading R → Type 0
-AdvancesTo reader old None new = GivesNone reader old.state old.reader new.state new.reader
-AdvancesTo reader old (Some (Ok found)) new =
-    GivesEntry reader old.state old.reader (found_entry new.line found) new.state new.reader × IsFoundIn new.line found
-AdvancesTo reader old (Some (Err e)) new =
-    (old.state.is_done ≡ false) × (new.state.is_done ≡ true)
-    × (GivesMalformed reader old.state old.reader e new.reader ⊎ GivesError reader old.state old.reader e new.reader)
-
--- The iterator keeps the reader that it was created with.
-abbrev pub AdvanceGives : {R : Type 0} → Reader R → Reading R → Option (Result Found PropertiesError) → Reading R → Type 0
-AdvanceGives reader old answer new =
-    AdvancesTo reader old answer new × IsSameReader reader old.reader new.reader
-
--- The next item as it is borrowed, and the state after that.
-abbrev pub BorrowsItem : {R : Type 0} → Reader R → Reading R → Option (Result LineRef PropertiesError) → Reading R → Type 0
-BorrowsItem reader old None new = GivesNone reader old.state old.reader new.state new.reader
-BorrowsItem reader old (Some (Ok line)) new =
-    GivesEntry reader old.state old.reader (borrowed_entry line) new.state new.reader × BorrowsPlain (chars new.line) line.content
-BorrowsItem reader old (Some (Err e)) new =
-    (old.state.is_done ≡ false) × (new.state.is_done ≡ true)
-    × (GivesMalformed reader old.state old.reader e new.reader ⊎ GivesError reader old.state old.reader e new.reader)
-
--- It is the next item, according to some state of the iterator after the call.
-abbrev pub NextRefGives : {R : Type 0} → Reader R → Reading R → Option (Result LineRef PropertiesError) → Type 0
-NextRefGives {R} reader old answer = (new : Reading R) × BorrowsItem reader old answer new × IsSameReader reader old.reader new.reader

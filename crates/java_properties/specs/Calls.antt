@@ -7,7 +7,7 @@ use Rattle.properties_format.specs.Settings.{Settings}
 use Rattle.properties_format.specs.Entries.{comment, pair}
 use Rattle.properties_format.specs.Writing as format
 use Rattle.java_properties.specs.Errors.{kind_of, Refuses}
-use Rattle.java_properties.specs.Settings.{ending_of}
+use Rattle.java_properties.specs.LineEndings.{ending_of}
 use Rattle.java_properties.specs.PropertiesWriter.{Writing, WritesLine, Flushes}
 use Rattle.java_properties.specs.declared.error.ErrorKind.{ErrorKind}
 use Rattle.java_properties.specs.declared.error.ErrorKind.TheVariants as kind

@@ -12,7 +12,7 @@ use Rattle.properties_text.specs.declared.escape.UnescapeError.{UnescapeError}
 use Rattle.properties_lines.specs.LineJoiner.{Joining}
 use Rattle.properties_lines.specs.declared.error.LineError.{LineError}
 use Rattle.java_properties.specs.Errors.{IsUnresolvedError, IsLineError}
-use Rattle.java_properties.specs.GivenItems.{IsNoItem}
+use Rattle.java_properties.specs.FoundItems.{IsNoItem}
 use Rattle.java_properties.specs.PropertiesWriter.{Writing, WritesLine}
 use Rattle.java_properties.specs.Copying.{HasScalars, WritesIfPair}
 use Rattle.java_properties.specs.declared.error.PropertiesError.{PropertiesError}

@@ -5,8 +5,8 @@ use Rattle.std.specs.Fmt.{◌++?◌, decimal, debug_str}
 use Rattle.java_properties.specs.declared.line.LineContent.{LineContent}
 use Rattle.java_properties.specs.declared.line.LineContent.TheVariants.{Comment, KVPair}
 use Rattle.java_properties.specs.declared.line.Line.{Line}
-use Rattle.java_properties.specs.declared.writer.settings.LineEnding.{LineEnding}
-use Rattle.java_properties.specs.declared.writer.settings.LineEnding.TheVariants.{CR, LF, CRLF}
+use Rattle.java_properties.specs.declared.line.LineEnding.{LineEnding}
+use Rattle.java_properties.specs.declared.line.LineEnding.TheVariants.{CR, LF, CRLF}
 use Rattle.java_properties.specs.declared.error.ErrorKind.{ErrorKind}
 use Rattle.java_properties.specs.declared.error.ErrorKind.TheVariants as kind
 use Rattle.java_properties.specs.declared.error.Cause.{Cause}

@@ -1,4 +1,5 @@
 pub mod Errors
+pub mod LineEndings
 pub mod Settings
 pub mod PropertiesWriter
 pub mod Engine
@@ -8,8 +9,10 @@ pub mod AsciiOnly
 pub mod Line
 pub mod DisplayTexts
 pub mod PropertiesIter
+pub mod FoundItems
 pub mod GivenItems
 pub mod BorrowedItems
+pub mod Borrowing
 pub mod Copying
 pub mod CopiedLines
 pub mod ReadLines
@@ -17,6 +20,7 @@ pub mod MalformedEscapes
 pub mod KeyLines
 pub mod LineByLine
 pub mod ReadInto
+pub mod Texts
 pub mod Maps
 pub mod BodyLines
 pub mod BodyGroups

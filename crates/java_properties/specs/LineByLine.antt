@@ -8,7 +8,7 @@ use Rattle.properties_format.specs.MalformedEscapes.{escapes_from}
 use Rattle.properties_format.specs.Reading.Items.{outcome_of}
 use Rattle.properties_format.specs.Reading.Parts.{outcome_key}
 use Rattle.java_properties.specs.Errors.{IsBareError}
-use Rattle.java_properties.specs.Maps.{characters}
+use Rattle.java_properties.specs.Texts.{characters}
 use Rattle.java_properties.specs.MalformedEscapes.{escape_records}
 use Rattle.java_properties.specs.declared.error.ErrorKind.TheVariants as kind
 use Rattle.java_properties.specs.declared.error.PropertiesError.{PropertiesError}

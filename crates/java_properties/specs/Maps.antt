@@ -1,11 +1,10 @@
 -- Maps of texts: the effects of reading and writing one. A map is seen as its entries, whatever its type.
 use Rattle.std.specs.Prelude.{◌≡◌, ◌⊎◌, ℕ, true, List, [], ◌∷◌, ◌++◌, map, Option, Result, Ok, Err, bytes_eq, string_bytes}
-use Rattle.std.specs.Option.{option_map}
 use Rattle.std.specs.Str.{chars}
 use Rattle.std.specs.Borrow.{Bor}
 use Rattle.std.specs.HashMap.{HashMap}
 use Rattle.std.specs.BTreeMap.{BTreeMap}
-use Rattle.std.specs.Map.{keys_of, lookup, update}
+use Rattle.std.specs.Map.{keys_of, update}
 use Rattle.std.specs.List.Sorted.{IsPermutation, IsStrictlySortedBy}
 use Rattle.std.specs.Ordering.{nat_cmp}
 use Rattle.std.specs.Cmp.Lexicographic.{slice_cmp}
@@ -27,19 +26,7 @@ use Rattle.java_properties.specs.ReadLines.{entries_in, ReadsWhole, StopsReading
 use Rattle.java_properties.specs.declared.error.ErrorKind.TheVariants as kind
 use Rattle.java_properties.specs.declared.error.PropertiesError.{PropertiesError}
 use Rattle.java_properties.specs.declared.line.Line.{Line}
-
--- ---- maps
-
-abbrev pub characters : {Z : Type 0} → String Z → List ℕ
-characters text = chars (string_bytes text)
-
--- the entries of a map, in the order in which it holds them
-abbrev pub Entries : Type 0 → Type 0 → Type 0
-Entries Y Z = List (String Y × String Z)
-
--- the value of a key in a map, both as characters
-abbrev pub value_at : {Y Z : Type 0} → Entries Y Z → List ℕ → Option (List ℕ)
-value_at entries key = option_map characters (lookup (λ k. bytes_eq key (characters k)) entries)
+use Rattle.java_properties.specs.Texts.{Entries, value_at}
 
 -- A pair sets the value of its key, if there is memory. A comment changes nothing.
 abbrev pub InsertsIfPair : {Y Z : Type 0} → Entries Y Z → Content → Result Unit PropertiesError → Entries Y Z → Type 0

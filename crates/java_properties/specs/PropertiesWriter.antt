@@ -12,7 +12,7 @@ use Rattle.java_properties.specs.Settings.{with_prefix, with_separator, with_end
 use Rattle.java_properties.specs.declared.error.ErrorKind.{ErrorKind}
 use Rattle.java_properties.specs.declared.error.ErrorKind.TheVariants as kind
 use Rattle.java_properties.specs.declared.error.PropertiesError.{PropertiesError}
-use Rattle.java_properties.specs.declared.writer.settings.LineEnding.{LineEnding}
+use Rattle.java_properties.specs.declared.line.LineEnding.{LineEnding}
 
 -- A writer: its sink, the encoding that it writes, its settings, how many lines it wrote, and whether a write failed.
 pub record Writing (W : Type 0) : Type 0 where

@@ -3,7 +3,6 @@ use Rattle.std.specs.Prelude.{◌≡◌, ◌⊎◌, ℕ, Bool, true, List, Optio
 use Rattle.std.specs.Str.{chars}
 use Rattle.std.specs.String.{string_bytes}
 use Rattle.std.specs.declared.string.String.{String}
-use Rattle.properties_format.specs.Text as text
 use Rattle.properties_format.specs.Settings.{Settings, default_settings, IsGoodPrefix, IsGoodSeparator}
 use Rattle.properties_format.specs.Text.{is_blanks}
 use Rattle.properties_format.specs.Reading.Settings.{is_good_prefix, is_good_separator}
@@ -11,15 +10,9 @@ use Rattle.java_properties.specs.Errors.{Refuses, RefusesText}
 use Rattle.java_properties.specs.declared.error.ErrorKind.{ErrorKind}
 use Rattle.java_properties.specs.declared.error.ErrorKind.TheVariants as kind
 use Rattle.java_properties.specs.declared.error.PropertiesError.{PropertiesError}
-use Rattle.java_properties.specs.declared.writer.settings.LineEnding.{LineEnding}
-use Rattle.java_properties.specs.declared.writer.settings.LineEnding.TheVariants.{CR, LF, CRLF}
+use Rattle.java_properties.specs.declared.line.LineEnding.{LineEnding}
 use Rattle.java_properties.specs.declared.writer.settings.Settings.TheInside.{Inside}
-
--- the line ending that the code's value represents
-abbrev pub ending_of : LineEnding → text.LineEnding
-ending_of CR = text.cr
-ending_of LF = text.lf
-ending_of CRLF = text.crlf
+use Rattle.java_properties.specs.LineEndings.{ending_of}
 
 -- the characters of the prefix and of the separator, which have their defaults if none was set
 abbrev pub prefix_of : {Z : Type 0} → Option (String Z) → List ℕ

@@ -3,13 +3,13 @@
 ghost use Rattle.std.specs.Prelude.{◌≡◌, Some, None};
 ghost use Rattle.std.specs.Str.{chars};
 ghost use Rattle.std.specs.String.{string_bytes};
-ghost use Rattle.properties_text.specs.Escaping.{malformed_in};
-ghost use Rattle.java_properties.specs.Errors.{kind_of, line_of, cause_of, cause_by, cause_of_write, IsError, IsBareError, IsMalformed, IsUnresolvedError, IsLineError, IsStreamError, RefusesText, malformed_kind, IsReason};
+ghost use Rattle.java_properties.specs.Errors.{kind_of, line_of, cause_of, IsError, IsBareError, IsLineError, IsStreamError, RefusesText, IsReason};
 ghost use Rattle.java_properties.specs.DisplayTexts.{description, cause_display, error_display, reason_display};
 ghost use Rattle.java_properties.specs.declared.error.ErrorKind.TheVariants.{Io, BadCommentPrefix, BadKvSeparator, EmptyKey, TooManyLines, Failed, Memory, Unsupported};
 
+pub mod make;
+
 use properties_lines::error::LineError;
-use properties_text::escape::{Malformed, UnescapeError};
 use std::alloc::{AllocError, AllocFailed};
 use std::error::Error;
 use std::{fmt, io};
@@ -156,109 +156,6 @@ impl PropertiesError {
         }
     }
 
-    /// A write failed, in the line with this number if one is given. `error` is the sink's error, or `None` if the sink
-    /// accepted no byte.
-    pub(crate) fn write_fault(
-        line_number: Option<usize>,
-        error: Option<io::Error>,
-    ) -> PropertiesError
-        ensures { IsError Io line_number (cause_of_write error) result }
-    {
-        let cause = match error {
-            Some(error) => Cause::Io(error),
-            None => Cause::None,
-        };
-        PropertiesError::io(line_number, cause)
-    }
-
-    /// Replaces the cause by this stream's error if the cause is a stream's error. Otherwise returns the error
-    /// unchanged.
-    pub(crate) fn caused_by(self, error: io::Error) -> PropertiesError
-        ensures { result ≡ record self { cause = cause_by error (cause_of self) } }
-    {
-        match self.cause {
-            Cause::Io(_) => PropertiesError {
-                cause: Cause::Io(error),
-                ..self
-            },
-            _ => self,
-        }
-    }
-
-    /// Resolving the escapes in the line with this number failed: an escape is malformed, or memory ran out.
-    pub(crate) fn unresolved(line_number: usize, error: UnescapeError) -> PropertiesError
-        ensures { IsUnresolvedError error line_number result }
-    {
-        match error {
-            UnescapeError::Malformed(malformed) => {
-                PropertiesError::malformed(line_number, malformed)
-            }
-            UnescapeError::Memory => PropertiesError::bare(ErrorKind::Memory),
-        }
-    }
-
-    // An escape in the line with this number is malformed in this way.
-    fn malformed(line_number: usize, malformed: Malformed) -> PropertiesError
-        ensures { IsMalformed (malformed_in malformed) line_number result }
-    {
-        let cause = match malformed {
-            Malformed::NotHex => Cause::NotHex,
-            Malformed::NotEnoughDigits | Malformed::InvalidCharacter => Cause::None,
-        };
-        PropertiesError::in_line(line_number, ErrorKind::malformed(malformed), cause)
-    }
-
-    pub(crate) fn too_many_lines() -> PropertiesError
-        ensures { IsBareError TooManyLines result }
-    {
-        PropertiesError::bare(ErrorKind::TooManyLines)
-    }
-
-    /// An earlier write failed.
-    pub(crate) fn failed() -> PropertiesError
-        ensures { IsBareError Failed result }
-    {
-        PropertiesError::bare(ErrorKind::Failed)
-    }
-
-    /// Sources in UTF-16 can't be edited.
-    pub(crate) fn unsupported() -> PropertiesError
-        ensures { IsBareError Unsupported result }
-    {
-        PropertiesError::bare(ErrorKind::Unsupported)
-    }
-
-    /// An empty key can't be written before a separator that consists only of blanks.
-    pub(crate) fn empty_key() -> PropertiesError
-        ensures { IsBareError EmptyKey result }
-    {
-        PropertiesError::bare(ErrorKind::EmptyKey)
-    }
-
-    /// The text isn't a valid comment prefix.
-    pub(crate) fn bad_comment_prefix(prefix: String) -> PropertiesError
-        ensures { RefusesText BadCommentPrefix (chars (string_bytes prefix)) result }
-    {
-        PropertiesError::refused(ErrorKind::BadCommentPrefix, prefix)
-    }
-
-    /// The text isn't a valid separator of keys and values.
-    pub(crate) fn bad_kv_separator(separator: String) -> PropertiesError
-        ensures { RefusesText BadKvSeparator (chars (string_bytes separator)) result }
-    {
-        PropertiesError::refused(ErrorKind::BadKvSeparator, separator)
-    }
-
-    fn in_line(line_number: usize, kind: ErrorKind, cause: Cause) -> PropertiesError
-        ensures { IsError kind (Some line_number) cause result }
-    {
-        PropertiesError {
-            line_number: Some(line_number),
-            cause,
-            ..PropertiesError::bare(kind)
-        }
-    }
-
     fn refused(kind: ErrorKind, text: String) -> PropertiesError
         ensures { RefusesText kind (chars (string_bytes text)) result }
     {
@@ -301,7 +198,7 @@ impl From<LineError> for PropertiesError {
             LineError::Io(line_number, error) => {
                 PropertiesError::io(Some(line_number), Cause::Io(error))
             }
-            LineError::TooManyLines => PropertiesError::too_many_lines(),
+            LineError::TooManyLines => PropertiesError::bare(ErrorKind::TooManyLines),
             LineError::Memory => PropertiesError::bare(ErrorKind::Memory),
         }
     }
@@ -373,17 +270,6 @@ impl fmt::Display for Reason<'_> {
 }
 
 impl ErrorKind {
-    /// Returns the kind of an escape that is malformed in this way.
-    pub(crate) fn malformed(malformed: Malformed) -> ErrorKind
-        ensures { result ≡ malformed_kind (malformed_in malformed) }
-    {
-        match malformed {
-            Malformed::NotEnoughDigits => ErrorKind::NotEnoughDigits,
-            Malformed::NotHex => ErrorKind::NotHex,
-            Malformed::InvalidCharacter => ErrorKind::InvalidCharacter,
-        }
-    }
-
     fn description(self) -> &'static str
         ensures { result.now ≡ description self }
     {

@@ -8,7 +8,8 @@ ghost use Rattle.properties_format.specs.Encoding.{windows_1252};
 ghost use Rattle.properties_format.specs.ItemsToCome.{start};
 ghost use Rattle.properties_text.specs.Encoding.{encoding_of};
 ghost use Rattle.properties_lines.specs.LineReader.{lines_left};
-ghost use Rattle.java_properties.specs.BorrowedItems.{borrowed_entry, found_entry, BorrowsPlain, IsFoundIn, AdvanceGives, NextRefGives};
+ghost use Rattle.java_properties.specs.BorrowedItems.{borrowed_entry, found_entry, BorrowsPlain, IsFoundIn};
+ghost use Rattle.java_properties.specs.Borrowing.{AdvanceGives, NextRefGives};
 ghost use Rattle.java_properties.specs.PropertiesIter.{Reading, NextGives};
 ghost use Rattle.java_properties.specs.Copying.{CopiesNext};
 

@@ -12,13 +12,9 @@ ghost use Rattle.properties_format.specs.Escapes.{IsMeaning};
 ghost use Rattle.properties_format.specs.Settings.{Settings};
 ghost use Rattle.properties_format.specs.Writing.{Call};
 ghost use Rattle.properties_format.specs.Pairs.{Pair};
-ghost use Rattle.properties_format.specs.Edits.{Edit};
-ghost use Rattle.properties_format.specs.EditLaws.{RemovingNoPairChangesNothing, SettingTwiceIsSettingOnce};
-ghost use Rattle.properties_format.specs.EditLaws.{SettingGivesTheValue, RemovingTakesTheValue};
-ghost use Rattle.properties_format.specs.EditLaws.{SettingItsOwnValueChangesNothing, SettingAValueTwiceIsSettingItOnce};
-ghost use Rattle.properties_format.specs.EditLaws.{SettingAValueAgainChangesNothing, SettingAValueGivesIt};
-ghost use Rattle.properties_format.specs.EditLaws.{NoEditsChangeNothing, OneEditIsItsCall, ListsOfEditsFollow};
 ghost use Rattle.properties_format.specs.Laws.{HasOne, HasOneReading, ReadingInvertsWriting, EqualBytesOfEqualPairs, WritingAnewChangesNothing, MapIsReadBack, SplittingCommutes, LineEndsSeparatePieces};
+
+pub use crate::edit::laws::editing;
 
 /// Reading is unique: what an input means exists and is unique, at each step and for each way in which the input ends.
 ///
@@ -70,33 +66,4 @@ pub fn reading_inverts_writing()
 pub fn splitting_commutes_with_decoding()
     ensures lines { (e : Encoding) (bytes : List ℕ) → SplittingCommutes e bytes }
     ensures parts { (e : Encoding) (before : List ℕ) (c : ℕ) (after : List ℕ) → LineEndsSeparatePieces e before c after }
-{}
-
-/// The effects of edits, for every source. Removing a key that no pair has changes no byte. Setting a key twice is the
-/// same as setting it once, to the later value. After a key is set, the map has its value; after a key is removed, the
-/// map has no value for it. Every other key keeps its value.
-///
-/// A value that is set with its layout kept is in the map as well. Setting the value that a key has changes no byte,
-/// nor does setting a value again. Setting a value twice is the same as setting it once, to the later value, if the
-/// source doesn't have the later value already.
-///
-/// An empty list of edits returns the source. A list of one edit is the same as the call for that edit. Two lists of
-/// edits, concatenated, give what the second list makes of the first list's result.
-///
-/// ```text
-/// laws::editing();
-/// // A proof that comes after may take two lists of edits, made one after the other, to be one list.
-/// ```
-pub fn editing()
-    ensures absent { (e : Encoding) (source key : List ℕ) → RemovingNoPairChangesNothing e source key }
-    ensures twice { (e : Encoding) (source key v w : List ℕ) → SettingTwiceIsSettingOnce e source key v w }
-    ensures set { (e : Encoding) (source key value : List ℕ) → SettingGivesTheValue e source key value }
-    ensures removed { (e : Encoding) (source key : List ℕ) → RemovingTakesTheValue e source key }
-    ensures own_value { (e : Encoding) (source key value : List ℕ) → SettingItsOwnValueChangesNothing e source key value }
-    ensures value_twice { (e : Encoding) (source key v w : List ℕ) → SettingAValueTwiceIsSettingItOnce e source key v w }
-    ensures value_again { (e : Encoding) (source key value : List ℕ) → SettingAValueAgainChangesNothing e source key value }
-    ensures value { (e : Encoding) (source key value : List ℕ) → SettingAValueGivesIt e source key value }
-    ensures none { (e : Encoding) (source : List ℕ) → NoEditsChangeNothing e source }
-    ensures one { (e : Encoding) (source : List ℕ) (edit : Edit) → OneEditIsItsCall e source edit }
-    ensures lists { (e : Encoding) (source : List ℕ) (xs ys : List Edit) → ListsOfEditsFollow e source xs ys }
 {}

@@ -22,17 +22,17 @@ mod iter;
 pub mod laws;
 mod line;
 mod maps;
+mod streams;
 mod writer;
 
-pub use edit::{
-    Document, Edit, edit_all, read_source, remove_key, set_key, set_value, write_source,
-};
+pub use edit::{Document, Edit, edit_all, remove_key, set_key, set_value};
 pub use error::{Cause, ErrorKind, PropertiesError, Reason};
 pub use iter::{
     ContentRef, CopyError, Found, KeyLine, LineRef, MalformedEscape, PropertiesIter, Stopped,
     key_lines, malformed_escapes, read_lines,
 };
-pub use line::{Line, LineContent};
+pub use line::{Line, LineContent, LineEnding};
 pub use maps::{read, read_sorted, write, write_sorted};
 pub use properties_text::encoding::Encoding;
-pub use writer::{Call, LineEnding, PropertiesWriter, run_calls};
+pub use streams::{read_source, write_source};
+pub use writer::{Call, PropertiesWriter, run_calls};

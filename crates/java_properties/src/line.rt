@@ -1,8 +1,11 @@
-// Comments and pairs with their line numbers.
+// Comments and pairs with their line numbers, and what ends lines.
 
 ghost use Rattle.std.specs.Prelude.{◌≡◌};
 ghost use Rattle.java_properties.specs.Line.{number_of, content_of};
 ghost use Rattle.java_properties.specs.DisplayTexts.{content_display, line_display};
+ghost use Rattle.std.specs.Str.{chars};
+ghost use Rattle.properties_format.specs.Text.{line_ending_text};
+ghost use Rattle.java_properties.specs.LineEndings.{ending_of};
 
 use std::fmt;
 
@@ -88,5 +91,42 @@ impl fmt::Display for Line {
             content,
         } = self;
         write!(f, "Line {{line_number: {line_number}, content: {content}}}")
+    }
+}
+
+/// The ending of each line that is written.
+#[derive(Clone, Copy, Debug, PartialEq, Eq, PartialOrd, Ord, Hash)]
+pub enum LineEnding {
+    /// A carriage return.
+    CR,
+    /// A line feed.
+    LF,
+    /// A carriage return and a line feed.
+    CRLF,
+}
+
+impl fmt::Display for LineEnding {
+    ghost use Rattle.std.specs.Prelude.{Some};
+    ghost use Rattle.java_properties.specs.DisplayTexts.{line_ending_display};
+
+    ghost output = { λ ending. Some (line_ending_display ending) };
+
+    fn fmt<W: fmt::Write>(&self, f: &mut fmt::Formatter<W>) -> fmt::Result {
+        f.write_str(match self {
+            LineEnding::CR => "LineEnding::CR",
+            LineEnding::LF => "LineEnding::LF",
+            LineEnding::CRLF => "LineEnding::CRLF",
+        })
+    }
+}
+
+/// Returns the characters of a line ending.
+pub fn ending_text(ending: LineEnding) -> &'static str
+    ensures { chars result.now ≡ line_ending_text (ending_of ending) }
+{
+    match ending {
+        LineEnding::CR => "\r",
+        LineEnding::LF => "\n",
+        LineEnding::CRLF => "\r\n",
     }
 }

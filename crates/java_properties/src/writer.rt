@@ -10,6 +10,7 @@ ghost use Rattle.java_properties.specs.ReadBack.{IsGoodWriter};
 ghost use Rattle.java_properties.specs.PropertiesWriter.{new_writer, WritesLine, Flushes, SetsPrefix, SetsSeparator, SetsEnding, SetsAsciiOnly};
 
 use crate::error::PropertiesError;
+use crate::line::LineEnding;
 use counted_io::CountedWrite;
 use engine::{Content, Engine};
 use properties_text::encoding::{Encoding, OutputEncoding};
@@ -21,7 +22,6 @@ pub(crate) mod engine;
 mod settings;
 
 pub use calls::{Call, run_calls};
-pub use settings::LineEnding;
 
 /// Writes comments and pairs to a sink, one per line.
 ///

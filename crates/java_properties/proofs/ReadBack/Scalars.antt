@@ -1,8 +1,6 @@
--- Texts of a program are of scalar values.
+-- The texts of calls and of settings are of scalar values.
 use Rattle.std.proofs.Common.{List, [], ◌∷◌}
-use Rattle.std.specs.Prelude.{All, Option, Some, None, String, string_bytes}
-use Rattle.std.specs.Str.{chars}
-use Rattle.std.proofs.lemmas.Str.{scalars-chars, IsUtf8-string_bytes}
+use Rattle.std.specs.Prelude.{All, Option, Some, None, String}
 use Rattle.properties_format.specs.Text.{scalar}
 use Rattle.properties_format.specs.Writing.{IsOfScalars, AreOfScalars, AreGoodSettings}
 use Rattle.properties_format.proofs.ReadBack.Law.{default_settings-good}
@@ -12,13 +10,9 @@ use Rattle.java_properties.specs.Calls.{call_in, calls_in}
 use Rattle.java_properties.specs.declared.writer.calls.Call.{Call}
 use Rattle.java_properties.specs.declared.writer.calls.Call.TheVariants.{Comment, Pair, Prefix, Separator}
 use Rattle.java_properties.specs.declared.writer.settings.Settings.TheInside.{Inside}
-use Rattle.properties_text.proofs.Printing.Keys.{scalars-all}
+use Rattle.java_properties.proofs.Scalars.{string-scalars}
 
--- the characters of a text are scalar values
-pub string-scalars : {Z : Type 0} (s : String Z) → All scalar (chars (string_bytes s))
-string-scalars s = let bs = string_bytes s in scalars-all (chars bs) (scalars-chars bs (IsUtf8-string_bytes s))
-
--- so are those of a call
+-- the texts of a call are of scalar values
 call-scalars : (call : Call) → IsOfScalars (call_in call)
 call-scalars (Comment text) = string-scalars text
 call-scalars (Pair key value) = (string-scalars key, string-scalars value)

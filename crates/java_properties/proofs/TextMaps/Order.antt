@@ -18,7 +18,8 @@ use Rattle.std.proofs.lemmas.List.Sorted.{IsPermutation-map, IsPermutation-refl}
 use Rattle.std.proofs.lemmas.Map.Keys.{IsDistinct-head, IsDistinct-tail, IsDistinct-cons, IsDistinct-from_apart, IsDistinct-IsPermutation, apart_from_distinct, sorted_from_all_adjacent}
 use Rattle.std.proofs.lemmas.Map.Lookups.{exact_bytes}
 use Rattle.std.proofs.lemmas.Slice.Eq.{bytes_eq-Decides}
-use Rattle.java_properties.specs.Maps.{Entries, entry_texts, borrowed_texts, texts_of, AreInOrder}
+use Rattle.java_properties.specs.Maps.{entry_texts, borrowed_texts, texts_of, AreInOrder}
+use Rattle.java_properties.specs.Texts.{Entries}
 use Rattle.java_properties.proofs.TextMaps.Values.{flipped}
 
 -- of two keys that differ, the one that isn't greater is less

@@ -27,9 +27,10 @@ use Rattle.properties_format.proofs.Maps.{value_in-meets, value_in-only}
 use Rattle.properties_format.proofs.Laws.{no-pair, value-among}
 use Rattle.properties_format.proofs.ReadBack.Law.{default_settings-good}
 use Rattle.properties_format.proofs.ReadBack.Lists.{items_of-pairs}
-use Rattle.java_properties.specs.Maps.{Entries, Texts, characters, value_at, entry_texts, calls_for, character_pair, items_for, AreInOrder, WritesPairs, WritesMap, MapReadsBack}
+use Rattle.java_properties.specs.Maps.{Texts, entry_texts, calls_for, character_pair, items_for, AreInOrder, WritesPairs, WritesMap, MapReadsBack}
+use Rattle.java_properties.specs.Texts.{Entries, characters, value_at}
 use Rattle.java_properties.specs.declared.error.PropertiesError.{PropertiesError}
-use Rattle.java_properties.proofs.ReadBack.Scalars.{string-scalars}
+use Rattle.java_properties.proofs.Scalars.{string-scalars}
 use Rattle.java_properties.proofs.ReadBack.Written.{stops-read_back}
 use Rattle.java_properties.proofs.TextMaps.Distinct.{AreKeysUtf8, ascending-distinct}
 use Rattle.java_properties.proofs.TextMaps.Writing.{accepted}

@@ -12,7 +12,8 @@ use Rattle.java_properties.specs.Line.{number_of, content_of}
 use Rattle.java_properties.specs.PropertiesIter.{format_content, entry_of}
 use Rattle.java_properties.specs.GivenItems.{GivesEntry, GivesNone, GivesMalformed, GivesError}
 use Rattle.java_properties.specs.ReadLines.{entries_in, StopsReading}
-use Rattle.java_properties.specs.Maps.{Entries, value_at, InsertsIfPair, HasReadMap, ReadsValue}
+use Rattle.java_properties.specs.Maps.{InsertsIfPair, HasReadMap, ReadsValue}
+use Rattle.java_properties.specs.Texts.{Entries, value_at}
 use Rattle.java_properties.specs.declared.error.ErrorKind.TheVariants as kind
 use Rattle.java_properties.specs.declared.error.PropertiesError.{PropertiesError}
 use Rattle.java_properties.specs.declared.line.Line.{Line}

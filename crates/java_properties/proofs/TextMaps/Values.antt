@@ -17,7 +17,7 @@ use Rattle.std.proofs.lemmas.Map.Text.{hash_map_updates_text, btree_map_updates_
 use Rattle.std.proofs.lemmas.Slice.Eq.{bytes_eq-Decides}
 use Rattle.std.proofs.lemmas.Str.{IsUtf8-string_bytes, chars-encodes, encodes-chars, scalars-chars}
 use lib.Utf8.{encodes}
-use Rattle.java_properties.specs.Maps.{characters, value_at}
+use Rattle.java_properties.specs.Texts.{characters, value_at}
 
 -- two tests that pass together
 pub together : (a b : Bool) → (a ≡ true → b ≡ true) → (b ≡ true → a ≡ true) → a ≡ b

@@ -130,7 +130,14 @@ impl Document {
     pub fn put(&mut self, key: &str, value: &str) -> Result<(), AllocError>
         ensures { PutsInto (chars key.now) (chars value.now) self.old result self.new }
     {
-        put_pair(self.alloc, &mut self.source, self.opened, &mut self.index, key, value)
+        put_pair(
+            self.alloc,
+            &mut self.source,
+            self.opened,
+            &mut self.index,
+            key,
+            value,
+        )
     }
 
     /// Sets the value of a key and keeps the layout of its line, as [`set_value`](crate::set_value) does. If memory runs
@@ -145,7 +152,14 @@ impl Document {
     pub fn set_value(&mut self, key: &str, value: &str) -> Result<(), AllocError>
         ensures { SetsValueIn (chars key.now) (chars value.now) self.old result self.new }
     {
-        put_value(self.alloc, &mut self.source, self.opened, &mut self.index, key, value)
+        put_value(
+            self.alloc,
+            &mut self.source,
+            self.opened,
+            &mut self.index,
+            key,
+            value,
+        )
     }
 
     /// Removes a key, as [`remove_key`](crate::remove_key) does, and returns whether a pair had it. Allocates nothing.

@@ -7,7 +7,7 @@ ghost use Rattle.properties_text.specs.Encoding.{encoding_of};
 ghost use Rattle.properties_lines.specs.LineSearch.{unit_size};
 ghost use Rattle.java_properties.specs.BodyGroups.{IsWithin, FindsLine, GivesGroup, JoinsGroup, IsFirstGroup, text_of, IsTextHeld};
 
-use crate::writer::LineEnding;
+use crate::line::LineEnding;
 use properties_lines::logical::LogicalLine;
 use properties_lines::scanner::{RawLine, Scan, Scanner};
 use properties_text::encoding::Encoding;

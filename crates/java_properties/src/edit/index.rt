@@ -5,8 +5,8 @@ ghost use Rattle.std.specs.Option.{is_some, option_map};
 ghost use Rattle.std.specs.BTreeMap.{IsOrdered};
 ghost use Rattle.std.specs.String.{string_cmp};
 ghost use Rattle.properties_lines.specs.LineSearch.{unit_size};
-ghost use Rattle.java_properties.specs.Maps.{characters};
-ghost use Rattle.java_properties.specs.Settings.{ending_of};
+ghost use Rattle.java_properties.specs.Texts.{characters};
+ghost use Rattle.java_properties.specs.LineEndings.{ending_of};
 ghost use Rattle.properties_format.specs.Encoding.{begins_like_bom};
 ghost use Rattle.properties_format.specs.Text.{line_ending_text};
 ghost use Rattle.std.specs.Str.{chars};
@@ -14,18 +14,19 @@ ghost use Rattle.properties_format.specs.Edited.{is_editable};
 ghost use Rattle.properties_format.specs.Reading.Body.{held_groups_of};
 ghost use Rattle.properties_format.specs.Reading.Edited.{AreSound};
 ghost use Rattle.properties_text.specs.Encoding.{encoding_of};
-ghost use Rattle.java_properties.specs.BodyIndex.{AddsGroup, CutsOut, IsCutOut, IsInSource, PutsPair, PutsValue, RemovesPairs, ending_size, AddsKey, AddsValue, AppendsPair, FollowsPair, GrowsIndex, GuardsFront, IsIndex, KeepsNothing, KeepsPair, ParsesIndex, PutsFirst, all_shifted, found_span, last_live, lengthened_span, moved_span, moved_to, opened_closing, pair_characters, places_of, shifted, span_at, stored_at};
+ghost use Rattle.java_properties.specs.BodyIndex.{AddsGroup, CutsOut, IsCutOut, IsInSource, PutsPair, PutsValue, RemovesPairs, ending_size, AddsKey, AddsValue, AppendsPair, FollowsPair, GrowsIndex, GuardsFront, IsIndex, KeepsNothing, KeepsPair, ParsesIndex, PutsFirst, all_shifted, found_span, last_live, lengthened_span, moved_span, moved_to, opened_closing, places_of, shifted, span_at, stored_at};
+ghost use Rattle.java_properties.specs.FoundItems.{pair_characters};
 ghost use Rattle.java_properties.specs.BodyKeys.{IsPlaceOf};
 
 use crate::edit::groups::{Group, GroupReader};
 use crate::edit::keys::pair_of;
-use crate::edit::place::{BodySpan, Closing, closing_after, closing_bytes, separation_after};
 use crate::edit::new_pair::{layout_at, printed_new_pair};
+use crate::edit::place::{BodySpan, Closing, closing_after, closing_bytes, separation_after};
 use crate::edit::result::{are_empty, begins_like_bom, concatenated, printed_pair, replaced};
 use crate::edit::source::BodyStart;
 use crate::edit::value::new_value;
 use crate::error::PropertiesError;
-use crate::writer::LineEnding;
+use crate::line::LineEnding;
 use properties_text::encoding::Encoding;
 use std::alloc::{AllocError, Global};
 use std::collections::BTreeMap;
@@ -232,12 +233,7 @@ pub fn put_value(
 }
 
 /// Removes the pairs with a key, and returns whether there were any. Allocates nothing.
-pub fn remove_pairs(
-    source: &mut Vec<u8>,
-    opened: BodyStart,
-    index: &mut Index,
-    key: &str,
-) -> bool
+pub fn remove_pairs(source: &mut Vec<u8>, opened: BodyStart, index: &mut Index, key: &str) -> bool
     requires editable { is_editable (encoding_of opened.encoding) ≡ true }
     requires start { opened.start ≤ length source.old.items }
     requires sound { AreSound (held_groups_of (encoding_of opened.encoding) (drop opened.start source.old.items)) }

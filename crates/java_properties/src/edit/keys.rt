@@ -5,8 +5,10 @@ ghost use Rattle.java_properties.specs.BodyKeys.{FindsItem, ChecksKeyOfLine};
 ghost use Rattle.java_properties.specs.BodyIndex.{FindsPairOfLine};
 ghost use Rattle.java_properties.specs.BodyValues.{ChecksValueOfLine};
 
-use crate::error::PropertiesError;
-use crate::iter::found::{Found, find_escaped, find_plain};
+use crate::error::{PropertiesError, make};
+use crate::iter::found::{
+    Found, find_escaped, find_plain, item_has_key, item_has_value, item_pair,
+};
 use properties_text::escape::has_backslash;
 use std::alloc::Global;
 
@@ -16,7 +18,7 @@ pub fn has_key(alloc: Global, number: usize, line: &str, key: &str) -> Result<bo
     ensures { ChecksKeyOfLine (chars line.now) (chars key.now) number result }
 {
     match find_item(alloc, number, line)? {
-        Some(found) => Ok(found.has_key(line, key)),
+        Some(found) => Ok(item_has_key(&found, line, key)),
         None => Ok(false),
     }
 }
@@ -32,7 +34,7 @@ pub fn has_value(
     ensures { ChecksValueOfLine (chars line.now) (chars value.now) number result }
 {
     match find_item(alloc, number, line)? {
-        Some(found) => Ok(found.has_value(line, value)),
+        Some(found) => Ok(item_has_value(&found, line, value)),
         None => Ok(false),
     }
 }
@@ -47,7 +49,7 @@ pub fn pair_of(
     ensures { FindsPairOfLine (chars line.now) number result }
 {
     match find_item(alloc, number, line)? {
-        Some(found) => Ok(found.pair(alloc, line)?),
+        Some(found) => Ok(item_pair(alloc, &found, line)?),
         None => Ok(None),
     }
 }
@@ -61,6 +63,6 @@ fn find_item(alloc: Global, number: usize, line: &str) -> Result<Option<Found>, 
     }
     match find_escaped(alloc, number, line) {
         Ok(found) => Ok(found),
-        Err(error) => Err(PropertiesError::unresolved(number, error)),
+        Err(error) => Err(make::unresolved(number, error)),
     }
 }

@@ -15,8 +15,8 @@ ghost use Rattle.properties_format.specs.Reading.Valued.{last_between, separator
 ghost use Rattle.properties_text.specs.Encoding.{encoding_of};
 ghost use Rattle.properties_text.specs.Printing.{AppendsOnOk};
 ghost use Rattle.properties_lines.specs.LineSearch.{unit_size};
-ghost use Rattle.java_properties.specs.Maps.{characters};
-ghost use Rattle.java_properties.specs.Settings.{ending_of};
+ghost use Rattle.java_properties.specs.Texts.{characters};
+ghost use Rattle.java_properties.specs.LineEndings.{ending_of};
 ghost use Rattle.java_properties.specs.BodyKeys.{closing_bytes};
 ghost use Rattle.java_properties.specs.BodyValues.{FindsLastPair, IsEndingWithin, IsLastEnding, IsGroupAlone, IsLayoutAfter, unended_pair};
 
@@ -26,7 +26,7 @@ use crate::edit::place::{BodySpan, Closing, closing_bytes, ends_in_cr};
 use crate::edit::result::{are_empty, concatenated, part};
 use crate::edit::source::BodyStart;
 use crate::edit::value::{are_blanks, repertoire_of};
-use crate::writer::LineEnding;
+use crate::line::{LineEnding, ending_text};
 use properties_text::characters::is_blank;
 use properties_text::encoding::Encoding;
 use properties_text::print::{LineBuffer, print_key, print_raw, print_value};
@@ -261,7 +261,7 @@ pub fn with_new_pair(
     let first = are_empty(&source[opened.start..], separation.as_bytes());
     let separator = layout.separator.as_str();
     print_new_pair(&mut line, opened.encoding, first, separator, key, value)?;
-    print_raw(&mut line, layout.ending.as_str())?;
+    print_raw(&mut line, ending_text(layout.ending))?;
     concatenated(alloc, source, line.as_slice(), b"")
 }
 

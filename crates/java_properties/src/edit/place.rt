@@ -7,13 +7,13 @@ ghost use Rattle.properties_format.specs.Reading.Lines.{ends_in_cr};
 ghost use Rattle.properties_format.specs.Reading.Parts.{safe_ending};
 ghost use Rattle.properties_text.specs.Encoding.{encoding_of};
 ghost use Rattle.properties_lines.specs.LineSearch.{unit_size};
-ghost use Rattle.java_properties.specs.Settings.{ending_of};
+ghost use Rattle.java_properties.specs.LineEndings.{ending_of};
 ghost use Rattle.java_properties.specs.BodyKeys.{FindsKey, closing_of, found_after, closing_bytes};
 
 use crate::edit::groups::{Group, GroupReader};
 use crate::edit::keys::has_key;
 use crate::error::PropertiesError;
-use crate::writer::LineEnding;
+use crate::line::LineEnding;
 use properties_text::encoding::Encoding;
 use std::alloc::Global;
 

@@ -3,7 +3,7 @@
 ghost use Rattle.properties_text.specs.Encoding.{encoding_of};
 ghost use Rattle.java_properties.specs.Sources.{IsInForce, OpensSource};
 
-use crate::error::PropertiesError;
+use crate::error::{PropertiesError, make};
 use properties_text::encoding::Encoding;
 use properties_text::encoding::byte_order_mark::{ByteOrderMark, byte_order_mark};
 
@@ -24,7 +24,7 @@ impl BodyStart {
         let opened = in_force(source, encoding);
         match opened.encoding {
             Encoding::WINDOWS_1252 | Encoding::UTF_8 => Ok(opened),
-            Encoding::UTF_16LE | Encoding::UTF_16BE => Err(PropertiesError::unsupported()),
+            Encoding::UTF_16LE | Encoding::UTF_16BE => Err(make::unsupported()),
         }
     }
 }

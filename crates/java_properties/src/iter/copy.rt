@@ -9,13 +9,13 @@ ghost use Rattle.properties_text.specs.UndecodedTexts.{IsNoPair};
 ghost use Rattle.properties_text.specs.declared.encoding.Encoding.TheVariants.{WINDOWS_1252};
 ghost use Rattle.properties_lines.specs.LineReader.{lines_left};
 ghost use Rattle.java_properties.specs.BorrowedItems.{borrowed_content};
-ghost use Rattle.java_properties.specs.GivenItems.{FindsIn};
+ghost use Rattle.java_properties.specs.FoundItems.{FindsIn};
 ghost use Rattle.java_properties.specs.Engine.{writing};
 ghost use Rattle.java_properties.specs.Copying.{error_in, reading, CopiesNext};
 ghost use Rattle.java_properties.specs.CopiedLines.{PlainBytes, PlainText, KeepsError, CopiesLine, CopiesContent, PassesLine, FindsAny, Refuses};
 
-use crate::error::PropertiesError;
-use crate::iter::found::{Found, find_escaped, find_plain};
+use crate::error::{PropertiesError, make};
+use crate::iter::found::{Found, cut_item, find_escaped, find_plain};
 use crate::iter::refs::ContentRef;
 use crate::writer::engine::{Engine, Written};
 use counted_io::{CountedRead, CountedWrite};
@@ -222,7 +222,7 @@ fn copy_text<W: CountedWrite>(
 {
     match find(alloc, number, lines) {
         Ok(Some(found)) => {
-            if copy_content(found.cut(lines.line()).content(), engine, sink, error) {
+            if copy_content(cut_item(found, lines.line()).content(), engine, sink, error) {
                 return Copied::Item;
             }
             Copied::Failed
@@ -274,6 +274,6 @@ fn refuse(
     ensures { Refuses number unresolved lines.old result lines.new error.new }
 {
     lines.end();
-    *error = Some(CopyError::Read(PropertiesError::unresolved(number, unresolved)));
+    *error = Some(CopyError::Read(make::unresolved(number, unresolved)));
     Copied::Failed
 }

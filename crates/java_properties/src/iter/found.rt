@@ -9,12 +9,11 @@ ghost use Rattle.properties_format.specs.Items.{given};
 ghost use Rattle.properties_format.specs.Reading.Body.{is_pair_with};
 ghost use Rattle.properties_format.specs.Reading.Parts.{outcome_key};
 ghost use Rattle.properties_format.specs.Reading.Valued.{is_pair_to};
-ghost use Rattle.java_properties.specs.Maps.{characters};
-ghost use Rattle.java_properties.specs.BodyIndex.{pair_characters, outcome_pair};
+ghost use Rattle.java_properties.specs.Texts.{characters};
+ghost use Rattle.java_properties.specs.FoundItems.{pair_characters, outcome_pair, FindsText, FindsContent, FindsIn, FindsPlain};
 ghost use Rattle.properties_format.specs.Split.{IsSplit};
 ghost use Rattle.properties_text.specs.Escaping.{holds_backslash};
 ghost use Rattle.java_properties.specs.BorrowedItems.{borrowed_entry, borrowed_content, is_borrowed, BorrowsPlain, found_bytes, found_content, found_entry, AreTextsIn, spans_of, IsFoundIn, IsTextIn};
-ghost use Rattle.java_properties.specs.GivenItems.{FindsText, FindsContent, FindsIn, FindsPlain};
 
 use crate::iter::refs::{ContentRef, LineRef};
 use properties_text::escape::{UnescapeError, unescape};
@@ -22,7 +21,7 @@ use properties_text::parse::{ParsedSpans, Span, parse_spans};
 use std::alloc::{AllocError, Global};
 use std::borrow::CowStr;
 
-/// An item that [`advance`](crate::PropertiesIter::advance) found, to be passed to [`get`](crate::PropertiesIter::get).
+/// An item that `advance` of an iterator found, to be passed to its `get`.
 ///
 /// It borrows nothing. It holds the positions of the texts in the line that the iterator keeps, and the texts whose
 /// escapes had to be resolved.
@@ -47,7 +46,7 @@ struct FoundText {
 
 /// Finds the item of a logical line that begins in the line with this number. Returns `None` if the logical line is
 /// blank, and an error if its escapes can't be resolved.
-pub(crate) fn find_escaped(
+pub fn find_escaped(
     alloc: Global,
     line_number: usize,
     line: &str,
@@ -67,7 +66,7 @@ pub(crate) fn find_escaped(
 /// Finds the item of a logical line without a backslash that begins in the line with this number. Returns `None` if the
 /// logical line is blank. Allocates nothing.
 #[inline(always)]
-pub(crate) fn find_plain(line_number: usize, line: &str) -> Option<Found>
+pub fn find_plain(line_number: usize, line: &str) -> Option<Found>
     requires { holds_backslash (chars line.now) ≡ false }
     ensures { FindsPlain line.now line_number result }
 {
@@ -130,70 +129,66 @@ fn find_text(alloc: Global, line: &str, span: Span) -> Result<FoundText, Unescap
     }
 }
 
-impl Found {
-    /// Returns the item, with its texts cut out of the line that it was found in.
-    pub(crate) fn cut(self, line: &str) -> LineRef<'_>
-        requires { IsFoundIn line.now self }
-        ensures item { borrowed_entry result ≡ found_entry line.now self }
-        ensures borrowed { BorrowsPlain (chars line.now) result.content }
-    {
-        let Found {
-            line_number,
-            content,
-        } = self;
-        LineRef::new(line_number, content.cut(line))
-    }
+/// Returns the item, with its texts cut out of the line that it was found in.
+pub fn cut_item(found: Found, line: &str) -> LineRef<'_>
+    requires { IsFoundIn line.now found }
+    ensures item { borrowed_entry result ≡ found_entry line.now found }
+    ensures borrowed { BorrowsPlain (chars line.now) result.content }
+{
+    let Found {
+        line_number,
+        content,
+    } = found;
+    LineRef::new(line_number, content.cut(line))
+}
 
-    /// Returns whether the item is a pair with this key.
-    pub(crate) fn has_key(&self, line: &str, key: &str) -> bool
-        requires { IsFoundIn line.now self.now }
-        ensures { result ≡ is_pair_with (chars key.now) (given (found_content line.now self.now.content)) }
-    {
-        match &self.content {
-            FoundContent::Comment(_) => false,
-            FoundContent::KVPair(found, _) => found.is(line, key),
-        }
-    }
-
-    /// Returns whether the item is a pair with this value.
-    pub(crate) fn has_value(&self, line: &str, value: &str) -> bool
-        requires { IsFoundIn line.now self.now }
-        ensures { result ≡ is_pair_to (chars value.now) (given (found_content line.now self.now.content)) }
-    {
-        match &self.content {
-            FoundContent::Comment(_) => false,
-            FoundContent::KVPair(_, found) => found.is(line, value),
-        }
+/// Returns whether the item is a pair with this key.
+pub fn item_has_key(found: &Found, line: &str, key: &str) -> bool
+    requires { IsFoundIn line.now found.now }
+    ensures { result ≡ is_pair_with (chars key.now) (given (found_content line.now found.now.content)) }
+{
+    match &found.content {
+        FoundContent::Comment(_) => false,
+        FoundContent::KVPair(text, _) => text.is(line, key),
     }
 }
 
-impl Found {
-    /// Returns a copy of the key, or `None` if the item is a comment.
-    pub(crate) fn key(&self, alloc: Global, line: &str) -> Result<Option<String>, AllocError>
-        requires { IsFoundIn line.now self.now }
-        ensures { IfOk result (λ key. option_map characters key ≡ outcome_key (given (found_content line.now self.now.content))) }
-    {
-        match &self.content {
-            FoundContent::Comment(_) => Ok(None),
-            FoundContent::KVPair(found, _) => Ok(Some(found.copied(alloc, line)?)),
-        }
+/// Returns whether the item is a pair with this value.
+pub fn item_has_value(found: &Found, line: &str, value: &str) -> bool
+    requires { IsFoundIn line.now found.now }
+    ensures { result ≡ is_pair_to (chars value.now) (given (found_content line.now found.now.content)) }
+{
+    match &found.content {
+        FoundContent::Comment(_) => false,
+        FoundContent::KVPair(_, text) => text.is(line, value),
     }
+}
 
-    /// Returns copies of the key and the value, or `None` if the item is a comment.
-    pub(crate) fn pair(
-        &self,
-        alloc: Global,
-        line: &str,
-    ) -> Result<Option<(String, String)>, AllocError>
-        requires { IsFoundIn line.now self.now }
-        ensures { IfOk result (λ pair. option_map pair_characters pair ≡ outcome_pair (given (found_content line.now self.now.content))) }
-    {
-        match &self.content {
-            FoundContent::Comment(_) => Ok(None),
-            FoundContent::KVPair(key, value) => {
-                let key = key.copied(alloc, line)?;
-                Ok(Some((key, value.copied(alloc, line)?)))
-            }
+/// Returns a copy of the key, or `None` if the item is a comment.
+pub fn item_key(alloc: Global, found: &Found, line: &str) -> Result<Option<String>, AllocError>
+    requires { IsFoundIn line.now found.now }
+    ensures { IfOk result (λ key. option_map characters key ≡ outcome_key (given (found_content line.now found.now.content))) }
+{
+    match &found.content {
+        FoundContent::Comment(_) => Ok(None),
+        FoundContent::KVPair(text, _) => Ok(Some(text.copied(alloc, line)?)),
+    }
+}
+
+/// Returns copies of the key and the value, or `None` if the item is a comment.
+pub fn item_pair(
+    alloc: Global,
+    found: &Found,
+    line: &str,
+) -> Result<Option<(String, String)>, AllocError>
+    requires { IsFoundIn line.now found.now }
+    ensures { IfOk result (λ pair. option_map pair_characters pair ≡ outcome_pair (given (found_content line.now found.now.content))) }
+{
+    match &found.content {
+        FoundContent::Comment(_) => Ok(None),
+        FoundContent::KVPair(key, value) => {
+            let key = key.copied(alloc, line)?;
+            Ok(Some((key, value.copied(alloc, line)?)))
         }
     }
 }

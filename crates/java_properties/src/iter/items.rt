@@ -12,10 +12,10 @@ ghost use Rattle.java_properties.specs.GivenItems.{FindsItem, GivesItem, Owns};
 ghost use Rattle.java_properties.specs.Engine.{writing};
 ghost use Rattle.java_properties.specs.Copying.{reading, CopiesNext};
 
-use crate::error::PropertiesError;
+use crate::error::{PropertiesError, make};
 use crate::iter::copy::{CopyError, copy_content, copy_next};
-use crate::iter::found::{Found, find_escaped, find_plain};
-use crate::iter::refs::LineRef;
+use crate::iter::found::{Found, cut_item, find_escaped, find_plain};
+use crate::iter::refs::{LineRef, into_line};
 use crate::line::Line;
 use crate::writer::engine::Engine;
 use counted_io::{CountedRead, CountedWrite};
@@ -72,7 +72,7 @@ impl ItemReader {
                 Ok(None) => {}
                 Err(error) => {
                     self.lines.end();
-                    return Some(Err(PropertiesError::unresolved(number, error)));
+                    return Some(Err(make::unresolved(number, error)));
                 }
             }
         }
@@ -86,7 +86,7 @@ impl ItemReader {
         ensures item { borrowed_entry result ≡ found_entry self.now.line found }
         ensures borrowed { BorrowsPlain (chars self.now.line) result.content }
     {
-        found.cut(self.lines.line())
+        cut_item(found, self.lines.line())
     }
 
     /// Advances to the next item, and writes it if it is a pair. Returns `false` at the end, and at an error, which
@@ -160,7 +160,7 @@ impl ItemReader {
         requires { IsFoundIn self.old.line found }
         ensures { Owns self.old found result self.new }
     {
-        let line = self.get(found).into_line(self.alloc);
+        let line = into_line(self.alloc, self.get(found));
         if line.is_err() {
             self.lines.end()
         }

@@ -6,12 +6,12 @@ ghost use Rattle.std.specs.String.{string_cmp};
 ghost use Rattle.std.specs.BTreeMap.{IsOrdered};
 ghost use Rattle.counted_io.specs.Streams.{IsSameReader};
 ghost use Rattle.properties_text.specs.Encoding.{encoding_of};
-ghost use Rattle.java_properties.specs.Maps.{characters};
+ghost use Rattle.java_properties.specs.Texts.{characters};
 ghost use Rattle.java_properties.specs.KeyLines.{FindsKeys};
 ghost use Rattle.java_properties.specs.LineByLine.{AddsKeyLine, FindsLineKey, KeepsFirst, PushesKey};
 
-use crate::error::PropertiesError;
-use crate::iter::found::find_escaped;
+use crate::error::{PropertiesError, make};
+use crate::iter::found::{find_escaped, item_key};
 use counted_io::CountedRead;
 use properties_lines::joiner::LineJoiner;
 use properties_text::encoding::Encoding;
@@ -95,11 +95,11 @@ fn key_in(alloc: Global, line_number: usize, line: &str) -> Result<Option<String
         Ok(found) => found,
         Err(UnescapeError::Malformed(_)) => return Ok(None),
         Err(UnescapeError::Memory) => {
-            return Err(PropertiesError::unresolved(line_number, UnescapeError::Memory));
+            return Err(make::unresolved(line_number, UnescapeError::Memory));
         }
     };
     match found {
-        Some(found) => Ok(found.key(alloc, line)?),
+        Some(found) => Ok(item_key(alloc, &found, line)?),
         None => Ok(None),
     }
 }

@@ -6,7 +6,7 @@ ghost use Rattle.properties_text.specs.Encoding.{encoding_of};
 ghost use Rattle.java_properties.specs.MalformedEscapes.{FindsMalformed};
 ghost use Rattle.java_properties.specs.LineByLine.{PushesMalformed};
 
-use crate::error::{ErrorKind, PropertiesError};
+use crate::error::{ErrorKind, PropertiesError, make};
 use crate::iter::found::find_escaped;
 use counted_io::CountedRead;
 use properties_lines::join::is_comment_line;
@@ -75,11 +75,11 @@ fn push_malformed(
         return Ok(());
     };
     let UnescapeError::Malformed(malformed) = error else {
-        return Err(PropertiesError::unresolved(line_number, UnescapeError::Memory));
+        return Err(make::unresolved(line_number, UnescapeError::Memory));
     };
     escapes.push(MalformedEscape {
         line_number,
-        kind: ErrorKind::malformed(malformed),
+        kind: make::malformed_kind(malformed),
         in_comment: is_comment_line(line),
     })?;
     Ok(())

@@ -75,19 +75,19 @@ impl<'a> LineRef<'a> {
             Err(error) => Err(error),
         }
     }
+}
 
-    // Converts the line into one with owned texts. Copies only the texts that are borrowed.
-    pub(crate) fn into_line(self, alloc: Global) -> Result<Line, PropertiesError>
-        ensures { IsLineOf self.entry result }
-    {
-        let LineRef {
-            line_number,
-            content,
-        } = self;
-        match content.into_content(alloc) {
-            Ok(content) => Ok(Line::new(line_number, content)),
-            Err(error) => Err(error),
-        }
+/// Converts a borrowed line into one with owned texts. Copies only the texts that are borrowed.
+pub fn into_line(alloc: Global, line: LineRef<'_>) -> Result<Line, PropertiesError>
+    ensures { IsLineOf line.entry result }
+{
+    let LineRef {
+        line_number,
+        content,
+    } = line;
+    match content.into_content(alloc) {
+        Ok(content) => Ok(Line::new(line_number, content)),
+        Err(error) => Err(error),
     }
 }
 

@@ -6,7 +6,8 @@ ghost use Rattle.java_properties.specs.ReadBack.{ReadsBack, WritesOnlyThese};
 ghost use Rattle.java_properties.specs.AsciiOnly.{WritesAscii};
 
 use crate::error::{ErrorKind, PropertiesError};
-use crate::writer::{LineEnding, PropertiesWriter};
+use crate::line::LineEnding;
+use crate::writer::PropertiesWriter;
 use counted_io::CountedWrite;
 use std::alloc::Global;
 

@@ -12,8 +12,9 @@ ghost use Rattle.properties_text.specs.Printing.{AppendsOnOk, is_all_of_windows_
 ghost use Rattle.java_properties.specs.PropertiesWriter.{call_of, WritesLine, Flushes};
 
 use super::settings::Settings;
-use crate::error::PropertiesError;
+use crate::error::{PropertiesError, make};
 use crate::iter::copy::CopyError;
+use crate::line::ending_text;
 use counted_io::{CountedWrite, send};
 use properties_text::encoding::OutputEncoding;
 use properties_text::escape::UnescapeError;
@@ -95,7 +96,7 @@ impl Engine {
         // Built anew, as in `write`: passing the result on would copy the space for its error.
         match self.send_line(sink, number) {
             Ok(()) => Ok(()),
-            Err(fault) => Err(PropertiesError::write_fault(Some(number), fault)),
+            Err(fault) => Err(make::write_fault(Some(number), fault)),
         }
     }
 
@@ -173,12 +174,12 @@ impl Engine {
         ensures { NumbersLine self.now accepted (Err result) }
     {
         if self.failed {
-            return PropertiesError::failed();
+            return make::failed();
         }
         if !accepted {
-            return PropertiesError::empty_key();
+            return make::empty_key();
         }
-        PropertiesError::too_many_lines()
+        make::too_many_lines()
     }
 
     // Keeps why the next line has no number. Kept out of line because it is rare.
@@ -220,7 +221,7 @@ impl Engine {
         ensures same_sink { IsSameSink W.CountedWrite sink.old sink.new }
     {
         if self.failed {
-            return Err(PropertiesError::failed());
+            return Err(make::failed());
         }
         sink.flush_counted()?;
         Ok(())
@@ -271,7 +272,7 @@ impl Engine {
             self.lines == 0,
             pair,
             self.settings.kv_separator().as_bytes(),
-            self.settings.line_ending().as_str().as_bytes(),
+            ending_text(self.settings.line_ending()).as_bytes(),
         )
     }
 
@@ -284,7 +285,7 @@ impl Engine {
     {
         self.line.clear();
         self.print_content(content)?;
-        print_raw(&mut self.line, self.settings.line_ending().as_str())
+        print_raw(&mut self.line, ending_text(self.settings.line_ending()))
     }
 
     #[inline(always)]
@@ -341,5 +342,5 @@ impl Engine {
 fn keep_fault(number: usize, fault: Option<io::Error>, error: &mut Option<CopyError>)
     ensures { KeepsFault number fault error.new }
 {
-    *error = Some(CopyError::Write(PropertiesError::write_fault(Some(number), fault)));
+    *error = Some(CopyError::Write(make::write_fault(Some(number), fault)));
 }

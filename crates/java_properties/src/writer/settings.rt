@@ -2,55 +2,18 @@
 
 ghost use Rattle.std.specs.Prelude.{◌≡◌, ◌&&◌, not, true};
 ghost use Rattle.std.specs.Str.{chars};
-ghost use Rattle.properties_format.specs.Text.{line_ending_text, is_blanks};
+ghost use Rattle.properties_format.specs.Text.{is_blanks};
 ghost use Rattle.properties_format.specs.Settings.{default_settings};
 ghost use Rattle.properties_format.specs.Reading.Settings.{is_good_prefix, is_good_separator};
 ghost use Rattle.properties_format.specs.Writing.{is_empty, AreGoodSettings};
-ghost use Rattle.java_properties.specs.Settings.{ending_of, with_ending, with_ascii_only, TakesPrefix, TakesSeparator};
+ghost use Rattle.java_properties.specs.Settings.{with_ending, with_ascii_only, TakesPrefix, TakesSeparator};
+ghost use Rattle.java_properties.specs.LineEndings.{ending_of};
 
-use crate::error::PropertiesError;
+use crate::error::{PropertiesError, make};
+use crate::line::LineEnding;
 use properties_text::characters::{is_blank, is_comment_sign, is_line_end, is_separator};
 use std::alloc::Global;
-use std::fmt;
 use std::marker::Model;
-
-/// The ending of each line that is written.
-#[derive(Clone, Copy, Debug, PartialEq, Eq, PartialOrd, Ord, Hash)]
-pub enum LineEnding {
-    /// A carriage return.
-    CR,
-    /// A line feed.
-    LF,
-    /// A carriage return and a line feed.
-    CRLF,
-}
-
-impl LineEnding {
-    pub(crate) fn as_str(self) -> &'static str
-        ensures { chars result.now ≡ line_ending_text (ending_of self) }
-    {
-        match self {
-            LineEnding::CR => "\r",
-            LineEnding::LF => "\n",
-            LineEnding::CRLF => "\r\n",
-        }
-    }
-}
-
-impl fmt::Display for LineEnding {
-    ghost use Rattle.std.specs.Prelude.{Some};
-    ghost use Rattle.java_properties.specs.DisplayTexts.{line_ending_display};
-
-    ghost output = { λ ending. Some (line_ending_display ending) };
-
-    fn fmt<W: fmt::Write>(&self, f: &mut fmt::Formatter<W>) -> fmt::Result {
-        f.write_str(match self {
-            LineEnding::CR => "LineEnding::CR",
-            LineEnding::LF => "LineEnding::LF",
-            LineEnding::CRLF => "LineEnding::CRLF",
-        })
-    }
-}
 
 /// The comment prefix, the separator between keys and values, the line ending, and whether every character past U+007F
 /// is escaped. A text that is `None` has the default of a new writer.
@@ -135,7 +98,7 @@ impl Settings {
     {
         let copy = String::from_str(self.alloc, prefix)?;
         if !is_good_prefix(prefix) {
-            return Err(PropertiesError::bad_comment_prefix(copy));
+            return Err(make::bad_comment_prefix(copy));
         }
         self.comment_prefix = Some(copy);
         Ok(())
@@ -148,7 +111,7 @@ impl Settings {
     {
         let copy = String::from_str(self.alloc, separator)?;
         if !is_good_separator(separator) {
-            return Err(PropertiesError::bad_kv_separator(copy));
+            return Err(make::bad_kv_separator(copy));
         }
         self.kv_separator = Some(copy);
         self.separator_is_blank = are_blanks(separator);

@@ -6,7 +6,8 @@ use Rattle.properties_format.specs.Reading.Edited.{key_set}
 use Rattle.properties_format.proofs.Edited.Results.{set_key_result-meets}
 use Rattle.properties_format.proofs.Laws.{splitting-commutes}
 use Rattle.properties_text.specs.Encoding.{encoding_of}
-use Rattle.java_properties.proofs.Editing.{refusal, span-within, set-edits, replaced-result, appended-result, chars-scalars}
+use Rattle.java_properties.proofs.Editing.{refusal, span-within, set-edits, replaced-result, appended-result}
+use Rattle.java_properties.proofs.Scalars.{chars-scalars}
 use Rattle.java_properties.proofs.edit.set_key.Goals as goal
 use Rattle.java_properties.proofs.edit.set_key.Goals.{in-Some+in_ok-bytes-in-Some, in-None+in_ok-bytes-in-None}
 

@@ -6,7 +6,8 @@ use Rattle.properties_format.specs.Reading.Valued.{value_set}
 use Rattle.properties_format.proofs.Valued.Made.{set_value_result-meets}
 use Rattle.properties_format.proofs.Laws.{splitting-commutes}
 use Rattle.properties_text.specs.Encoding.{encoding_of}
-use Rattle.java_properties.proofs.Editing.{refusal, span-within, chars-scalars}
+use Rattle.java_properties.proofs.Editing.{refusal, span-within}
+use Rattle.java_properties.proofs.Scalars.{chars-scalars}
 use Rattle.java_properties.proofs.SetValues.{value-edits, revalued-result, new_pair-result, found-alone}
 use Rattle.java_properties.proofs.edit.set_value.Goals as goal
 use Rattle.java_properties.proofs.edit.set_value.Goals.{in-Some+in_ok-bytes-in-Some, in-None+in_ok-layout-in-None+in_ok-bytes-in-None}

@@ -8,8 +8,8 @@ use Rattle.properties_format.specs.Edited.{pair_bytes}
 use Rattle.properties_format.specs.Reading.Lines.{ends_in_cr}
 use Rattle.properties_format.specs.Writing.{is_empty}
 use Rattle.properties_text.specs.Encoding.{encoding_of}
-use Rattle.java_properties.specs.Settings.{ending_of}
-use Rattle.java_properties.proofs.Editing.{chars-scalars}
+use Rattle.java_properties.specs.LineEndings.{ending_of}
+use Rattle.java_properties.proofs.Scalars.{chars-scalars}
 use Rattle.java_properties.proofs.IndexAdded.{adds-key, key-added}
 use Rattle.java_properties.proofs.edit.index.add_key.Goals as goal
 

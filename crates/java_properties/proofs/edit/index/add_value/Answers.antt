@@ -6,10 +6,10 @@ use Rattle.properties_format.specs.Encoding.{output_encoding}
 use Rattle.properties_format.specs.Writing.{is_empty}
 use Rattle.properties_text.specs.Encoding.{encoding_of}
 use Rattle.java_properties.specs.BodyValues.{IsLastPair, unended_pair}
-use Rattle.java_properties.specs.Maps.{characters}
-use Rattle.java_properties.specs.Settings.{ending_of}
+use Rattle.java_properties.specs.Texts.{characters}
+use Rattle.java_properties.specs.LineEndings.{ending_of}
 use Rattle.java_properties.proofs.BodyKeys.{editable-bytes}
-use Rattle.java_properties.proofs.Editing.{chars-scalars}
+use Rattle.java_properties.proofs.Scalars.{chars-scalars}
 use Rattle.properties_format.specs.Reading.Body.{held_groups_of}
 use Rattle.java_properties.proofs.IndexFound.{found-last}
 use Rattle.java_properties.proofs.IndexAdded.{adds-value, pair-added}

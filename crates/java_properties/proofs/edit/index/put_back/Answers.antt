@@ -1,7 +1,7 @@
 use Rattle.std.proofs.Common.{◌≡◌, ◌==◌, ◌+◌, ◌-◌, length, ◌∙◌, arith}
 use Rattle.std.specs.Str.{chars}
 use Rattle.java_properties.specs.BodyIndex.{FollowsPair}
-use Rattle.java_properties.specs.Maps.{characters}
+use Rattle.java_properties.specs.Texts.{characters}
 use Rattle.java_properties.proofs.edit.index.put_back.Goals as goal
 
 pub overflow_add-is_last : goal.overflow_add-is_last

@@ -4,8 +4,8 @@ use Rattle.std.proofs.lemmas.Result.{err_from_is_err_and}
 use Rattle.properties_format.specs.Reading.Body.{held_groups_of}
 use Rattle.properties_text.specs.Encoding.{encoding_of}
 use Rattle.java_properties.specs.BodyIndex.{FollowsPair, IsPairPut}
-use Rattle.java_properties.specs.Maps.{characters}
-use Rattle.java_properties.proofs.Editing.{chars-scalars}
+use Rattle.java_properties.specs.Texts.{characters}
+use Rattle.java_properties.proofs.Scalars.{chars-scalars}
 use Rattle.java_properties.proofs.IndexEdits.{keeps-nothing, pair-within, put-size, reput-index}
 use Rattle.java_properties.proofs.edit.index.reput.Goals as goal
 

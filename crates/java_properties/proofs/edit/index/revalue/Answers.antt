@@ -7,7 +7,7 @@ use Rattle.java_properties.specs.BodyIndex.{FollowsPair}
 use Rattle.java_properties.specs.BodyValues.{IsNewValue, revalued_in}
 use Rattle.java_properties.proofs.BodyKeys.{editable-bytes}
 use Rattle.java_properties.proofs.BodyValues.{revalued-made}
-use Rattle.java_properties.proofs.Editing.{chars-scalars}
+use Rattle.java_properties.proofs.Scalars.{chars-scalars}
 use Rattle.java_properties.proofs.IndexEdits.{keeps-nothing, pair-within, pair-alone, revalued-index, same-value, value-size}
 use Rattle.java_properties.proofs.edit.index.revalue.Goals as goal
 

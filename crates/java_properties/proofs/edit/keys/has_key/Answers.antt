@@ -2,11 +2,11 @@ use Rattle.std.proofs.Common.{ap, sym, ◌∙◌, subst}
 use Rattle.std.specs.Str.{chars}
 use Rattle.properties_format.specs.Reading.Body.{is_pair_with}
 use Rattle.properties_format.specs.Reading.Edited.{IsSound}
-use Rattle.java_properties.proofs.Items.{found-item}
+use Rattle.java_properties.proofs.FoundItems.{found-item}
 use Rattle.java_properties.proofs.edit.keys.has_key.Goals as goal
 
 pub returns-in-Some : goal.returns-in-Some
 returns-in-Some c =
     let found = rw c.in-Some.is at c.in_ok-found.ensures in
     let item = found-item c.args.line.now c.in-Some.found found in
-    (subst IsSound (sym item) tt, c.has_key.ensures ∙ ap (is_pair_with (chars c.args.key.now)) (sym item))
+    (subst IsSound (sym item) tt, c.item_has_key.ensures ∙ ap (is_pair_with (chars c.args.key.now)) (sym item))

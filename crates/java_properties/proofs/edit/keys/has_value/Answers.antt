@@ -2,11 +2,11 @@ use Rattle.std.proofs.Common.{ap, sym, ◌∙◌, subst}
 use Rattle.std.specs.Str.{chars}
 use Rattle.properties_format.specs.Reading.Valued.{is_pair_to}
 use Rattle.properties_format.specs.Reading.Edited.{IsSound}
-use Rattle.java_properties.proofs.Items.{found-item}
+use Rattle.java_properties.proofs.FoundItems.{found-item}
 use Rattle.java_properties.proofs.edit.keys.has_value.Goals as goal
 
 pub returns-in-Some : goal.returns-in-Some
 returns-in-Some c =
     let found = rw c.in-Some.is at c.in_ok-found.ensures in
     let item = found-item c.args.line.now c.in-Some.found found in
-    (subst IsSound (sym item) tt, c.has_value.ensures ∙ ap (is_pair_to (chars c.args.value.now)) (sym item))
+    (subst IsSound (sym item) tt, c.item_has_value.ensures ∙ ap (is_pair_to (chars c.args.value.now)) (sym item))

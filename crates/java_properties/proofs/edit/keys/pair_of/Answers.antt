@@ -1,11 +1,11 @@
 use Rattle.std.proofs.Common.{ap, sym, ◌∙◌, subst}
 use Rattle.properties_format.specs.Reading.Edited.{IsSound}
-use Rattle.java_properties.specs.BodyIndex.{outcome_pair}
-use Rattle.java_properties.proofs.Items.{found-item}
+use Rattle.java_properties.specs.FoundItems.{outcome_pair}
+use Rattle.java_properties.proofs.FoundItems.{found-item}
 use Rattle.java_properties.proofs.edit.keys.pair_of.Goals as goal
 
-pub returns-in_ok-pair-in-Some : goal.returns-in_ok-pair-in-Some
-returns-in_ok-pair-in-Some c =
+pub returns-in_ok-item_pair-in-Some : goal.returns-in_ok-item_pair-in-Some
+returns-in_ok-item_pair-in-Some c =
     let found = rw c.in-Some.is at c.in_ok-found.ensures in
     let item = found-item c.args.line.now c.in-Some.found found in
-    (subst IsSound (sym item) tt, c.in_ok-pair-in-Some.ensures ∙ ap outcome_pair (sym item))
+    (subst IsSound (sym item) tt, c.in_ok-item_pair-in-Some.ensures ∙ ap outcome_pair (sym item))

@@ -1,7 +1,7 @@
 use Rattle.std.proofs.Common.{refl}
 use Rattle.std.specs.Str.{chars}
 use Rattle.properties_text.specs.Encoding.{encoding_of}
-use Rattle.java_properties.specs.Maps.{characters}
+use Rattle.java_properties.specs.Texts.{characters}
 use Rattle.java_properties.proofs.LastPairs.{separator-good}
 use Rattle.java_properties.proofs.edit.new_pair.layout_after.Goals as goal
 

@@ -4,7 +4,7 @@ use Rattle.std.proofs.lemmas.Result.{on_ok_weaker}
 use Rattle.properties_format.specs.Printing.{printed_key}
 use Rattle.properties_format.specs.Encoding.{output_encoding}
 use Rattle.properties_text.specs.Encoding.{encoding_of}
-use Rattle.java_properties.proofs.Engine.{separator-bytes}
+use Rattle.java_properties.proofs.RawTexts.{separator-bytes}
 use Rattle.java_properties.proofs.NewPairs.{new_pair-unended}
 use Rattle.java_properties.proofs.edit.new_pair.print_new_pair.Goals as goal
 

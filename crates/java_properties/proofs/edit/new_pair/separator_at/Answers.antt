@@ -7,7 +7,7 @@ use Rattle.properties_format.specs.Valued.{separator_after}
 use Rattle.properties_format.specs.Reading.Body.{held_groups_of}
 use Rattle.properties_format.specs.Reading.Valued.{last_between}
 use Rattle.properties_text.specs.Encoding.{encoding_of}
-use Rattle.java_properties.specs.Maps.{characters}
+use Rattle.java_properties.specs.Texts.{characters}
 use Rattle.java_properties.proofs.BodyKeys.{editable-bytes}
 use Rattle.java_properties.proofs.LastPairs.{last-alone, last-part, separator-none, separator-found}
 use Rattle.java_properties.proofs.NewPairs.{equals-text}

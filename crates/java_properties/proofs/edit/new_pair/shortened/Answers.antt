@@ -5,7 +5,7 @@ use Rattle.std.proofs.lemmas.Iterator.Consumers.{YieldsList-end}
 use Rattle.std.proofs.lemmas.Str.{chars-nil}
 use Rattle.std.specs.Str.{chars}
 use Rattle.properties_format.specs.Valued.{shortened_after}
-use Rattle.java_properties.specs.Maps.{characters}
+use Rattle.java_properties.specs.Texts.{characters}
 use Rattle.java_properties.proofs.NewPairs.{shortened-more}
 use Rattle.java_properties.proofs.edit.new_pair.shortened.Goals as goal
 

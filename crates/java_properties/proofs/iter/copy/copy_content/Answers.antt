@@ -5,7 +5,7 @@ use Rattle.properties_format.specs.Entries.{pair}
 use Rattle.java_properties.specs.Engine.{writing}
 use Rattle.java_properties.specs.BorrowedItems.{borrowed_content}
 use Rattle.java_properties.proofs.CopiedLines.{pair-copies}
-use Rattle.java_properties.proofs.Editing.{chars-scalars}
+use Rattle.java_properties.proofs.Scalars.{chars-scalars}
 use Rattle.java_properties.proofs.iter.copy.copy_content.Goals as goal
 
 pub returns-in-KVPair-clause-copies : goal.returns-in-KVPair-clause-copies

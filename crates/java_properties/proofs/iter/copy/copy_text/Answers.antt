@@ -4,7 +4,7 @@ use Rattle.properties_format.specs.Entries.{Entry, Content, item, malformed, rea
 use Rattle.properties_format.specs.Items.{given}
 use Rattle.properties_format.specs.Reading.Items.{outcome_of}
 use Rattle.java_properties.specs.BorrowedItems.{borrowed_content, found_content}
-use Rattle.java_properties.proofs.Items.{found-item}
+use Rattle.java_properties.proofs.FoundItems.{found-item}
 use Rattle.java_properties.proofs.iter.copy.copy_text.Given.{Over}
 use Rattle.java_properties.proofs.iter.copy.copy_text.Goals as goal
 use Rattle.java_properties.proofs.iter.copy.copy_text.Goals.{After-content}
@@ -19,7 +19,7 @@ given-content : (g : Over) (c : After-content g) → outcome_of (chars c.args.li
 given-content g c =
     let found = c.in-Ok-Some.found in
     let finds = rw c.in-Ok-Some.field-0-is at c.in-Ok-Some.ensures in
-    let same = ap borrowed_content c.content.ensures ∙ ap content_in c.cut.ensures.item ∙ ap (λ v. found_content v found.content) c.line.ensures in
+    let same = ap borrowed_content c.content.ensures ∙ ap content_in c.cut_item.ensures.item ∙ ap (λ v. found_content v found.content) c.line.ensures in
     found-item c.args.lines.now.at.line found finds.1 ∙ ap given (sym same)
 
 pub returns-then-copy_content-clause-copies : goal.returns-then-copy_content-clause-copies

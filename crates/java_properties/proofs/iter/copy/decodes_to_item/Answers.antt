@@ -6,7 +6,7 @@ use Rattle.properties_text.specs.Decoding.{text_of}
 use Rattle.properties_text.specs.declared.encoding.Encoding.TheVariants.{WINDOWS_1252}
 use Rattle.java_properties.specs.CopiedLines.{FindsAny}
 use Rattle.java_properties.specs.Errors.{IsUnresolvedError}
-use Rattle.java_properties.specs.GivenItems.{IsNoItem}
+use Rattle.java_properties.specs.FoundItems.{IsNoItem}
 use Rattle.java_properties.specs.declared.error.PropertiesError.{PropertiesError}
 use Rattle.java_properties.proofs.CopiedLines.{found-any}
 use Rattle.java_properties.proofs.iter.copy.decodes_to_item.Goals as goal

@@ -1,4 +1,4 @@
-use Rattle.java_properties.proofs.Items.{comment-no_item, key-no_item, unresolved}
+use Rattle.java_properties.proofs.FoundItems.{comment-no_item, key-no_item, unresolved}
 use Rattle.java_properties.proofs.BorrowedItems.{value-breaks}
 use Rattle.java_properties.proofs.iter.found.find_content.Goals as goal
 

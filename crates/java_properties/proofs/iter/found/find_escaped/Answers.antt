@@ -1,4 +1,4 @@
-use Rattle.java_properties.proofs.Items.{blank-item}
+use Rattle.java_properties.proofs.FoundItems.{blank-item}
 use Rattle.java_properties.proofs.iter.found.find_escaped.Goals as goal
 
 pub returns-in_default : goal.returns-in_default

@@ -2,7 +2,7 @@ use Rattle.std.proofs.Common.{refl, subst, sym, ap, ◌∙◌}
 use Rattle.java_properties.specs.BorrowedItems.{IsFoundIn}
 use Rattle.java_properties.specs.declared.iter.found.FoundContent.{FoundContent}
 use Rattle.java_properties.specs.declared.iter.found.FoundContent.TheVariants as found
-use Rattle.java_properties.proofs.Items.{blank-item, empty-item}
+use Rattle.java_properties.proofs.FoundItems.{blank-item, empty-item}
 use Rattle.java_properties.proofs.BorrowedItems.{plain-comment, plain-pair}
 use Rattle.java_properties.proofs.iter.found.find_plain.Goals as goal
 use Rattle.java_properties.proofs.iter.found.find_plain.Goals.{in-Comment, in-KVPair}

@@ -1,7 +1,7 @@
 use Rattle.std.proofs.Common.{◌∙◌, ◌++◌, ◌∷◌, [], ap₂, subst}
 use Rattle.std.specs.Prelude.{Err}
 use Rattle.properties_text.specs.declared.escape.UnescapeError.{UnescapeError}
-use Rattle.java_properties.specs.GivenItems.{FindsIn}
+use Rattle.java_properties.specs.FoundItems.{FindsIn}
 use Rattle.java_properties.proofs.MalformedEscapes.{pushes-none, pushes-one}
 use Rattle.java_properties.proofs.iter.malformed.push_malformed.Goals as goal
 
@@ -13,4 +13,4 @@ returns c =
     let P : UnescapeError → Type 0 = λ v. FindsIn c.args.line.now c.args.line_number (Err v) in
     pushes-one c.args.line.now c.args.line_number c.in-Malformed.malformed c.args.escapes.now c.push.new.self (subst P c.in-Malformed.is c.in-Err.ensures)
     (c.in_ok-push.ensures.items
-    ∙ ap₂ (λ v w. c.args.escapes.now.items ++ record { line_number = c.args.line_number; kind = v; in_comment = w } ∷ []) c.malformed.ensures c.is_comment_line.ensures)
+    ∙ ap₂ (λ v w. c.args.escapes.now.items ++ record { line_number = c.args.line_number; kind = v; in_comment = w } ∷ []) c.malformed_kind.ensures c.is_comment_line.ensures)

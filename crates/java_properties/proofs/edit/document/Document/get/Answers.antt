@@ -2,7 +2,7 @@ use Rattle.std.proofs.Common.{sym, ap, ◌∙◌}
 use Rattle.std.specs.Prelude.{Some, None}
 use Rattle.std.specs.Option.{option_map}
 use Rattle.std.specs.Str.{chars}
-use Rattle.java_properties.specs.Maps.{characters}
+use Rattle.java_properties.specs.Texts.{characters}
 use Rattle.java_properties.proofs.BodyDocuments.{has-value}
 use Rattle.java_properties.proofs.TextMaps.Values.{at_chars-sorted}
 use Rattle.java_properties.proofs.edit.document.Document.get.Goals as goal

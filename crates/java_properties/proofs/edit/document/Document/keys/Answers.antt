@@ -8,7 +8,7 @@ use Rattle.properties_text.specs.Encoding.{encoding_of}
 use Rattle.java_properties.specs.BodyIndex.{stored_at}
 use Rattle.java_properties.specs.Documents.{characters_of}
 use Rattle.java_properties.specs.KeyLines.{AreKeyLines, key_line_entries}
-use Rattle.java_properties.specs.Maps.{characters}
+use Rattle.java_properties.specs.Texts.{characters}
 use Rattle.java_properties.proofs.DocumentCalls.{first-stored, found-key, keys-told, slice-keys}
 use Rattle.java_properties.proofs.DocumentKeys.{first-more, first_keys, if_first}
 use Rattle.java_properties.proofs.TextMaps.Values.{at_chars-sorted}

@@ -3,7 +3,7 @@ use Rattle.std.specs.BTreeMap.{IsOrdered}
 use Rattle.std.specs.Str.{chars}
 use Rattle.std.specs.String.{string_cmp}
 use Rattle.java_properties.specs.BodyIndex.{places_of, stored_at, stored_value}
-use Rattle.java_properties.specs.Maps.{characters}
+use Rattle.java_properties.specs.Texts.{characters}
 use Rattle.java_properties.specs.declared.edit.index.IndexedPair.{IndexedPair}
 use Rattle.java_properties.proofs.IndexStored.{missing-values, written-places, written-values}
 use Rattle.java_properties.proofs.TextMaps.Values.{at_chars-sorted}

@@ -6,7 +6,7 @@ use Rattle.std.proofs.Math.ListN.{set}
 use Rattle.std.proofs.lemmas.Str.{IsUtf8-string_bytes}
 use Rattle.properties_text.proofs.TextFronts.{at-error}
 use Rattle.java_properties.specs.BodyIndex.{places_of, stored_at}
-use Rattle.java_properties.specs.Maps.{characters}
+use Rattle.java_properties.specs.Texts.{characters}
 use Rattle.java_properties.specs.declared.edit.index.IndexedPair.{IndexedPair}
 use Rattle.java_properties.specs.declared.edit.place.BodySpan.{BodySpan}
 use Rattle.java_properties.proofs.IndexParsed.{none-removed, put-after}

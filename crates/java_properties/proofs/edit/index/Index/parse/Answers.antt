@@ -4,7 +4,7 @@ use Rattle.std.specs.Option.{option_map}
 use Rattle.properties_text.specs.Encoding.{encoding_of}
 use Rattle.properties_lines.specs.LineSearch.{unit_size}
 use Rattle.java_properties.specs.BodyGroups.{IsWithin}
-use Rattle.java_properties.specs.BodyIndex.{pair_characters}
+use Rattle.java_properties.specs.FoundItems.{pair_characters}
 use Rattle.java_properties.specs.declared.edit.index.Index.{Index}
 use Rattle.java_properties.specs.declared.edit.place.Closing.TheVariants.{Nothing}
 use Rattle.java_properties.proofs.BodyKeys.{read-fault}

@@ -1,7 +1,8 @@
 use Rattle.std.proofs.Common.{ap, ◌∙◌}
 use Rattle.properties_format.specs.Text.{line_ending_text}
 use Rattle.properties_text.specs.Encoding.{output_of}
-use Rattle.java_properties.proofs.Engine.{line_ending-bytes, separator-bytes, undecoded-built}
+use Rattle.java_properties.proofs.Engine.{undecoded-built}
+use Rattle.java_properties.proofs.RawTexts.{line_ending-bytes, separator-bytes}
 use Rattle.java_properties.proofs.writer.engine.Engine.build_undecoded.Goals as goal
 
 pub returns-clause-printed : goal.returns-clause-printed
@@ -9,8 +10,8 @@ returns-clause-printed c =
     let engine = c.args.self.now in
     let separator = c.kv_separator in
     let raw = separator-bytes (output_of engine.encoding) separator.result.now _ separator.utf8 separator.ensures.value separator.ensures.good in
-    let text = c.as_str.ensures ∙ ap line_ending_text c.line_ending.ensures in
-    let ending = line_ending-bytes (output_of engine.encoding) c.as_str.result.now engine.settings.line_ending c.as_str.utf8 text in
+    let text = c.ending_text.ensures ∙ ap line_ending_text c.line_ending.ensures in
+    let ending = line_ending-bytes (output_of engine.encoding) c.ending_text.result.now engine.settings.line_ending c.ending_text.utf8 text in
     let printed = rw c.repertoire-repertoire.ensures at c.print_undecoded_pair.ensures.printed in
     undecoded-built engine c.args.pair c.clear.new.self _ _ c.print_undecoded_pair.new.line c.clear.ensures
     (c.as_bytes.ensures.value ∙ raw) (c.as_bytes-2.ensures.value ∙ ending) c.print_undecoded_pair.result printed

@@ -1,7 +1,8 @@
 use Rattle.std.specs.Str.{chars}
 use Rattle.std.proofs.lemmas.Result.{on_ok_weaker}
 use Rattle.properties_text.specs.Encoding.{output_of}
-use Rattle.java_properties.proofs.Engine.{separator-bytes, pair-printed}
+use Rattle.java_properties.proofs.Engine.{pair-printed}
+use Rattle.java_properties.proofs.RawTexts.{separator-bytes}
 use Rattle.java_properties.proofs.writer.engine.Engine.print_pair.Goals as goal
 
 pub returns-clause-printed : goal.returns-clause-printed

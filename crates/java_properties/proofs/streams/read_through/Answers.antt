@@ -3,10 +3,10 @@ use Rattle.std.proofs.lemmas.Result.{err_from_is_err_and}
 use Rattle.counted_io.specs.Streams.{reader}
 use Rattle.properties_text.specs.Encoding.{encoding_of}
 use Rattle.java_properties.specs.WholeSources.{FailsInRead}
-use Rattle.java_properties.specs.declared.edit.streams.Broken.{Broken}
+use Rattle.java_properties.specs.declared.streams.Broken.{Broken}
 use Rattle.java_properties.specs.declared.error.PropertiesError.{PropertiesError}
 use Rattle.java_properties.proofs.WholeSources.{read-on, fails-here, fails-in-read}
-use Rattle.java_properties.proofs.edit.streams.read_through.Goals as goal
+use Rattle.java_properties.proofs.streams.read_through.Goals as goal
 
 pub returns-in_err-extend_from_slice-in-Ok-clause-reads : goal.returns-in_err-extend_from_slice-in-Ok-clause-reads
 returns-in_err-extend_from_slice-in-Ok-clause-reads g c =

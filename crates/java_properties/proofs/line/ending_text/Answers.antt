@@ -1,8 +1,8 @@
 use Rattle.std.proofs.Common.{ap, sym}
 use Rattle.std.specs.Str.{chars}
 use Rattle.properties_format.specs.Text.{line_ending_text}
-use Rattle.java_properties.specs.Settings.{ending_of}
-use Rattle.java_properties.proofs.writer.settings.LineEnding.as_str.Goals as goal
+use Rattle.java_properties.specs.LineEndings.{ending_of}
+use Rattle.java_properties.proofs.line.ending_text.Goals as goal
 
 pub returns-in-CR : goal.returns-in-CR
 unfolding chars

@@ -1,6 +1,6 @@
 use Rattle.properties_format.proofs.Valued.Laws.{setting-own_value, setting-value_twice, setting-value_again, setting-value_gives}
 use Rattle.properties_format.proofs.EditLaws.{removing-no_pair, setting-twice, setting-gives, removing-takes, no_edits-nothing, one_edit-call, lists-follow}
-use Rattle.java_properties.proofs.laws.editing.Goals as goal
+use Rattle.java_properties.proofs.edit.laws.editing.Goals as goal
 
 pub returns-clause-absent : goal.returns-clause-absent
 returns-clause-absent c = removing-no_pair

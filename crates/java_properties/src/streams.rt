@@ -8,7 +8,7 @@ ghost use Rattle.counted_io.specs.Streams.{IsSameReader, IsSameSink};
 ghost use Rattle.properties_text.specs.Encoding.{encoding_of};
 ghost use Rattle.java_properties.specs.WholeSources.{ReadsAllItems, ReadsSource, WritesSource};
 
-use crate::error::PropertiesError;
+use crate::error::{PropertiesError, make};
 use crate::iter::items::ItemReader;
 use counted_io::{CountedRead, CountedWrite, send};
 use properties_text::encoding::Encoding;
@@ -69,7 +69,7 @@ fn read_through<R: CountedRead>(
                 };
                 return match read_all_items(alloc, &mut broken, encoding) {
                     Ok(()) => unreachable!(),
-                    Err(error) => Err(error.caused_by(fault)),
+                    Err(error) => Err(make::caused_by(error, fault)),
                 };
             }
         }
@@ -144,7 +144,7 @@ pub fn write_source<W: CountedWrite>(writer: &mut W, bytes: &[u8]) -> Result<(),
     ensures same_sink { IsSameSink W.CountedWrite writer.old writer.new }
 {
     if let Err(fault) = send(writer, bytes) {
-        return Err(PropertiesError::write_fault(None, fault));
+        return Err(make::write_fault(None, fault));
     }
     writer.flush_counted()?;
     Ok(())

@@ -1,6 +1,6 @@
 use Rattle.std.proofs.Common.{◌<◌, ◌-◌, ◌^◌, length}
 use Rattle.counted_io.specs.Streams.{HasRead, IsSameReader, reader}
-use Rattle.java_properties.proofs.edit.streams.read_through.Given as goal
+use Rattle.java_properties.proofs.streams.read_through.Given as goal
 
 abbrev pub invariant-loop-bytes : goal.invariant-loop-bytes
 invariant-loop-bytes g l = record {
