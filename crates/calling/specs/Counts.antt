@@ -5,7 +5,7 @@ use Rattle.properties_format.specs.Encoding.{Encoding}
 use Rattle.properties_format.specs.Items.{IsItems}
 use Rattle.properties_format.specs.Lines.{end}
 use Rattle.java_properties.specs.ReadLines.{entries_in}
-use Rattle.java_properties.specs.declared.line.Line.{Line}
+use Rattle.properties_items.specs.declared.line.Line.{Line}
 
 -- The reader was read to its end without a fault, and the bytes that it gave have so many items, and no malformed one.
 pub record CountsItems {R : Type 0} (reader : Reader R) (e : Encoding) (from : R) (count : ℕ) (to : R) : Type 0 where

@@ -9,7 +9,7 @@ ghost use Rattle.properties_text.specs.Encoding.{encoding_of};
 ghost use Rattle.java_properties.specs.Errors.{IsBareError};
 ghost use Rattle.java_properties.specs.Maps.{ReadsValue, characters, value_at};
 ghost use Rattle.java_properties.specs.ReadLines.{StopsReading};
-ghost use Rattle.java_properties.specs.declared.error.ErrorKind.TheVariants.{Memory};
+ghost use Rattle.properties_items.specs.declared.error.ErrorKind.TheVariants.{Memory};
 ghost use Rattle.calling.specs.Lookups.{borrowed_characters};
 
 use counted_io::CountedRead;

@@ -13,7 +13,7 @@ use Rattle.java_properties.specs.PropertiesWriter.{Writing, WritesLine, Flushes,
 use Rattle.java_properties.specs.Calls.{HasMade, Fails, RunsCalls}
 use Rattle.java_properties.specs.ReadBack.{IsGoodWriter}
 use Rattle.java_properties.specs.AsciiOnly.{HasWrittenAscii, TakesAscii, WritesAscii}
-use Rattle.java_properties.specs.declared.error.PropertiesError.{PropertiesError}
+use Rattle.properties_items.specs.declared.error.PropertiesError.{PropertiesError}
 
 module _ {W : Type 0} {sink : Sink W} {old new : Writing W} where
   -- calls that were made

@@ -7,7 +7,7 @@ use Rattle.java_properties.specs.declared.writer.calls.Call.TheVariants as call
 use Rattle.java_properties.specs.contracts.writer.calls.CallPartialEq.TheImpl as call_eq
 use Rattle.java_properties.specs.contracts.writer.calls.CallClone.TheImpl as call_clone
 use Rattle.java_properties.specs.Calls.{IsSameCall}
-use Rattle.java_properties.proofs.Comparisons.{both-tests, ending-eq}
+use Rattle.properties_items.proofs.Comparisons.{both-tests, ending-eq}
 
 -- `==` of two calls
 pub call-eq : (x y : Call) → IsTrue ((call_eq.ghosts).eq x y) ↔ IsSameCall x y

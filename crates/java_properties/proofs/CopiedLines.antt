@@ -33,15 +33,15 @@ use Rattle.properties_lines.specs.LineJoiner.{Joining}
 use Rattle.java_properties.specs.Copying.{HasScalars}
 use Rattle.java_properties.specs.CopiedLines.{Refuses, FindsAny, CopiesContent, CopiesLine}
 use Rattle.java_properties.specs.Engine.{WritesPair}
-use Rattle.java_properties.specs.Errors.{IsUnresolvedError}
-use Rattle.java_properties.specs.FoundItems.{FindsIn, IsNoItem}
-use Rattle.java_properties.specs.BorrowedItems.{found_content}
+use Rattle.properties_items.specs.Errors.{IsUnresolvedError}
+use Rattle.properties_items.specs.FoundItems.{FindsIn, IsNoItem}
+use Rattle.properties_items.specs.BorrowedItems.{found_content}
 use Rattle.java_properties.specs.PropertiesWriter.{Writing}
-use Rattle.java_properties.specs.declared.error.PropertiesError.{PropertiesError}
+use Rattle.properties_items.specs.declared.error.PropertiesError.{PropertiesError}
 use Rattle.java_properties.specs.declared.iter.copy.Copied.{Copied}
 use Rattle.java_properties.specs.declared.iter.copy.CopyError.{CopyError}
-use Rattle.java_properties.specs.declared.iter.found.Found.{Found}
-use Rattle.java_properties.proofs.FoundItems.{blank-item, comment-item, found-item}
+use Rattle.properties_items.specs.declared.found.Found.{Found}
+use Rattle.properties_items.proofs.FoundItems.{blank-item, comment-item, found-item}
 
 -- the text of a line of windows-1252
 abbrev pub text_in : List ℕ → List ℕ

@@ -9,10 +9,10 @@ use Rattle.properties_format.specs.Writing.{is_accepted}
 use Rattle.properties_format.specs.Printing.{encoded_text, printed_characters, printed_key, in_prefix, in_comment, in_key_or_value}
 use Rattle.properties_format.proofs.Printing.Characters.{printed-comment, printed-pair}
 use Rattle.properties_text.specs.Encoding.{output_of}
-use Rattle.java_properties.specs.Errors.{IsError, IsBareError, cause_of_write}
+use Rattle.properties_items.specs.Errors.{IsError, IsBareError, cause_of_write}
 use Rattle.java_properties.specs.PropertiesWriter.{Writing, call_of, TakesLine, HasWrittenLine, RefusesLine, FailsInLine}
-use Rattle.java_properties.specs.declared.error.ErrorKind.TheVariants.{Io}
-use Rattle.java_properties.specs.declared.error.PropertiesError.{PropertiesError}
+use Rattle.properties_items.specs.declared.error.ErrorKind.TheVariants.{Io}
+use Rattle.properties_items.specs.declared.error.PropertiesError.{PropertiesError}
 use Rattle.java_properties.specs.Engine.{writing, NumbersLine, SendsLine, repertoire_of, line_bytes, content_bytes, BuildsUndecoded}
 use Rattle.properties_text.specs.Printing.{text_bytes, key_bytes}
 use Rattle.properties_text.specs.UndecodedTexts.{undecoded_line, PrintsPair}

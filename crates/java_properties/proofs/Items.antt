@@ -11,19 +11,19 @@ use Rattle.properties_format.specs.Lines.{Line, InputEnd, end, fault, more}
 use Rattle.properties_format.specs.ItemsToCome.{ReaderState}
 use Rattle.properties_format.specs.Reading.ItemsToCome.{items_to_come}
 use Rattle.properties_format.proofs.ItemsToCome.Unique.{items_to_come-done}
-use Rattle.java_properties.specs.Errors.{IsBareError}
-use Rattle.java_properties.specs.BorrowedItems.{found_entry}
+use Rattle.properties_items.specs.Errors.{IsBareError}
+use Rattle.properties_items.specs.BorrowedItems.{found_entry}
 use Rattle.properties_lines.specs.LineReader.{PassesSome}
 use Rattle.properties_lines.proofs.LineJoiner.{some-start, some-on, all-on}
 use Rattle.properties_lines.specs.LineJoiner.{IsLazyItems, Joins, JoinsError, JoinsLine, Comes, Joiner, Joining}
 use Rattle.properties_lines.specs.declared.error.LineError.{LineError}
 use Rattle.properties_lines.specs.declared.error.LineError.TheVariants as why
 use Rattle.java_properties.specs.GivenItems.{GivesItem, Owns, Gives, BreaksOff, GivesEntry, GivesNone, GivesMalformed, GivesError}
-use Rattle.java_properties.specs.FoundItems.{IsNoItem}
-use Rattle.java_properties.specs.declared.error.ErrorKind.TheVariants.{Memory}
-use Rattle.java_properties.specs.declared.iter.found.Found.{Found}
-use Rattle.java_properties.specs.declared.error.PropertiesError.{PropertiesError}
-use Rattle.java_properties.specs.declared.line.Line as line
+use Rattle.properties_items.specs.FoundItems.{IsNoItem}
+use Rattle.properties_items.specs.declared.error.ErrorKind.TheVariants.{Memory}
+use Rattle.properties_items.specs.declared.found.Found.{Found}
+use Rattle.properties_items.specs.declared.error.PropertiesError.{PropertiesError}
+use Rattle.properties_items.specs.declared.line.Line as line
 use Rattle.java_properties.specs.PropertiesIter.{entry_of}
 
 -- ---- item after item

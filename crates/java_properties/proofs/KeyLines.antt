@@ -33,17 +33,17 @@ use Rattle.properties_format.proofs.Items.Unique.{outcome_of-meets, outcome_of-o
 use Rattle.properties_format.proofs.Changed.Maps.{other-test}
 use Rattle.properties_lines.specs.LineJoiner.{Joiner, JoinsNext, JoinsError}
 use Rattle.properties_lines.specs.declared.error.LineError.{LineError}
-use Rattle.java_properties.specs.Errors.{IsBareError, IsLineError}
+use Rattle.properties_items.specs.Errors.{IsBareError, IsLineError}
 use Rattle.java_properties.specs.MalformedEscapes.{FailsToFind, StopsFinding}
-use Rattle.java_properties.specs.declared.error.ErrorKind.TheVariants as kind
-use Rattle.java_properties.specs.declared.error.PropertiesError.{PropertiesError}
+use Rattle.properties_items.specs.declared.error.ErrorKind.TheVariants as kind
+use Rattle.properties_items.specs.declared.error.PropertiesError.{PropertiesError}
 use Rattle.properties_text.specs.declared.escape.Malformed.{Malformed}
 use Rattle.properties_text.specs.declared.escape.UnescapeError.TheVariants as unescape
-use Rattle.java_properties.specs.BorrowedItems.{found_content}
-use Rattle.java_properties.specs.FoundItems.{FindsIn}
-use Rattle.java_properties.specs.declared.iter.found.Found as found
-use Rattle.java_properties.proofs.FoundItems.{found-item}
-use Rattle.java_properties.proofs.TextMaps.Values.{at_chars-sorted, at_chars-updated}
+use Rattle.properties_items.specs.BorrowedItems.{found_content}
+use Rattle.properties_items.specs.FoundItems.{FindsIn}
+use Rattle.properties_items.specs.declared.found.Found as found
+use Rattle.properties_items.proofs.FoundItems.{found-item}
+use Rattle.properties_items.proofs.TextMaps.Values.{at_chars-sorted, at_chars-updated}
 use Rattle.java_properties.specs.KeyLines.{KeyPlace, keys_from, AreKeysIn, AreKeys, HasNoKey, HasFirstNumber, KeyEntry, AreFirstsOf, AreKeyLines, key_line_entry, key_line_entries, FindsAllKeys}
 use Rattle.java_properties.specs.LineByLine.{number_at, KeepsFirst, AddsKeyLine, AddsIfKey, PushesKey}
 use Rattle.java_properties.specs.declared.iter.keys.KeyLine as code

@@ -31,15 +31,15 @@ use Rattle.properties_lines.proofs.LineJoiner.{passes-start, passes-on, some-com
 use Rattle.properties_text.specs.Escaping.{malformed_in}
 use Rattle.properties_text.specs.declared.escape.Malformed as escape
 use Rattle.properties_text.specs.declared.escape.UnescapeError.TheVariants as unescape
-use Rattle.java_properties.specs.Errors.{IsBareError, IsLineError, malformed_kind, malformed_cause}
-use Rattle.java_properties.specs.FoundItems.{FindsIn, IsNoItem}
-use Rattle.java_properties.specs.declared.iter.found.Found as code
+use Rattle.properties_items.specs.Errors.{IsBareError, IsLineError, malformed_kind, malformed_cause}
+use Rattle.properties_items.specs.FoundItems.{FindsIn, IsNoItem}
+use Rattle.properties_items.specs.declared.found.Found as code
 use Rattle.java_properties.specs.MalformedEscapes.{escape_record, escape_records, FindsAll, FailsToFind, StopsFinding}
 use Rattle.java_properties.specs.LineByLine.{PushesMalformed}
-use Rattle.java_properties.specs.declared.error.ErrorKind.TheVariants as kind
-use Rattle.java_properties.specs.declared.error.PropertiesError.{PropertiesError}
+use Rattle.properties_items.specs.declared.error.ErrorKind.TheVariants as kind
+use Rattle.properties_items.specs.declared.error.PropertiesError.{PropertiesError}
 use Rattle.java_properties.specs.declared.iter.malformed.MalformedEscape.{MalformedEscape}
-use Rattle.java_properties.proofs.FoundItems.{found-item}
+use Rattle.properties_items.proofs.FoundItems.{found-item}
 use Rattle.java_properties.proofs.StatedItems.{state-all}
 
 -- ---- groups

@@ -10,14 +10,14 @@ use Rattle.counted_io.specs.Streams.{Reader, HasRead}
 use Rattle.counted_io.proofs.Streams.{read-none, read-more}
 use Rattle.properties_format.specs.ItemsToCome.{IsItemsToCome}
 use Rattle.properties_format.specs.Lines.{end}
-use Rattle.java_properties.specs.Line.{content_of}
+use Rattle.properties_items.specs.Line.{content_of}
 use Rattle.java_properties.specs.PropertiesIter.{Reading, Gives, NextGives, entry_of}
 use Rattle.java_properties.specs.ReadLines.{entries_in}
 use Rattle.java_properties.specs.ReadInto.{KeyAndValue, pair_in, pairs_among, GivesLines, IsCalledOn, CallableOnPairs, last_answer, HasReadAll, HasReadFirst, WereToCome, ReadsInto}
-use Rattle.java_properties.specs.declared.error.PropertiesError.{PropertiesError}
-use Rattle.java_properties.specs.declared.line.Line.{Line}
-use Rattle.java_properties.specs.declared.line.LineContent.{LineContent}
-use Rattle.java_properties.specs.declared.line.LineContent.TheVariants.{Comment, KVPair}
+use Rattle.properties_items.specs.declared.error.PropertiesError.{PropertiesError}
+use Rattle.properties_items.specs.declared.line.Line.{Line}
+use Rattle.properties_items.specs.declared.line.LineContent.{LineContent}
+use Rattle.properties_items.specs.declared.line.LineContent.TheVariants.{Comment, KVPair}
 
 -- ---- lines that come, of the items to come
 

@@ -15,7 +15,7 @@ use Rattle.properties_format.proofs.Items.Numbers.{items_of-ascend}
 use Rattle.properties_format.proofs.Cut.Byline.{byline-is_lines, lines-is_byline}
 use Rattle.properties_format.proofs.Laws.{one-reading}
 use Rattle.properties_format.proofs.ItemsToCome.Unique.{items_to_come-start}
-use Rattle.java_properties.specs.Errors.{IsBareError, IsLineError}
+use Rattle.properties_items.specs.Errors.{IsBareError, IsLineError}
 use Rattle.properties_lines.specs.LineReader.{PassesSome}
 use Rattle.properties_lines.specs.LineJoiner.{JoinsError}
 use Rattle.properties_lines.specs.declared.error.LineError.{LineError}
@@ -24,9 +24,9 @@ use Rattle.java_properties.proofs.StatedItems.{state-all}
 use Rattle.java_properties.specs.GivenItems.{Gives, BreaksOff, GivesEntry, GivesNone, GivesMalformed, GivesError}
 use Rattle.java_properties.specs.PropertiesIter.{entry_of}
 use Rattle.java_properties.specs.ReadLines.{entries_in, IsReading, BeginsReading, ReadsWhole, StopsMalformed, StopsFailed, StopsEarly, StopsReading}
-use Rattle.java_properties.specs.declared.error.ErrorKind.TheVariants as kind
-use Rattle.java_properties.specs.declared.error.PropertiesError.{PropertiesError}
-use Rattle.java_properties.specs.declared.line.Line.{Line}
+use Rattle.properties_items.specs.declared.error.ErrorKind.TheVariants as kind
+use Rattle.properties_items.specs.declared.error.PropertiesError.{PropertiesError}
+use Rattle.properties_items.specs.declared.line.Line.{Line}
 
 -- the items that are computed are a reading
 pub reading-of : (e : Encoding) (bytes : List ℕ) (ending : InputEnd) (entries : List Entry) → items_of e bytes ending ≡ entries → IsReading e bytes ending entries

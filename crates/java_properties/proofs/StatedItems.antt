@@ -9,15 +9,15 @@ use Rattle.properties_lines.specs.LineReader as finder
 use Rattle.properties_lines.specs.LineJoiner as joiner
 use Rattle.properties_lines.specs.declared.error.LineError.{LineError}
 use Rattle.properties_lines.specs.declared.error.LineError.TheVariants as why
-use Rattle.java_properties.specs.Errors.{IsLineError}
+use Rattle.properties_items.specs.Errors.{IsLineError}
 use Rattle.java_properties.specs.GivenItems as given
 use Rattle.java_properties.specs.GivenItems.{FindsItem}
 use Rattle.java_properties.specs.Borrowing.{AdvancesTo}
 use Rattle.java_properties.specs.PropertiesIter as stated
 use Rattle.java_properties.specs.PropertiesIter.{Reading}
-use Rattle.java_properties.specs.declared.error.PropertiesError.{PropertiesError}
-use Rattle.java_properties.specs.declared.iter.found.Found.{Found}
-use Rattle.java_properties.specs.declared.line.Line.{Line}
+use Rattle.properties_items.specs.declared.error.PropertiesError.{PropertiesError}
+use Rattle.properties_items.specs.declared.found.Found.{Found}
+use Rattle.properties_items.specs.declared.line.Line.{Line}
 
 -- ---- as the clauses say it
 

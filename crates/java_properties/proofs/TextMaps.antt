@@ -1,5 +1,5 @@
 -- Maps that are read, and maps that are written.
-pub mod Values
+pub use Rattle.properties_items.proofs.TextMaps.Values
 pub mod Reading
 pub mod Order
 pub mod Writing

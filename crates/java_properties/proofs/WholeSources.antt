@@ -13,13 +13,13 @@ use Rattle.properties_format.specs.Lines as format
 use Rattle.properties_format.specs.Lines.{InputEnd, fault}
 use Rattle.properties_format.specs.ItemsToCome.{ReaderState, start, in_force, AreLinesToCome}
 use Rattle.properties_lines.proofs.InputBuffer.{keeps-consumes}
-use Rattle.java_properties.specs.Errors.{cause_of, cause_by, IsError, IsMalformed}
+use Rattle.properties_items.specs.Errors.{cause_of, cause_by, IsError, IsMalformed}
 use Rattle.java_properties.specs.PropertiesIter.{PassesAll}
 use Rattle.java_properties.specs.ReadLines.{IsReading, StopsMalformed, StopsFailed, StopsEarly, StopsReading}
 use Rattle.java_properties.specs.WholeSources.{FailsInRead}
-use Rattle.java_properties.specs.declared.error.Cause.{Cause}
-use Rattle.java_properties.specs.declared.error.ErrorKind.{ErrorKind}
-use Rattle.java_properties.specs.declared.error.PropertiesError.{PropertiesError}
+use Rattle.properties_items.specs.declared.error.Cause.{Cause}
+use Rattle.properties_items.specs.declared.error.ErrorKind.{ErrorKind}
+use Rattle.properties_items.specs.declared.error.PropertiesError.{PropertiesError}
 
 module _ {R : Type 0} {reader : Reader R} {from place to : R} {bytes : List ℕ} where
   -- a read that gave bytes, after others

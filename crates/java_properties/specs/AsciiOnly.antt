@@ -6,7 +6,7 @@ use Rattle.properties_format.specs.AsciiOnly.{AreAsciiOnly, AreAsciiBytes, AreIt
 use Rattle.properties_format.specs.Writing as format
 use Rattle.java_properties.specs.PropertiesWriter.{Writing}
 use Rattle.java_properties.specs.ReadBack.{IsCleanWriting}
-use Rattle.java_properties.specs.declared.error.PropertiesError.{PropertiesError}
+use Rattle.properties_items.specs.declared.error.PropertiesError.{PropertiesError}
 
 -- The sink took ASCII bytes only. If the writing was clean, they have the same items in windows-1252 and in UTF-8:
 -- those that the calls wrote.

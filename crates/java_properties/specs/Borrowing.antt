@@ -3,10 +3,10 @@ use Rattle.std.specs.Prelude.{◌≡◌, ◌⊎◌, true, false, Option, Some, N
 use Rattle.std.specs.Str.{chars}
 use Rattle.counted_io.specs.Streams.{Reader, IsSameReader}
 use Rattle.java_properties.specs.PropertiesIter.{Reading, GivesEntry, GivesNone, GivesMalformed, GivesError}
-use Rattle.java_properties.specs.declared.error.PropertiesError.{PropertiesError}
-use Rattle.java_properties.specs.declared.iter.found.Found.{Found}
-use Rattle.java_properties.specs.declared.iter.refs.LineRef.{LineRef}
-use Rattle.java_properties.specs.BorrowedItems.{borrowed_entry, BorrowsPlain, found_entry, IsFoundIn}
+use Rattle.properties_items.specs.declared.error.PropertiesError.{PropertiesError}
+use Rattle.properties_items.specs.declared.found.Found.{Found}
+use Rattle.properties_items.specs.declared.borrowed.LineRef.{LineRef}
+use Rattle.properties_items.specs.BorrowedItems.{borrowed_entry, BorrowsPlain, found_entry, IsFoundIn}
 
 -- The next item of an iterator as it is found. After `None` and after an error the iterator is at its end.
 abbrev pub AdvancesTo : {R : Type 0} → Reader R → Reading R → Option (Result Found PropertiesError) → Reading R → Type 0

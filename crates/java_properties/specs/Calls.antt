@@ -6,12 +6,12 @@ use Rattle.counted_io.specs.Streams.{Sink, HasWritten}
 use Rattle.properties_format.specs.Settings.{Settings}
 use Rattle.properties_format.specs.Entries.{comment, pair}
 use Rattle.properties_format.specs.Writing as format
-use Rattle.java_properties.specs.Errors.{kind_of, Refuses}
-use Rattle.java_properties.specs.LineEndings.{ending_of}
+use Rattle.properties_items.specs.Errors.{kind_of, Refuses}
+use Rattle.properties_items.specs.LineEndings.{ending_of}
 use Rattle.java_properties.specs.PropertiesWriter.{Writing, WritesLine, Flushes}
-use Rattle.java_properties.specs.declared.error.ErrorKind.{ErrorKind}
-use Rattle.java_properties.specs.declared.error.ErrorKind.TheVariants as kind
-use Rattle.java_properties.specs.declared.error.PropertiesError.{PropertiesError}
+use Rattle.properties_items.specs.declared.error.ErrorKind.{ErrorKind}
+use Rattle.properties_items.specs.declared.error.ErrorKind.TheVariants as kind
+use Rattle.properties_items.specs.declared.error.PropertiesError.{PropertiesError}
 use Rattle.java_properties.specs.declared.writer.calls.Call.{Call}
 use Rattle.java_properties.specs.declared.writer.calls.Call.TheVariants.{Comment, Pair, Prefix, Separator, Ending, Flush, AsciiOnly}
 

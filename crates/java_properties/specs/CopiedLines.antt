@@ -11,11 +11,11 @@ use Rattle.properties_text.specs.declared.encoding.Encoding.TheVariants.{WINDOWS
 use Rattle.properties_text.specs.declared.escape.UnescapeError.{UnescapeError}
 use Rattle.properties_lines.specs.LineJoiner.{Joining}
 use Rattle.properties_lines.specs.declared.error.LineError.{LineError}
-use Rattle.java_properties.specs.Errors.{IsUnresolvedError, IsLineError}
-use Rattle.java_properties.specs.FoundItems.{IsNoItem}
+use Rattle.properties_items.specs.Errors.{IsUnresolvedError, IsLineError}
+use Rattle.properties_items.specs.FoundItems.{IsNoItem}
 use Rattle.java_properties.specs.PropertiesWriter.{Writing, WritesLine}
 use Rattle.java_properties.specs.Copying.{HasScalars, WritesIfPair}
-use Rattle.java_properties.specs.declared.error.PropertiesError.{PropertiesError}
+use Rattle.properties_items.specs.declared.error.PropertiesError.{PropertiesError}
 use Rattle.java_properties.specs.declared.iter.copy.Copied.{Copied}
 use Rattle.java_properties.specs.declared.iter.copy.Copied.TheVariants.{Item, Nothing, Failed}
 use Rattle.java_properties.specs.declared.iter.copy.CopyError.{CopyError}

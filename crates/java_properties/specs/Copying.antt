@@ -6,7 +6,7 @@ use Rattle.properties_format.specs.Entries.{Content, comment, pair, item}
 use Rattle.properties_lines.specs.LineJoiner.{Joiner}
 use Rattle.java_properties.specs.PropertiesIter.{Reading, GivesEntry, GivesNone, GivesMalformed, GivesError}
 use Rattle.java_properties.specs.PropertiesWriter.{Writing, WritesLine}
-use Rattle.java_properties.specs.declared.error.PropertiesError.{PropertiesError}
+use Rattle.properties_items.specs.declared.error.PropertiesError.{PropertiesError}
 use Rattle.java_properties.specs.declared.iter.copy.CopyError.{CopyError}
 use Rattle.java_properties.specs.declared.iter.copy.CopyError.TheVariants.{Read, Write}
 

@@ -10,7 +10,7 @@ use Rattle.properties_format.specs.Printing.{printed, encoded_text}
 use Rattle.properties_format.specs.Settings.{Settings}
 use Rattle.properties_text.specs.Decoding.{text_of}
 use Rattle.properties_text.specs.Encoding.{output_of}
-use Rattle.java_properties.specs.Errors.{cause_of_write, IsError, IsBareError}
+use Rattle.properties_items.specs.Errors.{cause_of_write, IsError, IsBareError}
 use Rattle.java_properties.specs.PropertiesWriter.{Writing, WritesLine}
 use Rattle.properties_text.specs.Printing.{text_bytes, key_bytes}
 use Rattle.properties_text.specs.UndecodedTexts.{IsPairRefused}
@@ -19,8 +19,8 @@ use Rattle.java_properties.specs.declared.writer.engine.Content.{Content}
 use Rattle.java_properties.specs.declared.writer.engine.Content.TheVariants.{Comment, KVPair}
 use Rattle.java_properties.specs.declared.writer.engine.Written.{Written}
 use Rattle.java_properties.specs.declared.writer.engine.Written.TheVariants.{Line, Unresolved, Failed}
-use Rattle.java_properties.specs.declared.error.ErrorKind.TheVariants as kind
-use Rattle.java_properties.specs.declared.error.PropertiesError.{PropertiesError}
+use Rattle.properties_items.specs.declared.error.ErrorKind.TheVariants as kind
+use Rattle.properties_items.specs.declared.error.PropertiesError.{PropertiesError}
 use Rattle.java_properties.specs.declared.iter.copy.CopyError.{CopyError}
 use Rattle.java_properties.specs.declared.iter.copy.CopyError.TheVariants.{Write}
 use Rattle.properties_text.specs.declared.encoding.Encoding.TheVariants.{WINDOWS_1252}

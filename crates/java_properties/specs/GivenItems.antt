@@ -8,16 +8,16 @@ use Rattle.properties_format.specs.Escapes.{Malformed}
 use Rattle.properties_format.specs.ItemsToCome.{ReaderState}
 use Rattle.properties_format.specs.Reading.ItemsToCome.{items_to_come}
 use Rattle.properties_format.specs.Reading.ReaderSteps.{ReadsEntry}
-use Rattle.java_properties.specs.Errors.{IsBareError, IsLineError, IsMalformed}
+use Rattle.properties_items.specs.Errors.{IsBareError, IsLineError, IsMalformed}
 use Rattle.properties_lines.specs.LineReader.{PassesSome}
 use Rattle.properties_lines.specs.LineJoiner.{IsLazyItems, Joiner, JoinsError}
 use Rattle.properties_lines.specs.declared.error.LineError.{LineError}
-use Rattle.java_properties.specs.BorrowedItems.{found_entry, IsFoundIn}
+use Rattle.properties_items.specs.BorrowedItems.{found_entry, IsFoundIn}
 use Rattle.java_properties.specs.PropertiesIter.{entry_of}
-use Rattle.java_properties.specs.declared.error.ErrorKind.TheVariants as kind
-use Rattle.java_properties.specs.declared.error.PropertiesError.{PropertiesError}
-use Rattle.java_properties.specs.declared.iter.found.Found.{Found}
-use Rattle.java_properties.specs.declared.line.Line.{Line}
+use Rattle.properties_items.specs.declared.error.ErrorKind.TheVariants as kind
+use Rattle.properties_items.specs.declared.error.PropertiesError.{PropertiesError}
+use Rattle.properties_items.specs.declared.found.Found.{Found}
+use Rattle.properties_items.specs.declared.line.Line.{Line}
 
 -- The bytes that were read give this entry first, whatever comes after them, and then what the new state gives; or it
 -- is the last entry, and the input ended.

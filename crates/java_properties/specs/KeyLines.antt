@@ -8,9 +8,9 @@ use Rattle.properties_format.specs.Lines.{end, Line, Lines, IsLines, numbered_li
 use Rattle.properties_format.specs.Groups.{IsGroups, joined, first_number}
 use Rattle.properties_format.specs.Entries.{comment, pair}
 use Rattle.properties_format.specs.Items.{Outcome, ignored, given, broken, IsOutcome}
-use Rattle.java_properties.specs.Texts.{characters}
+use Rattle.properties_items.specs.Texts.{characters}
 use Rattle.java_properties.specs.MalformedEscapes.{FailsToFind, StopsFinding}
-use Rattle.java_properties.specs.declared.error.PropertiesError.{PropertiesError}
+use Rattle.properties_items.specs.declared.error.PropertiesError.{PropertiesError}
 use Rattle.java_properties.specs.declared.iter.keys.KeyLine as code
 
 -- ---- the keys of an input

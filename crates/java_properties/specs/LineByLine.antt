@@ -7,11 +7,11 @@ use Rattle.std.specs.declared.vec.Vec.{Vec}
 use Rattle.properties_format.specs.MalformedEscapes.{escapes_from}
 use Rattle.properties_format.specs.Reading.Items.{outcome_of}
 use Rattle.properties_format.specs.Reading.Parts.{outcome_key}
-use Rattle.java_properties.specs.Errors.{IsBareError}
-use Rattle.java_properties.specs.Texts.{characters}
+use Rattle.properties_items.specs.Errors.{IsBareError}
+use Rattle.properties_items.specs.Texts.{characters}
 use Rattle.java_properties.specs.MalformedEscapes.{escape_records}
-use Rattle.java_properties.specs.declared.error.ErrorKind.TheVariants as kind
-use Rattle.java_properties.specs.declared.error.PropertiesError.{PropertiesError}
+use Rattle.properties_items.specs.declared.error.ErrorKind.TheVariants as kind
+use Rattle.properties_items.specs.declared.error.PropertiesError.{PropertiesError}
 use Rattle.java_properties.specs.declared.iter.keys.KeyLine as code
 use Rattle.java_properties.specs.declared.iter.malformed.MalformedEscape.{MalformedEscape}
 

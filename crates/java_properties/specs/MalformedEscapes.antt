@@ -7,10 +7,10 @@ use Rattle.properties_format.specs.Encoding.{Encoding}
 use Rattle.properties_format.specs.MalformedEscapes as format
 use Rattle.properties_format.specs.MalformedEscapes.{AreMalformedEscapes, IsCutLine}
 use Rattle.properties_format.specs.ItemsToCome.{start}
-use Rattle.java_properties.specs.Errors.{IsBareError, IsStreamError, malformed_kind}
+use Rattle.properties_items.specs.Errors.{IsBareError, IsStreamError, malformed_kind}
 use Rattle.java_properties.specs.PropertiesIter.{PassesAll}
-use Rattle.java_properties.specs.declared.error.ErrorKind.TheVariants as kind
-use Rattle.java_properties.specs.declared.error.PropertiesError.{PropertiesError}
+use Rattle.properties_items.specs.declared.error.ErrorKind.TheVariants as kind
+use Rattle.properties_items.specs.declared.error.PropertiesError.{PropertiesError}
 use Rattle.java_properties.specs.declared.iter.malformed.MalformedEscape.{MalformedEscape}
 
 -- an escape of the format, as the code represents it

@@ -19,14 +19,14 @@ use Rattle.properties_format.specs.Pairs.{Pair, items_after}
 use Rattle.properties_format.specs.Settings.{default_settings}
 use Rattle.properties_format.specs.Writing.{Call, pair_call, flush_call, wrote}
 use Rattle.java_properties.specs.Calls.{StopsAtCall}
-use Rattle.java_properties.specs.Errors.{IsBareError, Refuses}
+use Rattle.properties_items.specs.Errors.{IsBareError, Refuses}
 use Rattle.java_properties.specs.PropertiesWriter.{Writing, new_writer}
 use Rattle.java_properties.specs.ReadBack.{IsReadBackBefore}
 use Rattle.java_properties.specs.ReadLines.{entries_in, ReadsWhole, StopsReading}
-use Rattle.java_properties.specs.declared.error.ErrorKind.TheVariants as kind
-use Rattle.java_properties.specs.declared.error.PropertiesError.{PropertiesError}
-use Rattle.java_properties.specs.declared.line.Line.{Line}
-use Rattle.java_properties.specs.Texts.{Entries, value_at}
+use Rattle.properties_items.specs.declared.error.ErrorKind.TheVariants as kind
+use Rattle.properties_items.specs.declared.error.PropertiesError.{PropertiesError}
+use Rattle.properties_items.specs.declared.line.Line.{Line}
+pub use Rattle.properties_items.specs.Texts.{characters, Entries, value_at}
 
 -- A pair sets the value of its key, if there is memory. A comment changes nothing.
 abbrev pub InsertsIfPair : {Y Z : Type 0} → Entries Y Z → Content → Result Unit PropertiesError → Entries Y Z → Type 0

@@ -10,14 +10,14 @@ use Rattle.properties_format.specs.Entries as entry
 use Rattle.properties_format.specs.Entries.{Content, Entry, item, malformed, read_fault}
 use Rattle.properties_format.specs.Escapes.{Malformed}
 use Rattle.properties_format.specs.ItemsToCome.{ReaderState, IsItemsToCome, ComesFirst, LinesComeFirst}
-use Rattle.java_properties.specs.Errors.{IsBareError, IsMalformed, IsStreamError}
-use Rattle.java_properties.specs.Line.{number_of, content_of}
-use Rattle.java_properties.specs.declared.error.ErrorKind.TheVariants as kind
-use Rattle.java_properties.specs.declared.error.PropertiesError.{PropertiesError}
+use Rattle.properties_items.specs.Errors.{IsBareError, IsMalformed, IsStreamError}
+use Rattle.properties_items.specs.Line.{number_of, content_of}
+use Rattle.properties_items.specs.declared.error.ErrorKind.TheVariants as kind
+use Rattle.properties_items.specs.declared.error.PropertiesError.{PropertiesError}
 use Rattle.java_properties.specs.declared.iter.copy.CopyError.{CopyError}
-use Rattle.java_properties.specs.declared.line.Line.{Line}
-use Rattle.java_properties.specs.declared.line.LineContent.{LineContent}
-use Rattle.java_properties.specs.declared.line.LineContent.TheVariants.{Comment, KVPair}
+use Rattle.properties_items.specs.declared.line.Line.{Line}
+use Rattle.properties_items.specs.declared.line.LineContent.{LineContent}
+use Rattle.properties_items.specs.declared.line.LineContent.TheVariants.{Comment, KVPair}
 
 -- an iterator: its reader, its state, the logical line that it read last, in UTF-8, and the error that it keeps
 pub record Reading (R : Type 0) : Type 0 where

@@ -7,12 +7,12 @@ use Rattle.properties_format.specs.Entries.{Content, comment, pair}
 use Rattle.properties_format.specs.Printing.{printed}
 use Rattle.properties_format.specs.Settings.{Settings, default_settings, IsGoodPrefix, IsGoodSeparator}
 use Rattle.properties_format.specs.Writing.{Call, comment_call, pair_call, is_accepted}
-use Rattle.java_properties.specs.Errors.{kind_of, cause_of_write, IsError, IsBareError, IsStreamError, Refuses}
+use Rattle.properties_items.specs.Errors.{kind_of, cause_of_write, IsError, IsBareError, IsStreamError, Refuses}
 use Rattle.java_properties.specs.Settings.{with_prefix, with_separator, with_ending, with_ascii_only, SetsText}
-use Rattle.java_properties.specs.declared.error.ErrorKind.{ErrorKind}
-use Rattle.java_properties.specs.declared.error.ErrorKind.TheVariants as kind
-use Rattle.java_properties.specs.declared.error.PropertiesError.{PropertiesError}
-use Rattle.java_properties.specs.declared.line.LineEnding.{LineEnding}
+use Rattle.properties_items.specs.declared.error.ErrorKind.{ErrorKind}
+use Rattle.properties_items.specs.declared.error.ErrorKind.TheVariants as kind
+use Rattle.properties_items.specs.declared.error.PropertiesError.{PropertiesError}
+use Rattle.properties_items.specs.declared.line.LineEnding.{LineEnding}
 
 -- A writer: its sink, the encoding that it writes, its settings, how many lines it wrote, and whether a write failed.
 pub record Writing (W : Type 0) : Type 0 where

@@ -10,10 +10,10 @@ use Rattle.properties_format.specs.Writing as format
 use Rattle.properties_format.specs.Pairs.{Pair, pairs_in, calls_of, AreAccepted, ArePairsOfScalars}
 use Rattle.properties_format.specs.Laws.{wrote_pairs}
 use Rattle.java_properties.specs.Calls.{FailsInCall}
-use Rattle.java_properties.specs.Errors.{Refuses}
+use Rattle.properties_items.specs.Errors.{Refuses}
 use Rattle.java_properties.specs.PropertiesWriter.{Writing}
-use Rattle.java_properties.specs.declared.error.ErrorKind.TheVariants as kind
-use Rattle.java_properties.specs.declared.error.PropertiesError.{PropertiesError}
+use Rattle.properties_items.specs.declared.error.ErrorKind.TheVariants as kind
+use Rattle.properties_items.specs.declared.error.PropertiesError.{PropertiesError}
 
 -- This is true of every writer: its encoding can be written, and its settings are good.
 pub record IsGoodWriter {W : Type 0} (w : Writing W) : Type 0 where

@@ -7,13 +7,13 @@ use Rattle.counted_io.specs.Streams.{Reader, HasRead}
 use Rattle.properties_format.specs.Entries.{Entry}
 use Rattle.properties_format.specs.ItemsToCome.{IsItemsToCome}
 use Rattle.properties_format.specs.Lines.{InputEnd, end}
-use Rattle.java_properties.specs.Line.{content_of}
+use Rattle.properties_items.specs.Line.{content_of}
 use Rattle.java_properties.specs.PropertiesIter.{Reading, NextGives}
 use Rattle.java_properties.specs.ReadLines.{entries_in}
-use Rattle.java_properties.specs.declared.error.PropertiesError.{PropertiesError}
-use Rattle.java_properties.specs.declared.line.Line.{Line}
-use Rattle.java_properties.specs.declared.line.LineContent.{LineContent}
-use Rattle.java_properties.specs.declared.line.LineContent.TheVariants.{Comment, KVPair}
+use Rattle.properties_items.specs.declared.error.PropertiesError.{PropertiesError}
+use Rattle.properties_items.specs.declared.line.Line.{Line}
+use Rattle.properties_items.specs.declared.line.LineContent.{LineContent}
+use Rattle.properties_items.specs.declared.line.LineContent.TheVariants.{Comment, KVPair}
 
 -- a key and its value
 abbrev pub KeyAndValue : Type 0

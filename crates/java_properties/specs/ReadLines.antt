@@ -10,13 +10,13 @@ use Rattle.properties_format.specs.Escapes.{Malformed}
 use Rattle.properties_format.specs.Entries.{Entry, malformed, read_fault, NumbersAscend}
 use Rattle.properties_format.specs.Items.{IsItems}
 use Rattle.properties_format.specs.Laws.{HasOneReading}
-use Rattle.java_properties.specs.Errors.{IsBareError, IsMalformed, IsStreamError}
+use Rattle.properties_items.specs.Errors.{IsBareError, IsMalformed, IsStreamError}
 use Rattle.properties_format.specs.ItemsToCome.{start}
 use Rattle.java_properties.specs.PropertiesIter.{entry_of, PassesAll}
-use Rattle.java_properties.specs.declared.error.ErrorKind.TheVariants as kind
-use Rattle.java_properties.specs.declared.error.PropertiesError.{PropertiesError}
+use Rattle.properties_items.specs.declared.error.ErrorKind.TheVariants as kind
+use Rattle.properties_items.specs.declared.error.PropertiesError.{PropertiesError}
 use Rattle.java_properties.specs.declared.iter.whole.Stopped.{Stopped}
-use Rattle.java_properties.specs.declared.line.Line.{Line}
+use Rattle.properties_items.specs.declared.line.Line.{Line}
 
 abbrev pub entries_in : List Line → List Entry
 entries_in lines = map entry_of lines

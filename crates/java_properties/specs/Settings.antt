@@ -6,13 +6,13 @@ use Rattle.std.specs.declared.string.String.{String}
 use Rattle.properties_format.specs.Settings.{Settings, default_settings, IsGoodPrefix, IsGoodSeparator}
 use Rattle.properties_format.specs.Text.{is_blanks}
 use Rattle.properties_format.specs.Reading.Settings.{is_good_prefix, is_good_separator}
-use Rattle.java_properties.specs.Errors.{Refuses, RefusesText}
-use Rattle.java_properties.specs.declared.error.ErrorKind.{ErrorKind}
-use Rattle.java_properties.specs.declared.error.ErrorKind.TheVariants as kind
-use Rattle.java_properties.specs.declared.error.PropertiesError.{PropertiesError}
-use Rattle.java_properties.specs.declared.line.LineEnding.{LineEnding}
+use Rattle.properties_items.specs.Errors.{Refuses, RefusesText}
+use Rattle.properties_items.specs.declared.error.ErrorKind.{ErrorKind}
+use Rattle.properties_items.specs.declared.error.ErrorKind.TheVariants as kind
+use Rattle.properties_items.specs.declared.error.PropertiesError.{PropertiesError}
+use Rattle.properties_items.specs.declared.line.LineEnding.{LineEnding}
 use Rattle.java_properties.specs.declared.writer.settings.Settings.TheInside.{Inside}
-use Rattle.java_properties.specs.LineEndings.{ending_of}
+use Rattle.properties_items.specs.LineEndings.{ending_of}
 
 -- the characters of the prefix and of the separator, which have their defaults if none was set
 abbrev pub prefix_of : {Z : Type 0} → Option (String Z) → List ℕ

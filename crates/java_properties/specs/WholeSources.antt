@@ -4,11 +4,11 @@ use Rattle.std.specs.Global.{Vec}
 use Rattle.std.specs.declared.io.Error.{Error}
 use Rattle.counted_io.specs.Streams.{Reader, HasRead, HasFailed, Sink, HasWritten, HasSentPart, HasFailedFlush}
 use Rattle.properties_format.specs.Encoding.{Encoding}
-use Rattle.java_properties.specs.Errors.{cause_of_write, IsError, IsBareError, IsStreamError}
+use Rattle.properties_items.specs.Errors.{cause_of_write, IsError, IsBareError, IsStreamError}
 use Rattle.java_properties.specs.ReadLines.{entries_in, ReadsWhole, StopsReading}
-use Rattle.java_properties.specs.declared.error.ErrorKind.TheVariants as kind
-use Rattle.java_properties.specs.declared.error.PropertiesError.{PropertiesError}
-use Rattle.java_properties.specs.declared.line.Line.{Line}
+use Rattle.properties_items.specs.declared.error.ErrorKind.TheVariants as kind
+use Rattle.properties_items.specs.declared.error.PropertiesError.{PropertiesError}
+use Rattle.properties_items.specs.declared.line.Line.{Line}
 
 -- ---- reading
 

@@ -14,7 +14,7 @@ ghost use Rattle.properties_format.specs.Writing.{Call};
 ghost use Rattle.properties_format.specs.Pairs.{Pair};
 ghost use Rattle.properties_format.specs.Laws.{HasOne, HasOneReading, ReadingInvertsWriting, EqualBytesOfEqualPairs, WritingAnewChangesNothing, MapIsReadBack, SplittingCommutes, LineEndsSeparatePieces};
 
-pub use crate::edit::laws::editing;
+pub use properties_editing::laws::editing;
 
 /// Reading is unique: what an input means exists and is unique, at each step and for each way in which the input ends.
 ///

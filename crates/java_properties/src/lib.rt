@@ -16,23 +16,22 @@
 //! ```
 #![tactic(auto)]
 
-mod edit;
-mod error;
 mod iter;
 pub mod laws;
-mod line;
 mod maps;
 mod streams;
 mod writer;
 
-pub use edit::{Document, Edit, edit_all, remove_key, set_key, set_value};
-pub use error::{Cause, ErrorKind, PropertiesError, Reason};
 pub use iter::{
-    ContentRef, CopyError, Found, KeyLine, LineRef, MalformedEscape, PropertiesIter, Stopped,
-    key_lines, malformed_escapes, read_lines,
+    CopyError, KeyLine, MalformedEscape, PropertiesIter, Stopped, key_lines, malformed_escapes,
+    read_lines,
 };
-pub use line::{Line, LineContent, LineEnding};
 pub use maps::{read, read_sorted, write, write_sorted};
+pub use properties_editing::{Document, Edit, edit_all, remove_key, set_key, set_value};
+pub use properties_items::borrowed::{ContentRef, LineRef};
+pub use properties_items::error::{Cause, ErrorKind, PropertiesError, Reason};
+pub use properties_items::found::Found;
+pub use properties_items::line::{Line, LineContent, LineEnding};
 pub use properties_text::encoding::Encoding;
 pub use streams::{read_source, write_source};
 pub use writer::{Call, PropertiesWriter, run_calls};

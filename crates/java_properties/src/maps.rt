@@ -9,11 +9,11 @@ ghost use Rattle.java_properties.specs.Maps.{texts_of, InsertsIfPair, ReadsMap, 
 
 mod sorted;
 
-use crate::error::PropertiesError;
 use crate::iter::items::ItemReader;
-use crate::line::LineContent;
 use crate::writer::engine::{Content, Engine};
 use counted_io::{CountedRead, CountedWrite};
+use properties_items::error::PropertiesError;
+use properties_items::line::LineContent;
 use properties_text::encoding::{Encoding, OutputEncoding};
 pub use sorted::{read_sorted, write_sorted};
 use std::alloc::{AllocError, Global};

@@ -8,9 +8,9 @@ ghost use Rattle.counted_io.specs.Streams.{IsSameReader, IsSameSink};
 ghost use Rattle.properties_text.specs.Encoding.{encoding_of};
 ghost use Rattle.java_properties.specs.WholeSources.{ReadsAllItems, ReadsSource, WritesSource};
 
-use crate::error::{PropertiesError, make};
 use crate::iter::items::ItemReader;
 use counted_io::{CountedRead, CountedWrite, send};
+use properties_items::error::{PropertiesError, make};
 use properties_text::encoding::Encoding;
 use std::alloc::{AllocError, Global};
 use std::io::{self, ErrorKind, Read};

@@ -9,10 +9,10 @@ ghost use Rattle.properties_text.specs.Encoding.{encoding_of};
 ghost use Rattle.java_properties.specs.ReadBack.{IsGoodWriter};
 ghost use Rattle.java_properties.specs.PropertiesWriter.{new_writer, WritesLine, Flushes, SetsPrefix, SetsSeparator, SetsEnding, SetsAsciiOnly};
 
-use crate::error::PropertiesError;
-use crate::line::LineEnding;
 use counted_io::CountedWrite;
 use engine::{Content, Engine};
+use properties_items::error::PropertiesError;
+use properties_items::line::LineEnding;
 use properties_text::encoding::{Encoding, OutputEncoding};
 use std::alloc::Global;
 use std::marker::Model;

@@ -6,8 +6,8 @@ use Rattle.properties_lines.specs.LineReader.{Finder}
 use Rattle.properties_lines.specs.declared.error.LineError.TheVariants as why
 use Rattle.java_properties.specs.Errors.{IsBareError}
 use Rattle.java_properties.specs.PropertiesWriter.{Writing, Flushes, FailsInFlush}
-use Rattle.java_properties.specs.declared.error.ErrorKind.TheVariants.{TooManyLines}
-use Rattle.java_properties.specs.declared.error.PropertiesError.{PropertiesError}
+use Rattle.properties_items.specs.declared.error.ErrorKind.TheVariants.{TooManyLines}
+use Rattle.properties_items.specs.declared.error.PropertiesError.{PropertiesError}
 
 -- ---- readers
 

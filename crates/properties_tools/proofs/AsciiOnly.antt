@@ -13,7 +13,7 @@ use Rattle.properties_format.proofs.AsciiOnly.{wrote-on, wrote-on_line, wrote-on
 use Rattle.properties_format.proofs.ReadBack.Law.{default_settings-good}
 use Rattle.properties_format.proofs.ReadBack.Lists.{read_back-pairs, calls_of-clean, calls_of-scalars}
 use Rattle.java_properties.specs.AsciiOnly.{TakesAscii}
-use Rattle.java_properties.specs.declared.error.PropertiesError.{PropertiesError}
+use Rattle.properties_items.specs.declared.error.PropertiesError.{PropertiesError}
 use Rattle.properties_tools.specs.Filter.{settings_with, pair_calls, pair_lines, TakesAndFlushes, FailsInPair, FailsAfterPairs, RefusesPair, Filters, FiltersToAscii}
 use Rattle.properties_tools.proofs.Pairs.{pair-accepted}
 

@@ -7,7 +7,7 @@ use Rattle.counted_io.specs.Streams.{Reader, HasRead, HasFailed, Sink, HasWritte
 use Rattle.properties_format.specs.Encoding.{Encoding}
 use Rattle.properties_format.specs.Entries.{Entry}
 use Rattle.java_properties.specs.ReadLines.{ReadsWhole, StopsMalformed, StopsFailed, StopsEarly}
-use Rattle.java_properties.specs.declared.error.PropertiesError.{PropertiesError}
+use Rattle.properties_items.specs.declared.error.PropertiesError.{PropertiesError}
 use Rattle.properties_tools.specs.Filter.{TakesAndFlushes, FailsInPair, FailsAfterPairs, RefusesPair, StopsInReading, StopsInWriting, StopsInFlush, Filters}
 
 -- what is known of a lent reader, and of a lent sink

@@ -4,7 +4,7 @@ use Rattle.std.specs.Prelude.{Bool, Some, Err}
 use Rattle.counted_io.specs.Streams.{Reader, Sink}
 use Rattle.properties_format.specs.Encoding.{Encoding}
 use Rattle.java_properties.specs.DisplayTexts.{error_display}
-use Rattle.java_properties.specs.declared.error.PropertiesError.{PropertiesError}
+use Rattle.properties_items.specs.declared.error.PropertiesError.{PropertiesError}
 use Rattle.properties_tools.specs.Filter.{Filters}
 use Rattle.properties_tools.proofs.Shown.{shown}
 

@@ -14,7 +14,7 @@ use Rattle.java_properties.specs.PropertiesIter.{Reading}
 use Rattle.java_properties.specs.GivenItems.{GivesEntry, GivesNone, GivesMalformed, GivesError}
 use Rattle.java_properties.specs.PropertiesWriter.{Writing, Flushes, HasFlushedSink, RefusesFlush, FailsInFlush}
 use Rattle.java_properties.specs.ReadLines.{BeginsItems}
-use Rattle.java_properties.specs.declared.error.PropertiesError.{PropertiesError}
+use Rattle.properties_items.specs.declared.error.PropertiesError.{PropertiesError}
 use Rattle.java_properties.proofs.Readings.{Comes, Collected, collected-start, collected-next, collected-none, collected-malformed, collected-error}
 use Rattle.java_properties.specs.Copying.{HasScalars, WritesIfPair}
 use Rattle.properties_tools.specs.Filter.{pair_writer, HasFiltered, StopsInWriting, Filters}

@@ -14,8 +14,8 @@ use Rattle.java_properties.specs.Errors.{IsBareError}
 use Rattle.java_properties.specs.Maps.{HasReadMap, characters}
 use Rattle.java_properties.specs.ReadLines.{StopsMalformed, StopsReading, entries_in}
 use Rattle.java_properties.proofs.TextMaps.Values.{value_at_text_sorted}
-use Rattle.java_properties.specs.declared.error.ErrorKind.TheVariants as kind
-use Rattle.java_properties.specs.declared.error.PropertiesError.{PropertiesError}
+use Rattle.properties_items.specs.declared.error.ErrorKind.TheVariants as kind
+use Rattle.properties_items.specs.declared.error.PropertiesError.{PropertiesError}
 use Rattle.properties_tools.specs.Propedit.Sources.{IsSound}
 use Rattle.properties_tools.proofs.SliceReads.{slice_reader, slice-read, slice-whole, slice-faultless}
 use Rattle.properties_tools.proofs.Slices.{slice-numbered}

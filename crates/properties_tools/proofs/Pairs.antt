@@ -11,9 +11,9 @@ use Rattle.properties_format.specs.Writing.{pair_call, is_accepted, settings_aft
 use Rattle.java_properties.specs.Calls.{HasMade}
 use Rattle.java_properties.specs.Errors.{kind_of, IsBareError}
 use Rattle.java_properties.specs.PropertiesWriter.{Writing, next_line, HasWrittenLine, RefusesLine, FailsInLine, IsRefusedBy, Flushes, HasFlushedSink, FailsInFlush}
-use Rattle.java_properties.specs.declared.error.ErrorKind.{ErrorKind}
-use Rattle.java_properties.specs.declared.error.ErrorKind.TheVariants as kind
-use Rattle.java_properties.specs.declared.error.PropertiesError.{PropertiesError}
+use Rattle.properties_items.specs.declared.error.ErrorKind.{ErrorKind}
+use Rattle.properties_items.specs.declared.error.ErrorKind.TheVariants as kind
+use Rattle.properties_items.specs.declared.error.PropertiesError.{PropertiesError}
 use Rattle.java_properties.proofs.Calls.Made.{made-none, pair-made, made-more}
 use Rattle.properties_tools.specs.Filter.{settings_with, pair_writer, pair_calls, pair_count, pair_lines, next_pair_line, TakesAndFlushes, FailsInPair, FailsAfterPairs, RefusesPair}
 

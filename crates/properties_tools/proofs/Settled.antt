@@ -14,7 +14,7 @@ use Rattle.properties_format.specs.Pairs.{pairs_in, calls_of, items_after, ArePa
 use Rattle.properties_format.proofs.Items.Unique.{items_of-meets, items_of-only}
 use Rattle.properties_format.proofs.ReadBack.Law.{default_settings-good, output_encoding-own}
 use Rattle.properties_format.proofs.ReadBack.Lists.{items_of-pairs, pairs_in-items}
-use Rattle.java_properties.specs.declared.error.PropertiesError.{PropertiesError}
+use Rattle.properties_items.specs.declared.error.PropertiesError.{PropertiesError}
 use Rattle.java_properties.proofs.TextMaps.ReadBack.{pairs-accepted}
 use Rattle.properties_tools.specs.Filter.{pair_lines, TakesAndFlushes, FailsInPair, FailsAfterPairs, RefusesPair, StopsInReading, StopsInWriting, StopsInFlush, TakesLines, Filters, Settles}
 

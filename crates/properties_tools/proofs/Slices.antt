@@ -11,8 +11,8 @@ use Rattle.java_properties.specs.Errors.{IsBareError}
 use Rattle.java_properties.specs.KeyLines.{AreKeyLines, FindsKeys, key_line_entries}
 use Rattle.java_properties.specs.MalformedEscapes.{FailsToFind, FindsMalformed, StopsFinding}
 use Rattle.java_properties.specs.PropertiesIter.{PassesAll}
-use Rattle.java_properties.specs.declared.error.ErrorKind.TheVariants as kind
-use Rattle.java_properties.specs.declared.error.PropertiesError.{PropertiesError}
+use Rattle.properties_items.specs.declared.error.ErrorKind.TheVariants as kind
+use Rattle.properties_items.specs.declared.error.PropertiesError.{PropertiesError}
 use Rattle.java_properties.specs.declared.iter.keys.KeyLine.{KeyLine}
 use Rattle.java_properties.specs.declared.iter.malformed.MalformedEscape.{MalformedEscape}
 use Rattle.properties_tools.specs.Propedit.Sources.{FindsKeysIn, FindsMalformedIn}

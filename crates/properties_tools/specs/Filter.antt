@@ -15,8 +15,8 @@ use Rattle.java_properties.specs.AsciiOnly.{TakesAscii}
 use Rattle.java_properties.specs.Errors.{cause_of_write, IsError, IsBareError, IsStreamError}
 use Rattle.java_properties.specs.PropertiesWriter.{Writing, new_writer, with_settings}
 use Rattle.java_properties.specs.ReadLines.{BeginsItems, ReadsWhole, StopsMalformed, StopsFailed, StopsEarly}
-use Rattle.java_properties.specs.declared.error.ErrorKind.TheVariants as kind
-use Rattle.java_properties.specs.declared.error.PropertiesError.{PropertiesError}
+use Rattle.properties_items.specs.declared.error.ErrorKind.TheVariants as kind
+use Rattle.properties_items.specs.declared.error.PropertiesError.{PropertiesError}
 
 -- ---- pairs and their lines
 

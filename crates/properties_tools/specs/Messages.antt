@@ -4,7 +4,7 @@ use Rattle.std.specs.declared.io.Error.{Error}
 use Rattle.counted_io.specs.Streams.{Sink, HasFlushed, HasFailedFlush, Sends}
 use Rattle.properties_format.specs.Text.{line_feed}
 use Rattle.java_properties.specs.DisplayTexts.{error_display}
-use Rattle.java_properties.specs.declared.error.PropertiesError.{PropertiesError}
+use Rattle.properties_items.specs.declared.error.PropertiesError.{PropertiesError}
 
 -- the line that says a text
 abbrev pub printed_line : List ℕ → List ℕ

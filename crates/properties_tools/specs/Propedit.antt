@@ -18,7 +18,7 @@ use Rattle.properties_format.specs.Edits.{Edit}
 use Rattle.properties_format.specs.Encoding.{Encoding}
 use Rattle.properties_text.specs.Encoding.{encoding_of}
 use Rattle.java_properties.specs.WholeSources.{GivesWhole, ReadsSource, WritesSource}
-use Rattle.java_properties.specs.declared.error.PropertiesError.{PropertiesError}
+use Rattle.properties_items.specs.declared.error.PropertiesError.{PropertiesError}
 use Rattle.properties_tools.specs.Propedit.Answers.{name_of, Answers as Gives}
 use Rattle.properties_tools.specs.Propedit.Change.{Changes}
 use Rattle.properties_tools.specs.Propedit.Failures.{standard_output, PrintsFailure}

@@ -3,7 +3,7 @@ use Rattle.std.specs.Prelude.{◌≡◌, ◌⊎◌, ℕ, Bool, true, false, List
 use Rattle.counted_io.specs.Streams.{Reader, Sink}
 use Rattle.properties_format.specs.Encoding.{Encoding, windows_1252}
 use Rattle.properties_format.specs.Names.{name_of}
-use Rattle.java_properties.specs.declared.error.PropertiesError.{PropertiesError}
+use Rattle.properties_items.specs.declared.error.PropertiesError.{PropertiesError}
 use Rattle.properties_text.specs.Encoding.{encoding_of}
 use Rattle.properties_tools.specs.Filter.{Filters}
 use Rattle.properties_tools.specs.Messages.{printed_line, HasPrintedLine, PrintsErrorOf}

@@ -7,7 +7,7 @@ use Rattle.properties_format.specs.Writing.{Call, is_accepted, answers}
 use Rattle.properties_format.proofs.Writing.{answers-append}
 use Rattle.java_properties.specs.PropertiesWriter.{Writing}
 use Rattle.java_properties.specs.Calls.{HasMade, HasMadeCall, FailsInCall, StopsAtCall}
-use Rattle.java_properties.specs.declared.error.PropertiesError.{PropertiesError}
+use Rattle.properties_items.specs.declared.error.PropertiesError.{PropertiesError}
 
 module _ {W : Type 0} {sink : Sink W} where
   -- the answer of one call more

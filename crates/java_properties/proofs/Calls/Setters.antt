@@ -7,11 +7,11 @@ use Rattle.properties_format.specs.Settings.{IsGoodPrefix, IsGoodSeparator}
 use Rattle.properties_format.specs.Reading.Settings.{is_good_prefix, is_good_separator}
 use Rattle.properties_format.specs.Writing.{Call, prefix_call, separator_call, flush_call, is_accepted, settings_after_call, written_line}
 use Rattle.properties_format.proofs.Settings.Tests.{is_good_prefix-from, IsGoodPrefix-from_test, is_good_separator-from, IsGoodSeparator-from_test}
-use Rattle.java_properties.specs.Errors.{kind_of}
+use Rattle.properties_items.specs.Errors.{kind_of}
 use Rattle.java_properties.specs.Settings.{with_prefix, with_separator}
 use Rattle.java_properties.specs.PropertiesWriter.{Writing, SetsPrefix, SetsSeparator, with_settings}
 use Rattle.java_properties.specs.Calls.{is_not_accepted, IsAcceptedResult, MayMake, Fails, MakesCall}
-use Rattle.java_properties.specs.declared.error.PropertiesError.{PropertiesError}
+use Rattle.properties_items.specs.declared.error.PropertiesError.{PropertiesError}
 use Rattle.java_properties.proofs.Calls.Made.{made-quiet}
 
 -- ---- which settings are good

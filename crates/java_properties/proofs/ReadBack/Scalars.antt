@@ -10,7 +10,7 @@ use Rattle.java_properties.specs.Calls.{call_in, calls_in}
 use Rattle.java_properties.specs.declared.writer.calls.Call.{Call}
 use Rattle.java_properties.specs.declared.writer.calls.Call.TheVariants.{Comment, Pair, Prefix, Separator}
 use Rattle.java_properties.specs.declared.writer.settings.Settings.TheInside.{Inside}
-use Rattle.java_properties.proofs.Scalars.{string-scalars}
+use Rattle.properties_items.proofs.Scalars.{string-scalars}
 
 -- the texts of a call are of scalar values
 call-scalars : (call : Call) → IsOfScalars (call_in call)

@@ -19,8 +19,8 @@ use Rattle.std.proofs.lemmas.Map.Keys.{IsDistinct-head, IsDistinct-tail, IsDisti
 use Rattle.std.proofs.lemmas.Map.Lookups.{exact_bytes}
 use Rattle.std.proofs.lemmas.Slice.Eq.{bytes_eq-Decides}
 use Rattle.java_properties.specs.Maps.{entry_texts, borrowed_texts, texts_of, AreInOrder}
-use Rattle.java_properties.specs.Texts.{Entries}
-use Rattle.java_properties.proofs.TextMaps.Values.{flipped}
+use Rattle.properties_items.specs.Texts.{Entries}
+use Rattle.properties_items.proofs.TextMaps.Values.{flipped}
 
 -- of two keys that differ, the one that isn't greater is less
 ascends : (x y : List ℕ) → is_lt (slice_cmp nat_cmp y x) ≡ false → bytes_eq x y ≡ false → slice_cmp nat_cmp x y ≡ Less

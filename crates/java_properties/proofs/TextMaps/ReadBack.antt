@@ -28,9 +28,9 @@ use Rattle.properties_format.proofs.Laws.{no-pair, value-among}
 use Rattle.properties_format.proofs.ReadBack.Law.{default_settings-good}
 use Rattle.properties_format.proofs.ReadBack.Lists.{items_of-pairs}
 use Rattle.java_properties.specs.Maps.{Texts, entry_texts, calls_for, character_pair, items_for, AreInOrder, WritesPairs, WritesMap, MapReadsBack}
-use Rattle.java_properties.specs.Texts.{Entries, characters, value_at}
-use Rattle.java_properties.specs.declared.error.PropertiesError.{PropertiesError}
-use Rattle.java_properties.proofs.Scalars.{string-scalars}
+use Rattle.properties_items.specs.Texts.{Entries, characters, value_at}
+use Rattle.properties_items.specs.declared.error.PropertiesError.{PropertiesError}
+use Rattle.properties_items.proofs.Scalars.{string-scalars}
 use Rattle.java_properties.proofs.ReadBack.Written.{stops-read_back}
 use Rattle.java_properties.proofs.TextMaps.Distinct.{AreKeysUtf8, ascending-distinct}
 use Rattle.java_properties.proofs.TextMaps.Writing.{accepted}

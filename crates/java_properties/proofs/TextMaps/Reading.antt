@@ -7,16 +7,16 @@ use Rattle.properties_format.specs.ItemsToCome.{ReaderState, start}
 use Rattle.properties_format.specs.Entries.{Content, comment, pair, Entry, item, AreItems}
 use Rattle.properties_format.specs.Maps.{IsMap}
 use Rattle.properties_format.proofs.Maps.{map-none, map-comment, map-pair}
-use Rattle.java_properties.specs.Errors.{IsBareError}
-use Rattle.java_properties.specs.Line.{number_of, content_of}
+use Rattle.properties_items.specs.Errors.{IsBareError}
+use Rattle.properties_items.specs.Line.{number_of, content_of}
 use Rattle.java_properties.specs.PropertiesIter.{format_content, entry_of}
 use Rattle.java_properties.specs.GivenItems.{GivesEntry, GivesNone, GivesMalformed, GivesError}
 use Rattle.java_properties.specs.ReadLines.{entries_in, StopsReading}
 use Rattle.java_properties.specs.Maps.{InsertsIfPair, HasReadMap, ReadsValue}
-use Rattle.java_properties.specs.Texts.{Entries, value_at}
-use Rattle.java_properties.specs.declared.error.ErrorKind.TheVariants as kind
-use Rattle.java_properties.specs.declared.error.PropertiesError.{PropertiesError}
-use Rattle.java_properties.specs.declared.line.Line.{Line}
+use Rattle.properties_items.specs.Texts.{Entries, value_at}
+use Rattle.properties_items.specs.declared.error.ErrorKind.TheVariants as kind
+use Rattle.properties_items.specs.declared.error.PropertiesError.{PropertiesError}
+use Rattle.properties_items.specs.declared.line.Line.{Line}
 use Rattle.java_properties.proofs.Readings.{Collected, collected-start, collected-next, collected-none, collected-lost, collected-stops, entries-more}
 
 -- These lines came so far, and the map is theirs.

@@ -8,17 +8,17 @@ ghost use Rattle.properties_text.specs.Decoding.{text_of};
 ghost use Rattle.properties_text.specs.UndecodedTexts.{IsNoPair};
 ghost use Rattle.properties_text.specs.declared.encoding.Encoding.TheVariants.{WINDOWS_1252};
 ghost use Rattle.properties_lines.specs.LineReader.{lines_left};
-ghost use Rattle.java_properties.specs.BorrowedItems.{borrowed_content};
-ghost use Rattle.java_properties.specs.FoundItems.{FindsIn};
+ghost use Rattle.properties_items.specs.BorrowedItems.{borrowed_content};
+ghost use Rattle.properties_items.specs.FoundItems.{FindsIn};
 ghost use Rattle.java_properties.specs.Engine.{writing};
 ghost use Rattle.java_properties.specs.Copying.{error_in, reading, CopiesNext};
 ghost use Rattle.java_properties.specs.CopiedLines.{PlainBytes, PlainText, KeepsError, CopiesLine, CopiesContent, PassesLine, FindsAny, Refuses};
 
-use crate::error::{PropertiesError, make};
-use crate::iter::found::{Found, cut_item, find_escaped, find_plain};
-use crate::iter::refs::ContentRef;
 use crate::writer::engine::{Engine, Written};
 use counted_io::{CountedRead, CountedWrite};
+use properties_items::borrowed::ContentRef;
+use properties_items::error::{PropertiesError, make};
+use properties_items::found::{Found, cut_item, find_escaped, find_plain};
 use properties_lines::joiner::{LineJoiner, NextLine};
 use properties_text::encoding::{Encoding, TextBuffer};
 use properties_text::escape::UnescapeError;
@@ -51,7 +51,7 @@ impl From<CopyError> for PropertiesError {
 }
 
 impl fmt::Display for CopyError {
-    ghost use Rattle.java_properties.specs.DisplayTexts.{error_display};
+    ghost use Rattle.properties_items.specs.DisplayTexts.{error_display};
 
     ghost output = { λ error. error_display (error_in error) };
 

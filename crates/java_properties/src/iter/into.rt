@@ -2,10 +2,10 @@
 
 ghost use Rattle.java_properties.specs.ReadInto.{CallableOnPairs, ReadsInto};
 
-use crate::error::PropertiesError;
 use crate::iter::PropertiesIter;
-use crate::line::LineContent;
 use counted_io::CountedRead;
+use properties_items::error::PropertiesError;
+use properties_items::line::LineContent;
 
 impl<R: CountedRead> PropertiesIter<R> {
     /// Reads to the end and calls `f` with the key and the value of each remaining pair, in order.

@@ -6,13 +6,13 @@ ghost use Rattle.std.specs.String.{string_cmp};
 ghost use Rattle.std.specs.BTreeMap.{IsOrdered};
 ghost use Rattle.counted_io.specs.Streams.{IsSameReader};
 ghost use Rattle.properties_text.specs.Encoding.{encoding_of};
-ghost use Rattle.java_properties.specs.Texts.{characters};
+ghost use Rattle.properties_items.specs.Texts.{characters};
 ghost use Rattle.java_properties.specs.KeyLines.{FindsKeys};
 ghost use Rattle.java_properties.specs.LineByLine.{AddsKeyLine, FindsLineKey, KeepsFirst, PushesKey};
 
-use crate::error::{PropertiesError, make};
-use crate::iter::found::{find_escaped, item_key};
 use counted_io::CountedRead;
+use properties_items::error::{PropertiesError, make};
+use properties_items::found::{find_escaped, item_key};
 use properties_lines::joiner::LineJoiner;
 use properties_text::encoding::Encoding;
 use properties_text::escape::UnescapeError;

@@ -6,9 +6,9 @@ ghost use Rattle.properties_text.specs.Encoding.{encoding_of};
 ghost use Rattle.java_properties.specs.MalformedEscapes.{FindsMalformed};
 ghost use Rattle.java_properties.specs.LineByLine.{PushesMalformed};
 
-use crate::error::{ErrorKind, PropertiesError, make};
-use crate::iter::found::find_escaped;
 use counted_io::CountedRead;
+use properties_items::error::{ErrorKind, PropertiesError, make};
+use properties_items::found::find_escaped;
 use properties_lines::join::is_comment_line;
 use properties_lines::joiner::LineJoiner;
 use properties_text::encoding::Encoding;

@@ -4,10 +4,10 @@ ghost use Rattle.counted_io.specs.Streams.{IsSameReader};
 ghost use Rattle.java_properties.specs.ReadLines.{ReadsLines};
 ghost use Rattle.properties_text.specs.Encoding.{encoding_of};
 
-use crate::error::PropertiesError;
 use crate::iter::items::ItemReader;
-use crate::line::Line;
 use counted_io::CountedRead;
+use properties_items::error::PropertiesError;
+use properties_items::line::Line;
 use properties_text::encoding::Encoding;
 use std::alloc::Global;
 

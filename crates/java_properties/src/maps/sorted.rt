@@ -9,11 +9,11 @@ ghost use Rattle.properties_text.specs.Encoding.{encoding_of};
 ghost use Rattle.java_properties.specs.PropertiesIter.{format_content};
 ghost use Rattle.java_properties.specs.Maps.{texts_of, InsertsIfPair, ReadsSorted, AreInOrder, WritesMap, MapReadsBack};
 
-use crate::error::PropertiesError;
 use crate::iter::items::ItemReader;
-use crate::line::LineContent;
 use crate::maps::write_pairs;
 use counted_io::{CountedRead, CountedWrite};
+use properties_items::error::PropertiesError;
+use properties_items::line::LineContent;
 use properties_text::encoding::{Encoding, OutputEncoding};
 use std::alloc::{AllocError, Global};
 use std::collections::BTreeMap;

@@ -5,10 +5,10 @@ ghost use Rattle.java_properties.specs.Calls.{calls_in, call_in, IsAcceptedResul
 ghost use Rattle.java_properties.specs.ReadBack.{ReadsBack, WritesOnlyThese};
 ghost use Rattle.java_properties.specs.AsciiOnly.{WritesAscii};
 
-use crate::error::{ErrorKind, PropertiesError};
-use crate::line::LineEnding;
 use crate::writer::PropertiesWriter;
 use counted_io::CountedWrite;
+use properties_items::error::{ErrorKind, PropertiesError};
+use properties_items::line::LineEnding;
 use std::alloc::Global;
 
 /// A call of a writer: a line, a setting or a flush.

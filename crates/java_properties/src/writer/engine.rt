@@ -12,10 +12,10 @@ ghost use Rattle.properties_text.specs.Printing.{AppendsOnOk, is_all_of_windows_
 ghost use Rattle.java_properties.specs.PropertiesWriter.{call_of, WritesLine, Flushes};
 
 use super::settings::Settings;
-use crate::error::{PropertiesError, make};
 use crate::iter::copy::CopyError;
-use crate::line::ending_text;
 use counted_io::{CountedWrite, send};
+use properties_items::error::{PropertiesError, make};
+use properties_items::line::ending_text;
 use properties_text::encoding::OutputEncoding;
 use properties_text::escape::UnescapeError;
 use properties_text::parse::Span;

@@ -7,10 +7,10 @@ ghost use Rattle.properties_format.specs.Settings.{default_settings};
 ghost use Rattle.properties_format.specs.Reading.Settings.{is_good_prefix, is_good_separator};
 ghost use Rattle.properties_format.specs.Writing.{is_empty, AreGoodSettings};
 ghost use Rattle.java_properties.specs.Settings.{with_ending, with_ascii_only, TakesPrefix, TakesSeparator};
-ghost use Rattle.java_properties.specs.LineEndings.{ending_of};
+ghost use Rattle.properties_items.specs.LineEndings.{ending_of};
 
-use crate::error::{PropertiesError, make};
-use crate::line::LineEnding;
+use properties_items::error::{PropertiesError, make};
+use properties_items::line::LineEnding;
 use properties_text::characters::{is_blank, is_comment_sign, is_line_end, is_separator};
 use std::alloc::Global;
 use std::marker::Model;

@@ -7,7 +7,7 @@ use Rattle.properties_format.specs.Edits as format
 use Rattle.properties_format.specs.Encoding.{Encoding, utf_8}
 use Rattle.properties_format.specs.Names.{name_of}
 use Rattle.java_properties.specs.Editing.{edits_in}
-use Rattle.java_properties.specs.declared.edit.Edit as editor
+use Rattle.properties_editing.specs.declared.edit.Edit as editor
 use Rattle.properties_text.specs.Encoding.{encoding_of}
 use Rattle.properties_tools.specs.declared.propedit.asked.Command as code_command
 use Rattle.properties_tools.specs.declared.propedit.asked.Command.TheVariants.{Get, List as Listed, Check, Change}

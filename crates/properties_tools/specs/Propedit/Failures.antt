@@ -4,9 +4,9 @@ use Rattle.std.specs.Fmt.{decimal}
 use Rattle.counted_io.specs.Streams.{Sink}
 use Rattle.java_properties.specs.DisplayTexts.{description, reason_display}
 use Rattle.java_properties.specs.Errors.{line_of, IsBareError, IsReason}
-use Rattle.java_properties.specs.declared.error.ErrorKind.TheVariants as kind
-use Rattle.java_properties.specs.declared.error.PropertiesError.{PropertiesError}
-use Rattle.java_properties.specs.declared.error.Reason.{Reason}
+use Rattle.properties_items.specs.declared.error.ErrorKind.TheVariants as kind
+use Rattle.properties_items.specs.declared.error.PropertiesError.{PropertiesError}
+use Rattle.properties_items.specs.declared.error.Reason.{Reason}
 use Rattle.java_properties.specs.declared.iter.malformed.MalformedEscape.{MalformedEscape}
 use Rattle.properties_tools.specs.Messages.{printed_line, HasPrintedLine}
 use Rattle.properties_tools.specs.declared.propedit.error.Failure.{Failure}

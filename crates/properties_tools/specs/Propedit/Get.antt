@@ -6,8 +6,8 @@ use Rattle.properties_format.specs.Encoding.{Encoding}
 use Rattle.properties_format.specs.Maps.{HasValue}
 use Rattle.java_properties.specs.Errors.{IsBareError}
 use Rattle.java_properties.specs.Maps.{characters}
-use Rattle.java_properties.specs.declared.error.ErrorKind.TheVariants as kind
-use Rattle.java_properties.specs.declared.error.PropertiesError.{PropertiesError}
+use Rattle.properties_items.specs.declared.error.ErrorKind.TheVariants as kind
+use Rattle.properties_items.specs.declared.error.PropertiesError.{PropertiesError}
 use Rattle.properties_tools.specs.Propedit.Sources.{IsSound, IsUnsound}
 use Rattle.properties_tools.specs.Propedit.Texts.{ended}
 use Rattle.properties_tools.specs.declared.propedit.answers.Answer.{Answer}

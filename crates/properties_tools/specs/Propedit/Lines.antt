@@ -8,8 +8,8 @@ use Rattle.properties_format.specs.Utf8.{IsWellFormedText}
 use Rattle.properties_lines.specs.Scanner.{HasRightFlags, bytes_of}
 use Rattle.properties_lines.specs.declared.scanner.RawLine.{RawLine}
 use Rattle.java_properties.specs.Errors.{IsBareError}
-use Rattle.java_properties.specs.declared.error.ErrorKind.TheVariants as kind
-use Rattle.java_properties.specs.declared.error.PropertiesError.{PropertiesError}
+use Rattle.properties_items.specs.declared.error.ErrorKind.TheVariants as kind
+use Rattle.properties_items.specs.declared.error.PropertiesError.{PropertiesError}
 
 -- These are the numbers of those of the lines whose bytes are not well-formed UTF-8, in order.
 abbrev pub AreIllFormed : List Line → List ℕ → Type 0

@@ -1,4 +1,4 @@
-use Rattle.java_properties.proofs.TextMaps.Values.{value-inserted}
+use Rattle.properties_items.proofs.TextMaps.Values.{value-inserted}
 use Rattle.java_properties.proofs.maps.insert_if_pair.Goals as goal
 
 pub returns-in_ok-insert-in-KVPair : goal.returns-in_ok-insert-in-KVPair

@@ -4,7 +4,7 @@ use Rattle.counted_io.specs.Streams.{reader}
 use Rattle.properties_text.specs.Encoding.{encoding_of}
 use Rattle.java_properties.specs.WholeSources.{FailsInRead}
 use Rattle.java_properties.specs.declared.streams.Broken.{Broken}
-use Rattle.java_properties.specs.declared.error.PropertiesError.{PropertiesError}
+use Rattle.properties_items.specs.declared.error.PropertiesError.{PropertiesError}
 use Rattle.java_properties.proofs.WholeSources.{read-on, fails-here, fails-in-read}
 use Rattle.java_properties.proofs.streams.read_through.Goals as goal
 

@@ -3,9 +3,9 @@ use Rattle.std.specs.Str.{chars}
 use Rattle.counted_io.specs.Streams.{sink}
 use Rattle.properties_format.specs.Entries.{pair}
 use Rattle.java_properties.specs.Engine.{writing}
-use Rattle.java_properties.specs.BorrowedItems.{borrowed_content}
+use Rattle.properties_items.specs.BorrowedItems.{borrowed_content}
 use Rattle.java_properties.proofs.CopiedLines.{pair-copies}
-use Rattle.java_properties.proofs.Scalars.{chars-scalars}
+use Rattle.properties_items.proofs.Scalars.{chars-scalars}
 use Rattle.java_properties.proofs.iter.copy.copy_content.Goals as goal
 
 pub returns-in-KVPair-clause-copies : goal.returns-in-KVPair-clause-copies

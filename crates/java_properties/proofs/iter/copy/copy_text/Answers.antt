@@ -3,8 +3,8 @@ use Rattle.std.specs.Str.{chars}
 use Rattle.properties_format.specs.Entries.{Entry, Content, item, malformed, read_fault, comment}
 use Rattle.properties_format.specs.Items.{given}
 use Rattle.properties_format.specs.Reading.Items.{outcome_of}
-use Rattle.java_properties.specs.BorrowedItems.{borrowed_content, found_content}
-use Rattle.java_properties.proofs.FoundItems.{found-item}
+use Rattle.properties_items.specs.BorrowedItems.{borrowed_content, found_content}
+use Rattle.properties_items.proofs.FoundItems.{found-item}
 use Rattle.java_properties.proofs.iter.copy.copy_text.Given.{Over}
 use Rattle.java_properties.proofs.iter.copy.copy_text.Goals as goal
 use Rattle.java_properties.proofs.iter.copy.copy_text.Goals.{After-content}

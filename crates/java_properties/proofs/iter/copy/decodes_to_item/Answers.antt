@@ -5,9 +5,9 @@ use Rattle.std.proofs.lemmas.Str.{chars-nil}
 use Rattle.properties_text.specs.Decoding.{text_of}
 use Rattle.properties_text.specs.declared.encoding.Encoding.TheVariants.{WINDOWS_1252}
 use Rattle.java_properties.specs.CopiedLines.{FindsAny}
-use Rattle.java_properties.specs.Errors.{IsUnresolvedError}
-use Rattle.java_properties.specs.FoundItems.{IsNoItem}
-use Rattle.java_properties.specs.declared.error.PropertiesError.{PropertiesError}
+use Rattle.properties_items.specs.Errors.{IsUnresolvedError}
+use Rattle.properties_items.specs.FoundItems.{IsNoItem}
+use Rattle.properties_items.specs.declared.error.PropertiesError.{PropertiesError}
 use Rattle.java_properties.proofs.CopiedLines.{found-any}
 use Rattle.java_properties.proofs.iter.copy.decodes_to_item.Goals as goal
 

@@ -2,9 +2,9 @@ use Rattle.std.proofs.Common.{◌∙◌, refl, ap, sym, subst, inr}
 use Rattle.std.proofs.lemmas.Result.{err_from_is_err_and}
 use Rattle.properties_text.specs.Encoding.{encoding_of}
 use Rattle.properties_lines.specs.LineJoiner.{Joiner}
-use Rattle.java_properties.specs.Errors.{IsBareError}
-use Rattle.java_properties.specs.declared.error.ErrorKind.TheVariants.{Memory}
-use Rattle.java_properties.specs.declared.error.PropertiesError.{PropertiesError}
+use Rattle.properties_items.specs.Errors.{IsBareError}
+use Rattle.properties_items.specs.declared.error.ErrorKind.TheVariants.{Memory}
+use Rattle.properties_items.specs.declared.error.PropertiesError.{PropertiesError}
 use Rattle.java_properties.proofs.MalformedEscapes.{found-start, found-next, found-all, found-error, found-lost}
 use Rattle.java_properties.proofs.Items.{stopped, ended}
 use Rattle.java_properties.proofs.iter.malformed.malformed_escapes.Goals as goal

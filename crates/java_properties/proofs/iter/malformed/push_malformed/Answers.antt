@@ -1,7 +1,7 @@
 use Rattle.std.proofs.Common.{◌∙◌, ◌++◌, ◌∷◌, [], ap₂, subst}
 use Rattle.std.specs.Prelude.{Err}
 use Rattle.properties_text.specs.declared.escape.UnescapeError.{UnescapeError}
-use Rattle.java_properties.specs.FoundItems.{FindsIn}
+use Rattle.properties_items.specs.FoundItems.{FindsIn}
 use Rattle.java_properties.proofs.MalformedEscapes.{pushes-none, pushes-one}
 use Rattle.java_properties.proofs.iter.malformed.push_malformed.Goals as goal
 

@@ -1,4 +1,4 @@
-use Rattle.java_properties.proofs.TextMaps.Values.{value-inserted-sorted}
+use Rattle.properties_items.proofs.TextMaps.Values.{value-inserted-sorted}
 use Rattle.java_properties.proofs.maps.sorted.insert_if_pair.Goals as goal
 
 pub returns-in_ok-insert-in-KVPair-clause-inserts : goal.returns-in_ok-insert-in-KVPair-clause-inserts

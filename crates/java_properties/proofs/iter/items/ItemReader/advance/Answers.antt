@@ -7,12 +7,12 @@ use Rattle.properties_format.specs.ItemsToCome.{ReaderState}
 use Rattle.counted_io.specs.Streams.{reader}
 use Rattle.properties_lines.specs.LineReader.{lines_left}
 use Rattle.properties_lines.specs.LineJoiner.{Joiner, Joining, numbered_line}
-use Rattle.java_properties.specs.BorrowedItems.{found_content, IsFoundIn}
+use Rattle.properties_items.specs.BorrowedItems.{found_content, IsFoundIn}
 use Rattle.java_properties.specs.GivenItems.{FindsItem}
-use Rattle.java_properties.specs.FoundItems.{IsNoItem}
-use Rattle.java_properties.specs.declared.iter.found.Found.{Found}
+use Rattle.properties_items.specs.FoundItems.{IsNoItem}
+use Rattle.properties_items.specs.declared.found.Found.{Found}
 use Rattle.java_properties.proofs.Items.{Passed, passed-start, passed-error, passed-no_item, gives-item, passed-blank, stopped}
-use Rattle.java_properties.proofs.FoundItems.{found-item, plain-blank}
+use Rattle.properties_items.proofs.FoundItems.{found-item, plain-blank}
 use Rattle.java_properties.proofs.iter.items.ItemReader.advance.Given.{Over}
 use Rattle.java_properties.proofs.iter.items.ItemReader.advance.Goals as goal
 use Rattle.java_properties.proofs.iter.items.ItemReader.advance.Goals.{After-line-line}

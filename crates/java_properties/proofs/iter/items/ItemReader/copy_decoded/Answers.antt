@@ -1,7 +1,7 @@
 use Rattle.std.proofs.Common.{refl, sym, ap, subst, inl, inr}
 use Rattle.counted_io.specs.Streams.{reader, sink}
 use Rattle.properties_format.specs.Entries.{Entry, Content}
-use Rattle.java_properties.specs.BorrowedItems.{borrowed_content}
+use Rattle.properties_items.specs.BorrowedItems.{borrowed_content}
 use Rattle.java_properties.specs.CopiedLines.{CopiesContent}
 use Rattle.java_properties.specs.Copying.{reading}
 use Rattle.java_properties.specs.Engine.{writing}

@@ -5,7 +5,7 @@ use Rattle.properties_text.specs.Encoding.{output_of}
 use Rattle.java_properties.specs.Engine.{entry_content}
 use Rattle.java_properties.specs.declared.writer.engine.Engine.{Engine}
 use Rattle.java_properties.proofs.Engine.{line-built}
-use Rattle.java_properties.proofs.RawTexts.{line_ending-bytes}
+use Rattle.properties_items.proofs.RawTexts.{line_ending-bytes}
 use Rattle.java_properties.proofs.writer.engine.Engine.build.Goals as goal
 
 pub returns-clause-printed : goal.returns-clause-printed

@@ -2,7 +2,7 @@ use Rattle.std.proofs.Common.{ap, ◌∙◌}
 use Rattle.properties_format.specs.Text.{line_ending_text}
 use Rattle.properties_text.specs.Encoding.{output_of}
 use Rattle.java_properties.proofs.Engine.{undecoded-built}
-use Rattle.java_properties.proofs.RawTexts.{line_ending-bytes, separator-bytes}
+use Rattle.properties_items.proofs.RawTexts.{line_ending-bytes, separator-bytes}
 use Rattle.java_properties.proofs.writer.engine.Engine.build_undecoded.Goals as goal
 
 pub returns-clause-printed : goal.returns-clause-printed

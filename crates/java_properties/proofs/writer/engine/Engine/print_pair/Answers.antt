@@ -2,7 +2,7 @@ use Rattle.std.specs.Str.{chars}
 use Rattle.std.proofs.lemmas.Result.{on_ok_weaker}
 use Rattle.properties_text.specs.Encoding.{output_of}
 use Rattle.java_properties.proofs.Engine.{pair-printed}
-use Rattle.java_properties.proofs.RawTexts.{separator-bytes}
+use Rattle.properties_items.proofs.RawTexts.{separator-bytes}
 use Rattle.java_properties.proofs.writer.engine.Engine.print_pair.Goals as goal
 
 pub returns-clause-printed : goal.returns-clause-printed

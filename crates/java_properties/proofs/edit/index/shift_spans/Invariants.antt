@@ -1,5 +1,0 @@
-use Rattle.java_properties.specs.BodyIndex.{AreShiftedTo}
-use Rattle.java_properties.proofs.edit.index.shift_spans.Given as goal
-
-abbrev pub invariant-loop-place : goal.invariant-loop-place
-invariant-loop-place l = AreShiftedTo l.fn.change l.place l.fn.spans.items l.spans.items

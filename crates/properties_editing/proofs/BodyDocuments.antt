@@ -1,0 +1,202 @@
+-- What the calls of a document come to.
+use Rattle.std.proofs.Common.{◌≡◌, ◌≤◌, ◌<◌, ℕ, ◌+◌, Bool, true, false, List, [], ◌∷◌, ◌++◌, All, length, take, drop, refl, ap, ap₂, sym, ◌∙◌, subst, length-append, arith}
+use Rattle.std.specs.Prelude.{Option, Some, None, Result, Ok, Err, OnOk}
+use Rattle.std.specs.Global.{Vec}
+use Rattle.std.specs.Option.{is_some, option_map}
+use Rattle.std.proofs.Math.Seq.{drop-append_seam}
+use Rattle.std.proofs.lemmas.List.{length-take-le}
+use Rattle.properties_format.specs.Text.{scalar}
+use Rattle.properties_format.specs.Encoding.{Encoding, InForce, byte_order_mark, windows_1252, utf_8, utf_16le, utf_16be}
+use Rattle.properties_format.specs.Lines.{end}
+use Rattle.properties_format.specs.Entries.{AreItems}
+use Rattle.properties_format.specs.Items.{IsItems, Outcome, ignored, given, broken}
+use Rattle.properties_format.specs.Maps.{IsValue}
+use Rattle.properties_format.specs.Body.{HeldLine}
+use Rattle.properties_format.specs.Edited.{bom_of, is_editable, edited}
+use Rattle.properties_format.specs.Edits.{put, remove, set_value}
+use Rattle.properties_format.specs.Reading.Body.{entries_in, held_groups_of}
+use Rattle.properties_format.specs.Reading.Edited.{IsSound, AreSound}
+use Rattle.properties_format.specs.Reading.Items.{followed, items_of}
+use Rattle.properties_format.proofs.Body.Numbers.{items_of-groups}
+use Rattle.properties_format.proofs.Edited.ByteOrderMarks.{key_set-in_force, key_removed-in_force}
+use Rattle.properties_format.proofs.Items.Unique.{items_of-meets}
+use Rattle.properties_format.proofs.Valued.Marks.{value_set-in_force}
+use Rattle.properties_lines.specs.LineSearch.{unit_size}
+use Rattle.properties_text.specs.Encoding.{encoding_of}
+use Rattle.properties_editing.specs.BodyDocuments.{IsDocument, open_document}
+use Rattle.properties_editing.specs.BodyIndex.{IsIndex, MakesEdit, PutsPair, PutsValue, RemovesPairs, outcome, stored_at, stored_value}
+use Rattle.properties_editing.specs.Documents.{OpenDocument, HasValueAt, ChecksHasKey, PutsInto, SetsValueIn, RemovesFrom}
+use Rattle.properties_editing.specs.Editing.{AreMade, HasValueSet, IsRemoved, IsSet}
+use Rattle.properties_items.specs.Texts.{characters}
+use Rattle.properties_editing.specs.Sources.{IsInForce}
+use Rattle.properties_editing.specs.declared.edit.document.Document.TheInside.{Inside}
+use Rattle.properties_editing.specs.declared.edit.index.Index.{Index}
+use Rattle.properties_editing.specs.declared.edit.source.BodyStart.{BodyStart}
+use Rattle.properties_editing.proofs.Editing.{bom-front, editable, made-edits, result-made}
+use Rattle.properties_editing.proofs.IndexParsed.{kept-index}
+use Rattle.properties_editing.proofs.IndexValues.{map-values}
+
+-- ---- a source after an edit
+
+-- Bytes that keep the byte order mark are in force as the source is.
+again : {e : Encoding} {old : List ℕ} {opened : BodyStart} (new body : List ℕ) → IsInForce old e opened → new ≡ bom_of old ++ body
+    → byte_order_mark e new ≡ record { encoding = (byte_order_mark e old).encoding; body = body } → IsInForce new e opened
+again {e} {old} {opened} new body h whole is =
+    let front : new ≡ take opened.start old ++ body = whole ∙ ap (λ v. v ++ body) (bom-front h) in
+    let size : length (take opened.start old) ≡ opened.start = length-take-le opened.start old h.within in
+    let back : drop opened.start new ≡ body = ap₂ drop (sym size) front ∙ drop-append_seam (take opened.start old) body in
+    let all = ap length front ∙ length-append (take opened.start old) body in
+    record {
+      in_force =
+          is ∙ ap₂ (λ f b. let w : InForce = record { encoding = f; body = b } in w) (ap (λ v. let w : InForce = v in w.encoding) h.in_force) (sym back);
+      within = omega arith;
+    }
+
+pub set-again : {e : Encoding} {old : List ℕ} {opened : BodyStart} (key value new : List ℕ) → IsInForce old e opened → is_editable (encoding_of opened.encoding) ≡ true
+    → IsSet e old key value new → IsInForce new e opened
+set-again {e} {old} key value new h ok s =
+    let k = s.edit.result.2 in
+    again new k.body h k.whole (key_set-in_force e old key value new (editable h ok) k)
+
+pub value-again : {e : Encoding} {old : List ℕ} {opened : BodyStart} (key value new : List ℕ) → IsInForce old e opened → is_editable (encoding_of opened.encoding) ≡ true
+    → HasValueSet e old key value new → IsInForce new e opened
+value-again {e} {old} key value new h ok s =
+    let k = s.edit.result.2 in
+    again new k.body h k.whole (value_set-in_force e old key value new (editable h ok) k)
+
+pub removed-again : {e : Encoding} {old : List ℕ} {opened : BodyStart} (key new : List ℕ) → IsInForce old e opened → is_editable (encoding_of opened.encoding) ≡ true
+    → IsRemoved e old key new → IsInForce new e opened
+removed-again {e} {old} key new h ok s =
+    let k = s.edit.result.2 in
+    again new _ h k.whole (key_removed-in_force e old key new (editable h ok) k)
+
+-- The units of an encoding that is edited are one byte long.
+pub editable-unit : (e : Encoding) → is_editable e ≡ true → unit_size e ≡ 1
+editable-unit windows_1252 h = refl
+editable-unit utf_8 h = refl
+editable-unit utf_16le h = absurd (cc)
+editable-unit utf_16be h = absurd (cc)
+
+-- ---- what a document tells
+
+pub items-sound : (n : ℕ) (gs : List (List HeldLine)) → AreSound gs → AreItems (entries_in n gs)
+items-sound n [] s = tt
+items-sound n (g ∷ gs) s = of-outcome (outcome g) s.0 (items-sound (n + length g) gs s.1)
+  where
+    of-outcome : (o : Outcome) → IsSound o → AreItems (entries_in (n + length g) gs) → AreItems (followed n o (entries_in (n + length g) gs))
+    of-outcome ignored s h = h
+    of-outcome (given content) s h = h
+    of-outcome (broken kind) s h = absurd s
+
+-- What it has stored of a key is its value.
+pub has-value : (d : Inside) → IsDocument d → (key : List ℕ) (value : Option (List ℕ)) → stored_value d.index.pairs.entries key ≡ value → HasValueAt (open_document d) key value
+has-value d i key value is =
+    let e = encoding_of d.encoding in
+    let source = d.source.items in
+    let gs = held_groups_of (encoding_of d.opened.encoding) (drop d.opened.start source) in
+    let same : items_of e source end ≡ entries_in 1 gs =
+    items_of-groups e source ∙ ap (λ v. let w : InForce = v in entries_in 1 (held_groups_of w.encoding w.body)) i.in_force.in_force in
+    record {
+      entries = entries_in 1 gs;
+      items = subst (IsItems e source end) same (items_of-meets e source end);
+      whole = items-sound 1 gs i.sound;
+      is = subst (IsValue (entries_in 1 gs) key) is (map-values 1 gs (stored_value d.index.pairs.entries) i.sound i.is_index.listed.values key);
+    }
+
+-- Whether it has one tells whether a pair has the key.
+pub checks_has_key : {X : Type 0} (f : X → List ℕ) (d : OpenDocument) (key : List ℕ) (o : Option X) → HasValueAt d key (option_map f o) → ChecksHasKey d key (is_some o)
+checks_has_key f d key None h = h
+checks_has_key f d key (Some x) h = (f x, h)
+
+-- ---- a document after a call
+
+module _ (d : Inside) (i : IsDocument d) (source : Vec ℕ) (index : Index) where
+  abbrev after : Inside
+  after = record d { source = source; index = index }
+
+  same-bytes : source.items ≡ d.source.items → open_document after ≡ open_document d
+  same-bytes is = ap (λ v. let w : OpenDocument = record { encoding = encoding_of d.encoding; bytes = v } in w) is
+
+  kept : source.items ≡ d.source.items → IsIndex (held_groups_of (encoding_of d.opened.encoding) (drop d.opened.start d.source.items)) index → IsDocument after
+  kept is h =
+      let f = encoding_of d.opened.encoding in
+      record {
+        in_force = subst (λ v. IsInForce v (encoding_of d.encoding) d.opened) (sym is) i.in_force;
+        editable = i.editable;
+        sound = subst (λ v. AreSound (held_groups_of f (drop d.opened.start v))) (sym is) i.sound;
+        is_index = subst (λ v. IsIndex (held_groups_of f (drop d.opened.start v)) index) (sym is) h;
+      }
+
+  -- A key was set, or it is as it was.
+  pub put-ends : {E : Type 0} (key value : List ℕ) (result : Result Unit E) → PutsPair d.opened key value d.source.items d.index result source.items index
+      → IsDocument after × PutsInto key value (open_document d) result (open_document after)
+  put-ends key value (Ok done) h =
+      let k = h (encoding_of d.encoding) i.in_force in (
+        record { in_force = set-again key value source.items i.in_force i.editable k.set; editable = i.editable; sound = k.sound; is_index = k.is_index },
+        (refl, k.set),
+      )
+  put-ends key value (Err error) h = (kept h.0 (kept-index _ d.index index i.is_index h.1), same-bytes h.0)
+
+  -- The value of a key was set, or it is as it was.
+  pub value-ends : {E : Type 0} (key value : List ℕ) (result : Result Unit E) → PutsValue d.opened key value d.source.items d.index result source.items index
+      → IsDocument after × SetsValueIn key value (open_document d) result (open_document after)
+  value-ends key value (Ok done) h =
+      let k = h (encoding_of d.encoding) i.in_force in (
+        record { in_force = value-again key value source.items i.in_force i.editable k.set; editable = i.editable; sound = k.sound; is_index = k.is_index },
+        (refl, k.set),
+      )
+  value-ends key value (Err error) h = (kept h.0 (kept-index _ d.index index i.is_index h.1), same-bytes h.0)
+
+  -- A key was removed.
+  pub remove-ends : (key : List ℕ) (told : Bool) → told ≡ is_some (stored_at d.index.pairs.entries key) → RemovesPairs d.opened key d.source.items source.items index
+      → IsDocument after × RemovesFrom key (open_document d) told (open_document after)
+  remove-ends key told is h =
+      let k = h (encoding_of d.encoding) i.in_force in
+      let checked = checks_has_key (λ p. characters p.value) (open_document d) key (stored_at d.index.pairs.entries key) (has-value d i key (stored_value d.index.pairs.entries key) refl) in (
+        record { in_force = removed-again key source.items i.in_force i.editable k.removed; editable = i.editable; sound = k.sound; is_index = k.is_index },
+        record { encoding = refl; removed = k.removed; checked = subst (ChecksHasKey (open_document d) key) (sym is) checked },
+      )
+
+-- ---- a document that is opened
+
+-- It is one, and comes to the source as it is.
+pub record IsOpened (d : Inside) (source : List ℕ) : Type 0 where
+  pub document : IsDocument d
+  pub same : open_document d ≡ record { encoding = encoding_of d.encoding; bytes = source }
+  pub made : AreMade (encoding_of d.encoding) source [] source
+
+own-opened : (d : Inside) → IsDocument d → IsOpened d d.source.items
+own-opened d i = record { document = i; same = refl; made = made-edits [] tt (result-made d.source.items i.in_force i.editable i.sound) }
+
+pub opens-document : (d : Inside) (source : List ℕ) → d.source.items ≡ source → IsInForce source (encoding_of d.encoding) d.opened → is_editable (encoding_of d.opened.encoding) ≡ true
+    → AreSound (held_groups_of (encoding_of d.opened.encoding) (drop d.opened.start source))
+    → IsIndex (held_groups_of (encoding_of d.opened.encoding) (drop d.opened.start source)) d.index → IsOpened d source
+opens-document d source copy force ok sound index =
+    let f = encoding_of d.opened.encoding in
+    subst (IsOpened d) copy (own-opened d (record {
+      in_force = subst (λ v. IsInForce v (encoding_of d.encoding) d.opened) (sym copy) force;
+      editable = ok;
+      sound = subst (λ v. AreSound (held_groups_of f (drop d.opened.start v))) (sym copy) sound;
+      is_index = subst (λ v. IsIndex (held_groups_of f (drop d.opened.start v)) d.index) (sym copy) index;
+    }))
+
+-- ---- an edit of a list
+
+module _ {E : Type 0} (opened : BodyStart) (ok : is_editable (encoding_of opened.encoding) ≡ true) (old new : List ℕ) (was is : Index) where
+  pub edit-put : (key value : List ℕ) (result : Result Unit E) → PutsPair opened key value old was result new is → OnOk result (MakesEdit opened (put key value) old new is)
+  edit-put key value (Ok done) h = λ e force.
+      let k = h e force in
+      record { result = k.set.edit.result; in_force = set-again key value new force ok k.set; sound = k.sound; is_index = k.is_index }
+  edit-put key value (Err error) h = tt
+
+  pub edit-value : (key value : List ℕ) (result : Result Unit E) → PutsValue opened key value old was result new is → OnOk result (MakesEdit opened (set_value key value) old new is)
+  edit-value key value (Ok done) h = λ e force.
+      let k = h e force in
+      record { result = k.set.edit.result; in_force = value-again key value new force ok k.set; sound = k.sound; is_index = k.is_index }
+  edit-value key value (Err error) h = tt
+
+pub edit-removed : (opened : BodyStart) → is_editable (encoding_of opened.encoding) ≡ true → (old new : List ℕ) (is : Index) (key : List ℕ) → RemovesPairs opened key old new is
+    → MakesEdit opened (remove key) old new is
+edit-removed opened ok old new is key h = λ e force.
+    let k = h e force in
+    record { result = k.removed.edit.result; in_force = removed-again key new force ok k.removed; sound = k.sound; is_index = k.is_index }

@@ -1,0 +1,332 @@
+-- The groups of a body that is held whole.
+use Rattle.std.proofs.Common.{◌≡◌, ◌==◌, ℕ, ◌+◌, ◌-◌, ◌≤◌, List, [], ◌∷◌, ◌++◌, length, take, drop, refl, ap, ap₂, sym, ◌∙◌, subst, inl, inr, arith}
+use Rattle.std.proofs.Common.{append-nil, length-append, length-drop}
+use Rattle.std.specs.Prelude.{◌⊎◌, ◌&&◌, ◌||◌, not, Bool, true, false, Option, Some, None, Ok}
+use Rattle.std.proofs.lemmas.Bool.{cases_Bool}
+use Rattle.std.proofs.Math.Seq.{drop-append_seam, take-length}
+use Rattle.std.proofs.lemmas.List.{length-take-le, drop-drop, take-append-le}
+use Rattle.std.specs.Str.{chars, IsUtf8}
+use Rattle.properties_format.specs.Text as text
+use Rattle.properties_format.specs.Encoding.{Encoding, windows_1252, utf_8, utf_16le, utf_16be}
+use Rattle.properties_format.specs.Lines.{Line}
+use Rattle.properties_format.specs.Writing.{is_empty}
+use Rattle.std.proofs.lemmas.Bool.Decides.{nat_tests}
+use Rattle.properties_format.specs.Groups.{is_comment_line, is_open, joined, addition}
+use Rattle.properties_format.specs.Reading.Groups.{closes}
+use Rattle.properties_format.specs.Reading.Cut.{decoded_line}
+use Rattle.properties_format.specs.Body.{HeldLine, as_lines, ending_bytes, group_bytes}
+use Rattle.properties_format.specs.Reading.Body.{held_groups_after, held_groups_of}
+use Rattle.properties_format.specs.Reading.Parts.{unended_bytes}
+use Rattle.properties_format.proofs.Body.Groups.{as_lines-append, groups-close, groups-leave, group_bytes-append}
+use Rattle.properties_format.proofs.Cut.Only.{ending-windows_1252, ending-utf_8}
+use Rattle.properties_format.proofs.Edited.Steps.{last_ending-push, is_left_open-push, is_empty_line-push}
+use Rattle.properties_format.proofs.Groups.Joined.{joined-push, joined-one, joined-closed, joined-comment_line}
+use Rattle.properties_format.proofs.Edited.Parts.{unended-kept}
+use Rattle.properties_text.specs.Encoding.{encoding_of}
+use Rattle.properties_lines.specs.LineSearch.{unit_size}
+use Rattle.properties_lines.specs.HeldLines.{held_line, lines_left}
+use Rattle.properties_lines.specs.LogicalLine.{KeepsText, text_with, IsNotContinued, OpensJoin, Begins}
+use Rattle.properties_lines.specs.Scanner as scanner
+use Rattle.properties_lines.specs.Scanner.{bytes_of, GivesLine}
+use Rattle.properties_lines.specs.declared.logical.LogicalLine.{LogicalLine}
+use Rattle.properties_lines.specs.declared.scanner.Scanner.{Scanner}
+use Rattle.properties_lines.proofs.LineJoiner.{kept-text, kept-utf8}
+use Rattle.properties_lines.proofs.HeldLines.{body-next, body-after, body-lines_left}
+use Rattle.properties_editing.specs.BodyLines.{ending_in}
+use Rattle.properties_editing.specs.BodyGroups.{IsWithin, groups_left, TakesLine, IsSpanOf, TakesGroup, groups_from, ReadsGroup}
+use Rattle.properties_items.specs.declared.line.LineEnding.{LineEnding}
+use Rattle.properties_editing.specs.declared.edit.groups.Group.{Group}
+use Rattle.properties_editing.specs.declared.edit.groups.GroupReader.{GroupReader}
+
+-- ---- parts of bytes
+
+pub front-of : (x y : List ℕ) → take (length x) (x ++ y) ≡ x
+front-of x y = take-append-le (length x) x y (omega arith) ∙ take-length x
+
+-- ---- the groups that are left
+
+pub groups-lines : (body : List ℕ) (s : GroupReader) → groups_left body s ≡ held_groups_after [] (lines_left body s.scanner)
+unfolding held_groups_of
+groups-lines body s = elim (cases_Bool s.scanner.is_done) [ inl h ↦ rw h refl | inr h ↦ rw h refl ]
+
+-- ---- the next line
+
+-- the bytes of a line ending, where a unit is one byte
+one-byte-ending : (e : Encoding) (ending : Option text.LineEnding) → unit_size e ≡ 1 → scanner.ending_bytes e ending ≡ ending_bytes ending
+one-byte-ending windows_1252 None h = refl
+one-byte-ending windows_1252 (Some by) h = ending-windows_1252 by
+one-byte-ending utf_8 None h = refl
+one-byte-ending utf_8 (Some by) h = ending-utf_8 by
+one-byte-ending utf_16le ending h = absurd (omega arith)
+one-byte-ending utf_16be ending h = absurd (omega arith)
+
+-- what is between two places of some bytes
+between : (d x y z : List ℕ) (start stop next : ℕ) → drop start d ≡ x ++ (y ++ z) → z ≡ drop next d → start ≤ stop → stop ≤ next → next ≤ length d
+    → length x ≡ stop - start → take (next - stop) (drop stop d) ≡ y
+between d x y z start stop next h rest ordered placed within size =
+    let place : start + length x ≡ stop = omega arith in
+    let left : drop stop d ≡ y ++ z = ap (λ n. drop n d) (sym place) ∙ sym (drop-drop (length x) start d) ∙ ap (drop (length x)) h ∙ drop-append_seam x (y ++ z) in
+    let all : length d - stop ≡ length y + (length d - next) =
+    sym (length-drop stop d) ∙ ap length left ∙ length-append y z ∙ ap (λ n. length y + n) (ap length rest ∙ length-drop next d) in
+    let much : next - stop ≡ length y = omega arith in
+    ap₂ take much left ∙ front-of y z
+
+line_size : (body : List ℕ) (start stop : ℕ) → start ≤ stop → stop ≤ length body → length (take (stop - start) (drop start body)) ≡ stop - start
+line_size body start stop h k =
+    let left : length (drop start body) ≡ length body - start = length-drop start body in
+    length-take-le (stop - start) (drop start body) (omega arith)
+
+-- The scanner gave the next line.
+pub takes-line : (body : List ℕ) (old : GroupReader) (new : Scanner) → IsWithin body old → GivesLine old.scanner body true new
+    → TakesLine body old (record old { scanner = new })
+takes-line body old new w g =
+    let next = body-next old.scanner new body w.within_body g in
+    let e = encoding_of new.encoding in
+    let one : unit_size e ≡ 1 = ap unit_size next.0 ∙ w.bytes in
+    let ordered = g.cut.ordered.0 in
+    let placed = g.cut.ordered.1 in
+    let within = g.cut.ordered.2 in
+    record {
+      live = g.live;
+      ending = g.cut.ending;
+      lines = body-lines_left old.scanner new body w.within_body g;
+      starts = next.1;
+      ordered = ordered;
+      placed = placed;
+      ends = between body (bytes_of body new.line) (scanner.ending_bytes e g.cut.ending) (drop new.at body) new.line.start new.line.end new.at
+          g.cut.division refl ordered placed within (line_size body new.line.start new.line.end ordered (omega arith))
+          ∙ one-byte-ending e g.cut.ending one;
+      passed = g.number;
+      flags = g.flags;
+      within = record { bytes = one; within_body = body-after old.scanner new body g };
+      encoding = next.0;
+      same = refl;
+    }
+
+-- ---- a group of one line
+
+pub no-bytes : (bytes : List ℕ) → (length bytes == 0) ≡ is_empty bytes
+no-bytes [] = refl
+no-bytes (b ∷ bytes) = grind (arith, nat_tests)
+
+same-place : (start stop n : ℕ) → start ≤ stop → n ≡ stop - start → (start == stop) ≡ (n == 0)
+same-place start stop n h k = grind (arith, nat_tests)
+
+-- How many bytes the line and its ending have.
+record HasSizes (body : List ℕ) (new : GroupReader) (ending : Option text.LineEnding) : Type 0 where
+  line : length (bytes_of body new.scanner.line) ≡ new.scanner.line.end - new.scanner.line.start
+  ending_size : length (ending_bytes ending) ≡ new.scanner.at - new.scanner.line.end
+  within : new.scanner.at ≤ length body
+
+has-sizes : (body : List ℕ) (old new : GroupReader) (k : TakesLine body old new) → HasSizes body new k.ending
+has-sizes body old new k =
+    let ordered = k.ordered in
+    let placed = k.placed in
+    let within = k.within.within_body.fits.within in
+    record {
+      line = line_size body new.scanner.line.start new.scanner.line.end ordered (omega arith);
+      ending_size = ap length (sym k.ends) ∙ line_size body new.scanner.line.end new.scanner.at placed within;
+      within = within;
+    }
+
+-- the span of its line
+span-one : (body : List ℕ) (old new : GroupReader) (group : Group) (k : TakesLine body old new)
+    → group.start ≡ new.scanner.line.start → group.end ≡ new.scanner.line.end → ending_in group.ending ≡ k.ending
+    → let h = held_line (encoding_of old.scanner.encoding) body new.scanner.line k.ending in
+    group.is_open ≡ (not (is_comment_line h.text) && is_open h.text) → group.is_empty ≡ (new.scanner.line.start == new.scanner.line.end)
+    → IsSpanOf (h ∷ []) group new.scanner.at
+span-one body old new group k starts ends ending opens empty =
+    let line = new.scanner.line in
+    let bytes = bytes_of body line in
+    let by = ending_bytes k.ending in
+    let sizes = has-sizes body old new k in
+    let size = sizes.line in
+    let ending_size = sizes.ending_size in
+    let ordered = k.ordered in
+    let placed = k.placed in
+    let all : length (bytes ++ (by ++ [])) ≡ length bytes + length by = ap (λ v. length (bytes ++ v)) (append-nil by) ∙ length-append bytes by in
+    record {
+      unended = omega arith;
+      ending = ending;
+      next = omega arith;
+      opens = opens;
+      empty = empty ∙ same-place line.start line.end (length bytes) ordered size ∙ no-bytes bytes;
+    }
+
+not_left-closes : (comment opened : Bool) → (not comment && opened) ≡ false → (comment || not opened) ≡ true
+not_left-closes true opened h = refl
+not_left-closes false true h = absurd (cc)
+not_left-closes false false h = refl
+
+joined-alone : (l : Line) → (not (is_comment_line l.text) && is_open l.text) ≡ false → joined (l ∷ []) ≡ l.text
+joined-alone l h = elim (cases_Bool (is_comment_line l.text)) [
+  | inl k ↦ joined-comment_line l [] k
+  | inr k ↦ joined-closed l (rw k at h)
+]
+
+not-left : (text : List ℕ) → IsNotContinued text → (not (is_comment_line text) && is_open text) ≡ false
+not-left text (inl h) = rw h refl
+not-left text (inr h) = elim (cases_Bool (is_comment_line text)) [ inl k ↦ rw k refl | inr k ↦ rw (k, h) refl ]
+
+-- The first line of a group was read.
+pub group-first : (E : Type 0) (body : List ℕ) (old found : GroupReader) (l : LogicalLine) (group : Group) (told : Bool) (k : TakesLine body old found)
+    → Begins {E = E} (encoding_of found.scanner.encoding) (bytes_of body found.scanner.line) (Ok told) l
+    → group.number ≡ found.scanner.passed → group.start ≡ found.scanner.line.start → group.end ≡ found.scanner.line.end
+    → ending_in group.ending ≡ k.ending → group.is_open ≡ told → group.is_empty ≡ (found.scanner.line.start == found.scanner.line.end)
+    → ReadsGroup body old group (record found { line = l })
+group-first E body old found l group false k begins number starts ends ending opens empty =
+    let e = encoding_of old.scanner.encoding in
+    let bytes = bytes_of body found.scanner.line in
+    let h : HeldLine = held_line e body found.scanner.line k.ending in
+    let line : Line = record { number = 0; text = h.text } in
+    let rest = lines_left body found.scanner in
+    let b = subst (λ v. IsNotContinued (decoded_line v bytes) × KeepsText v bytes l.is_kept l.text) k.encoding begins in
+    let alone = not-left h.text b.0 in
+    let same : take (group.end - group.start) (drop group.start body) ≡ bytes = ap₂ (λ m n. take (m - n) (drop n body)) ends starts in
+    let ordered = k.ordered in
+    let placed = k.placed in
+    let within = k.within.within_body.fits.within in
+    record {
+      first = h;
+      more = [];
+      live = k.live;
+      groups = ap (held_groups_after []) k.lines ∙ groups-close [] h rest (not_left-closes _ _ alone) ∙ ap (λ v. groups_from v (h ∷ []) rest) (sym opens);
+      starts = starts ∙ k.starts;
+      number = number ∙ k.passed;
+      passed = k.passed;
+      span = span-one body old found group k starts ends ending (opens ∙ sym alone) empty;
+      encoding = k.encoding;
+      opened = λ n. absurd (cc);
+      held_text = record { ordered = omega arith; within = omega arith; text = λ n. subst IsUtf8 (sym same) (kept-utf8 e bytes l.text l.is_kept b.1 n) };
+      text = ap (λ v. chars (text_with l v)) same ∙ kept-text e bytes l.text l.is_kept b.1 ∙ sym (joined-alone line alone);
+    }
+group-first E body old found l group true k begins number starts ends ending opens empty =
+    let e = encoding_of old.scanner.encoding in
+    let bytes = bytes_of body found.scanner.line in
+    let h : HeldLine = held_line e body found.scanner.line k.ending in
+    let line : Line = record { number = 0; text = h.text } in
+    let rest = lines_left body found.scanner in
+    let b = subst (λ v. OpensJoin (decoded_line v bytes) l) k.encoding begins in
+    let other = b.other in
+    let open_text = b.opens in
+    let kept = b.kept in
+    let leaves : closes [] line ≡ false = rw (other, open_text) refl in
+    let left : (not (is_comment_line h.text) && is_open h.text) ≡ true = rw (other, open_text) refl in
+    let ordered = k.ordered in
+    let placed = k.placed in
+    let within = k.within.within_body.fits.within in
+    record {
+      first = h;
+      more = [];
+      live = k.live;
+      groups = ap (held_groups_after []) k.lines ∙ groups-leave [] h rest leaves ∙ ap (λ v. groups_from v (h ∷ []) rest) (sym opens);
+      starts = starts ∙ k.starts;
+      number = number ∙ k.passed;
+      passed = k.passed;
+      span = span-one body old found group k starts ends ending (opens ∙ sym left) empty;
+      encoding = k.encoding;
+      opened = λ n. (other, kept);
+      held_text = record { ordered = omega arith; within = omega arith; text = λ n. absurd (cc) };
+      text = rw kept (b.closed ∙ sym (joined-one line other));
+    }
+
+-- ---- a line more
+
+from-more : (told : Bool) (g rest : List HeldLine) (h : HeldLine) (first : HeldLine) (more : List HeldLine) → g ≡ first ∷ more → told ≡ is_open h.text
+    → held_groups_after g (h ∷ rest) ≡ groups_from told (g ++ h ∷ []) rest
+from-more true g rest h first more is k =
+    groups-leave g h rest (rw (is, ← k) refl)
+from-more false g rest h first more is k =
+    groups-close g h rest (rw (is, ← k) refl)
+
+-- A line is joined to a group that is open.
+pub group-more : (body : List ℕ) (before : GroupReader) (group : Group) (mid found : GroupReader) (l : LogicalLine) (stop : ℕ) (ending : Option LineEnding) (told : Bool)
+    → ReadsGroup body before group mid → group.is_open ≡ true → (k : TakesLine body mid found)
+    → let text = decoded_line (encoding_of found.scanner.encoding) (bytes_of body found.scanner.line) in
+    told ≡ is_open text → chars l.text ≡ chars found.line.text ++ addition text → l.is_kept ≡ found.line.is_kept → stop ≡ found.scanner.line.end → ending_in ending ≡ k.ending
+    → ReadsGroup body before (record group { end = stop; ending = ending; is_open = told; is_empty = false }) (record found { line = l })
+group-more body before group mid found l stop ending told j opened k tells added keeps stops ends =
+    let e = encoding_of mid.scanner.encoding in
+    let bytes = bytes_of body found.scanner.line in
+    let h : HeldLine = held_line e body found.scanner.line k.ending in
+    let line : Line = record { number = 0; text = h.text } in
+    let first : Line = record { number = 0; text = j.first.text } in
+    let rest = lines_left body found.scanner in
+    let g = j.first ∷ j.more in
+    let by = ending_bytes k.ending in
+    let sizes = has-sizes body mid found k in
+    let size = sizes.line in
+    let ending_size = sizes.ending_size in
+    let within = sizes.within in
+    let starts = k.starts in
+    let ordered = k.ordered in
+    let placed = k.placed in
+    let next = j.span.next in
+    let before_kept = (j.opened opened).1 in
+    let other = (j.opened opened).0 in
+    let same_line : found.line ≡ mid.line = ap (λ v. let w : GroupReader = v in w.line) k.same in
+    let kept : l.is_kept ≡ true = keeps ∙ ap (λ v. let w : LogicalLine = v in w.is_kept) same_line ∙ before_kept in
+    let before_text : chars mid.line.text ≡ joined (as_lines g) = rw before_kept at j.text in
+    let text : chars l.text ≡ joined (as_lines g) ++ addition h.text =
+    added
+    ∙ ap₂ (λ v w. let u : LogicalLine = v in chars u.text ++ addition (decoded_line w bytes)) same_line k.encoding
+    ∙ ap (λ v. v ++ addition h.text) before_text in
+    let opens : told ≡ is_open h.text = tells ∙ ap (λ v. is_open (decoded_line v bytes)) k.encoding in
+    let pushed : length (j.first ∷ j.more ++ h ∷ []) ≡ length g + 1 = length-append g (h ∷ []) in
+    let unended : length (unended_bytes (g ++ h ∷ [])) ≡ length (group_bytes g) + length bytes =
+    ap length (unended-kept g h) ∙ length-append (group_bytes g) bytes in
+    let last : length (bytes ++ (by ++ [])) ≡ length bytes + length by = ap (λ v. length (bytes ++ v)) (append-nil by) ∙ length-append bytes by in
+    let all : length (group_bytes (g ++ h ∷ [])) ≡ length (group_bytes g) + length (bytes ++ (by ++ [])) =
+    ap length (group_bytes-append g (h ∷ [])) ∙ length-append (group_bytes g) (bytes ++ (by ++ [])) in
+    let passed = k.passed in
+    let before_passed = j.passed in
+    record {
+      first = j.first;
+      more = j.more ++ h ∷ [];
+      live = j.live;
+      groups = (rw opened at j.groups) ∙ ap (held_groups_after g) k.lines ∙ from-more told g rest h j.first j.more refl opens;
+      starts = j.starts;
+      number = j.number;
+      passed = omega arith;
+      span = record {
+        unended = omega arith;
+        ending = ends ∙ sym (last_ending-push g h);
+        next = omega arith;
+        opens = opens ∙ sym (is_left_open-push j.first j.more h ∙ rw other refl);
+        empty = sym (is_empty_line-push j.first j.more h);
+      };
+      encoding = k.encoding ∙ j.encoding;
+      opened = λ n. (other, kept);
+      held_text = record { ordered = omega arith; within = omega arith; text = λ n. absurd (cc) };
+      text = rw kept (text
+          ∙ sym (ap (λ v. joined (first ∷ v)) (as_lines-append j.more (h ∷ [])) ∙ joined-push first (as_lines j.more) line other));
+    }
+
+-- ---- a group that was read whole
+
+ends-from : (is_open is_done : Bool) (g : List HeldLine) (first : HeldLine) (more rest : List HeldLine) → g ≡ first ∷ more
+    → (is_open ≡ false ⊎ is_done ≡ true) → (is_done ≡ true → rest ≡ []) → groups_from is_open g rest ≡ g ∷ held_groups_after [] rest
+ends-from false is_done g first more rest is h none = refl
+ends-from true is_done g first more rest is (inl h) none = absurd (cc)
+ends-from true is_done g first more rest is (inr h) none = rw (none h, is) refl
+
+-- What was read is the next group.
+pub group-whole : (body : List ℕ) (before : GroupReader) (group : Group) (new : GroupReader) → ReadsGroup body before group new
+    → (group.is_open ≡ false ⊎ new.scanner.is_done ≡ true) → IsWithin body new → TakesGroup body before group new
+group-whole body before group new j ended w =
+    let g = j.first ∷ j.more in
+    let none : new.scanner.is_done ≡ true → lines_left body new.scanner ≡ [] = λ h. rw h refl in
+    record {
+      held = g;
+      live = j.live;
+      groups = groups-lines body before ∙ j.groups ∙ ends-from group.is_open new.scanner.is_done g j.first j.more (lines_left body new.scanner) refl ended none
+          ∙ ap (λ v. g ∷ v) (sym (groups-lines body new));
+      starts = j.starts;
+      number = j.number;
+      passed = j.passed;
+      span = j.span;
+      within = w;
+      encoding = j.encoding;
+      held_text = j.held_text;
+      text = j.text;
+    }

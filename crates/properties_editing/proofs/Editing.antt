@@ -1,0 +1,371 @@
+-- What an edit of a source comes to.
+use Rattle.std.proofs.Common.{◌≡◌, ◌==◌, ℕ, ◌+◌, ◌-◌, ◌≤◌, List, [], ◌∷◌, ◌++◌, All, length, take, drop, refl, ap, ap₂, sym, ◌∙◌, subst, inl, inr, append-nil, append_assoc, length-append, length-drop, arith, lit<, take-add, ◌<◌, get_or}
+use Rattle.std.specs.Prelude.{Bool, true, false, if◌then◌else◌, Some, None, Result, Err, IsErrAnd, not, ◌&&◌, unwrap_or}
+use Rattle.std.proofs.Math.Seq.{drop-append_seam}
+use Rattle.std.proofs.lemmas.List.{length-take-le, drop-drop, take_rest, take_more, map-append}
+use Rattle.std.proofs.lemmas.Result.{err_from_is_err_and}
+use Rattle.std.proofs.lemmas.Bool.{cases_Bool, cond-true}
+use Rattle.properties_format.proofs.Encodings.ByteOrderMarks.{byte_order_mark-none}
+use Rattle.properties_text.specs.Decoding as text
+use Rattle.properties_format.specs.Text.{scalar, line_feed, equals_sign}
+use Rattle.properties_format.specs.Printing.{in_key_or_value, printed_key, printed_characters, encoded_text}
+use Rattle.properties_format.proofs.Printing.Characters.{encoded-ascii, encoded_text-append}
+use Rattle.properties_format.specs.Encoding.{Encoding, windows_1252, utf_8, utf_16le, utf_16be, InForce, byte_order_mark, begins_with, begins_like_bom, utf_8_bom, utf_16be_bom, utf_16le_bom, output_encoding}
+use Rattle.properties_format.specs.Lines.{end}
+use Rattle.properties_format.specs.Writing.{is_empty}
+use Rattle.properties_format.specs.Body.{ending_bytes, groups_bytes, last_ending}
+use Rattle.properties_format.specs.Edited.{bom_of, pair_bytes, separation, added_ending, is_editable, edited, unsupported, IsEditResult, IsSetKeyResult, IsRemoveKeyResult}
+use Rattle.properties_format.specs.Reading.Items.{items_of}
+use Rattle.properties_format.specs.Reading.Body.{held_groups_of, entries_in}
+use Rattle.properties_format.specs.Reading.Parts.{unended_bytes}
+use Rattle.properties_format.specs.Reading.Edited.{AreSound, without, key_removed, key_removed_in, result_by, result_of, key_set, key_set_in, set_at, set_key_result, remove_key_result, KeyPlace, last_place}
+use Rattle.properties_format.proofs.Body.Groups.{groups_bytes-append, held_groups_of-meets, held-body}
+use Rattle.properties_format.proofs.Body.Numbers.{items_of-groups}
+use Rattle.properties_format.proofs.Edited.ByteOrderMarks.{source-whole}
+use Rattle.properties_format.proofs.Edited.Results.{set_key_result-meets, set_key_result-only, remove_key_result-meets, remove_key_result-only}
+use Rattle.properties_format.proofs.Edited.Steps.{result-after}
+use Rattle.properties_format.proofs.InTurn.Lines.{bytes-unended}
+use Rattle.properties_format.proofs.Changed.Read.{set_key-reads, remove_key-reads}
+use Rattle.properties_format.specs.Edits.{Edit, AreScalarEdits, IsEditAllResult}
+use Rattle.properties_format.specs.Reading.Edits.{edit_all_result}
+use Rattle.properties_format.proofs.Edits.Results.{edit_all_result-meets, edit_all_result-only}
+use Rattle.properties_items.proofs.Scalars.{string-scalars}
+use Rattle.properties_editing.specs.declared.edit.Edit as edit
+use Rattle.properties_editing.specs.declared.edit.Edit.TheVariants as variant
+use Rattle.properties_editing.specs.Editing.{edit_in, edits_in, AreMade, IsRefusal, IsSet, IsRemoved}
+use Rattle.properties_format.proofs.Edits.Contents.{edit_all-reads}
+use Rattle.properties_format.proofs.Changed.Occur.{key_set-keeps, key_removed-keeps}
+use Rattle.properties_format.proofs.Edited.Pair.{editable-own}
+use Rattle.properties_text.specs.Encoding.{encoding_of}
+use Rattle.properties_editing.specs.BodyKeys.{IsErrorOfGroups, IsPlaceOf, IsPlace, IsKeyFound, AreOthersFound, left_bytes, closing_bytes}
+use Rattle.properties_editing.specs.Sources.{IsInForce}
+use Rattle.properties_editing.proofs.BodyGroups.{front-of, no-bytes}
+use Rattle.properties_editing.specs.declared.edit.place.BodySpan.{BodySpan}
+use Rattle.properties_editing.specs.declared.edit.place.KeyPlace as place
+use Rattle.properties_editing.specs.declared.edit.source.BodyStart.{BodyStart}
+use Rattle.properties_items.specs.declared.error.PropertiesError.{PropertiesError}
+
+-- ---- a source that is open
+
+-- its byte order mark comes before its body
+pub bom-front : {source : List ℕ} {e : Encoding} {opened : BodyStart} → IsInForce source e opened → bom_of source ≡ take opened.start source
+bom-front {source} {e} {opened} h =
+    let body = drop opened.start source in
+    let whole : source ≡ bom_of source ++ body = source-whole e source ∙ ap (λ v. let w : InForce = v in bom_of source ++ w.body) h.in_force in
+    let sizes : length source ≡ length (bom_of source) + length body = ap length whole ∙ length-append (bom_of source) body in
+    let left : length body ≡ length source - opened.start = length-drop opened.start source in
+    let within = h.within in
+    let n : opened.start ≡ length (bom_of source) = omega arith in
+    sym (ap₂ take n whole ∙ front-of (bom_of source) body)
+
+-- what is read of a source is what its groups say
+groups-of : {source : List ℕ} {e : Encoding} {opened : BodyStart} (made : List ℕ) → IsInForce source e opened → is_editable (encoding_of opened.encoding) ≡ true
+    → result_of e source made ≡ result_by (entries_in 1 (held_groups_of (encoding_of opened.encoding) (drop opened.start source))) made
+groups-of {source} {e} {opened} made h ok =
+    let editable = ap (λ v. let w : InForce = v in is_editable w.encoding) h.in_force ∙ ok in
+    cond-true (is_editable (byte_order_mark e source).encoding) (result_by (items_of e source end) made) unsupported editable
+    ∙ ap (λ v. result_by v made) (items_of-groups e source ∙ ap (λ v. let w : InForce = v in entries_in 1 (held_groups_of w.encoding w.body)) h.in_force)
+
+-- where none of them is malformed it has the result that is made
+pub result-made : {source : List ℕ} {e : Encoding} {opened : BodyStart} (made : List ℕ) → IsInForce source e opened → is_editable (encoding_of opened.encoding) ≡ true
+    → AreSound (held_groups_of (encoding_of opened.encoding) (drop opened.start source)) → result_of e source made ≡ edited made
+result-made {source} {e} {opened} made h ok sound =
+    let gs = held_groups_of (encoding_of opened.encoding) (drop opened.start source) in
+    groups-of made h ok ∙ ap (λ v. result_by (entries_in 1 v) made) (sym (append-nil gs)) ∙ result-after 1 gs [] made sound
+
+-- ---- refusals
+
+not-unsupported : {e : Encoding} {source : List ℕ} {opened : BodyStart} → IsInForce source e opened → is_editable (encoding_of opened.encoding) ≡ true
+    → is_editable (byte_order_mark e source).encoding ≡ false → ⊥
+not-unsupported h ok none = let yes = ap (λ v. let w : InForce = v in is_editable w.encoding) h.in_force ∙ ok in absurd (cc)
+
+-- The first fault of the groups is the refusal of their source, and what a `?` returns.
+pub refusal : {A : Type 0} {source : List ℕ} {e : Encoding} {opened : BodyStart} {error : PropertiesError} (result : Result A PropertiesError) (Makes : List ℕ → Type 0) (made : List ℕ)
+    → IsInForce source e opened → is_editable (encoding_of opened.encoding) ≡ true → IsEditResult e source Makes (result_of e source made)
+    → IsErrorOfGroups (held_groups_of (encoding_of opened.encoding) (take (length source - opened.start) (drop opened.start source))) error
+    → IsErrAnd result (λ x. x ≡ error) → (x : PropertiesError) × (result ≡ Err x) × IsRefusal (IsEditResult e source Makes) x
+refusal {source = source} {e} {opened} result Makes made h ok meets fault returned =
+    let r = err_from_is_err_and result returned in
+    (r.0, r.1, subst (IsRefusal (IsEditResult e source Makes)) (sym r.2) (by (rw (take_rest source opened.start) at fault)))
+  where
+    by : {error : PropertiesError} → IsErrorOfGroups (held_groups_of (encoding_of opened.encoding) (drop opened.start source)) error → IsRefusal (IsEditResult e source Makes) error
+    by (inl (how, n, first, is)) = inr (inl (how, n, subst (IsEditResult e source Makes) (groups-of made h ok ∙ first made) meets, is))
+    by (inr is) = inr (inr ((λ none. not-unsupported h ok none), is))
+
+-- ---- a key is set
+
+pub set-edits : {e : Encoding} {source key value bytes : List ℕ} → All scalar key → All scalar value → set_key_result e source key value ≡ edited bytes
+    → IsSet e source key value bytes
+set-edits {e} {source} {key} {value} {bytes} k v is =
+    let meets = subst (IsSetKeyResult e source key value) is (set_key_result-meets e source key value) in
+    record {
+      edit = record {
+        result = meets;
+        only = λ other h. set_key_result-only e source key value other h ∙ is;
+        reads = set_key-reads e source key value bytes k v meets;
+      };
+      keeps = key_set-keeps e source key value bytes meets.2;
+    }
+
+-- ---- the printed pair
+
+-- it is appended part by part
+pub pair-appended : (e : Encoding) (first : Bool) (key value start keyed separated all : List ℕ)
+    → keyed ≡ start ++ encoded_text e (printed_key e false first key) → separated ≡ keyed ++ equals_sign ∷ []
+    → all ≡ separated ++ encoded_text e (printed_characters e false in_key_or_value value) → all ≡ start ++ pair_bytes e first key value
+pair-appended e first key value start keyed separated all h k m =
+    let front = printed_key e false first key in
+    let back = printed_characters e false in_key_or_value value in
+    m ∙ ap (λ v. v ++ encoded_text e back) (k ∙ ap (λ v. v ++ equals_sign ∷ []) h)
+    ∙ append_assoc (start ++ encoded_text e front) (equals_sign ∷ []) (encoded_text e back)
+    ∙ append_assoc start (encoded_text e front) (equals_sign ∷ encoded_text e back)
+    ∙ ap (λ v. start ++ v) (sym (encoded_text-append e front (equals_sign ∷ back)
+    ∙ ap (λ o. encoded_text e front ++ (unwrap_or o [] ++ encoded_text e back)) (encoded-ascii e equals_sign (lit< tt))))
+
+-- ---- whether it is the first
+
+pub is_empty-append : (x y : List ℕ) → is_empty (x ++ y) ≡ (is_empty x && is_empty y)
+is_empty-append [] y = refl
+is_empty-append (c ∷ x) y = refl
+
+pub are_empty : (x y : List ℕ) (a b : Bool) → a ≡ (length x == 0) → b ≡ (length y == 0) → (a && b) ≡ is_empty (x ++ y)
+are_empty x y a b h k = ap₂ (λ v w. v && w) (h ∙ no-bytes x) (k ∙ no-bytes y) ∙ sym (is_empty-append x y)
+
+-- a pair at the end is printed and ended
+pub appended : (e f : Encoding) (source separation all : List ℕ) (first other : Bool) (key value start paired ended : List ℕ) → start ≡ []
+    → paired ≡ start ++ pair_bytes e first key value → ended ≡ paired ++ line_feed ∷ [] → all ≡ source ++ (separation ++ ended) → first ≡ other
+    → all ≡ source ++ (separation ++ (pair_bytes e other key value ++ line_feed ∷ []))
+appended e f source separation all first other key value start paired ended none h k m is =
+    m ∙ ap (λ v. source ++ (separation ++ v)) (k ∙ ap (λ v. v ++ line_feed ∷ []) (h ∙ ap₂ (λ v b. v ++ pair_bytes e b key value) none is))
+
+-- ---- a pair is replaced
+
+-- what comes before the last pair, and what after it
+pub record IsSplitAt (body : List ℕ) (k : KeyPlace) (pair : BodySpan) : Type 0 where
+  pub front : take pair.start body ≡ groups_bytes k.before
+  pub back : drop pair.end body ≡ ending_bytes (last_ending k.group) ++ groups_bytes k.after
+  pub ordered : pair.start ≤ pair.end
+  pub within : pair.end ≤ length body
+
+split-at : (a b c : List ℕ) (start end : ℕ) → start ≡ length a → end ≡ start + length b
+    → (take start (a ++ (b ++ c)) ≡ a) × (drop end (a ++ (b ++ c)) ≡ c) × (start ≤ end) × (end ≤ length (a ++ (b ++ c)))
+split-at a b c start after is ends =
+    let both : length (a ++ b) ≡ after = length-append a b ∙ (omega arith) in
+    let all : length (a ++ (b ++ c)) ≡ length a + (length b + length c) = length-append a (b ++ c) ∙ ap (λ n. length a + n) (length-append b c) in (
+      ap (λ n. take n (a ++ (b ++ c))) is ∙ front-of a (b ++ c),
+      ap₂ drop (sym both) (sym (append_assoc a b c)) ∙ drop-append_seam (a ++ b) c,
+      (omega arith),
+      (omega arith),
+    )
+
+pub place-split : (e : Encoding) (body key : List ℕ) (pair : BodySpan) → is_editable e ≡ true → (k : IsPlaceOf key (held_groups_of e body) pair) → IsSplitAt body k.place pair
+place-split e body key pair ok k =
+    let gs = held_groups_of e body in
+    let p = k.place in
+    let bytes = unended_bytes p.group in
+    let ending = ending_bytes (last_ending p.group) in
+    let rest = ending ++ groups_bytes p.after in
+    let whole : body ≡ groups_bytes p.before ++ (bytes ++ rest) =
+    sym (held-body e body gs ok (held_groups_of-meets e body))
+    ∙ ap groups_bytes k.division
+    ∙ groups_bytes-append p.before (p.group ∷ p.after)
+    ∙ ap (λ v. groups_bytes p.before ++ (v ++ groups_bytes p.after)) (bytes-unended p.group)
+    ∙ ap (λ v. groups_bytes p.before ++ v) (append_assoc bytes ending (groups_bytes p.after)) in
+    let parts = split-at (groups_bytes p.before) bytes rest pair.start pair.end k.starts k.ends in
+    record {
+      front = ap (take pair.start) whole ∙ parts.0;
+      back = ap (drop pair.end) whole ∙ parts.1;
+      ordered = parts.2;
+      within = subst (λ v. pair.end ≤ length v) (sym whole) parts.3;
+    }
+
+-- a first part of a source
+part-of : (source : List ℕ) (start n : ℕ) → start ≤ length source → take (start + n) source ≡ take start source ++ take n (drop start source)
+part-of source start n h = take-add start n source
+
+start-first : (body : List ℕ) (start : ℕ) → start ≤ length body → (start == 0) ≡ is_empty (take start body)
+start-first body start h = ap (λ n. n == 0) (sym (length-take-le start body h)) ∙ no-bytes (take start body)
+
+-- The source with the pair replaced is its result.
+pub replaced-result : {source : List ℕ} {e : Encoding} {opened : BodyStart} {found : place.KeyPlace} (key value bytes : List ℕ) (pair : BodySpan) → IsInForce source e opened
+    → is_editable (encoding_of opened.encoding) ≡ true → IsKeyFound (encoding_of opened.encoding) (drop opened.start source) key found → found.pair ≡ Some pair
+    → bytes ≡ take (opened.start + pair.start) source
+    ++ (pair_bytes (output_encoding (encoding_of opened.encoding)) (pair.start == 0) key value ++ drop (opened.start + pair.end) source)
+    → set_key_result e source key value ≡ edited bytes
+replaced-result {source} {e} {opened} {found} key value bytes pair h ok k is made =
+    let f = encoding_of opened.encoding in
+    let body = drop opened.start source in
+    let gs = held_groups_of f body in
+    let place : IsPlaceOf key gs pair = subst (IsPlace key gs) is k.pair in
+    let at = place-split f body key pair ok place in
+    let before = groups_bytes place.place.before in
+    let ordered = at.ordered in
+    let within = at.within in
+    let first : (pair.start == 0) ≡ is_empty before = start-first body pair.start (omega arith) ∙ ap is_empty at.front in
+    let printed : pair_bytes (output_encoding f) (pair.start == 0) key value ≡ pair_bytes f (is_empty before) key value =
+    ap₂ (λ v b. pair_bytes v b key value) (editable-own f ok) first in
+    let front : take (opened.start + pair.start) source ≡ bom_of source ++ before =
+    part-of source opened.start pair.start h.within ∙ ap₂ (λ v w. v ++ w) (sym (bom-front h)) at.front in
+    let back : drop (opened.start + pair.end) source ≡ ending_bytes (last_ending place.place.group) ++ groups_bytes place.place.after =
+    sym (drop-drop pair.end opened.start source) ∙ at.back in
+    let set : key_set e source key value ≡ bytes =
+    ap (λ v. key_set_in v source key value) h.in_force
+    ∙ ap (λ v. bom_of source ++ set_at f source gs key value v) place.is
+    ∙ sym (append_assoc (bom_of source) before (pair_bytes f (is_empty before) key value ++ (ending_bytes (last_ending place.place.group) ++ groups_bytes place.place.after)))
+    ∙ sym (made ∙ ap₂ (λ v w. v ++ w) front (ap₂ (λ v w. v ++ w) printed back)) in
+    ap (result_of e source) set ∙ result-made bytes h ok k.sound
+
+-- ---- a pair is appended
+
+-- The source with the pair at its end is its result.
+pub appended-result : {source : List ℕ} {e : Encoding} {opened : BodyStart} {found : place.KeyPlace} (key value bytes : List ℕ) → IsInForce source e opened
+    → is_editable (encoding_of opened.encoding) ≡ true → IsKeyFound (encoding_of opened.encoding) (drop opened.start source) key found → found.pair ≡ None
+    → let separation = closing_bytes (added_ending source) found.closing in
+    bytes ≡ source ++ (separation ++ (pair_bytes (output_encoding (encoding_of opened.encoding)) (is_empty (drop opened.start source ++ separation)) key value ++ line_feed ∷ []))
+    → set_key_result e source key value ≡ edited bytes
+appended-result {source} {e} {opened} {found} key value bytes h ok k none made =
+    let f = encoding_of opened.encoding in
+    let body = drop opened.start source in
+    let gs = held_groups_of f body in
+    let last : last_place key gs ≡ None = subst (IsPlace key gs) none k.pair in
+    let all : groups_bytes gs ≡ body = held-body f body gs ok (held_groups_of-meets f body) in
+    let parts = k.closing source in
+    let by = closing_bytes (added_ending source) found.closing in
+    let pair = pair_bytes f (is_empty (body ++ by)) key value ++ line_feed ∷ [] in
+    let whole : source ≡ bom_of source ++ body = source-whole e source ∙ ap (λ v. let w : InForce = v in bom_of source ++ w.body) h.in_force in
+    let set : key_set e source key value ≡ bytes =
+    ap (λ v. key_set_in v source key value) h.in_force
+    ∙ ap (λ v. bom_of source ++ set_at f source gs key value v) last
+    ∙ ap₂ (λ v w. bom_of source ++ ((v ++ w) ++ (pair_bytes f (is_empty (v ++ w)) key value ++ line_feed ∷ []))) all parts
+    ∙ ap (λ v. bom_of source ++ v) (append_assoc body by pair)
+    ∙ sym (append_assoc (bom_of source) body (by ++ pair))
+    ∙ ap (λ v. v ++ (by ++ pair)) (sym whole)
+    ∙ sym (made ∙ ap (λ v. source ++ (by ++ (pair_bytes v (is_empty (body ++ by)) key value ++ line_feed ∷ []))) (editable-own f ok)) in
+    ap (result_of e source) set ∙ result-made bytes h ok k.sound
+
+-- ---- the law of the source
+
+-- a pair of a body is within the source
+pub span-within : {source : List ℕ} {e : Encoding} {opened : BodyStart} {found : place.KeyPlace} {key : List ℕ} (pair : BodySpan) → IsInForce source e opened
+    → is_editable (encoding_of opened.encoding) ≡ true → IsKeyFound (encoding_of opened.encoding) (drop opened.start source) key found → found.pair ≡ Some pair
+    → opened.start + pair.end ≤ length source
+span-within {source} {e} {opened} {found} {key} pair h ok k is =
+    let f = encoding_of opened.encoding in
+    let body = drop opened.start source in
+    let at = place-split f body key pair ok (subst (IsPlace key (held_groups_of f body)) is k.pair) in
+    let within = at.within in
+    let left : length body ≡ length source - opened.start = length-drop opened.start source in
+    let start = h.within in
+    omega arith
+
+-- ---- a byte order mark at the front
+
+pub begins-present : (b : List ℕ) (e : Encoding) (n : ℕ) → text.IsInForce b e n → begins_like_bom b ≡ true
+begins-present b e n h = elim (cases_Bool (begins_like_bom b)) [
+  | inl k ↦ k
+  | inr k ↦
+      let one = sym (byte_order_mark-none windows_1252 b k) ∙ h windows_1252 in
+      let two = sym (byte_order_mark-none utf_8 b k) ∙ h utf_8 in
+      let a : windows_1252 ≡ e = ap (λ v. let w : InForce = v in w.encoding) one in
+      let c : utf_8 ≡ e = ap (λ v. let w : InForce = v in w.encoding) two in
+      absurd (cc)
+]
+
+pub begins-none : (b : List ℕ) → text.IsUnmarked b → begins_like_bom b ≡ false
+begins-none b h =
+    let same : (byte_order_mark windows_1252 b).encoding ≡ windows_1252 = ap (λ v. let w : InForce = v in w.encoding) (h windows_1252) in
+    elim (cases_Bool (begins_with utf_8_bom b)) [
+      | inl k ↦ let is : (byte_order_mark windows_1252 b).encoding ≡ utf_8 = rw k refl in absurd (cc)
+      | inr k ↦ elim (cases_Bool (begins_with utf_16be_bom b)) [
+        | inl l ↦ let is : (byte_order_mark windows_1252 b).encoding ≡ utf_16be = rw (k, l) refl in absurd (cc)
+        | inr l ↦ elim (cases_Bool (begins_with utf_16le_bom b)) [
+          | inl m ↦ let is : (byte_order_mark windows_1252 b).encoding ≡ utf_16le = rw (k, l, m) refl in absurd (cc)
+          | inr m ↦ rw (k, l, m) refl
+        ]
+      ]
+    ]
+
+no_bom-begins : (b : List ℕ) → (length (bom_of b) == 0) ≡ not (begins_like_bom b)
+no_bom-begins b = elim (cases_Bool (begins_with utf_8_bom b)) [
+  | inl k ↦ rw k refl
+  | inr k ↦ elim (cases_Bool (begins_with utf_16be_bom b)) [
+    | inl l ↦ rw (k, l) refl
+    | inr l ↦ elim (cases_Bool (begins_with utf_16le_bom b)) [ inl m ↦ rw (k, l, m) refl | inr m ↦ rw (k, l, m) refl ]
+  ]
+]
+
+-- a source starts with its body where it begins with no byte order mark,
+pub unmarked : {source : List ℕ} {e : Encoding} {opened : BodyStart} → IsInForce source e opened → (opened.start == 0) ≡ not (begins_like_bom source)
+unmarked {source} {e} {opened} h =
+    let size : length (bom_of source) ≡ opened.start = ap length (bom-front h) ∙ length-take-le opened.start source h.within in
+    ap (λ n. n == 0) (sym size) ∙ no_bom-begins source
+
+-- and doesn't where it begins with one
+marked : {source : List ℕ} {e : Encoding} {opened : BodyStart} → IsInForce source e opened → not (opened.start == 0) ≡ begins_like_bom source
+marked {source} {e} {opened} h = ap not (unmarked h) ∙ again (begins_like_bom source)
+  where
+    again : (b : Bool) → not (not b) ≡ b
+    again b = elim (cases_Bool b) [ inl k ↦ rw k refl | inr k ↦ rw k refl ]
+
+-- ---- a key is removed
+
+pub removed-edits : {e : Encoding} {source key bytes : List ℕ} → remove_key_result e source key ≡ edited bytes → IsRemoved e source key bytes
+removed-edits {e} {source} {key} {bytes} is =
+    let meets = subst (IsRemoveKeyResult e source key) is (remove_key_result-meets e source key) in
+    record {
+      edit = record {
+        result = meets;
+        only = λ other h. remove_key_result-only e source key other h ∙ is;
+        reads = remove_key-reads e source key bytes meets;
+      };
+      keeps = key_removed-keeps e source key bytes meets.2;
+    }
+
+-- The source with what is left of its body is its result.
+pub removed-bytes : {source : List ℕ} {e : Encoding} {opened : BodyStart} (key bytes : List ℕ) → IsInForce source e opened
+    → is_editable (encoding_of opened.encoding) ≡ true → AreSound (held_groups_of (encoding_of opened.encoding) (drop opened.start source))
+    → (let rest = without key (held_groups_of (encoding_of opened.encoding) (drop opened.start source)) in
+    bytes ≡ take opened.start source ++ ((if opened.start == 0 && begins_like_bom rest then line_feed ∷ [] else []) ++ rest))
+    → remove_key_result e source key ≡ edited bytes
+removed-bytes {source} {e} {opened} key bytes h ok sound made =
+    let rest = without key (held_groups_of (encoding_of opened.encoding) (drop opened.start source)) in
+    let set : key_removed e source key ≡ bytes =
+    ap (λ v. key_removed_in v source key) h.in_force
+    ∙ sym (made ∙ ap₂ (λ v b. v ++ ((if b && begins_like_bom rest then line_feed ∷ [] else []) ++ rest)) (sym (bom-front h)) (unmarked h)) in
+    ap (result_of e source) set ∙ result-made bytes h ok sound
+
+-- The source with the parts that are left is its result.
+pub removed-result : {source : List ℕ} {e : Encoding} {opened : BodyStart} (key bytes : List ℕ) (others : List BodySpan) → IsInForce source e opened
+    → is_editable (encoding_of opened.encoding) ≡ true → AreOthersFound (encoding_of opened.encoding) (drop opened.start source) key others
+    → bytes ≡ left_bytes source opened.start others → remove_key_result e source key ≡ edited bytes
+removed-result {source} {e} {opened} key bytes others h ok k made =
+    removed-bytes key bytes h ok k.sound
+    (made ∙ ap (λ v. take opened.start source ++ ((if opened.start == 0 && begins_like_bom v then line_feed ∷ [] else []) ++ v)) k.bytes)
+
+-- ---- edits in turn
+
+pub made-edits : {e : Encoding} {source bytes : List ℕ} (edits : List Edit) → AreScalarEdits edits → edit_all_result e source edits ≡ edited bytes
+    → AreMade e source edits bytes
+made-edits {e} {source} {bytes} edits scalar is =
+    let meets = subst (IsEditAllResult e source edits) is (edit_all_result-meets e source edits) in
+    record {
+      result = meets;
+      only = λ other h. edit_all_result-only e source edits other h ∙ is;
+      reads = edit_all-reads e source edits bytes scalar meets;
+    }
+
+-- the texts of edits are of scalar values
+pub edits-scalars : (edits : List edit.Edit) → AreScalarEdits (edits_in edits)
+edits-scalars [] = tt
+edits-scalars (variant.Put key value ∷ edits) = ((string-scalars key, string-scalars value), edits-scalars edits)
+edits-scalars (variant.Remove key ∷ edits) = (tt, edits-scalars edits)
+edits-scalars (variant.SetValue key value ∷ edits) = ((string-scalars key, string-scalars value), edits-scalars edits)
+
+pub edits_in-more : (edits : List edit.Edit) (i : ℕ) (d : edit.Edit) → i < length edits
+    → edits_in (take (i + 1) edits) ≡ edits_in (take i edits) ++ edit_in (get_or edits i d) ∷ []
+edits_in-more edits i d h = ap edits_in (take_more edits i d h) ∙ map-append edit_in (take i edits) (get_or edits i d ∷ [])
+
+-- a source that is edited is in an encoding that is edited
+pub editable : {source : List ℕ} {e : Encoding} {opened : BodyStart} → IsInForce source e opened → is_editable (encoding_of opened.encoding) ≡ true
+    → is_editable (byte_order_mark e source).encoding ≡ true
+editable h ok = ap (λ v. let w : InForce = v in is_editable w.encoding) h.in_force ∙ ok

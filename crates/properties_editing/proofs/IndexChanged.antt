@@ -1,0 +1,140 @@
+-- The index of a body in which the last pair with a key gets another value.
+use Rattle.std.proofs.Common.{◌≡◌, ◌≢◌, ◌<◌, ◌≤◌, ℕ, ◌+◌, ◌^◌, ◌==◌, Bool, true, false, List, [], ◌∷◌, ◌++◌, Option, Some, None, length, refl, ap, ap₂, sym, ◌∙◌, subst, inl, inr, length-append, arith}
+use Rattle.std.specs.Prelude.{◌⊎◌, bytes_eq, if◌then◌else◌, map}
+use Rattle.std.specs.Option.{option_map}
+use Rattle.std.proofs.lemmas.Bool.{cond-true, cond-false}
+use Rattle.std.proofs.lemmas.Bool.Decides.{nat_tests}
+use Rattle.properties_format.specs.Text.{LineEnding, lf, cr, crlf, line_ending_text}
+use Rattle.properties_format.specs.Encoding.{Encoding}
+use Rattle.properties_format.specs.Groups.{EndsClosed, IsWhole}
+use Rattle.properties_format.specs.Entries.{pair}
+use Rattle.properties_format.specs.Items.{Outcome, given}
+use Rattle.properties_format.specs.Body.{HeldLine, AreGroupsOf, NoneHasKey, as_lines, ending_bytes, groups_bytes, last_ending}
+use Rattle.properties_format.specs.Edited.{final_group, is_editable, is_empty_line, is_last_open, is_left_open}
+use Rattle.properties_format.specs.Reading.Body.{is_pair_with}
+use Rattle.properties_format.specs.Reading.Edited.{IsSound, AreSound}
+use Rattle.properties_format.specs.Reading.Parts.{unended_bytes}
+use Rattle.properties_format.specs.Writing.{is_empty}
+use Rattle.properties_format.proofs.InTurn.Lines.{ending-of}
+use Rattle.properties_format.proofs.InTurn.Merged.{AreInTurn, in-turn}
+use Rattle.properties_editing.specs.BodyIndex.{FollowsPair, IsIndex, all_shifted, is_pair, last_value, live_spans, outcome, places_of, shifted, span_at, spans_where, stored_at, stored_value}
+use Rattle.properties_editing.specs.BodyKeys.{closing_of}
+use Rattle.properties_editing.specs.declared.edit.index.Index.{Index}
+use Rattle.properties_editing.specs.declared.edit.index.Shift.TheVariants as shift
+use Rattle.properties_editing.specs.declared.edit.place.Closing.{Closing}
+use Rattle.properties_editing.specs.declared.edit.place.Closing.TheVariants.{OneEnding}
+use Rattle.properties_editing.proofs.IndexSpans.{IsShift, live-shifted, places-shifted, replaced-shift, size-around}
+use Rattle.properties_editing.proofs.IndexValues.{last-replaced}
+
+-- ---- how groups end
+
+-- A whole group is not left open.
+pub whole-closed : (g : List HeldLine) → IsWhole (as_lines g) → is_left_open g ≡ false
+whole-closed [] w = absurd w
+whole-closed (h ∷ hs) (inl w) = let s = w.0 in rw s refl
+whole-closed (h ∷ hs) (inr w) = let s = w.0 in let t = closed h hs w.1 in rw (s, t) refl
+  where
+    closed : (h : HeldLine) (hs : List HeldLine) → EndsClosed (record { number = 0; text = h.text }) (as_lines hs) → is_last_open (h ∷ hs) ≡ false
+    closed h [] w = w
+    closed h (i ∷ hs) w = closed i hs w.1
+
+-- The last group of some groups and others is that of the others.
+pub final-behind : (xs : List (List HeldLine)) (g : List HeldLine) (gs : List (List HeldLine)) → final_group (xs ++ g ∷ gs) ≡ final_group (g ∷ gs)
+final-behind [] g gs = refl
+final-behind (x ∷ []) g gs = refl
+final-behind (x ∷ y ∷ xs) g gs = final-behind (y ∷ xs) g gs
+
+-- Groups in turn, without the first of them.
+pub turn-behind : (e : Encoding) (xs : List (List HeldLine)) (g : List HeldLine) (gs : List (List HeldLine)) → AreInTurn e (xs ++ g ∷ gs) → AreInTurn e (g ∷ gs)
+turn-behind e [] g gs h = h
+turn-behind e (x ∷ []) g gs h = h.1
+turn-behind e (x ∷ y ∷ xs) g gs h = turn-behind e (y ∷ xs) g gs h.1
+
+-- The result says whether no group comes after.
+abbrev pub IsLastTold : Bool → List (List HeldLine) → Type 0
+IsLastTold b [] = b ≡ true
+IsLastTold b (g ∷ gs) = b ≡ false
+
+pub some-ending : (by : LineEnding) → 0 < length (line_ending_text by)
+some-ending lf = omega arith
+some-ending cr = omega arith
+some-ending crlf = omega arith
+
+-- A part that ends where the groups end is the last.
+pub last-told : (e : Encoding) (before : List (List HeldLine)) (g : List HeldLine) (after : List (List HeldLine)) (m n start : ℕ) → AreInTurn e (before ++ g ∷ after)
+    → m ≡ start + (length (groups_bytes before) + length (unended_bytes g)) → n ≡ start + length (groups_bytes (before ++ g ∷ after)) → IsLastTold (m == n) after
+last-told e before g [] m n start turn m_is n_is =
+    let t = turn-behind e before g [] turn in
+    let none = ap (λ o. length (ending_bytes o)) (ending-of e None g t.0) in
+    let size = size-around before g [] in
+    grind (arith, nat_tests)
+last-told e before g (h ∷ after) m n start turn m_is n_is =
+    let t = turn-behind e before g (h ∷ after) turn in
+    let by = t.0.0 in
+    let ends = ap (λ o. length (ending_bytes o)) (ending-of e (Some by) g t.0.1) in
+    let some = some-ending by in
+    let size = size-around before g (h ∷ after) in
+    let more : m < n = omega arith in
+    grind (arith, nat_tests)
+
+-- ---- groups that say the same
+
+sound-changed : (before : List (List HeldLine)) (g h : List HeldLine) (after : List (List HeldLine)) → IsSound (outcome h) → AreSound (before ++ g ∷ after)
+    → AreSound (before ++ h ∷ after)
+sound-changed [] g h after s k = (s, k.1)
+sound-changed (x ∷ before) g h after s k = (k.0, sound-changed before g h after s k.1)
+
+no-groups : (xs : List (List HeldLine)) (g : List HeldLine) (gs : List (List HeldLine)) → xs ++ g ∷ gs ≡ [] → ⊥
+no-groups [] g gs h = absurd (cc)
+no-groups (x ∷ xs) g gs h = absurd (cc)
+
+-- ---- a pair takes the place of the last pair with its key
+
+module _ (before : List (List HeldLine)) (g h : List HeldLine) (after : List (List HeldLine)) (key was value : List ℕ) (g_is : outcome g ≡ given (pair key was))
+    (h_is : outcome h ≡ given (pair key value)) (none : NoneHasKey key after) (ending : last_ending h ≡ last_ending g) (some : 0 < length (unended_bytes g))
+    (old_end new_end : ℕ) (old_is : old_end ≡ length (groups_bytes before) + length (unended_bytes g))
+    (new_is : new_end ≡ length (groups_bytes before) + length (unended_bytes h)) (fits : length (groups_bytes (before ++ h ∷ after)) < 2 ^ 64)
+    (full : is_empty_line h ≡ false) (closed : is_left_open h ≡ false) where
+  pub changed-sound : AreSound (before ++ g ∷ after) → AreSound (before ++ h ∷ after)
+  changed-sound k = sound-changed before g h after (subst IsSound (sym h_is) tt) k
+
+  shift-by : (such : Outcome → Bool) → such (outcome h) ≡ such (outcome g)
+      → IsShift (shifted (shift.Moved old_end new_end)) (spans_where such 0 (before ++ g ∷ after)) (spans_where such 0 (before ++ h ∷ after))
+  shift-by such same = replaced-shift such before g h after old_end new_end same ending some old_is new_is fits
+
+  closes : (rest : List (List HeldLine)) (b : Bool) (old new : Closing) → IsLastTold b rest → new ≡ (if b then OneEnding else old)
+      → (before ++ g ∷ rest ≡ []) ⊎ (old ≡ closing_of (is_empty_line (final_group (before ++ g ∷ rest))) (is_left_open (final_group (before ++ g ∷ rest))))
+      → (before ++ h ∷ rest ≡ []) ⊎ (new ≡ closing_of (is_empty_line (final_group (before ++ h ∷ rest))) (is_left_open (final_group (before ++ h ∷ rest))))
+  closes [] b old new told is k =
+      let final = final-behind before h [] in
+      inr (is ∙ cond-true b OneEnding old told ∙ ap₂ closing_of (sym (ap is_empty_line final ∙ full)) (sym (ap is_left_open final ∙ closed)))
+  closes (r ∷ rest) b old new told is (inl gone) = absurd (no-groups before g (r ∷ rest) gone)
+  closes (r ∷ rest) b old new told is (inr k) =
+      inr (is ∙ cond-false b OneEnding old told ∙ k
+      ∙ ap (λ v. closing_of (is_empty_line v) (is_left_open v)) (final-behind before g (r ∷ rest) ∙ sym (final-behind before h (r ∷ rest))))
+
+  -- Its index is that of the groups then.
+  pub changed-index : (is_last : Bool) (old new : Index) → IsLastTold is_last after → IsIndex (before ++ g ∷ after) old → FollowsPair key value old_end new_end is_last old new
+      → IsIndex (before ++ h ∷ after) new
+  changed-index is_last old new told i k =
+      let f = shifted (shift.Moved old_end new_end) in
+      record {
+        listed =
+            record {
+              live =
+                  ap live_spans k.spans
+                  ∙ live-shifted f old.spans.items (spans_where is_pair 0 (before ++ g ∷ after)) (spans_where is_pair 0 (before ++ h ∷ after)) i.listed.live
+                  (shift-by is_pair (ap is_pair h_is ∙ sym (ap is_pair g_is)));
+              stored = λ j.
+                  ap₂ (λ v w. map (span_at v) w) k.spans (k.places j)
+                  ∙ places-shifted f old.spans.items (places_of (stored_at old.pairs.entries j)) (spans_where (is_pair_with j) 0 (before ++ g ∷ after))
+                  (spans_where (is_pair_with j) 0 (before ++ h ∷ after))
+                  (i.listed.stored j) (shift-by (is_pair_with j) (ap (is_pair_with j) h_is ∙ sym (ap (is_pair_with j) g_is)));
+              values = λ j.
+                  k.values j
+                  ∙ ap (λ o. if bytes_eq key j then option_map (λ v. value) o else o) (i.listed.values j)
+                  ∙ sym (last-replaced key was value before g h after g_is h_is none j);
+            };
+        closing = closes after is_last old.closing new.closing told k.closing i.closing;
+        ordered = k.ordered;
+      }

@@ -1,0 +1,295 @@
+-- The last pair of a body, whatever its key, and its last line ending.
+use Rattle.std.proofs.Common.{◌≡◌, ◌<◌, ◌≤◌, ℕ, ◌+◌, ◌-◌, true, false, List, [], ◌∷◌, ◌++◌, length, take, drop, get_or, refl, inl, inr, ap, ap₂, sym, ◌∙◌, subst, arith, append-nil, append_assoc, length-append}
+use Rattle.std.specs.Prelude.{Option, Some, None, if◌then◌else◌, unwrap_or}
+use Rattle.std.specs.Option.{option_map}
+use Rattle.std.specs.Option.{is_some}
+use Rattle.std.proofs.lemmas.Bool.{cases_Bool, cond-true, cond-false}
+use Rattle.std.proofs.lemmas.List.{drop_more, take-append-drop}
+use borrow.Author.Tests.{eqb-true}
+use Rattle.properties_format.specs.Text as text
+use Rattle.properties_format.specs.Text.{line_feed, carriage_return, line_ending_text, equals_sign}
+use Rattle.properties_format.specs.Lines.{HoldsNoLineEnd}
+use Rattle.properties_format.specs.Reading.Lines.{ends_in_cr}
+use Rattle.properties_format.specs.Lines.{Ended, Lines}
+use Rattle.properties_format.specs.Reading.Lines.{lines_of}
+use Rattle.properties_format.specs.Body.{held_in}
+use Rattle.properties_format.specs.Valued.{ending_among}
+use Rattle.properties_format.proofs.Lines.Plain.{last-plain, plain-no_lf}
+use Rattle.properties_format.proofs.Lines.Steps.{lines_of-line}
+use Rattle.properties_format.proofs.Lines.Only.{lines_of-only, lines_of-plain}
+use Rattle.properties_format.proofs.Lines.Cut.{PartsNoEnd, lines_of-append}
+use Rattle.properties_format.proofs.Body.Decoded.{IsCut-lines}
+use Rattle.properties_format.proofs.Body.Groups.{held_of-only}
+use Rattle.properties_format.proofs.Valued.Lined.{last_by, last_by-append}
+use Rattle.properties_format.proofs.Valued.Added.{ending-held}
+use Rattle.properties_editing.specs.BodyLines.{ending_in}
+use Rattle.properties_items.specs.LineEndings.{ending_of}
+use Rattle.properties_editing.specs.BodyValues.{IsEndingWithin, IsLastEnding, IsLastPairOf, IsGroupAlone, IsBetweenIn, IsLastPair, FindsLastPair}
+use Rattle.properties_items.specs.declared.line.LineEnding.{LineEnding}
+use Rattle.properties_items.specs.declared.line.LineEnding.TheVariants.{CR, LF}
+use Rattle.properties_text.specs.Parsing.{bytes_in}
+use Rattle.std.proofs.Math.Seq.{take-append_seam, drop-append_seam}
+use Rattle.properties_format.specs.Settings.{IsGoodSeparator}
+use Rattle.properties_format.specs.Body.{ending_bytes, last_ending, AreGroupsOf}
+use Rattle.properties_format.specs.Edited.{is_editable}
+use Rattle.properties_format.specs.Valued.{separator_after}
+use Rattle.properties_format.specs.Reading.Settings.{is_good_separator}
+use Rattle.properties_format.specs.Reading.Valued.{separator_by}
+use Rattle.properties_format.proofs.Body.Groups.{held-body, held_groups_of-meets}
+use Rattle.properties_format.proofs.Settings.Tests.{is_good_separator-from}
+use Rattle.properties_format.proofs.InTurn.Lines.{bytes-unended}
+use Rattle.properties_format.proofs.Valued.Made.{new_separator-meets}
+use Rattle.properties_format.proofs.Valued.Separators.{new_separator-fit}
+use Rattle.properties_format.proofs.Valued.Unended.{without_ending, unended-groups, unended-joined}
+use Rattle.properties_editing.proofs.BodyValues.{middle-of}
+use Rattle.std.specs.Str.{chars}
+use Rattle.properties_format.specs.Encoding.{Encoding}
+use Rattle.properties_format.specs.Groups.{joined}
+use Rattle.properties_format.specs.Reading.Split.{split_of}
+use Rattle.properties_format.specs.Body.{HeldLine, as_lines, group_bytes, groups_bytes}
+use Rattle.properties_format.specs.Reading.Body.{held_groups_of}
+use Rattle.properties_format.specs.Reading.Parts.{unended_bytes}
+use Rattle.properties_format.specs.Reading.Valued.{between_if_pair, last_between, or_else}
+use Rattle.properties_format.proofs.Body.Groups.{groups_bytes-append}
+use Rattle.properties_format.proofs.Valued.Made.{last_between-push}
+use Rattle.properties_text.specs.Encoding.{encoding_of}
+use Rattle.properties_text.specs.declared.parse.Span.{Span}
+use Rattle.properties_editing.specs.BodyGroups.{IsWithin, groups_left, text_of, TakesGroup}
+use Rattle.properties_editing.specs.declared.edit.groups.Group.{Group}
+use Rattle.properties_editing.specs.declared.edit.groups.GroupReader.{GroupReader}
+use Rattle.properties_editing.specs.declared.edit.place.BodySpan.{BodySpan}
+
+-- ---- the last pair
+
+-- These groups of a body were passed, and this is the last pair of them.
+pub record HasPassed (e : Encoding) (body : List ℕ) (s : GroupReader) (last : Option BodySpan) : Type 0 where
+  pub groups : List (List HeldLine)
+  pub all : held_groups_of e body ≡ groups ++ groups_left body s
+  pub placed : s.scanner.at ≡ length (groups_bytes groups)
+  pub within : IsWithin body s
+  pub encoding : encoding_of s.scanner.encoding ≡ e
+  pub is_last : IsLastPair groups last
+
+pub passed-none : {e : Encoding} (body : List ℕ) (s : GroupReader) → s.scanner.at ≡ 0 → s.scanner.is_done ≡ false → IsWithin body s → encoding_of s.scanner.encoding ≡ e
+    → HasPassed e body s None
+passed-none {e} body s at going w same = record {
+  groups = [];
+  all = rw (going, at, same) refl;
+  placed = at;
+  within = w;
+  encoding = same;
+  is_last = refl;
+}
+
+-- the last pair with one more group after it
+last-after : (groups : List (List HeldLine)) (g : List HeldLine) (group : Group) (line : List ℕ) (found : Option Span) (last next : Option BodySpan) → IsLastPair groups last
+    → chars line ≡ joined (as_lines g) → IsBetweenIn line found → next ≡ (if is_some found then Some (record { start = group.start; end = group.end }) else last)
+    → group.start ≡ length (groups_bytes groups) → group.end ≡ group.start + length (unended_bytes g) → IsLastPair (groups ++ g ∷ []) next
+last-after groups g group line None None next h t none is starts ends =
+    subst (IsLastPair (groups ++ g ∷ [])) (sym is)
+    (last_between-push groups g ∙ ap₂ or_else (subst (λ x. between_if_pair (split_of x) x ≡ None) t none) h)
+last-after groups g group line None (Some span) next h t none is starts ends =
+    subst (IsLastPair (groups ++ g ∷ [])) (sym is) record {
+      before = h.before;
+      group = h.group;
+      after = h.after ++ g ∷ [];
+      division = ap (λ v. v ++ g ∷ []) h.division ∙ append_assoc h.before (h.group ∷ h.after) (g ∷ []);
+      between = h.between;
+      of_pair = h.of_pair;
+      last = last_between-push groups g ∙ ap₂ or_else (subst (λ x. between_if_pair (split_of x) x ≡ None) t none) h.last;
+      starts = h.starts;
+      ends = h.ends;
+    }
+last-after groups g group line (Some found) last next h t at is starts ends =
+    let told = subst (λ x. between_if_pair (split_of x) x ≡ Some (chars (bytes_in line found))) t at.of_pair in
+    subst (IsLastPair (groups ++ g ∷ [])) (sym is) record {
+      before = groups;
+      group = g;
+      after = [];
+      division = refl;
+      between = chars (bytes_in line found);
+      of_pair = told;
+      last = last_between-push groups g ∙ ap (λ v. or_else v (last_between groups)) told;
+      starts = starts;
+      ends = ends;
+    }
+
+-- one more group was passed
+pub passed-more : {e : Encoding} {body : List ℕ} {s t : GroupReader} {last next : Option BodySpan} {group : Group} (found : Option Span) → HasPassed e body s last
+    → TakesGroup body s group t → IsBetweenIn (text_of body t group) found
+    → next ≡ (if is_some found then Some (record { start = group.start; end = group.end }) else last) → HasPassed e body t next
+passed-more {e} {body} {s} {t} {last} {next} {group} found h k between is =
+    let one : groups_bytes (k.held ∷ []) ≡ group_bytes k.held = append-nil (group_bytes k.held) in
+    let next_at = k.span.next in
+    let starts = k.starts in
+    let placed = h.placed in
+    let all : length (groups_bytes (h.groups ++ k.held ∷ [])) ≡ length (groups_bytes h.groups) + length (group_bytes k.held) =
+    ap length (groups_bytes-append h.groups (k.held ∷ []) ∙ ap (λ v. groups_bytes h.groups ++ v) one) ∙ length-append (groups_bytes h.groups) (group_bytes k.held) in
+    record {
+      groups = h.groups ++ k.held ∷ [];
+      all = h.all ∙ ap (λ v. h.groups ++ v) k.groups ∙ sym (append_assoc h.groups (k.held ∷ []) (groups_left body t));
+      placed = omega arith;
+      within = k.within;
+      encoding = k.encoding ∙ h.encoding;
+      is_last = last-after h.groups k.held group (text_of body t group) found last next h.is_last k.text between is (k.starts ∙ h.placed) k.span.unended;
+    }
+
+-- all groups were passed
+pub passed-all : {e : Encoding} {body : List ℕ} {s : GroupReader} {last : Option BodySpan} → HasPassed e body s last → s.scanner.is_done ≡ true → FindsLastPair e body last
+passed-all {e} {body} {s} {last} h done =
+    let all : held_groups_of e body ≡ h.groups = h.all ∙ (rw done (append-nil h.groups)) in
+    subst (λ v. IsLastPair v last) (sym all) h.is_last
+
+-- ---- the last line ending
+
+-- bytes that end in a CR
+cr-last : (front : List ℕ) → ends_in_cr front ≡ true → (before : List ℕ) × (front ≡ before ++ carriage_return ∷ [])
+cr-last [] h = absurd (cc)
+cr-last (c ∷ []) h = ([], ap (λ v. v ∷ []) (eqb-true c carriage_return h))
+cr-last (c ∷ d ∷ front) h = let m = cr-last (d ∷ front) h in (c ∷ m.0, ap (λ v. c ∷ v) m.1)
+
+-- a body up to a byte, that byte, and the rest
+at-byte : (body : List ℕ) (at b : ℕ) → 0 < at → at ≤ length body → get_or body (at - 1) 0 ≡ b → body ≡ take (at - 1) body ++ b ∷ drop at body
+at-byte body at b some within is =
+    let n : at - 1 + 1 ≡ at = omega arith in
+    sym (take-append-drop (at - 1) body)
+    ∙ ap (λ v. take (at - 1) body ++ v) (drop_more body (at - 1) 0 (omega arith) ∙ ap₂ (λ c k. c ∷ drop k body) is n)
+
+-- ---- in the lines of the bytes
+
+-- The last line ending of groups is that of the lines of their body.
+ending-lines : (e : Encoding) (body : List ℕ) (gs : List (List HeldLine)) (by : text.LineEnding) → is_editable e ≡ true → AreGroupsOf e body gs
+    → ending_among by (held_in gs) ≡ unwrap_or (last_by (lines_of body).ended) by
+ending-lines e body gs by ok h =
+    ap (ending_among by) (held_of-only e h.cut.ended h.cut.last (held_in gs) h.are_held)
+    ∙ ending-held e by h.cut.ended h.cut.last
+    ∙ ap (λ v. let w : Lines = v in unwrap_or (last_by w.ended) by) (lines_of-only body h.cut (IsCut-lines e body h.cut ok h.is_cut))
+
+-- so a body has the last line ending that its lines have
+within-lines : (body : List ℕ) (o : Option LineEnding) → last_by (lines_of body).ended ≡ ending_in o → IsEndingWithin body o
+within-lines body o s e gs ok are by = ending-lines e body gs by ok are ∙ ap (λ v. unwrap_or v by) s
+
+-- a cut before a line ending separates no CR from an LF
+parts-none : (front : List ℕ) (by : text.LineEnding) (rest : List ℕ) → (by ≡ text.lf → ends_in_cr front ≡ false) → PartsNoEnd front (line_ending_text by ++ rest)
+parts-none front text.lf rest h q = let m = h refl in absurd (cc)
+parts-none front text.cr rest h q = refl
+parts-none front text.crlf rest h q = refl
+
+-- a line ending that no other follows
+last-by : (body front : List ℕ) (by : text.LineEnding) (rest : List ℕ) → body ≡ front ++ (line_ending_text by ++ rest) → HoldsNoLineEnd rest
+    → (by ≡ text.lf → ends_in_cr front ≡ false) → last_by (lines_of body).ended ≡ Some by
+last-by body front by rest s plain alone =
+    let l : Ended = record { text = (lines_of front).last; by = by } in
+    let lines : (lines_of body).ended ≡ (lines_of front).ended ++ l ∷ [] =
+    ap (λ v. (lines_of v).ended) s
+    ∙ ap (λ v. let w : Lines = v in w.ended) (lines_of-append front (line_ending_text by ++ rest) (parts-none front by rest alone))
+    ∙ ap (λ v. let w : Lines = v in (lines_of front).ended ++ w.ended) (lines_of-line (lines_of front).last by rest (last-plain front) (λ q. plain-no_lf rest plain))
+    ∙ ap (λ v. let w : Lines = v in (lines_of front).ended ++ l ∷ w.ended) (lines_of-plain rest plain) in
+    ap last_by lines ∙ last_by-append (lines_of front).ended (l ∷ []) (λ q. absurd (cc))
+
+-- An LF after which no line ending comes.
+pub within-feed : (body : List ℕ) (at : ℕ) (by : LineEnding) → 0 < at → at ≤ length body → get_or body (at - 1) 0 ≡ line_feed → HoldsNoLineEnd (drop at body)
+    → ending_of by ≡ (if ends_in_cr (take (at - 1) body) then text.crlf else text.lf) → IsEndingWithin body (Some by)
+within-feed body at by some within is plain h =
+    let front = take (at - 1) body in
+    let whole = at-byte body at line_feed some within is in
+    within-lines body (Some by)
+    (elim (cases_Bool (ends_in_cr front)) [
+      | inl k ↦
+          let m = cr-last front k in
+          let both : body ≡ m.0 ++ (line_ending_text text.crlf ++ drop at body) =
+          whole ∙ ap (λ v. v ++ line_feed ∷ drop at body) m.1 ∙ append_assoc m.0 (carriage_return ∷ []) (line_feed ∷ drop at body) in
+          last-by body m.0 text.crlf (drop at body) both plain (λ q. absurd (cc)) ∙ ap Some (sym (h ∙ cond-true (ends_in_cr front) text.crlf text.lf k))
+      | inr k ↦
+          last-by body front text.lf (drop at body) whole plain (λ q. k) ∙ ap Some (sym (h ∙ cond-false (ends_in_cr front) text.crlf text.lf k))
+    ])
+
+-- A CR after which none comes.
+pub within-return : (body : List ℕ) (at : ℕ) → 0 < at → at ≤ length body → get_or body (at - 1) 0 ≡ carriage_return → HoldsNoLineEnd (drop at body)
+    → IsEndingWithin body (Some CR)
+within-return body at some within is plain =
+    within-lines body (Some CR) (last-by body (take (at - 1) body) text.cr (drop at body) (at-byte body at carriage_return some within is) plain (λ q. absurd (cc)))
+
+-- No line ending at all.
+pub within-none : (body : List ℕ) (at : ℕ) → at ≡ 0 → HoldsNoLineEnd (drop at body) → IsEndingWithin body None
+within-none body at none plain =
+    within-lines body None (ap (λ v. let w : Lines = v in last_by w.ended) (lines_of-plain body (subst (λ n. HoldsNoLineEnd (drop n body)) none plain)))
+
+-- The last line ending, or an LF.
+pub within-last : (body : List ℕ) (o : Option LineEnding) → IsEndingWithin body o → IsLastEnding body (unwrap_or o LF)
+within-last body None w e gs ok are = sym (w e gs ok are text.lf)
+within-last body (Some by) w e gs ok are = sym (w e gs ok are text.lf)
+
+-- ---- the bytes of a pair
+
+-- a group of a body is in this span of it
+pub record IsPartAt (body : List ℕ) (before : List (List HeldLine)) (g : List HeldLine) (after : List (List HeldLine)) (start end : ℕ) : Type 0 where
+  pub ordered : start ≤ end
+  pub within : end ≤ length body
+  pub front : take start body ≡ groups_bytes before
+  pub part : take (end - start) (drop start body) ≡ unended_bytes g
+  pub back : drop end body ≡ ending_bytes (last_ending g) ++ groups_bytes after
+
+pub part-at : (e : Encoding) (body : List ℕ) (before : List (List HeldLine)) (g : List HeldLine) (after : List (List HeldLine)) (start end : ℕ) → is_editable e ≡ true
+    → held_groups_of e body ≡ before ++ g ∷ after → start ≡ length (groups_bytes before) → end ≡ start + length (unended_bytes g)
+    → IsPartAt body before g after start end
+part-at e body before g after start end ok division starts ends =
+    let a = groups_bytes before in
+    let b = unended_bytes g in
+    let c = ending_bytes (last_ending g) ++ groups_bytes after in
+    let whole : body ≡ a ++ (b ++ c) =
+    sym (held-body e body (held_groups_of e body) ok (held_groups_of-meets e body))
+    ∙ ap groups_bytes division
+    ∙ groups_bytes-append before (g ∷ after)
+    ∙ ap (λ v. a ++ (v ++ groups_bytes after)) (bytes-unended g)
+    ∙ ap (λ v. a ++ v) (append_assoc b (ending_bytes (last_ending g)) (groups_bytes after)) in
+    let size : length body ≡ length a + (length b + length c) = ap length whole ∙ length-append a (b ++ c) ∙ ap (λ n. length a + n) (length-append b c) in
+    let both : end ≡ length (a ++ b) = let l = length-append a b in omega arith in
+    record {
+      ordered = omega arith;
+      within = omega arith;
+      front = ap₂ take starts whole ∙ take-append_seam a (b ++ c);
+      part = ap (λ v. take (end - start) (drop start v)) whole ∙ middle-of a b c start end starts ends;
+      back = ap₂ drop both (whole ∙ sym (append_assoc a b c)) ∙ drop-append_seam (a ++ b) c;
+    }
+
+-- it is one group by itself
+pub part-group : (e : Encoding) (body : List ℕ) (before : List (List HeldLine)) (g : List HeldLine) (after : List (List HeldLine)) (bytes : List ℕ) → is_editable e ≡ true
+    → held_groups_of e body ≡ before ++ g ∷ after → bytes ≡ unended_bytes g → held_groups_of e bytes ≡ without_ending g ∷ []
+part-group e body before g after bytes ok division is =
+    ap (held_groups_of e) is ∙ unended-groups e body before g after ok (subst (AreGroupsOf e body) division (held_groups_of-meets e body))
+
+-- ---- the separator of the last pair
+
+pub last-part : (e : Encoding) (body : List ℕ) (span : BodySpan) → is_editable e ≡ true → (k : IsLastPairOf (held_groups_of e body) span)
+    → IsPartAt body k.before k.group k.after span.start span.end
+last-part e body span ok k = part-at e body k.before k.group k.after span.start span.end ok k.division k.starts k.ends
+
+-- The last pair by itself is one group, with the same separator.
+pub last-alone : (e : Encoding) (body : List ℕ) (span : BodySpan) → is_editable e ≡ true → IsLastPairOf (held_groups_of e body) span
+    → let part = take (span.end - span.start) (drop span.start body) in
+    IsGroupAlone e part × (last_between (held_groups_of e part) ≡ last_between (held_groups_of e body))
+last-alone e body span ok k =
+    let alone = part-group e body k.before k.group k.after _ ok k.division (last-part e body span ok k).part in (
+      (without_ending k.group, alone),
+      ap last_between alone ∙ ap (λ x. between_if_pair (split_of x) x) (unended-joined k.group) ∙ k.of_pair ∙ sym k.last,
+    )
+
+-- The separator of a new pair, where there is one to take,
+pub separator-found : (key separator : List ℕ) (last : Option (List ℕ)) → Some separator ≡ option_map (separator_after key) last → separator ≡ separator_by key last
+separator-found key separator None h = absurd (cc)
+separator-found key separator (Some between) h = cc
+
+-- and where there is none.
+pub separator-none : (key : List ℕ) (last : Option (List ℕ)) → None ≡ option_map (separator_after key) last → equals_sign ∷ [] ≡ separator_by key last
+separator-none key None h = refl
+separator-none key (Some between) h = absurd (cc)
+
+-- The separator of a new pair is a good one.
+pub groups-good : (groups : List (List HeldLine)) (key separator : List ℕ) → separator ≡ separator_by key (last_between groups) → is_good_separator separator ≡ true
+groups-good groups key separator h =
+    is_good_separator-from separator
+    (subst IsGoodSeparator (sym h) (new_separator-fit groups key (separator_by key (last_between groups)) (new_separator-meets groups key)).good)
+
+pub separator-good : (e : Encoding) (body key separator : List ℕ) → separator ≡ separator_by key (last_between (held_groups_of e body)) → is_good_separator separator ≡ true
+separator-good e body key separator h = groups-good (held_groups_of e body) key separator h

@@ -1,0 +1,142 @@
+-- The bytes of a value that is set, and of a new pair that looks like the last one.
+use Rattle.std.proofs.Common.{◌≡◌, ◌≢◌, ℕ, Bool, true, false, List, [], ◌∷◌, ◌++◌, length, refl, inl, inr, ap, ap₂, sym, ◌∙◌, append-nil, append_assoc}
+use Rattle.std.proofs.Common.{lit<}
+use Rattle.std.specs.Prelude.{◌&&◌, ◌==◌, if◌then◌else◌, unwrap_or}
+use Rattle.std.specs.Str.{chars, IsUtf8, encode_utf8_all}
+use Rattle.std.proofs.lemmas.Bool.{cases_Bool, cond-true, cond-false}
+use Rattle.std.proofs.lemmas.Str.{encodes-chars, chars-nil}
+use Rattle.properties_format.specs.Text.{LineEnding, line_ending_text, is_blank, is_blanks, equals_sign}
+use Rattle.properties_format.specs.Encoding.{Encoding, windows_1252}
+use Rattle.properties_format.specs.Printing.{encoded_text, printed_key}
+use Rattle.properties_format.specs.Writing.{is_empty}
+use Rattle.properties_format.specs.Valued.{value_text, printed_value, new_pair_bytes, separator_after, shortened_after}
+use Rattle.properties_format.proofs.Printing.Characters.{encoded-ascii, encoded_text-append, encoded_text-ascii, line_end-ascii}
+use Rattle.std.specs.Char.{IsScalar, encode_utf8}
+use Rattle.properties_text.proofs.TextFronts.{chars-more}
+use Rattle.properties_items.proofs.RawTexts.{line_ending-bytes}
+use Rattle.properties_editing.proofs.BodyGroups.{no-bytes}
+
+-- ---- a value after its separator
+
+-- an equals sign comes first where nothing separates key and value
+pub value-unseparated : (e : Encoding) (line raw all separator value : List ℕ) → separator ≡ [] → raw ≡ line ++ equals_sign ∷ []
+    → all ≡ raw ++ encoded_text e (printed_value e false value) → all ≡ line ++ encoded_text e (value_text e separator value)
+value-unseparated e line raw all separator value none h k =
+    let back = encoded_text e (printed_value e false value) in
+    k ∙ ap (λ v. v ++ back) h
+    ∙ append_assoc line (equals_sign ∷ []) back
+    ∙ ap (λ v. line ++ v) (sym (ap (λ v. encoded_text e (value_text e v value)) none ∙ ap (λ o. unwrap_or o [] ++ back) (encoded-ascii e equals_sign (lit< tt))))
+
+-- and none where something does
+pub value-separated : (e : Encoding) (separator value : List ℕ) → separator ≢ [] → printed_value e (is_blanks separator) value ≡ value_text e separator value
+value-separated e [] value some = absurd (some refl)
+value-separated e (c ∷ cs) value some = refl
+
+-- a text without bytes has no characters, and one with bytes has some
+pub text-empty : (x : List ℕ) → true ≡ (length x == 0) → chars x ≡ []
+text-empty [] h = chars-nil
+text-empty (b ∷ x) h = let q : true ≡ false = h ∙ no-bytes (b ∷ x) in absurd (cc)
+
+pub text-some : (x : List ℕ) → IsUtf8 x → false ≡ (length x == 0) → chars x ≢ []
+text-some [] u h none = let q : false ≡ true = h ∙ no-bytes [] in absurd (cc)
+text-some (b ∷ x) u h none =
+    let all : encode_utf8_all [] ≡ b ∷ x = ap encode_utf8_all (sym none) ∙ encodes-chars (b ∷ x) u in
+    absurd (cc)
+
+-- ---- a separator
+
+-- a character is pushed that is no blank after a blank
+pub pushed-shortened : (old new : List ℕ) (c : ℕ) (was : Bool) → IsUtf8 old → IsScalar c → new ≡ old ++ encode_utf8 c → (was && is_blank c) ≡ false
+    → chars new ≡ chars old ++ (if was && is_blank c then [] else c ∷ [])
+pushed-shortened old new c was u s h none =
+    chars-more old new c u s h ∙ ap (λ v. chars old ++ v) (sym (cond-false (was && is_blank c) [] (c ∷ []) none))
+
+-- a text and more of it, with one blank of each run of blanks
+pub shortened-more : (was : Bool) (text short next : List ℕ) (c : ℕ) → ((rest : List ℕ) → shortened_after false (text ++ rest) ≡ short ++ shortened_after was rest)
+    → next ≡ short ++ (if was && is_blank c then [] else c ∷ [])
+    → (rest : List ℕ) → shortened_after false ((text ++ c ∷ []) ++ rest) ≡ next ++ shortened_after (is_blank c) rest
+shortened-more was text short next c h is rest =
+    ap (shortened_after false) (append_assoc text (c ∷ []) rest)
+    ∙ h (c ∷ rest)
+    ∙ elim (cases_Bool (was && is_blank c)) [
+      | inl k ↦ rw (is, k) (ap (λ v. short ++ v) (after-blank was c rest k) ∙ ap (λ v. v ++ shortened_after (is_blank c) rest) (sym (append-nil short)))
+      | inr k ↦ rw (is, k) (sym (append_assoc short (c ∷ []) (shortened_after (is_blank c) rest)))
+    ]
+  where
+    after-blank : (was : Bool) (c : ℕ) (rest : List ℕ) → (was && is_blank c) ≡ true → shortened_after true rest ≡ shortened_after (is_blank c) rest
+    after-blank true c rest k = ap (λ b. shortened_after b rest) (sym k)
+    after-blank false c rest k = absurd (cc)
+
+-- ---- a new pair
+
+-- the bytes of a line ending are its characters
+pub ending-bytes : (bs : List ℕ) (by : LineEnding) → IsUtf8 bs → chars bs ≡ line_ending_text by → bs ≡ line_ending_text by
+ending-bytes bs by u h = line_ending-bytes windows_1252 bs by u h ∙ encoded_text-ascii windows_1252 (line_ending_text by) (line_end-ascii by)
+
+-- A key, a separator and a value, one after the other.
+pub new_pair-unended : (e : Encoding) (start keyed separated valued separator separator_bytes key value : List ℕ) (after_blanks : Bool)
+    → keyed ≡ start ++ encoded_text e key → separated ≡ keyed ++ separator_bytes → separator_bytes ≡ encoded_text e separator
+    → valued ≡ separated ++ encoded_text e (printed_value e after_blanks value) → after_blanks ≡ is_blanks separator
+    → valued ≡ start ++ encoded_text e (key ++ (separator ++ printed_value e (is_blanks separator) value))
+new_pair-unended e start keyed separated valued separator separator_bytes key value after_blanks h i j k l =
+    let back = printed_value e (is_blanks separator) value in
+    let parts : encoded_text e (key ++ (separator ++ back)) ≡ encoded_text e key ++ (encoded_text e separator ++ encoded_text e back) =
+    encoded_text-append e key (separator ++ back) ∙ ap (λ v. encoded_text e key ++ v) (encoded_text-append e separator back) in
+    k ∙ ap₂ (λ v b. v ++ encoded_text e (printed_value e b value)) (i ∙ ap₂ (λ v w. v ++ w) h j) l
+    ∙ append_assoc (start ++ encoded_text e key) (encoded_text e separator) (encoded_text e back)
+    ∙ append_assoc start (encoded_text e key) (encoded_text e separator ++ encoded_text e back)
+    ∙ ap (λ v. start ++ v) (sym parts)
+
+-- They are followed by a line ending.
+pub new_pair-ended : (e : Encoding) (start printed all separator key value ending_bytes : List ℕ) (first : Bool) (by : LineEnding)
+    → printed ≡ start ++ encoded_text e (printed_key e false first key ++ (separator ++ printed_value e (is_blanks separator) value))
+    → all ≡ printed ++ ending_bytes → ending_bytes ≡ line_ending_text by
+    → all ≡ start ++ (encoded_text e (printed_key e false first key ++ (separator ++ printed_value e (is_blanks separator) value)) ++ line_ending_text by)
+new_pair-ended e start printed all separator key value ending_bytes first by h m n =
+    m ∙ ap₂ (λ v w. v ++ w) h n
+    ∙ append_assoc start (encoded_text e (printed_key e false first key ++ (separator ++ printed_value e (is_blanks separator) value))) (line_ending_text by)
+
+-- A new pair after a source, and what separates it from the source.
+pub new_pair-appended : (e : Encoding) (source rest separation raw_separation empty closing_bytes printed all key separator value ending : List ℕ) (first : Bool)
+    → all ≡ source ++ (printed ++ []) → printed ≡ closing_bytes ++ (encoded_text e (printed_key e false first key ++ (separator ++ printed_value e (is_blanks separator) value)) ++ ending)
+    → closing_bytes ≡ empty ++ raw_separation → empty ≡ [] → raw_separation ≡ separation → first ≡ is_empty (rest ++ separation)
+    → all ≡ source ++ (separation ++ new_pair_bytes e (rest ++ separation) key separator value ending)
+new_pair-appended e source rest separation raw_separation empty closing_bytes printed all key separator value ending first h i j k l m =
+    let pair : Bool → List ℕ = λ b. encoded_text e (printed_key e false b key ++ (separator ++ printed_value e (is_blanks separator) value)) ++ ending in
+    h ∙ ap (λ v. source ++ v) (append-nil printed ∙ i ∙ ap₂ (λ v b. v ++ pair b) (j ∙ ap₂ (λ v w. v ++ w) k l) m)
+
+-- ---- the separator of a new pair
+
+-- an equals sign, as text
+pub equals-text : chars (equals_sign ∷ []) ≡ equals_sign ∷ []
+unfolding chars
+equals-text = refl
+
+empty-chars : (x : List ℕ) → IsUtf8 x → (b : Bool) → b ≡ (length x == 0) → is_empty (chars x) ≡ b
+empty-chars x u true h = ap is_empty (text-empty x h)
+empty-chars x u false h = full (chars x) (text-some x u h)
+  where
+    full : (y : List ℕ) → y ≢ [] → is_empty y ≡ false
+    full [] some = absurd (some refl)
+    full (c ∷ y) some = refl
+
+-- blanks after an empty key
+pub indent-empty : (key separator : List ℕ) (told : Bool) → IsUtf8 key → true ≡ (length key == 0) → told ≡ is_blanks (chars separator)
+    → told ≡ (is_empty (chars key) && is_blanks (chars separator))
+indent-empty key separator told u h k = k ∙ ap (λ b. b && is_blanks (chars separator)) (sym (empty-chars key u true h))
+
+pub indent-full : (key separator : List ℕ) → IsUtf8 key → false ≡ (length key == 0) → false ≡ (is_empty (chars key) && is_blanks (chars separator))
+indent-full key separator u h = ap (λ b. b && is_blanks (chars separator)) (sym (empty-chars key u false h))
+
+-- an equals sign where nothing separates the pair, or where blanks would be an indent
+pub separator_for-none : (key separator : List ℕ) → separator ≡ [] → equals_sign ∷ [] ≡ separator_after key separator
+separator_for-none key separator h = ap (separator_after key) (sym h)
+
+pub separator_for-indent : (key separator : List ℕ) → (is_empty key && is_blanks separator) ≡ true → equals_sign ∷ [] ≡ separator_after key separator
+separator_for-indent key [] h = refl
+separator_for-indent key (c ∷ cs) h = sym (cond-true (is_empty key && is_blanks (c ∷ cs)) (equals_sign ∷ []) (shortened_after false (c ∷ cs)) h)
+
+-- and otherwise the separator, shortened
+pub separator_for-other : (key separator : List ℕ) → separator ≢ [] → (is_empty key && is_blanks separator) ≡ false → shortened_after false separator ≡ separator_after key separator
+separator_for-other key [] some h = absurd (some refl)
+separator_for-other key (c ∷ cs) some h = sym (cond-false (is_empty key && is_blanks (c ∷ cs)) (equals_sign ∷ []) (shortened_after false (c ∷ cs)) h)

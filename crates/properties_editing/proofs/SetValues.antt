@@ -1,0 +1,213 @@
+-- The source with the value of a key set.
+use Rattle.std.proofs.Common.{◌≡◌, ℕ, ◌+◌, ◌-◌, Bool, true, false, List, [], ◌∷◌, ◌++◌, All, take, drop, refl, inl, inr, ap, ap₂, sym, ◌∙◌, subst, arith, append_assoc, take-add}
+use Rattle.std.specs.Prelude.{Some, None, if◌then◌else◌}
+use Rattle.std.proofs.lemmas.Bool.{cases_Bool, cond-true, cond-false}
+use Rattle.std.proofs.lemmas.List.{drop-drop}
+use Rattle.properties_format.specs.Text.{scalar, line_ending_text}
+use Rattle.properties_format.specs.Encoding.{Encoding, InForce, output_encoding}
+use Rattle.properties_format.specs.Printing.{encoded_text}
+use Rattle.properties_format.specs.Body.{HeldLine, HasKey, ending_bytes, groups_bytes, last_ending}
+use Rattle.properties_format.specs.Edited.{bom_of, separation, added_ending, is_editable, is_empty_line, is_left_open, final_group, edited}
+use Rattle.properties_format.specs.Valued.{value_text, separation_by, ending_in, new_pair_bytes, IsSetValueResult}
+use Rattle.properties_format.specs.Reading.Items.{outcome_of}
+use Rattle.properties_format.specs.Reading.Body.{held_groups_of}
+use Rattle.properties_format.specs.Reading.Parts.{unended_bytes}
+use Rattle.properties_format.specs.Reading.Edited.{result_of, last_place}
+use Rattle.properties_format.specs.Reading.Valued.{front_of, between_of, has_value, last_between, separator_by, revalued_at, valued_at, value_set, value_set_in, set_value_result}
+use Rattle.properties_format.proofs.Body.Groups.{held_groups_of-meets, held-body}
+use Rattle.properties_format.proofs.Edited.ByteOrderMarks.{source-whole}
+use Rattle.properties_format.proofs.Edited.Contents.{key-outcome}
+use Rattle.properties_format.proofs.Edited.Made as made
+use Rattle.properties_format.proofs.Edited.Made.{last_place-meets}
+use Rattle.properties_format.proofs.Valued.Made.{group-decoded, set_value_result-meets, set_value_result-only, raw-pair}
+use Rattle.properties_format.proofs.Valued.Read.{set_value-reads, value_set-keeps, value_set-keeps_front}
+use Rattle.properties_format.proofs.Valued.Unended.{without_ending, unended-joined, unended-front, unended-between, unended-value}
+use Rattle.properties_format.proofs.Edited.Pair.{editable-own}
+use Rattle.properties_text.specs.Encoding.{encoding_of}
+use Rattle.properties_editing.specs.BodyKeys.{IsPlaceOf, IsPlace, IsKeyFound, closing_bytes}
+use Rattle.properties_editing.specs.BodyValues.{IsPairAlone, IsLayoutAfter, revalued_in}
+use Rattle.properties_editing.specs.Editing.{HasValueSet}
+use Rattle.properties_items.specs.Texts.{characters}
+use Rattle.properties_items.specs.LineEndings.{ending_of}
+use Rattle.properties_editing.specs.Sources.{IsInForce}
+use Rattle.properties_editing.specs.declared.edit.new_pair.Layout.{Layout}
+use Rattle.properties_editing.specs.declared.edit.place.BodySpan.{BodySpan}
+use Rattle.properties_editing.specs.declared.edit.place.Closing.{Closing}
+use Rattle.properties_editing.specs.declared.edit.place.Closing.TheVariants as closing
+use Rattle.properties_editing.specs.declared.edit.place.KeyPlace as place
+use Rattle.properties_editing.specs.declared.edit.source.BodyStart.{BodyStart}
+use Rattle.properties_editing.proofs.Editing.{bom-front, result-made}
+use Rattle.properties_editing.proofs.LastPairs.{IsPartAt, part-at, part-group}
+
+-- ---- a value is set
+
+-- a new pair is separated from the source by as many line endings as a printed pair
+closing_bytes-any : (g : List HeldLine) (how : Closing) → separation [] g ≡ closing_bytes (added_ending []) how → (ending : List ℕ) → separation_by ending g ≡ closing_bytes ending how
+closing_bytes-any g how h ending = tests (is_empty_line g) (is_left_open g) how h
+  where
+    tests : (empty opens : Bool) (how : Closing)
+        → (if empty then [] else (if opens then added_ending [] ++ added_ending [] else added_ending [])) ≡ closing_bytes (added_ending []) how
+        → (if empty then [] else (if opens then ending ++ ending else ending)) ≡ closing_bytes ending how
+    tests true opens closing.Nothing k = refl
+    tests true opens closing.OneEnding k = absurd (cc)
+    tests true opens closing.TwoEndings k = absurd (cc)
+    tests false true closing.Nothing k = absurd (cc)
+    tests false true closing.OneEnding k = absurd (cc)
+    tests false true closing.TwoEndings k = refl
+    tests false false closing.Nothing k = absurd (cc)
+    tests false false closing.OneEnding k = refl
+    tests false false closing.TwoEndings k = absurd (cc)
+
+-- where the last pair with a key is
+value-part : (e : Encoding) (body key : List ℕ) (pair : BodySpan) → is_editable e ≡ true → (k : IsPlaceOf key (held_groups_of e body) pair)
+    → IsPartAt body k.place.before k.place.group k.place.after pair.start pair.end
+value-part e body key pair ok k = part-at e body k.place.before k.place.group k.place.after pair.start pair.end ok k.division k.starts k.ends
+
+has-key : (gs : List (List HeldLine)) (key : List ℕ) (pair : BodySpan) (k : IsPlaceOf key gs pair) → HasKey key k.place.group
+has-key gs key pair k = let m = subst (made.IsPlace key gs) k.is (last_place-meets key gs) in m.has
+
+-- It is a pair by itself.
+value-alone : (e : Encoding) (body key : List ℕ) (pair : BodySpan) (bytes : List ℕ) → is_editable e ≡ true → (k : IsPlaceOf key (held_groups_of e body) pair)
+    → bytes ≡ take (pair.end - pair.start) (drop pair.start body) → IsPairAlone e bytes
+value-alone e body key pair bytes ok k is =
+    let p = k.place in
+    let part = value-part e body key pair ok k in
+    let m = key-outcome key p.group (has-key (held_groups_of e body) key pair k) in
+    record {
+      group = without_ending p.group;
+      is_group = part-group e body p.before p.group p.after bytes ok k.division (is ∙ part.part);
+      key = key;
+      value = m.0;
+      is_pair = ap outcome_of (unended-joined p.group) ∙ m.1;
+    }
+
+-- Whether the pair has a value doesn't depend on its last line ending.
+pub alone-value : (source key value : List ℕ) (opened : BodyStart) (pair : BodySpan) → is_editable (encoding_of opened.encoding) ≡ true
+    → (at : IsPlaceOf key (held_groups_of (encoding_of opened.encoding) (drop opened.start source)) pair) → (group : List HeldLine)
+    → held_groups_of (encoding_of opened.encoding) (take ((opened.start + pair.end) - (opened.start + pair.start)) (drop (opened.start + pair.start) source)) ≡ group ∷ []
+    → has_value value group ≡ has_value value at.place.group
+alone-value source key value opened pair ok at group alone =
+    let f = encoding_of opened.encoding in
+    let body = drop opened.start source in
+    let p = at.place in
+    let part = value-part f body key pair ok at in
+    let size : (opened.start + pair.end) - (opened.start + pair.start) ≡ pair.end - pair.start = omega arith in
+    let bytes_are : take ((opened.start + pair.end) - (opened.start + pair.start)) (drop (opened.start + pair.start) source) ≡ unended_bytes p.group =
+    ap₂ take size (sym (drop-drop pair.start opened.start source)) ∙ part.part in
+    let one = part-group f body p.before p.group p.after _ ok at.division bytes_are in
+    let same : group ≡ without_ending p.group = let q = sym alone ∙ one in cc in
+    ap (has_value value) same ∙ unended-value value p.group
+
+-- The source with the value of the pair is its result.
+pub revalued-result : {source : List ℕ} {e : Encoding} {opened : BodyStart} {found : place.KeyPlace} (key value bytes : List ℕ) (pair : BodySpan) → IsInForce source e opened
+    → is_editable (encoding_of opened.encoding) ≡ true → IsKeyFound (encoding_of opened.encoding) (drop opened.start source) key found → found.pair ≡ Some pair
+    → ((group : List HeldLine)
+    × (held_groups_of (encoding_of opened.encoding) (take ((opened.start + pair.end) - (opened.start + pair.start)) (drop (opened.start + pair.start) source)) ≡ group ∷ [])
+    × (bytes ≡ revalued_in (encoding_of opened.encoding) source (opened.start + pair.start) (opened.start + pair.end) value group))
+    → set_value_result e source key value ≡ edited bytes
+revalued-result {source} {e} {opened} {found} key value bytes pair h ok k is (group, alone, made) =
+    let f = encoding_of opened.encoding in
+    let body = drop opened.start source in
+    let gs = held_groups_of f body in
+    let at : IsPlaceOf key gs pair = subst (IsPlace key gs) is k.pair in
+    let p = at.place in
+    let part = value-part f body key pair ok at in
+    let size : (opened.start + pair.end) - (opened.start + pair.start) ≡ pair.end - pair.start = omega arith in
+    let bytes_are : take ((opened.start + pair.end) - (opened.start + pair.start)) (drop (opened.start + pair.start) source) ≡ unended_bytes p.group =
+    ap₂ take size (sym (drop-drop pair.start opened.start source)) ∙ part.part in
+    let one = part-group f body p.before p.group p.after _ ok at.division bytes_are in
+    let same : group ≡ without_ending p.group = let q = sym alone ∙ one in cc in
+    let m = raw-pair key p.group (has-key gs key pair at) in
+    let decoded = group-decoded f body gs p.before p.group p.after (held_groups_of-meets f body) at.division in
+    let front_is : front_of f group ≡ front_of f p.group = ap (front_of f) same ∙ unended-front f p.group m.0 m.1 ok decoded m.2 in
+    let between_is : between_of group ≡ between_of p.group = ap between_of same ∙ unended-between p.group in
+    let has_is : has_value value group ≡ has_value value p.group = ap (has_value value) same ∙ unended-value value p.group in
+    let ordered = part.ordered in
+    let within = part.within in
+    let front : take (opened.start + pair.start) source ≡ bom_of source ++ groups_bytes p.before =
+    take-add opened.start pair.start source ∙ ap₂ (λ v w. v ++ w) (sym (bom-front h)) part.front in
+    let back : drop (opened.start + pair.end) source ≡ ending_bytes (last_ending p.group) ++ groups_bytes p.after =
+    sym (drop-drop pair.end opened.start source) ∙ part.back in
+    let whole : source ≡ bom_of source ++ body = source-whole e source ∙ ap (λ v. let w : InForce = v in bom_of source ++ w.body) h.in_force in
+    let all : groups_bytes gs ≡ body = held-body f body gs ok (held_groups_of-meets f body) in
+    let set : value_set e source key value ≡ bom_of source ++ (if has_value value p.group then groups_bytes gs else revalued_at f value p) =
+    ap (λ v. value_set_in v source key value) h.in_force
+    ∙ ap (λ v. bom_of source ++ valued_at f gs key value v) at.is in
+    let is_made : value_set e source key value ≡ bytes =
+    elim (cases_Bool (has_value value p.group)) [
+      | inl there ↦
+          set
+          ∙ ap (λ v. bom_of source ++ v) (cond-true (has_value value p.group) (groups_bytes gs) (revalued_at f value p) there ∙ all)
+          ∙ sym whole
+          ∙ sym (made ∙ cond-true (has_value value group) source _ (has_is ∙ there))
+      | inr other ↦
+          let tail = encoded_text f (value_text f (between_of p.group) value) in
+          let rest = ending_bytes (last_ending p.group) ++ groups_bytes p.after in
+          set
+          ∙ ap (λ v. bom_of source ++ v) (cond-false (has_value value p.group) (groups_bytes gs) (revalued_at f value p) other)
+          ∙ sym (append_assoc (bom_of source) (groups_bytes p.before) (front_of f p.group ++ (tail ++ rest)))
+          ∙ sym (made
+          ∙ cond-false (has_value value group) source _ (has_is ∙ other)
+          ∙ ap₂ (λ v w. v ++ w) front
+          (ap₂ (λ v w. v ++ w) front_is (ap₂ (λ v w. v ++ w) (ap (λ b. encoded_text f (value_text f b value)) between_is) back)))
+    ] in
+    ap (result_of e source) is_made ∙ result-made bytes h ok k.sound
+
+-- The source with a new pair at its end is its result.
+pub new_pair-result : {source : List ℕ} {e : Encoding} {opened : BodyStart} {found : place.KeyPlace} (key value bytes : List ℕ) (layout : Layout) → IsInForce source e opened
+    → is_editable (encoding_of opened.encoding) ≡ true → IsKeyFound (encoding_of opened.encoding) (drop opened.start source) key found → found.pair ≡ None
+    → IsLayoutAfter (encoding_of opened.encoding) (drop opened.start source) found.closing key layout
+    → let ending = line_ending_text (ending_of layout.ending) in
+    let separation = closing_bytes ending layout.closing in
+    bytes ≡ source ++ (separation ++ new_pair_bytes (output_encoding (encoding_of opened.encoding)) (drop opened.start source ++ separation) key (characters layout.separator) value ending)
+    → set_value_result e source key value ≡ edited bytes
+new_pair-result {source} {e} {opened} {found} key value bytes layout h ok k none l made =
+    let f = encoding_of opened.encoding in
+    let body = drop opened.start source in
+    let gs = held_groups_of f body in
+    let ending = line_ending_text (ending_of layout.ending) in
+    let by = closing_bytes ending layout.closing in
+    let last : last_place key gs ≡ None = subst (IsPlace key gs) none k.pair in
+    let all : groups_bytes gs ≡ body = held-body f body gs ok (held_groups_of-meets f body) in
+    let ends : ending_in gs ≡ ending = ap line_ending_text (sym (l.ends f gs ok (held_groups_of-meets f body))) in
+    let parts : separation_by (ending_in gs) (final_group gs) ≡ by =
+    ap (λ v. separation_by v (final_group gs)) ends ∙ closing_bytes-any (final_group gs) found.closing (k.closing []) ending ∙ ap (closing_bytes ending) (sym l.closes) in
+    let separator = separator_by key (last_between gs) in
+    let pair = new_pair_bytes f (body ++ by) key (characters layout.separator) value ending in
+    let whole : source ≡ bom_of source ++ body = source-whole e source ∙ ap (λ v. let w : InForce = v in bom_of source ++ w.body) h.in_force in
+    let set : value_set e source key value ≡ bytes =
+    ap (λ v. value_set_in v source key value) h.in_force
+    ∙ ap (λ v. bom_of source ++ valued_at f gs key value v) last
+    ∙ ap₂ (λ v w. bom_of source ++ ((v ++ w) ++ new_pair_bytes f (v ++ w) key separator value (ending_in gs))) all parts
+    ∙ ap₂ (λ v w. bom_of source ++ ((body ++ by) ++ new_pair_bytes f (body ++ by) key v value w)) (sym l.separates) ends
+    ∙ ap (λ v. bom_of source ++ v) (append_assoc body by pair)
+    ∙ sym (append_assoc (bom_of source) body (by ++ pair))
+    ∙ ap (λ v. v ++ (by ++ pair)) (sym whole)
+    ∙ sym (made ∙ ap (λ v. source ++ (by ++ new_pair_bytes v (body ++ by) key (characters layout.separator) value ending)) (editable-own f ok)) in
+    ap (result_of e source) set ∙ result-made bytes h ok k.sound
+
+-- What the result is, how it reads, and what it keeps.
+pub value-edits : {e : Encoding} {source key value bytes : List ℕ} → All scalar key → All scalar value → set_value_result e source key value ≡ edited bytes
+    → HasValueSet e source key value bytes
+value-edits {e} {source} {key} {value} {bytes} k v is =
+    let meets = subst (IsSetValueResult e source key value) is (set_value_result-meets e source key value) in
+    record {
+      edit = record {
+        result = meets;
+        only = λ other h. set_value_result-only e source key value other h ∙ is;
+        reads = set_value-reads e source key value bytes k v meets;
+      };
+      keeps = value_set-keeps e source key value bytes meets.2;
+      keeps_front = value_set-keeps_front e source key value bytes meets.0 meets.2;
+    }
+
+-- The pair that was found in a source is a pair by itself.
+pub found-alone : (source key : List ℕ) (opened : BodyStart) {found : place.KeyPlace} (pair : BodySpan) → is_editable (encoding_of opened.encoding) ≡ true
+    → IsKeyFound (encoding_of opened.encoding) (drop opened.start source) key found → found.pair ≡ Some pair
+    → IsPairAlone (encoding_of opened.encoding) (take (pair.end - pair.start) (drop (opened.start + pair.start) source))
+found-alone source key opened {found} pair ok k is =
+    let f = encoding_of opened.encoding in
+    let body = drop opened.start source in
+    let at : IsPlaceOf key (held_groups_of f body) pair = subst (IsPlace key (held_groups_of f body)) is k.pair in
+    value-alone f body key pair (take (pair.end - pair.start) (drop (opened.start + pair.start) source)) ok at
+    (ap (take (pair.end - pair.start)) (sym (drop-drop pair.start opened.start source)))

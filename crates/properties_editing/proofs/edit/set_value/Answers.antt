@@ -1,0 +1,73 @@
+use Rattle.std.proofs.Common.{◌∙◌, ap}
+use Rattle.std.proofs.lemmas.List.{take_rest}
+use Rattle.std.specs.Str.{chars}
+use Rattle.properties_format.specs.Valued.{IsValueSet}
+use Rattle.properties_format.specs.Reading.Valued.{value_set}
+use Rattle.properties_format.proofs.Valued.Made.{set_value_result-meets}
+use Rattle.properties_format.proofs.Laws.{splitting-commutes}
+use Rattle.properties_text.specs.Encoding.{encoding_of}
+use Rattle.properties_editing.proofs.Editing.{refusal, span-within}
+use Rattle.properties_items.proofs.Scalars.{chars-scalars}
+use Rattle.properties_editing.proofs.SetValues.{value-edits, revalued-result, new_pair-result, found-alone}
+use Rattle.properties_editing.proofs.edit.set_value.Goals as goal
+use Rattle.properties_editing.proofs.edit.set_value.Goals.{in-Some+in_ok-bytes-in-Some, in-None+in_ok-layout-in-None+in_ok-bytes-in-None}
+
+pub returns-in_err-opened-clause-splitting : goal.returns-in_err-opened-clause-splitting
+returns-in_err-opened-clause-splitting c = splitting-commutes (encoding_of c.args.encoding) c.args.source.now
+
+pub returns-in_err-place-clause-sets : goal.returns-in_err-place-clause-sets
+returns-in_err-place-clause-sets c =
+    let e = encoding_of c.args.encoding in
+    let source = c.args.source.now in
+    let key = chars c.args.key.now in
+    let value = chars c.args.value.now in
+    let opened = c.in_ok-opened.ensures in
+    let refused = refusal c.from_residual-in_err-place.result (IsValueSet e source key value) (value_set e source key value) opened.0 opened.1 (set_value_result-meets e source key value)
+    c.in_err-place.ensures c.from_residual-in_err-place.ensures.1 in
+    rw refused.1 refused.2
+
+pub returns-in_err-place-clause-splitting : goal.returns-in_err-place-clause-splitting
+returns-in_err-place-clause-splitting c = splitting-commutes (encoding_of c.args.encoding) c.args.source.now
+
+pub with_value-requires-clause-within : goal.with_value-requires-clause-within
+with_value-requires-clause-within c =
+    let found = rw (take_rest c.args.source.now c.in_ok-opened.opened.start) at c.in_ok-place.ensures in
+    span-within c.in-Some.pair c.in_ok-opened.ensures.0 c.in_ok-opened.ensures.1 found c.in-Some.is
+
+pub with_value-requires-clause-alone : goal.with_value-requires-clause-alone
+with_value-requires-clause-alone c =
+    let opened = c.in_ok-opened.opened in
+    let found = rw (take_rest c.args.source.now opened.start) at c.in_ok-place.ensures in
+    found-alone c.args.source.now (chars c.args.key.now) opened c.in-Some.pair c.in_ok-opened.ensures.1 found c.in-Some.is
+
+pub returns-in_err-bytes-in-Some-clause-splitting : goal.returns-in_err-bytes-in-Some-clause-splitting
+returns-in_err-bytes-in-Some-clause-splitting c = splitting-commutes (encoding_of c.args.encoding) c.args.source.now
+
+pub returns-in_err-layout-in-None-clause-splitting : goal.returns-in_err-layout-in-None-clause-splitting
+returns-in_err-layout-in-None-clause-splitting c = splitting-commutes (encoding_of c.args.encoding) c.args.source.now
+
+pub returns-in_err-bytes-in-None-clause-splitting : goal.returns-in_err-bytes-in-None-clause-splitting
+returns-in_err-bytes-in-None-clause-splitting c = splitting-commutes (encoding_of c.args.encoding) c.args.source.now
+
+pub returns-clause-sets : goal.returns-clause-sets
+returns-clause-sets c =
+    let source = c.args.source.now in
+    let key = chars c.args.key.now in
+    let value = chars c.args.value.now in
+    let bytes = c.match-place.bytes.items in
+    let opened = c.in_ok-opened in
+    let found = rw (take_rest source opened.opened.start) at c.in_ok-place.ensures in
+    value-edits (chars-scalars c.args.key.now c.utf8.key) (chars-scalars c.args.value.now c.utf8.value)
+    (elim c.match-place.branch [
+      | in-Some+in_ok-bytes-in-Some w ↦
+          let is = ap (λ v. v.items) w.bytes-is in
+          let made = w.in_ok-bytes-in-Some.ensures in
+          revalued-result key value bytes w.in-Some.pair opened.ensures.0 opened.ensures.1 found w.in-Some.is (made.0, made.1, is ∙ made.2)
+      | in-None+in_ok-layout-in-None+in_ok-bytes-in-None w ↦
+          let layout = rw (take_rest source opened.opened.start) at w.in_ok-layout-in-None.ensures in
+          new_pair-result key value bytes w.in_ok-layout-in-None.layout opened.ensures.0 opened.ensures.1 found w.in-None.is layout
+          (ap (λ v. v.items) w.bytes-is ∙ w.in_ok-bytes-in-None.ensures)
+    ])
+
+pub returns-clause-splitting : goal.returns-clause-splitting
+returns-clause-splitting c = splitting-commutes (encoding_of c.args.encoding) c.args.source.now

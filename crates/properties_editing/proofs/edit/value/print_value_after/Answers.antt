@@ -1,0 +1,26 @@
+use Rattle.std.proofs.Common.{◌++◌, ◌∙◌, ap}
+use Rattle.std.specs.Str.{chars}
+use Rattle.std.proofs.lemmas.Result.{on_ok_weaker}
+use Rattle.properties_format.specs.Printing.{encoded_text}
+use Rattle.properties_format.specs.Encoding.{output_encoding}
+use Rattle.properties_text.specs.Encoding.{encoding_of}
+use Rattle.properties_editing.proofs.NewPairs.{value-unseparated, value-separated, text-empty, text-some}
+use Rattle.properties_editing.proofs.edit.value.print_value_after.Goals as goal
+
+pub returns-then-is_empty : goal.returns-then-is_empty
+returns-then-is_empty c =
+    let e = output_encoding (encoding_of c.args.encoding) in
+    let printed = rw c.repertoire_of-repertoire.ensures.encoding at c.print_value.ensures in
+    on_ok_weaker c.print_value.result
+    (λ h. value-unseparated e c.args.line.now c.print_raw.new.line c.print_value.new.line (chars c.args.separator.now) (chars c.args.value.now)
+    (text-empty c.args.separator.now c.if-is_empty.ensures) c.in_ok-print_raw.ensures.appended h)
+    printed
+
+pub returns : goal.returns
+returns c =
+    let e = output_encoding (encoding_of c.args.encoding) in
+    let printed = rw (c.repertoire_of-repertoire.ensures.encoding, c.are_blanks.ensures) at c.print_value-2.ensures in
+    on_ok_weaker c.print_value-2.result
+    (λ h. h ∙ ap (λ v. c.args.line.now ++ encoded_text e v) (value-separated e (chars c.args.separator.now) (chars c.args.value.now)
+    (text-some c.args.separator.now c.utf8.separator c.if-is_empty.ensures)))
+    printed

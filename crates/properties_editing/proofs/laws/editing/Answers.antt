@@ -1,0 +1,36 @@
+use Rattle.properties_format.proofs.Valued.Laws.{setting-own_value, setting-value_twice, setting-value_again, setting-value_gives}
+use Rattle.properties_format.proofs.EditLaws.{removing-no_pair, setting-twice, setting-gives, removing-takes, no_edits-nothing, one_edit-call, lists-follow}
+use Rattle.properties_editing.proofs.laws.editing.Goals as goal
+
+pub returns-clause-absent : goal.returns-clause-absent
+returns-clause-absent c = removing-no_pair
+
+pub returns-clause-twice : goal.returns-clause-twice
+returns-clause-twice c = setting-twice
+
+pub returns-clause-set : goal.returns-clause-set
+returns-clause-set c = setting-gives
+
+pub returns-clause-removed : goal.returns-clause-removed
+returns-clause-removed c = removing-takes
+
+pub returns-clause-own_value : goal.returns-clause-own_value
+returns-clause-own_value c = setting-own_value
+
+pub returns-clause-value_twice : goal.returns-clause-value_twice
+returns-clause-value_twice c = setting-value_twice
+
+pub returns-clause-value_again : goal.returns-clause-value_again
+returns-clause-value_again c = setting-value_again
+
+pub returns-clause-value : goal.returns-clause-value
+returns-clause-value c = setting-value_gives
+
+pub returns-clause-none : goal.returns-clause-none
+returns-clause-none c = no_edits-nothing
+
+pub returns-clause-one : goal.returns-clause-one
+returns-clause-one c = one_edit-call
+
+pub returns-clause-lists : goal.returns-clause-lists
+returns-clause-lists c = lists-follow

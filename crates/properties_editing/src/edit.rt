@@ -1,0 +1,220 @@
+//! Sets and removes keys of a file, and keeps every other byte.
+
+ghost use Rattle.std.specs.Prelude.{◌≡◌, ◌≤◌, true, drop, length, OnOk};
+ghost use Rattle.std.specs.Str.{chars};
+ghost use Rattle.properties_format.specs.Laws.{SplittingCommutes};
+ghost use Rattle.properties_text.specs.Encoding.{encoding_of};
+ghost use Rattle.properties_format.specs.Edited.{is_editable};
+ghost use Rattle.properties_format.specs.Reading.Body.{held_groups_of};
+ghost use Rattle.properties_format.specs.Reading.Edited.{AreSound};
+ghost use Rattle.properties_editing.specs.BodyIndex.{IsIndex, MakesEdit};
+ghost use Rattle.properties_editing.specs.Editing.{EditsAll, RemovesKey, SetsKey, SetsValue, edit_in, edits_in};
+
+mod document;
+mod front;
+mod groups;
+mod index;
+mod kept;
+mod keys;
+mod new_pair;
+mod place;
+mod result;
+mod source;
+mod value;
+
+pub use crate::edit::document::Document;
+use crate::edit::index::{Index, put_pair, put_value, remove_pairs};
+use crate::edit::kept::spans_without_key;
+use crate::edit::new_pair::{layout_after, with_new_pair};
+use crate::edit::place::find_key;
+use crate::edit::result::{appended, reduced_to, replaced};
+use crate::edit::source::BodyStart;
+use crate::edit::value::with_value;
+use properties_items::error::PropertiesError;
+use properties_text::encoding::Encoding;
+use std::alloc::{AllocError, Global};
+
+/// Returns the source with a key set to a value.
+///
+/// If a pair has the key, the last such pair is replaced by the printed pair, which keeps the line ending. Otherwise
+/// the pair is appended, with a line feed. Before an appended pair comes a line ending if the last line has none, or
+/// two if a backslash leaves that line open: CRs if the source ends in a CR, otherwise LFs. Every other byte stays as
+/// it is, including a byte order mark.
+///
+/// Keys are compared with their escapes resolved. If a key at the front of a file begins like a byte order mark, its
+/// first character is escaped.
+///
+/// UTF-16 is refused. A source with a malformed escape anywhere is refused with the error that reading the source would
+/// return.
+///
+/// ```text
+/// let source = b"# the front door\nport = 80\n";
+/// let edited = set_key(alloc, source, Encoding::UTF_8, "port", "8080")?;
+/// // It is `# the front door`, a line feed, `port=8080` and a line feed.
+/// ```
+pub fn set_key(
+    alloc: Global,
+    source: &[u8],
+    encoding: Encoding,
+    key: &str,
+    value: &str,
+) -> Result<Vec<u8>, PropertiesError>
+    ensures sets { SetsKey (encoding_of encoding) source.now (chars key.now) (chars value.now) result }
+    ensures splitting { SplittingCommutes (encoding_of encoding) source.now }
+{
+    // UTF-16 is refused before any line is read.
+    let opened = BodyStart::open(source, encoding)?;
+    let place = find_key(alloc, opened.encoding, &source[opened.start..], key)?;
+    let bytes = match place.pair {
+        Some(pair) => replaced(alloc, source, opened, pair, key, value)?,
+        None => appended(alloc, source, opened, place.closing, key, value)?,
+    };
+    Ok(bytes)
+}
+
+/// Returns the source with the value of a key set, and the layout of its line kept.
+///
+/// If the last pair with the key has the value, no byte changes. If it has another value, the pair keeps its bytes up
+/// to the end of its separator, or of its key if nothing separates key and value, and it keeps its last line ending:
+/// the indentation, the key as it is spelt, and the separator with the blanks around it. The new value replaces
+/// everything between the two, including continuations. If nothing separates key and value, an equals sign comes before
+/// the value.
+///
+/// If no pair has the key, a pair is appended that looks like the last pair of the source: it has that pair's
+/// separator, with each run of blanks cut to its first one. The separator is an equals sign if there is no pair, if the
+/// last pair has no separator, or if that one is blanks alone and the new key is empty. The pair ends in the last line
+/// ending of the source, or in a line feed if it has none. Before it comes one such line ending if the last line has
+/// none, or two if a backslash leaves that line open. A key at the front of a file is escaped as [`set_key`] escapes
+/// it.
+///
+/// In the value, backslashes, characters below the space, and what the encoding lacks are escaped as a writer escapes
+/// them. A first space becomes `\ `, since a reader would skip it. A last space becomes `\u0020`, which survives
+/// editors that trim lines. A first `=` or `:` takes a backslash if blanks alone separate it from the key. Everything
+/// else is written as it is. Every byte outside the pair stays, including a byte order mark.
+///
+/// UTF-16 is refused. A source with a malformed escape anywhere is refused with the error that reading the source would
+/// return.
+///
+/// ```text
+/// let source = b"url    = http://a\nport = 80\n";
+/// let edited = set_value(alloc, source, Encoding::UTF_8, "url", "https://b:8443/a b")?;
+/// // It is `url    = https://b:8443/a b`, a line feed, `port = 80` and a line feed.
+/// ```
+pub fn set_value(
+    alloc: Global,
+    source: &[u8],
+    encoding: Encoding,
+    key: &str,
+    value: &str,
+) -> Result<Vec<u8>, PropertiesError>
+    ensures sets { SetsValue (encoding_of encoding) source.now (chars key.now) (chars value.now) result }
+    ensures splitting { SplittingCommutes (encoding_of encoding) source.now }
+{
+    let opened = BodyStart::open(source, encoding)?;
+    let body = &source[opened.start..];
+    let place = find_key(alloc, opened.encoding, body, key)?;
+    let bytes = match place.pair {
+        Some(pair) => with_value(alloc, source, opened, pair, value)?,
+        None => {
+            let layout = layout_after(alloc, opened.encoding, body, place.closing, key)?;
+            with_new_pair(alloc, source, opened, &layout, key, value)?
+        }
+    };
+    Ok(bytes)
+}
+
+/// Returns the source without the pairs that have a key.
+///
+/// Every pair with the key is left out together with its line endings, even if it spans several lines. Every other byte
+/// stays as it is, with one exception: if the source has no byte order mark and the rest would begin like one, a line
+/// feed is inserted before it.
+///
+/// UTF-16 is refused. A source with a malformed escape anywhere is refused with the error that reading the source would
+/// return.
+///
+/// ```text
+/// let source = b"# the front door\nport = 80\nhost = a\n";
+/// let edited = remove_key(alloc, source, Encoding::UTF_8, "port")?;
+/// // It is `# the front door`, a line feed, `host = a` and a line feed.
+/// ```
+pub fn remove_key(
+    alloc: Global,
+    source: &[u8],
+    encoding: Encoding,
+    key: &str,
+) -> Result<Vec<u8>, PropertiesError>
+    ensures removes { RemovesKey (encoding_of encoding) source.now (chars key.now) result }
+    ensures splitting { SplittingCommutes (encoding_of encoding) source.now }
+{
+    let opened = BodyStart::open(source, encoding)?;
+    let others = spans_without_key(alloc, opened.encoding, &source[opened.start..], key)?;
+    let bytes = reduced_to(alloc, source, opened, &others)?;
+    Ok(bytes)
+}
+
+/// An edit of one key.
+#[derive(Debug, Clone, PartialEq, Eq, Drop)]
+pub enum Edit {
+    /// Sets a key to a value, as [`set_key`] does.
+    Put(String, String),
+    /// Removes a key, as [`remove_key`] does.
+    Remove(String),
+    /// Sets the value of a key and keeps the layout of its line, as [`set_value`] does.
+    SetValue(String, String),
+}
+
+/// Returns the source after these edits, in order: each edit applies to the result of the one before it.
+///
+/// Without edits, the result is a copy of the source. The source is read once. Each edit looks up its key, which takes a
+/// few comparisons for each doubling of their number, and moves the bytes and the positions behind the pair that it
+/// changes; and each [`Edit::SetValue`] reads the pair that it changes or, if no pair has the key, the last pair that is
+/// left.
+///
+/// UTF-16 is refused. A source with a malformed escape anywhere is refused with the error that reading the source would
+/// return.
+///
+/// ```text
+/// let edits = vec![in alloc; Edit::Put(port, value), Edit::Remove(host)]?;
+/// let edited = edit_all(alloc, source, Encoding::UTF_8, &edits)?;
+/// ```
+pub fn edit_all(
+    alloc: Global,
+    source: &[u8],
+    encoding: Encoding,
+    edits: &[Edit],
+) -> Result<Vec<u8>, PropertiesError>
+    ensures edits { EditsAll (encoding_of encoding) source.now (edits_in edits.now) result }
+    ensures splitting { SplittingCommutes (encoding_of encoding) source.now }
+{
+    let opened = BodyStart::open(source, encoding)?;
+    let mut index = Index::parse(alloc, opened.encoding, &source[opened.start..])?;
+    let mut bytes = source.to_vec(alloc)?;
+    for edit in edits {
+        make(alloc, &mut bytes, opened, &mut index, edit)?;
+    }
+    Ok(bytes)
+}
+
+// Makes an edit to a source.
+fn make(
+    alloc: Global,
+    source: &mut Vec<u8>,
+    opened: BodyStart,
+    index: &mut Index,
+    edit: &Edit,
+) -> Result<(), AllocError>
+    requires editable { is_editable (encoding_of opened.encoding) ≡ true }
+    requires start { opened.start ≤ length source.old.items }
+    requires sound { AreSound (held_groups_of (encoding_of opened.encoding) (drop opened.start source.old.items)) }
+    requires is_index { IsIndex (held_groups_of (encoding_of opened.encoding) (drop opened.start source.old.items)) index.old }
+    ensures { OnOk result (MakesEdit opened (edit_in edit.now) source.old.items source.new.items index.new) }
+{
+    match edit {
+        Edit::Put(key, value) => put_pair(alloc, source, opened, index, key, value),
+        Edit::SetValue(key, value) => put_value(alloc, source, opened, index, key, value),
+        Edit::Remove(key) => {
+            remove_pairs(source, opened, index, key);
+            Ok(())
+        }
+    }
+}

@@ -1,0 +1,169 @@
+// Iterates over the groups of a body that is held in memory: logical lines, with the spans of their bytes.
+
+ghost use Rattle.std.specs.Prelude.{◌≡◌, ℕ, List, false, IfOk};
+ghost use Rattle.properties_lines.specs.HeldLines.{IsInBody};
+ghost use Rattle.properties_editing.specs.BodyLines.{IsEndingOf};
+ghost use Rattle.properties_text.specs.Encoding.{encoding_of};
+ghost use Rattle.properties_lines.specs.LineSearch.{unit_size};
+ghost use Rattle.properties_editing.specs.BodyGroups.{IsWithin, FindsLine, GivesGroup, JoinsGroup, IsFirstGroup, text_of, IsTextHeld};
+
+use properties_items::line::LineEnding;
+use properties_lines::logical::LogicalLine;
+use properties_lines::scanner::{RawLine, Scan, Scanner};
+use properties_text::encoding::Encoding;
+use std::alloc::{AllocError, Global};
+
+/// A group of a body, as a span of its bytes.
+#[derive(Clone, Copy)]
+pub struct Group {
+    /// The number of the group's first line.
+    pub number: usize,
+    /// The position of its first byte.
+    pub start: usize,
+    /// The position after the bytes of its last line, where that line's ending begins.
+    pub end: usize,
+    /// The line ending of its last line.
+    pub ending: Option<LineEnding>,
+    /// Whether it is left open, so that a line after it would be joined to it.
+    pub is_open: bool,
+    /// Whether it is a single line without bytes.
+    pub is_empty: bool,
+}
+
+/// Reads the first group of a body. The encoding's units are one byte long.
+pub fn first_group(
+    alloc: Global,
+    encoding: Encoding,
+    body: &[u8],
+) -> Result<(GroupReader, Group), AllocError>
+    requires { unit_size (encoding_of encoding) ≡ 1 }
+    ensures { IfOk result (λ read. IsFirstGroup (encoding_of encoding) body.now read.1 read.0) }
+{
+    let mut groups = GroupReader::new(alloc, encoding);
+    match groups.next(body)? {
+        Some(group) => Ok((groups, group)),
+        // Even an empty body has a line.
+        None => unreachable!(),
+    }
+}
+
+/// Reads the groups of a body that is passed to each call.
+#[derive(Drop)]
+pub struct GroupReader {
+    scanner: Scanner,
+    // The logical line of the group that was returned last.
+    line: LogicalLine,
+}
+
+impl GroupReader {
+    /// Starts before the first group of a body. The encoding's units are one byte long.
+    pub fn new(alloc: Global, encoding: Encoding) -> GroupReader
+        ensures encoding { result.scanner.encoding ≡ encoding }
+        ensures start { result.scanner.at ≡ 0 }
+        ensures none { result.scanner.passed ≡ 0 }
+        ensures going { result.scanner.is_done ≡ false }
+        ensures within_body { (body : List ℕ) → IsInBody result.scanner body }
+    {
+        GroupReader {
+            scanner: Scanner::in_body(encoding),
+            line: LogicalLine::new(alloc),
+        }
+    }
+
+    /// Returns the logical line of the group that was returned last.
+    pub fn line<'a>(&'a self, body: &'a [u8], group: Group) -> &'a str
+        requires { IsTextHeld body.now self.now group }
+        ensures { result.now ≡ text_of body.now self.now group }
+    {
+        self.line.as_str(&body[group.start..group.end])
+    }
+
+    /// Returns the position after the group that was returned last.
+    pub fn place(&self) -> usize
+        ensures { result ≡ self.now.scanner.at }
+    {
+        self.scanner.place()
+    }
+
+    /// Returns the next group, or `None` after the last one.
+    pub fn next(&mut self, body: &[u8]) -> Result<Option<Group>, AllocError>
+        requires { IsWithin body.now self.old }
+        ensures { GivesGroup body.now self.old result self.new }
+    {
+        if !self.find_line(body)? {
+            return Ok(None);
+        }
+        let line = *self.scanner.line();
+        let is_open = self.line.begin(
+            self.scanner.encoding(),
+            line.is_ascii,
+            line.has_backslash,
+            &body[line.start..line.end],
+        )?;
+        let group = Group {
+            number: self.scanner.number(),
+            start: line.start,
+            end: line.end,
+            ending: ending_of(&body[line.end..self.scanner.place()]),
+            is_open,
+            is_empty: line.start == line.end,
+        };
+        let joined = self.join(body, group)?;
+        Ok(Some(joined))
+    }
+
+    // Joins the following lines to a group that is open, up to and including the first line that isn't open.
+    fn join(&mut self, body: &[u8], group: Group) -> Result<Group, AllocError>
+        requires { IsWithin body.now self.old }
+        ensures { IfOk result (λ joined. JoinsGroup body.now self.old group joined self.new) }
+    {
+        let mut joined = group;
+        while joined.is_open && self.find_line(body)? {
+            let line = *self.scanner.line();
+            let bytes = &body[line.start..line.end];
+            let is_open = self
+                .line
+                .join(self.scanner.encoding(), line.is_ascii, bytes)?;
+            joined = Group {
+                end: line.end,
+                ending: ending_of(&body[line.end..self.scanner.place()]),
+                is_open,
+                is_empty: false,
+                ..joined
+            };
+        }
+        Ok(joined)
+    }
+
+    /// Returns the natural line that was found last.
+    pub fn raw_line(&self) -> RawLine
+        ensures { result ≡ self.now.scanner.line }
+    {
+        *self.scanner.line()
+    }
+
+    /// Finds the next natural line and returns whether there is one.
+    pub fn find_line(&mut self, body: &[u8]) -> Result<bool, AllocError>
+        requires { IsWithin body.now self.old }
+        ensures { FindsLine body.now self.old result self.new }
+    {
+        match self.scanner.next(body, true) {
+            Scan::Line => Ok(true),
+            Scan::End => Ok(false),
+            // No memory can hold a body with that many lines.
+            Scan::More | Scan::TooMany => Err(AllocError),
+        }
+    }
+}
+
+// Returns the line ending that these bytes form.
+fn ending_of(bytes: &[u8]) -> Option<LineEnding>
+    ensures { IsEndingOf bytes.now result }
+{
+    match bytes {
+        [] => None,
+        [b'\n'] => Some(LineEnding::LF),
+        [_] => Some(LineEnding::CR),
+        _ => Some(LineEnding::CRLF),
+    }
+}

@@ -1,0 +1,68 @@
+// The keys and pairs of logical lines.
+
+ghost use Rattle.std.specs.Str.{chars};
+ghost use Rattle.properties_editing.specs.BodyKeys.{FindsItem, ChecksKeyOfLine};
+ghost use Rattle.properties_editing.specs.BodyIndex.{FindsPairOfLine};
+ghost use Rattle.properties_editing.specs.BodyValues.{ChecksValueOfLine};
+
+use properties_items::error::{PropertiesError, make};
+use properties_items::found::{
+    Found, find_escaped, find_plain, item_has_key, item_has_value, item_pair,
+};
+use properties_text::escape::has_backslash;
+use std::alloc::Global;
+
+/// Returns whether a logical line is a pair with this key. Fails if an escape in the line, which has this number, is
+/// malformed, or if memory runs out.
+pub fn has_key(alloc: Global, number: usize, line: &str, key: &str) -> Result<bool, PropertiesError>
+    ensures { ChecksKeyOfLine (chars line.now) (chars key.now) number result }
+{
+    match find_item(alloc, number, line)? {
+        Some(found) => Ok(item_has_key(&found, line, key)),
+        None => Ok(false),
+    }
+}
+
+/// Returns whether a logical line is a pair with this value. Fails if an escape in the line, which has this number, is
+/// malformed, or if memory runs out.
+pub fn has_value(
+    alloc: Global,
+    number: usize,
+    line: &str,
+    value: &str,
+) -> Result<bool, PropertiesError>
+    ensures { ChecksValueOfLine (chars line.now) (chars value.now) number result }
+{
+    match find_item(alloc, number, line)? {
+        Some(found) => Ok(item_has_value(&found, line, value)),
+        None => Ok(false),
+    }
+}
+
+/// Returns the key and value of a logical line, or `None` if it isn't a pair. Fails if an escape in the line, which has
+/// this number, is malformed, or if memory runs out.
+pub fn pair_of(
+    alloc: Global,
+    number: usize,
+    line: &str,
+) -> Result<Option<(String, String)>, PropertiesError>
+    ensures { FindsPairOfLine (chars line.now) number result }
+{
+    match find_item(alloc, number, line)? {
+        Some(found) => Ok(item_pair(alloc, &found, line)?),
+        None => Ok(None),
+    }
+}
+
+// Finds the item of a logical line. Returns `None` if the line is blank.
+fn find_item(alloc: Global, number: usize, line: &str) -> Result<Option<Found>, PropertiesError>
+    ensures { FindsItem line.now number result }
+{
+    if !has_backslash(line) {
+        return Ok(find_plain(number, line));
+    }
+    match find_escaped(alloc, number, line) {
+        Ok(found) => Ok(found),
+        Err(error) => Err(make::unresolved(number, error)),
+    }
+}

@@ -1,0 +1,121 @@
+// A pair with another value, and its layout kept.
+
+ghost use Rattle.std.specs.Prelude.{◌≡◌, ◌≤◌, ◌+◌, ◌-◌, take, drop, length, false};
+ghost use Rattle.std.specs.Str.{chars};
+ghost use Rattle.properties_format.specs.Text.{is_blanks};
+ghost use Rattle.properties_format.specs.Encoding.{output_encoding};
+ghost use Rattle.properties_format.specs.Printing.{encoded_text};
+ghost use Rattle.properties_format.specs.Valued.{value_text};
+ghost use Rattle.properties_text.specs.Encoding.{encoding_of, output_of};
+ghost use Rattle.properties_text.specs.Printing.{AppendsOnOk};
+ghost use Rattle.properties_lines.specs.LineSearch.{unit_size};
+ghost use Rattle.properties_editing.specs.BodyValues.{GivesValue, IsPairAlone, Revalues};
+
+use crate::edit::front::{between, front_size};
+use crate::edit::groups::first_group;
+use crate::edit::keys::has_value;
+use crate::edit::place::BodySpan;
+use crate::edit::result::concatenated;
+use crate::edit::source::BodyStart;
+use properties_items::error::PropertiesError;
+use properties_text::encoding::{Encoding, OutputEncoding};
+use properties_text::parse::leading_blanks;
+use properties_text::print::{LineBuffer, Repertoire, print_raw, print_value};
+use std::alloc::{AllocError, Global};
+
+/// How the bytes of a pair change when it gets another value.
+#[derive(Drop)]
+pub struct NewValue {
+    /// The number of bytes at the front that stay.
+    pub front_size: usize,
+    /// The bytes that follow them, up to the pair's last line ending.
+    pub bytes: LineBuffer,
+}
+
+/// Returns how a pair changes when it gets this value, or `None` if it has the value. The encoding's units are one byte
+/// long.
+pub fn new_value(
+    alloc: Global,
+    encoding: Encoding,
+    pair: &[u8],
+    value: &str,
+) -> Result<Option<NewValue>, PropertiesError>
+    requires bytes { unit_size (encoding_of encoding) ≡ 1 }
+    requires alone { IsPairAlone (encoding_of encoding) pair.now }
+    ensures { GivesValue (encoding_of encoding) pair.now (chars value.now) result }
+{
+    let (groups, group) = first_group(alloc, encoding, pair)?;
+    let line = groups.line(pair, group);
+    if has_value(alloc, group.number, line, value)? {
+        return Ok(None);
+    }
+    let Some(separator) = between(line) else {
+        unreachable!()
+    };
+    let front_size = front_size(alloc, encoding, pair, separator.end)?;
+    let mut bytes = LineBuffer::new(alloc);
+    print_value_after(&mut bytes, encoding, separator.cut(line), value)?;
+    Ok(Some(NewValue { front_size, bytes }))
+}
+
+/// Returns the source with this value for a pair.
+pub fn with_value(
+    alloc: Global,
+    source: &[u8],
+    opened: BodyStart,
+    pair: BodySpan,
+    value: &str,
+) -> Result<Vec<u8>, PropertiesError>
+    requires bytes { unit_size (encoding_of opened.encoding) ≡ 1 }
+    requires ordered { pair.start ≤ pair.end }
+    requires within { opened.start + pair.end ≤ length source.now }
+    requires alone { IsPairAlone (encoding_of opened.encoding)
+        (take (pair.end - pair.start) (drop (opened.start + pair.start) source.now)) }
+    ensures { Revalues (encoding_of opened.encoding) source.now (opened.start + pair.start) (opened.start + pair.end) (chars value.now) result }
+{
+    let start = opened.start + pair.start;
+    let end = opened.start + pair.end;
+    match new_value(alloc, opened.encoding, &source[start..end], value)? {
+        None => Ok(source.to_vec(alloc)?),
+        Some(new) => {
+            let front = &source[..start + new.front_size];
+            Ok(concatenated(alloc, front, new.bytes.as_slice(), &source[end..])?)
+        }
+    }
+}
+
+// Appends what follows the front of a pair. If nothing separates its key and value, an equals sign comes first.
+fn print_value_after(
+    line: &mut LineBuffer,
+    encoding: Encoding,
+    separator: &str,
+    value: &str,
+) -> Result<(), AllocError>
+    ensures { let e = output_encoding (encoding_of encoding) in
+        AppendsOnOk line.old (encoded_text e (value_text e (chars separator.now) (chars value.now))) result line.new }
+{
+    let repertoire = repertoire_of(encoding);
+    if separator.is_empty() {
+        print_raw(line, "=")?;
+        return print_value(line, repertoire, false, value);
+    }
+    print_value(line, repertoire, are_blanks(separator), value)
+}
+
+/// Returns the characters that an edit prints as they are: all that the encoding has.
+pub fn repertoire_of(encoding: Encoding) -> Repertoire
+    ensures encoding { output_of result.encoding ≡ output_encoding (encoding_of encoding) }
+    ensures all { result.ascii_only ≡ false }
+{
+    Repertoire {
+        encoding: OutputEncoding::from(encoding),
+        ascii_only: false,
+    }
+}
+
+/// Returns whether a text is blanks and nothing else.
+pub fn are_blanks(text: &str) -> bool
+    ensures { result ≡ is_blanks (chars text.now) }
+{
+    leading_blanks(text.as_bytes()) == text.len()
+}

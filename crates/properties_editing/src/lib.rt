@@ -1,0 +1,10 @@
+//! Edits `.properties` files that are in memory, and says the laws of edits.
+//!
+//! [`set_key`], [`set_value`] and [`remove_key`] make one edit, [`edit_all`] a list of them. A [`Document`] is a source
+//! that is kept open for edits. `java_properties` hands all of it on.
+#![tactic(auto)]
+
+mod edit;
+pub mod laws;
+
+pub use edit::{Document, Edit, edit_all, remove_key, set_key, set_value};

@@ -1,0 +1,41 @@
+-- Items as contracts see them: when two are equal, and how they are ordered.
+use Rattle.std.specs.Prelude.{◌≡◌, ℕ, List, [], ◌∷◌}
+use Rattle.std.specs.String.{string_bytes}
+use Rattle.std.specs.Ordering.{nat_cmp, on, then_cmp}
+use Rattle.std.specs.declared.cmp.Ordering.{Ordering}
+use Rattle.std.specs.Cmp.Lexicographic.{slice_cmp}
+use Rattle.properties_items.specs.declared.line.LineContent.{LineContent}
+use Rattle.properties_items.specs.declared.line.LineContent.TheVariants.{Comment, KVPair}
+use Rattle.properties_items.specs.declared.line.Line.{Line}
+
+-- the number of the line that the item begins in
+abbrev pub number_of : Line → ℕ
+number_of l = l.line_number
+
+abbrev pub content_of : Line → LineContent
+content_of l = l.content
+
+-- the order of the kinds: 0 for a comment and 1 for a pair
+abbrev pub rank : LineContent → ℕ
+rank (Comment text) = 0
+rank (KVPair key value) = 1
+
+-- the bytes of its texts: of the comment, or of the key and of the value
+abbrev pub texts : LineContent → List (List ℕ)
+texts (Comment text) = string_bytes text ∷ []
+texts (KVPair key value) = string_bytes key ∷ (string_bytes value ∷ [])
+
+-- Both are comments or both are pairs, and their texts are equal.
+abbrev pub IsSameContent : LineContent → LineContent → Type 0
+IsSameContent x y = (rank x ≡ rank y) × (texts x ≡ texts y)
+
+abbrev pub IsSameLine : Line → Line → Type 0
+IsSameLine l m = (number_of l ≡ number_of m) × IsSameContent (content_of l) (content_of m)
+
+-- Comments order before pairs. Two comments, or two pairs, are ordered by the bytes of their texts.
+abbrev pub content_order : LineContent → LineContent → Ordering
+content_order = then_cmp (on rank nat_cmp) (on texts (slice_cmp (slice_cmp nat_cmp)))
+
+-- Lines are ordered by number, then by content.
+abbrev pub line_order : Line → Line → Ordering
+line_order = then_cmp (on number_of nat_cmp) (on content_of content_order)

@@ -1,0 +1,256 @@
+// Items that are found but not yet borrowed. A found item borrows nothing, so reading can continue while it is held.
+
+ghost use Rattle.std.specs.Prelude.{◌≡◌, Some, None, false, not, bytes_eq, IfOk};
+ghost use Rattle.std.specs.Option.{is_some, option_map};
+ghost use Rattle.std.specs.Str.{chars};
+ghost use Rattle.std.specs.Cow.{cow_str_bytes};
+ghost use Rattle.properties_text.specs.Parsing.{AreSpans, IsSpan, in_characters, spanned};
+ghost use Rattle.properties_format.specs.Items.{given};
+ghost use Rattle.properties_format.specs.Reading.Body.{is_pair_with};
+ghost use Rattle.properties_format.specs.Reading.Parts.{outcome_key};
+ghost use Rattle.properties_format.specs.Reading.Valued.{is_pair_to};
+ghost use Rattle.properties_items.specs.Texts.{characters};
+ghost use Rattle.properties_items.specs.FoundItems.{pair_characters, outcome_pair, FindsText, FindsContent, FindsIn, FindsPlain};
+ghost use Rattle.properties_format.specs.Split.{IsSplit};
+ghost use Rattle.properties_text.specs.Escaping.{holds_backslash};
+ghost use Rattle.properties_items.specs.BorrowedItems.{borrowed_entry, borrowed_content, is_borrowed, BorrowsPlain, found_bytes, found_content, found_entry, AreTextsIn, spans_of, IsFoundIn, IsTextIn};
+
+use crate::borrowed::{ContentRef, LineRef};
+use properties_text::escape::{UnescapeError, unescape};
+use properties_text::parse::{ParsedSpans, Span, parse_spans};
+use std::alloc::{AllocError, Global};
+use std::borrow::CowStr;
+
+/// An item that `advance` of an iterator found, to be passed to its `get`.
+///
+/// It borrows nothing. It holds the positions of the texts in the line that the iterator keeps, and the texts whose
+/// escapes had to be resolved.
+#[derive(Drop)]
+pub struct Found {
+    line_number: usize,
+    content: FoundContent,
+}
+
+#[derive(Drop)]
+enum FoundContent {
+    Comment(FoundText),
+    KVPair(FoundText, FoundText),
+}
+
+#[derive(Drop)]
+struct FoundText {
+    span: Span,
+    // The text with its escapes resolved, if its slice of the line contains a backslash.
+    resolved: Option<String>,
+}
+
+/// Finds the item of a logical line that begins in the line with this number. Returns `None` if the logical line is
+/// blank, and an error if its escapes can't be resolved.
+pub fn find_escaped(
+    alloc: Global,
+    line_number: usize,
+    line: &str,
+) -> Result<Option<Found>, UnescapeError>
+    ensures { FindsIn line.now line_number result }
+{
+    let Some(spans) = parse_spans(line) else {
+        return Ok(None);
+    };
+    let content = find_content(alloc, line, spans)?;
+    Ok(Some(Found {
+        line_number,
+        content,
+    }))
+}
+
+/// Finds the item of a logical line without a backslash that begins in the line with this number. Returns `None` if the
+/// logical line is blank. Allocates nothing.
+#[inline(always)]
+pub fn find_plain(line_number: usize, line: &str) -> Option<Found>
+    requires { holds_backslash (chars line.now) ≡ false }
+    ensures { FindsPlain line.now line_number result }
+{
+    if line.is_empty() {
+        return None;
+    }
+    let Some(spans) = parse_spans(line) else {
+        return None;
+    };
+    let content = match spans {
+        ParsedSpans::Comment(text) => FoundContent::Comment(FoundText::verbatim(text)),
+        ParsedSpans::KVPair(key, value) => {
+            FoundContent::KVPair(FoundText::verbatim(key), FoundText::verbatim(value))
+        }
+    };
+    Some(Found {
+        line_number,
+        content,
+    })
+}
+
+fn find_content(
+    alloc: Global,
+    line: &str,
+    spans: ParsedSpans,
+) -> Result<FoundContent, UnescapeError>
+    requires spans { AreSpans line.now (Some spans) }
+    requires slices { IsSplit (chars line.now) (in_characters (spanned line.now (Some spans))) }
+    ensures { FindsContent line.now spans result }
+{
+    match spans {
+        ParsedSpans::Comment(text) => match find_text(alloc, line, text) {
+            Ok(text) => Ok(FoundContent::Comment(text)),
+            Err(error) => Err(error),
+        },
+        ParsedSpans::KVPair(key, value) => {
+            let key = match find_text(alloc, line, key) {
+                Ok(key) => key,
+                Err(error) => return Err(error),
+            };
+            match find_text(alloc, line, value) {
+                Ok(value) => Ok(FoundContent::KVPair(key, value)),
+                Err(error) => Err(error),
+            }
+        }
+    }
+}
+
+fn find_text(alloc: Global, line: &str, span: Span) -> Result<FoundText, UnescapeError>
+    requires { IsSpan line.now span }
+    ensures { FindsText line.now span result }
+{
+    match unescape(alloc, span.cut(line)) {
+        Ok(CowStr::Borrowed(_)) => Ok(FoundText::verbatim(span)),
+        Ok(CowStr::Owned(text)) => Ok(FoundText {
+            span,
+            resolved: Some(text),
+        }),
+        Err(error) => Err(error),
+    }
+}
+
+/// Returns the item, with its texts cut out of the line that it was found in.
+pub fn cut_item(found: Found, line: &str) -> LineRef<'_>
+    requires { IsFoundIn line.now found }
+    ensures item { borrowed_entry result ≡ found_entry line.now found }
+    ensures borrowed { BorrowsPlain (chars line.now) result.content }
+{
+    let Found {
+        line_number,
+        content,
+    } = found;
+    LineRef::new(line_number, content.cut(line))
+}
+
+/// Returns whether the item is a pair with this key.
+pub fn item_has_key(found: &Found, line: &str, key: &str) -> bool
+    requires { IsFoundIn line.now found.now }
+    ensures { result ≡ is_pair_with (chars key.now) (given (found_content line.now found.now.content)) }
+{
+    match &found.content {
+        FoundContent::Comment(_) => false,
+        FoundContent::KVPair(text, _) => text.is(line, key),
+    }
+}
+
+/// Returns whether the item is a pair with this value.
+pub fn item_has_value(found: &Found, line: &str, value: &str) -> bool
+    requires { IsFoundIn line.now found.now }
+    ensures { result ≡ is_pair_to (chars value.now) (given (found_content line.now found.now.content)) }
+{
+    match &found.content {
+        FoundContent::Comment(_) => false,
+        FoundContent::KVPair(_, text) => text.is(line, value),
+    }
+}
+
+/// Returns a copy of the key, or `None` if the item is a comment.
+pub fn item_key(alloc: Global, found: &Found, line: &str) -> Result<Option<String>, AllocError>
+    requires { IsFoundIn line.now found.now }
+    ensures { IfOk result (λ key. option_map characters key ≡ outcome_key (given (found_content line.now found.now.content))) }
+{
+    match &found.content {
+        FoundContent::Comment(_) => Ok(None),
+        FoundContent::KVPair(text, _) => Ok(Some(text.copied(alloc, line)?)),
+    }
+}
+
+/// Returns copies of the key and the value, or `None` if the item is a comment.
+pub fn item_pair(
+    alloc: Global,
+    found: &Found,
+    line: &str,
+) -> Result<Option<(String, String)>, AllocError>
+    requires { IsFoundIn line.now found.now }
+    ensures { IfOk result (λ pair. option_map pair_characters pair ≡ outcome_pair (given (found_content line.now found.now.content))) }
+{
+    match &found.content {
+        FoundContent::Comment(_) => Ok(None),
+        FoundContent::KVPair(key, value) => {
+            let key = key.copied(alloc, line)?;
+            Ok(Some((key, value.copied(alloc, line)?)))
+        }
+    }
+}
+
+impl FoundContent {
+    fn cut(self, line: &str) -> ContentRef<'_>
+        requires texts { AreTextsIn line.now self }
+        requires slices { IsSplit (chars line.now) (in_characters (spanned line.now (Some (spans_of self)))) }
+        ensures content { borrowed_content result ≡ found_content line.now self }
+        ensures borrowed { BorrowsPlain (chars line.now) result }
+    {
+        match self {
+            FoundContent::Comment(text) => ContentRef::Comment(text.cut(line)),
+            FoundContent::KVPair(key, value) => {
+                ContentRef::KVPair(key.cut(line), value.cut(line))
+            }
+        }
+    }
+}
+
+impl FoundText {
+    // A text without escapes.
+    fn verbatim(span: Span) -> FoundText
+        ensures { result ≡ record { span = span; resolved = None } }
+    {
+        FoundText {
+            span,
+            resolved: None,
+        }
+    }
+
+    // Returns whether the found text equals `text`.
+    fn is(&self, line: &str, text: &str) -> bool
+        requires { IsTextIn line.now self.now }
+        ensures { result ≡ bytes_eq (chars (found_bytes line.now self.now)) (chars text.now) }
+    {
+        match &self.resolved {
+            None => self.span.cut(line) == text,
+            Some(resolved) => resolved.as_str() == text,
+        }
+    }
+
+    // Returns a copy of the text.
+    fn copied(&self, alloc: Global, line: &str) -> Result<String, AllocError>
+        requires { IsTextIn line.now self.now }
+        ensures { IfOk result (λ text. characters text ≡ chars (found_bytes line.now self.now)) }
+    {
+        match &self.resolved {
+            None => String::from_str(alloc, self.span.cut(line)),
+            Some(resolved) => String::from_str(alloc, resolved.as_str()),
+        }
+    }
+
+    fn cut(self, line: &str) -> CowStr<'_>
+        requires { IsTextIn line.now self }
+        ensures text { cow_str_bytes result ≡ found_bytes line.now self }
+        ensures borrowed { is_borrowed result ≡ not (is_some self.resolved) }
+    {
+        let FoundText { span, resolved } = self;
+        match resolved {
+            None => CowStr::Borrowed(span.cut(line)),
+            Some(text) => CowStr::Owned(text),
+        }
+    }
+}

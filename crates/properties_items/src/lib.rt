@@ -1,0 +1,11 @@
+//! What the reader and the editor of `.properties` files share: errors, lines and what ends them, and what a logical
+//! line is.
+//!
+//! `java_properties` hands on the types that its callers need. The functions here are for the crates above, and so are
+//! the modules: `java_properties` doesn't hand them on.
+#![tactic(auto)]
+
+pub mod borrowed;
+pub mod error;
+pub mod found;
+pub mod line;
