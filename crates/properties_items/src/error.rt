@@ -5,7 +5,7 @@ ghost use Rattle.std.specs.Str.{chars};
 ghost use Rattle.std.specs.String.{string_bytes};
 ghost use Rattle.properties_items.specs.Errors.{kind_of, line_of, cause_of, IsError, IsBareError, IsLineError, IsStreamError, RefusesText, IsReason};
 ghost use Rattle.properties_items.specs.DisplayTexts.{description, cause_display, error_display, reason_display};
-ghost use Rattle.properties_items.specs.declared.error.ErrorKind.TheVariants.{Io, BadCommentPrefix, BadKvSeparator, EmptyKey, TooManyLines, Failed, Memory, Unsupported};
+ghost use Rattle.properties_items.specs.declared.error.ErrorKind.TheVariants.{Io, Memory};
 
 pub mod make;
 
