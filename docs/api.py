@@ -38,11 +38,17 @@ def source_of(path):
     return next(parent for parent in path.parents if parent.name == "src")
 
 
+def source_of(crate):
+    return TOP / "crates" / crate / "src"
+
+
 def files(crate):
-    """The source files that are compiled outside tests, lib.rt first."""
-    source = TOP / "crates" / crate / "src"
-    found = [path for path in sorted(source.rglob("*.rt")) if "tests" not in path.with_suffix("").parts]
-    return sorted(found, key=lambda path: path.name != "lib.rt")
+    """The source files that are compiled outside tests, lib.rt first, after those of the crates that it hands on."""
+    found = []
+    for each in (HANDED_ON if crate == "java_properties" else []) + [crate]:
+        own = [path for path in sorted(source_of(each).rglob("*.rt")) if "tests" not in path.with_suffix("").parts]
+        found += sorted(own, key=lambda path: path.name != "lib.rt")
+    return found
 
 
 def uses(path):
@@ -64,7 +70,7 @@ def uses(path):
 def exported(crate):
     """The module from which a caller has each name that the root of the crate and its public modules hand on, by the
     name and its file, and the module of each of their files. The root is the empty text."""
-    source = TOP / "crates" / crate / "src"
+    source = source_of(crate)
     names, pages, left = {}, {}, [(source / "lib.rt", "")]
     while left:
         path, module = left.pop(0)

@@ -8,7 +8,10 @@ import pathlib
 import re
 
 TOP = pathlib.Path(__file__).resolve().parent.parent
-CRATES = ["byte_blocks", "counted_io", "java_properties", "properties_text", "properties_tools", "single_lines"]
+CRATES = [
+    "byte_blocks", "counted_io", "java_properties", "properties_editing", "properties_items", "properties_text", "properties_tools",
+    "single_lines",
+]
 
 HEAD = """// Examples of doc comments, each as a test.
 #![tactic(auto)]

@@ -17,8 +17,6 @@ pub mod IndexCutOut
 pub mod IndexMerged
 pub mod IndexRemoved
 pub mod BodyDocuments
-pub mod DocumentKeys
-pub mod DocumentCalls
 pub mod IndexAppended
 pub mod IndexChanged
 pub mod IndexAdded

@@ -162,6 +162,27 @@ impl Index {
         span_at(&self.spans, self.pairs.get(key)?.place)
     }
 
+    /// Returns the keys in the order of the body, each once.
+    pub fn keys(&self, alloc: Global) -> Result<Vec<&str>, AllocError> {
+        let mut firsts = Vec::new(alloc);
+        for _ in 0..self.spans.len() {
+            firsts.push(None)?;
+        }
+        for (key, pair) in &self.pairs {
+            let place = *pair.earlier.first().unwrap_or(&pair.place);
+            if place < firsts.len() {
+                firsts[place] = Some(key.as_str());
+            }
+        }
+        let mut keys = Vec::new(alloc);
+        for first in &firsts {
+            if let Some(key) = first {
+                keys.push(*key)?;
+            }
+        }
+        Ok(keys)
+    }
+
     // Returns where the last pair of the body is, whatever its key.
     fn last(&self) -> Option<BodySpan>
         ensures { result ≡ last_live self.now.spans.items }
