@@ -10,7 +10,6 @@ ghost use Rattle.java_properties.specs.Documents.{HasKeysInOrder, HasValueAt, Op
 use crate::edit::index::{Index, put_pair, put_value, remove_pairs};
 use crate::edit::source::BodyStart;
 use crate::error::PropertiesError;
-use crate::iter::key_lines;
 use properties_text::encoding::Encoding;
 use std::alloc::{AllocError, Global};
 use std::marker::Model;
@@ -108,22 +107,7 @@ impl Document {
     pub fn keys(&self, alloc: Global) -> Result<Vec<&str>, AllocError>
         ensures { IfOk result (λ keys. HasKeysInOrder self.now keys.items) }
     {
-        let mut input = self.source.as_slice();
-        let lines = match key_lines(alloc, &mut input, self.encoding) {
-            Ok(lines) => lines,
-            // The source was read before, so only memory can run out.
-            Err(_) => return Err(AllocError),
-        };
-        let mut keys = Vec::new(alloc);
-        for line in &lines {
-            if line.first == line.line_number {
-                let Some((key, _)) = self.index.pairs.get_key_value(line.key.as_str()) else {
-                    unreachable!()
-                };
-                keys.push(key.as_str())?;
-            }
-        }
-        Ok(keys)
+        self.index.keys(alloc)
     }
 
     /// Sets a key to a value, as [`set_key`](crate::set_key) does. If memory runs out, nothing changes.

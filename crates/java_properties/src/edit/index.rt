@@ -30,6 +30,8 @@ use properties_text::encoding::Encoding;
 use std::alloc::{AllocError, Global};
 use std::collections::BTreeMap;
 
+mod keys;
+
 /// The pairs with a key.
 #[derive(Drop)]
 pub struct IndexedPair {
