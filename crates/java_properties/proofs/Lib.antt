@@ -35,8 +35,6 @@ pub mod IndexMerged
 pub mod IndexKeys
 pub mod IndexRemoved
 pub mod BodyDocuments
-pub mod DocumentKeys
-pub mod DocumentCalls
 pub mod IndexAppended
 pub mod IndexChanged
 pub mod IndexAdded
