@@ -1,5 +1,5 @@
 -- The keys that an index tells: the places of their first pairs follow the order of the body.
-use Rattle.std.proofs.Common.{◌≡◌, ◌≢◌, ◌<◌, ◌≤◌, ℕ, zero, suc, ◌+◌, Bool, true, false, List, [], ◌∷◌, ◌++◌, length, get_or, refl, ap, ap₂, sym, ◌∙◌, inl, inr, subst, arith, append-nil, append_assoc}
+use Rattle.std.proofs.Common.{◌≡◌, ◌≢◌, ◌<◌, ◌≤◌, ℕ, zero, suc, ◌+◌, true, false, List, [], ◌∷◌, ◌++◌, length, get_or, refl, ap, ap₂, sym, ◌∙◌, inl, inr, subst, arith, append-nil, append_assoc}
 use Rattle.std.specs.Prelude.{Option, Some, None, AllPairs, map, take, bytes_eq, string_bytes, slice_get, replicate, filter_map}
 use Rattle.std.specs.Borrow.{Bor}
 use Rattle.std.specs.Global.{Global}
@@ -27,7 +27,7 @@ use Rattle.properties_format.specs.Reading.Keys.{Has, HasNot, ComesBefore, AreFi
 use Rattle.properties_format.specs.Reading.Parts.{outcome_key}
 use Rattle.properties_format.proofs.Body.Groups.{held_groups_of-meets}
 use Rattle.properties_format.proofs.InTurn.Merged.{AreInTurn, in-turn}
-use Rattle.java_properties.specs.BodyIndex.{IsIndex, IsListed, is_pair, live_spans, outcome, places_of, some_span, span_at, span_of, spans_where, stored_at}
+use Rattle.java_properties.specs.BodyIndex.{IsListed, is_pair, live_spans, outcome, places_of, some_span, span_at, span_of, spans_where, stored_at}
 use Rattle.java_properties.specs.BodyIndex.Keys.{AreFirsts, ArePlaced, IndexesSome, IsFirstIn, TellsKeys, group_keys, key_at}
 use Rattle.java_properties.specs.Documents.{characters_of}
 use Rattle.java_properties.specs.Maps.{characters}
@@ -69,18 +69,23 @@ spans_with key (p ∷ pairs) = some_span (bytes_eq p.key key) p.span (spans_with
 
 keys-pairs : (n : ℕ) (gs : List (List HeldLine)) → keys_of (pairs_of n gs) ≡ group_keys gs
 keys-pairs n [] = refl
-keys-pairs n (g ∷ gs) = of-key (outcome_key (outcome g)) ∙ ap (cons_option (outcome_key (outcome g))) (keys-pairs (n + length (group_bytes g)) gs)
+keys-pairs n (g ∷ gs) =
+    of-key (outcome_key (outcome g)) (span_of n g) (pairs_of (n + length (group_bytes g)) gs)
+    ∙ ap (cons_option (outcome_key (outcome g))) (keys-pairs (n + length (group_bytes g)) gs)
   where
-    of-key : (o : Option (List ℕ)) → keys_of (some_pair o (span_of n g) (pairs_of (n + length (group_bytes g)) gs)) ≡ cons_option o (keys_of (pairs_of (n + length (group_bytes g)) gs))
-    of-key None = refl
-    of-key (Some key) = refl
+    of-key : (o : Option (List ℕ)) (s : BodySpan) (ps : List KeySpan) → keys_of (some_pair o s ps) ≡ cons_option o (keys_of ps)
+    of-key None s ps = refl
+    of-key (Some key) s ps = refl
 
 -- The parts of all pairs,
 spans-pairs : (n : ℕ) (gs : List (List HeldLine)) → spans_where is_pair n gs ≡ spans_of (pairs_of n gs)
 spans-pairs n [] = refl
-spans-pairs n (g ∷ gs) = of-outcome (outcome g) (span_of n g) (spans_where is_pair (n + length (group_bytes g)) gs) (pairs_of (n + length (group_bytes g)) gs) (spans-pairs (n + length (group_bytes g)) gs)
+spans-pairs n (g ∷ gs) =
+    let next = n + length (group_bytes g) in
+    of-outcome (outcome g) (span_of n g) (spans_where is_pair next gs) (pairs_of next gs) (spans-pairs next gs)
   where
-    of-outcome : (o : Outcome) (s : BodySpan) (ss : List BodySpan) (ps : List KeySpan) → ss ≡ spans_of ps → some_span (is_pair o) s ss ≡ spans_of (some_pair (outcome_key o) s ps)
+    of-outcome : (o : Outcome) (s : BodySpan) (ss : List BodySpan) (ps : List KeySpan) → ss ≡ spans_of ps
+        → some_span (is_pair o) s ss ≡ spans_of (some_pair (outcome_key o) s ps)
     of-outcome ignored s ss ps h = h
     of-outcome (given (comment text)) s ss ps h = h
     of-outcome (given (pair key value)) s ss ps h = ap (λ v. s ∷ v) h
@@ -90,7 +95,8 @@ spans-pairs n (g ∷ gs) = of-outcome (outcome g) (span_of n g) (spans_where is_
 with-pairs : (key : List ℕ) (n : ℕ) (gs : List (List HeldLine)) → spans_where (is_pair_with key) n gs ≡ spans_with key (pairs_of n gs)
 with-pairs key n [] = refl
 with-pairs key n (g ∷ gs) =
-    of-outcome (outcome g) (span_of n g) (spans_where (is_pair_with key) (n + length (group_bytes g)) gs) (pairs_of (n + length (group_bytes g)) gs) (with-pairs key (n + length (group_bytes g)) gs)
+    let next = n + length (group_bytes g) in
+    of-outcome (outcome g) (span_of n g) (spans_where (is_pair_with key) next gs) (pairs_of next gs) (with-pairs key next gs)
   where
     of-outcome : (o : Outcome) (s : BodySpan) (ss : List BodySpan) (ps : List KeySpan) → ss ≡ spans_with key ps
         → some_span (is_pair_with key o) s ss ≡ spans_with key (some_pair (outcome_key o) s ps)
@@ -123,7 +129,8 @@ pairs-ascend e n (g ∷ h ∷ gs) t = of-outcome (outcome g) refl (pairs-ascend 
     rest : List KeySpan
     rest = pairs_of (n + length (group_bytes g)) (h ∷ gs)
 
-    of-outcome : (o : Outcome) → outcome g ≡ o → Ascend (n + length (group_bytes g)) (spans_of rest) → Ascend n (spans_of (some_pair (outcome_key o) (span_of n g) rest))
+    of-outcome : (o : Outcome) → outcome g ≡ o → Ascend (n + length (group_bytes g)) (spans_of rest)
+        → Ascend n (spans_of (some_pair (outcome_key o) (span_of n g) rest))
     of-outcome ignored q a = ascend-lower (n + length (group_bytes g)) n (spans_of rest) (omega arith) a
     of-outcome (given (comment text)) q a = ascend-lower (n + length (group_bytes g)) n (spans_of rest) (omega arith) a
     of-outcome (given (pair key value)) q a =
@@ -137,7 +144,8 @@ above n [] x ys a = a.0
 above n (w ∷ xs) x ys a = let first = a.0 in let rest = above (w.span.start + 1) xs x ys a.1 in omega arith
 
 -- Of two pairs with one start in a list the keys are the same.
-same-key : (n : ℕ) (xs ys us vs : List KeySpan) (x u : KeySpan) → Ascend n (spans_of (xs ++ x ∷ ys)) → xs ++ x ∷ ys ≡ us ++ u ∷ vs → x.span.start ≡ u.span.start → x.key ≡ u.key
+same-key : (n : ℕ) (xs ys us vs : List KeySpan) (x u : KeySpan) → Ascend n (spans_of (xs ++ x ∷ ys)) → xs ++ x ∷ ys ≡ us ++ u ∷ vs
+    → x.span.start ≡ u.span.start → x.key ≡ u.key
 same-key n [] ys [] vs x u a h same = let first : x ≡ u = cc in ap (λ p. p.key) first
 same-key n [] ys (w ∷ us) vs x u a h same =
     let first : x ≡ w = cc in
@@ -154,8 +162,8 @@ same-key n (w ∷ xs) ys (z ∷ us) vs x u a h same =
     same-key (w.span.start + 1) xs ys us vs x u a.1 rest same
 
 -- Before a pair that starts earlier than the first one with a key, and at it, is none with that key.
-none-earlier : (other : List ℕ) (n : ℕ) (xs ys us vs : List KeySpan) (x u : KeySpan) → Ascend n (spans_of (xs ++ x ∷ ys)) → xs ++ x ∷ ys ≡ us ++ u ∷ vs
-    → x.span.start < u.span.start → HasNot other (keys_of us) → HasNot other (keys_of xs) × (x.key ≢ other)
+none-earlier : (other : List ℕ) (n : ℕ) (xs ys us vs : List KeySpan) (x u : KeySpan) → Ascend n (spans_of (xs ++ x ∷ ys))
+    → xs ++ x ∷ ys ≡ us ++ u ∷ vs → x.span.start < u.span.start → HasNot other (keys_of us) → HasNot other (keys_of xs) × (x.key ≢ other)
 none-earlier other n [] ys [] vs x u a h low none =
     let first : x ≡ u = cc in
     let start : x.span.start ≡ u.span.start = ap (λ p. p.span.start) first in
@@ -228,8 +236,8 @@ live-above (None ∷ spans) n (suc i) s a h = live-above spans n i s a h
 live-above (Some t ∷ spans) n zero s a h = let same : t ≡ s = cc in subst (λ v. n ≤ v.start) same a.0
 live-above (Some t ∷ spans) n (suc i) s a h = let first = a.0 in let rest = live-above spans (t.start + 1) i s a.1 h in omega arith
 
-live-order : (spans : List (Option BodySpan)) (n i j : ℕ) (s t : BodySpan) → Ascend n (live_spans spans) → i < j → span_at spans i ≡ Some s → span_at spans j ≡ Some t
-    → s.start < t.start
+live-order : (spans : List (Option BodySpan)) (n i j : ℕ) (s t : BodySpan) → Ascend n (live_spans spans) → i < j
+    → span_at spans i ≡ Some s → span_at spans j ≡ Some t → s.start < t.start
 live-order [] n i j s t a l h k = absurd (cc)
 live-order (o ∷ spans) n zero zero s t a l h k = absurd (omega arith)
 live-order (o ∷ spans) n (suc i) zero s t a l h k = absurd (omega arith)
@@ -263,7 +271,8 @@ has-at (None ∷ firsts) key h = let m = has-at firsts key h in (suc m.0, m.1)
 has-at (Some k ∷ firsts) key (inl e) = (0, ap Some e)
 has-at (Some k ∷ firsts) key (inr h) = let m = has-at firsts key h in (suc m.0, m.1)
 
-module _ {Y : Type 0} (e : Encoding) (gs : List (List HeldLine)) (turn : AreInTurn e gs) (entries : List (String Y × IndexedPair)) (spans : List (Option BodySpan)) (h : IsListed gs entries spans) where
+module _ {Y : Type 0} (e : Encoding) (gs : List (List HeldLine)) (turn : AreInTurn e gs) (entries : List (String Y × IndexedPair))
+    (spans : List (Option BodySpan)) (h : IsListed gs entries spans) where
   abbrev pairs : List KeySpan
   pairs = pairs_of 0 gs
 
@@ -292,7 +301,8 @@ module _ {Y : Type 0} (e : Encoding) (gs : List (List HeldLine)) (turn : AreInTu
   place-of : (key : List ℕ) (s : BodySpan) (ss : List BodySpan) → spans_with key pairs ≡ s ∷ ss → (i : ℕ) × IsFirstIn entries key i
   place-of key s ss q = of-places (places_of (stored_at entries key)) refl (stored-with key ∙ ap (map Some) q)
     where
-      of-places : (ps : List ℕ) → places_of (stored_at entries key) ≡ ps → map (span_at spans) ps ≡ Some s ∷ map Some ss → (i : ℕ) × IsFirstIn entries key i
+      of-places : (ps : List ℕ) → places_of (stored_at entries key) ≡ ps → map (span_at spans) ps ≡ Some s ∷ map Some ss
+          → (i : ℕ) × IsFirstIn entries key i
       of-places [] r k = absurd (cc)
       of-places (i ∷ ps) r k = (i, (ps, r))
 
@@ -304,7 +314,8 @@ module _ {Y : Type 0} (e : Encoding) (gs : List (List HeldLine)) (turn : AreInTu
       let m_at = m.at in
       let n_at = n.at in
       let span : m.span ≡ n.span = cc in
-      same-key 0 m.first.before m.first.after n.first.before n.first.after (record { span = m.span; key = key }) (record { span = n.span; key = other })
+      same-key 0 m.first.before m.first.after n.first.before n.first.after
+      (record { span = m.span; key = key }) (record { span = n.span; key = other })
       (subst (λ v. Ascend 0 (spans_of v)) m.first.division ascends) (sym m.first.division ∙ n.first.division) (ap (λ v. v.start) span)
 
   -- The first places of two keys.
@@ -321,8 +332,8 @@ module _ {Y : Type 0} (e : Encoding) (gs : List (List HeldLine)) (turn : AreInTu
       let m = at-place key o.place o.is_place in
       let n = at-place other o.other_place o.is_other in
       let x : KeySpan = record { span = m.span; key = key } in
-      let none = none-earlier other 0 m.first.before m.first.after n.first.before n.first.after x (record { span = n.span; key = other })
-      (subst (λ v. Ascend 0 (spans_of v)) m.first.division ascends) (sym m.first.division ∙ n.first.division)
+      let none = none-earlier other 0 m.first.before m.first.after n.first.before n.first.after
+      x (record { span = n.span; key = other }) (subst (λ v. Ascend 0 (spans_of v)) m.first.division ascends) (sym m.first.division ∙ n.first.division)
       (live-order spans 0 o.place o.other_place m.span n.span live-ascends o.below m.at n.at) n.first.none_before in
       record {
         before = keys_of m.first.before;
@@ -340,8 +351,8 @@ module _ {Y : Type 0} (e : Encoding) (gs : List (List HeldLine)) (turn : AreInTu
   first_from-next n o firsts a i key q = let m : n + suc i ≡ n + 1 + i = omega arith in subst (IsFirstIn entries key) m (a (suc i) key q)
 
   -- A key at an earlier place comes before each of them.
-  later-keys : (key : List ℕ) (place : ℕ) → IsFirstIn entries key place → (n : ℕ) (firsts : List (Option (List ℕ))) → place < n → AreFirstFrom n firsts
-      → AllByRecursion (HaveOrderedFirsts key) (keys_at firsts)
+  later-keys : (key : List ℕ) (place : ℕ) → IsFirstIn entries key place → (n : ℕ) (firsts : List (Option (List ℕ))) → place < n
+      → AreFirstFrom n firsts → AllByRecursion (HaveOrderedFirsts key) (keys_at firsts)
   later-keys key place p n [] l a = tt
   later-keys key place p n (None ∷ firsts) l a = later-keys key place p (n + 1) firsts (omega arith) (first_from-next n None firsts a)
   later-keys key place p n (Some other ∷ firsts) l a = (
@@ -381,8 +392,8 @@ get-middle [] x ys = refl
 get-middle (y ∷ xs) x ys = get-middle xs x ys
 
 -- Under the key of an entry is its pair.
-entry-stored : {Y : Type 0} (m : BTreeMap (String Y) IndexedPair) (done rest : List (String Y × IndexedPair)) (key : String Y) (stored : IndexedPair) → IsOrdered string_cmp m
-    → done ++ (key, stored) ∷ rest ≡ m.entries → stored_at m.entries (characters key) ≡ Some stored
+entry-stored : {Y : Type 0} (m : BTreeMap (String Y) IndexedPair) (done rest : List (String Y × IndexedPair)) (key : String Y)
+    (stored : IndexedPair) → IsOrdered string_cmp m → done ++ (key, stored) ∷ rest ≡ m.entries → stored_at m.entries (characters key) ≡ Some stored
 entry-stored m done rest key stored ordered divided =
     let at = ap (λ v. slice_get v (length done)) (sym divided) ∙ get-middle done (key, stored) rest in
     at_chars-sorted m (string_bytes key) (IsUtf8-string_bytes key) ∙ btree_map_get_place string_cmp_total m (length done) key stored ordered at
@@ -396,7 +407,8 @@ head-got (n ∷ places) i e = let same : n ≡ i = cc in (places, ap (λ v. v �
 -- at the first place of each of these entries is its key
 abbrev AllPlaced : {Y : Type 0} → List (String Y × IndexedPair) → List (Option (List ℕ)) → Type 0
 AllPlaced [] firsts = Unit {0}
-AllPlaced (e ∷ es) firsts = ((i : ℕ) (rest : List ℕ) → places_of (Some e.1) ≡ i ∷ rest → get_or firsts i None ≡ Some (characters e.0)) × AllPlaced es firsts
+AllPlaced (e ∷ es) firsts =
+    ((i : ℕ) (rest : List ℕ) → places_of (Some e.1) ≡ i ∷ rest → get_or firsts i None ≡ Some (characters e.0)) × AllPlaced es firsts
 
 -- The keys of the entries before these are at their first places, and no others.
 pub record IsPlacing {Y : Type 0} (entries rest : List (String Y × IndexedPair)) (firsts : List (Option (List ℕ))) : Type 0 where
@@ -416,13 +428,14 @@ none-at zero i key e = cc
 none-at (suc n) zero key e = cc
 none-at (suc n) (suc i) key e = none-at n i key e
 
-pub placing-none : {Y : Type 0} (entries rest : List (String Y × IndexedPair)) (n : ℕ) (firsts : List (Option (Bor (List ℕ)))) → rest ≡ entries → firsts ≡ replicate n None
-    → IsPlacing entries rest (map key_at firsts)
+pub placing-none : {Y : Type 0} (entries rest : List (String Y × IndexedPair)) (n : ℕ) (firsts : List (Option (Bor (List ℕ))))
+    → rest ≡ entries → firsts ≡ replicate n None → IsPlacing entries rest (map key_at firsts)
 placing-none entries rest n firsts all none =
     record { done = []; division = all; only = λ i key e. absurd (none-at n i key (ap (λ v. get_or (map key_at v) i None) (sym none) ∙ e)); every = tt }
 
-placed-push : {Y : Type 0} (done : List (String Y × IndexedPair)) (e : String Y × IndexedPair) (firsts : List (Option (List ℕ))) → AllPlaced done firsts
-    → ((i : ℕ) (rest : List ℕ) → places_of (Some e.1) ≡ i ∷ rest → get_or firsts i None ≡ Some (characters e.0)) → AllPlaced (done ++ e ∷ []) firsts
+placed-push : {Y : Type 0} (done : List (String Y × IndexedPair)) (e : String Y × IndexedPair) (firsts : List (Option (List ℕ)))
+    → AllPlaced done firsts → ((i : ℕ) (rest : List ℕ) → places_of (Some e.1) ≡ i ∷ rest → get_or firsts i None ≡ Some (characters e.0))
+    → AllPlaced (done ++ e ∷ []) firsts
 placed-push [] e firsts a h = (h, tt)
 placed-push (d ∷ done) e firsts a h = (a.0, placed-push done e firsts a.1 h)
 
@@ -483,7 +496,8 @@ placed-at (d ∷ entries) firsts key i a (rest, e) = elim (cases_Bool (bytes_eq 
 ]
 
 -- After the last entry each key is at its first place.
-pub placing-all : {Y : Type 0} (entries : List (String Y × IndexedPair)) (firsts : List (Option (Bor (List ℕ)))) → IsPlacing entries [] (map key_at firsts) → ArePlaced entries firsts
+pub placing-all : {Y : Type 0} (entries : List (String Y × IndexedPair)) (firsts : List (Option (Bor (List ℕ))))
+    → IsPlacing entries [] (map key_at firsts) → ArePlaced entries firsts
 placing-all entries firsts h =
     let all : h.done ≡ entries = sym (append-nil h.done) ∙ h.division in
     record {
@@ -497,8 +511,9 @@ index-turn : (e : Encoding) (body : List ℕ) → is_editable e ≡ true → Are
 index-turn e body ok = in-turn e body (held_groups_of e body) ok (held_groups_of-meets e body)
 
 -- The key of the next entry comes to its first place, which is one of the index.
-pub placing-next : (index : Index) (rest : List (String Global × IndexedPair)) (firsts : List (Option (Bor (List ℕ)))) (key : String Global) (stored : IndexedPair)
-    (i : ℕ) (borrowed : Bor (List ℕ)) → IndexesSome index → IsPlacing index.pairs.entries ((key, stored) ∷ rest) (map key_at firsts) → Some i ≡ slice_get (places_of (Some stored)) 0
+pub placing-next : (index : Index) (rest : List (String Global × IndexedPair)) (firsts : List (Option (Bor (List ℕ))))
+    (key : String Global) (stored : IndexedPair) (i : ℕ) (borrowed : Bor (List ℕ))
+    → IndexesSome index → IsPlacing index.pairs.entries ((key, stored) ∷ rest) (map key_at firsts) → Some i ≡ slice_get (places_of (Some stored)) 0
     → borrowed.now ≡ string_bytes key → length firsts ≡ length index.spans.items
     → (i < length firsts) × IsPlacing index.pairs.entries rest (map key_at (set firsts i (Some borrowed)))
 placing-next index rest firsts key stored i borrowed some h first is size =
@@ -509,7 +524,8 @@ placing-next index rest firsts key stored i borrowed some h first is size =
     let spans = index.spans.items in
     let listed = some.is_index.listed in
     let head = head-got (places_of (Some stored)) i first in
-    let own : IsFirstIn entries (characters key) i = (head.0, ap places_of (entry-stored index.pairs h.done rest key stored some.is_index.ordered h.division) ∙ head.1) in
+    let own : IsFirstIn entries (characters key) i =
+    (head.0, ap places_of (entry-stored index.pairs h.done rest key stored some.is_index.ordered h.division) ∙ head.1) in
     let at = at-place e gs turn entries spans listed (characters key) i own in
     let low = some-inside spans i at.span at.at in
     let mapped = length-map firsts key_at in
@@ -539,12 +555,15 @@ pub found-more : (firsts : List (Option (Bor (List ℕ)))) (i : ℕ) (keys : Lis
 found-more firsts i keys key inside is so_far =
     map-append (λ text. chars text.now) keys (key ∷ [])
     ∙ ap (λ v. v ++ chars key.now ∷ []) so_far
-    ∙ sym (ap (filter_map key_at) (take_more firsts i None inside ∙ ap (λ o. take i firsts ++ o ∷ []) is) ∙ filter_map-append key_at (take i firsts) (Some key ∷ []))
+    ∙ sym (ap (filter_map key_at) (take_more firsts i None inside ∙ ap (λ o. take i firsts ++ o ∷ []) is)
+    ∙ filter_map-append key_at (take i firsts) (Some key ∷ []))
 
 -- and else none.
 pub found-none : (firsts : List (Option (Bor (List ℕ)))) (i : ℕ) (keys : List (Bor (List ℕ))) → i < length firsts
-    → get_or firsts i None ≡ None → characters_of keys ≡ filter_map key_at (take i firsts) → characters_of keys ≡ filter_map key_at (take (i + 1) firsts)
+    → get_or firsts i None ≡ None → characters_of keys ≡ filter_map key_at (take i firsts)
+    → characters_of keys ≡ filter_map key_at (take (i + 1) firsts)
 found-none firsts i keys inside is so_far =
     so_far
     ∙ sym (append-nil (filter_map key_at (take i firsts)))
-    ∙ sym (ap (filter_map key_at) (take_more firsts i None inside ∙ ap (λ o. take i firsts ++ o ∷ []) is) ∙ filter_map-append key_at (take i firsts) (None ∷ []))
+    ∙ sym (ap (filter_map key_at) (take_more firsts i None inside ∙ ap (λ o. take i firsts ++ o ∷ []) is)
+    ∙ filter_map-append key_at (take i firsts) (None ∷ []))
