@@ -150,6 +150,6 @@ impl Document {
     pub fn to_bytes(&self, alloc: Global) -> Result<Vec<u8>, AllocError>
         ensures { IfOk result (λ bytes. bytes.items ≡ self.now.bytes) }
     {
-        self.source.to_vec(alloc)
+        self.source().to_vec(alloc)
     }
 }
