@@ -52,7 +52,7 @@ use Rattle.java_properties.proofs.MalformedEscapes.{Collected, collected-start, 
 -- ---- the keys, computed
 
 -- the key of a group, and those after it
-abbrev pub key_before : ℕ → Option (List ℕ) → List KeyPlace → List KeyPlace
+abbrev key_before : ℕ → Option (List ℕ) → List KeyPlace → List KeyPlace
 key_before number None rest = rest
 key_before number (Some key) rest = record { number = number; key = key } ∷ rest
 
@@ -80,7 +80,7 @@ keys_in-only (g ∷ gs) keys (outcome, rest, is, same, others) =
     ∙ ap₂ (λ v w. key_before (first_number g) (outcome_key v) w) (outcome_of-only (joined g) outcome is) (keys_in-only gs rest others)
 
 -- the groups of an input
-abbrev pub groups_in : Encoding → List ℕ → List (List Line)
+abbrev groups_in : Encoding → List ℕ → List (List Line)
 groups_in e bytes = groups_of (numbered_lines (lines_of (decoded_of e bytes)) end) end
 
 are_keys-meets : (e : Encoding) (bytes : List ℕ) → AreKeys e bytes (keys_in (groups_in e bytes))
@@ -97,7 +97,7 @@ are_keys-meets e bytes =
       are_keys = keys_in-meets (groups_in e bytes);
     }
 
-pub are_keys-only : (e : Encoding) (bytes : List ℕ) (keys : List KeyPlace) → AreKeys e bytes keys → keys ≡ keys_in (groups_in e bytes)
+are_keys-only : (e : Encoding) (bytes : List ℕ) (keys : List KeyPlace) → AreKeys e bytes keys → keys ≡ keys_in (groups_in e bytes)
 are_keys-only e bytes keys h =
     keys_in-only h.groups keys h.are_keys
     ∙ ap keys_in (groups_of-only (numbered_lines h.lines end) end h.groups h.grouped)

@@ -1,31 +1,35 @@
 -- What the calls of a document come to.
-use Rattle.std.proofs.Common.{◌≡◌, ◌≤◌, ◌<◌, ℕ, ◌+◌, Bool, true, false, List, [], ◌∷◌, ◌++◌, All, length, take, drop, refl, ap, ap₂, sym, ◌∙◌, subst, length-append, arith}
-use Rattle.std.specs.Prelude.{Option, Some, None, Result, Ok, Err, OnOk}
+use Rattle.std.proofs.Common.{◌≡◌, ℕ, ◌+◌, Bool, true, List, [], ◌∷◌, ◌++◌, length, take, drop, refl, ap, ap₂, sym, ◌∙◌, subst, length-append, arith}
+use Rattle.std.specs.Prelude.{Option, Some, None, Result, Ok, Err, IfOk, OnOk}
+use Rattle.std.specs.Borrow.{Bor}
 use Rattle.std.specs.Global.{Vec}
+use Rattle.std.specs.List.{cons_option}
 use Rattle.std.specs.Option.{is_some, option_map}
 use Rattle.std.proofs.Math.Seq.{drop-append_seam}
 use Rattle.std.proofs.lemmas.List.{length-take-le}
-use Rattle.properties_format.specs.Text.{scalar}
 use Rattle.properties_format.specs.Encoding.{Encoding, InForce, byte_order_mark, windows_1252, utf_8, utf_16le, utf_16be}
 use Rattle.properties_format.specs.Lines.{end}
-use Rattle.properties_format.specs.Entries.{AreItems}
+use Rattle.properties_format.specs.Entries.{comment, pair, AreItems}
 use Rattle.properties_format.specs.Items.{IsItems, Outcome, ignored, given, broken}
 use Rattle.properties_format.specs.Maps.{IsValue}
 use Rattle.properties_format.specs.Body.{HeldLine}
-use Rattle.properties_format.specs.Edited.{bom_of, is_editable, edited}
+use Rattle.properties_format.specs.Edited.{bom_of, is_editable}
 use Rattle.properties_format.specs.Edits.{put, remove, set_value}
 use Rattle.properties_format.specs.Reading.Body.{entries_in, held_groups_of}
 use Rattle.properties_format.specs.Reading.Edited.{IsSound, AreSound}
 use Rattle.properties_format.specs.Reading.Items.{followed, items_of}
+use Rattle.properties_format.specs.Reading.Parts.{outcome_key}
 use Rattle.properties_format.proofs.Body.Numbers.{items_of-groups}
 use Rattle.properties_format.proofs.Edited.ByteOrderMarks.{key_set-in_force, key_removed-in_force}
 use Rattle.properties_format.proofs.Items.Unique.{items_of-meets}
+use Rattle.properties_format.proofs.Keys.{are-keys, pair_keys}
 use Rattle.properties_format.proofs.Valued.Marks.{value_set-in_force}
 use Rattle.properties_lines.specs.LineSearch.{unit_size}
 use Rattle.properties_text.specs.Encoding.{encoding_of}
 use Rattle.properties_editing.specs.BodyDocuments.{IsDocument, open_document}
 use Rattle.properties_editing.specs.BodyIndex.{IsIndex, MakesEdit, PutsPair, PutsValue, RemovesPairs, outcome, stored_at, stored_value}
-use Rattle.properties_editing.specs.Documents.{OpenDocument, HasValueAt, ChecksHasKey, PutsInto, SetsValueIn, RemovesFrom}
+use Rattle.properties_editing.specs.BodyIndex.Keys.{IndexesSome, TellsKeys, group_keys}
+use Rattle.properties_editing.specs.Documents.{OpenDocument, HasValueAt, HasKeysInOrder, ChecksHasKey, PutsInto, SetsValueIn, RemovesFrom, characters_of}
 use Rattle.properties_editing.specs.Editing.{AreMade, HasValueSet, IsRemoved, IsSet}
 use Rattle.properties_items.specs.Texts.{characters}
 use Rattle.properties_editing.specs.Sources.{IsInForce}
@@ -107,6 +111,45 @@ has-value d i key value is =
 pub checks_has_key : {X : Type 0} (f : X → List ℕ) (d : OpenDocument) (key : List ℕ) (o : Option X) → HasValueAt d key (option_map f o) → ChecksHasKey d key (is_some o)
 checks_has_key f d key None h = h
 checks_has_key f d key (Some x) h = (f x, h)
+
+-- Its index is that of a body.
+pub index-some : (d : Inside) → IsDocument d → IndexesSome d.index
+index-some d i = record { encoding = encoding_of d.opened.encoding; body = drop d.opened.start d.source.items; editable = i.editable; is_index = i.is_index }
+
+-- The keys of groups are those of their entries.
+entries-keys : (n : ℕ) (gs : List (List HeldLine)) → AreSound gs → pair_keys (entries_in n gs) ≡ group_keys gs
+entries-keys n [] s = refl
+entries-keys n (g ∷ gs) s = of-outcome (outcome g) s.0 (entries-keys (n + length g) gs s.1)
+  where
+    of-outcome : (o : Outcome) → IsSound o → pair_keys (entries_in (n + length g) gs) ≡ group_keys gs
+        → pair_keys (followed n o (entries_in (n + length g) gs)) ≡ cons_option (outcome_key o) (group_keys gs)
+    of-outcome ignored s h = h
+    of-outcome (given (comment text)) s h = h
+    of-outcome (given (pair key value)) s h = ap (λ v. key ∷ v) h
+    of-outcome (broken kind) s h = absurd s
+
+-- The keys that its index tells are its keys, in order,
+keys-are : (d : Inside) → IsDocument d → (keys : List (Bor (List ℕ))) → TellsKeys d.index keys → HasKeysInOrder (open_document d) keys
+keys-are d i keys tells =
+    let e = encoding_of d.encoding in
+    let f = encoding_of d.opened.encoding in
+    let source = d.source.items in
+    let body = drop d.opened.start source in
+    let gs = held_groups_of f body in
+    let same : items_of e source end ≡ entries_in 1 gs =
+    items_of-groups e source ∙ ap (λ v. let w : InForce = v in entries_in 1 (held_groups_of w.encoding w.body)) i.in_force.in_force in
+    record {
+      entries = entries_in 1 gs;
+      items = subst (IsItems e source end) same (items_of-meets e source end);
+      whole = items-sound 1 gs i.sound;
+      are = are-keys (entries_in 1 gs) (group_keys gs) (characters_of keys) (entries-keys 1 gs i.sound) (tells f body i.editable i.is_index);
+    }
+
+-- where there was memory for them.
+pub keys-made : {E : Type 0} (d : Inside) → IsDocument d → (r : Result (Vec (Bor (List ℕ))) E) → IfOk r (λ keys. TellsKeys d.index keys.items)
+    → IfOk r (λ keys. HasKeysInOrder (open_document d) keys.items)
+keys-made d i (Ok keys) h = keys-are d i keys.items h
+keys-made d i (Err error) h = h
 
 -- ---- a document after a call
 

@@ -39,7 +39,7 @@ use Rattle.properties_editing.proofs.IndexValues.{last-more, last-same}
 
 -- ---- places
 
-some-inside : (spans : List (Option BodySpan)) (i : ℕ) (s : BodySpan) → span_at spans i ≡ Some s → i < length spans
+pub some-inside : (spans : List (Option BodySpan)) (i : ℕ) (s : BodySpan) → span_at spans i ≡ Some s → i < length spans
 some-inside [] i s h = absurd (cc)
 some-inside (o ∷ spans) zero s h = omega arith
 some-inside (o ∷ spans) (suc i) s h = let low = some-inside spans i s h in omega arith

@@ -15,6 +15,7 @@ pub mod IndexParsed
 pub mod IndexCut
 pub mod IndexCutOut
 pub mod IndexMerged
+pub mod IndexKeys
 pub mod IndexRemoved
 pub mod BodyDocuments
 pub mod IndexAppended

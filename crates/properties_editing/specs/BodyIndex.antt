@@ -1,4 +1,5 @@
 -- Which pair a logical line is, and what an index of a body's pairs says.
+pub mod Keys
 use Rattle.std.specs.Prelude.{◌≡◌, ◌⊎◌, bytes_eq, nat_lt, ◌==◌, ℕ, ◌+◌, ◌-◌, ◌^◌, ◌≤◌, ◌<◌, min, Bool, true, false, if◌then◌else◌, List, [], ◌∷◌, ◌++◌, map, length, take, drop, get_or, Option, Some, None, option_and_then, Result, Ok, Err}
 use Rattle.std.specs.Option.{option_map}
 use Rattle.std.specs.Map.{lookup, update}

@@ -17,8 +17,8 @@ use std::marker::Model;
 /// A source that is kept open for edits.
 ///
 /// Use it in a program that changes keys one at a time and looks at values in between, such as an editor with a window:
-/// only `parse` and `keys` read the whole source. `set_value` reads again the pair that it changes or, if no pair has the
-/// key, the last pair. The bytes behind a change are moved.
+/// only `parse` reads the whole source. `set_value` reads again the pair that it changes or, if no pair has the key, the
+/// last pair. The bytes behind a change are moved.
 ///
 /// ```text
 /// let mut document = Document::parse(alloc, b"# the front door\nport = 80\n", Encoding::UTF_8)?;

@@ -31,6 +31,8 @@ use properties_text::encoding::Encoding;
 use std::alloc::{AllocError, Global};
 use std::collections::BTreeMap;
 
+mod keys;
+
 /// The pairs with a key.
 #[derive(Drop)]
 pub struct IndexedPair {
@@ -160,27 +162,6 @@ impl Index {
         ensures { result ≡ found_span self.now (chars key.now) }
     {
         span_at(&self.spans, self.pairs.get(key)?.place)
-    }
-
-    /// Returns the keys in the order of the body, each once.
-    pub fn keys(&self, alloc: Global) -> Result<Vec<&str>, AllocError> {
-        let mut firsts = Vec::new(alloc);
-        for _ in 0..self.spans.len() {
-            firsts.push(None)?;
-        }
-        for (key, pair) in &self.pairs {
-            let place = *pair.earlier.first().unwrap_or(&pair.place);
-            if place < firsts.len() {
-                firsts[place] = Some(key.as_str());
-            }
-        }
-        let mut keys = Vec::new(alloc);
-        for first in &firsts {
-            if let Some(key) = first {
-                keys.push(*key)?;
-            }
-        }
-        Ok(keys)
     }
 
     // Returns where the last pair of the body is, whatever its key.
