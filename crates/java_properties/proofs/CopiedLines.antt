@@ -13,8 +13,8 @@ use Rattle.properties_format.specs.Entries.{Content, comment, pair}
 use Rattle.properties_format.specs.Items.{MeansPair, ignored, given, broken, IsOutcome}
 use Rattle.properties_format.specs.Split as split
 use Rattle.properties_format.specs.Split.{Logical, AreBlanks, IsSplit}
-use Rattle.properties_format.specs.Reading.Items.{outcome_of}
-use Rattle.properties_format.specs.Reading.Undecoded.{characters_of, in_text}
+use Rattle.properties_format.specs.Computed.Items.{outcome_of}
+use Rattle.properties_format.specs.Computed.Undecoded.{characters_of, in_text}
 use Rattle.properties_format.proofs.Encodings.Characters.{pieces_of-scalar}
 use Rattle.properties_format.proofs.Escapes.Laws.{meaning_of-plain}
 use Rattle.properties_format.proofs.Escapes.Scalars.{means-scalars, rest-scalars}
@@ -31,8 +31,8 @@ use Rattle.properties_text.specs.declared.escape.UnescapeError.TheVariants as un
 use Rattle.properties_text.proofs.Texts.Resolving.{holds-part, no_backslash, means_plain}
 use Rattle.properties_lines.specs.LineJoiner.{Joining}
 use Rattle.java_properties.specs.Copying.{HasScalars}
-use Rattle.java_properties.specs.CopiedLines.{Refuses, FindsAny, CopiesContent, CopiesLine}
-use Rattle.java_properties.specs.Engine.{WritesPair}
+use Rattle.java_properties.specs.Private.CopiedLines.{Refuses, FindsAny, CopiesContent, CopiesLine}
+use Rattle.java_properties.specs.Private.Engine.{WritesPair}
 use Rattle.properties_items.specs.Errors.{IsUnresolvedError}
 use Rattle.properties_items.specs.FoundItems.{FindsIn, IsNoItem}
 use Rattle.properties_items.specs.BorrowedItems.{found_content}

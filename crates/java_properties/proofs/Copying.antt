@@ -6,9 +6,9 @@ use Rattle.properties_format.specs.Entries.{Content, item}
 use Rattle.properties_format.specs.ItemsToCome.{ReaderState}
 use Rattle.properties_format.specs.Lines.{Line}
 use Rattle.properties_lines.specs.LineJoiner.{Joining, Joins, JoinsLine}
-use Rattle.java_properties.specs.CopiedLines.{KeepsError, CopiesContent, CopiesLine}
-use Rattle.java_properties.specs.Copying.{reading, CopiesNext, CopiesItem, CopiesNone, StopsReading, StopsWriting}
-use Rattle.java_properties.specs.GivenItems as given
+use Rattle.java_properties.specs.Private.CopiedLines.{KeepsError, CopiesContent, CopiesLine}
+use Rattle.java_properties.specs.Copying.{reading, CopiesNext, CopiesItem, CopiesNone, FailsToRead, FailsToWrite}
+use Rattle.java_properties.specs.Private.GivenItems as given
 use Rattle.java_properties.specs.PropertiesIter.{Reading, GivesEntry}
 use Rattle.java_properties.specs.PropertiesWriter.{Writing}
 use Rattle.java_properties.specs.declared.iter.copy.Copied.{Copied}
@@ -42,12 +42,12 @@ module _ {R W : Type 0} {reader : Reader R} {sink : Sink W} {old : Reading R} {s
   -- a line came that couldn't be copied
   pub copied-failed : CameLine reader sink state to lines next writer kept Failed new written error
       → CopiesNone reader old start (reading new.at next error) written
-      ⊎ (StopsReading reader old start (reading new.at next error) written ⊎ StopsWriting reader sink old start (reading new.at next error) written)
+      ⊎ (FailsToRead reader old start (reading new.at next error) written ⊎ FailsToWrite reader sink old start (reading new.at next error) written)
   copied-failed (line, joins, inl (e, none, same, (done, quiet, is))) =
       let k = passed-no_item line lines.at.state passed joins none in
       inr (inl (record { error = e; live = k.0; done = done; why = state-error k.1; same = same ∙ same_writer; kept = is }))
   copied-failed (line, joins, inr (content, outcome, same, (key, value, e, pair, scalars, writes, is))) =
-      inr (inr (subst (λ v. StopsWriting reader sink old v (reading new.at next error) written) same_writer (record {
+      inr (inr (subst (λ v. FailsToWrite reader sink old v (reading new.at next error) written) same_writer (record {
         error = e;
         number = line.number;
         key = key;
@@ -99,7 +99,7 @@ pub copied-none : {R W : Type 0} {reader : Reader R} {sink : Sink W} {old : Read
     (before lines new : Joining) (next : R) (writer : Writing W) (kept error : Option CopyError) → Passed reader old.state old.reader r before.at.state to
     → writer ≡ start → kept ≡ old.error → before.error ≡ None → Joins reader before to None lines next → KeepsError lines kept new error
     → CopiesNone reader old start (reading new.at next error) writer
-    ⊎ (StopsReading reader old start (reading new.at next error) writer ⊎ StopsWriting reader sink old start (reading new.at next error) writer)
+    ⊎ (FailsToRead reader old start (reading new.at next error) writer ⊎ FailsToWrite reader sink old start (reading new.at next error) writer)
 copied-none before lines new next writer kept error passed same_writer same_error none joins (taken, inl (quiet, is)) =
     let end = ended joins quiet in
     let state = ap (λ (l : Joining). l.at.state) taken ∙ ap (λ (l : Joining). l.at.state) end.1 in

@@ -13,7 +13,7 @@ use Rattle.properties_items.specs.Errors.{IsError, IsBareError, cause_of_write}
 use Rattle.java_properties.specs.PropertiesWriter.{Writing, call_of, TakesLine, HasWrittenLine, RefusesLine, FailsInLine}
 use Rattle.properties_items.specs.declared.error.ErrorKind.TheVariants.{Io}
 use Rattle.properties_items.specs.declared.error.PropertiesError.{PropertiesError}
-use Rattle.java_properties.specs.Engine.{writing, NumbersLine, SendsLine, repertoire_of, line_bytes, content_bytes, BuildsUndecoded}
+use Rattle.java_properties.specs.Private.Engine.{writing, NumbersLine, SendsLine, repertoire_of, line_bytes, content_bytes, BuildsUndecoded}
 use Rattle.properties_text.specs.Printing.{text_bytes, key_bytes}
 use Rattle.properties_text.specs.UndecodedTexts.{undecoded_line, PrintsPair}
 use Rattle.properties_text.specs.declared.escape.UnescapeError.{UnescapeError}

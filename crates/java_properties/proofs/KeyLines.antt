@@ -14,15 +14,15 @@ use Rattle.std.proofs.lemmas.List.{map-append}
 use Rattle.std.proofs.lemmas.Slice.Eq.{bytes_eq-Decides}
 use Rattle.counted_io.specs.Streams.{Reader}
 use Rattle.properties_format.specs.Encoding.{Encoding}
-use Rattle.properties_format.specs.Reading.Encoding.{decoded_of}
+use Rattle.properties_format.specs.Computed.Encoding.{decoded_of}
 use Rattle.properties_format.specs.Lines.{end, Line, numbered_lines}
-use Rattle.properties_format.specs.Reading.Lines.{lines_of}
+use Rattle.properties_format.specs.Computed.Lines.{lines_of}
 use Rattle.properties_format.specs.Groups.{joined, first_number}
-use Rattle.properties_format.specs.Reading.Groups.{groups_of}
+use Rattle.properties_format.specs.Computed.Groups.{groups_of}
 use Rattle.properties_format.specs.Entries.{comment, pair}
 use Rattle.properties_format.specs.Items.{Outcome, ignored, given, broken}
-use Rattle.properties_format.specs.Reading.Items.{outcome_of}
-use Rattle.properties_format.specs.Reading.Parts.{outcome_key}
+use Rattle.properties_format.specs.Computed.Items.{outcome_of}
+use Rattle.properties_format.specs.Computed.Parts.{outcome_key}
 use Rattle.properties_format.specs.ItemsToCome.{ReaderState, start}
 use Rattle.properties_format.proofs.Encodings.Pieces.{decoded_of-meets, decoded_of-only}
 use Rattle.properties_format.proofs.Lines.Meets.{lines_of-meets}
@@ -45,7 +45,7 @@ use Rattle.properties_items.specs.declared.found.Found as found
 use Rattle.properties_items.proofs.FoundItems.{found-item}
 use Rattle.properties_items.proofs.TextMaps.Values.{at_chars-sorted, at_chars-updated}
 use Rattle.java_properties.specs.KeyLines.{KeyPlace, keys_from, AreKeysIn, AreKeys, HasNoKey, HasFirstNumber, KeyEntry, AreFirstsOf, AreKeyLines, key_line_entry, key_line_entries, FindsAllKeys}
-use Rattle.java_properties.specs.LineByLine.{number_at, KeepsFirst, AddsKeyLine, AddsIfKey, PushesKey}
+use Rattle.java_properties.specs.Private.LineByLine.{number_at, KeepsFirst, AddsKeyLine, AddsIfKey, PushesKey}
 use Rattle.java_properties.specs.declared.iter.keys.KeyLine as code
 use Rattle.java_properties.proofs.MalformedEscapes.{Collected, collected-start, collected-next, collected-groups, found-error, found-lost, broken-in}
 

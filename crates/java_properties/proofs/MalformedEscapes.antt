@@ -8,18 +8,18 @@ use Rattle.counted_io.specs.Streams.{Reader, HasRead}
 use Rattle.counted_io.proofs.Streams.{read-none, read-more, failed-more}
 use Rattle.properties_format.specs.Encoding.{Encoding}
 use Rattle.properties_format.specs.Lines.{end, fault, Line, numbered_lines}
-use Rattle.properties_format.specs.Reading.Encoding.{decoded_of}
-use Rattle.properties_format.specs.Reading.Lines.{lines_of}
+use Rattle.properties_format.specs.Computed.Encoding.{decoded_of}
+use Rattle.properties_format.specs.Computed.Lines.{lines_of}
 use Rattle.properties_format.specs.Groups.{IsGroups, AreWhole, IsWhole, IsUnfinished, is_comment_line, lines_in, joined, first_number}
-use Rattle.properties_format.specs.Reading.Groups.{groups_of}
+use Rattle.properties_format.specs.Computed.Groups.{groups_of}
 use Rattle.properties_format.specs.Escapes.{Malformed, not_enough_digits, not_hex, invalid_character}
 use Rattle.properties_format.specs.Items.{broken}
 use Rattle.properties_format.specs.Entries.{read_fault}
-use Rattle.properties_format.specs.Reading.Items.{outcome_of}
+use Rattle.properties_format.specs.Computed.Items.{outcome_of}
 use Rattle.properties_format.specs.ItemsToCome.{ReaderState, start}
-use Rattle.properties_format.specs.Reading.ItemsToCome.{last_to_come}
+use Rattle.properties_format.specs.Computed.ItemsToCome.{last_to_come}
 use Rattle.properties_format.specs.MalformedEscapes.{escapes_from}
-use Rattle.properties_format.specs.Reading.MalformedEscapes.{escapes_in, malformed_escapes_of}
+use Rattle.properties_format.specs.Computed.MalformedEscapes.{escapes_in, malformed_escapes_of}
 use Rattle.properties_format.proofs.Groups.Meets.{groups_of-meets}
 use Rattle.properties_format.proofs.Groups.Only.{groups_of-only}
 use Rattle.properties_format.proofs.ItemsToCome.Lines.{natural-done}
@@ -35,7 +35,7 @@ use Rattle.properties_items.specs.Errors.{IsBareError, IsLineError, malformed_ki
 use Rattle.properties_items.specs.FoundItems.{FindsIn, IsNoItem}
 use Rattle.properties_items.specs.declared.found.Found as code
 use Rattle.java_properties.specs.MalformedEscapes.{escape_record, escape_records, FindsAll, FailsToFind, StopsFinding}
-use Rattle.java_properties.specs.LineByLine.{PushesMalformed}
+use Rattle.java_properties.specs.Private.LineByLine.{PushesMalformed}
 use Rattle.properties_items.specs.declared.error.ErrorKind.TheVariants as kind
 use Rattle.properties_items.specs.declared.error.PropertiesError.{PropertiesError}
 use Rattle.java_properties.specs.declared.iter.malformed.MalformedEscape.{MalformedEscape}

@@ -7,9 +7,9 @@ use Rattle.counted_io.proofs.Streams.{read-none, read-more, failed-more}
 use Rattle.properties_format.specs.Encoding.{Encoding}
 use Rattle.properties_format.specs.Lines.{InputEnd, end, fault}
 use Rattle.properties_format.specs.Entries.{Entry, malformed}
-use Rattle.properties_format.specs.Reading.Items.{items_of}
+use Rattle.properties_format.specs.Computed.Items.{items_of}
 use Rattle.properties_format.specs.ItemsToCome.{ReaderState, start}
-use Rattle.properties_format.specs.Reading.ItemsToCome.{items_to_come}
+use Rattle.properties_format.specs.Computed.ItemsToCome.{items_to_come}
 use Rattle.properties_format.proofs.Items.Unique.{items_of-meets, items_of-only}
 use Rattle.properties_format.proofs.Items.Numbers.{items_of-ascend}
 use Rattle.properties_format.proofs.Cut.Byline.{byline-is_lines, lines-is_byline}
@@ -21,7 +21,7 @@ use Rattle.properties_lines.specs.LineJoiner.{JoinsError}
 use Rattle.properties_lines.specs.declared.error.LineError.{LineError}
 use Rattle.properties_lines.proofs.LineJoiner.{some-start, some-on, all-on}
 use Rattle.java_properties.proofs.StatedItems.{state-all}
-use Rattle.java_properties.specs.GivenItems.{Gives, BreaksOff, GivesEntry, GivesNone, GivesMalformed, GivesError}
+use Rattle.java_properties.specs.Private.GivenItems.{Gives, BreaksOff, GivesEntry, GivesNone, GivesMalformed, GivesError}
 use Rattle.java_properties.specs.PropertiesIter.{entry_of}
 use Rattle.java_properties.specs.ReadLines.{entries_in, IsReading, BeginsReading, ReadsWhole, StopsMalformed, StopsFailed, StopsEarly, StopsReading}
 use Rattle.properties_items.specs.declared.error.ErrorKind.TheVariants as kind

@@ -10,8 +10,8 @@ use Rattle.properties_lines.specs.LineJoiner as joiner
 use Rattle.properties_lines.specs.declared.error.LineError.{LineError}
 use Rattle.properties_lines.specs.declared.error.LineError.TheVariants as why
 use Rattle.properties_items.specs.Errors.{IsLineError}
-use Rattle.java_properties.specs.GivenItems as given
-use Rattle.java_properties.specs.GivenItems.{FindsItem}
+use Rattle.java_properties.specs.Private.GivenItems as given
+use Rattle.java_properties.specs.Private.GivenItems.{FindsItem}
 use Rattle.java_properties.specs.Borrowing.{AdvancesTo}
 use Rattle.java_properties.specs.PropertiesIter as stated
 use Rattle.java_properties.specs.PropertiesIter.{Reading}

@@ -7,7 +7,7 @@ use Rattle.properties_format.specs.Split.{Logical, blank, comment, pair}
 use Rattle.properties_format.specs.Escapes.{Means, means, Spelling, spelling_character, spellings_before}
 use Rattle.properties_format.specs.Items.{MeansPair}
 use Rattle.properties_format.specs.Writing.{is_accepted, pair_call}
-use Rattle.properties_format.specs.Reading.Undecoded.{characters_of}
+use Rattle.properties_format.specs.Computed.Undecoded.{characters_of}
 use Rattle.properties_format.proofs.Escapes.Unique.{means-only, meaning_of-empty}
 use Rattle.properties_format.proofs.Split.Unique.{split_of-only}
 use Rattle.properties_format.proofs.Undecoded.{decodes}
@@ -18,7 +18,7 @@ use Rattle.properties_text.proofs.UndecodedTexts.Pairs.{pair-split}
 use Rattle.properties_text.specs.declared.encoding.Encoding.TheVariants.{WINDOWS_1252}
 use Rattle.properties_text.specs.declared.parse.Span.{Span}
 use Rattle.properties_text.specs.declared.print.undecoded.UndecodedPair.{UndecodedPair}
-use Rattle.java_properties.specs.Engine.{takes_span}
+use Rattle.java_properties.specs.Private.Engine.{takes_span}
 
 -- the texts of a line, of its key and of its value
 abbrev pub line_text : UndecodedPair → List ℕ

@@ -45,7 +45,7 @@ pub record CopiesNone {R W : Type 0} (reader : Reader R) (old : Reading R) (writ
   pub kept : new.error ≡ old.error
 
 -- No item could be read, nothing was written, and the iterator is at its end. It keeps the error.
-pub record StopsReading {R W : Type 0} (reader : Reader R) (old : Reading R) (writer : Writing W) (new : Reading R) (written : Writing W) : Type 0 where
+pub record FailsToRead {R W : Type 0} (reader : Reader R) (old : Reading R) (writer : Writing W) (new : Reading R) (written : Writing W) : Type 0 where
   pub error : PropertiesError
   pub live : old.state.is_done ≡ false
   pub done : new.state.is_done ≡ true
@@ -54,7 +54,7 @@ pub record StopsReading {R W : Type 0} (reader : Reader R) (old : Reading R) (wr
   pub kept : new.error ≡ Some (Read error)
 
 -- The next item is a pair, and writing it failed. The iterator keeps the error.
-pub record StopsWriting {R W : Type 0} (reader : Reader R) (sink : Sink W) (old : Reading R) (writer : Writing W) (new : Reading R) (written : Writing W) : Type 0 where
+pub record FailsToWrite {R W : Type 0} (reader : Reader R) (sink : Sink W) (old : Reading R) (writer : Writing W) (new : Reading R) (written : Writing W) : Type 0 where
   pub error : PropertiesError
   pub number : ℕ
   pub key : List ℕ
@@ -69,4 +69,4 @@ abbrev pub CopiesNext : {R W : Type 0} → Reader R → Sink W → Reading R →
 CopiesNext reader sink old writer true new written = CopiesItem reader sink old writer new written
 CopiesNext reader sink old writer false new written =
     CopiesNone reader old writer new written
-    ⊎ (StopsReading reader old writer new written ⊎ StopsWriting reader sink old writer new written)
+    ⊎ (FailsToRead reader old writer new written ⊎ FailsToWrite reader sink old writer new written)

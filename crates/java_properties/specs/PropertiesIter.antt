@@ -1,4 +1,4 @@
--- The iterator over items as contracts see it, and the results and effects of its calls. Page GivenItems states
+-- The iterator over items as contracts see it, and the results and effects of its calls. Page Private.GivenItems states
 -- them in terms of the items to come as they are computed.
 use Rattle.std.specs.Prelude.{◌≡◌, ◌⊎◌, ℕ, ◌+◌, ◌^◌, Bool, true, false, List, [], ◌∷◌, ◌++◌, Option, Some, None, Result, Ok, Err, string_bytes}
 use Rattle.std.specs.Str.{chars}

@@ -47,7 +47,7 @@ impl<W> Model for PropertiesWriter<W> {
 
     ghost Value = { Writing W };
 
-    ghost use Rattle.java_properties.specs.Engine.{writing};
+    ghost use Rattle.java_properties.specs.Private.Engine.{writing};
 
     ghost view = { λ w. writing w.engine w.sink };
 }

@@ -15,10 +15,10 @@ use Rattle.properties_format.specs.Maps.{IsValue}
 use Rattle.properties_format.specs.Body.{HeldLine}
 use Rattle.properties_format.specs.Edited.{bom_of, is_editable}
 use Rattle.properties_format.specs.Edits.{put, remove, set_value}
-use Rattle.properties_format.specs.Reading.Body.{entries_in, held_groups_of}
-use Rattle.properties_format.specs.Reading.Edited.{IsSound, AreSound}
-use Rattle.properties_format.specs.Reading.Items.{followed, items_of}
-use Rattle.properties_format.specs.Reading.Parts.{outcome_key}
+use Rattle.properties_format.specs.Computed.Body.{entries_in, held_groups_of}
+use Rattle.properties_format.specs.Computed.Edited.{IsSound, AreSound}
+use Rattle.properties_format.specs.Computed.Items.{followed, items_of}
+use Rattle.properties_format.specs.Computed.Parts.{outcome_key}
 use Rattle.properties_format.proofs.Body.Numbers.{items_of-groups}
 use Rattle.properties_format.proofs.Edited.ByteOrderMarks.{key_set-in_force, key_removed-in_force}
 use Rattle.properties_format.proofs.Items.Unique.{items_of-meets}
@@ -26,13 +26,13 @@ use Rattle.properties_format.proofs.Keys.{are-keys, pair_keys}
 use Rattle.properties_format.proofs.Valued.Marks.{value_set-in_force}
 use Rattle.properties_lines.specs.LineSearch.{unit_size}
 use Rattle.properties_text.specs.Encoding.{encoding_of}
-use Rattle.properties_editing.specs.BodyDocuments.{IsDocument, open_document}
-use Rattle.properties_editing.specs.BodyIndex.{IsIndex, MakesEdit, PutsPair, PutsValue, RemovesPairs, outcome, stored_at, stored_value}
-use Rattle.properties_editing.specs.BodyIndex.Keys.{IndexesSome, TellsKeys, group_keys}
+use Rattle.properties_editing.specs.Private.BodyDocuments.{IsDocument, open_document}
+use Rattle.properties_editing.specs.Private.BodyIndex.{IsIndex, MakesEdit, PutsPair, PutsValue, RemovesPairs, outcome, stored_at, stored_value}
+use Rattle.properties_editing.specs.Private.BodyIndex.Keys.{IndexesSome, TellsKeys, group_keys}
 use Rattle.properties_editing.specs.Documents.{OpenDocument, HasValueAt, HasKeysInOrder, ChecksHasKey, PutsInto, SetsValueIn, RemovesFrom, characters_of}
 use Rattle.properties_editing.specs.Editing.{AreMade, HasValueSet, IsRemoved, IsSet}
 use Rattle.properties_items.specs.Texts.{characters}
-use Rattle.properties_editing.specs.Sources.{IsInForce}
+use Rattle.properties_editing.specs.Private.Sources.{IsInForce}
 use Rattle.properties_editing.specs.declared.edit.document.Document.TheInside.{Inside}
 use Rattle.properties_editing.specs.declared.edit.index.Index.{Index}
 use Rattle.properties_editing.specs.declared.edit.source.BodyStart.{BodyStart}

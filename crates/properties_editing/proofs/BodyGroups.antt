@@ -12,11 +12,11 @@ use Rattle.properties_format.specs.Lines.{Line}
 use Rattle.properties_format.specs.Writing.{is_empty}
 use Rattle.std.proofs.lemmas.Bool.Decides.{nat_tests}
 use Rattle.properties_format.specs.Groups.{is_comment_line, is_open, joined, addition}
-use Rattle.properties_format.specs.Reading.Groups.{closes}
-use Rattle.properties_format.specs.Reading.Cut.{decoded_line}
+use Rattle.properties_format.specs.Computed.Groups.{closes}
+use Rattle.properties_format.specs.Computed.Cut.{decoded_line}
 use Rattle.properties_format.specs.Body.{HeldLine, as_lines, ending_bytes, group_bytes}
-use Rattle.properties_format.specs.Reading.Body.{held_groups_after, held_groups_of}
-use Rattle.properties_format.specs.Reading.Parts.{unended_bytes}
+use Rattle.properties_format.specs.Computed.Body.{held_groups_after, held_groups_of}
+use Rattle.properties_format.specs.Computed.Parts.{unended_bytes}
 use Rattle.properties_format.proofs.Body.Groups.{as_lines-append, groups-close, groups-leave, group_bytes-append}
 use Rattle.properties_format.proofs.Cut.Only.{ending-windows_1252, ending-utf_8}
 use Rattle.properties_format.proofs.Edited.Steps.{last_ending-push, is_left_open-push, is_empty_line-push}
@@ -24,7 +24,7 @@ use Rattle.properties_format.proofs.Groups.Joined.{joined-push, joined-one, join
 use Rattle.properties_format.proofs.Edited.Parts.{unended-kept}
 use Rattle.properties_text.specs.Encoding.{encoding_of}
 use Rattle.properties_lines.specs.LineSearch.{unit_size}
-use Rattle.properties_lines.specs.HeldLines.{held_line, lines_left}
+use Rattle.properties_lines.specs.Private.HeldLines.{held_line, lines_left}
 use Rattle.properties_lines.specs.LogicalLine.{KeepsText, text_with, IsNotContinued, OpensJoin, Begins}
 use Rattle.properties_lines.specs.Scanner as scanner
 use Rattle.properties_lines.specs.Scanner.{bytes_of, GivesLine}
@@ -32,8 +32,8 @@ use Rattle.properties_lines.specs.declared.logical.LogicalLine.{LogicalLine}
 use Rattle.properties_lines.specs.declared.scanner.Scanner.{Scanner}
 use Rattle.properties_lines.proofs.LineJoiner.{kept-text, kept-utf8}
 use Rattle.properties_lines.proofs.HeldLines.{body-next, body-after, body-lines_left}
-use Rattle.properties_editing.specs.BodyLines.{ending_in}
-use Rattle.properties_editing.specs.BodyGroups.{IsWithin, groups_left, TakesLine, IsSpanOf, TakesGroup, groups_from, ReadsGroup}
+use Rattle.properties_editing.specs.Private.BodyLines.{ending_in}
+use Rattle.properties_editing.specs.Private.BodyGroups.{IsWithin, groups_left, TakesLine, IsSpanOf, TakesGroup, groups_from, ReadsGroup}
 use Rattle.properties_items.specs.declared.line.LineEnding.{LineEnding}
 use Rattle.properties_editing.specs.declared.edit.groups.Group.{Group}
 use Rattle.properties_editing.specs.declared.edit.groups.GroupReader.{GroupReader}

@@ -15,10 +15,10 @@ use Rattle.properties_format.specs.Lines.{end}
 use Rattle.properties_format.specs.Writing.{is_empty}
 use Rattle.properties_format.specs.Body.{ending_bytes, groups_bytes, last_ending}
 use Rattle.properties_format.specs.Edited.{bom_of, pair_bytes, separation, added_ending, is_editable, edited, unsupported, IsEditResult, IsSetKeyResult, IsRemoveKeyResult}
-use Rattle.properties_format.specs.Reading.Items.{items_of}
-use Rattle.properties_format.specs.Reading.Body.{held_groups_of, entries_in}
-use Rattle.properties_format.specs.Reading.Parts.{unended_bytes}
-use Rattle.properties_format.specs.Reading.Edited.{AreSound, without, key_removed, key_removed_in, result_by, result_of, key_set, key_set_in, set_at, set_key_result, remove_key_result, KeyPlace, last_place}
+use Rattle.properties_format.specs.Computed.Items.{items_of}
+use Rattle.properties_format.specs.Computed.Body.{held_groups_of, entries_in}
+use Rattle.properties_format.specs.Computed.Parts.{unended_bytes}
+use Rattle.properties_format.specs.Computed.Edited.{AreSound, without, key_removed, key_removed_in, result_by, result_of, key_set, key_set_in, set_at, set_key_result, remove_key_result, KeyPlace, last_place}
 use Rattle.properties_format.proofs.Body.Groups.{groups_bytes-append, held_groups_of-meets, held-body}
 use Rattle.properties_format.proofs.Body.Numbers.{items_of-groups}
 use Rattle.properties_format.proofs.Edited.ByteOrderMarks.{source-whole}
@@ -27,7 +27,7 @@ use Rattle.properties_format.proofs.Edited.Steps.{result-after}
 use Rattle.properties_format.proofs.InTurn.Lines.{bytes-unended}
 use Rattle.properties_format.proofs.Changed.Read.{set_key-reads, remove_key-reads}
 use Rattle.properties_format.specs.Edits.{Edit, AreScalarEdits, IsEditAllResult}
-use Rattle.properties_format.specs.Reading.Edits.{edit_all_result}
+use Rattle.properties_format.specs.Computed.Edits.{edit_all_result}
 use Rattle.properties_format.proofs.Edits.Results.{edit_all_result-meets, edit_all_result-only}
 use Rattle.properties_items.proofs.Scalars.{string-scalars}
 use Rattle.properties_editing.specs.declared.edit.Edit as edit
@@ -37,8 +37,8 @@ use Rattle.properties_format.proofs.Edits.Contents.{edit_all-reads}
 use Rattle.properties_format.proofs.Changed.Occur.{key_set-keeps, key_removed-keeps}
 use Rattle.properties_format.proofs.Edited.Pair.{editable-own}
 use Rattle.properties_text.specs.Encoding.{encoding_of}
-use Rattle.properties_editing.specs.BodyKeys.{IsErrorOfGroups, IsPlaceOf, IsPlace, IsKeyFound, AreOthersFound, left_bytes, closing_bytes}
-use Rattle.properties_editing.specs.Sources.{IsInForce}
+use Rattle.properties_editing.specs.Private.BodyKeys.{IsErrorOfGroups, IsPlaceOf, IsPlace, IsKeyFound, AreOthersFound, left_bytes, closing_bytes}
+use Rattle.properties_editing.specs.Private.Sources.{IsInForce}
 use Rattle.properties_editing.proofs.BodyGroups.{front-of, no-bytes}
 use Rattle.properties_editing.specs.declared.edit.place.BodySpan.{BodySpan}
 use Rattle.properties_editing.specs.declared.edit.place.KeyPlace as place

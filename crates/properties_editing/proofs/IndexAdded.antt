@@ -4,18 +4,18 @@ use Rattle.std.specs.Prelude.{Result, Ok, Err, unwrap_or, if◌then◌else◌}
 use Rattle.properties_format.specs.Text.{LineEnding, lf, cr, scalar, carriage_return, line_ending_text}
 use Rattle.properties_format.specs.Encoding.{Encoding}
 use Rattle.properties_format.specs.Lines.{Ended, HoldsNoLineEnd, BeginsWithNoLoneLf}
-use Rattle.properties_format.specs.Reading.Lines.{ends_in_cr}
-use Rattle.properties_format.specs.Reading.Cut.{decoded_line}
+use Rattle.properties_format.specs.Computed.Lines.{ends_in_cr}
+use Rattle.properties_format.specs.Computed.Cut.{decoded_line}
 use Rattle.properties_format.specs.Groups.{IsWhole, joined}
 use Rattle.properties_format.specs.Entries.{pair}
 use Rattle.properties_format.specs.Items.{given}
 use Rattle.properties_format.specs.Body.{HeldLine, as_lines, held_in, group_bytes, groups_bytes}
 use Rattle.properties_format.specs.Edited.{is_editable, final_group, is_empty_line, is_left_open, pair_bytes}
 use Rattle.properties_format.specs.Valued.{ending_among, separation_by}
-use Rattle.properties_format.specs.Reading.Items.{outcome_of}
-use Rattle.properties_format.specs.Reading.Body.{held_of, held_groups_of}
-use Rattle.properties_format.specs.Reading.Edited.{AreSound}
-use Rattle.properties_format.specs.Reading.Valued.{last_between, separator_by}
+use Rattle.properties_format.specs.Computed.Items.{outcome_of}
+use Rattle.properties_format.specs.Computed.Body.{held_of, held_groups_of}
+use Rattle.properties_format.specs.Computed.Edited.{AreSound}
+use Rattle.properties_format.specs.Computed.Valued.{last_between, separator_by}
 use Rattle.properties_format.proofs.Body.Groups.{groups-bytes, held-body, held_groups_of-meets}
 use Rattle.properties_format.proofs.Edited.AppendedPair.{appended_groups, appended-held}
 use Rattle.properties_format.proofs.Edited.Closed.{IsSeam, closed-by, opened_by, put-seam, value-seam}
@@ -35,9 +35,9 @@ use Rattle.properties_format.specs.Edited.{added_ending}
 use Rattle.properties_format.specs.Writing.{is_empty}
 use Rattle.properties_format.proofs.Edited.Pair.{editable-own}
 use Rattle.properties_text.specs.Encoding.{encoding_of}
-use Rattle.properties_editing.specs.BodyIndex.{AddsKey, AddsValue, AppendsPair, IsKeyAdded, GrowsIndex, IsIndex, IsPairAppended, IsValueAdded, PutsPair, PutsValue, last_span, opened_closing, stored_at}
-use Rattle.properties_editing.specs.BodyKeys.{IsKeyFound, IsPlace, closing_bytes, closing_of}
-use Rattle.properties_editing.specs.BodyValues.{IsLayoutAfter, unended_pair}
+use Rattle.properties_editing.specs.Private.BodyIndex.{AddsKey, AddsValue, AppendsPair, IsKeyAdded, GrowsIndex, IsIndex, IsPairAppended, IsValueAdded, PutsPair, PutsValue, last_span, opened_closing, stored_at}
+use Rattle.properties_editing.specs.Private.BodyKeys.{IsKeyFound, IsPlace, closing_bytes, closing_of}
+use Rattle.properties_editing.specs.Private.BodyValues.{IsLayoutAfter, unended_pair}
 use Rattle.properties_items.specs.Texts.{characters}
 use Rattle.properties_items.specs.LineEndings.{ending_of}
 use Rattle.properties_editing.specs.declared.edit.new_pair.Layout.{Layout}

@@ -11,14 +11,14 @@ use Rattle.properties_format.specs.Entries.{pair}
 use Rattle.properties_format.specs.Items.{Outcome, given}
 use Rattle.properties_format.specs.Body.{HeldLine, AreGroupsOf, NoneHasKey, as_lines, ending_bytes, groups_bytes, last_ending}
 use Rattle.properties_format.specs.Edited.{final_group, is_editable, is_empty_line, is_last_open, is_left_open}
-use Rattle.properties_format.specs.Reading.Body.{is_pair_with}
-use Rattle.properties_format.specs.Reading.Edited.{IsSound, AreSound}
-use Rattle.properties_format.specs.Reading.Parts.{unended_bytes}
+use Rattle.properties_format.specs.Computed.Body.{is_pair_with}
+use Rattle.properties_format.specs.Computed.Edited.{IsSound, AreSound}
+use Rattle.properties_format.specs.Computed.Parts.{unended_bytes}
 use Rattle.properties_format.specs.Writing.{is_empty}
 use Rattle.properties_format.proofs.InTurn.Lines.{ending-of}
 use Rattle.properties_format.proofs.InTurn.Merged.{AreInTurn, in-turn}
-use Rattle.properties_editing.specs.BodyIndex.{FollowsPair, IsIndex, all_shifted, is_pair, last_value, live_spans, outcome, places_of, shifted, span_at, spans_where, stored_at, stored_value}
-use Rattle.properties_editing.specs.BodyKeys.{closing_of}
+use Rattle.properties_editing.specs.Private.BodyIndex.{FollowsPair, IsIndex, all_shifted, is_pair, last_value, live_spans, outcome, places_of, shifted, span_at, spans_where, stored_at, stored_value}
+use Rattle.properties_editing.specs.Private.BodyKeys.{closing_of}
 use Rattle.properties_editing.specs.declared.edit.index.Index.{Index}
 use Rattle.properties_editing.specs.declared.edit.index.Shift.TheVariants as shift
 use Rattle.properties_editing.specs.declared.edit.place.Closing.{Closing}

@@ -7,10 +7,10 @@ use Rattle.std.proofs.lemmas.Bool.Decides.{nat_tests}
 use Rattle.std.proofs.lemmas.List.{map-append}
 use Rattle.properties_format.specs.Items.{Outcome, ignored}
 use Rattle.properties_format.specs.Body.{HeldLine, NoneHasKey, group_bytes, groups_bytes}
-use Rattle.properties_format.specs.Reading.Body.{has_key, is_pair_with}
-use Rattle.properties_format.specs.Reading.Parts.{unended_bytes}
+use Rattle.properties_format.specs.Computed.Body.{has_key, is_pair_with}
+use Rattle.properties_format.specs.Computed.Parts.{unended_bytes}
 use Rattle.properties_format.proofs.Body.Groups.{groups_bytes-append}
-use Rattle.properties_editing.specs.BodyIndex.{all_shifted, is_pair, live_spans, moved_span, moved_to, outcome, shifted, some_span, span_at, span_of, spans_where}
+use Rattle.properties_editing.specs.Private.BodyIndex.{all_shifted, is_pair, live_spans, moved_span, moved_to, outcome, shifted, some_span, span_at, span_of, spans_where}
 use Rattle.properties_editing.specs.declared.edit.index.Shift.TheVariants as shift
 use Rattle.properties_editing.specs.declared.edit.place.BodySpan.{BodySpan}
 use Rattle.properties_editing.proofs.IndexFound.{spans-none}

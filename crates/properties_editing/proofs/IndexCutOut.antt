@@ -15,13 +15,13 @@ use Rattle.properties_format.specs.Text.{carriage_return, line_feed}
 use Rattle.properties_format.specs.Encoding.{Encoding, begins_like_bom}
 use Rattle.properties_format.specs.Body.{HeldLine, groups_bytes}
 use Rattle.properties_format.specs.Edited.{final_group, is_editable, is_empty_line, is_left_open}
-use Rattle.properties_format.specs.Reading.Body.{held_groups_of, is_pair_with}
-use Rattle.properties_format.specs.Reading.Edited.{AreSound, without}
-use Rattle.properties_format.specs.Reading.Lines.{begins_with_lf}
+use Rattle.properties_format.specs.Computed.Body.{held_groups_of, is_pair_with}
+use Rattle.properties_format.specs.Computed.Edited.{AreSound, without}
+use Rattle.properties_format.specs.Computed.Lines.{begins_with_lf}
 use Rattle.properties_text.specs.Encoding.{encoding_of}
-use Rattle.properties_editing.specs.BodyIndex.{ArePairsRemoved, CutsOut, GuardsFront, IsInSource, IsIndex, ending_size, places_of, span_at, spans_where, stored_at}
-use Rattle.properties_editing.specs.BodyKeys.{closing_of}
-use Rattle.properties_editing.specs.Sources.{IsInForce}
+use Rattle.properties_editing.specs.Private.BodyIndex.{ArePairsRemoved, CutsOut, GuardsFront, IsInSource, IsIndex, ending_size, places_of, span_at, spans_where, stored_at}
+use Rattle.properties_editing.specs.Private.BodyKeys.{closing_of}
+use Rattle.properties_editing.specs.Private.Sources.{IsInForce}
 use Rattle.properties_editing.specs.declared.edit.index.Index.{Index}
 use Rattle.properties_editing.specs.declared.edit.index.IndexedPair.{IndexedPair}
 use Rattle.properties_editing.specs.declared.edit.place.BodySpan.{BodySpan}

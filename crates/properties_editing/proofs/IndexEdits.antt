@@ -13,10 +13,10 @@ use Rattle.properties_format.specs.Printing.{encoded_text}
 use Rattle.properties_format.specs.Body.{HeldLine, HasKey, as_lines, groups_bytes, ending_bytes, last_ending}
 use Rattle.properties_format.specs.Edited.{bom_of, separation, added_ending, is_editable, is_empty_line, is_left_open, final_group, edited, pair_bytes}
 use Rattle.properties_format.specs.Valued.{HasPair, value_text}
-use Rattle.properties_format.specs.Reading.Body.{held_groups_of}
-use Rattle.properties_format.specs.Reading.Edited.{AreSound, key_set, key_set_in, last_place, set_at}
-use Rattle.properties_format.specs.Reading.Parts.{unended_bytes}
-use Rattle.properties_format.specs.Reading.Valued.{front_of, between_of, has_value, revalued_at, valued_at, value_set, value_set_in}
+use Rattle.properties_format.specs.Computed.Body.{held_groups_of}
+use Rattle.properties_format.specs.Computed.Edited.{AreSound, key_set, key_set_in, last_place, set_at}
+use Rattle.properties_format.specs.Computed.Parts.{unended_bytes}
+use Rattle.properties_format.specs.Computed.Valued.{front_of, between_of, has_value, revalued_at, valued_at, value_set, value_set_in}
 use Rattle.properties_format.proofs.Body.Groups.{held_groups_of-meets, held-body}
 use Rattle.properties_format.proofs.Edited.Made as made
 use Rattle.properties_format.proofs.Edited.Made.{last_place-meets}
@@ -24,10 +24,10 @@ use Rattle.properties_format.proofs.Edited.Replaced.{reput-of}
 use Rattle.properties_format.proofs.Items.Unique.{outcome_of-only}
 use Rattle.properties_format.proofs.InTurn.Merged.{AreInTurn, in-turn}
 use Rattle.properties_text.specs.Encoding.{encoding_of}
-use Rattle.properties_editing.specs.BodyIndex.{FollowsPair, IsIndex, IsPairPut, IsValuePut, KeepsNothing, outcome}
-use Rattle.properties_editing.specs.BodyKeys.{IsPlaceOf, IsKeyFound, closing_bytes, closing_of}
-use Rattle.properties_editing.specs.BodyValues.{IsPairAlone, revalued_in}
-use Rattle.properties_editing.specs.Sources.{IsInForce}
+use Rattle.properties_editing.specs.Private.BodyIndex.{FollowsPair, IsIndex, IsPairPut, IsValuePut, KeepsNothing, outcome}
+use Rattle.properties_editing.specs.Private.BodyKeys.{IsPlaceOf, IsKeyFound, closing_bytes, closing_of}
+use Rattle.properties_editing.specs.Private.BodyValues.{IsPairAlone, revalued_in}
+use Rattle.properties_editing.specs.Private.Sources.{IsInForce}
 use Rattle.properties_editing.specs.declared.edit.index.Index.{Index}
 use Rattle.properties_editing.specs.declared.edit.place.BodySpan.{BodySpan}
 use Rattle.properties_editing.specs.declared.edit.place.KeyPlace as place

@@ -8,18 +8,18 @@ use Rattle.properties_format.specs.Entries.{comment, pair}
 use Rattle.properties_format.specs.Items.{Outcome, ignored, given, broken}
 use Rattle.properties_format.specs.Body.{HeldLine, as_lines, groups_bytes, group_bytes, HasKey, NoneHasKey}
 use Rattle.properties_format.specs.Escapes.{Meaning, means, breaks}
-use Rattle.properties_format.specs.Reading.Escapes.{meaning_of}
+use Rattle.properties_format.specs.Computed.Escapes.{meaning_of}
 use Rattle.properties_format.specs.Split.{Logical}
-use Rattle.properties_format.specs.Reading.Split.{split_of}
-use Rattle.properties_format.specs.Reading.Body.{is_pair_with}
-use Rattle.properties_format.specs.Reading.Edited.{IsSound, AreSound, KeyPlace, last_place}
-use Rattle.properties_format.specs.Reading.Items.{split_outcome, comment_outcome, pair_outcome}
-use Rattle.properties_format.specs.Reading.Valued.{between_if_pair, between_in, last_between, or_else}
+use Rattle.properties_format.specs.Computed.Split.{split_of}
+use Rattle.properties_format.specs.Computed.Body.{is_pair_with}
+use Rattle.properties_format.specs.Computed.Edited.{IsSound, AreSound, KeyPlace, last_place}
+use Rattle.properties_format.specs.Computed.Items.{split_outcome, comment_outcome, pair_outcome}
+use Rattle.properties_format.specs.Computed.Valued.{between_if_pair, between_in, last_between, or_else}
 use Rattle.properties_format.proofs.Edited.Made as made
 use Rattle.properties_format.proofs.Edited.Made.{HasKey-test, last_place-meets, no_key-test}
-use Rattle.properties_editing.specs.BodyIndex.{IsIndex, found_span, is_pair, last_live, last_span, live_spans, outcome, places_of, span_at, span_of, span_or, spans_where, stored_at}
-use Rattle.properties_editing.specs.BodyKeys.{IsPlace, IsPlaceOf}
-use Rattle.properties_editing.specs.BodyValues.{IsLastPair}
+use Rattle.properties_editing.specs.Private.BodyIndex.{IsIndex, found_span, is_pair, last_live, last_span, live_spans, outcome, places_of, span_at, span_of, span_or, spans_where, stored_at}
+use Rattle.properties_editing.specs.Private.BodyKeys.{IsPlace, IsPlaceOf}
+use Rattle.properties_editing.specs.Private.BodyValues.{IsLastPair}
 use Rattle.properties_editing.specs.declared.edit.index.Index.{Index}
 use Rattle.properties_editing.specs.declared.edit.index.IndexedPair.{IndexedPair}
 use Rattle.properties_editing.specs.declared.edit.place.BodySpan.{BodySpan}

@@ -22,13 +22,13 @@ use Rattle.properties_format.specs.Entries.{comment, pair}
 use Rattle.properties_format.specs.Items.{Outcome, ignored, given, broken}
 use Rattle.properties_format.specs.Body.{HeldLine, group_bytes}
 use Rattle.properties_format.specs.Edited.{is_editable}
-use Rattle.properties_format.specs.Reading.Body.{held_groups_of, is_pair_with}
-use Rattle.properties_format.specs.Reading.Keys.{Has, HasNot, ComesBefore, AreFirstOf}
-use Rattle.properties_format.specs.Reading.Parts.{outcome_key}
+use Rattle.properties_format.specs.Computed.Body.{held_groups_of, is_pair_with}
+use Rattle.properties_format.specs.Computed.Keys.{Has, HasNot, ComesBefore, AreFirstOf}
+use Rattle.properties_format.specs.Computed.Parts.{outcome_key}
 use Rattle.properties_format.proofs.Body.Groups.{held_groups_of-meets}
 use Rattle.properties_format.proofs.InTurn.Merged.{AreInTurn, in-turn}
-use Rattle.properties_editing.specs.BodyIndex.{IsListed, is_pair, live_spans, outcome, places_of, some_span, span_at, span_of, spans_where, stored_at}
-use Rattle.properties_editing.specs.BodyIndex.Keys.{AreFirsts, ArePlaced, IndexesSome, IsFirstIn, TellsKeys, group_keys, key_at}
+use Rattle.properties_editing.specs.Private.BodyIndex.{IsListed, is_pair, live_spans, outcome, places_of, some_span, span_at, span_of, spans_where, stored_at}
+use Rattle.properties_editing.specs.Private.BodyIndex.Keys.{AreFirsts, ArePlaced, IndexesSome, IsFirstIn, TellsKeys, group_keys, key_at}
 use Rattle.properties_editing.specs.Documents.{characters_of}
 use Rattle.properties_items.specs.Texts.{characters}
 use Rattle.properties_editing.specs.declared.edit.index.Index.{Index}

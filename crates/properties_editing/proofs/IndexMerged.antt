@@ -10,19 +10,19 @@ use Rattle.properties_format.specs.Groups.{joined}
 use Rattle.properties_format.specs.Items.{Outcome, ignored}
 use Rattle.properties_format.specs.Body.{HeldLine, as_lines, group_bytes, groups_bytes}
 use Rattle.properties_format.specs.Edited.{is_editable}
-use Rattle.properties_format.specs.Reading.Body.{has_key, held_groups_of, is_pair_with}
-use Rattle.properties_format.specs.Reading.Cut.{decoded_line}
-use Rattle.properties_format.specs.Reading.Edited.{IsSound, AreSound}
-use Rattle.properties_format.specs.Reading.Items.{outcome_of}
-use Rattle.properties_format.specs.Reading.Maps.{first_value}
-use Rattle.properties_format.specs.Reading.Parts.{unended_bytes, are_one_ending}
+use Rattle.properties_format.specs.Computed.Body.{has_key, held_groups_of, is_pair_with}
+use Rattle.properties_format.specs.Computed.Cut.{decoded_line}
+use Rattle.properties_format.specs.Computed.Edited.{IsSound, AreSound}
+use Rattle.properties_format.specs.Computed.Items.{outcome_of}
+use Rattle.properties_format.specs.Computed.Maps.{first_value}
+use Rattle.properties_format.specs.Computed.Parts.{unended_bytes, are_one_ending}
 use Rattle.properties_format.proofs.Body.Decoded.{decoded-nil}
 use Rattle.properties_format.proofs.Body.Groups.{held_groups_of-only}
 use Rattle.properties_format.proofs.Edited.Outcomes.{outcome-empty}
 use Rattle.properties_format.proofs.Maps.{first-none}
 use Rattle.properties_format.proofs.InTurn.Lines.{AreLinesBy, unended-some, with_ending, texts-with, unended-with}
 use Rattle.properties_format.proofs.InTurn.Merged.{AreInTurn, after-lf, merged, merged-groups, merged-one, merged-two, one-bytes, one-ending}
-use Rattle.properties_editing.specs.BodyIndex.{IsListed, all_shifted, is_pair, last_value, outcome, places_of, shifted, some_span, span_of, spans_where, stored_at, value_by}
+use Rattle.properties_editing.specs.Private.BodyIndex.{IsListed, all_shifted, is_pair, last_value, outcome, places_of, shifted, some_span, span_of, spans_where, stored_at, value_by}
 use Rattle.properties_editing.specs.declared.edit.index.IndexedPair.{IndexedPair}
 use Rattle.properties_editing.specs.declared.edit.index.Shift.TheVariants as shift
 use Rattle.properties_editing.specs.declared.edit.place.BodySpan.{BodySpan}

@@ -17,16 +17,16 @@ use Rattle.properties_format.specs.Entries.{comment, pair}
 use Rattle.properties_format.specs.Items.{Outcome, ignored, given, broken}
 use Rattle.properties_format.specs.Body.{HeldLine, as_lines, groups_bytes}
 use Rattle.properties_format.specs.Edited.{final_group, is_empty_line, is_left_open}
-use Rattle.properties_format.specs.Reading.Body.{held_groups_of, is_pair_with}
-use Rattle.properties_format.specs.Reading.Edited.{IsSound, AreSound}
-use Rattle.properties_format.specs.Reading.Items.{outcome_of}
-use Rattle.properties_format.specs.Reading.Parts.{unended_bytes}
+use Rattle.properties_format.specs.Computed.Body.{held_groups_of, is_pair_with}
+use Rattle.properties_format.specs.Computed.Edited.{IsSound, AreSound}
+use Rattle.properties_format.specs.Computed.Items.{outcome_of}
+use Rattle.properties_format.specs.Computed.Parts.{unended_bytes}
 use Rattle.properties_format.proofs.Edited.Steps.{final_group-push}
 use Rattle.properties_text.specs.Encoding.{encoding_of}
-use Rattle.properties_editing.specs.BodyGroups.{IsWithin, TakesGroup, text_of}
-use Rattle.properties_editing.specs.BodyIndex.{AddsGroup, AddsPair, IsIndex, IsListed, KeepsNothing, KeepsPair, is_pair, last_value, live_spans, outcome, places_of, some_span, span_at, span_of, spans_where, stored_at, stored_value}
+use Rattle.properties_editing.specs.Private.BodyGroups.{IsWithin, TakesGroup, text_of}
+use Rattle.properties_editing.specs.Private.BodyIndex.{AddsGroup, AddsPair, IsIndex, IsListed, KeepsNothing, KeepsPair, is_pair, last_value, live_spans, outcome, places_of, some_span, span_at, span_of, spans_where, stored_at, stored_value}
 use Rattle.properties_items.specs.FoundItems.{outcome_pair}
-use Rattle.properties_editing.specs.BodyKeys.{closing_of}
+use Rattle.properties_editing.specs.Private.BodyKeys.{closing_of}
 use Rattle.properties_items.specs.Texts.{characters}
 use Rattle.properties_editing.specs.declared.edit.groups.Group.{Group}
 use Rattle.properties_editing.specs.declared.edit.groups.GroupReader.{GroupReader}

@@ -17,11 +17,11 @@ use Rattle.properties_format.specs.Items.{Outcome, given, ignored}
 use Rattle.properties_format.specs.Groups.{joined}
 use Rattle.properties_format.specs.Body.{HeldLine, HasKey, as_lines, NoneHasKey, ending_bytes, group_bytes, groups_bytes, last_ending}
 use Rattle.properties_format.specs.Edited.{final_group, is_editable, is_empty_line, is_left_open}
-use Rattle.properties_format.specs.Reading.Body.{has_key, held_groups_of, is_pair_with}
-use Rattle.properties_format.specs.Reading.Edited.{IsSound, AreSound, without}
-use Rattle.properties_format.specs.Reading.Lines.{begins_with_lf}
-use Rattle.properties_format.specs.Reading.Maps.{first_value}
-use Rattle.properties_format.specs.Reading.Parts.{unended_bytes}
+use Rattle.properties_format.specs.Computed.Body.{has_key, held_groups_of, is_pair_with}
+use Rattle.properties_format.specs.Computed.Edited.{IsSound, AreSound, without}
+use Rattle.properties_format.specs.Computed.Lines.{begins_with_lf}
+use Rattle.properties_format.specs.Computed.Maps.{first_value}
+use Rattle.properties_format.specs.Computed.Parts.{unended_bytes}
 use Rattle.properties_format.proofs.Body.Groups.{groups_bytes-append, held_groups_of-meets, held-body}
 use Rattle.properties_format.proofs.Edited.Made.{has_key-true, has_key-false}
 use Rattle.properties_format.proofs.Edited.Steps.{final_group-push, without-append}
@@ -31,11 +31,11 @@ use Rattle.properties_format.proofs.InTurn.Merged.{AreInTurn, IsEndedGroup, afte
 use Rattle.properties_format.proofs.Edited.Parts.{empty_group, empty-lines, empty-whole}
 use Rattle.properties_format.proofs.InTurn.Unmerged.{AreUnmerged, merged-unmerged}
 use Rattle.properties_text.specs.Encoding.{encoding_of}
-use Rattle.properties_editing.specs.BodyIndex.{ArePairsRemoved, CutsOut, IsCutOut, IsInSource, IsIndex, IsListed, KeepsNothing, all_shifted, ending_size, is_pair, last_value, live_spans, outcome, places_of, shifted, span_at, span_of, spans_where, stored_at, stored_value, value_by}
+use Rattle.properties_editing.specs.Private.BodyIndex.{ArePairsRemoved, CutsOut, IsCutOut, IsInSource, IsIndex, IsListed, KeepsNothing, all_shifted, ending_size, is_pair, last_value, live_spans, outcome, places_of, shifted, span_at, span_of, spans_where, stored_at, stored_value, value_by}
 use Rattle.properties_items.specs.FoundItems.{outcome_pair}
-use Rattle.properties_editing.specs.BodyKeys.{closing_of}
+use Rattle.properties_editing.specs.Private.BodyKeys.{closing_of}
 use Rattle.properties_items.specs.Texts.{characters}
-use Rattle.properties_editing.specs.Sources.{IsInForce}
+use Rattle.properties_editing.specs.Private.Sources.{IsInForce}
 use Rattle.properties_editing.specs.declared.edit.index.Index.{Index}
 use Rattle.properties_editing.specs.declared.edit.index.IndexedPair.{IndexedPair}
 use Rattle.properties_editing.specs.declared.edit.index.Shift.TheVariants as shift

@@ -6,10 +6,10 @@ use Rattle.std.proofs.lemmas.Bool.Decides.{nat_tests}
 use Rattle.std.proofs.lemmas.List.{map-append}
 use Rattle.properties_format.specs.Items.{Outcome}
 use Rattle.properties_format.specs.Body.{HeldLine, group_bytes, groups_bytes, ending_bytes, last_ending}
-use Rattle.properties_format.specs.Reading.Parts.{unended_bytes}
+use Rattle.properties_format.specs.Computed.Parts.{unended_bytes}
 use Rattle.properties_format.proofs.Body.Groups.{groups_bytes-append}
 use Rattle.properties_format.proofs.InTurn.Lines.{bytes-unended}
-use Rattle.properties_editing.specs.BodyIndex.{all_shifted, lengthened_span, live_spans, moved_span, moved_to, outcome, shifted, some_span, span_at, span_of, spans_where}
+use Rattle.properties_editing.specs.Private.BodyIndex.{all_shifted, lengthened_span, live_spans, moved_span, moved_to, outcome, shifted, some_span, span_at, span_of, spans_where}
 use Rattle.properties_editing.specs.declared.edit.index.Shift.{Shift}
 use Rattle.properties_editing.specs.declared.edit.index.Shift.TheVariants as shift
 use Rattle.properties_editing.specs.declared.edit.place.BodySpan.{BodySpan}

@@ -8,13 +8,13 @@ use Rattle.properties_format.specs.Entries.{comment, pair}
 use Rattle.properties_format.specs.Items.{Outcome, ignored, given, broken}
 use Rattle.properties_format.specs.Maps.{IsValue, IsMap}
 use Rattle.properties_format.specs.Body.{HeldLine, NoneHasKey}
-use Rattle.properties_format.specs.Reading.Body.{entries_in, is_pair_with}
-use Rattle.properties_format.specs.Reading.Edited.{IsSound, AreSound}
-use Rattle.properties_format.specs.Reading.Items.{followed}
-use Rattle.properties_format.specs.Reading.Maps.{first_value, value_in}
+use Rattle.properties_format.specs.Computed.Body.{entries_in, is_pair_with}
+use Rattle.properties_format.specs.Computed.Edited.{IsSound, AreSound}
+use Rattle.properties_format.specs.Computed.Items.{followed}
+use Rattle.properties_format.specs.Computed.Maps.{first_value, value_in}
 use Rattle.properties_format.proofs.Edited.Made.{no_key-test}
 use Rattle.properties_format.proofs.Maps.{first-assoc, first-none, value_in-meets}
-use Rattle.properties_editing.specs.BodyIndex.{last_value, outcome, value_by}
+use Rattle.properties_editing.specs.Private.BodyIndex.{last_value, outcome, value_by}
 
 -- ---- one list of groups after another
 

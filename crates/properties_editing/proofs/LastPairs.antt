@@ -9,9 +9,9 @@ use borrow.Author.Tests.{eqb-true}
 use Rattle.properties_format.specs.Text as text
 use Rattle.properties_format.specs.Text.{line_feed, carriage_return, line_ending_text, equals_sign}
 use Rattle.properties_format.specs.Lines.{HoldsNoLineEnd}
-use Rattle.properties_format.specs.Reading.Lines.{ends_in_cr}
+use Rattle.properties_format.specs.Computed.Lines.{ends_in_cr}
 use Rattle.properties_format.specs.Lines.{Ended, Lines}
-use Rattle.properties_format.specs.Reading.Lines.{lines_of}
+use Rattle.properties_format.specs.Computed.Lines.{lines_of}
 use Rattle.properties_format.specs.Body.{held_in}
 use Rattle.properties_format.specs.Valued.{ending_among}
 use Rattle.properties_format.proofs.Lines.Plain.{last-plain, plain-no_lf}
@@ -22,9 +22,9 @@ use Rattle.properties_format.proofs.Body.Decoded.{IsCut-lines}
 use Rattle.properties_format.proofs.Body.Groups.{held_of-only}
 use Rattle.properties_format.proofs.Valued.Lined.{last_by, last_by-append}
 use Rattle.properties_format.proofs.Valued.Added.{ending-held}
-use Rattle.properties_editing.specs.BodyLines.{ending_in}
+use Rattle.properties_editing.specs.Private.BodyLines.{ending_in}
 use Rattle.properties_items.specs.LineEndings.{ending_of}
-use Rattle.properties_editing.specs.BodyValues.{IsEndingWithin, IsLastEnding, IsLastPairOf, IsGroupAlone, IsBetweenIn, IsLastPair, FindsLastPair}
+use Rattle.properties_editing.specs.Private.BodyValues.{IsEndingWithin, IsLastEnding, IsLastPairOf, IsGroupAlone, IsBetweenIn, IsLastPair, FindsLastPair}
 use Rattle.properties_items.specs.declared.line.LineEnding.{LineEnding}
 use Rattle.properties_items.specs.declared.line.LineEnding.TheVariants.{CR, LF}
 use Rattle.properties_text.specs.Parsing.{bytes_in}
@@ -33,8 +33,8 @@ use Rattle.properties_format.specs.Settings.{IsGoodSeparator}
 use Rattle.properties_format.specs.Body.{ending_bytes, last_ending, AreGroupsOf}
 use Rattle.properties_format.specs.Edited.{is_editable}
 use Rattle.properties_format.specs.Valued.{separator_after}
-use Rattle.properties_format.specs.Reading.Settings.{is_good_separator}
-use Rattle.properties_format.specs.Reading.Valued.{separator_by}
+use Rattle.properties_format.specs.Computed.Settings.{is_good_separator}
+use Rattle.properties_format.specs.Computed.Valued.{separator_by}
 use Rattle.properties_format.proofs.Body.Groups.{held-body, held_groups_of-meets}
 use Rattle.properties_format.proofs.Settings.Tests.{is_good_separator-from}
 use Rattle.properties_format.proofs.InTurn.Lines.{bytes-unended}
@@ -45,16 +45,16 @@ use Rattle.properties_editing.proofs.BodyValues.{middle-of}
 use Rattle.std.specs.Str.{chars}
 use Rattle.properties_format.specs.Encoding.{Encoding}
 use Rattle.properties_format.specs.Groups.{joined}
-use Rattle.properties_format.specs.Reading.Split.{split_of}
+use Rattle.properties_format.specs.Computed.Split.{split_of}
 use Rattle.properties_format.specs.Body.{HeldLine, as_lines, group_bytes, groups_bytes}
-use Rattle.properties_format.specs.Reading.Body.{held_groups_of}
-use Rattle.properties_format.specs.Reading.Parts.{unended_bytes}
-use Rattle.properties_format.specs.Reading.Valued.{between_if_pair, last_between, or_else}
+use Rattle.properties_format.specs.Computed.Body.{held_groups_of}
+use Rattle.properties_format.specs.Computed.Parts.{unended_bytes}
+use Rattle.properties_format.specs.Computed.Valued.{between_if_pair, last_between, or_else}
 use Rattle.properties_format.proofs.Body.Groups.{groups_bytes-append}
 use Rattle.properties_format.proofs.Valued.Made.{last_between-push}
 use Rattle.properties_text.specs.Encoding.{encoding_of}
 use Rattle.properties_text.specs.declared.parse.Span.{Span}
-use Rattle.properties_editing.specs.BodyGroups.{IsWithin, groups_left, text_of, TakesGroup}
+use Rattle.properties_editing.specs.Private.BodyGroups.{IsWithin, groups_left, text_of, TakesGroup}
 use Rattle.properties_editing.specs.declared.edit.groups.Group.{Group}
 use Rattle.properties_editing.specs.declared.edit.groups.GroupReader.{GroupReader}
 use Rattle.properties_editing.specs.declared.edit.place.BodySpan.{BodySpan}

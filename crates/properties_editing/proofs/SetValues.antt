@@ -9,11 +9,11 @@ use Rattle.properties_format.specs.Printing.{encoded_text}
 use Rattle.properties_format.specs.Body.{HeldLine, HasKey, ending_bytes, groups_bytes, last_ending}
 use Rattle.properties_format.specs.Edited.{bom_of, separation, added_ending, is_editable, is_empty_line, is_left_open, final_group, edited}
 use Rattle.properties_format.specs.Valued.{value_text, separation_by, ending_in, new_pair_bytes, IsSetValueResult}
-use Rattle.properties_format.specs.Reading.Items.{outcome_of}
-use Rattle.properties_format.specs.Reading.Body.{held_groups_of}
-use Rattle.properties_format.specs.Reading.Parts.{unended_bytes}
-use Rattle.properties_format.specs.Reading.Edited.{result_of, last_place}
-use Rattle.properties_format.specs.Reading.Valued.{front_of, between_of, has_value, last_between, separator_by, revalued_at, valued_at, value_set, value_set_in, set_value_result}
+use Rattle.properties_format.specs.Computed.Items.{outcome_of}
+use Rattle.properties_format.specs.Computed.Body.{held_groups_of}
+use Rattle.properties_format.specs.Computed.Parts.{unended_bytes}
+use Rattle.properties_format.specs.Computed.Edited.{result_of, last_place}
+use Rattle.properties_format.specs.Computed.Valued.{front_of, between_of, has_value, last_between, separator_by, revalued_at, valued_at, value_set, value_set_in, set_value_result}
 use Rattle.properties_format.proofs.Body.Groups.{held_groups_of-meets, held-body}
 use Rattle.properties_format.proofs.Edited.ByteOrderMarks.{source-whole}
 use Rattle.properties_format.proofs.Edited.Contents.{key-outcome}
@@ -24,12 +24,12 @@ use Rattle.properties_format.proofs.Valued.Read.{set_value-reads, value_set-keep
 use Rattle.properties_format.proofs.Valued.Unended.{without_ending, unended-joined, unended-front, unended-between, unended-value}
 use Rattle.properties_format.proofs.Edited.Pair.{editable-own}
 use Rattle.properties_text.specs.Encoding.{encoding_of}
-use Rattle.properties_editing.specs.BodyKeys.{IsPlaceOf, IsPlace, IsKeyFound, closing_bytes}
-use Rattle.properties_editing.specs.BodyValues.{IsPairAlone, IsLayoutAfter, revalued_in}
+use Rattle.properties_editing.specs.Private.BodyKeys.{IsPlaceOf, IsPlace, IsKeyFound, closing_bytes}
+use Rattle.properties_editing.specs.Private.BodyValues.{IsPairAlone, IsLayoutAfter, revalued_in}
 use Rattle.properties_editing.specs.Editing.{HasValueSet}
 use Rattle.properties_items.specs.Texts.{characters}
 use Rattle.properties_items.specs.LineEndings.{ending_of}
-use Rattle.properties_editing.specs.Sources.{IsInForce}
+use Rattle.properties_editing.specs.Private.Sources.{IsInForce}
 use Rattle.properties_editing.specs.declared.edit.new_pair.Layout.{Layout}
 use Rattle.properties_editing.specs.declared.edit.place.BodySpan.{BodySpan}
 use Rattle.properties_editing.specs.declared.edit.place.Closing.{Closing}

@@ -1,9 +1,3 @@
-pub mod BodyLines
-pub mod BodyGroups
-pub mod BodyKeys
-pub mod BodyValues
-pub mod BodyIndex
-pub mod BodyDocuments
-pub mod Sources
 pub mod Editing
 pub mod Documents
+pub mod Private

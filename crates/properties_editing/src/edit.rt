@@ -5,9 +5,9 @@ ghost use Rattle.std.specs.Str.{chars};
 ghost use Rattle.properties_format.specs.Laws.{SplittingCommutes};
 ghost use Rattle.properties_text.specs.Encoding.{encoding_of};
 ghost use Rattle.properties_format.specs.Edited.{is_editable};
-ghost use Rattle.properties_format.specs.Reading.Body.{held_groups_of};
-ghost use Rattle.properties_format.specs.Reading.Edited.{AreSound};
-ghost use Rattle.properties_editing.specs.BodyIndex.{IsIndex, MakesEdit};
+ghost use Rattle.properties_format.specs.Computed.Body.{held_groups_of};
+ghost use Rattle.properties_format.specs.Computed.Edited.{AreSound};
+ghost use Rattle.properties_editing.specs.Private.BodyIndex.{IsIndex, MakesEdit};
 ghost use Rattle.properties_editing.specs.Editing.{EditsAll, RemovesKey, SetsKey, SetsValue, edit_in, edits_in};
 
 mod document;

@@ -8,16 +8,16 @@ use Rattle.properties_format.specs.Lines.{end}
 use Rattle.properties_format.specs.Groups.{joined}
 use Rattle.properties_format.specs.Entries.{comment, pair, Entry, AreItems}
 use Rattle.properties_format.specs.Items.{Outcome, ignored, given, broken, IsItems}
-use Rattle.properties_format.specs.Reading.Items.{outcome_of, followed, items_of}
+use Rattle.properties_format.specs.Computed.Items.{outcome_of, followed, items_of}
 use Rattle.properties_format.specs.Maps.{HasNoPair, IsMap}
 use Rattle.properties_format.specs.Body.{HeldLine, as_lines, NoneHasKey, group_bytes, groups_bytes}
 use Rattle.properties_format.specs.Edited.{bom_of, guarding_lf, is_editable, edited, IsSetKeyResult, IsRemoveKeyResult}
 use Rattle.properties_format.specs.Edits.{Edit, put, remove, set_value, IsEditAllResult}
 use Rattle.properties_format.specs.Valued.{IsSetValueResult}
 use Rattle.properties_format.specs.Changed.{map_edited}
-use Rattle.properties_format.specs.Reading.Body.{held_groups_of, is_pair_with, has_key, entries_in}
-use Rattle.properties_format.specs.Reading.Edited.{without, key_set, result_of, set_key_result}
-use Rattle.properties_format.specs.Reading.Edits.{edit_made, edits_made, edit_all_result}
+use Rattle.properties_format.specs.Computed.Body.{held_groups_of, is_pair_with, has_key, entries_in}
+use Rattle.properties_format.specs.Computed.Edited.{without, key_set, result_of, set_key_result}
+use Rattle.properties_format.specs.Computed.Edits.{edit_made, edits_made, edit_all_result}
 use Rattle.properties_format.specs.EditLaws.{RemovingNoPairChangesNothing, SettingTwiceIsSettingOnce, HasMap, DiffersAt, SettingGivesTheValue, RemovingTakesTheValue, NoEditsChangeNothing, OneEditIsItsCall, ListsOfEditsFollow}
 use Rattle.properties_format.proofs.Items.Unique.{items_of-only}
 use Rattle.properties_format.proofs.Maps.{map-only}

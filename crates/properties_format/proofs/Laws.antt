@@ -3,20 +3,20 @@ use Rattle.std.proofs.Common.{◌≡◌, ℕ, ◌+◌, List, [], ◌∷◌, ◌+
 use Rattle.std.specs.Prelude.{Some}
 use Rattle.properties_format.specs.Pieces.{piece}
 use Rattle.properties_format.specs.Encoding.{Encoding, byte_order_mark, ascii_bytes, IsPieces, IsDecoded}
-use Rattle.properties_format.specs.Reading.Encoding.{pieces_of, decoded_of}
+use Rattle.properties_format.specs.Computed.Encoding.{pieces_of, decoded_of}
 use Rattle.properties_format.specs.Lines.{InputEnd, end, Line, IsLines, numbered_lines}
-use Rattle.properties_format.specs.Reading.Lines.{lines_of}
+use Rattle.properties_format.specs.Computed.Lines.{lines_of}
 use Rattle.properties_format.specs.Groups.{IsGroups, joined}
-use Rattle.properties_format.specs.Reading.Groups.{groups_of}
+use Rattle.properties_format.specs.Computed.Groups.{groups_of}
 use Rattle.properties_format.specs.Split.{IsSplit}
-use Rattle.properties_format.specs.Reading.Split.{split_of}
+use Rattle.properties_format.specs.Computed.Split.{split_of}
 use Rattle.properties_format.specs.Escapes.{IsMeaning}
-use Rattle.properties_format.specs.Reading.Escapes.{meaning_of}
+use Rattle.properties_format.specs.Computed.Escapes.{meaning_of}
 use Rattle.properties_format.specs.Entries.{comment, pair, Entry, item, malformed, read_fault}
 use Rattle.properties_format.specs.Items.{IsItems}
-use Rattle.properties_format.specs.Reading.Items.{items_of}
+use Rattle.properties_format.specs.Computed.Items.{items_of}
 use Rattle.properties_format.specs.Maps.{HasNoPair, IsLastValue, IsValue}
-use Rattle.properties_format.specs.Reading.Maps.{value_in}
+use Rattle.properties_format.specs.Computed.Maps.{value_in}
 use Rattle.properties_format.specs.Settings.{Settings}
 use Rattle.properties_format.specs.Writing.{Call, wrote}
 use Rattle.properties_format.specs.Pairs.{Pair, pairs_in, calls_of, items_after}

@@ -5,7 +5,7 @@ use Rattle.std.proofs.lemmas.Bool.{cond-true, cond-false, false_from_ne_true}
 use Rattle.std.proofs.lemmas.Slice.Eq.{bytes_eq-Decides}
 use Rattle.properties_format.specs.Entries.{comment, pair, Entry, item, malformed, read_fault}
 use Rattle.properties_format.specs.Maps.{HasNoPair, IsValue, IsMap}
-use Rattle.properties_format.specs.Reading.Maps.{value_of, first_value, value_in}
+use Rattle.properties_format.specs.Computed.Maps.{value_of, first_value, value_in}
 
 abbrev IsPairOf : List ℕ → List ℕ → Entry → Type 0
 IsPairOf key value entry = (n : ℕ) × (entry ≡ item n (pair key value))

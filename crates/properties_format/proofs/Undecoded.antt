@@ -10,14 +10,14 @@ use Rattle.properties_format.specs.Lines.{Line, InputEnd, end, fault, more}
 use Rattle.properties_format.specs.Split.{comment, pair, IsSplit}
 use Rattle.properties_format.specs.Encoding.{windows_1252}
 use Rattle.properties_format.specs.Pieces.{characters}
-use Rattle.properties_format.specs.Reading.Encoding.{pieces_within, pieces_of}
-use Rattle.properties_format.specs.Reading.Cut.{decoded_line}
-use Rattle.properties_format.specs.Reading.Split.{without_trailing_blanks, unless_last_blank, trimmed, Cut, with_front, ends_key, cut_key, past_separator, pair_of, split_full, split_of}
-use Rattle.properties_format.specs.Reading.Groups.{closes, groups_after}
+use Rattle.properties_format.specs.Computed.Encoding.{pieces_within, pieces_of}
+use Rattle.properties_format.specs.Computed.Cut.{decoded_line}
+use Rattle.properties_format.specs.Computed.Split.{without_trailing_blanks, unless_last_blank, trimmed, Cut, with_front, ends_key, cut_key, past_separator, pair_of, split_full, split_of}
+use Rattle.properties_format.specs.Computed.Groups.{closes, groups_after}
 use Rattle.properties_format.proofs.Encodings.Windows1252.{windows_1252-ascii, windows_1252_character-ascii}
 use Rattle.properties_format.proofs.Split.Unique.{split_of-meets, split_of-only}
 use Rattle.properties_format.proofs.Groups.Steps.{groups_after-close, groups_after-leave}
-use Rattle.properties_format.specs.Reading.Undecoded.{characters_of, decoded, in_text, LineCommutes, JoiningCommutes, SplittingCommutes}
+use Rattle.properties_format.specs.Computed.Undecoded.{characters_of, decoded, in_text, LineCommutes, JoiningCommutes, SplittingCommutes}
 
 -- ---- one character
 

@@ -29,4 +29,4 @@ pub mod Valued
 pub mod Edits
 pub mod Laws
 pub mod EditLaws
-pub mod Reading
+pub mod Computed

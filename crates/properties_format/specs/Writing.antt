@@ -3,10 +3,10 @@
 use Rattle.std.specs.Prelude.{◌≡◌, All, ℕ, ◌+◌, ◌==◌, ◌&&◌, not, Bool, true, false, if◌then◌else◌, List, [], ◌∷◌, ◌++◌, Option, Some, None}
 use Rattle.properties_format.specs.Text.{scalar, LineEnding, backslash, is_blanks, is_comment_sign}
 use Rattle.properties_format.specs.Encoding.{Encoding}
-use Rattle.properties_format.specs.Reading.Split.{trimmed}
+use Rattle.properties_format.specs.Computed.Split.{trimmed}
 use Rattle.properties_format.specs.Entries.{Content, comment, pair, Entry, item}
 use Rattle.properties_format.specs.Settings.{Settings, IsGoodPrefix, IsGoodSeparator}
-use Rattle.properties_format.specs.Reading.Settings.{is_good_prefix, is_good_separator}
+use Rattle.properties_format.specs.Computed.Settings.{is_good_prefix, is_good_separator}
 use Rattle.properties_format.specs.Printing.{printed}
 
 -- a call: writes a comment or a pair, changes a setting, flushes, or turns ASCII-only output on or off

@@ -9,7 +9,7 @@ use Rattle.properties_format.specs.Split.{IsSplit}
 use Rattle.properties_format.specs.Escapes.{Means}
 use Rattle.properties_format.specs.Entries.{comment, pair}
 use Rattle.properties_format.specs.Items.{ignored, given, broken}
-use Rattle.properties_format.specs.Reading.Items.{outcome_of}
+use Rattle.properties_format.specs.Computed.Items.{outcome_of}
 use Rattle.properties_format.proofs.Items.Unique.{outcome_of-only}
 use Rattle.properties_text.specs.Escaping.{malformed_in, IsRefused}
 use Rattle.properties_text.specs.declared.escape.UnescapeError.{UnescapeError}

@@ -3,7 +3,7 @@ use Rattle.std.proofs.Common.{◌≡◌, ℕ, true, List, ap, sym, ◌∙◌}
 use Rattle.std.specs.Str.{chars, IsUtf8}
 use Rattle.properties_format.specs.Text.{LineEnding, line_ending_text}
 use Rattle.properties_format.specs.Encoding.{Encoding}
-use Rattle.properties_format.specs.Reading.Settings.{is_good_separator}
+use Rattle.properties_format.specs.Computed.Settings.{is_good_separator}
 use Rattle.properties_format.specs.Printing.{encoded_text}
 use Rattle.properties_format.proofs.Printing.Characters.{line_end-ascii, good_separator-ascii}
 use Rattle.properties_format.proofs.Settings.Tests.{IsGoodSeparator-from_test}

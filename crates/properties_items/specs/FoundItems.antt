@@ -3,7 +3,7 @@ use Rattle.std.specs.Prelude.{◌≡◌, ◌⊎◌, ℕ, List, Option, Some, Non
 use Rattle.std.specs.Str.{chars}
 use Rattle.properties_format.specs.Escapes.{Malformed}
 use Rattle.properties_format.specs.Items.{ignored, broken, Outcome, given}
-use Rattle.properties_format.specs.Reading.Items.{outcome_of}
+use Rattle.properties_format.specs.Computed.Items.{outcome_of}
 use Rattle.properties_items.specs.Errors.{IsBareError, IsMalformed, IsUnresolvedError}
 use Rattle.properties_text.specs.Escaping.{IsRefused}
 use Rattle.properties_text.specs.Parsing.{bytes_in}

@@ -4,12 +4,12 @@ use Rattle.std.specs.Prelude.{Option, Some, None}
 use Rattle.properties_format.specs.Text as text
 use Rattle.properties_format.specs.Encoding.{Encoding, InForce, IsAligned}
 use Rattle.properties_format.specs.Cut.{units}
-use Rattle.properties_format.specs.Reading.Lines.{begins_with_lf}
+use Rattle.properties_format.specs.Computed.Lines.{begins_with_lf}
 use Rattle.properties_format.specs.Body.{HeldLine}
-use Rattle.properties_format.specs.Reading.Body.{held_lines_of}
+use Rattle.properties_format.specs.Computed.Body.{held_lines_of}
 use Rattle.properties_format.proofs.Edited.Steps.{held_lines-line, held_lines-last}
 use Rattle.properties_text.specs.Encoding.{encoding_of}
-use Rattle.properties_lines.specs.HeldLines.{held_line, IsInBody, lines_left}
+use Rattle.properties_lines.specs.Private.HeldLines.{held_line, IsInBody, lines_left}
 use Rattle.properties_lines.specs.Scanner.{is_decided, scanner_state, front_of, bytes_of, EndsWhole, IsCutOff, GivesLine}
 use Rattle.properties_lines.specs.declared.scanner.Front.{Front}
 use Rattle.properties_lines.specs.declared.scanner.Front.TheVariants.{Mark, Feed, Nothing}

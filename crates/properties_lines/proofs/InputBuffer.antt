@@ -9,7 +9,7 @@ use Rattle.std.proofs.lemmas.List.{take-append-le}
 use Rattle.std.proofs.lemmas.Grind.{common_steps}
 use Rattle.counted_io.specs.Faults.{CountsFault, ShowsEnd}
 use Rattle.counted_io.specs.Streams.{Reader}
-use Rattle.properties_lines.specs.InputBuffer.{ReadsAt}
+use Rattle.properties_lines.specs.Private.InputBuffer.{ReadsAt}
 
 -- what stands before a place and the first bytes that were put there
 taken-front : (place count : ℕ) (buffer part tail : List ℕ) → place < length buffer → count ≤ length part

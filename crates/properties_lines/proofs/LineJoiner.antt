@@ -6,18 +6,18 @@ use Rattle.std.proofs.lemmas.Bool.{cases_Bool}
 use Rattle.counted_io.specs.Streams.{Reader}
 use Rattle.counted_io.proofs.Streams.{read-none, read-more, failed-more}
 use Rattle.properties_format.specs.Encoding.{Encoding, windows_1252}
-use Rattle.properties_format.specs.Reading.Cut.{decoded_line}
+use Rattle.properties_format.specs.Computed.Cut.{decoded_line}
 use Rattle.properties_format.specs.Lines as format
 use Rattle.properties_format.specs.Lines.{InputEnd, end, fault, more}
 use Rattle.properties_format.specs.Groups.{is_open, is_comment_line, addition, without_open_backslash, joined_after, AreOpen, EndsClosed, IsWhole, IsUnfinished}
 use Rattle.properties_format.specs.Entries.{Entry, read_fault}
 use Rattle.properties_format.specs.ItemsToCome.{ReaderState}
-use Rattle.properties_format.specs.Reading.Items.{outcome_of, followed}
-use Rattle.properties_format.specs.Reading.ItemsToCome.{items_to_come, natural_to_come, last_to_come, entries_pending, entries_of_logical, logical_pending}
+use Rattle.properties_format.specs.Computed.Items.{outcome_of, followed}
+use Rattle.properties_format.specs.Computed.ItemsToCome.{items_to_come, natural_to_come, last_to_come, entries_pending, entries_of_logical, logical_pending}
 use Rattle.properties_format.proofs.Groups.Joined.{joined-comment_line, joined-closed, joined-unmarked, joined_after-append}
 use Rattle.properties_format.proofs.ItemsToCome.Entries.{gives-on, joining-open, joining-closed, joining-done, pending-comment_line, pending-closed, pending-open, pending-done, items_to_come-pending}
 use Rattle.properties_format.proofs.ItemsToCome.Steps.{lines-start, lines-on, on-start, on-open, logical-comment_line, logical-closed}
-use Rattle.properties_format.specs.Reading.ReaderSteps.{Gives}
+use Rattle.properties_format.specs.Computed.ReaderSteps.{Gives}
 use Rattle.properties_text.specs.Escaping.{holds_backslash}
 use Rattle.properties_text.proofs.Texts.Resolving.{plain-closed}
 use Rattle.properties_lines.specs.LineReader as finder

@@ -6,12 +6,12 @@ use Rattle.counted_io.specs.Streams.{Reader, HasRead}
 use Rattle.counted_io.proofs.Streams.{read-none, read-more, failed-more}
 use Rattle.properties_format.specs.Lines as format
 use Rattle.properties_format.specs.Lines.{Ended, end, fault, more, numbered}
-use Rattle.properties_format.specs.Reading.Lines.{lines_of}
+use Rattle.properties_format.specs.Computed.Lines.{lines_of}
 use Rattle.properties_format.specs.Entries.{read_fault}
 use Rattle.properties_format.specs.Items.{last_entries}
 use Rattle.properties_format.specs.ItemsToCome.{ReaderState}
-use Rattle.properties_format.specs.Reading.ItemsToCome.{text_to_come, natural_to_come, last_to_come}
-use Rattle.properties_format.specs.Reading.ReaderSteps.{Gives, ReadsLines, after_read}
+use Rattle.properties_format.specs.Computed.ItemsToCome.{text_to_come, natural_to_come, last_to_come}
+use Rattle.properties_format.specs.Computed.ReaderSteps.{Gives, ReadsLines, after_read}
 use Rattle.properties_format.proofs.ItemsToCome.Entries.{gives-on}
 use Rattle.properties_format.proofs.ItemsToCome.Steps.{lines-start, lines-on, lines-then, lines-read}
 use Rattle.properties_text.specs.Encoding.{encoding_of}

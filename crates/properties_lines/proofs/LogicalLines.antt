@@ -9,8 +9,8 @@ use Rattle.properties_format.specs.Text.{backslash}
 use Rattle.properties_format.specs.Encoding.{Encoding, windows_1252, utf_8, utf_16le, utf_16be, ascii_bytes, IsPieces}
 use Rattle.properties_format.specs.Pieces.{Piece, characters}
 use Rattle.properties_format.specs.Groups.{is_open, without_open_backslash}
-use Rattle.properties_format.specs.Reading.Encoding.{pieces_of}
-use Rattle.properties_format.specs.Reading.Cut.{decoded_line}
+use Rattle.properties_format.specs.Computed.Encoding.{pieces_of}
+use Rattle.properties_format.specs.Computed.Cut.{decoded_line}
 use Rattle.properties_format.proofs.Encodings.Pieces.{pieces_of-meets}
 use Rattle.properties_format.proofs.Encodings.Characters.{piece-ascii}
 use Rattle.properties_format.proofs.Encodings.WellFormed.{well_formed-from_IsUtf8}

@@ -8,8 +8,8 @@ use Rattle.properties_format.specs.Text.{backslash, is_blank, is_comment_sign, w
 use Rattle.properties_format.specs.Groups.{is_open, is_comment_line, begins_with_comment_sign, without_last, without_open_backslash, addition}
 use Rattle.properties_format.specs.Encoding.{Encoding, windows_1252}
 use Rattle.properties_format.specs.Windows1252.{windows_1252_character}
-use Rattle.properties_format.specs.Reading.Cut.{decoded_line}
-use Rattle.properties_format.specs.Reading.Undecoded.{characters_of}
+use Rattle.properties_format.specs.Computed.Cut.{decoded_line}
+use Rattle.properties_format.specs.Computed.Undecoded.{characters_of}
 use Rattle.properties_format.proofs.Groups.Open.{is_open-after, blank-other, open-ends}
 use Rattle.properties_format.proofs.Undecoded.{decodes, comments, opens, closed, adds}
 use Rattle.properties_lines.specs.LogicalLine.{AddsText, is_continued, IsNotContinued}

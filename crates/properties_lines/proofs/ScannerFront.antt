@@ -8,11 +8,11 @@ use Rattle.properties_format.specs.Encoding.{Encoding, InForce, windows_1252, ut
 use Rattle.properties_format.specs.Lines as format
 use Rattle.properties_format.specs.Lines.{InputEnd, end, more}
 use Rattle.properties_format.specs.Cut.{units, HoldsNoLineEndUnit}
-use Rattle.properties_format.specs.Reading.Lines.{begins_with_lf}
-use Rattle.properties_format.specs.Reading.Waiting.{awaits_bom}
+use Rattle.properties_format.specs.Computed.Lines.{begins_with_lf}
+use Rattle.properties_format.specs.Computed.Waiting.{awaits_bom}
 use Rattle.properties_format.specs.ItemsToCome.{ReaderState}
-use Rattle.properties_format.specs.Reading.ItemsToCome.{natural_to_come}
-use Rattle.properties_format.specs.Reading.ReaderSteps.{Gives, ReadsLines, HoldsNoEnd, after_decided, after_passed, next_line}
+use Rattle.properties_format.specs.Computed.ItemsToCome.{natural_to_come}
+use Rattle.properties_format.specs.Computed.ReaderSteps.{Gives, ReadsLines, HoldsNoEnd, after_decided, after_passed, next_line}
 use Rattle.properties_format.proofs.ItemsToCome.Lines.{gives-decided, gives-decided_last, gives-passed_none, gives-passed_last, gives-passed_lf, gives-last, natural-more}
 use Rattle.properties_format.proofs.ItemsToCome.Entries.{gives-on}
 use Rattle.properties_format.proofs.ItemsToCome.Waiting.{waiting-no_end}

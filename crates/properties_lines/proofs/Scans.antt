@@ -6,9 +6,9 @@ use Rattle.std.proofs.lemmas.List.{take_rest, drop_all}
 use Rattle.properties_format.specs.Encoding.{Encoding, InForce}
 use Rattle.properties_format.specs.Lines.{more}
 use Rattle.properties_format.specs.Cut.{HoldsNoLineEndUnit}
-use Rattle.properties_format.specs.Reading.Cut.{decoded_line}
+use Rattle.properties_format.specs.Computed.Cut.{decoded_line}
 use Rattle.properties_format.specs.ItemsToCome.{ReaderState}
-use Rattle.properties_format.specs.Reading.ReaderSteps.{HoldsNoEnd}
+use Rattle.properties_format.specs.Computed.ReaderSteps.{HoldsNoEnd}
 use Rattle.properties_format.proofs.ItemsToCome.Lines.{natural-more}
 use Rattle.properties_text.specs.Encoding.{encoding_of}
 use Rattle.properties_lines.specs.LineSearch.{unit_size, whole_units}

@@ -1,7 +1,6 @@
-pub mod InputBuffer
 pub mod LineSearch
 pub mod Scanner
-pub mod HeldLines
 pub mod LineReader
 pub mod LogicalLine
 pub mod LineJoiner
+pub mod Private

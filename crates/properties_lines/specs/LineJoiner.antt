@@ -7,12 +7,12 @@ use Rattle.properties_format.specs.Encoding.{windows_1252}
 use Rattle.properties_format.specs.Lines as format
 use Rattle.properties_format.specs.Lines.{InputEnd, end, fault, more}
 use Rattle.properties_format.specs.Groups.{is_open, joined, joined_after, AreOpen, EndsClosed, IsWhole, IsUnfinished}
-use Rattle.properties_format.specs.Reading.Cut.{decoded_line}
+use Rattle.properties_format.specs.Computed.Cut.{decoded_line}
 use Rattle.properties_format.specs.Entries.{read_fault}
 use Rattle.properties_format.specs.ItemsToCome.{ReaderState}
-use Rattle.properties_format.specs.Reading.Items.{outcome_of, followed}
-use Rattle.properties_format.specs.Reading.ItemsToCome.{items_to_come, entries_pending}
-use Rattle.properties_format.specs.Reading.ReaderSteps.{ReadsLogical}
+use Rattle.properties_format.specs.Computed.Items.{outcome_of, followed}
+use Rattle.properties_format.specs.Computed.ItemsToCome.{items_to_come, entries_pending}
+use Rattle.properties_format.specs.Computed.ReaderSteps.{ReadsLogical}
 use Rattle.properties_text.specs.Escaping.{holds_backslash}
 use Rattle.properties_lines.specs.LineReader as finder
 use Rattle.properties_lines.specs.LineReader.{Finder, Passes, PassesSome, PassesAll}

@@ -5,11 +5,11 @@ use Rattle.counted_io.specs.Streams.{Reader, HasRead, HasFailed}
 use Rattle.properties_format.specs.Lines as format
 use Rattle.properties_format.specs.Lines.{end, fault, more}
 use Rattle.properties_format.specs.Pieces.{characters}
-use Rattle.properties_format.specs.Reading.Encoding.{pieces_of}
+use Rattle.properties_format.specs.Computed.Encoding.{pieces_of}
 use Rattle.properties_format.specs.Entries.{read_fault}
 use Rattle.properties_format.specs.ItemsToCome.{ReaderState}
-use Rattle.properties_format.specs.Reading.ItemsToCome.{natural_to_come, last_to_come}
-use Rattle.properties_format.specs.Reading.ReaderSteps.{Gives, ReadsLines}
+use Rattle.properties_format.specs.Computed.ItemsToCome.{natural_to_come, last_to_come}
+use Rattle.properties_format.specs.Computed.ReaderSteps.{Gives, ReadsLines}
 use Rattle.properties_lines.specs.Scanner.{HasRightFlags, Comes, KeepsEncoding}
 use Rattle.properties_lines.specs.declared.error.LineError.TheVariants as why
 use Rattle.properties_lines.specs.declared.error.LineError.{LineError}

@@ -10,11 +10,11 @@ use Rattle.properties_format.specs.Encoding.{Encoding, InForce, IsAligned, byte_
 use Rattle.properties_format.specs.Lines as format
 use Rattle.properties_format.specs.Lines.{InputEnd, end, more}
 use Rattle.properties_format.specs.Cut.{units, HoldsNoLineEndUnit, line_ending_bytes}
-use Rattle.properties_format.specs.Reading.Lines.{begins_with_lf}
-use Rattle.properties_format.specs.Reading.Cut.{decoded_line}
+use Rattle.properties_format.specs.Computed.Lines.{begins_with_lf}
+use Rattle.properties_format.specs.Computed.Cut.{decoded_line}
 use Rattle.properties_format.specs.ItemsToCome.{ReaderState}
-use Rattle.properties_format.specs.Reading.ItemsToCome.{natural_to_come}
-use Rattle.properties_format.specs.Reading.ReaderSteps.{Gives, ReadsLines}
+use Rattle.properties_format.specs.Computed.ItemsToCome.{natural_to_come}
+use Rattle.properties_format.specs.Computed.ReaderSteps.{Gives, ReadsLines}
 use Rattle.properties_text.specs.Encoding.{encoding_of}
 use Rattle.properties_text.specs.Escaping.{holds_backslash}
 use Rattle.properties_text.specs.declared.encoding.byte_order_mark.ByteOrderMark.{ByteOrderMark}

@@ -2,7 +2,7 @@
 
 ghost use Rattle.std.specs.Prelude.{◌≡◌, ◌-◌, ◌<◌, ◌≤◌, ◌+◌, [], take, drop, length};
 ghost use Rattle.counted_io.specs.Streams.{IsSameReader};
-ghost use Rattle.properties_lines.specs.InputBuffer.{Buffer, Fills, MakesRoom, ReadsAt};
+ghost use Rattle.properties_lines.specs.Private.InputBuffer.{Buffer, Fills, MakesRoom, ReadsAt};
 
 use counted_io::CountedRead;
 use std::alloc::{AllocError, Global};

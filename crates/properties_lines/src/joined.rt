@@ -5,7 +5,7 @@ ghost use Rattle.counted_io.specs.Streams.{IsSameReader};
 ghost use Rattle.properties_format.specs.Encoding.{windows_1252};
 ghost use Rattle.properties_format.specs.Text.{without_leading_blanks};
 ghost use Rattle.properties_format.specs.Groups.{is_open, without_open_backslash};
-ghost use Rattle.properties_format.specs.Reading.Cut.{decoded_line};
+ghost use Rattle.properties_format.specs.Computed.Cut.{decoded_line};
 ghost use Rattle.properties_lines.specs.LineReader.{lines_left};
 ghost use Rattle.properties_lines.specs.LogicalLine.{AddsText, is_continued};
 ghost use Rattle.properties_lines.specs.LineJoiner.{IsWindows1252, JoinsOn, ReadsJoined};

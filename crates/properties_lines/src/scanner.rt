@@ -4,9 +4,9 @@ ghost use Rattle.std.specs.Prelude.{List, ℕ, ◌≡◌, ◌↔◌, ◌+◌, �
 ghost use Rattle.std.specs.Str.{IsAscii};
 ghost use Rattle.properties_format.specs.Text.{backslash, is_line_end};
 ghost use Rattle.properties_format.specs.Cut.{units};
-ghost use Rattle.properties_format.specs.Reading.Lines.{begins_with_lf};
+ghost use Rattle.properties_format.specs.Computed.Lines.{begins_with_lf};
 ghost use Rattle.properties_format.specs.ItemsToCome.{start};
-ghost use Rattle.properties_format.specs.Reading.ReaderSteps.{after_decided};
+ghost use Rattle.properties_format.specs.Computed.ReaderSteps.{after_decided};
 ghost use Rattle.properties_text.specs.Encoding.{encoding_of};
 ghost use Rattle.properties_text.specs.Decoding.{FindsByteOrderMark};
 ghost use Rattle.properties_text.specs.Escaping.{holds_backslash};

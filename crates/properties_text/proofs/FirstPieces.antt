@@ -2,8 +2,8 @@
 use Rattle.std.proofs.Common.{◌≡◌, ◌≢◌, ℕ, suc, ◌+◌, ◌==◌, false, List, ◌∷◌, length, take, Some, sym, ap, ◌∙◌, arith}
 use Rattle.properties_format.specs.Text.{replacement, scalar}
 use Rattle.properties_format.specs.Utf8.{Range, well_formed_rows, sequence_character}
-use Rattle.properties_format.specs.Reading.Utf8.{ranges_after, fitting, first_utf_8_piece}
-use Rattle.properties_format.specs.Reading.Waiting.{awaits_byte}
+use Rattle.properties_format.specs.Computed.Utf8.{ranges_after, fitting, first_utf_8_piece}
+use Rattle.properties_format.specs.Computed.Waiting.{awaits_byte}
 use Rattle.properties_format.proofs.Encodings.Utf8First.{first_utf_8_piece-whole, first_utf_8_piece-broken}
 use Rattle.properties_text.specs.Decoding.{ShowsPiece}
 use Rattle.properties_text.specs.declared.encoding.first_piece.FirstPiece.{FirstPiece}

@@ -8,7 +8,7 @@ use Rattle.memchr.specs.Find.{Nowhere, Passes}
 use Rattle.byte_blocks.specs.Classes.{is_control}
 use Rattle.properties_format.specs.Text.{space, tab, form_feed, backslash, is_separator, is_comment_sign}
 use Rattle.properties_format.specs.Printing.{is_special}
-use Rattle.properties_format.specs.Reading.Split.{ends_key}
+use Rattle.properties_format.specs.Computed.Split.{ends_key}
 use Rattle.properties_text.specs.Parsing.{stays_in_key, may_end}
 use Rattle.properties_text.proofs.Scanning.{IsCutSoFar, cut-plain}
 

@@ -15,7 +15,7 @@ use Rattle.properties_format.specs.Encoding.{windows_1252}
 use Rattle.properties_format.proofs.Encodings.Waiting.{characters-step}
 use Rattle.properties_text.specs.Decoding.{text_of}
 use Rattle.properties_text.specs.declared.encoding.Encoding.TheVariants.{WINDOWS_1252}
-use Rattle.properties_text.specs.Latin1.{lead_byte, last_byte}
+use Rattle.properties_text.specs.Private.Latin1.{lead_byte, last_byte}
 use Rattle.byte_blocks.specs.Classes.{is_past_ascii}
 use Rattle.byte_blocks.specs.Marks.{clear_front}
 use Rattle.byte_blocks.specs.Moving.{spread}

@@ -11,7 +11,7 @@ use Rattle.std.proofs.lemmas.List.{nil_from_length}
 use Rattle.std.proofs.lemmas.Str.{chars-append, chars-encodes, IsUtf8-from_ascii}
 use Rattle.properties_format.specs.Pieces.{characters}
 use Rattle.properties_format.specs.Encoding.{Encoding, windows_1252, utf_8, utf_16le, utf_16be}
-use Rattle.properties_format.specs.Reading.Encoding.{first_piece, pieces_of}
+use Rattle.properties_format.specs.Computed.Encoding.{first_piece, pieces_of}
 use Rattle.properties_format.proofs.Encodings.Pieces.{pieces_of-nil}
 use Rattle.properties_format.proofs.Encodings.Waiting.{characters-step}
 use Rattle.properties_format.proofs.Encodings.WellFormed.{IsUtf8-from_well_formed, characters-ascii, characters-text}

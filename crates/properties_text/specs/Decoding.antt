@@ -7,8 +7,8 @@ use Rattle.properties_format.specs.Pieces.{Piece, characters}
 use Rattle.properties_format.specs.Utf8.{Range, from_to, IsWellFormedText}
 use Rattle.properties_format.specs.Utf16.{low_first, high_first}
 use Rattle.properties_format.specs.Windows1252.{windows_1252_character}
-use Rattle.properties_format.specs.Reading.Encoding.{first_piece, pieces_of}
-use Rattle.properties_format.specs.Reading.Waiting.{awaits_bom, awaits_more}
+use Rattle.properties_format.specs.Computed.Encoding.{first_piece, pieces_of}
+use Rattle.properties_format.specs.Computed.Waiting.{awaits_bom, awaits_more}
 use Rattle.properties_text.specs.Encoding.{encoding_of}
 use Rattle.properties_text.specs.declared.encoding.Encoding.{Encoding}
 use Rattle.properties_text.specs.declared.encoding.byte_order_mark.ByteOrderMark.{ByteOrderMark}

@@ -6,7 +6,7 @@ use Rattle.std.specs.declared.borrow.CowStr.{CowStr}
 use Rattle.std.specs.declared.borrow.CowStr.TheVariants as cow
 use Rattle.properties_format.specs.Text.{backslash}
 use Rattle.properties_format.specs.Escapes as format
-use Rattle.properties_format.specs.Reading.Escapes.{in_front, meaning_of}
+use Rattle.properties_format.specs.Computed.Escapes.{in_front, meaning_of}
 use Rattle.properties_text.specs.declared.escape.Malformed.{Malformed}
 use Rattle.properties_text.specs.declared.escape.Malformed.TheVariants.{NotEnoughDigits, NotHex, InvalidCharacter}
 use Rattle.properties_text.specs.declared.escape.UnescapeError.{UnescapeError}

@@ -1,7 +1,7 @@
 pub mod Encoding
 pub mod Decoding
-pub mod Latin1
 pub mod Parsing
 pub mod Escaping
 pub mod Printing
 pub mod UndecodedTexts
+pub mod Private

@@ -4,7 +4,7 @@ use Rattle.std.specs.Str.{chars, IsCharBoundary}
 use Rattle.byte_blocks.specs.Classes.{is_control}
 use Rattle.properties_format.specs.Text.{backslash, is_blank}
 use Rattle.properties_format.specs.Printing.{is_special}
-use Rattle.properties_format.specs.Reading.Split.{ends_key}
+use Rattle.properties_format.specs.Computed.Split.{ends_key}
 use Rattle.properties_format.specs.Split.{Logical, blank, comment, pair, IsComment, IsPair, IsSplit}
 use Rattle.properties_text.specs.declared.parse.ParsedSpans.{ParsedSpans}
 use Rattle.properties_text.specs.declared.parse.ParsedSpans.TheVariants as spans

@@ -6,8 +6,8 @@ use Rattle.properties_format.specs.Escapes.{Meaning, means, breaks, Means, Malfo
 use Rattle.properties_format.specs.Printing.{unicode_escape}
 use Rattle.properties_format.specs.Split.{blank, comment, IsSplit}
 use Rattle.properties_format.specs.Items.{MeansPair, IsOutcome, broken}
-use Rattle.properties_format.specs.Reading.Escapes.{meaning_of, text_in_front}
-use Rattle.properties_format.specs.Reading.Undecoded.{characters_of}
+use Rattle.properties_format.specs.Computed.Escapes.{meaning_of, text_in_front}
+use Rattle.properties_format.specs.Computed.Undecoded.{characters_of}
 use Rattle.byte_blocks.specs.Classes.{is_control}
 use Rattle.properties_text.specs.Decoding.{text_of}
 use Rattle.properties_text.specs.Escaping.{malformed_in, IsRefused}

@@ -5,7 +5,7 @@ ghost use Rattle.std.specs.List.{All};
 ghost use Rattle.std.specs.Str.{IsUtf8, chars};
 ghost use Rattle.properties_format.specs.Text.{is_blank, without_leading_blanks};
 ghost use Rattle.properties_format.specs.Split.{IsSplit};
-ghost use Rattle.properties_format.specs.Reading.Split.{without_trailing_blanks, trimmed, ends_key, cut_key, past_separator};
+ghost use Rattle.properties_format.specs.Computed.Split.{without_trailing_blanks, trimmed, ends_key, cut_key, past_separator};
 ghost use Rattle.properties_text.specs.Parsing.{stays_in_key, may_end, bytes_in, spanned, in_characters, IsSpan, AreSpans, AreInPlace, AreFoundInText};
 
 use crate::characters::{is_blank, is_comment_sign, is_separator};

@@ -7,10 +7,10 @@ use Rattle.properties_format.specs.Encoding.{Encoding, IsPieces, begins_with, by
 use Rattle.properties_format.specs.Lines.{Ended, Line, Lines, IsLines, fault, line_ends, numbered, put_together}
 use Rattle.properties_format.specs.Items.{last_entries}
 use Rattle.properties_format.specs.ItemsToCome.{start, in_force, AreFurtherLines}
-use Rattle.properties_format.specs.Reading.Body.{held_of, held_lines_of}
-use Rattle.properties_format.specs.Reading.Encoding.{pieces_of}
-use Rattle.properties_format.specs.Reading.ItemsToCome.{text_to_come}
-use Rattle.properties_format.specs.Reading.Lines.{lines_of}
+use Rattle.properties_format.specs.Computed.Body.{held_of, held_lines_of}
+use Rattle.properties_format.specs.Computed.Encoding.{pieces_of}
+use Rattle.properties_format.specs.Computed.ItemsToCome.{text_to_come}
+use Rattle.properties_format.specs.Computed.Lines.{lines_of}
 use Rattle.properties_format.proofs.Encodings.Pieces.{piece-length, pieces_of-meets}
 use Rattle.properties_format.proofs.ItemsToCome.Unique.{rest_of_end-meets}
 use Rattle.properties_format.proofs.Lines.Meets.{lines_of-meets}

@@ -8,10 +8,10 @@ use Rattle.properties_format.specs.Entries.{Content, comment, pair, Entry, item,
 use Rattle.properties_format.specs.Items.{IsItems}
 use Rattle.properties_format.specs.Lines.{end}
 use Rattle.properties_format.specs.Pairs.{pairs_in, ArePairsOfScalars}
-use Rattle.properties_format.specs.Reading.ItemsToCome.{items_to_come}
+use Rattle.properties_format.specs.Computed.ItemsToCome.{items_to_come}
 use Rattle.properties_format.proofs.Items.Unique.{items_of-meets}
 use Rattle.java_properties.specs.PropertiesIter.{Reading}
-use Rattle.java_properties.specs.GivenItems.{GivesEntry, GivesNone, GivesMalformed, GivesError}
+use Rattle.java_properties.specs.Private.GivenItems.{GivesEntry, GivesNone, GivesMalformed, GivesError}
 use Rattle.java_properties.specs.PropertiesWriter.{Writing, Flushes, HasFlushedSink, RefusesFlush, FailsInFlush}
 use Rattle.java_properties.specs.ReadLines.{BeginsItems}
 use Rattle.properties_items.specs.declared.error.PropertiesError.{PropertiesError}

@@ -11,13 +11,13 @@ use Rattle.properties_format.specs.Lines.{end, Ended, Line, Lines, numbered}
 use Rattle.properties_format.specs.Body.{HeldLine}
 use Rattle.properties_format.specs.Utf8.{IsWellFormedText}
 use Rattle.properties_format.specs.ItemsToCome.{ReaderState, start}
-use Rattle.properties_format.specs.Reading.Lines.{lines_of}
-use Rattle.properties_format.specs.Reading.Body.{held_of, held_lines_of}
+use Rattle.properties_format.specs.Computed.Lines.{lines_of}
+use Rattle.properties_format.specs.Computed.Body.{held_of, held_lines_of}
 use Rattle.properties_format.proofs.Encodings.WellFormed.{IsUtf8-from_well_formed, well_formed-from_IsUtf8}
 use Rattle.properties_format.proofs.Lines.Meets.{lines_of-meets}
 use Rattle.properties_format.proofs.Lines.Only.{lines_of-only}
 use Rattle.properties_text.specs.Encoding.{encoding_of}
-use Rattle.properties_lines.specs.HeldLines.{IsInBody, held_line, lines_left}
+use Rattle.properties_lines.specs.Private.HeldLines.{IsInBody, held_line, lines_left}
 use Rattle.properties_lines.specs.Scanner.{scanner_state, is_decided, after_cr, bytes_of, Fits, GivesLine, HasRightFlags}
 use Rattle.properties_lines.specs.declared.scanner.Front.TheVariants.{Mark, Feed}
 use Rattle.properties_lines.specs.declared.scanner.RawLine.{RawLine}

@@ -7,7 +7,7 @@ use Rattle.properties_format.specs.Encoding.{Encoding, output_encoding}
 use Rattle.properties_format.specs.Entries.{Entry}
 use Rattle.properties_format.specs.Lines.{end}
 use Rattle.properties_format.specs.Items.{IsItems}
-use Rattle.properties_format.specs.Reading.Items.{items_of}
+use Rattle.properties_format.specs.Computed.Items.{items_of}
 use Rattle.properties_format.specs.Settings.{default_settings}
 use Rattle.properties_format.specs.Writing.{wrote}
 use Rattle.properties_format.specs.Pairs.{pairs_in, calls_of, items_after, ArePairsOfScalars}

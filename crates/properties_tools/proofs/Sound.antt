@@ -7,9 +7,9 @@ use Rattle.properties_format.specs.Groups.{IsGroups, joined, first_number}
 use Rattle.properties_format.specs.Items.{Outcome, ignored, given, broken, IsFollowed, AreEntries, IsItems}
 use Rattle.properties_format.specs.Lines.{end, Line, Lines, IsLines, line_ends, numbered_lines}
 use Rattle.properties_format.specs.MalformedEscapes.{MalformedEscape, escapes_from, AreEscapesIn, AreMalformedEscapes}
-use Rattle.properties_format.specs.Reading.Encoding.{decoded_of}
-use Rattle.properties_format.specs.Reading.Groups.{groups_of}
-use Rattle.properties_format.specs.Reading.Lines.{lines_of}
+use Rattle.properties_format.specs.Computed.Encoding.{decoded_of}
+use Rattle.properties_format.specs.Computed.Groups.{groups_of}
+use Rattle.properties_format.specs.Computed.Lines.{lines_of}
 use Rattle.properties_format.proofs.Encodings.Pieces.{decoded_of-only}
 use Rattle.properties_format.proofs.Groups.Only.{groups_of-only}
 use Rattle.properties_format.proofs.Items.Unique.{outcome_of-only}

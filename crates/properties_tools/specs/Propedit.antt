@@ -1,7 +1,6 @@
 -- What `propedit` does, over any streams.
 pub mod Answers
 pub mod Asked
-pub mod AskedParts
 pub mod Change
 pub mod Check
 pub mod Failures

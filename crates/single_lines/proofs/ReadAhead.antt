@@ -11,7 +11,7 @@ use Rattle.std.proofs.lemmas.List.{take-append-le, length-take-le, drop-take}
 use Rattle.counted_io.specs.Faults.{CountsFault, ShowsEnd}
 use Rattle.counted_io.specs.Streams.{Reader}
 use Rattle.properties_lines.proofs.InputBuffer.{keeps-consumes}
-use Rattle.single_lines.specs.ReadAhead.{ReadsMore, count_of}
+use Rattle.single_lines.specs.Private.ReadAhead.{ReadsMore, count_of}
 
 -- what a buffer holds after a read into its end: the bytes before the place, and those that came
 pub read-into : (buffer came rest : List ℕ) (place n : ℕ) → place ≤ length buffer → n ≤ length came

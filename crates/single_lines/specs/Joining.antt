@@ -5,7 +5,7 @@ use Rattle.std.specs.Str.{chars}
 use Rattle.std.specs.String.{string_bytes}
 use Rattle.properties_format.specs.Lines.{Line, end, fault}
 use Rattle.properties_format.specs.Groups.{IsWhole, IsUnfinished, joined}
-use Rattle.properties_format.specs.Reading.Logical.{logical_lines}
+use Rattle.properties_format.specs.Computed.Logical.{logical_lines}
 use Rattle.properties_lines.specs.declared.error.LineError.TheVariants as why
 use Rattle.properties_lines.specs.declared.error.LineError.{LineError}
 use Rattle.single_lines.specs.declared.natural.NaturalLine.{NaturalLine}

@@ -1,6 +1,6 @@
 pub mod Decoding
-pub mod ReadAhead
 pub mod DecodeIter
 pub mod Parsing
 pub mod NaturalLines
 pub mod Joining
+pub mod Private

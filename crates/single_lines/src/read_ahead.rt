@@ -2,7 +2,7 @@
 
 ghost use Rattle.std.specs.Prelude.{◌≡◌, ℕ, ◌<◌, ◌≤◌, ◌+◌, ◌-◌, List, [], take, drop, length, IfOk};
 ghost use Rattle.counted_io.specs.Streams.{IsSameReader};
-ghost use Rattle.single_lines.specs.ReadAhead.{ReadsMore, count_of, room};
+ghost use Rattle.single_lines.specs.Private.ReadAhead.{ReadsMore, count_of, room};
 
 use counted_io::CountedRead;
 use std::alloc::{AllocError, Global};

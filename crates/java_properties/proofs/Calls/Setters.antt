@@ -4,7 +4,7 @@ use Rattle.std.specs.Prelude.{None, Result, Ok, Err}
 use Rattle.std.proofs.lemmas.Bool.{cases_Bool}
 use Rattle.counted_io.specs.Streams.{Sink}
 use Rattle.properties_format.specs.Settings.{IsGoodPrefix, IsGoodSeparator}
-use Rattle.properties_format.specs.Reading.Settings.{is_good_prefix, is_good_separator}
+use Rattle.properties_format.specs.Computed.Settings.{is_good_prefix, is_good_separator}
 use Rattle.properties_format.specs.Writing.{Call, prefix_call, separator_call, flush_call, is_accepted, settings_after_call, written_line}
 use Rattle.properties_format.proofs.Settings.Tests.{is_good_prefix-from, IsGoodPrefix-from_test, is_good_separator-from, IsGoodSeparator-from_test}
 use Rattle.properties_items.specs.Errors.{kind_of}

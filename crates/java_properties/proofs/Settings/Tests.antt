@@ -10,8 +10,8 @@ use Rattle.std.proofs.lemmas.Str.{chars_past_char, encodes-chars, length-le-enco
 use Rattle.std.proofs.StrCases.{chars_of_empty}
 use Rattle.properties_format.specs.Writing.{is_empty}
 use Rattle.properties_format.specs.Text.{is_blank, is_blanks, is_line_end, is_comment_sign, is_separator}
-use Rattle.properties_format.specs.Reading.Settings.{holds_no_line_end}
-use Rattle.properties_format.specs.Reading.Settings.{is_good_prefix, is_signed_separator, is_good_separator}
+use Rattle.properties_format.specs.Computed.Settings.{holds_no_line_end}
+use Rattle.properties_format.specs.Computed.Settings.{is_good_prefix, is_signed_separator, is_good_separator}
 use Rattle.properties_format.specs.Settings.{IsGoodPrefix, IsGoodSeparator}
 use Rattle.properties_format.proofs.Split.Unique.{sign-full, separator-full}
 use Rattle.properties_format.proofs.Settings.Tests.{is_good_prefix-from, is_good_separator-from}

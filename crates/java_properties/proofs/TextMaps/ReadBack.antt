@@ -17,7 +17,7 @@ use Rattle.properties_format.specs.Encoding.{Encoding, output_encoding}
 use Rattle.properties_format.specs.Lines.{end}
 use Rattle.properties_format.specs.Items.{IsItems}
 use Rattle.properties_format.specs.Maps.{IsValue}
-use Rattle.properties_format.specs.Reading.Maps.{value_in}
+use Rattle.properties_format.specs.Computed.Maps.{value_in}
 use Rattle.properties_format.specs.Settings.{default_settings}
 use Rattle.properties_format.specs.Writing.{pair_call, flush_call, wrote, ArePrefixesClean, AreOfScalars}
 use Rattle.properties_format.specs.Pairs.{Pair, calls_of, items_after, AreAccepted, ArePairsOfScalars}

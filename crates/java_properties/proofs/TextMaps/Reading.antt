@@ -10,7 +10,7 @@ use Rattle.properties_format.proofs.Maps.{map-none, map-comment, map-pair}
 use Rattle.properties_items.specs.Errors.{IsBareError}
 use Rattle.properties_items.specs.Line.{number_of, content_of}
 use Rattle.java_properties.specs.PropertiesIter.{format_content, entry_of}
-use Rattle.java_properties.specs.GivenItems.{GivesEntry, GivesNone, GivesMalformed, GivesError}
+use Rattle.java_properties.specs.Private.GivenItems.{GivesEntry, GivesNone, GivesMalformed, GivesError}
 use Rattle.java_properties.specs.ReadLines.{entries_in, StopsReading}
 use Rattle.java_properties.specs.Maps.{InsertsIfPair, HasReadMap, ReadsValue}
 use Rattle.properties_items.specs.Texts.{Entries, value_at}

@@ -13,7 +13,7 @@ use Rattle.properties_format.specs.Entries.{pair}
 use Rattle.properties_format.specs.Settings.{default_settings}
 use Rattle.properties_format.specs.Writing.{Call, pair_call, flush_call, is_accepted, settings_after}
 use Rattle.properties_text.specs.Encoding.{output_of}
-use Rattle.java_properties.specs.Engine.{writing}
+use Rattle.java_properties.specs.Private.Engine.{writing}
 use Rattle.properties_items.specs.Errors.{kind_of}
 use Rattle.java_properties.specs.PropertiesWriter.{Writing, new_writer, WritesLine, Flushes, HasWrittenLine, IsRefusedBy}
 use Rattle.java_properties.specs.Calls.{HasMade, is_not_accepted}

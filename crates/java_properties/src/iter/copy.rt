@@ -10,9 +10,9 @@ ghost use Rattle.properties_text.specs.declared.encoding.Encoding.TheVariants.{W
 ghost use Rattle.properties_lines.specs.LineReader.{lines_left};
 ghost use Rattle.properties_items.specs.BorrowedItems.{borrowed_content};
 ghost use Rattle.properties_items.specs.FoundItems.{FindsIn};
-ghost use Rattle.java_properties.specs.Engine.{writing};
+ghost use Rattle.java_properties.specs.Private.Engine.{writing};
 ghost use Rattle.java_properties.specs.Copying.{error_in, reading, CopiesNext};
-ghost use Rattle.java_properties.specs.CopiedLines.{PlainBytes, PlainText, KeepsError, CopiesLine, CopiesContent, PassesLine, FindsAny, Refuses};
+ghost use Rattle.java_properties.specs.Private.CopiedLines.{PlainBytes, PlainText, KeepsError, CopiesLine, CopiesContent, PassesLine, FindsAny, Refuses};
 
 use crate::writer::engine::{Engine, Written};
 use counted_io::{CountedRead, CountedWrite};

@@ -8,8 +8,8 @@ ghost use Rattle.properties_text.specs.Encoding.{encoding_of};
 ghost use Rattle.properties_lines.specs.LineReader.{lines_left};
 ghost use Rattle.properties_lines.specs.LineJoiner.{Joiner};
 ghost use Rattle.properties_items.specs.BorrowedItems.{borrowed_entry, found_entry, BorrowsPlain, IsFoundIn};
-ghost use Rattle.java_properties.specs.GivenItems.{FindsItem, GivesItem, Owns};
-ghost use Rattle.java_properties.specs.Engine.{writing};
+ghost use Rattle.java_properties.specs.Private.GivenItems.{FindsItem, GivesItem, Owns};
+ghost use Rattle.java_properties.specs.Private.Engine.{writing};
 ghost use Rattle.java_properties.specs.Copying.{reading, CopiesNext};
 
 use crate::iter::copy::{CopyError, copy_content, copy_next};

@@ -4,7 +4,7 @@ ghost use Rattle.std.specs.Str.{chars};
 ghost use Rattle.counted_io.specs.Streams.{IsSameReader};
 ghost use Rattle.properties_text.specs.Encoding.{encoding_of};
 ghost use Rattle.java_properties.specs.MalformedEscapes.{FindsMalformed};
-ghost use Rattle.java_properties.specs.LineByLine.{PushesMalformed};
+ghost use Rattle.java_properties.specs.Private.LineByLine.{PushesMalformed};
 
 use counted_io::CountedRead;
 use properties_items::error::{ErrorKind, PropertiesError, make};

@@ -7,7 +7,7 @@ ghost use Rattle.properties_format.specs.Settings.{default_settings};
 ghost use Rattle.properties_format.specs.Writing.{is_accepted};
 ghost use Rattle.counted_io.specs.Streams.{IsSameSink};
 ghost use Rattle.properties_text.specs.UndecodedTexts.{undecoded_line, IsUndecodedPair};
-ghost use Rattle.java_properties.specs.Engine.{entry_content, writing, repertoire_of, line_bytes, content_bytes, NumbersLine, HasNoNumber, KeepsRefusal, KeepsFault, SendsLine, takes_span, WritesPair, BuildsUndecoded, WritesUndecoded};
+ghost use Rattle.java_properties.specs.Private.Engine.{entry_content, writing, repertoire_of, line_bytes, content_bytes, NumbersLine, HasNoNumber, KeepsRefusal, KeepsFault, SendsLine, takes_span, WritesPair, BuildsUndecoded, WritesUndecoded};
 ghost use Rattle.properties_text.specs.Printing.{AppendsOnOk, is_all_of_windows_1252};
 ghost use Rattle.java_properties.specs.PropertiesWriter.{call_of, WritesLine, Flushes};
 

@@ -4,7 +4,7 @@ ghost use Rattle.std.specs.Prelude.{◌≡◌, ◌&&◌, not, true};
 ghost use Rattle.std.specs.Str.{chars};
 ghost use Rattle.properties_format.specs.Text.{is_blanks};
 ghost use Rattle.properties_format.specs.Settings.{default_settings};
-ghost use Rattle.properties_format.specs.Reading.Settings.{is_good_prefix, is_good_separator};
+ghost use Rattle.properties_format.specs.Computed.Settings.{is_good_prefix, is_good_separator};
 ghost use Rattle.properties_format.specs.Writing.{is_empty, AreGoodSettings};
 ghost use Rattle.java_properties.specs.Settings.{with_ending, with_ascii_only, TakesPrefix, TakesSeparator};
 ghost use Rattle.properties_items.specs.LineEndings.{ending_of};

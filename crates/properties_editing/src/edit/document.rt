@@ -45,7 +45,7 @@ impl Model for Document {
 
     ghost Value = { OpenDocument };
 
-    ghost use Rattle.properties_editing.specs.BodyDocuments.{open_document, IsDocument};
+    ghost use Rattle.properties_editing.specs.Private.BodyDocuments.{open_document, IsDocument};
 
     ghost view = { open_document };
 

@@ -3,10 +3,10 @@
 ghost use Rattle.std.specs.Prelude.{◌≡◌, ◌≤◌, ◌+◌, ◌-◌, ◌<◌, if◌then◌else◌, length, take, IfOk};
 ghost use Rattle.std.specs.Str.{chars};
 ghost use Rattle.properties_format.specs.Groups.{is_open};
-ghost use Rattle.properties_format.specs.Reading.Valued.{added_by, after_ascii, ascii_count};
+ghost use Rattle.properties_format.specs.Computed.Valued.{added_by, after_ascii, ascii_count};
 ghost use Rattle.properties_text.specs.Encoding.{encoding_of};
 ghost use Rattle.properties_lines.specs.LineSearch.{unit_size};
-ghost use Rattle.properties_editing.specs.BodyValues.{IsBeforeValue, IsBetweenIn, IsFrontSize};
+ghost use Rattle.properties_editing.specs.Private.BodyValues.{IsBeforeValue, IsBetweenIn, IsFrontSize};
 
 use crate::edit::groups::GroupReader;
 use properties_lines::join::{addition, is_open, without_open_backslash};

@@ -1,11 +1,11 @@
 // Iterates over the groups of a body that is held in memory: logical lines, with the spans of their bytes.
 
 ghost use Rattle.std.specs.Prelude.{◌≡◌, ℕ, List, false, IfOk};
-ghost use Rattle.properties_lines.specs.HeldLines.{IsInBody};
-ghost use Rattle.properties_editing.specs.BodyLines.{IsEndingOf};
+ghost use Rattle.properties_lines.specs.Private.HeldLines.{IsInBody};
+ghost use Rattle.properties_editing.specs.Private.BodyLines.{IsEndingOf};
 ghost use Rattle.properties_text.specs.Encoding.{encoding_of};
 ghost use Rattle.properties_lines.specs.LineSearch.{unit_size};
-ghost use Rattle.properties_editing.specs.BodyGroups.{IsWithin, FindsLine, GivesGroup, JoinsGroup, IsFirstGroup, text_of, IsTextHeld};
+ghost use Rattle.properties_editing.specs.Private.BodyGroups.{IsWithin, FindsLine, GivesGroup, JoinsGroup, IsFirstGroup, text_of, IsTextHeld};
 
 use properties_items::line::LineEnding;
 use properties_lines::logical::LogicalLine;

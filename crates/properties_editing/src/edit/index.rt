@@ -11,12 +11,12 @@ ghost use Rattle.properties_format.specs.Encoding.{begins_like_bom};
 ghost use Rattle.properties_format.specs.Text.{line_ending_text};
 ghost use Rattle.std.specs.Str.{chars};
 ghost use Rattle.properties_format.specs.Edited.{is_editable};
-ghost use Rattle.properties_format.specs.Reading.Body.{held_groups_of};
-ghost use Rattle.properties_format.specs.Reading.Edited.{AreSound};
+ghost use Rattle.properties_format.specs.Computed.Body.{held_groups_of};
+ghost use Rattle.properties_format.specs.Computed.Edited.{AreSound};
 ghost use Rattle.properties_text.specs.Encoding.{encoding_of};
-ghost use Rattle.properties_editing.specs.BodyIndex.{AddsGroup, CutsOut, IsCutOut, IsInSource, PutsPair, PutsValue, RemovesPairs, ending_size, AddsKey, AddsValue, AppendsPair, FollowsPair, GrowsIndex, GuardsFront, IsIndex, KeepsNothing, KeepsPair, ParsesIndex, PutsFirst, all_shifted, found_span, last_live, lengthened_span, moved_span, moved_to, opened_closing, places_of, shifted, span_at, stored_at};
+ghost use Rattle.properties_editing.specs.Private.BodyIndex.{AddsGroup, CutsOut, IsCutOut, IsInSource, PutsPair, PutsValue, RemovesPairs, ending_size, AddsKey, AddsValue, AppendsPair, FollowsPair, GrowsIndex, GuardsFront, IsIndex, KeepsNothing, KeepsPair, ParsesIndex, PutsFirst, all_shifted, found_span, last_live, lengthened_span, moved_span, moved_to, opened_closing, places_of, shifted, span_at, stored_at};
 ghost use Rattle.properties_items.specs.FoundItems.{pair_characters};
-ghost use Rattle.properties_editing.specs.BodyKeys.{IsPlaceOf};
+ghost use Rattle.properties_editing.specs.Private.BodyKeys.{IsPlaceOf};
 
 use crate::edit::groups::{Group, GroupReader};
 use crate::edit::keys::pair_of;

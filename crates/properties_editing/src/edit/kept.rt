@@ -4,7 +4,7 @@ ghost use Rattle.std.specs.Prelude.{◌≡◌};
 ghost use Rattle.std.specs.Str.{chars};
 ghost use Rattle.properties_text.specs.Encoding.{encoding_of};
 ghost use Rattle.properties_lines.specs.LineSearch.{unit_size};
-ghost use Rattle.properties_editing.specs.BodyKeys.{FindsOthers};
+ghost use Rattle.properties_editing.specs.Private.BodyKeys.{FindsOthers};
 
 use crate::edit::groups::GroupReader;
 use crate::edit::keys::has_key;

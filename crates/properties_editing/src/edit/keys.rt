@@ -1,9 +1,9 @@
 // The keys and pairs of logical lines.
 
 ghost use Rattle.std.specs.Str.{chars};
-ghost use Rattle.properties_editing.specs.BodyKeys.{FindsItem, ChecksKeyOfLine};
-ghost use Rattle.properties_editing.specs.BodyIndex.{FindsPairOfLine};
-ghost use Rattle.properties_editing.specs.BodyValues.{ChecksValueOfLine};
+ghost use Rattle.properties_editing.specs.Private.BodyKeys.{FindsItem, ChecksKeyOfLine};
+ghost use Rattle.properties_editing.specs.Private.BodyIndex.{FindsPairOfLine};
+ghost use Rattle.properties_editing.specs.Private.BodyValues.{ChecksValueOfLine};
 
 use properties_items::error::{PropertiesError, make};
 use properties_items::found::{

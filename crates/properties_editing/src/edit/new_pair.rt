@@ -4,21 +4,21 @@ ghost use Rattle.std.specs.Prelude.{◌≡◌, ◌++◌, ◌≤◌, ◌&&◌, []
 ghost use Rattle.std.specs.Option.{option_map};
 ghost use Rattle.std.specs.Str.{chars};
 ghost use Rattle.properties_format.specs.Text as text;
-ghost use Rattle.properties_format.specs.Reading.Lines.{ends_in_cr};
+ghost use Rattle.properties_format.specs.Computed.Lines.{ends_in_cr};
 ghost use Rattle.properties_format.specs.Text.{is_blank, is_blanks, line_ending_text};
 ghost use Rattle.properties_format.specs.Encoding.{output_encoding};
 ghost use Rattle.properties_format.specs.Writing.{is_empty};
 ghost use Rattle.properties_format.specs.Valued.{new_pair_bytes, separator_after, shortened_after};
-ghost use Rattle.properties_format.specs.Reading.Body.{held_groups_of};
-ghost use Rattle.properties_format.specs.Reading.Settings.{is_good_separator};
-ghost use Rattle.properties_format.specs.Reading.Valued.{last_between, separator_by};
+ghost use Rattle.properties_format.specs.Computed.Body.{held_groups_of};
+ghost use Rattle.properties_format.specs.Computed.Settings.{is_good_separator};
+ghost use Rattle.properties_format.specs.Computed.Valued.{last_between, separator_by};
 ghost use Rattle.properties_text.specs.Encoding.{encoding_of};
 ghost use Rattle.properties_text.specs.Printing.{AppendsOnOk};
 ghost use Rattle.properties_lines.specs.LineSearch.{unit_size};
 ghost use Rattle.properties_items.specs.Texts.{characters};
 ghost use Rattle.properties_items.specs.LineEndings.{ending_of};
-ghost use Rattle.properties_editing.specs.BodyKeys.{closing_bytes};
-ghost use Rattle.properties_editing.specs.BodyValues.{FindsLastPair, IsEndingWithin, IsLastEnding, IsGroupAlone, IsLayoutAfter, unended_pair};
+ghost use Rattle.properties_editing.specs.Private.BodyKeys.{closing_bytes};
+ghost use Rattle.properties_editing.specs.Private.BodyValues.{FindsLastPair, IsEndingWithin, IsLastEnding, IsGroupAlone, IsLayoutAfter, unended_pair};
 
 use crate::edit::front::between;
 use crate::edit::groups::{GroupReader, first_group};

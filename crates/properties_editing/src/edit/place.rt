@@ -3,12 +3,12 @@
 ghost use Rattle.std.specs.Prelude.{◌≡◌};
 ghost use Rattle.std.specs.Str.{chars};
 ghost use Rattle.properties_format.specs.Text.{line_ending_text};
-ghost use Rattle.properties_format.specs.Reading.Lines.{ends_in_cr};
-ghost use Rattle.properties_format.specs.Reading.Parts.{safe_ending};
+ghost use Rattle.properties_format.specs.Computed.Lines.{ends_in_cr};
+ghost use Rattle.properties_format.specs.Computed.Parts.{safe_ending};
 ghost use Rattle.properties_text.specs.Encoding.{encoding_of};
 ghost use Rattle.properties_lines.specs.LineSearch.{unit_size};
 ghost use Rattle.properties_items.specs.LineEndings.{ending_of};
-ghost use Rattle.properties_editing.specs.BodyKeys.{FindsKey, closing_of, found_after, closing_bytes};
+ghost use Rattle.properties_editing.specs.Private.BodyKeys.{FindsKey, closing_of, found_after, closing_bytes};
 
 use crate::edit::groups::{Group, GroupReader};
 use crate::edit::keys::has_key;

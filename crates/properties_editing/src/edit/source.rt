@@ -1,7 +1,7 @@
 // The part of a source that is edited: the body after the byte order mark, in the encoding in force.
 
 ghost use Rattle.properties_text.specs.Encoding.{encoding_of};
-ghost use Rattle.properties_editing.specs.Sources.{IsInForce, OpensSource};
+ghost use Rattle.properties_editing.specs.Private.Sources.{IsInForce, OpensSource};
 
 use properties_items::error::{PropertiesError, make};
 use properties_text::encoding::Encoding;

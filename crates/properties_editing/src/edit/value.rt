@@ -9,7 +9,7 @@ ghost use Rattle.properties_format.specs.Valued.{value_text};
 ghost use Rattle.properties_text.specs.Encoding.{encoding_of, output_of};
 ghost use Rattle.properties_text.specs.Printing.{AppendsOnOk};
 ghost use Rattle.properties_lines.specs.LineSearch.{unit_size};
-ghost use Rattle.properties_editing.specs.BodyValues.{GivesValue, IsPairAlone, Revalues};
+ghost use Rattle.properties_editing.specs.Private.BodyValues.{GivesValue, IsPairAlone, Revalues};
 
 use crate::edit::front::{between, front_size};
 use crate::edit::groups::first_group;

@@ -6,17 +6,17 @@ use Rattle.std.proofs.lemmas.Bool.{cases_Bool}
 use Rattle.properties_format.specs.Text.{line_feed, carriage_return, LineEnding, lf, cr, crlf, line_ending_text}
 use Rattle.properties_format.specs.Encoding.{Encoding}
 use Rattle.properties_format.specs.Lines.{Ended, Lines, end, Line, put_together, BeginsWithNoLoneLf, AreLines}
-use Rattle.properties_format.specs.Reading.Lines.{lines_of}
+use Rattle.properties_format.specs.Computed.Lines.{lines_of}
 use Rattle.properties_format.specs.Groups.{IsWhole, AreWhole, IsUnfinished, last_group}
-use Rattle.properties_format.specs.Reading.Groups.{closes, groups_after, groups_of}
+use Rattle.properties_format.specs.Computed.Groups.{closes, groups_after, groups_of}
 use Rattle.properties_format.specs.Body.{HeldLine, AreHeld, as_lines, as_groups, held_in, AreGroupsOf, ending_bytes, group_bytes, groups_bytes, last_ending}
 use Rattle.properties_format.specs.Edited.{is_editable}
-use Rattle.properties_format.specs.Reading.Body.{held_of, held_lines_of, held_groups_after, held_groups_of}
+use Rattle.properties_format.specs.Computed.Body.{held_of, held_lines_of, held_groups_after, held_groups_of}
 use Rattle.properties_format.proofs.Lines.Only.{lines_of-together}
 use Rattle.properties_format.proofs.Groups.Steps.{groups_after-close, groups_after-leave}
 use Rattle.properties_format.proofs.Groups.Meets.{groups_of-meets}
 use Rattle.properties_format.proofs.Groups.Only.{groups_of-only}
-use Rattle.properties_format.specs.Reading.Cut.{cut_of, decoded_line}
+use Rattle.properties_format.specs.Computed.Cut.{cut_of, decoded_line}
 use Rattle.properties_format.proofs.Cut.Meets.{cut_of-meets}
 use Rattle.properties_format.proofs.Cut.Only.{cut_of-only}
 use Rattle.properties_format.proofs.Cut.Byline.{decoded_line-meets, decoded_line-only}

@@ -3,13 +3,13 @@ use Rattle.std.proofs.Common.{◌≡◌, ℕ, ◌+◌, List, [], ◌∷◌, ◌+
 use Rattle.std.proofs.lemmas.Bool.{cases_Bool}
 use Rattle.properties_format.specs.Encoding.{Encoding, byte_order_mark}
 use Rattle.properties_format.specs.Lines.{Ended, end, Line, numbered, line_ends}
-use Rattle.properties_format.specs.Reading.Cut.{cut_of, decoded_line, decoded_ended, decoded_lines}
+use Rattle.properties_format.specs.Computed.Cut.{cut_of, decoded_line, decoded_ended, decoded_lines}
 use Rattle.properties_format.specs.Groups.{joined_after, joined, first_number}
-use Rattle.properties_format.specs.Reading.Groups.{closes, groups_after, groups_of}
+use Rattle.properties_format.specs.Computed.Groups.{closes, groups_after, groups_of}
 use Rattle.properties_format.specs.Entries.{Entry}
-use Rattle.properties_format.specs.Reading.Items.{outcome_of, followed, entries_of, items_of_lines, items_of}
+use Rattle.properties_format.specs.Computed.Items.{outcome_of, followed, entries_of, items_of_lines, items_of}
 use Rattle.properties_format.specs.Body.{HeldLine, as_lines}
-use Rattle.properties_format.specs.Reading.Body.{held_of, held_lines_of, held_groups_after, held_groups_of, entries_in}
+use Rattle.properties_format.specs.Computed.Body.{held_of, held_lines_of, held_groups_after, held_groups_of, entries_in}
 use Rattle.properties_format.proofs.Lines.Plain.{one-more}
 use Rattle.properties_format.proofs.Groups.Steps.{groups_after-close, groups_after-leave}
 use Rattle.properties_format.proofs.Cut.Byline.{decoded_lines-cut}

@@ -5,11 +5,11 @@ use Rattle.properties_format.specs.Lines.{end}
 use Rattle.properties_format.specs.Groups.{joined}
 use Rattle.properties_format.specs.Entries.{Content, Entry, AreItems}
 use Rattle.properties_format.specs.Items.{Outcome, ignored, given, broken}
-use Rattle.properties_format.specs.Reading.Items.{outcome_of, followed, items_of}
+use Rattle.properties_format.specs.Computed.Items.{outcome_of, followed, items_of}
 use Rattle.properties_format.specs.Body.{HeldLine, as_lines, as_groups, AreGroupsOf}
 use Rattle.properties_format.specs.Edited.{is_editable}
 use Rattle.properties_format.specs.Changed.{contents}
-use Rattle.properties_format.specs.Reading.Body.{held_groups_of, entries_in}
+use Rattle.properties_format.specs.Computed.Body.{held_groups_of, entries_in}
 use Rattle.properties_format.proofs.Edited.Outcomes.{outcome_before, outcomes_of, outcomes_in, givens}
 use Rattle.properties_format.proofs.Body.Groups.{held_groups_of-meets, held_groups_of-only, held-groups, held-body}
 use Rattle.properties_format.proofs.Edited.Contents.{told-groups}

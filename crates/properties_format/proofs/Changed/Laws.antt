@@ -3,9 +3,9 @@ use Rattle.std.proofs.Common.{◌≡◌, ℕ, true, List, ◌++◌, ap, sym, ◌
 use Rattle.properties_format.specs.Text.{scalar}
 use Rattle.properties_format.specs.Encoding.{Encoding, InForce, byte_order_mark}
 use Rattle.properties_format.specs.Lines.{end}
-use Rattle.properties_format.specs.Reading.Lines.{ends_in_cr}
+use Rattle.properties_format.specs.Computed.Lines.{ends_in_cr}
 use Rattle.properties_format.specs.Entries.{Content, AreItems}
-use Rattle.properties_format.specs.Reading.Items.{items_of}
+use Rattle.properties_format.specs.Computed.Items.{items_of}
 use Rattle.properties_format.specs.Body.{HeldLine, as_groups, AreGroupsOf, groups_bytes}
 use Rattle.properties_format.specs.Edited.{bom_of, IsKeySet, guarding_lf, IsKeyRemoved}
 use Rattle.properties_format.specs.Edited.{is_editable}

@@ -5,7 +5,7 @@ use Rattle.std.proofs.lemmas.Bool.{cases_Bool, cond-true, cond-false, false_from
 use Rattle.std.proofs.lemmas.Slice.Eq.{bytes_eq-Decides}
 use Rattle.properties_format.specs.Entries.{Content, comment, pair, Entry, item, malformed, read_fault}
 use Rattle.properties_format.specs.Maps.{IsValue, IsMap}
-use Rattle.properties_format.specs.Reading.Maps.{first_value, value_in}
+use Rattle.properties_format.specs.Computed.Maps.{first_value, value_in}
 use Rattle.properties_format.specs.Edits.{Edit, put, remove, set_value}
 use Rattle.properties_format.specs.Changed.{contents, HoldNoPair, IsLastChanged, IsSetIn, IsRemovedIn, IsEditedIn, AreEditedIn, map_edited}
 use Rattle.properties_format.specs.Changed.{map_after}

@@ -7,9 +7,9 @@ use Rattle.properties_format.specs.Lines.{Ended, Lines, put_together, HoldsNoLin
 use Rattle.properties_format.specs.Pieces.{characters}
 use Rattle.properties_format.specs.Encoding.{Encoding, IsAligned, IsDecoded, ascii_bytes, byte_order_mark}
 use Rattle.properties_format.specs.Cut.{HoldsNoLineEndUnit, line_ending_bytes, bytes_together, AreCut, IsCut, IsDecodedLine, AreDecodedLines, IsByline}
-use Rattle.properties_format.specs.Reading.Encoding.{pieces_of, decoded_of}
-use Rattle.properties_format.specs.Reading.Lines.{lines_of}
-use Rattle.properties_format.specs.Reading.Cut.{cut_of, decoded_line, decoded_ended, decoded_lines, byline_of}
+use Rattle.properties_format.specs.Computed.Encoding.{pieces_of, decoded_of}
+use Rattle.properties_format.specs.Computed.Lines.{lines_of}
+use Rattle.properties_format.specs.Computed.Cut.{cut_of, decoded_line, decoded_ended, decoded_lines, byline_of}
 use Rattle.properties_format.proofs.Encodings.Pieces.{pieces_of-meets, pieces_of-only, decoded_of-only}
 use Rattle.properties_format.proofs.Encodings.Characters.{pieces_of-ascii}
 use Rattle.properties_format.proofs.Encodings.Cuts.{characters-cut_ascii, cut-at_ascii}

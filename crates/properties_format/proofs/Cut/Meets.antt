@@ -6,8 +6,8 @@ use Rattle.properties_format.specs.Lines.{Ended, Lines, put_together, HoldsNoLin
 use Rattle.properties_format.specs.Utf16.{low_first, high_first}
 use Rattle.properties_format.specs.Encoding.{Encoding, windows_1252, utf_8, utf_16le, utf_16be, IsAligned, ascii_bytes}
 use Rattle.properties_format.specs.Cut.{units_of_two, HoldsNoLineEndUnit, line_ending_bytes, bytes_together, AreCut, IsCut}
-use Rattle.properties_format.specs.Reading.Lines.{end_before, cr_before, lines_of}
-use Rattle.properties_format.specs.Reading.Cut.{two_before, unit_before, cut_of_two, cut_of}
+use Rattle.properties_format.specs.Computed.Lines.{end_before, cr_before, lines_of}
+use Rattle.properties_format.specs.Computed.Cut.{two_before, unit_before, cut_of_two, cut_of}
 use Rattle.properties_format.proofs.Lines.Meets.{lines_of-meets}
 use Rattle.properties_format.proofs.Encodings.PieceEnds.{aligned-nil}
 use Rattle.properties_format.proofs.Cut.Units.{no_end_unit-nil}

@@ -5,7 +5,7 @@ use Rattle.properties_format.specs.Lines.{Ended, Lines, BeginsWithNoLoneLf}
 use Rattle.properties_format.specs.Utf16.{low_first, high_first}
 use Rattle.properties_format.specs.Encoding.{Encoding, windows_1252, utf_8, utf_16le, utf_16be, IsAligned}
 use Rattle.properties_format.specs.Cut.{HoldsNoLineEndUnit, line_ending_bytes, bytes_together, AreCut, IsCut}
-use Rattle.properties_format.specs.Reading.Cut.{cut_of}
+use Rattle.properties_format.specs.Computed.Cut.{cut_of}
 use Rattle.properties_format.proofs.Lines.Only.{lines_of-plain, lines_of-before}
 use Rattle.properties_format.proofs.Cut.Two.{ReadsEnds, two-plain, two-line}
 

@@ -4,8 +4,8 @@ use Rattle.properties_format.specs.Text.{line_feed, LineEnding, lf, cr, crlf}
 use Rattle.properties_format.specs.Lines.{Ended, Lines, BeginsWithNoLoneLf}
 use Rattle.properties_format.specs.Encoding.{Encoding, IsAligned}
 use Rattle.properties_format.specs.Cut.{units, HoldsNoLineEndUnit, line_ending_bytes, bytes_together}
-use Rattle.properties_format.specs.Reading.Lines.{begins_with_lf}
-use Rattle.properties_format.specs.Reading.Cut.{cut_of}
+use Rattle.properties_format.specs.Computed.Lines.{begins_with_lf}
+use Rattle.properties_format.specs.Computed.Cut.{cut_of}
 use Rattle.properties_format.proofs.Cut.Units.{units-ascii}
 use Rattle.properties_format.proofs.Cut.Only.{cut_of-before}
 use Rattle.properties_format.proofs.Cut.Meets.{cut_of-meets}

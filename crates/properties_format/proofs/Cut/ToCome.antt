@@ -6,8 +6,8 @@ use Rattle.properties_format.specs.Text.{line_feed, is_line_end}
 use Rattle.properties_format.specs.Pieces.{characters}
 use Rattle.properties_format.specs.Encoding.{Encoding, IsAligned, ascii_bytes}
 use Rattle.properties_format.specs.Cut.{units}
-use Rattle.properties_format.specs.Reading.Lines.{begins_with_lf}
-use Rattle.properties_format.specs.Reading.Cut.{decoded_line}
+use Rattle.properties_format.specs.Computed.Lines.{begins_with_lf}
+use Rattle.properties_format.specs.Computed.Cut.{decoded_line}
 use Rattle.properties_format.proofs.Encodings.Characters.{pieces_of-ascii}
 use Rattle.properties_format.proofs.Encodings.Cuts.{characters-cut_ascii, cut-at_ascii}
 use Rattle.properties_format.proofs.Cut.Units.{units-ascii}

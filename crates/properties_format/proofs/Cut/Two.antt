@@ -3,10 +3,10 @@ use Rattle.std.proofs.Common.{◌≡◌, ℕ, ◌%◌, false, List, [], ◌∷�
 use Rattle.std.proofs.lemmas.Bool.{cond-false}
 use Rattle.properties_format.specs.Text.{line_feed, carriage_return, is_line_end, LineEnding, lf, cr, crlf}
 use Rattle.properties_format.specs.Lines.{Ended, Lines, HoldsNoLineEnd, BeginsWithNoLoneLf}
-use Rattle.properties_format.specs.Reading.Lines.{end_before, before}
+use Rattle.properties_format.specs.Computed.Lines.{end_before, before}
 use Rattle.properties_format.specs.Encoding.{Encoding, ascii_bytes}
 use Rattle.properties_format.specs.Cut.{units_of_two, line_ending_bytes}
-use Rattle.properties_format.specs.Reading.Cut.{two_before, unit_before, cut_of_two}
+use Rattle.properties_format.specs.Computed.Cut.{two_before, unit_before, cut_of_two}
 use Rattle.properties_format.proofs.Lines.Only.{cr-before}
 
 -- In this encoding, a CR or an LF is one unit.

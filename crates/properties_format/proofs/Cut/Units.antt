@@ -6,7 +6,7 @@ use Rattle.properties_format.specs.Text.{line_feed, carriage_return, is_line_end
 use Rattle.properties_format.specs.Lines.{HoldsNoLineEnd}
 use Rattle.properties_format.specs.Utf16.{low_first, high_first}
 use Rattle.properties_format.specs.Encoding.{Encoding, windows_1252, utf_8, utf_16le, utf_16be, IsAligned, ascii_bytes}
-use Rattle.properties_format.specs.Reading.Lines.{begins_with_lf}
+use Rattle.properties_format.specs.Computed.Lines.{begins_with_lf}
 use Rattle.properties_format.specs.Cut.{units_of_two, units, HoldsNoLineEndUnit}
 use Rattle.properties_format.proofs.Lines.Plain.{plain-append, plain-left, plain-right}
 

@@ -3,19 +3,19 @@ use Rattle.std.proofs.Common.{◌≡◌, ◌≢◌, ◌<◌, ◌≤◌, ℕ, ◌
 use Rattle.std.specs.Prelude.{◌⊎◌, unwrap_or, if◌then◌else◌}
 use Rattle.std.proofs.lemmas.Bool.{cases_Bool, cond-true, cond-false}
 use Rattle.properties_format.specs.Text.{LineEnding, lf, cr, crlf, carriage_return, line_ending_text}
-use Rattle.properties_format.specs.Reading.Lines.{ends_in_cr}
+use Rattle.properties_format.specs.Computed.Lines.{ends_in_cr}
 use Rattle.properties_format.specs.Encoding.{Encoding}
 use Rattle.properties_format.specs.Lines.{Ended, HoldsNoLineEnd, BeginsWithNoLoneLf, AreLines}
-use Rattle.properties_format.specs.Reading.Cut.{decoded_line}
+use Rattle.properties_format.specs.Computed.Cut.{decoded_line}
 use Rattle.properties_format.specs.Groups.{IsWhole, joined}
 use Rattle.properties_format.specs.Entries.{pair}
 use Rattle.properties_format.specs.Items.{ignored, given, Outcome}
 use Rattle.properties_format.specs.Body.{HeldLine, HasKey, NoneHasKey, AreGroupsOf, as_lines, held_in, group_bytes, groups_bytes, ending_bytes, last_ending}
 use Rattle.properties_format.specs.Edited.{is_editable, is_empty_line, is_left_open}
-use Rattle.properties_format.specs.Reading.Items.{outcome_of}
-use Rattle.properties_format.specs.Reading.Body.{held_of, has_key, is_pair_with, held_groups_of}
-use Rattle.properties_format.specs.Reading.Edited.{KeyPlace, last_place}
-use Rattle.properties_format.specs.Reading.Parts.{unended_bytes}
+use Rattle.properties_format.specs.Computed.Items.{outcome_of}
+use Rattle.properties_format.specs.Computed.Body.{held_of, has_key, is_pair_with, held_groups_of}
+use Rattle.properties_format.specs.Computed.Edited.{KeyPlace, last_place}
+use Rattle.properties_format.specs.Computed.Parts.{unended_bytes}
 use Rattle.properties_format.specs.Valued.{ending_among, separation_by}
 use Rattle.properties_format.proofs.Body.Decoded.{decoded-nil}
 use Rattle.properties_format.proofs.Body.Groups.{IsLastFit, AreFit, held_ended, cut-off, groups-bytes, lines-front, group_bytes-append, groups_bytes-append}

@@ -5,12 +5,12 @@ use Rattle.std.proofs.lemmas.Bool.{cases_Bool, and_parts, and_from, not-true}
 use Rattle.properties_format.specs.Text.{scalar, line_feed, LineEnding, lf, cr, line_ending_text}
 use Rattle.properties_format.specs.Encoding.{Encoding, begins_like_bom}
 use Rattle.properties_format.specs.Lines.{Ended, Lines, end, Line}
-use Rattle.properties_format.specs.Reading.Lines.{lines_of, begins_with_lf, ends_in_cr}
+use Rattle.properties_format.specs.Computed.Lines.{lines_of, begins_with_lf, ends_in_cr}
 use Rattle.properties_format.specs.Groups.{is_comment_line, EndsClosed, AreOpen, IsWhole, joined}
-use Rattle.properties_format.specs.Reading.Groups.{groups_of}
+use Rattle.properties_format.specs.Computed.Groups.{groups_of}
 use Rattle.properties_format.specs.Entries.{Content, comment, pair}
 use Rattle.properties_format.specs.Items.{Outcome, ignored, given, broken}
-use Rattle.properties_format.specs.Reading.Items.{outcome_of}
+use Rattle.properties_format.specs.Computed.Items.{outcome_of}
 use Rattle.properties_format.specs.Writing.{is_empty}
 use Rattle.properties_format.specs.Body.{HeldLine, as_lines, as_groups, ending_bytes, group_bytes, groups_bytes, last_ending, HasKey, NoneHasKey}
 use Rattle.properties_format.specs.Edited.{pair_bytes, IsReplaced, IsAppended, final_group, is_empty_line, is_last_open, is_left_open, added_ending, separation}
@@ -24,7 +24,7 @@ use Rattle.properties_format.proofs.Groups.Meets.{close-whole}
 use Rattle.properties_format.proofs.Groups.Only.{groups_of-before, groups_of-unfinished}
 use Rattle.properties_format.proofs.Groups.Joined.{joined-push}
 use Rattle.properties_format.proofs.Items.Unique.{outcome_of-meets, outcome_of-only}
-use Rattle.properties_format.specs.Reading.Cut.{decoded_line}
+use Rattle.properties_format.specs.Computed.Cut.{decoded_line}
 use Rattle.properties_format.proofs.Body.Decoded.{decoded-nil}
 use Rattle.properties_format.proofs.Edited.Outcomes.{outcome_before, outcomes_of, ended_lines, line_texts_in, line_texts, outcome-empty, outcomes_in, IsFront, outcomes-front}
 use Rattle.properties_format.proofs.Edited.Outcomes.{outcomes-lf, outcomes-nil, outcomes-one}

@@ -6,13 +6,13 @@ use Rattle.properties_format.specs.Encoding.{Encoding, byte_order_mark}
 use Rattle.properties_format.specs.Groups.{joined}
 use Rattle.properties_format.specs.Entries.{comment, pair}
 use Rattle.properties_format.specs.Items.{Outcome, ignored, given, broken}
-use Rattle.properties_format.specs.Reading.Items.{outcome_of}
+use Rattle.properties_format.specs.Computed.Items.{outcome_of}
 use Rattle.properties_format.specs.Body.{HeldLine, as_lines, group_bytes, HasKey, NoneHasKey}
 use Rattle.properties_format.specs.Edited.{IsReplaced, IsAppended, IsKeySet, IsWithout, IsKeyRemoved}
 use Rattle.properties_format.specs.Edited.{bom_of, guarding_lf}
-use Rattle.properties_format.specs.Reading.Body.{held_groups_of, is_pair_with, has_key}
-use Rattle.properties_format.specs.Reading.Edited.{KeyPlace, place_after, last_place, set_at, key_set, without}
-use Rattle.properties_format.specs.Reading.Edited.{key_removed}
+use Rattle.properties_format.specs.Computed.Body.{held_groups_of, is_pair_with, has_key}
+use Rattle.properties_format.specs.Computed.Edited.{KeyPlace, place_after, last_place, set_at, key_set, without}
+use Rattle.properties_format.specs.Computed.Edited.{key_removed}
 use Rattle.properties_format.proofs.Items.Unique.{outcome_of-meets, outcome_of-only}
 use Rattle.properties_format.proofs.Body.Groups.{held_groups_of-meets, held_groups_of-only}
 

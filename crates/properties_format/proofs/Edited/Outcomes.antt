@@ -5,16 +5,16 @@ use Rattle.std.proofs.lemmas.Bool.Decides.{eqb_tells}
 use Rattle.properties_format.specs.Text.{line_feed}
 use Rattle.properties_format.specs.Encoding.{Encoding}
 use Rattle.properties_format.specs.Lines.{Ended, Lines, end, more, Line, numbered, line_ends}
-use Rattle.properties_format.specs.Reading.Lines.{lines_of, ends_in_cr, rest_of_end, lines_to_come}
+use Rattle.properties_format.specs.Computed.Lines.{lines_of, ends_in_cr, rest_of_end, lines_to_come}
 use Rattle.properties_format.specs.Groups.{IsWhole, joined}
-use Rattle.properties_format.specs.Reading.Groups.{groups_of}
+use Rattle.properties_format.specs.Computed.Groups.{groups_of}
 use Rattle.properties_format.specs.Entries.{Content}
 use Rattle.properties_format.specs.Items.{Outcome, ignored, given, broken}
-use Rattle.properties_format.specs.Reading.Items.{outcome_of, split_outcome}
+use Rattle.properties_format.specs.Computed.Items.{outcome_of, split_outcome}
 use Rattle.properties_format.proofs.Lines.Append.{lines_to_come-append}
 use Rattle.properties_format.proofs.Groups.Only.{groups_of-before}
 use Rattle.properties_format.proofs.Split.Unique.{split_of-blank}
-use Rattle.properties_format.specs.Reading.Cut.{decoded_line}
+use Rattle.properties_format.specs.Computed.Cut.{decoded_line}
 use Rattle.properties_format.proofs.Body.Decoded.{decoded-nil}
 
 -- ---- the outcomes of groups

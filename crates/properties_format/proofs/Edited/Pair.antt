@@ -7,11 +7,11 @@ use Rattle.std.proofs.lemmas.List.Elements.{recursion_from_All}
 use Rattle.properties_format.specs.Text.{scalar, line_feed, equals_sign, LineEnding, line_ending_text}
 use Rattle.properties_format.specs.Encoding.{Encoding, windows_1252, utf_8, utf_16le, utf_16be, output_encoding}
 use Rattle.properties_format.specs.Lines.{Lines, HoldsNoLineEnd, Line, end}
-use Rattle.properties_format.specs.Reading.Lines.{lines_of}
+use Rattle.properties_format.specs.Computed.Lines.{lines_of}
 use Rattle.properties_format.specs.Groups.{is_comment_line, IsWhole, joined}
 use Rattle.properties_format.specs.Entries.{pair}
 use Rattle.properties_format.specs.Items.{given}
-use Rattle.properties_format.specs.Reading.Items.{outcome_of}
+use Rattle.properties_format.specs.Computed.Items.{outcome_of}
 use Rattle.properties_format.specs.Settings.{default_settings}
 use Rattle.properties_format.specs.Printing.{in_key_or_value, printed_characters, encoded_text, printed_key, printed_text}
 use Rattle.properties_format.specs.Writing.{pair_call}
@@ -26,7 +26,7 @@ use Rattle.properties_format.proofs.ReadBack.Pairs.{IsReadAs, key-printed, pair-
 use Rattle.properties_format.proofs.ReadBack.Lines.{wrote_text, joined-alone}
 use Rattle.properties_format.proofs.ReadBack.Bytes.{AreWritable, text-decoded, wrote_text-writable}
 use Rattle.properties_format.proofs.ReadBack.Law.{default_settings-good}
-use Rattle.properties_format.specs.Reading.Cut.{decoded_line}
+use Rattle.properties_format.specs.Computed.Cut.{decoded_line}
 use Rattle.properties_format.proofs.Body.Decoded.{plain-bytes}
 use Rattle.properties_format.proofs.Edited.Outcomes.{outcome_before, ended_lines, line_texts_in, line_texts, outcomes_in, IsFront, outcomes-front, outcomes-one}
 

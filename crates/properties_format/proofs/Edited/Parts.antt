@@ -5,7 +5,7 @@ use Rattle.properties_format.specs.Encoding.{Encoding}
 use Rattle.properties_format.specs.Groups.{IsWhole}
 use Rattle.properties_format.specs.Body.{HeldLine, as_lines, ending_bytes, group_bytes}
 use Rattle.properties_format.specs.Edited.{pair_bytes}
-use Rattle.properties_format.specs.Reading.Parts.{unended_bytes}
+use Rattle.properties_format.specs.Computed.Parts.{unended_bytes}
 use Rattle.properties_format.proofs.Body.Decoded.{decoded-nil}
 use Rattle.properties_format.proofs.Edited.ByteOrderMarks.{pair-ascii}
 use Rattle.properties_format.proofs.InTurn.Lines.{AreLinesBy}

@@ -6,15 +6,15 @@ use Rattle.properties_format.specs.Encoding.{Encoding}
 use Rattle.properties_format.specs.Groups.{IsWhole, joined}
 use Rattle.properties_format.specs.Entries.{pair}
 use Rattle.properties_format.specs.Items.{given, IsOutcome}
-use Rattle.properties_format.specs.Reading.Items.{outcome_of}
-use Rattle.properties_format.specs.Reading.Cut.{decoded_line}
+use Rattle.properties_format.specs.Computed.Items.{outcome_of}
+use Rattle.properties_format.specs.Computed.Cut.{decoded_line}
 use Rattle.properties_format.specs.Writing.{is_empty}
 use Rattle.properties_format.specs.Body.{HeldLine, as_lines, HasKey, AreGroupsOf, group_bytes, groups_bytes, ending_bytes, last_ending}
 use Rattle.properties_format.specs.Edited.{is_editable, is_empty_line, pair_bytes}
 use Rattle.properties_format.specs.Valued.{HasPair}
-use Rattle.properties_format.specs.Reading.Body.{held_groups_of}
-use Rattle.properties_format.specs.Reading.Edited.{KeyPlace, set_at}
-use Rattle.properties_format.specs.Reading.Parts.{unended_bytes}
+use Rattle.properties_format.specs.Computed.Body.{held_groups_of}
+use Rattle.properties_format.specs.Computed.Edited.{KeyPlace, set_at}
+use Rattle.properties_format.specs.Computed.Parts.{unended_bytes}
 use Rattle.properties_format.proofs.Items.Unique.{outcome_of-meets}
 use Rattle.properties_format.proofs.Body.Groups.{held_groups_of-meets, held_groups_of-only, groups_bytes-append}
 use Rattle.properties_format.proofs.Edited.Made as made

@@ -8,13 +8,13 @@ use Rattle.properties_format.specs.Entries.{Content, Entry, item, malformed, rea
 use Rattle.properties_format.specs.Items.{Outcome, ignored, given, broken}
 use Rattle.properties_format.specs.Groups.{joined}
 use Rattle.properties_format.specs.Body.{HeldLine, as_lines}
-use Rattle.properties_format.specs.Reading.Items.{outcome_of, followed, items_of}
-use Rattle.properties_format.specs.Reading.Body.{held_groups_of, entries_in}
+use Rattle.properties_format.specs.Computed.Items.{outcome_of, followed, items_of}
+use Rattle.properties_format.specs.Computed.Body.{held_groups_of, entries_in}
 use Rattle.properties_format.specs.Edited.{IsKeySet, IsKeyRemoved}
 use Rattle.properties_format.specs.Edited.{EditResult, edited, unsupported, unreadable, is_editable, IsFirstMalformed}
 use Rattle.properties_format.specs.Edited.{IsEditResult, IsSetKeyResult, IsRemoveKeyResult}
-use Rattle.properties_format.specs.Reading.Edited.{key_set, key_removed, result_by, result_of}
-use Rattle.properties_format.specs.Reading.Edited.{set_key_result, remove_key_result}
+use Rattle.properties_format.specs.Computed.Edited.{key_set, key_removed, result_by, result_of}
+use Rattle.properties_format.specs.Computed.Edited.{set_key_result, remove_key_result}
 use Rattle.properties_format.proofs.Items.Unique.{items_of-meets, items_of-only}
 use Rattle.properties_format.proofs.Body.Numbers.{items_of-groups}
 use Rattle.properties_format.proofs.Edited.Made.{key_set-meets, key_set-only, key_removed-meets, key_removed-only}

@@ -5,17 +5,17 @@ use Rattle.std.proofs.lemmas.Bool.{cases_Bool, cond-false}
 use Rattle.properties_format.specs.Text.{LineEnding, cr}
 use Rattle.properties_format.specs.Encoding.{Encoding, IsAligned}
 use Rattle.properties_format.specs.Lines.{Lines}
-use Rattle.properties_format.specs.Reading.Lines.{begins_with_lf}
+use Rattle.properties_format.specs.Computed.Lines.{begins_with_lf}
 use Rattle.properties_format.specs.Cut.{units, HoldsNoLineEndUnit, line_ending_bytes}
-use Rattle.properties_format.specs.Reading.Cut.{decoded_line}
+use Rattle.properties_format.specs.Computed.Cut.{decoded_line}
 use Rattle.properties_format.specs.Groups.{is_open, is_comment_line, joined}
 use Rattle.properties_format.specs.Items.{Outcome, ignored, given, broken}
-use Rattle.properties_format.specs.Reading.Items.{outcome_of, followed}
+use Rattle.properties_format.specs.Computed.Items.{outcome_of, followed}
 use Rattle.properties_format.specs.Entries.{Entry}
 use Rattle.properties_format.specs.Body.{HeldLine, HasKey, group_bytes, as_lines, held_in, last_ending}
 use Rattle.properties_format.specs.Edited.{final_group, is_last_open, is_left_open, is_empty_line}
-use Rattle.properties_format.specs.Reading.Body.{held_of, held_lines_of, has_key, entries_in}
-use Rattle.properties_format.specs.Reading.Edited.{KeyPlace, place_after, last_place, without, IsSound, AreSound, result_by}
+use Rattle.properties_format.specs.Computed.Body.{held_of, held_lines_of, has_key, entries_in}
+use Rattle.properties_format.specs.Computed.Edited.{KeyPlace, place_after, last_place, without, IsSound, AreSound, result_by}
 use Rattle.properties_format.proofs.Cut.Steps.{cut_of-line}
 use Rattle.properties_format.proofs.Cut.Only.{cut_of-plain}
 use Rattle.properties_format.proofs.Edited.Made.{last_place-some}

@@ -5,17 +5,17 @@ use Rattle.std.proofs.lemmas.Bool.{cond-true}
 use Rattle.std.proofs.lemmas.List.{append_cancel_right}
 use Rattle.properties_format.specs.Text.{scalar, line_feed, lf, cr, line_ending_text}
 use Rattle.properties_format.specs.Encoding.{Encoding, InForce, byte_order_mark}
-use Rattle.properties_format.specs.Reading.Lines.{ends_in_cr}
-use Rattle.properties_format.specs.Reading.Cut.{decoded_line}
+use Rattle.properties_format.specs.Computed.Lines.{ends_in_cr}
+use Rattle.properties_format.specs.Computed.Cut.{decoded_line}
 use Rattle.properties_format.specs.Groups.{IsWhole, joined}
 use Rattle.properties_format.specs.Entries.{pair}
 use Rattle.properties_format.specs.Items.{given, IsOutcome}
 use Rattle.properties_format.specs.Writing.{is_empty}
 use Rattle.properties_format.specs.Body.{HeldLine, HasKey, NoneHasKey, as_lines, ending_bytes, groups_bytes, last_ending}
 use Rattle.properties_format.specs.Edited.{bom_of, final_group, is_editable, pair_bytes, separation}
-use Rattle.properties_format.specs.Reading.Body.{held_groups_of, is_pair_with}
-use Rattle.properties_format.specs.Reading.Edited.{KeyPlace, key_set, key_set_in, last_place, set_at}
-use Rattle.properties_format.specs.Reading.Items.{outcome_of}
+use Rattle.properties_format.specs.Computed.Body.{held_groups_of, is_pair_with}
+use Rattle.properties_format.specs.Computed.Edited.{KeyPlace, key_set, key_set_in, last_place, set_at}
+use Rattle.properties_format.specs.Computed.Items.{outcome_of}
 use Rattle.properties_format.proofs.Body.Groups.{held_groups_of-meets, held-body}
 use Rattle.properties_format.proofs.Edited.AppendedPair.{appended_groups, appended-bytes, appended-held, line}
 use Rattle.properties_format.proofs.Edited.ByteOrderMarks.{key_set-in_force, source-whole}

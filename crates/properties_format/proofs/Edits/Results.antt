@@ -3,7 +3,7 @@ use Rattle.std.proofs.Common.{◌≡◌, ℕ, true, List, [], ◌∷◌, refl, a
 use Rattle.properties_format.specs.Encoding.{Encoding, InForce, byte_order_mark}
 use Rattle.properties_format.specs.Edited.{EditResult, is_editable}
 use Rattle.properties_format.specs.Edits.{Edit, put, remove, set_value, IsEdited, AreEdited, IsEditAllResult}
-use Rattle.properties_format.specs.Reading.Edits.{edit_made, edits_made, edit_all_result}
+use Rattle.properties_format.specs.Computed.Edits.{edit_made, edits_made, edit_all_result}
 use Rattle.properties_format.proofs.Edited.Made.{key_set-meets, key_set-only, key_removed-meets, key_removed-only}
 use Rattle.properties_format.proofs.Edited.Results.{result_of-meets, result_of-only}
 use Rattle.properties_format.proofs.Edited.ByteOrderMarks.{key_set-in_force, key_removed-in_force}

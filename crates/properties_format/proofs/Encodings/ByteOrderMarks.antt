@@ -4,8 +4,8 @@ use Rattle.std.proofs.lemmas.List.{drop-append-le}
 use Rattle.std.proofs.lemmas.Bool.{cases_Bool, or_parts, and_parts, and_left, or_from}
 use Rattle.properties_format.specs.Pieces.{characters}
 use Rattle.properties_format.specs.Encoding.{Encoding, utf_8, utf_16le, utf_16be, InForce, byte_order_mark, begins_with, begins_like_bom, utf_8_bom, utf_16be_bom, utf_16le_bom}
-use Rattle.properties_format.specs.Reading.Encoding.{pieces_of, decoded_of}
-use Rattle.properties_format.specs.Reading.Waiting.{begins_longer, awaits_bom}
+use Rattle.properties_format.specs.Computed.Encoding.{pieces_of, decoded_of}
+use Rattle.properties_format.specs.Computed.Waiting.{begins_longer, awaits_bom}
 
 -- an encoding in force and its body, followed by more bytes
 abbrev pub followed : InForce → List ℕ → InForce

@@ -14,7 +14,7 @@ use Rattle.properties_format.specs.Utf8.{IsUtf8Piece, whole, stray, broken}
 use Rattle.properties_format.specs.Surrogates.{is_high, is_low, pair_character}
 use Rattle.properties_format.specs.Utf16.{low_first, high_first, IsUtf16Piece, pair, plain, low_alone, high_alone, high_last, byte_last, both_last}
 use Rattle.properties_format.specs.Encoding.{Encoding, windows_1252, utf_8, utf_16le, utf_16be, output_encoding, one_byte, encoded, IsPiece, IsPieces, ascii_bytes}
-use Rattle.properties_format.specs.Reading.Encoding.{pieces_of}
+use Rattle.properties_format.specs.Computed.Encoding.{pieces_of}
 use Rattle.properties_format.proofs.Encodings.Windows1252.{windows_1252_character-byte, windows_1252-scalar, windows_1252-ascii, windows_1252_character-ascii}
 use Rattle.properties_format.proofs.Encodings.Utf8Characters.{encode-one, encode-is_sequence}
 use Rattle.properties_format.proofs.Encodings.Utf8Sequences.{sequence-scalar, sequence-ascii}

@@ -2,7 +2,7 @@
 use Rattle.std.proofs.Common.{◌≡◌, ℕ, ◌+◌, ◌<◌, List, [], ◌∷◌, ◌++◌, length, refl, sym, ap, ap₂, ◌∙◌, subst, arith, append_assoc, append-nil, length-append}
 use Rattle.properties_format.specs.Pieces.{Piece, piece, characters}
 use Rattle.properties_format.specs.Encoding.{Encoding, IsPiece, IsPieces, IsAligned, ascii_bytes}
-use Rattle.properties_format.specs.Reading.Encoding.{pieces_of}
+use Rattle.properties_format.specs.Computed.Encoding.{pieces_of}
 use Rattle.properties_format.proofs.Encodings.Pieces.{piece-length, pieces_of-meets, pieces_of-only}
 use Rattle.properties_format.proofs.Encodings.Characters.{pieces_of-ascii, piece-ascii}
 use Rattle.properties_format.proofs.Encodings.PieceEnds.{piece-more, piece-less, piece-aligned, piece-anew, aligned-nil, aligned-append, aligned-back, BeginsAnew, ascii-anew}

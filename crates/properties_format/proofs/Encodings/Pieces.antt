@@ -4,7 +4,7 @@ use Rattle.std.proofs.Math.Seq.{drop-append_seam}
 use Rattle.properties_format.specs.Pieces.{Piece, characters}
 use Rattle.properties_format.specs.Utf16.{low_first, high_first}
 use Rattle.properties_format.specs.Encoding.{Encoding, windows_1252, utf_8, utf_16le, utf_16be, IsPiece, IsPieces, IsDecoded, byte_order_mark}
-use Rattle.properties_format.specs.Reading.Encoding.{first_piece, pieces_within, pieces_of, decoded_of}
+use Rattle.properties_format.specs.Computed.Encoding.{first_piece, pieces_within, pieces_of, decoded_of}
 use Rattle.properties_format.proofs.Encodings.FirstPieces.{Meets, IsRead}
 use Rattle.properties_format.proofs.Encodings.Utf8Pieces.{utf_8-meets, utf_8-read}
 use Rattle.properties_format.proofs.Encodings.Utf16.{utf_16-meets, utf_16-read}

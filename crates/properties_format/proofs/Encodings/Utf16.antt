@@ -5,7 +5,7 @@ use Rattle.properties_format.specs.Text.{replacement}
 use Rattle.properties_format.specs.Pieces.{Piece, piece}
 use Rattle.properties_format.specs.Surrogates.{is_high, is_low, pair_character}
 use Rattle.properties_format.specs.Utf16.{IsUtf16Piece, pair, plain, low_alone, high_alone, high_last, byte_last, both_last}
-use Rattle.properties_format.specs.Reading.Utf16.{high_piece, first_utf_16_piece}
+use Rattle.properties_format.specs.Computed.Utf16.{high_piece, first_utf_16_piece}
 use Rattle.properties_format.proofs.Encodings.FirstPieces.{Meets, IsRead}
 
 -- A low surrogate isn't a high one.

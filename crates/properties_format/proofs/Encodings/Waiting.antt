@@ -5,12 +5,12 @@ use Rattle.std.proofs.lemmas.Bool.{cases_Bool, cond-false}
 use Rattle.properties_format.specs.Pieces.{Piece, characters}
 use Rattle.properties_format.specs.Surrogates.{is_high}
 use Rattle.properties_format.specs.Utf8.{Range, well_formed_rows}
-use Rattle.properties_format.specs.Reading.Utf8.{is_in, ranges_after, fitting, utf_8_piece, utf_8_piece_by}
+use Rattle.properties_format.specs.Computed.Utf8.{is_in, ranges_after, fitting, utf_8_piece, utf_8_piece_by}
 use Rattle.properties_format.specs.Utf16.{low_first, high_first}
-use Rattle.properties_format.specs.Reading.Utf16.{high_piece, first_utf_16_piece}
+use Rattle.properties_format.specs.Computed.Utf16.{high_piece, first_utf_16_piece}
 use Rattle.properties_format.specs.Encoding.{Encoding, windows_1252, utf_8, utf_16le, utf_16be}
-use Rattle.properties_format.specs.Reading.Encoding.{first_piece, pieces_of}
-use Rattle.properties_format.specs.Reading.Waiting.{fits_short, awaits_byte, awaits_unit, awaits_more}
+use Rattle.properties_format.specs.Computed.Encoding.{first_piece, pieces_of}
+use Rattle.properties_format.specs.Computed.Waiting.{fits_short, awaits_byte, awaits_unit, awaits_more}
 use Rattle.properties_format.proofs.Encodings.Pieces.{first-meets, pieces_of-piece}
 
 -- If bytes don't wait, the bytes after them don't change which ones fit the ranges.

@@ -13,7 +13,7 @@ use Rattle.properties_format.specs.Text.{scalar}
 use Rattle.properties_format.specs.Pieces.{characters}
 use Rattle.properties_format.specs.Utf8.{AreSequences, IsWellFormedText, sequence_character}
 use Rattle.properties_format.specs.Encoding.{windows_1252, utf_8}
-use Rattle.properties_format.specs.Reading.Encoding.{pieces_of}
+use Rattle.properties_format.specs.Computed.Encoding.{pieces_of}
 use Rattle.properties_format.proofs.Encodings.Utf8Sequences.{sequence-scalar}
 use Rattle.properties_format.proofs.Encodings.Utf8Inverse.{encode-sequence}
 use Rattle.properties_format.proofs.Encodings.Utf8Characters.{encode-is_sequence}

@@ -2,7 +2,7 @@
 use Rattle.std.proofs.Common.{◌≡◌, ℕ, ◌==◌, ◌<◌, length, true, false, List, [], ◌∷◌, ◌++◌, map, None, refl, ap, ◌∙◌, append-nil, arith}
 use Rattle.properties_format.specs.Text.{backslash}
 use Rattle.properties_format.specs.Escapes.{Malformed, letter_u, escaped_character, Four, four_text, are_hexadecimal, code_unit, is_high, is_low, is_surrogate, pair_character, Spelling, itself, escaped, unicode, surrogates, last, spelling_character, IsSpelling, spellings_before, AreSpellings, NoSpelling, not_enough_digits, not_hex, invalid_character, malformed_by, means, breaks}
-use Rattle.properties_format.specs.Reading.Escapes.{with_low, after_u, in_front, text_in_front, meaning_of}
+use Rattle.properties_format.specs.Computed.Escapes.{with_low, after_u, in_front, text_in_front, meaning_of}
 use Rattle.properties_format.specs.Writing.{HoldsNoBackslash}
 use Rattle.properties_format.proofs.Escapes.First.{spelling_of-none}
 use Rattle.properties_format.proofs.Escapes.Unique.{text_in_front-means, meaning_of-empty, meaning_of-spelling, meaning_of-spellings, meaning_of-fault}

@@ -4,9 +4,9 @@ use Rattle.std.proofs.Common.{◌≡◌, ◌&&◌, ℕ, true, false, if◌then�
 use Rattle.std.proofs.lemmas.Bool.{cases_Bool, both_ways, and_parts}
 use Rattle.properties_format.specs.Text.{is_blank, without_leading_blanks}
 use Rattle.properties_format.specs.Split.{begins, ends}
-use Rattle.properties_format.specs.Reading.Split.{without_trailing_blanks, unless_last_blank, trimmed}
+use Rattle.properties_format.specs.Computed.Split.{without_trailing_blanks, unless_last_blank, trimmed}
 use Rattle.properties_format.specs.Escapes.{escaped_character, is_hexadecimal, Four, are_hexadecimal, code_unit, pair_character, Spelling, itself, escaped, unicode, surrogates, last, spelling_text, spelling_character, spellings_before, means}
-use Rattle.properties_format.specs.Reading.Escapes.{meaning_of}
+use Rattle.properties_format.specs.Computed.Escapes.{meaning_of}
 use Rattle.properties_format.proofs.Split.Blanks.{without_leading_blanks-full}
 use Rattle.properties_format.proofs.Escapes.Unique.{spelling_tail}
 use Rattle.properties_format.proofs.Escapes.Digits.{hexadecimal-plain}

@@ -2,7 +2,7 @@
 use Rattle.std.proofs.Common.{◌≡◌, ℕ, pred, length, List, [], ◌∷◌, ◌++◌, map, Option, Some, None, refl, ap, sym, ◌∙◌, subst, append-nil}
 use Rattle.properties_format.specs.Text.{backslash}
 use Rattle.properties_format.specs.Escapes.{letter_u, Malformed, four_text, Spelling, itself, escaped, unicode, surrogates, last, spelling_text, spelling_character, IsSpelling, spellings_before, AreSpellings, Means, NoSpelling, malformed_by, Breaks, Meaning, means, breaks, IsMeaning}
-use Rattle.properties_format.specs.Reading.Escapes.{first_spelling, in_front, text_in_front, fault_of, meaning_past, meaning_of}
+use Rattle.properties_format.specs.Computed.Escapes.{first_spelling, in_front, text_in_front, fault_of, meaning_past, meaning_of}
 use Rattle.properties_format.proofs.Escapes.First.{spelling_of, spelling_of-only, spelling_of-none, IsFound, first_spelling-found}
 
 -- the text of a spelling after its first character

@@ -5,9 +5,9 @@ use Rattle.properties_format.specs.Text.{LineEnding, lf, cr, crlf}
 use Rattle.properties_format.specs.Lines.{Ended, Lines}
 use Rattle.properties_format.specs.Encoding.{Encoding, windows_1252, utf_8, utf_16le, utf_16be}
 use Rattle.properties_format.specs.Cut.{IsCut}
-use Rattle.properties_format.specs.Reading.Encoding.{pieces_of, decoded_of}
-use Rattle.properties_format.specs.Reading.Lines.{lines_of}
-use Rattle.properties_format.specs.Reading.Cut.{cut_of, byline_of}
+use Rattle.properties_format.specs.Computed.Encoding.{pieces_of, decoded_of}
+use Rattle.properties_format.specs.Computed.Lines.{lines_of}
+use Rattle.properties_format.specs.Computed.Cut.{cut_of, byline_of}
 
 abbrev ended : List ℕ → LineEnding → Ended
 ended text by = record { text = text; by = by }

@@ -3,7 +3,7 @@ use Rattle.std.proofs.Common.{◌≡◌, ℕ, List, [], ◌∷◌, refl, Option,
 use Rattle.std.specs.Prelude.{map}
 use Rattle.std.specs.Char.{encode_utf8}
 use Rattle.properties_format.specs.Encoding.{Encoding, windows_1252, utf_8, utf_16le, utf_16be, encoded}
-use Rattle.properties_format.specs.Reading.Encoding.{decoded_of, pieces_of}
+use Rattle.properties_format.specs.Computed.Encoding.{decoded_of, pieces_of}
 
 -- an encoding, bytes, and what they decode to
 abbrev decoded : List (Encoding × List ℕ × List ℕ)

@@ -2,9 +2,9 @@
 use Rattle.std.specs.Prelude.{◌≡◌, refl, ℕ, List, [], ◌∷◌, ◌++◌, map, codes}
 use Rattle.properties_format.specs.Text.{form_feed, backslash}
 use Rattle.properties_format.specs.Split.{Logical, blank, comment, pair}
-use Rattle.properties_format.specs.Reading.Split.{split_of}
+use Rattle.properties_format.specs.Computed.Split.{split_of}
 use Rattle.properties_format.specs.Escapes.{not_enough_digits, not_hex, invalid_character, Meaning, means, breaks}
-use Rattle.properties_format.specs.Reading.Escapes.{meaning_of}
+use Rattle.properties_format.specs.Computed.Escapes.{meaning_of}
 
 abbrev rows : List (List ℕ × Meaning)
 rows =

@@ -2,9 +2,9 @@
 use Rattle.std.proofs.Common.{◌≡◌, ℕ, ◌+◌, List, [], ◌∷◌, refl}
 use Rattle.std.specs.Prelude.{map, codes}
 use Rattle.properties_format.specs.Lines.{Line, line_ends, numbered_lines, InputEnd, end, fault, more}
-use Rattle.properties_format.specs.Reading.Lines.{lines_of}
+use Rattle.properties_format.specs.Computed.Lines.{lines_of}
 use Rattle.properties_format.specs.Groups.{ending_backslashes}
-use Rattle.properties_format.specs.Reading.Logical.{logical_lines}
+use Rattle.properties_format.specs.Computed.Logical.{logical_lines}
 
 -- natural lines, numbered
 abbrev natural : ℕ → List (List ℕ) → List Line

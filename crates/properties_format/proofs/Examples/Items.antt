@@ -3,13 +3,13 @@ use Rattle.std.proofs.Common.{◌≡◌, ℕ, List, [], ◌∷◌, refl}
 use Rattle.std.specs.Prelude.{map, codes, encode_utf8_all}
 use Rattle.std.specs.Char.{encode_utf8}
 use Rattle.properties_format.specs.Encoding.{Encoding, windows_1252, utf_8, utf_16le}
-use Rattle.properties_format.specs.Reading.Encoding.{pieces_of}
+use Rattle.properties_format.specs.Computed.Encoding.{pieces_of}
 use Rattle.properties_format.specs.Lines.{InputEnd, end, fault, more}
-use Rattle.properties_format.specs.Reading.Split.{split_of}
+use Rattle.properties_format.specs.Computed.Split.{split_of}
 use Rattle.properties_format.specs.Escapes.{not_enough_digits, not_hex, invalid_character}
-use Rattle.properties_format.specs.Reading.Escapes.{meaning_of}
+use Rattle.properties_format.specs.Computed.Escapes.{meaning_of}
 use Rattle.properties_format.specs.Items.{Entry, comment, pair, item, malformed, read_fault}
-use Rattle.properties_format.specs.Reading.Items.{items_of}
+use Rattle.properties_format.specs.Computed.Items.{items_of}
 
 -- encoding, bytes, how the input ends, and the items
 abbrev rows : List (Encoding × List ℕ × InputEnd × List Entry)

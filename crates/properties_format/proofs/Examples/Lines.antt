@@ -3,7 +3,7 @@ use Rattle.std.proofs.Common.{◌≡◌, ℕ, true, false, List, [], ◌∷◌, 
 use Rattle.std.specs.Prelude.{map, codes}
 use Rattle.properties_format.specs.Text.{LineEnding, lf, cr, crlf, line_ending_text}
 use Rattle.properties_format.specs.Lines.{Line, numbered_lines, end, more}
-use Rattle.properties_format.specs.Reading.Lines.{lines_of, lines_to_come}
+use Rattle.properties_format.specs.Computed.Lines.{lines_of, lines_to_come}
 
 abbrev line : ℕ → List ℕ → Line
 line n text = record { number = n; text = text }

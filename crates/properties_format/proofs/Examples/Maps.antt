@@ -2,14 +2,14 @@
 use Rattle.std.proofs.Common.{◌≡◌, ℕ, List, [], ◌∷◌, refl, Option, Some, None}
 use Rattle.std.specs.Prelude.{map, codes}
 use Rattle.properties_format.specs.Encoding.{windows_1252}
-use Rattle.properties_format.specs.Reading.Encoding.{pieces_of}
+use Rattle.properties_format.specs.Computed.Encoding.{pieces_of}
 use Rattle.properties_format.specs.Lines.{end}
-use Rattle.properties_format.specs.Reading.Split.{split_of}
-use Rattle.properties_format.specs.Reading.Escapes.{meaning_of}
-use Rattle.properties_format.specs.Reading.Items.{items_of}
+use Rattle.properties_format.specs.Computed.Split.{split_of}
+use Rattle.properties_format.specs.Computed.Escapes.{meaning_of}
+use Rattle.properties_format.specs.Computed.Items.{items_of}
 use Rattle.properties_format.specs.Settings.{default_settings}
 use Rattle.properties_format.specs.Writing.{pair_call, wrote}
-use Rattle.properties_format.specs.Reading.Maps.{value_in}
+use Rattle.properties_format.specs.Computed.Maps.{value_in}
 
 -- an input in windows-1252, a key, and its value in the map
 abbrev rows : List (List ℕ × List ℕ × Option (List ℕ))

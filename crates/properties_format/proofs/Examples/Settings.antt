@@ -1,7 +1,7 @@
 -- Which prefixes and separators are good.
 use Rattle.std.proofs.Common.{◌≡◌, ℕ, Bool, true, false, List, [], ◌∷◌, refl}
 use Rattle.std.specs.Prelude.{map, codes}
-use Rattle.properties_format.specs.Reading.Settings.{is_good_prefix, is_good_separator}
+use Rattle.properties_format.specs.Computed.Settings.{is_good_prefix, is_good_separator}
 
 -- a prefix, and whether it is good
 abbrev prefixes : List (List ℕ × Bool)

@@ -1,7 +1,7 @@
 -- Lines and what they are, computed.
 use Rattle.std.specs.Prelude.{◌≡◌, refl, ℕ, List, [], ◌∷◌, map, codes}
 use Rattle.properties_format.specs.Split.{Logical, blank, comment, pair}
-use Rattle.properties_format.specs.Reading.Split.{split_of}
+use Rattle.properties_format.specs.Computed.Split.{split_of}
 
 -- a line, and what it is
 abbrev rows : List (List ℕ × Logical)

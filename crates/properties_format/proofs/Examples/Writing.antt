@@ -4,12 +4,12 @@ use Rattle.std.specs.Prelude.{map, codes}
 use Rattle.std.specs.Char.{encode_utf8}
 use Rattle.properties_format.specs.Text.{lf, cr, crlf}
 use Rattle.properties_format.specs.Encoding.{Encoding, windows_1252, utf_8, utf_16le, output_encoding}
-use Rattle.properties_format.specs.Reading.Encoding.{pieces_of}
+use Rattle.properties_format.specs.Computed.Encoding.{pieces_of}
 use Rattle.properties_format.specs.Lines.{end}
-use Rattle.properties_format.specs.Reading.Split.{split_of}
-use Rattle.properties_format.specs.Reading.Escapes.{meaning_of}
+use Rattle.properties_format.specs.Computed.Split.{split_of}
+use Rattle.properties_format.specs.Computed.Escapes.{meaning_of}
 use Rattle.properties_format.specs.Items.{Content, Entry, comment, pair, item}
-use Rattle.properties_format.specs.Reading.Items.{items_of}
+use Rattle.properties_format.specs.Computed.Items.{items_of}
 use Rattle.properties_format.specs.Settings.{default_settings}
 use Rattle.properties_format.specs.Writing.{Call, comment_call, pair_call, prefix_call, separator_call, ending_call, flush_call, ascii_only_call, answers, wrote, items_read_back}
 

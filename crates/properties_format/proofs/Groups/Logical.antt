@@ -3,10 +3,10 @@ use Rattle.std.proofs.Common.{◌≡◌, ℕ, ◌+◌, ◌⊎◌, true, false, L
 use Rattle.std.proofs.lemmas.Bool.{cases_Bool}
 use Rattle.properties_format.specs.Text.{LineEnding, cr, line_ending_text}
 use Rattle.properties_format.specs.Lines.{HoldsNoLineEnd, Line, InputEnd, end, fault, more}
-use Rattle.properties_format.specs.Reading.Lines.{begins_with_lf, lines_to_come}
+use Rattle.properties_format.specs.Computed.Lines.{begins_with_lf, lines_to_come}
 use Rattle.properties_format.specs.Groups.{is_open, is_comment_line, without_open_backslash, joined, addition}
-use Rattle.properties_format.specs.Reading.Groups.{groups_after, groups_of}
-use Rattle.properties_format.specs.Reading.Logical.{logical, logical_lines, joins_after}
+use Rattle.properties_format.specs.Computed.Groups.{groups_after, groups_of}
+use Rattle.properties_format.specs.Computed.Logical.{logical, logical_lines, joins_after}
 use Rattle.properties_format.proofs.Lines.Steps.{lines_to_come-line}
 use Rattle.properties_format.proofs.Groups.Steps.{groups_of-comment_line, groups_of-closed, groups_of-open, groups_after-closed, groups_after-open}
 use Rattle.properties_format.proofs.Groups.Joined.{joined-comment_line, joined-one, joined-closed, joined-push}

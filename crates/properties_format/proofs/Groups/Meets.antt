@@ -4,7 +4,7 @@ use Rattle.std.specs.Prelude.{not}
 use Rattle.std.proofs.lemmas.Bool.{cases_Bool, or_parts, not-false, not-true}
 use Rattle.properties_format.specs.Lines.{Line, InputEnd}
 use Rattle.properties_format.specs.Groups.{is_open, is_comment_line, EndsClosed, AreOpen, IsWhole, IsUnfinished, lines_in, IsGroups}
-use Rattle.properties_format.specs.Reading.Groups.{closes, groups_after, groups_of}
+use Rattle.properties_format.specs.Computed.Groups.{closes, groups_after, groups_of}
 use Rattle.properties_format.proofs.Groups.Steps.{groups_after-close, groups_after-leave}
 
 -- Open lines, followed by one that isn't open.

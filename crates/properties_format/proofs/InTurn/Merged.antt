@@ -5,16 +5,16 @@ use Rattle.std.proofs.lemmas.Bool.{cases_Bool, and_parts}
 use Rattle.properties_format.specs.Text.{LineEnding, lf, cr, crlf, carriage_return, line_feed}
 use Rattle.properties_format.specs.Encoding.{Encoding}
 use Rattle.properties_format.specs.Lines.{Ended, AreLines, end}
-use Rattle.properties_format.specs.Reading.Lines.{begins_with_lf}
+use Rattle.properties_format.specs.Computed.Lines.{begins_with_lf}
 use Rattle.properties_format.specs.Groups.{is_open, IsGroups, IsWhole, lines_in, last_group, joined}
 use Rattle.properties_format.specs.Items.{IsOutcome, given}
 use Rattle.properties_format.specs.Entries.{pair}
 use Rattle.properties_format.specs.Writing.{is_empty}
 use Rattle.properties_format.specs.Body.{HeldLine, AreHeld, as_lines, as_groups, held_in, AreGroupsOf, HasKey, NoneHasKey, ending_bytes, group_bytes, groups_bytes, last_ending}
 use Rattle.properties_format.specs.Edited.{is_editable, final_group}
-use Rattle.properties_format.specs.Reading.Cut.{cut_of, decoded_line}
-use Rattle.properties_format.specs.Reading.Body.{held_of, held_lines_of}
-use Rattle.properties_format.specs.Reading.Parts.{unended_bytes, is_by_lf, is_by_cr, are_one_ending}
+use Rattle.properties_format.specs.Computed.Cut.{cut_of, decoded_line}
+use Rattle.properties_format.specs.Computed.Body.{held_of, held_lines_of}
+use Rattle.properties_format.specs.Computed.Parts.{unended_bytes, is_by_lf, is_by_cr, are_one_ending}
 use Rattle.properties_format.proofs.Lines.Plain.{plain-no_lf, no_lf_first}
 use Rattle.properties_format.proofs.Cut.Meets.{cut_of-meets}
 use Rattle.properties_format.proofs.Body.Decoded.{decoded-nil}

@@ -3,7 +3,7 @@ use Rattle.std.proofs.Common.{◌≡◌, ◌≢◌, ℕ, ◌&&◌, Bool, true, f
 use Rattle.std.proofs.lemmas.Bool.{cases_Bool}
 use Rattle.properties_format.specs.Text.{cr, crlf}
 use Rattle.properties_format.specs.Body.{HeldLine, last_ending}
-use Rattle.properties_format.specs.Reading.Parts.{are_one_ending}
+use Rattle.properties_format.specs.Computed.Parts.{are_one_ending}
 use Rattle.properties_format.proofs.InTurn.Lines.{with_ending, ending-with}
 use Rattle.properties_format.proofs.InTurn.Merged.{merged, merged-one, merged-two, one-ending}
 

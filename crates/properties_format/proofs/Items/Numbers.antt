@@ -1,13 +1,13 @@
 -- The numbers of the items ascend strictly.
 use Rattle.std.proofs.Common.{ℕ, ◌+◌, ◌<◌, ◌≤◌, List, [], ◌∷◌, ◌++◌, length, arith, append_assoc, subst, zero-add}
 use Rattle.properties_format.specs.Encoding.{Encoding}
-use Rattle.properties_format.specs.Reading.Encoding.{decoded_of}
+use Rattle.properties_format.specs.Computed.Encoding.{decoded_of}
 use Rattle.properties_format.specs.Lines.{InputEnd, end, fault, more, Ended, Line, Lines, line_ends, numbered, numbered_lines}
-use Rattle.properties_format.specs.Reading.Lines.{lines_of}
+use Rattle.properties_format.specs.Computed.Lines.{lines_of}
 use Rattle.properties_format.specs.Groups.{AreWhole, lines_in, last_group, IsGroups, joined, first_number}
-use Rattle.properties_format.specs.Reading.Groups.{groups_of}
+use Rattle.properties_format.specs.Computed.Groups.{groups_of}
 use Rattle.properties_format.specs.Items.{Entry, NumbersAscend, Outcome, ignored, given, broken, last_entries}
-use Rattle.properties_format.specs.Reading.Items.{outcome_of, followed, entries_of, items_of}
+use Rattle.properties_format.specs.Computed.Items.{outcome_of, followed, entries_of, items_of}
 use Rattle.properties_format.proofs.Groups.Meets.{groups_of-meets}
 
 -- the numbers of the lines ascend, start above low, and are at most high

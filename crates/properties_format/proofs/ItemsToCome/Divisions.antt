@@ -2,13 +2,13 @@
 use Rattle.std.proofs.Common.{◌≡◌, ℕ, ◌+◌, false, List, ◌∷◌, ◌++◌, refl, ap, sym, ◌∙◌, inl, inr}
 use Rattle.std.proofs.lemmas.Bool.{cases_Bool}
 use Rattle.properties_format.specs.Pieces.{Piece, characters}
-use Rattle.properties_format.specs.Reading.Encoding.{pieces_of}
+use Rattle.properties_format.specs.Computed.Encoding.{pieces_of}
 use Rattle.properties_format.specs.Lines.{InputEnd, Line, Lines, line_ends, numbered}
-use Rattle.properties_format.specs.Reading.Lines.{rest_of_end, lines_of}
+use Rattle.properties_format.specs.Computed.Lines.{rest_of_end, lines_of}
 use Rattle.properties_format.specs.Items.{Entry, last_entries}
 use Rattle.properties_format.specs.ItemsToCome.{ReaderState, in_force, IsItemsToCome, AreLinesToCome, ComesFirst, LinesComeFirst}
-use Rattle.properties_format.specs.Reading.ItemsToCome.{text_to_come, items_to_come, natural_to_come, last_to_come}
-use Rattle.properties_format.specs.Reading.ReaderSteps.{ReadsLines, ReadsEntry}
+use Rattle.properties_format.specs.Computed.ItemsToCome.{text_to_come, items_to_come, natural_to_come, last_to_come}
+use Rattle.properties_format.specs.Computed.ReaderSteps.{ReadsLines, ReadsEntry}
 use Rattle.properties_format.proofs.Encodings.Pieces.{pieces_of-meets, pieces_of-only}
 use Rattle.properties_format.proofs.Lines.Meets.{lines_of-meets}
 use Rattle.properties_format.proofs.Lines.Only.{lines_of-only}

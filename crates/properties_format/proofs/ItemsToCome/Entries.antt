@@ -2,15 +2,15 @@
 use Rattle.std.proofs.Common.{◌≡◌, ℕ, ◌+◌, true, false, List, [], ◌∷◌, ◌++◌, Option, Some, None, refl, ap, ap₂, sym, ◌∙◌, inl, inr, append_assoc}
 use Rattle.std.proofs.lemmas.Bool.{cases_Bool}
 use Rattle.properties_format.specs.Lines.{InputEnd, end, Line, line_ends, numbered}
-use Rattle.properties_format.specs.Reading.Lines.{lines_of}
+use Rattle.properties_format.specs.Computed.Lines.{lines_of}
 use Rattle.properties_format.specs.Groups.{is_open, is_comment_line, without_open_backslash, addition, joined, first_number}
-use Rattle.properties_format.specs.Reading.Groups.{groups_of}
-use Rattle.properties_format.specs.Reading.Logical.{logical}
+use Rattle.properties_format.specs.Computed.Groups.{groups_of}
+use Rattle.properties_format.specs.Computed.Logical.{logical}
 use Rattle.properties_format.specs.Items.{last_entries}
-use Rattle.properties_format.specs.Reading.Items.{outcome_of, followed, entries_of}
+use Rattle.properties_format.specs.Computed.Items.{outcome_of, followed, entries_of}
 use Rattle.properties_format.specs.ItemsToCome.{ReaderState}
-use Rattle.properties_format.specs.Reading.ItemsToCome.{text_to_come, items_to_come, natural_to_come, last_to_come, entries_of_logical, logical_pending, entries_pending}
-use Rattle.properties_format.specs.Reading.ReaderSteps.{Gives}
+use Rattle.properties_format.specs.Computed.ItemsToCome.{text_to_come, items_to_come, natural_to_come, last_to_come, entries_of_logical, logical_pending, entries_pending}
+use Rattle.properties_format.specs.Computed.ReaderSteps.{Gives}
 use Rattle.properties_format.proofs.Groups.Logical.{joins_after-open, joins_after-closed, logical_lines-comment_line, logical_lines-closed, logical_lines-open}
 use Rattle.properties_format.proofs.ItemsToCome.Lines.{natural-done}
 

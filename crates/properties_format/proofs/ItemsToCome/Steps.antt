@@ -3,14 +3,14 @@ use Rattle.std.proofs.Common.{◌≡◌, ℕ, true, false, List, [], ◌∷◌, 
 use Rattle.properties_format.specs.Text.{line_feed}
 use Rattle.properties_format.specs.Encoding.{ascii_bytes}
 use Rattle.properties_format.specs.Cut.{units}
-use Rattle.properties_format.specs.Reading.Lines.{begins_with_lf}
+use Rattle.properties_format.specs.Computed.Lines.{begins_with_lf}
 use Rattle.properties_format.specs.Lines.{InputEnd, Line}
 use Rattle.properties_format.specs.Groups.{is_open, is_comment_line, without_open_backslash}
 use Rattle.properties_format.specs.Items.{Entry}
-use Rattle.properties_format.specs.Reading.Items.{outcome_of, followed}
+use Rattle.properties_format.specs.Computed.Items.{outcome_of, followed}
 use Rattle.properties_format.specs.ItemsToCome.{ReaderState}
-use Rattle.properties_format.specs.Reading.ItemsToCome.{items_to_come, entries_pending}
-use Rattle.properties_format.specs.Reading.ReaderSteps.{Gives, after_read, after_passed, HoldsLine, next_line, after_line, ReadsLines, ReadsOn, ReadsLogical}
+use Rattle.properties_format.specs.Computed.ItemsToCome.{items_to_come, entries_pending}
+use Rattle.properties_format.specs.Computed.ReaderSteps.{Gives, after_read, after_passed, HoldsLine, next_line, after_line, ReadsLines, ReadsOn, ReadsLogical}
 use Rattle.properties_format.proofs.ItemsToCome.Lines.{gives-read, gives-passed_lf, gives-passed_none, gives-line}
 use Rattle.properties_format.proofs.ItemsToCome.Entries.{items_to_come-pending, gives-on, pending-comment_line, pending-closed, pending-open}
 

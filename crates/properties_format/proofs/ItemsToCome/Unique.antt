@@ -5,14 +5,14 @@ use Rattle.std.proofs.lemmas.Bool.Decides.{eqb_tells}
 use Rattle.properties_format.specs.Text.{line_feed}
 use Rattle.properties_format.specs.Pieces.{Piece, characters}
 use Rattle.properties_format.specs.Encoding.{Encoding, byte_order_mark}
-use Rattle.properties_format.specs.Reading.Encoding.{pieces_of}
+use Rattle.properties_format.specs.Computed.Encoding.{pieces_of}
 use Rattle.properties_format.specs.Lines.{InputEnd, line_ends, numbered}
-use Rattle.properties_format.specs.Reading.Lines.{rest_of_end, without_leading_lf, lines_of}
-use Rattle.properties_format.specs.Reading.Groups.{groups_of}
+use Rattle.properties_format.specs.Computed.Lines.{rest_of_end, without_leading_lf, lines_of}
+use Rattle.properties_format.specs.Computed.Groups.{groups_of}
 use Rattle.properties_format.specs.Items.{Entry}
-use Rattle.properties_format.specs.Reading.Items.{entries_of, items_of}
+use Rattle.properties_format.specs.Computed.Items.{entries_of, items_of}
 use Rattle.properties_format.specs.ItemsToCome.{ReaderState, start, in_force, IsAfterEnd, AreFurtherEntries, IsItemsToCome}
-use Rattle.properties_format.specs.Reading.ItemsToCome.{text_to_come, further_entries, items_to_come}
+use Rattle.properties_format.specs.Computed.ItemsToCome.{text_to_come, further_entries, items_to_come}
 use Rattle.properties_format.proofs.Encodings.Pieces.{pieces_of-meets, pieces_of-only}
 use Rattle.properties_format.proofs.Lines.Meets.{lines_of-meets}
 use Rattle.properties_format.proofs.Lines.Only.{lines_of-only}

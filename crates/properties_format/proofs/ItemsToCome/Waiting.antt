@@ -3,10 +3,10 @@ use Rattle.std.proofs.Common.{◌≡◌, ◌==◌, ℕ, true, false, List, [], �
 use Rattle.std.proofs.lemmas.Bool.Decides.{eqb_tells}
 use Rattle.std.proofs.Math.Bool.{and-false}
 use Rattle.properties_format.specs.Encoding.{Encoding, windows_1252, utf_8, utf_16le, utf_16be, byte_order_mark}
-use Rattle.properties_format.specs.Reading.Waiting.{awaits_bom}
+use Rattle.properties_format.specs.Computed.Waiting.{awaits_bom}
 use Rattle.properties_format.specs.Cut.{HoldsNoLineEndUnit}
 use Rattle.properties_format.specs.ItemsToCome.{ReaderState}
-use Rattle.properties_format.specs.Reading.ReaderSteps.{after_decided, HoldsNoEnd}
+use Rattle.properties_format.specs.Computed.ReaderSteps.{after_decided, HoldsNoEnd}
 use Rattle.properties_format.proofs.Encodings.ByteOrderMarks.{awaits_bom-long}
 
 -- ---- A byte order mark.

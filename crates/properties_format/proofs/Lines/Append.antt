@@ -2,7 +2,7 @@
 use Rattle.std.proofs.Common.{◌≡◌, ℕ, ◌+◌, ◌==◌, false, List, [], ◌∷◌, ◌++◌, length, refl, ap, sym, ◌∙◌, add-zero}
 use Rattle.properties_format.specs.Text.{line_feed, carriage_return, LineEnding, lf, cr, crlf, line_ending_text}
 use Rattle.properties_format.specs.Lines.{Ended, put_together, HoldsNoLineEnd, BeginsWithNoLoneLf, AreLines, InputEnd, more, line_ends, numbered}
-use Rattle.properties_format.specs.Reading.Lines.{begins_with_lf, ends_in_cr, lines_of, lines_to_come}
+use Rattle.properties_format.specs.Computed.Lines.{begins_with_lf, ends_in_cr, lines_of, lines_to_come}
 use Rattle.properties_format.proofs.Lines.Meets.{lines_of-meets}
 use Rattle.properties_format.proofs.Lines.Plain.{one-more, regroup, plain-no_cr, no_lf_first, ends_in_cr-append, ends-after, ends-lf, ends-crlf}
 use Rattle.properties_format.proofs.Lines.Steps.{lines_to_come-cr, lines_to_come-line}

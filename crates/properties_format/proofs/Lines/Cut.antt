@@ -3,7 +3,7 @@
 use Rattle.std.proofs.Common.{◌≡◌, ℕ, true, false, List, [], ◌∷◌, ◌++◌, refl, ap, ◌∙◌}
 use Rattle.properties_format.specs.Text.{carriage_return, LineEnding, lf, cr, crlf, line_ending_text}
 use Rattle.properties_format.specs.Lines.{Ended, Lines, put_together, AreLines}
-use Rattle.properties_format.specs.Reading.Lines.{begins_with_lf, ends_in_cr, lines_of}
+use Rattle.properties_format.specs.Computed.Lines.{begins_with_lf, ends_in_cr, lines_of}
 use Rattle.properties_format.proofs.Lines.Meets.{lines_of-meets}
 use Rattle.properties_format.proofs.Lines.Plain.{no_lf_first, ends_in_cr-append, ends-after, regroup}
 use Rattle.properties_format.proofs.Lines.Steps.{lines_of-line}

@@ -4,7 +4,7 @@ use Rattle.std.proofs.lemmas.Bool.{or_from, or_parts}
 use Rattle.std.proofs.lemmas.Bool.Decides.{eqb_tells}
 use Rattle.properties_format.specs.Text.{line_feed, carriage_return, is_line_end, LineEnding, lf, cr, crlf}
 use Rattle.properties_format.specs.Lines.{Ended, Lines, IsLines}
-use Rattle.properties_format.specs.Reading.Lines.{end_before, cr_before, character_before, before, lines_of}
+use Rattle.properties_format.specs.Computed.Lines.{end_before, cr_before, character_before, before, lines_of}
 
 -- A character that ends no line is neither a CR nor an LF.
 pub before-plain : (c : ℕ) (lines : Lines) → is_line_end c ≡ false → before c lines ≡ character_before c lines.ended lines.last

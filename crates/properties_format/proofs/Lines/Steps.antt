@@ -4,7 +4,7 @@ use Rattle.std.specs.Prelude.{if◌then◌else◌}
 use Rattle.std.proofs.lemmas.Bool.Decides.{eqb_tells}
 use Rattle.properties_format.specs.Text.{line_feed, carriage_return, LineEnding, cr, crlf, line_ending_text}
 use Rattle.properties_format.specs.Lines.{Lines, HoldsNoLineEnd, Line, InputEnd, end, numbered}
-use Rattle.properties_format.specs.Reading.Lines.{begins_with_lf, without_leading_lf, lines_of, lines_to_come}
+use Rattle.properties_format.specs.Computed.Lines.{begins_with_lf, without_leading_lf, lines_of, lines_to_come}
 use Rattle.properties_format.proofs.Lines.Only.{lines_of-plain, lines_of-before}
 use Rattle.properties_format.proofs.Lines.Plain.{plain-append, lines_of-no_lone_lf, without_leading_lf-none}
 

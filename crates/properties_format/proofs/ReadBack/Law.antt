@@ -3,11 +3,11 @@ use Rattle.std.proofs.Common.{◌≡◌, List, [], ◌∷◌, refl, ap, ◌∙�
 use Rattle.std.proofs.lemmas.List.Elements.{All-from_recursion}
 use Rattle.properties_format.specs.Text.{scalar, number_sign, space}
 use Rattle.properties_format.specs.Encoding.{Encoding, windows_1252, utf_8, utf_16le, utf_16be, output_encoding, characters}
-use Rattle.properties_format.specs.Reading.Encoding.{pieces_of, decoded_of}
+use Rattle.properties_format.specs.Computed.Encoding.{pieces_of, decoded_of}
 use Rattle.properties_format.specs.Lines.{end, line_ends}
-use Rattle.properties_format.specs.Reading.Lines.{lines_of}
+use Rattle.properties_format.specs.Computed.Lines.{lines_of}
 use Rattle.properties_format.specs.Items.{IsItems}
-use Rattle.properties_format.specs.Reading.Items.{items_of_lines, items_of}
+use Rattle.properties_format.specs.Computed.Items.{items_of_lines, items_of}
 use Rattle.properties_format.specs.Settings.{Settings, default_settings}
 use Rattle.properties_format.specs.Printing.{encoded_text}
 use Rattle.properties_format.specs.Writing.{Call, wrote, items_read_back, ArePrefixesClean, AreOfScalars, AreGoodSettings}

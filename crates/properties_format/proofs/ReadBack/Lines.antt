@@ -6,13 +6,13 @@ use Rattle.std.proofs.lemmas.Bool.{not-true}
 use Rattle.properties_format.specs.Text.{scalar, LineEnding, line_ending_text, is_blanks}
 use Rattle.properties_format.specs.Encoding.{Encoding}
 use Rattle.properties_format.specs.Lines.{HoldsNoLineEnd, Line, end}
-use Rattle.properties_format.specs.Reading.Lines.{begins_with_lf, lines_to_come}
+use Rattle.properties_format.specs.Computed.Lines.{begins_with_lf, lines_to_come}
 use Rattle.properties_format.specs.Groups.{joined}
-use Rattle.properties_format.specs.Reading.Groups.{groups_of}
+use Rattle.properties_format.specs.Computed.Groups.{groups_of}
 use Rattle.properties_format.specs.Entries.{Content, comment, pair, Entry, item}
-use Rattle.properties_format.specs.Reading.Items.{split_outcome, outcome_of, followed, entries_of}
+use Rattle.properties_format.specs.Computed.Items.{split_outcome, outcome_of, followed, entries_of}
 use Rattle.properties_format.specs.Settings.{Settings}
-use Rattle.properties_format.specs.Reading.Settings.{is_good_prefix, is_good_separator}
+use Rattle.properties_format.specs.Computed.Settings.{is_good_prefix, is_good_separator}
 use Rattle.properties_format.specs.Printing.{in_key_or_value, in_comment, in_prefix, printed_characters, printed_key, encoded_text, printed_text}
 use Rattle.properties_format.specs.Writing.{Call, comment_call, pair_call, prefix_call, separator_call, ending_call, flush_call, ascii_only_call, is_empty, settings_after_call, written_line, lines_with, line_bytes, wrote, content_read_back, item_read_back, items_read_back, HoldsNoBackslash, ArePrefixesClean, IsOfScalars, AreOfScalars, AreGoodSettings}
 use Rattle.properties_format.proofs.Lines.Plain.{plain-no_lf}

@@ -5,7 +5,7 @@ use Rattle.properties_format.specs.Encoding.{Encoding, output_encoding}
 use Rattle.properties_format.specs.Entries.{pair, Entry}
 use Rattle.properties_format.specs.Lines.{end}
 use Rattle.properties_format.specs.Items.{IsItems}
-use Rattle.properties_format.specs.Reading.Items.{items_of}
+use Rattle.properties_format.specs.Computed.Items.{items_of}
 use Rattle.properties_format.specs.Settings.{Settings}
 use Rattle.properties_format.specs.Writing.{pair_call, written_line, wrote, items_read_back, item_read_back, lines_with, ArePrefixesClean, AreOfScalars, AreGoodSettings}
 use Rattle.properties_format.specs.Pairs.{Pair, pairs_in, calls_of, items_after, AreAccepted, ArePairsOfScalars}

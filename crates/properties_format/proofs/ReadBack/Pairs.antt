@@ -7,11 +7,11 @@ use Rattle.properties_format.specs.Encoding.{Encoding}
 use Rattle.properties_format.specs.Lines.{HoldsNoLineEnd}
 use Rattle.properties_format.specs.Groups.{is_open}
 use Rattle.properties_format.specs.Split.{Logical, AreBlanks, IsBetween, blanks, separator}
-use Rattle.properties_format.specs.Reading.Split.{split_of}
+use Rattle.properties_format.specs.Computed.Split.{split_of}
 use Rattle.properties_format.specs.Escapes.{Spelling, spelling_text, spelling_character, spellings_before}
 use Rattle.properties_format.specs.Entries.{Content, pair}
 use Rattle.properties_format.specs.Items.{given}
-use Rattle.properties_format.specs.Reading.Items.{pair_outcome, split_outcome, outcome_of}
+use Rattle.properties_format.specs.Computed.Items.{pair_outcome, split_outcome, outcome_of}
 use Rattle.properties_format.specs.Settings.{IsGoodSeparator, IsSignedSeparator}
 use Rattle.properties_format.specs.Printing.{in_key_or_value, unicode_escape, printed_characters, is_bom_like, with_first_escaped, printed_key}
 use Rattle.properties_format.specs.Writing.{HoldsNoBackslash}

@@ -9,7 +9,7 @@ use Rattle.properties_format.specs.Lines.{HoldsNoLineEnd}
 use Rattle.properties_format.specs.Groups.{is_open}
 use Rattle.properties_format.specs.Split.{IsKey, begins}
 use Rattle.properties_format.specs.Escapes.{letter_u, is_hexadecimal, Four, four_text, are_hexadecimal, Spelling, itself, escaped, unicode, surrogates, last, spelling_text, spelling_character, spellings_before, means}
-use Rattle.properties_format.specs.Reading.Escapes.{meaning_of}
+use Rattle.properties_format.specs.Computed.Escapes.{meaning_of}
 use Rattle.properties_format.specs.Printing.{in_key_or_value, printed_character, printed_characters}
 use Rattle.properties_format.proofs.Lines.Plain.{plain-append}
 use Rattle.properties_format.proofs.Groups.Open.{is_open-two, is_open-other}

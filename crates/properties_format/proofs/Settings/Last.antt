@@ -3,7 +3,7 @@ use Rattle.std.proofs.Common.{◌≡◌, ℕ, Bool, true, false, List, [], ◌�
 use Rattle.std.specs.Prelude.{Option, Some, None, unwrap_or, if◌then◌else◌}
 use Rattle.properties_format.specs.Text.{LineEnding}
 use Rattle.properties_format.specs.Settings.{Settings}
-use Rattle.properties_format.specs.Reading.Settings.{is_good_prefix, is_good_separator}
+use Rattle.properties_format.specs.Computed.Settings.{is_good_prefix, is_good_separator}
 use Rattle.properties_format.specs.Writing.{Call, comment_call, pair_call, prefix_call, separator_call, ending_call, flush_call, ascii_only_call, settings_after_call, settings_after}
 
 -- the second value if there is one, otherwise the first

@@ -5,7 +5,7 @@ use Rattle.properties_format.specs.Text.{is_blank, is_blanks, is_line_end, is_co
 use Rattle.properties_format.specs.Lines.{HoldsNoLineEnd}
 use Rattle.properties_format.specs.Split.{AreBlanks}
 use Rattle.properties_format.specs.Settings.{IsGoodPrefix, IsSignedSeparator, IsGoodSeparator}
-use Rattle.properties_format.specs.Reading.Settings.{holds_no_line_end, is_good_prefix, is_signed_separator, is_good_separator}
+use Rattle.properties_format.specs.Computed.Settings.{holds_no_line_end, is_good_prefix, is_signed_separator, is_good_separator}
 use Rattle.properties_format.specs.Writing.{tail_of}
 use Rattle.properties_format.proofs.Split.Unique.{sign-full, separator-full}
 

@@ -3,7 +3,7 @@ use Rattle.std.proofs.Common.{◌≡◌, ℕ, Bool, false, List, [], ◌∷◌, 
 use Rattle.std.proofs.lemmas.Bool.{cases_Bool, both_ways}
 use Rattle.properties_format.specs.Text.{is_blank, without_leading_blanks}
 use Rattle.properties_format.specs.Split.{AreBlanks, begins, ends, IsTrimmed}
-use Rattle.properties_format.specs.Reading.Split.{without_trailing_blanks, unless_last_blank, trimmed}
+use Rattle.properties_format.specs.Computed.Split.{without_trailing_blanks, unless_last_blank, trimmed}
 
 -- Blanks that don't begin with a blank are an empty text.
 pub no_blanks : (h : List ℕ) → AreBlanks h → begins is_blank h ≡ false → h ≡ []

@@ -3,7 +3,7 @@ use Rattle.std.proofs.Common.{◌≡◌, ℕ, ◌==◌, Bool, true, false, List,
 use Rattle.std.proofs.lemmas.Bool.{cases_Bool, both_ways, eqb-true}
 use Rattle.properties_format.specs.Text.{backslash, is_blank, is_separator}
 use Rattle.properties_format.specs.Split.{KeyUnit, plain, escaped, last, unit_text, units_before, IsUnit, AreUnits, IsKey}
-use Rattle.properties_format.specs.Reading.Split.{Cut, with_front, ends_key, cut_key}
+use Rattle.properties_format.specs.Computed.Split.{Cut, with_front, ends_key, cut_key}
 
 -- The units before a rest are their text followed by the rest.
 pub units_before-append : (us : List KeyUnit) (rest : List ℕ) → units_before us rest ≡ units_before us [] ++ rest

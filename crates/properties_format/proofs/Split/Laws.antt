@@ -4,7 +4,7 @@ use Rattle.std.proofs.lemmas.Bool.{and_parts}
 use Rattle.std.proofs.lemmas.Bool.Decides.{nat_tests}
 use Rattle.properties_format.specs.Text.{backslash, is_blank, is_comment_sign, is_separator}
 use Rattle.properties_format.specs.Split.{Logical, pair, AreBlanks, begins, plain, escaped, IsKey, separator, IsSplit}
-use Rattle.properties_format.specs.Reading.Split.{split_of}
+use Rattle.properties_format.specs.Computed.Split.{split_of}
 use Rattle.properties_format.specs.Escapes.{letter_u, is_hexadecimal, Four, four_text, are_hexadecimal}
 use Rattle.properties_format.proofs.Escapes.Digits.{hexadecimal-plain}
 use Rattle.properties_format.proofs.Split.Unique.{separator-full, split_of-pair, split_of-only}

@@ -3,7 +3,7 @@ use Rattle.std.proofs.Common.{◌≡◌, ◌≢◌, ℕ, true, false, List, [], 
 use Rattle.std.proofs.lemmas.Bool.{cases_Bool, both_ways}
 use Rattle.properties_format.specs.Text.{is_blank, is_comment_sign, is_separator, without_leading_blanks}
 use Rattle.properties_format.specs.Split.{Logical, blank, comment, pair, AreBlanks, begins, IsKey, IsBetween, nothing, blanks, separator, IsSplit}
-use Rattle.properties_format.specs.Reading.Split.{Cut, trimmed, cut_key, past_separator, pair_of, split_full, split_of, ends_key}
+use Rattle.properties_format.specs.Computed.Split.{Cut, trimmed, cut_key, past_separator, pair_of, split_full, split_of, ends_key}
 use Rattle.properties_format.proofs.Split.Blanks.{without_leading_blanks-only, without_leading_blanks-blanks, IsPast, without_leading_blanks-meets, trimmed-meets, trimmed-only}
 use Rattle.properties_format.proofs.Split.Keys.{ends_here, cut_key-only, IsCut, cut_key-meets}
 

@@ -6,13 +6,13 @@ use Rattle.std.proofs.lemmas.Bool.{cases_Bool}
 use Rattle.properties_format.specs.Text.{LineEnding, lf, cr, line_ending_text}
 use Rattle.properties_format.specs.Encoding.{Encoding}
 use Rattle.properties_format.specs.Lines.{Ended, HoldsNoLineEnd, BeginsWithNoLoneLf, AreLines}
-use Rattle.properties_format.specs.Reading.Cut.{decoded_line}
+use Rattle.properties_format.specs.Computed.Cut.{decoded_line}
 use Rattle.properties_format.specs.Groups.{IsWhole, joined}
 use Rattle.properties_format.specs.Body.{HeldLine, as_lines, as_groups, held_in, group_bytes, groups_bytes}
 use Rattle.properties_format.specs.Edited.{final_group, is_empty_line, is_left_open}
 use Rattle.properties_format.specs.Items.{ignored}
-use Rattle.properties_format.specs.Reading.Items.{outcome_of}
-use Rattle.properties_format.specs.Reading.Body.{held_of}
+use Rattle.properties_format.specs.Computed.Items.{outcome_of}
+use Rattle.properties_format.specs.Computed.Body.{held_of}
 use Rattle.properties_format.specs.Valued.{ending_among, ending_in, separation_by}
 use Rattle.properties_format.proofs.Body.Decoded.{decoded-nil}
 use Rattle.properties_format.proofs.Body.Groups.{IsLastFit, AreFit, held_ended, cut-off, lines-front, group_bytes-append, groups_bytes-append}

@@ -10,12 +10,12 @@ use Rattle.properties_format.specs.Encoding.{Encoding}
 use Rattle.properties_format.specs.Cut.{IsDecodedLine}
 use Rattle.properties_format.specs.Groups.{is_open, is_comment_line, without_last, without_open_backslash, joined_after, joined}
 use Rattle.properties_format.specs.Split.{AreBlanks, begins, ends, IsBetween, nothing, blanks, separator, IsPair}
-use Rattle.properties_format.specs.Reading.Split.{ends_key}
-use Rattle.properties_format.specs.Reading.Cut.{decoded_line}
+use Rattle.properties_format.specs.Computed.Split.{ends_key}
+use Rattle.properties_format.specs.Computed.Cut.{decoded_line}
 use Rattle.properties_format.specs.Body.{HeldLine, as_lines, ending_bytes, group_bytes}
 use Rattle.properties_format.specs.Edited.{is_editable}
 use Rattle.properties_format.specs.Valued.{IsFrontOf}
-use Rattle.properties_format.specs.Reading.Valued.{without_indent, added_by, head_of, head_size, front_in, front_of, between_of}
+use Rattle.properties_format.specs.Computed.Valued.{without_indent, added_by, head_of, head_size, front_in, front_of, between_of}
 use Rattle.properties_format.proofs.Groups.Open.{is_open-backslash, is_open-other, is_open-after, blank-other, open-ends, without_open_backslash-closed}
 use Rattle.properties_format.proofs.Groups.Joined.{joined-comment_line, joined-unmarked, joined-closed}
 use Rattle.properties_format.proofs.Split.Blanks.{begins-front, without_leading_blanks-only, without_leading_blanks-meets}

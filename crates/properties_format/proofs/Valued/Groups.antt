@@ -15,8 +15,8 @@ use Rattle.properties_format.specs.Body.{HeldLine, as_lines, as_groups, held_in,
 use Rattle.properties_format.specs.Edited.{final_group, is_editable}
 use Rattle.properties_format.specs.Changed.{IsSetIn}
 use Rattle.properties_format.specs.Valued.{printed_value, value_text, HasPair, IsThere, IsRevalued, ending_among, ending_in, separation_by, IsBodyValued}
-use Rattle.properties_format.specs.Reading.Edited.{KeyPlace, last_place}
-use Rattle.properties_format.specs.Reading.Valued.{last_between, separator_by, has_value, revalued_at, added_at, valued_at}
+use Rattle.properties_format.specs.Computed.Edited.{KeyPlace, last_place}
+use Rattle.properties_format.specs.Computed.Valued.{last_between, separator_by, has_value, revalued_at, added_at, valued_at}
 use Rattle.properties_format.proofs.Items.Unique.{outcome_of-only}
 use Rattle.properties_format.proofs.Printing.Characters.{encoded_text-append}
 use Rattle.properties_format.proofs.Body.Decoded.{decoded-nil}

@@ -6,16 +6,16 @@ use Rattle.properties_format.specs.Lines.{end}
 use Rattle.properties_format.specs.Groups.{joined}
 use Rattle.properties_format.specs.Entries.{comment, pair, Entry, item, AreItems}
 use Rattle.properties_format.specs.Items.{Outcome, ignored, given, broken, IsOutcome}
-use Rattle.properties_format.specs.Reading.Items.{outcome_of, followed, items_of}
+use Rattle.properties_format.specs.Computed.Items.{outcome_of, followed, items_of}
 use Rattle.properties_format.specs.Maps.{HasNoPair, IsLastValue, HasValue}
 use Rattle.properties_format.specs.Body.{HeldLine, as_lines, NoneHasKey, groups_bytes}
 use Rattle.properties_format.specs.Edited.{bom_of, edited}
 use Rattle.properties_format.specs.Edits.{put}
 use Rattle.properties_format.specs.EditLaws.{SettingItsOwnValueChangesNothing, SettingAValueTwiceIsSettingItOnce, SettingAValueAgainChangesNothing, SettingAValueGivesIt}
 use Rattle.properties_format.specs.Valued.{HasPair, IsSetValueResult}
-use Rattle.properties_format.specs.Reading.Body.{held_groups_of, entries_in}
-use Rattle.properties_format.specs.Reading.Edited.{KeyPlace, last_place}
-use Rattle.properties_format.specs.Reading.Valued.{has_value, revalued_at, valued_at, value_set, set_value_result}
+use Rattle.properties_format.specs.Computed.Body.{held_groups_of, entries_in}
+use Rattle.properties_format.specs.Computed.Edited.{KeyPlace, last_place}
+use Rattle.properties_format.specs.Computed.Valued.{has_value, revalued_at, valued_at, value_set, set_value_result}
 use Rattle.properties_format.proofs.Items.Unique.{items_of-meets, items_of-only, outcome_of-meets, outcome_of-only}
 use Rattle.properties_format.proofs.Maps.{value_in-only}
 use Rattle.properties_format.proofs.Body.Groups.{held_groups_of-meets, held-body}

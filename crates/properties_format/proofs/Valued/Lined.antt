@@ -4,11 +4,11 @@ use Rattle.properties_format.specs.Text.{LineEnding, cr}
 use Rattle.properties_format.specs.Encoding.{Encoding}
 use Rattle.properties_format.specs.Lines.{Ended, Lines, end, HoldsNoLineEnd, BeginsWithNoLoneLf, AreLines, IsLines}
 use Rattle.properties_format.specs.Cut.{IsCut}
-use Rattle.properties_format.specs.Reading.Cut.{decoded_line}
+use Rattle.properties_format.specs.Computed.Cut.{decoded_line}
 use Rattle.properties_format.specs.Groups.{IsWhole, IsGroups, lines_in}
 use Rattle.properties_format.specs.Body.{HeldLine, as_lines, as_groups, held_in, AreGroupsOf, group_bytes, groups_bytes, last_ending}
 use Rattle.properties_format.specs.Edited.{is_editable}
-use Rattle.properties_format.specs.Reading.Body.{held_of}
+use Rattle.properties_format.specs.Computed.Body.{held_of}
 use Rattle.properties_format.proofs.Lines.Only.{lines_of-only}
 use Rattle.properties_format.proofs.Cut.Meets.{cut_of-meets}
 use Rattle.properties_format.proofs.Body.Decoded.{IsCut-lines, cut_of-lines}

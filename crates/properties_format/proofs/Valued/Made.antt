@@ -6,18 +6,18 @@ use Rattle.properties_format.specs.Encoding.{Encoding, byte_order_mark}
 use Rattle.properties_format.specs.Lines.{Ended}
 use Rattle.properties_format.specs.Groups.{joined}
 use Rattle.properties_format.specs.Split.{Logical, IsPair}
-use Rattle.properties_format.specs.Reading.Split.{split_of}
+use Rattle.properties_format.specs.Computed.Split.{split_of}
 use Rattle.properties_format.specs.Entries.{pair}
 use Rattle.properties_format.specs.Items.{Outcome, given}
-use Rattle.properties_format.specs.Reading.Items.{outcome_of}
+use Rattle.properties_format.specs.Computed.Items.{outcome_of}
 use Rattle.properties_format.specs.Printing.{encoded_text}
 use Rattle.properties_format.specs.Body.{HeldLine, AreHeld, AreGroupsOf, as_lines, held_in, groups_bytes, ending_bytes, last_ending, HasKey}
 use Rattle.properties_format.specs.Edited.{bom_of, final_group, is_editable, EditResult}
 use Rattle.properties_format.specs.Valued.{value_text, HasPair, NoPairs, IsNewSeparator, ending_in, separation_by, new_pair_bytes, IsBodyValued, IsValueSet, IsSetValueResult}
-use Rattle.properties_format.specs.Reading.Body.{held_groups_of}
-use Rattle.properties_format.specs.Reading.Edited.{KeyPlace, last_place}
-use Rattle.properties_format.specs.Reading.Valued.{front_of, between_of, between_if_pair, or_else, last_between, separator_by, is_pair_to, has_value, revalued_at, valued_at, value_set}
-use Rattle.properties_format.specs.Reading.Valued.{set_value_result}
+use Rattle.properties_format.specs.Computed.Body.{held_groups_of}
+use Rattle.properties_format.specs.Computed.Edited.{KeyPlace, last_place}
+use Rattle.properties_format.specs.Computed.Valued.{front_of, between_of, between_if_pair, or_else, last_between, separator_by, is_pair_to, has_value, revalued_at, valued_at, value_set}
+use Rattle.properties_format.specs.Computed.Valued.{set_value_result}
 use Rattle.properties_format.proofs.Items.Unique.{outcome_of-meets, outcome_of-only}
 use Rattle.properties_format.proofs.Split.Unique.{split_of-meets, split_of-only}
 use Rattle.properties_format.proofs.Cut.Byline.{decoded_line-only}

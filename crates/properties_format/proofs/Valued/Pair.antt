@@ -7,7 +7,7 @@ use Rattle.properties_format.specs.Text.{scalar, equals_sign, LineEnding, is_bla
 use Rattle.properties_format.specs.Encoding.{Encoding}
 use Rattle.properties_format.specs.Lines.{HoldsNoLineEnd}
 use Rattle.properties_format.specs.Cut.{IsDecodedLine}
-use Rattle.properties_format.specs.Reading.Cut.{decoded_line}
+use Rattle.properties_format.specs.Computed.Cut.{decoded_line}
 use Rattle.properties_format.specs.Groups.{is_open, is_comment_line, IsWhole, joined}
 use Rattle.properties_format.specs.Split.{Logical, AreBlanks}
 use Rattle.properties_format.specs.Escapes.{Means}
@@ -15,7 +15,7 @@ use Rattle.properties_format.specs.Printing.{encoded_text}
 use Rattle.properties_format.specs.Body.{HeldLine, as_lines, group_bytes, HasKey}
 use Rattle.properties_format.specs.Edited.{is_editable}
 use Rattle.properties_format.specs.Valued.{value_text, IsFrontOf, HasPair}
-use Rattle.properties_format.specs.Reading.Valued.{without_indent}
+use Rattle.properties_format.specs.Computed.Valued.{without_indent}
 use Rattle.properties_format.proofs.Lines.Plain.{plain-append, plain-left}
 use Rattle.properties_format.proofs.Groups.Open.{is_open-other}
 use Rattle.properties_format.proofs.Split.Laws.{split-unique}

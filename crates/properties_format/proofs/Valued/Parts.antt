@@ -5,8 +5,8 @@ use Rattle.std.proofs.Math.Seq.{take-append_seam}
 use Rattle.properties_format.specs.Text.{is_comment_sign, without_leading_blanks}
 use Rattle.properties_format.specs.Groups.{is_comment_line, begins_with_comment_sign}
 use Rattle.properties_format.specs.Split.{begins, IsPair}
-use Rattle.properties_format.specs.Reading.Split.{Cut, cut_key, past_separator}
-use Rattle.properties_format.specs.Reading.Valued.{without_end, after_key, written_value, between_in, before_value}
+use Rattle.properties_format.specs.Computed.Split.{Cut, cut_key, past_separator}
+use Rattle.properties_format.specs.Computed.Valued.{without_end, after_key, written_value, between_in, before_value}
 use Rattle.properties_format.proofs.Split.Blanks.{without_leading_blanks-only}
 use Rattle.properties_format.proofs.Split.Keys.{cut_key-only}
 use Rattle.properties_format.proofs.Split.Unique.{between-ends, between-value}

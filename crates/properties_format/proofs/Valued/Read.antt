@@ -9,10 +9,10 @@ use Rattle.properties_format.specs.Edited.{bom_of, final_group, edited, is_edita
 use Rattle.properties_format.specs.Edits.{put}
 use Rattle.properties_format.specs.Changed.{IsSetIn, map_edited, AreOthersThanLast, OccurIn, ReadsAfter, KeepsOthers}
 use Rattle.properties_format.specs.Valued.{value_text, ending_in, separation_by, new_pair_bytes, IsFrontOf, IsValueSet, IsSetValueResult, KeepsFront}
-use Rattle.properties_format.specs.Reading.Body.{held_groups_of}
-use Rattle.properties_format.specs.Reading.Edited.{last_place}
-use Rattle.properties_format.specs.Reading.Parts.{unended_bytes}
-use Rattle.properties_format.specs.Reading.Valued.{front_of, between_of, valued_at, value_set}
+use Rattle.properties_format.specs.Computed.Body.{held_groups_of}
+use Rattle.properties_format.specs.Computed.Edited.{last_place}
+use Rattle.properties_format.specs.Computed.Parts.{unended_bytes}
+use Rattle.properties_format.specs.Computed.Valued.{front_of, between_of, valued_at, value_set}
 use Rattle.properties_format.proofs.Body.Groups.{held_groups_of-only, held-groups, held-body, groups_bytes-append}
 use Rattle.properties_format.proofs.Edited.Outcomes.{outcomes_in, givens}
 use Rattle.properties_format.proofs.Edited.Contents.{told-groups}

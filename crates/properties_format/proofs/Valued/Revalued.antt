@@ -5,15 +5,15 @@ use Rattle.std.specs.Prelude.{unwrap_or, if◌then◌else◌}
 use Rattle.std.proofs.lemmas.Bool.{cases_Bool}
 use Rattle.properties_format.specs.Text.{backslash, equals_sign, LineEnding, is_blank, is_blanks, is_comment_sign}
 use Rattle.properties_format.specs.Encoding.{Encoding}
-use Rattle.properties_format.specs.Reading.Cut.{decoded_line}
+use Rattle.properties_format.specs.Computed.Cut.{decoded_line}
 use Rattle.properties_format.specs.Groups.{is_open, is_comment_line, EndsClosed, AreOpen, IsWhole, joined}
 use Rattle.properties_format.specs.Split.{AreBlanks, begins, ends, KeyUnit, plain, escaped, last, units_before, AreUnits, IsKey, IsBetween, nothing, blanks, separator, IsPair}
-use Rattle.properties_format.specs.Reading.Split.{ends_key}
+use Rattle.properties_format.specs.Computed.Split.{ends_key}
 use Rattle.properties_format.specs.Printing.{encoded_text}
 use Rattle.properties_format.specs.Body.{HeldLine, as_lines}
 use Rattle.properties_format.specs.Edited.{is_editable}
 use Rattle.properties_format.specs.Valued.{printed_value, value_text, IsFrontOf}
-use Rattle.properties_format.specs.Reading.Valued.{without_indent, added_by}
+use Rattle.properties_format.specs.Computed.Valued.{without_indent, added_by}
 use Rattle.properties_format.proofs.Groups.Open.{is_open-backslash, is_open-other, is_open-after, without_open_backslash-closed}
 use Rattle.properties_format.proofs.Groups.Joined.{joined-closed}
 use Rattle.properties_format.proofs.Split.Keys.{units_before-append}

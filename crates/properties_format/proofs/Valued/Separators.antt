@@ -7,7 +7,7 @@ use Rattle.properties_format.specs.Text.{scalar, equals_sign, LineEnding, is_bla
 use Rattle.properties_format.specs.Encoding.{Encoding}
 use Rattle.properties_format.specs.Lines.{HoldsNoLineEnd, Line}
 use Rattle.properties_format.specs.Cut.{IsDecodedLine}
-use Rattle.properties_format.specs.Reading.Cut.{decoded_line}
+use Rattle.properties_format.specs.Computed.Cut.{decoded_line}
 use Rattle.properties_format.specs.Groups.{is_open, is_comment_line, IsWhole, joined}
 use Rattle.properties_format.specs.Split.{AreBlanks, begins, IsBetween, nothing, blanks, separator, IsPair}
 use Rattle.properties_format.specs.Escapes.{Spelling, spelling_text, spelling_character, spellings_before}

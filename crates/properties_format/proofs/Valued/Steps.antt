@@ -8,11 +8,11 @@ use Rattle.properties_format.specs.Text.{backslash}
 use Rattle.properties_format.specs.Encoding.{Encoding}
 use Rattle.properties_format.specs.Groups.{is_open}
 use Rattle.properties_format.specs.Split.{ends}
-use Rattle.properties_format.specs.Reading.Split.{ends_key}
-use Rattle.properties_format.specs.Reading.Cut.{decoded_line}
+use Rattle.properties_format.specs.Computed.Split.{ends_key}
+use Rattle.properties_format.specs.Computed.Cut.{decoded_line}
 use Rattle.properties_format.specs.Body.{HeldLine, ending_bytes}
 use Rattle.properties_format.specs.Edited.{is_editable}
-use Rattle.properties_format.specs.Reading.Valued.{without_indent, added_by, head_of, head_size, front_in, ascii_count, after_ascii}
+use Rattle.properties_format.specs.Computed.Valued.{without_indent, added_by, head_of, head_size, front_in, ascii_count, after_ascii}
 use Rattle.properties_format.proofs.Valued.Heads.{IsHeadOf, head_of-meets}
 use Rattle.properties_format.proofs.Valued.Fronts.{indented, open-indent, open_backslash, shut-whole, ends-last, ends_key-ascii, head-size, front-here, front-later, some-length}
 use Rattle.properties_format.proofs.Valued.Sizes.{head-inside, head-end, head-before_backslash}

@@ -9,7 +9,7 @@ use Rattle.properties_format.specs.Lines.{HoldsNoLineEnd}
 use Rattle.properties_format.specs.Groups.{is_open}
 use Rattle.properties_format.specs.Split.{begins}
 use Rattle.properties_format.specs.Escapes.{Spelling, itself, spelling_text, spelling_character, spellings_before, means}
-use Rattle.properties_format.specs.Reading.Escapes.{meaning_of}
+use Rattle.properties_format.specs.Computed.Escapes.{meaning_of}
 use Rattle.properties_format.specs.Printing.{in_key_or_value, unit_escape, printed_character, is_special}
 use Rattle.properties_format.specs.Writing.{is_empty}
 use Rattle.properties_format.specs.Valued.{is_free, printed_inside, printed_first, printed_last, printed_rest, printed_value}

@@ -7,11 +7,11 @@ use Rattle.properties_format.specs.Split.{IsPair}
 use Rattle.properties_format.specs.Body.{HeldLine, as_lines, held_in, AreGroupsOf, ending_bytes, group_bytes, groups_bytes}
 use Rattle.properties_format.specs.Edited.{is_editable}
 use Rattle.properties_format.specs.Valued.{IsFrontOf}
-use Rattle.properties_format.specs.Reading.Body.{held_of, held_groups_of}
-use Rattle.properties_format.specs.Reading.Cut.{decoded_line}
-use Rattle.properties_format.specs.Reading.Parts.{unended_bytes}
-use Rattle.properties_format.specs.Reading.Valued.{between_in, front_of, between_of, is_pair_to, has_value}
-use Rattle.properties_format.specs.Reading.Items.{outcome_of}
+use Rattle.properties_format.specs.Computed.Body.{held_of, held_groups_of}
+use Rattle.properties_format.specs.Computed.Cut.{decoded_line}
+use Rattle.properties_format.specs.Computed.Parts.{unended_bytes}
+use Rattle.properties_format.specs.Computed.Valued.{between_in, front_of, between_of, is_pair_to, has_value}
+use Rattle.properties_format.specs.Computed.Items.{outcome_of}
 use Rattle.properties_format.proofs.Body.Groups.{EndsOpen, IsLastFit, held_ended, cut-off, held_groups_of-only, lines-front, lines-back, fit-some}
 use Rattle.properties_format.proofs.Valued.Fronts.{AreDecoded, front_of-meets, front_of-only}
 use Rattle.properties_format.proofs.Valued.Lined.{AreLined, groups-lined, lined-groups, held_in-append, fit-parts, fit-first}

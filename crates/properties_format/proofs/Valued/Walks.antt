@@ -13,12 +13,12 @@ use Rattle.properties_format.specs.Text.{backslash}
 use Rattle.properties_format.specs.Encoding.{Encoding}
 use Rattle.properties_format.specs.Groups.{is_open, joined}
 use Rattle.properties_format.specs.Split.{AreBlanks, ends, IsPair}
-use Rattle.properties_format.specs.Reading.Split.{ends_key}
-use Rattle.properties_format.specs.Reading.Cut.{decoded_line}
+use Rattle.properties_format.specs.Computed.Split.{ends_key}
+use Rattle.properties_format.specs.Computed.Cut.{decoded_line}
 use Rattle.properties_format.specs.Body.{HeldLine, as_lines}
 use Rattle.properties_format.specs.Edited.{is_editable}
-use Rattle.properties_format.specs.Reading.Parts.{unended_bytes}
-use Rattle.properties_format.specs.Reading.Valued.{without_indent, added_by, before_value, front_in, front_of, between_of, ascii_count, after_ascii}
+use Rattle.properties_format.specs.Computed.Parts.{unended_bytes}
+use Rattle.properties_format.specs.Computed.Valued.{without_indent, added_by, before_value, front_in, front_of, between_of, ascii_count, after_ascii}
 use Rattle.properties_format.proofs.Body.Decoded.{decoded-nil}
 use Rattle.properties_format.proofs.Valued.Parts.{pair-line, before_value-pair}
 use Rattle.properties_format.proofs.Valued.Fronts.{indented, open-indent, open_backslash, shut-whole, joined_by, joined-by}

@@ -6,7 +6,7 @@ use Rattle.std.proofs.lemmas.Bool.Decides.{nat_tests}
 use Rattle.std.proofs.lemmas.Bool.{cond-false}
 use Rattle.properties_format.specs.Text.{space}
 use Rattle.properties_format.specs.Encoding.{Encoding, utf_8, characters}
-use Rattle.properties_format.specs.Reading.Encoding.{pieces_of}
+use Rattle.properties_format.specs.Computed.Encoding.{pieces_of}
 use Rattle.properties_format.specs.Printing.{unit_escape, unicode_escape, encoded_text}
 use Rattle.properties_format.specs.Writing.{is_empty}
 use Rattle.properties_format.specs.Valued.{printed_inside, printed_first, printed_last, printed_rest, printed_value}

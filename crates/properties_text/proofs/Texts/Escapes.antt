@@ -6,7 +6,7 @@ use Rattle.std.proofs.lemmas.Bool.Decides.{nat_tests}
 use Rattle.std.specs.Char.{InScalarRange, OutOfScalarRange}
 use Rattle.properties_format.specs.Text.{backslash}
 use Rattle.properties_format.specs.Escapes.{letter_u, is_hexadecimal, hexadecimal_value, Four, four_text, are_hexadecimal, code_unit, is_high, is_low, is_surrogate, pair_character, escaped_character, not_hex, invalid_character}
-use Rattle.properties_format.specs.Reading.Escapes.{in_front, with_low, meaning_of}
+use Rattle.properties_format.specs.Computed.Escapes.{in_front, with_low, meaning_of}
 use Rattle.properties_format.proofs.Escapes.Laws.{meaning_of-escaped, meaning_of-unicode, meaning_of-surrogates, meaning_of-last, IsMalformedUnit, malformed-short, malformed-not_hex, malformed-lone_low, malformed-lone_high}
 use Rattle.properties_format.proofs.Escapes.Scalars.{code_unit-below}
 use Rattle.properties_format.proofs.Escapes.Unique.{meaning_of-empty}

@@ -11,7 +11,7 @@ use Rattle.std.proofs.lemmas.Str.{encodes-chars, chars-append, chars-encodes, Is
 use Rattle.memchr.specs.Find.{IsFirstByte, is_byte}
 use Rattle.properties_format.specs.Text.{backslash}
 use Rattle.properties_format.specs.Escapes.{Malformed, Meaning, means, breaks, Means, Breaks, IsMeaning}
-use Rattle.properties_format.specs.Reading.Escapes.{in_front, text_in_front, meaning_of}
+use Rattle.properties_format.specs.Computed.Escapes.{in_front, text_in_front, meaning_of}
 use Rattle.properties_format.specs.Groups.{ending_backslashes, is_open}
 use Rattle.properties_format.specs.Writing.{HoldsNoBackslash}
 use Rattle.properties_format.proofs.Groups.Open.{ending_backslashes-after}

@@ -8,7 +8,7 @@ use Rattle.std.proofs.lemmas.List.{drop_more, drop-drop, take_rest, length-drop,
 use Rattle.std.proofs.lemmas.Str.{IsUtf8-drop, IsCharBoundary-after_ascii, IsCharBoundary-from_drop, IsCharBoundary-from_take, IsCharBoundary-from_rest}
 use Rattle.properties_format.specs.Text.{is_blank, is_comment_sign, without_leading_blanks}
 use Rattle.properties_format.specs.Split.{comment, pair, begins, AreBlanks, IsComment, IsPair, IsSplit}
-use Rattle.properties_format.specs.Reading.Split.{trimmed, split_full, split_of}
+use Rattle.properties_format.specs.Computed.Split.{trimmed, split_full, split_of}
 use Rattle.properties_format.proofs.Split.Blanks.{without_leading_blanks-only, core-begins}
 use Rattle.properties_format.proofs.Split.Unique.{split_of-meets, sign-full}
 use Rattle.properties_text.specs.Parsing.{bytes_in, spanned, IsSpan, AreSpans, IsCommentAt, IsPairAt, AreInPlace, AreFoundInText}

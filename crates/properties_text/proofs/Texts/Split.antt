@@ -6,7 +6,7 @@ use Rattle.std.proofs.lemmas.Str.{chars-encodes, encodes-chars, scalars-chars}
 use Rattle.std.proofs.lemmas.Bool.{cases_Bool, cond-true, cond-false, and_parts}
 use Rattle.properties_format.specs.Text.{backslash, is_blank, is_separator, is_comment_sign, without_leading_blanks}
 use Rattle.properties_format.specs.Split.{Logical, comment, IsSplit}
-use Rattle.properties_format.specs.Reading.Split.{without_trailing_blanks, unless_last_blank, trimmed, Cut, with_front, ends_key, cut_key, past_separator, pair_of, split_full, split_of}
+use Rattle.properties_format.specs.Computed.Split.{without_trailing_blanks, unless_last_blank, trimmed, Cut, with_front, ends_key, cut_key, past_separator, pair_of, split_full, split_of}
 use Rattle.properties_format.proofs.Split.Blanks.{without_leading_blanks-meets, without_trailing_blanks-meets}
 use Rattle.properties_format.proofs.Split.Keys.{with_text, cut_key-meets}
 use Rattle.properties_format.proofs.Split.Unique.{split_of-meets}

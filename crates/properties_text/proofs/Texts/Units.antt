@@ -10,7 +10,7 @@ use Rattle.std.proofs.lemmas.Str.{encodes-chars, IsUtf8-append, IsUtf8-encode}
 use Rattle.std.specs.Char.{IsScalar, encode_utf8}
 use Rattle.properties_format.specs.Text.{backslash}
 use Rattle.properties_format.specs.Escapes.{letter_u, is_hexadecimal, hexadecimal_value, Four, four_text, itself, escaped, unicode, surrogates, last, NoSpelling, are_hexadecimal, code_unit}
-use Rattle.properties_format.specs.Reading.Escapes.{in_front, text_in_front, meaning_of}
+use Rattle.properties_format.specs.Computed.Escapes.{in_front, text_in_front, meaning_of}
 use Rattle.properties_text.specs.Escaping.{digit_value, four_bytes, IsUnit, HasNoUnit}
 use Rattle.properties_text.specs.declared.escape.units.TheConstants.{DIGITS}
 use Rattle.properties_text.proofs.Texts.Characters.{four_ascii}

@@ -6,7 +6,7 @@ use Rattle.std.proofs.lemmas.List.{length-append, length-take, length-take-le, d
 use Rattle.properties_format.specs.Encoding.{begins_like_bom}
 use Rattle.properties_format.proofs.ReadBack.Unmarked.{byte_order_mark-cut}
 use Rattle.properties_format.specs.Split.{pair, IsSplit}
-use Rattle.properties_format.specs.Reading.Undecoded.{characters_of}
+use Rattle.properties_format.specs.Computed.Undecoded.{characters_of}
 use Rattle.properties_format.proofs.Undecoded.{decodes, splitting-commutes}
 use Rattle.properties_text.specs.Decoding.{text_of}
 use Rattle.properties_text.specs.Escaping.{IsRefused}

@@ -8,7 +8,7 @@ use Rattle.std.proofs.lemmas.List.Elements.{All-head, All-tail, All-weaker, All-
 use Rattle.properties_format.specs.Text.{backslash, space}
 use Rattle.properties_format.specs.Writing.{HoldsNoBackslash}
 use Rattle.properties_format.specs.Windows1252.{windows_1252_byte, windows_1252_character}
-use Rattle.properties_format.specs.Reading.Escapes.{meaning_of, text_in_front}
+use Rattle.properties_format.specs.Computed.Escapes.{meaning_of, text_in_front}
 use Rattle.properties_format.proofs.Encodings.Windows1252.{windows_1252_byte-character}
 use Rattle.properties_format.proofs.Escapes.Laws.{meaning_of-plain_front}
 use Rattle.byte_blocks.specs.Classes.{is_control}
@@ -17,7 +17,7 @@ use Rattle.properties_text.specs.declared.print.Place.TheVariants.{KeyOrValue}
 use Rattle.properties_text.proofs.Printing.Bytes.{bytes-printed}
 use Rattle.properties_text.proofs.Printing.Vectors.{spelt}
 use Rattle.properties_text.specs.declared.print.undecoded.Printed.{Printed}
-use Rattle.properties_format.specs.Reading.Undecoded.{characters_of}
+use Rattle.properties_format.specs.Computed.Undecoded.{characters_of}
 use Rattle.properties_format.proofs.Undecoded.{same}
 use Rattle.properties_text.specs.UndecodedTexts.{stops, ArePut}
 use Rattle.properties_text.proofs.UndecodedTexts.Spellings.{put-many}

@@ -9,11 +9,11 @@ use Rattle.properties_format.specs.Text.{backslash}
 use Rattle.properties_format.specs.Windows1252.{windows_1252_byte, windows_1252_character}
 use Rattle.properties_format.specs.Encoding.{windows_1252}
 use Rattle.properties_format.specs.Escapes.{letter_u, escaped_character, is_hexadecimal, are_hexadecimal, code_unit, is_surrogate, is_high, is_low, pair_character, Four, four_text, Meaning, means, breaks, Means, IsMeaning}
-use Rattle.properties_format.specs.Reading.Undecoded.{characters_of}
+use Rattle.properties_format.specs.Computed.Undecoded.{characters_of}
 use Rattle.properties_format.proofs.Undecoded.{decodes, same}
 use Rattle.properties_text.specs.Decoding.{text_of}
 use Rattle.properties_text.specs.declared.encoding.Encoding.TheVariants.{WINDOWS_1252}
-use Rattle.properties_format.specs.Reading.Escapes.{meaning_of, in_front, text_in_front}
+use Rattle.properties_format.specs.Computed.Escapes.{meaning_of, in_front, text_in_front}
 use Rattle.properties_format.specs.Printing.{in_key_or_value, printed_character, printed_characters, encoded_text, unicode_escape, unit_escape, high_surrogate, low_surrogate, is_special, has_letter}
 use Rattle.properties_format.proofs.Encodings.Windows1252.{windows_1252_byte-character, windows_1252_character-ascii, windows_1252_character-byte, windows_1252_byte-ascii}
 use Rattle.properties_format.proofs.Escapes.Laws.{meaning_of-itself, meaning_of-escaped, meaning_of-unicode, meaning_of-surrogates}

@@ -10,8 +10,8 @@ use Rattle.properties_format.specs.Text.{backslash}
 use Rattle.properties_format.specs.Windows1252.{windows_1252_character}
 use Rattle.properties_format.specs.Escapes.{letter_u, is_hexadecimal, are_hexadecimal, code_unit, is_surrogate, is_high, is_low, Four, four_text, Malformed, not_enough_digits, not_hex, invalid_character, Meaning, means, breaks, Breaks, IsMeaning}
 use Rattle.properties_format.specs.Printing.{unicode_escape}
-use Rattle.properties_format.specs.Reading.Escapes.{meaning_of, text_in_front, with_low}
-use Rattle.properties_format.specs.Reading.Undecoded.{characters_of}
+use Rattle.properties_format.specs.Computed.Escapes.{meaning_of, text_in_front, with_low}
+use Rattle.properties_format.specs.Computed.Undecoded.{characters_of}
 use Rattle.properties_format.proofs.Undecoded.{decodes, same}
 use Rattle.properties_format.proofs.Escapes.Laws.{malformed-short, malformed-not_hex, meaning_of-last}
 use Rattle.properties_format.proofs.Escapes.Unique.{text_in_front-means, text_in_front-breaks, meaning_of-meets}

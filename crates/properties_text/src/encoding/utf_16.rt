@@ -2,8 +2,8 @@
 
 ghost use Rattle.std.specs.Prelude.{◌≡◌, ℕ, ◌∷◌, true};
 ghost use Rattle.properties_format.specs.Surrogates.{is_high, is_low, pair_character};
-ghost use Rattle.properties_format.specs.Reading.Utf16.{first_utf_16_piece, high_piece};
-ghost use Rattle.properties_format.specs.Reading.Waiting.{awaits_unit};
+ghost use Rattle.properties_format.specs.Computed.Utf16.{first_utf_16_piece, high_piece};
+ghost use Rattle.properties_format.specs.Computed.Waiting.{awaits_unit};
 ghost use Rattle.properties_text.specs.Decoding.{ShowsPiece, unit_of};
 
 use super::first_piece::FirstPiece;

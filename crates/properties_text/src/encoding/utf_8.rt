@@ -3,7 +3,7 @@
 ghost use Rattle.std.specs.Prelude.{◌≡◌, ◌++◌, ◌+◌, ◌*◌, ◌%◌, ◌^◌, ◌<◌, ◌≤◌, ◌∷◌, map, length, Some, None, IsSome, IfSome, ◌↔◌, MatchOption};
 ghost use Rattle.std.specs.Str.{IsUtf8};
 ghost use Rattle.properties_format.specs.Utf8.{well_formed_rows, sequence_character, IsWellFormedText};
-ghost use Rattle.properties_format.specs.Reading.Utf8.{is_in, ranges_after, fitting};
+ghost use Rattle.properties_format.specs.Computed.Utf8.{is_in, ranges_after, fitting};
 ghost use Rattle.properties_format.specs.Encoding.{utf_8};
 ghost use Rattle.properties_text.specs.Decoding.{IsFirstPiece, range_of};
 

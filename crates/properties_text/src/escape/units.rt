@@ -5,7 +5,7 @@ ghost use Rattle.std.specs.Char.{IsScalar};
 ghost use Rattle.std.specs.Str.{IsUtf8, chars};
 ghost use Rattle.properties_format.specs.Text.{backslash};
 ghost use Rattle.properties_format.specs.Escapes.{letter_u, NoSpelling, are_hexadecimal, code_unit, escaped_character};
-ghost use Rattle.properties_format.specs.Reading.Escapes.{meaning_of, text_in_front};
+ghost use Rattle.properties_format.specs.Computed.Escapes.{meaning_of, text_in_front};
 ghost use Rattle.properties_text.specs.Escaping.{Resolves, IsUnit, HasNoUnit, HasNoEscape, digit_value, four_bytes};
 
 use super::{CodeUnit, Escape, read_low_surrogate};

@@ -2,7 +2,7 @@ use Rattle.std.proofs.Common.{◌<◌, ◌≤◌, length, refl, ◌∙◌, subst
 use Rattle.std.proofs.lemmas.Result.{err_from_is_err_and}
 use Rattle.counted_io.specs.Streams.{sink}
 use Rattle.properties_text.specs.Encoding.{output_of}
-use Rattle.java_properties.specs.Engine.{writing}
+use Rattle.java_properties.specs.Private.Engine.{writing}
 use Rattle.java_properties.specs.PropertiesWriter.{Writing}
 use Rattle.java_properties.proofs.TextMaps.Writing.{HasMadeFirst, new-writing, first-none, first-more, first-all, stops-in-pair, writes}
 use Rattle.java_properties.proofs.maps.write_pairs.Goals as goal

@@ -1,6 +1,6 @@
 use Rattle.counted_io.specs.Streams.{sink, IsSameSink}
 use Rattle.properties_text.specs.Encoding.{output_of}
-use Rattle.java_properties.specs.Engine.{writing}
+use Rattle.java_properties.specs.Private.Engine.{writing}
 use Rattle.java_properties.proofs.TextMaps.Writing.{HasMadeFirst}
 use Rattle.java_properties.proofs.maps.write_pairs.Given as goal
 

@@ -1,11 +1,11 @@
 use Rattle.std.proofs.Common.{◌≡◌, ◌++◌, ◌∷◌, [], ◌∙◌, ap, sym, subst, take, arith}
 use Rattle.std.proofs.lemmas.List.{take_rest, take_all}
 use Rattle.properties_format.specs.Edits.{AreEdited, IsEditAllResult}
-use Rattle.properties_format.specs.Reading.Edits.{edits_made}
+use Rattle.properties_format.specs.Computed.Edits.{edits_made}
 use Rattle.properties_format.proofs.Edits.Results.{edit_all_result-meets}
 use Rattle.properties_format.proofs.Laws.{splitting-commutes}
 use Rattle.properties_text.specs.Encoding.{encoding_of}
-use Rattle.properties_editing.specs.BodyIndex.{AreEditsMade}
+use Rattle.properties_editing.specs.Private.BodyIndex.{AreEditsMade}
 use Rattle.properties_editing.specs.Editing.{AreMade, edit_in, edits_in}
 use Rattle.properties_editing.proofs.Editing.{edits_in-more, edits-scalars, made-edits, refusal}
 use Rattle.properties_editing.proofs.Editing as editing

@@ -1,6 +1,6 @@
 use Rattle.std.proofs.Common.{take}
 use Rattle.properties_text.specs.Encoding.{encoding_of}
-use Rattle.properties_editing.specs.BodyIndex.{AreEditsMade}
+use Rattle.properties_editing.specs.Private.BodyIndex.{AreEditsMade}
 use Rattle.properties_editing.specs.Editing.{edits_in}
 use Rattle.properties_editing.proofs.edit.edit_all.Given as goal
 

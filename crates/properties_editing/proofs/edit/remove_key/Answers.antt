@@ -2,11 +2,11 @@ use Rattle.std.proofs.Common.{◌∙◌, ap}
 use Rattle.std.proofs.lemmas.List.{take_rest}
 use Rattle.std.specs.Str.{chars}
 use Rattle.properties_format.specs.Edited.{IsKeyRemoved}
-use Rattle.properties_format.specs.Reading.Edited.{key_removed}
+use Rattle.properties_format.specs.Computed.Edited.{key_removed}
 use Rattle.properties_format.proofs.Edited.Results.{remove_key_result-meets}
 use Rattle.properties_format.proofs.Laws.{splitting-commutes}
 use Rattle.properties_text.specs.Encoding.{encoding_of}
-use Rattle.properties_editing.specs.BodyKeys.{left_bytes}
+use Rattle.properties_editing.specs.Private.BodyKeys.{left_bytes}
 use Rattle.properties_editing.proofs.Editing.{refusal, removed-edits, removed-result}
 use Rattle.properties_editing.proofs.edit.remove_key.Goals as goal
 

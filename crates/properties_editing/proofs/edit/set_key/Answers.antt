@@ -2,7 +2,7 @@ use Rattle.std.proofs.Common.{◌∙◌, ap}
 use Rattle.std.proofs.lemmas.List.{take_rest}
 use Rattle.std.specs.Str.{chars}
 use Rattle.properties_format.specs.Edited.{IsKeySet}
-use Rattle.properties_format.specs.Reading.Edited.{key_set}
+use Rattle.properties_format.specs.Computed.Edited.{key_set}
 use Rattle.properties_format.proofs.Edited.Results.{set_key_result-meets}
 use Rattle.properties_format.proofs.Laws.{splitting-commutes}
 use Rattle.properties_text.specs.Encoding.{encoding_of}

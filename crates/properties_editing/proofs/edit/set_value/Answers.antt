@@ -2,7 +2,7 @@ use Rattle.std.proofs.Common.{◌∙◌, ap}
 use Rattle.std.proofs.lemmas.List.{take_rest}
 use Rattle.std.specs.Str.{chars}
 use Rattle.properties_format.specs.Valued.{IsValueSet}
-use Rattle.properties_format.specs.Reading.Valued.{value_set}
+use Rattle.properties_format.specs.Computed.Valued.{value_set}
 use Rattle.properties_format.proofs.Valued.Made.{set_value_result-meets}
 use Rattle.properties_format.proofs.Laws.{splitting-commutes}
 use Rattle.properties_text.specs.Encoding.{encoding_of}

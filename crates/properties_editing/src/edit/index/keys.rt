@@ -1,8 +1,8 @@
 // The keys of an index.
 
 ghost use Rattle.std.specs.Prelude.{◌≡◌, IfOk, Some, slice_get};
-ghost use Rattle.properties_editing.specs.BodyIndex.{places_of};
-ghost use Rattle.properties_editing.specs.BodyIndex.Keys.{ArePlaced, IndexesSome, TellsKeys};
+ghost use Rattle.properties_editing.specs.Private.BodyIndex.{places_of};
+ghost use Rattle.properties_editing.specs.Private.BodyIndex.Keys.{ArePlaced, IndexesSome, TellsKeys};
 
 use crate::edit::index::{Index, IndexedPair};
 use std::alloc::{AllocError, Global};

@@ -1,7 +1,7 @@
 use Rattle.std.proofs.Common.{[], ◌++◌, ◌∙◌, refl, arith}
 use Rattle.std.specs.declared.alloc.AllocError.{AllocError}
 use Rattle.properties_format.specs.Encoding.{windows_1252}
-use Rattle.properties_format.specs.Reading.Cut.{decoded_line}
+use Rattle.properties_format.specs.Computed.Cut.{decoded_line}
 use Rattle.properties_lines.proofs.OpenLines.{added-decoded}
 use Rattle.properties_lines.proofs.LineJoiner.{goes-start, goes-more, goes-windows_1252, joins-closed, joins-over, joins-lost}
 use Rattle.properties_lines.proofs.joined.join_rest.Goals as goal

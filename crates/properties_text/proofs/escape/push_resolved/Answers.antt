@@ -2,7 +2,7 @@ use Rattle.std.proofs.Common.{◌∷◌, ◌++◌, string_bytes, take, drop, sym
 use Rattle.std.specs.Str.{chars}
 use Rattle.std.proofs.lemmas.Str.{IsUtf8-string_bytes, chars-append}
 use Rattle.properties_format.specs.Text.{backslash}
-use Rattle.properties_format.specs.Reading.Escapes.{in_front, meaning_of}
+use Rattle.properties_format.specs.Computed.Escapes.{in_front, meaning_of}
 use Rattle.properties_text.specs.Escaping.{malformed_in}
 use Rattle.properties_text.proofs.Texts.Resolving.{split_at, plain, slice-front, pushed, resolved_none, resolved_more, resolved_many, pushed_text, resolved_end, resolved_broken}
 use Rattle.properties_text.proofs.escape.push_resolved.Goals as goal

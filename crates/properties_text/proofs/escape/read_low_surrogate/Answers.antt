@@ -3,7 +3,7 @@ use lib.Utf8.{encodes}
 use Rattle.std.specs.Str.{chars}
 use Rattle.properties_format.specs.Text.{backslash}
 use Rattle.properties_format.specs.Escapes.{letter_u}
-use Rattle.properties_format.specs.Reading.Escapes.{in_front, with_low, meaning_of}
+use Rattle.properties_format.specs.Computed.Escapes.{in_front, with_low, meaning_of}
 use Rattle.properties_text.specs.Escaping.{IsUnit}
 use Rattle.properties_text.proofs.Texts.Escapes.{meaning-pair, malformed-unpaired, low-no_escape, low-unread, low-other, joined-parts, not_joined, escape-front, escape-bytes}
 use Rattle.properties_text.proofs.escape.read_low_surrogate.Goals as goal

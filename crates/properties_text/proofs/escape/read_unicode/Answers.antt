@@ -1,7 +1,7 @@
 use Rattle.std.proofs.Common.{sym, ap, ◌∙◌}
 use Rattle.std.proofs.lemmas.Result.{err_from_is_err_and}
 use Rattle.std.specs.Str.{chars}
-use Rattle.properties_format.specs.Reading.Escapes.{in_front, meaning_of}
+use Rattle.properties_format.specs.Computed.Escapes.{in_front, meaning_of}
 use Rattle.properties_text.proofs.Texts.Escapes.{meaning-unit, malformed-unread, scalar-unit, surrogate-unit}
 use Rattle.properties_text.proofs.escape.read_unicode.Goals as goal
 

@@ -2,7 +2,7 @@ use Rattle.std.proofs.Common.{◌≡◌, ◌++◌, not, string_bytes, take, drop
 use Rattle.std.specs.Str.{chars}
 use Rattle.std.proofs.lemmas.Result.{err_from_is_err_and}
 use Rattle.properties_format.specs.Escapes.{Means}
-use Rattle.properties_format.specs.Reading.Escapes.{meaning_of}
+use Rattle.properties_format.specs.Computed.Escapes.{meaning_of}
 use Rattle.properties_text.specs.Escaping.{IsRefused}
 use Rattle.properties_text.proofs.Texts.Resolving.{split_at, plain, slice-front, refused_front, means_front, means_plain}
 use Rattle.properties_text.proofs.escape.unescape.Goals as goal

@@ -1,5 +1,5 @@
 use Rattle.std.proofs.Common.{◌≡◌, ◌≤◌, take, length}
-use Rattle.properties_format.specs.Reading.Split.{without_trailing_blanks}
+use Rattle.properties_format.specs.Computed.Split.{without_trailing_blanks}
 use Rattle.properties_text.proofs.parse.length_without_trailing_blanks.Given as goal
 
 abbrev pub invariant-loop-end : goal.invariant-loop-end

@@ -2,7 +2,7 @@ use Rattle.std.proofs.Common.{◌≡◌, refl, sym, ap, ◌∙◌, subst, inl, i
 use Rattle.std.specs.Prelude.{Some, None}
 use Rattle.counted_io.specs.Streams.{reader, sink}
 use Rattle.properties_format.specs.Entries.{pair}
-use Rattle.java_properties.specs.Copying.{CopiesNone, StopsReading, StopsWriting}
+use Rattle.java_properties.specs.Copying.{CopiesNone, FailsToRead, FailsToWrite}
 use Rattle.java_properties.specs.PropertiesIter.{Reading}
 use Rattle.java_properties.specs.PropertiesWriter.{Flushes}
 use Rattle.java_properties.specs.declared.iter.copy.CopyError.TheVariants.{Read, Write}
@@ -56,7 +56,7 @@ returns-in-Some-Read-clause-filters g c =
     let quiet = c.loop.invariant.quiet in
     let stopped = rw c.loop-test.false at c.copy_next.ensures.copies in
     let kept : c.copy_next.new.self.error ≡ Some (Read c.in-Some-Read.error) = sym c.take_error.ensures.error ∙ c.in-Some-Read.is ∙ ap Some c.in-Some-Read.field-0-is in
-    let failed : (f : StopsReading r c.loop.items c.loop.lines c.copy_next.new.self c.copy_next.new.writer) × (f.error ≡ c.in-Some-Read.error) = elim stopped [
+    let failed : (f : FailsToRead r c.loop.items c.loop.lines c.copy_next.new.self c.copy_next.new.writer) × (f.error ≡ c.in-Some-Read.error) = elim stopped [
       | inl n ↦ let is = n.kept in absurd (cc)
       | inr k ↦ elim k [
         | inl e ↦ (e, let is = e.kept in cc)
@@ -74,7 +74,7 @@ returns-in-Some-Write-clause-filters g c =
     let quiet = c.loop.invariant.quiet in
     let stopped = rw c.loop-test.false at c.copy_next.ensures.copies in
     let kept : c.copy_next.new.self.error ≡ Some (Write c.in-Some-Write.error) = sym c.take_error.ensures.error ∙ c.in-Some-Write.is ∙ ap Some c.in-Some-Write.field-0-is in
-    let failed : (f : StopsWriting r s c.loop.items c.loop.lines c.copy_next.new.self c.copy_next.new.writer) × (f.error ≡ c.in-Some-Write.error) = elim stopped [
+    let failed : (f : FailsToWrite r s c.loop.items c.loop.lines c.copy_next.new.self c.copy_next.new.writer) × (f.error ≡ c.in-Some-Write.error) = elim stopped [
       | inl n ↦ let is = n.kept in absurd (cc)
       | inr k ↦ elim k [
         | inl e ↦ let is = e.kept in absurd (cc)

@@ -4,7 +4,7 @@ ghost use Rattle.std.specs.Prelude.{◌↔◌, ◌≡◌, map, string_bytes, IfO
 ghost use Rattle.std.specs.Option.{option_map};
 ghost use Rattle.properties_text.specs.Encoding.{encoding_of};
 ghost use Rattle.properties_tools.specs.Propedit.Asked.{chosen_encoding, in_encoding, no_choices, source_of, with_default, with_zero, IsInPlace};
-ghost use Rattle.properties_tools.specs.Propedit.AskedParts.{choice_of, choices_next, choices_of, next_of, source_choice, AreChosen, AreChosenAfter, IsChoiceWith, IsEncodingChoice, IsNextChoice, IsNextWithValue, IsPlain, IsWithChoice, IsWithSource};
+ghost use Rattle.properties_tools.specs.Private.Propedit.AskedParts.{choice_of, choices_next, choices_of, next_of, source_choice, AreChosen, AreChosenAfter, IsChoiceWith, IsEncodingChoice, IsNextChoice, IsNextWithValue, IsPlain, IsWithChoice, IsWithSource};
 
 use crate::propedit::asked::{Source, TextEnd};
 use java_properties::Encoding;

@@ -1,6 +1,6 @@
 use Rattle.std.proofs.Common.{rules}
 use Rattle.counted_io.specs.Streams.{reader}
-use Rattle.java_properties.specs.GivenItems.{FindsItem}
+use Rattle.java_properties.specs.Private.GivenItems.{FindsItem}
 use Rattle.java_properties.specs.PropertiesIter.{Reading}
 use Rattle.java_properties.proofs.StatedItems.{state-advance}
 use Rattle.java_properties.proofs.iter.PropertiesIter.advance.Goals as goal

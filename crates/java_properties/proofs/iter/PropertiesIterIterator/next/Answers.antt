@@ -1,6 +1,6 @@
 use Rattle.std.proofs.Common.{rules}
 use Rattle.counted_io.specs.Streams.{reader}
-use Rattle.java_properties.specs.GivenItems.{GivesItem}
+use Rattle.java_properties.specs.Private.GivenItems.{GivesItem}
 use Rattle.java_properties.proofs.StatedItems.{state-item}
 use Rattle.java_properties.proofs.iter.PropertiesIterIterator.next.Goals as goal
 

@@ -2,7 +2,7 @@ use Rattle.std.proofs.Common.{◌≡◌, ap, ap₂, sym, ◌∙◌}
 use Rattle.std.specs.Str.{chars}
 use Rattle.counted_io.specs.Streams.{sink}
 use Rattle.properties_format.specs.Entries.{pair}
-use Rattle.java_properties.specs.Engine.{writing}
+use Rattle.java_properties.specs.Private.Engine.{writing}
 use Rattle.properties_items.specs.BorrowedItems.{borrowed_content}
 use Rattle.java_properties.proofs.CopiedLines.{pair-copies}
 use Rattle.properties_items.proofs.Scalars.{chars-scalars}

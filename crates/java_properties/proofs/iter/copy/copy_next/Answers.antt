@@ -4,7 +4,7 @@ use Rattle.counted_io.specs.Streams.{reader, sink, IsSameSink}
 use Rattle.properties_lines.specs.LineReader.{lines_left}
 use Rattle.properties_lines.specs.LineJoiner.{Joining}
 use Rattle.java_properties.specs.Copying.{reading}
-use Rattle.java_properties.specs.Engine.{writing}
+use Rattle.java_properties.specs.Private.Engine.{writing}
 use Rattle.java_properties.proofs.Items.{passed-start}
 use Rattle.java_properties.proofs.Copying.{CameLine, copied-item, copied-nothing, copied-failed, copied-none}
 use Rattle.java_properties.proofs.iter.copy.copy_next.Given.{Over}

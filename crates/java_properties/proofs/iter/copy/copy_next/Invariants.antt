@@ -2,7 +2,7 @@ use Rattle.std.proofs.Common.{◌≡◌, ◌≤◌, ℕ, List}
 use Rattle.std.specs.Prelude.{None}
 use Rattle.counted_io.specs.Streams.{reader, sink, IsSameReader, IsSameSink}
 use Rattle.properties_lines.specs.LineReader.{lines_left}
-use Rattle.java_properties.specs.Engine.{writing}
+use Rattle.java_properties.specs.Private.Engine.{writing}
 use Rattle.java_properties.proofs.Items.{Passed}
 use Rattle.java_properties.proofs.iter.copy.copy_next.Given as goal
 

@@ -2,7 +2,7 @@ use Rattle.std.proofs.Common.{◌≡◌, [], refl, sym, ap, inr, ◌∙◌}
 use Rattle.std.specs.Str.{chars}
 use Rattle.properties_format.specs.Entries.{Entry, Content, item, malformed, read_fault, comment}
 use Rattle.properties_format.specs.Items.{given}
-use Rattle.properties_format.specs.Reading.Items.{outcome_of}
+use Rattle.properties_format.specs.Computed.Items.{outcome_of}
 use Rattle.properties_items.specs.BorrowedItems.{borrowed_content, found_content}
 use Rattle.properties_items.proofs.FoundItems.{found-item}
 use Rattle.java_properties.proofs.iter.copy.copy_text.Given.{Over}

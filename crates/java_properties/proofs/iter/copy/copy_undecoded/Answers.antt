@@ -2,11 +2,11 @@ use Rattle.std.proofs.Common.{◌≡◌, ℕ, List, take, length, sym, ap, refl,
 use Rattle.counted_io.specs.Streams.{sink}
 use Rattle.properties_format.specs.Entries.{pair}
 use Rattle.properties_format.specs.Items.{MeansPair, given}
-use Rattle.properties_format.specs.Reading.Items.{outcome_of}
+use Rattle.properties_format.specs.Computed.Items.{outcome_of}
 use Rattle.properties_format.proofs.Items.Unique.{outcome_of-only}
 use Rattle.properties_text.specs.UndecodedTexts.{undecoded_line, IsPairRefused}
 use Rattle.java_properties.specs.Copying.{HasScalars}
-use Rattle.java_properties.specs.Engine.{writing}
+use Rattle.java_properties.specs.Private.Engine.{writing}
 use Rattle.java_properties.proofs.CopiedLines.{text_in, empty-line, undecoded-scalars, refuse-copies, refused-no_item, front-bytes}
 use Rattle.java_properties.proofs.iter.copy.copy_undecoded.Given.{Over}
 use Rattle.java_properties.proofs.iter.copy.copy_undecoded.Goals as goal

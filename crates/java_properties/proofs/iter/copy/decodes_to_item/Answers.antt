@@ -4,7 +4,7 @@ use Rattle.std.specs.Str.{chars}
 use Rattle.std.proofs.lemmas.Str.{chars-nil}
 use Rattle.properties_text.specs.Decoding.{text_of}
 use Rattle.properties_text.specs.declared.encoding.Encoding.TheVariants.{WINDOWS_1252}
-use Rattle.java_properties.specs.CopiedLines.{FindsAny}
+use Rattle.java_properties.specs.Private.CopiedLines.{FindsAny}
 use Rattle.properties_items.specs.Errors.{IsUnresolvedError}
 use Rattle.properties_items.specs.FoundItems.{IsNoItem}
 use Rattle.properties_items.specs.declared.error.PropertiesError.{PropertiesError}

@@ -2,9 +2,9 @@ use Rattle.std.proofs.Common.{◌≡◌, ◌≤◌, List, ℕ, length, drop, tak
 use Rattle.std.specs.Prelude.{Ok}
 use Rattle.properties_format.specs.Items.{given}
 use Rattle.properties_format.specs.Entries.{Content}
-use Rattle.properties_format.specs.Reading.Items.{outcome_of}
+use Rattle.properties_format.specs.Computed.Items.{outcome_of}
 use Rattle.properties_format.specs.Text.{without_leading_blanks}
-use Rattle.java_properties.specs.CopiedLines.{FindsAny}
+use Rattle.java_properties.specs.Private.CopiedLines.{FindsAny}
 use Rattle.java_properties.proofs.CopiedLines.{text_in, blank-line, comment-line, no_pair-comment}
 use Rattle.java_properties.proofs.iter.copy.pass_comment.Goals as goal
 

@@ -4,7 +4,7 @@ use Rattle.std.specs.BTreeMap.{get_by_text}
 use Rattle.std.specs.Str.{chars}
 use Rattle.std.specs.String.{string_bytes}
 use Rattle.std.proofs.lemmas.Str.{IsUtf8-string_bytes}
-use Rattle.java_properties.specs.LineByLine.{KeepsFirst}
+use Rattle.java_properties.specs.Private.LineByLine.{KeepsFirst}
 use Rattle.java_properties.proofs.KeyLines.{kept-first, new-first}
 use Rattle.java_properties.proofs.iter.keys.keep_first.Goals as goal
 

@@ -2,7 +2,7 @@ use Rattle.std.proofs.Common.{◌≡◌, ◌∷◌, Bool, true, false, sym, ◌�
 use Rattle.std.specs.Str.{IsUtf8, chars}
 use Rattle.std.specs.Str.Iter.{chars_rest}
 use Rattle.std.proofs.lemmas.Str.{IsUtf8-past_char}
-use Rattle.properties_format.specs.Reading.Settings.{is_good_prefix}
+use Rattle.properties_format.specs.Computed.Settings.{is_good_prefix}
 use Rattle.java_properties.proofs.Settings.Tests.{prefix_left, past_first, past_last, prefix_left-end, prefix_left-in_line, prefix_left-line_end, prefix_left-sign, prefix_left-blank, prefix_left-other}
 use Rattle.java_properties.proofs.writer.settings.is_good_prefix.Goals as goal
 use Rattle.java_properties.proofs.writer.settings.is_good_prefix.Goals.{In-Some}

@@ -1,7 +1,7 @@
 use Rattle.std.proofs.Common.{◌≡◌}
 use Rattle.std.specs.Str.{IsUtf8, chars}
 use Rattle.std.specs.Str.Iter.{chars_rest}
-use Rattle.properties_format.specs.Reading.Settings.{is_good_prefix}
+use Rattle.properties_format.specs.Computed.Settings.{is_good_prefix}
 use Rattle.java_properties.proofs.Settings.Tests.{prefix_left}
 use Rattle.java_properties.proofs.writer.settings.is_good_prefix.Given as goal
 

@@ -4,7 +4,7 @@ use Rattle.std.specs.Str.{IsUtf8, chars}
 use Rattle.std.specs.Str.Iter.{chars_rest}
 use Rattle.std.proofs.lemmas.Str.{IsUtf8-past_char}
 use Rattle.properties_format.specs.Text.{is_separator}
-use Rattle.properties_format.specs.Reading.Settings.{is_good_separator}
+use Rattle.properties_format.specs.Computed.Settings.{is_good_separator}
 use Rattle.java_properties.proofs.Settings.Tests.{holds_some, separator_left, past_first, past_last, separator_left-end, separator_left-sign, separator_left-blank, separator_left-other, holds_some-chars}
 use Rattle.java_properties.proofs.writer.settings.is_good_separator.Goals as goal
 use Rattle.java_properties.proofs.writer.settings.is_good_separator.Goals.{In-Some, else-is_separator-via-then-is_separator+else-not-signed, else-is_separator-via-else-is_separator}

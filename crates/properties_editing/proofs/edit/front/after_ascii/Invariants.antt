@@ -1,5 +1,5 @@
 use Rattle.std.proofs.Common.{◌≡◌, ◌≤◌, ◌+◌, ◌-◌, drop, length}
-use Rattle.properties_format.specs.Reading.Valued.{after_ascii}
+use Rattle.properties_format.specs.Computed.Valued.{after_ascii}
 use Rattle.properties_editing.proofs.edit.front.after_ascii.Given as goal
 
 abbrev pub invariant-loop-left : goal.invariant-loop-left

@@ -1,5 +1,5 @@
 use Rattle.std.proofs.Common.{◌≡◌, ◌≤◌, take}
-use Rattle.properties_format.specs.Reading.Valued.{ascii_count}
+use Rattle.properties_format.specs.Computed.Valued.{ascii_count}
 use Rattle.properties_editing.proofs.edit.front.ascii_count.Given as goal
 
 abbrev pub invariant-loop-byte : goal.invariant-loop-byte

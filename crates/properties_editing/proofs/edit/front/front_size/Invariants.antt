@@ -1,6 +1,6 @@
 use Rattle.std.proofs.Common.{length}
 use Rattle.properties_text.specs.Encoding.{encoding_of}
-use Rattle.properties_lines.specs.HeldLines.{lines_left}
+use Rattle.properties_lines.specs.Private.HeldLines.{lines_left}
 use Rattle.properties_editing.proofs.BodyValues.{IsWalking}
 use Rattle.properties_editing.proofs.edit.front.front_size.Given as goal
 

@@ -1,6 +1,6 @@
 use Rattle.std.proofs.Common.{subst}
 use Rattle.properties_text.specs.Encoding.{encoding_of}
-use Rattle.properties_editing.specs.BodyGroups.{IsFirstGroup}
+use Rattle.properties_editing.specs.Private.BodyGroups.{IsFirstGroup}
 use Rattle.properties_editing.proofs.BodyValues.{first-group}
 use Rattle.properties_editing.proofs.edit.groups.first_group.Goals as goal
 

@@ -5,12 +5,12 @@ use Rattle.properties_format.specs.Text.{line_ending_text}
 use Rattle.properties_format.specs.Encoding.{output_encoding}
 use Rattle.properties_format.specs.Writing.{is_empty}
 use Rattle.properties_text.specs.Encoding.{encoding_of}
-use Rattle.properties_editing.specs.BodyValues.{IsLastPair, unended_pair}
+use Rattle.properties_editing.specs.Private.BodyValues.{IsLastPair, unended_pair}
 use Rattle.properties_items.specs.Texts.{characters}
 use Rattle.properties_items.specs.LineEndings.{ending_of}
 use Rattle.properties_editing.proofs.BodyKeys.{editable-bytes}
 use Rattle.properties_items.proofs.Scalars.{chars-scalars}
-use Rattle.properties_format.specs.Reading.Body.{held_groups_of}
+use Rattle.properties_format.specs.Computed.Body.{held_groups_of}
 use Rattle.properties_editing.proofs.IndexFound.{found-last}
 use Rattle.properties_editing.proofs.IndexAdded.{adds-value, pair-added}
 use Rattle.properties_editing.proofs.edit.index.add_value.Goals as goal

@@ -1,5 +1,5 @@
 use Rattle.std.proofs.Common.{refl, sym, subst}
-use Rattle.properties_editing.specs.BodyIndex.{CutsOut, IsInSource}
+use Rattle.properties_editing.specs.Private.BodyIndex.{CutsOut, IsInSource}
 use Rattle.properties_editing.proofs.edit.index.cut_at.Goals as goal
 
 pub cut_out-requires-clause-ordered : goal.cut_out-requires-clause-ordered

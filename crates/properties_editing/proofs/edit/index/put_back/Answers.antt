@@ -1,6 +1,6 @@
 use Rattle.std.proofs.Common.{◌≡◌, ◌==◌, ◌+◌, ◌-◌, length, ◌∙◌, arith}
 use Rattle.std.specs.Str.{chars}
-use Rattle.properties_editing.specs.BodyIndex.{FollowsPair}
+use Rattle.properties_editing.specs.Private.BodyIndex.{FollowsPair}
 use Rattle.properties_items.specs.Texts.{characters}
 use Rattle.properties_editing.proofs.edit.index.put_back.Goals as goal
 

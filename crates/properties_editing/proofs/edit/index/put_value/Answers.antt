@@ -1,8 +1,8 @@
 use Rattle.std.proofs.Common.{sym, subst, drop}
 use Rattle.std.specs.Str.{chars}
-use Rattle.properties_format.specs.Reading.Body.{held_groups_of}
+use Rattle.properties_format.specs.Computed.Body.{held_groups_of}
 use Rattle.properties_text.specs.Encoding.{encoding_of}
-use Rattle.properties_editing.specs.BodyKeys.{IsPlace}
+use Rattle.properties_editing.specs.Private.BodyKeys.{IsPlace}
 use Rattle.properties_editing.proofs.IndexAdded.{puts-value}
 use Rattle.properties_editing.proofs.IndexFound.{found-place, new-key}
 use Rattle.properties_editing.proofs.edit.index.put_value.Goals as goal

@@ -1,6 +1,6 @@
 use Rattle.std.proofs.Common.{◌++◌, ◌∷◌, [], drop, take}
 use Rattle.std.specs.Str.{chars}
-use Rattle.properties_format.specs.Reading.Body.{held_groups_of}
+use Rattle.properties_format.specs.Computed.Body.{held_groups_of}
 use Rattle.properties_text.specs.Encoding.{encoding_of}
 use Rattle.properties_editing.proofs.IndexRemoved.{IsCutTo}
 use Rattle.properties_editing.proofs.edit.index.remove_pairs.Given as goal

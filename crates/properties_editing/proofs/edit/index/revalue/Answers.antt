@@ -3,8 +3,8 @@ use Rattle.std.specs.Str.{chars}
 use Rattle.std.proofs.lemmas.Result.{err_from_is_err_and}
 use Rattle.properties_text.specs.Encoding.{encoding_of}
 use Rattle.std.proofs.lemmas.List.{length-take-le, take_rest}
-use Rattle.properties_editing.specs.BodyIndex.{FollowsPair}
-use Rattle.properties_editing.specs.BodyValues.{IsNewValue, revalued_in}
+use Rattle.properties_editing.specs.Private.BodyIndex.{FollowsPair}
+use Rattle.properties_editing.specs.Private.BodyValues.{IsNewValue, revalued_in}
 use Rattle.properties_editing.proofs.BodyKeys.{editable-bytes}
 use Rattle.properties_editing.proofs.BodyValues.{revalued-made}
 use Rattle.properties_items.proofs.Scalars.{chars-scalars}

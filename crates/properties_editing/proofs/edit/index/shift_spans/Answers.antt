@@ -3,7 +3,7 @@ use Rattle.std.specs.Prelude.{Option, None, map, option_and_then}
 use Rattle.std.proofs.Math.ListN.{set}
 use Rattle.std.proofs.lemmas.Bool.{cases_lt}
 use Rattle.std.proofs.lemmas.List.{get_or-set_same, get_or-set_other, get_or_default, length-set}
-use Rattle.properties_editing.specs.BodyIndex.{all_shifted, shifted, span_at}
+use Rattle.properties_editing.specs.Private.BodyIndex.{all_shifted, shifted, span_at}
 use Rattle.properties_editing.specs.declared.edit.index.Shift.{Shift}
 use Rattle.properties_editing.specs.declared.edit.place.BodySpan.{BodySpan}
 use Rattle.properties_editing.proofs.edit.index.shift_spans.Goals as goal

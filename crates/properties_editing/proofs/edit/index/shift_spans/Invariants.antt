@@ -1,4 +1,4 @@
-use Rattle.properties_editing.specs.BodyIndex.{AreShiftedTo}
+use Rattle.properties_editing.specs.Private.BodyIndex.{AreShiftedTo}
 use Rattle.properties_editing.proofs.edit.index.shift_spans.Given as goal
 
 abbrev pub invariant-loop-place : goal.invariant-loop-place

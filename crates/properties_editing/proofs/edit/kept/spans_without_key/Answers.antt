@@ -3,7 +3,7 @@ use Rattle.std.proofs.lemmas.Result.{err_from_is_err_and}
 use Rattle.std.specs.Str.{chars}
 use Rattle.properties_text.specs.Encoding.{encoding_of}
 use Rattle.properties_editing.proofs.BodyKeys.{HasKept, read-fault, kept-none, kept-removed, kept-more, kept-all, editable-bytes}
-use Rattle.properties_editing.specs.BodyGroups.{IsWithin}
+use Rattle.properties_editing.specs.Private.BodyGroups.{IsWithin}
 use Rattle.properties_lines.specs.LineSearch.{unit_size}
 use Rattle.properties_editing.specs.declared.edit.groups.GroupReader.{GroupReader}
 use Rattle.properties_editing.proofs.edit.kept.spans_without_key.Goals as goal

@@ -1,7 +1,7 @@
 use Rattle.std.proofs.Common.{ap, sym, ◌∙◌, subst}
 use Rattle.std.specs.Str.{chars}
-use Rattle.properties_format.specs.Reading.Body.{is_pair_with}
-use Rattle.properties_format.specs.Reading.Edited.{IsSound}
+use Rattle.properties_format.specs.Computed.Body.{is_pair_with}
+use Rattle.properties_format.specs.Computed.Edited.{IsSound}
 use Rattle.properties_items.proofs.FoundItems.{found-item}
 use Rattle.properties_editing.proofs.edit.keys.has_key.Goals as goal
 

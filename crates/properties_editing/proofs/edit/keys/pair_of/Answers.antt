@@ -1,5 +1,5 @@
 use Rattle.std.proofs.Common.{ap, sym, ◌∙◌, subst}
-use Rattle.properties_format.specs.Reading.Edited.{IsSound}
+use Rattle.properties_format.specs.Computed.Edited.{IsSound}
 use Rattle.properties_items.specs.FoundItems.{outcome_pair}
 use Rattle.properties_items.proofs.FoundItems.{found-item}
 use Rattle.properties_editing.proofs.edit.keys.pair_of.Goals as goal

@@ -1,5 +1,5 @@
 use Rattle.std.proofs.Common.{sym, subst}
-use Rattle.properties_editing.specs.BodyValues.{IsLastEnding}
+use Rattle.properties_editing.specs.Private.BodyValues.{IsLastEnding}
 use Rattle.properties_editing.proofs.LastPairs.{within-last}
 use Rattle.properties_editing.proofs.edit.new_pair.last_ending.Goals as goal
 

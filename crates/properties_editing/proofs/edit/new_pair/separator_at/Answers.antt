@@ -4,8 +4,8 @@ use Rattle.std.specs.Option.{option_map}
 use Rattle.std.specs.Str.{chars}
 use Rattle.std.proofs.lemmas.Result.{IfOk-weaker}
 use Rattle.properties_format.specs.Valued.{separator_after}
-use Rattle.properties_format.specs.Reading.Body.{held_groups_of}
-use Rattle.properties_format.specs.Reading.Valued.{last_between}
+use Rattle.properties_format.specs.Computed.Body.{held_groups_of}
+use Rattle.properties_format.specs.Computed.Valued.{last_between}
 use Rattle.properties_text.specs.Encoding.{encoding_of}
 use Rattle.properties_items.specs.Texts.{characters}
 use Rattle.properties_editing.proofs.BodyKeys.{editable-bytes}

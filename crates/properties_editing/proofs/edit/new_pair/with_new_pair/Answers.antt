@@ -8,7 +8,7 @@ use Rattle.properties_format.specs.Writing.{is_empty}
 use Rattle.properties_text.specs.Encoding.{encoding_of}
 use Rattle.properties_items.specs.Texts.{characters}
 use Rattle.properties_items.specs.LineEndings.{ending_of}
-use Rattle.properties_editing.specs.BodyKeys.{closing_bytes}
+use Rattle.properties_editing.specs.Private.BodyKeys.{closing_bytes}
 use Rattle.properties_editing.proofs.NewPairs.{new_pair-ended, new_pair-appended, ending-bytes}
 use Rattle.properties_editing.proofs.edit.new_pair.with_new_pair.Goals as goal
 

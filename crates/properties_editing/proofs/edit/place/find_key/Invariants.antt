@@ -1,7 +1,7 @@
 use Rattle.std.proofs.Common.{length}
 use Rattle.std.specs.Str.{chars}
 use Rattle.properties_text.specs.Encoding.{encoding_of}
-use Rattle.properties_editing.specs.BodyGroups.{groups_left}
+use Rattle.properties_editing.specs.Private.BodyGroups.{groups_left}
 use Rattle.properties_editing.proofs.BodyKeys.{HasLooked}
 use Rattle.properties_editing.proofs.edit.place.find_key.Given as goal
 

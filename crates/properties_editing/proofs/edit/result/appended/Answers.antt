@@ -6,7 +6,7 @@ use Rattle.properties_format.specs.Text.{line_ending_text}
 use Rattle.properties_format.specs.Encoding.{output_encoding}
 use Rattle.properties_format.specs.Writing.{is_empty}
 use Rattle.properties_text.specs.Encoding.{encoding_of}
-use Rattle.properties_editing.specs.BodyKeys.{closing_bytes}
+use Rattle.properties_editing.specs.Private.BodyKeys.{closing_bytes}
 use Rattle.properties_editing.proofs.Editing.{appended}
 use Rattle.properties_editing.proofs.edit.result.appended.Goals as goal
 

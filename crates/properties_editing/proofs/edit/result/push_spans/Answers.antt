@@ -1,5 +1,5 @@
 use Rattle.std.proofs.Common.{◌++◌, ◌∙◌, ap, sym, append_assoc, take}
-use Rattle.properties_editing.specs.BodyKeys.{spans_bytes}
+use Rattle.properties_editing.specs.Private.BodyKeys.{spans_bytes}
 use Rattle.properties_editing.proofs.BodyKeys.{within-at, spans-more}
 use Rattle.properties_editing.proofs.edit.result.push_spans.Goals as goal
 

@@ -1,5 +1,5 @@
 use Rattle.std.proofs.Common.{◌≡◌, ◌++◌, take}
-use Rattle.properties_editing.specs.BodyKeys.{spans_bytes}
+use Rattle.properties_editing.specs.Private.BodyKeys.{spans_bytes}
 use Rattle.properties_editing.proofs.edit.result.push_spans.Given as goal
 
 abbrev pub invariant-loop-span : goal.invariant-loop-span

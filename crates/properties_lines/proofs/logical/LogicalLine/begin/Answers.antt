@@ -1,5 +1,5 @@
 use Rattle.std.proofs.Common.{inr}
-use Rattle.properties_format.specs.Reading.Cut.{decoded_line}
+use Rattle.properties_format.specs.Computed.Cut.{decoded_line}
 use Rattle.properties_text.specs.Encoding.{encoding_of}
 use Rattle.properties_text.proofs.Texts.Resolving.{plain-closed}
 use Rattle.properties_lines.proofs.LogicalLines.{unescaped-decoded}

@@ -1,7 +1,7 @@
 use Rattle.std.proofs.Common.{◌++◌, ◌∙◌, ap, not, sym}
 use Rattle.std.specs.Str.{chars}
 use Rattle.std.proofs.lemmas.Str.{chars-nil}
-use Rattle.properties_format.specs.Reading.Cut.{decoded_line}
+use Rattle.properties_format.specs.Computed.Cut.{decoded_line}
 use Rattle.properties_text.specs.Encoding.{encoding_of}
 use Rattle.properties_lines.proofs.LogicalLines.{ascii-keeps, text-keeps}
 use Rattle.properties_lines.proofs.logical.LogicalLine.keep.Goals as goal

@@ -3,7 +3,7 @@ use Rattle.std.specs.Str.{chars}
 use Rattle.std.proofs.lemmas.Option.{IfSome_then}
 use Rattle.std.proofs.lemmas.Str.{IsCharBoundary-after_ascii}
 use Rattle.properties_format.specs.Escapes.{NoSpelling}
-use Rattle.properties_format.specs.Reading.Escapes.{in_front, meaning_of}
+use Rattle.properties_format.specs.Computed.Escapes.{in_front, meaning_of}
 use Rattle.properties_text.proofs.Texts.Escapes.{meaning-unit, scalar-unit, surrogate-unit, escape-bytes}
 use Rattle.properties_text.proofs.Texts.Units.{unit-bytes, no_unit-spelling, escape-first}
 use Rattle.properties_text.proofs.escape.units.first_unit.Goals as goal

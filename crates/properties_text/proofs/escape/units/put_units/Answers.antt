@@ -1,7 +1,7 @@
 use Rattle.std.proofs.Common.{◌≡◌, [], length, refl, sym, ap, ◌∙◌, inl, inr, arith}
 use Rattle.std.specs.Str.{chars}
 use Rattle.std.proofs.lemmas.Str.{chars-nil}
-use Rattle.properties_format.specs.Reading.Escapes.{in_front, meaning_of, text_in_front}
+use Rattle.properties_format.specs.Computed.Escapes.{in_front, meaning_of, text_in_front}
 use Rattle.properties_text.proofs.Texts.Units.{units-more}
 use Rattle.properties_text.proofs.escape.units.put_units.Goals as goal
 use Rattle.properties_text.proofs.escape.units.put_units.Goals.{else-loop-run-test, then-loop-run-test+in_default}

@@ -2,7 +2,7 @@ use Rattle.std.proofs.Common.{◌≡◌, ◌<◌, ◌≤◌, length, take}
 use denote.Text.{Utf8}
 use denote.Shadow.{shadow}
 use Rattle.std.specs.Str.{IsUtf8, chars}
-use Rattle.properties_format.specs.Reading.Escapes.{meaning_of, text_in_front}
+use Rattle.properties_format.specs.Computed.Escapes.{meaning_of, text_in_front}
 use Rattle.properties_text.proofs.escape.units.put_units.Given as goal
 
 -- The characters in the run, followed by what the rest means, are what the text means.

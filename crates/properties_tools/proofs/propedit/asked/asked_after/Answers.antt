@@ -3,7 +3,7 @@ use Rattle.std.specs.Prelude.{string_bytes}
 use Rattle.std.specs.Option.{option_map}
 use Rattle.std.proofs.lemmas.Result.{IfOk-weaker}
 use Rattle.properties_tools.specs.Propedit.Asked.{request_of}
-use Rattle.properties_tools.specs.Propedit.AskedParts.{choices_of, IsAskedAfter, IsWorkAsked}
+use Rattle.properties_tools.specs.Private.Propedit.AskedParts.{choices_of, IsAskedAfter, IsWorkAsked}
 use Rattle.properties_tools.proofs.Commands.{asked-dashes, asked-nothing, asked-others, asks-dashes, asks-others}
 use Rattle.properties_tools.proofs.Words.{first-word, follows-at-error, rest-words}
 use Rattle.properties_tools.proofs.propedit.asked.asked_after.Goals as goal

@@ -1,5 +1,5 @@
 use Rattle.std.proofs.Common.{length}
-use Rattle.properties_lines.specs.HeldLines.{lines_left}
+use Rattle.properties_lines.specs.Private.HeldLines.{lines_left}
 use Rattle.properties_tools.proofs.IllFormed.{HasFound}
 use Rattle.properties_tools.proofs.propedit.lines.ill_formed_in.Given as goal
 

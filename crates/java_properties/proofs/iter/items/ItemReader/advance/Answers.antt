@@ -2,13 +2,13 @@ use Rattle.std.proofs.Common.{◌≡◌, ◌++◌, ◌∙◌, ◌-◌, ◌^◌, 
 use Rattle.std.specs.Prelude.{Some, Ok}
 use Rattle.std.specs.Str.{chars}
 use Rattle.properties_format.specs.Items.{ignored}
-use Rattle.properties_format.specs.Reading.Items.{outcome_of}
+use Rattle.properties_format.specs.Computed.Items.{outcome_of}
 use Rattle.properties_format.specs.ItemsToCome.{ReaderState}
 use Rattle.counted_io.specs.Streams.{reader}
 use Rattle.properties_lines.specs.LineReader.{lines_left}
 use Rattle.properties_lines.specs.LineJoiner.{Joiner, Joining, numbered_line}
 use Rattle.properties_items.specs.BorrowedItems.{found_content, IsFoundIn}
-use Rattle.java_properties.specs.GivenItems.{FindsItem}
+use Rattle.java_properties.specs.Private.GivenItems.{FindsItem}
 use Rattle.properties_items.specs.FoundItems.{IsNoItem}
 use Rattle.properties_items.specs.declared.found.Found.{Found}
 use Rattle.java_properties.proofs.Items.{Passed, passed-start, passed-error, passed-no_item, gives-item, passed-blank, stopped}

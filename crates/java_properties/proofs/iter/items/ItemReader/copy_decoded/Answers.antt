@@ -2,10 +2,10 @@ use Rattle.std.proofs.Common.{refl, sym, ap, subst, inl, inr}
 use Rattle.counted_io.specs.Streams.{reader, sink}
 use Rattle.properties_format.specs.Entries.{Entry, Content}
 use Rattle.properties_items.specs.BorrowedItems.{borrowed_content}
-use Rattle.java_properties.specs.CopiedLines.{CopiesContent}
+use Rattle.java_properties.specs.Private.CopiedLines.{CopiesContent}
 use Rattle.java_properties.specs.Copying.{reading}
-use Rattle.java_properties.specs.Engine.{writing}
-use Rattle.java_properties.specs.GivenItems.{GivesEntry}
+use Rattle.java_properties.specs.Private.Engine.{writing}
+use Rattle.java_properties.specs.Private.GivenItems.{GivesEntry}
 use Rattle.java_properties.proofs.Copying.{copied-found}
 use Rattle.java_properties.proofs.StatedItems.{state-none, state-error}
 use Rattle.java_properties.proofs.iter.items.ItemReader.copy_decoded.Goals as goal

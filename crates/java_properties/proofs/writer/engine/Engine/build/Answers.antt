@@ -2,7 +2,7 @@ use Rattle.std.proofs.Common.{ap, ◌∙◌}
 use Rattle.std.proofs.lemmas.Result.{on_ok_weaker}
 use Rattle.properties_format.specs.Text.{line_ending_text}
 use Rattle.properties_text.specs.Encoding.{output_of}
-use Rattle.java_properties.specs.Engine.{entry_content}
+use Rattle.java_properties.specs.Private.Engine.{entry_content}
 use Rattle.java_properties.specs.declared.writer.engine.Engine.{Engine}
 use Rattle.java_properties.proofs.Engine.{line-built}
 use Rattle.properties_items.proofs.RawTexts.{line_ending-bytes}

@@ -2,7 +2,7 @@ use Rattle.std.proofs.Common.{◌≡◌, ◌<◌, ◌^◌, ◌∙◌, refl, ap, 
 use Rattle.std.specs.Prelude.{Ok, Err}
 use Rattle.properties_format.specs.Entries.{pair}
 use Rattle.properties_format.specs.Writing.{is_accepted, pair_call}
-use Rattle.java_properties.specs.Engine.{writing, takes_span, NumbersLine}
+use Rattle.java_properties.specs.Private.Engine.{writing, takes_span, NumbersLine}
 use Rattle.java_properties.specs.PropertiesWriter.{RefusesLine}
 use Rattle.java_properties.specs.declared.writer.engine.Engine.{Engine}
 use Rattle.java_properties.proofs.Engine.{numbered, unnumbered, sent-line, unsent-line}

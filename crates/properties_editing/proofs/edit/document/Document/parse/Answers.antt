@@ -1,7 +1,7 @@
 use Rattle.std.specs.Prelude.{[]}
 use Rattle.std.proofs.lemmas.List.{take_rest}
 use Rattle.properties_format.specs.Edits.{AreEdited}
-use Rattle.properties_format.specs.Reading.Edits.{edits_made}
+use Rattle.properties_format.specs.Computed.Edits.{edits_made}
 use Rattle.properties_format.proofs.Edits.Results.{edit_all_result-meets}
 use Rattle.properties_format.proofs.Laws.{splitting-commutes}
 use Rattle.properties_text.specs.Encoding.{encoding_of}

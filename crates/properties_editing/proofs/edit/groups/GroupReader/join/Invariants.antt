@@ -1,6 +1,6 @@
 use Rattle.std.proofs.Common.{length}
-use Rattle.properties_lines.specs.HeldLines.{lines_left}
-use Rattle.properties_editing.specs.BodyGroups.{IsWithin, ReadsGroup}
+use Rattle.properties_lines.specs.Private.HeldLines.{lines_left}
+use Rattle.properties_editing.specs.Private.BodyGroups.{IsWithin, ReadsGroup}
 use Rattle.properties_editing.specs.declared.edit.groups.GroupReader.{GroupReader}
 use Rattle.properties_editing.proofs.edit.groups.GroupReader.join.Given as goal
 

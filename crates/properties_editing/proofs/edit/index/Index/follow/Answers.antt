@@ -2,7 +2,7 @@ use Rattle.std.proofs.Common.{refl, sym, ◌∙◌, ap, subst}
 use Rattle.std.specs.BTreeMap.{IsOrdered}
 use Rattle.std.specs.Str.{chars}
 use Rattle.std.specs.String.{string_cmp}
-use Rattle.properties_editing.specs.BodyIndex.{places_of, stored_at, stored_value}
+use Rattle.properties_editing.specs.Private.BodyIndex.{places_of, stored_at, stored_value}
 use Rattle.properties_items.specs.Texts.{characters}
 use Rattle.properties_editing.specs.declared.edit.index.IndexedPair.{IndexedPair}
 use Rattle.properties_editing.proofs.IndexStored.{missing-values, written-places, written-values}

@@ -5,7 +5,7 @@ use Rattle.std.specs.Str.{chars}
 use Rattle.std.proofs.Math.ListN.{set}
 use Rattle.std.proofs.lemmas.Str.{IsUtf8-string_bytes}
 use Rattle.properties_text.proofs.TextFronts.{at-error}
-use Rattle.properties_editing.specs.BodyIndex.{places_of, stored_at}
+use Rattle.properties_editing.specs.Private.BodyIndex.{places_of, stored_at}
 use Rattle.properties_items.specs.Texts.{characters}
 use Rattle.properties_editing.specs.declared.edit.index.IndexedPair.{IndexedPair}
 use Rattle.properties_editing.specs.declared.edit.place.BodySpan.{BodySpan}

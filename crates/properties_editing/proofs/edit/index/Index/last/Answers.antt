@@ -2,7 +2,7 @@ use Rattle.std.proofs.Common.{◌≡◌, ◌<◌, ◌≤◌, ◌-◌, ℕ, suc, 
 use Rattle.std.specs.Prelude.{Option, Some, None, get_or}
 use Rattle.std.proofs.Math.Seq.{take-suc}
 use Rattle.std.proofs.lemmas.List.{get_or_default, take_all}
-use Rattle.properties_editing.specs.BodyIndex.{last_live, span_or}
+use Rattle.properties_editing.specs.Private.BodyIndex.{last_live, span_or}
 use Rattle.properties_editing.specs.declared.edit.place.BodySpan.{BodySpan}
 use Rattle.properties_editing.proofs.edit.index.Index.last.Goals as goal
 

@@ -1,5 +1,5 @@
 use Rattle.std.proofs.Common.{◌≡◌, ◌≤◌, take, length}
-use Rattle.properties_editing.specs.BodyIndex.{last_live}
+use Rattle.properties_editing.specs.Private.BodyIndex.{last_live}
 use Rattle.properties_editing.proofs.edit.index.Index.last.Given as goal
 
 abbrev pub invariant-loop-place : goal.invariant-loop-place

@@ -3,7 +3,7 @@ use Rattle.std.proofs.lemmas.Result.{err_from_is_err_and}
 use Rattle.std.specs.Option.{option_map}
 use Rattle.properties_text.specs.Encoding.{encoding_of}
 use Rattle.properties_lines.specs.LineSearch.{unit_size}
-use Rattle.properties_editing.specs.BodyGroups.{IsWithin}
+use Rattle.properties_editing.specs.Private.BodyGroups.{IsWithin}
 use Rattle.properties_items.specs.FoundItems.{pair_characters}
 use Rattle.properties_editing.specs.declared.edit.index.Index.{Index}
 use Rattle.properties_editing.specs.declared.edit.place.Closing.TheVariants.{Nothing}

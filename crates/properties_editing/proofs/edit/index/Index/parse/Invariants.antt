@@ -1,6 +1,6 @@
 use Rattle.std.proofs.Common.{length}
 use Rattle.properties_text.specs.Encoding.{encoding_of}
-use Rattle.properties_editing.specs.BodyGroups.{groups_left}
+use Rattle.properties_editing.specs.Private.BodyGroups.{groups_left}
 use Rattle.properties_editing.proofs.IndexParsed.{HasIndexed}
 use Rattle.properties_editing.proofs.edit.index.Index.parse.Given as goal
 

@@ -2,7 +2,7 @@ use Rattle.std.proofs.Common.{◌++◌, ◌∙◌, ap, sym, append_assoc}
 use Rattle.std.specs.Str.{chars}
 use Rattle.properties_format.specs.Pieces.{characters}
 use Rattle.properties_format.specs.Encoding.{utf_8}
-use Rattle.properties_format.specs.Reading.Encoding.{pieces_of}
+use Rattle.properties_format.specs.Computed.Encoding.{pieces_of}
 use Rattle.properties_format.proofs.Encodings.WellFormed.{characters-text}
 use Rattle.properties_text.proofs.encoding.text_buffer.TextBuffer.push_front.Goals as goal
 

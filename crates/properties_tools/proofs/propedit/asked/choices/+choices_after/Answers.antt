@@ -1,7 +1,7 @@
 use Rattle.std.proofs.Common.{map, arith}
 use Rattle.std.specs.Prelude.{string_bytes}
 use Rattle.std.specs.Option.{option_map}
-use Rattle.properties_tools.specs.Propedit.AskedParts.{choice_of, choices_next, choices_of}
+use Rattle.properties_tools.specs.Private.Propedit.AskedParts.{choice_of, choices_next, choices_of}
 use Rattle.properties_tools.proofs.Choosing.{chosen-again, chosen-next, fewer-after}
 use Rattle.properties_tools.proofs.propedit.asked.choices.+choices_after.Goals as goal
 

@@ -1,7 +1,7 @@
 use Rattle.std.proofs.Common.{map, sym, ◌∙◌}
 use Rattle.std.specs.Prelude.{string_bytes}
 use Rattle.properties_text.proofs.TextFronts.{at-error}
-use Rattle.properties_tools.specs.Propedit.AskedParts.{choices_of}
+use Rattle.properties_tools.specs.Private.Propedit.AskedParts.{choices_of}
 use Rattle.properties_tools.proofs.Commands.{command-of-edits, no-command}
 use Rattle.properties_tools.proofs.Words.{no-edit-words, no-words, some-words}
 use Rattle.properties_tools.proofs.propedit.asked.commands.command_in.Goals as goal

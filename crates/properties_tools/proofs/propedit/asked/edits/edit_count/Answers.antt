@@ -1,6 +1,6 @@
 use Rattle.std.proofs.Common.{map, arith, sym, ◌∙◌}
 use Rattle.std.specs.Prelude.{string_bytes}
-use Rattle.properties_tools.specs.Propedit.AskedParts.{borrowed_edit}
+use Rattle.properties_tools.specs.Private.Propedit.AskedParts.{borrowed_edit}
 use Rattle.properties_tools.proofs.Words.{counted-all, counted-more, counted-none, fewer-words, no-counted, some-words}
 use Rattle.properties_tools.proofs.propedit.asked.edits.edit_count.Goals as goal
 

@@ -1,0 +1,4 @@
+pub mod Engine
+pub mod GivenItems
+pub mod CopiedLines
+pub mod LineByLine

@@ -1,0 +1,7 @@
+pub mod BodyLines
+pub mod BodyGroups
+pub mod BodyKeys
+pub mod BodyValues
+pub mod BodyIndex
+pub mod BodyDocuments
+pub mod Sources

@@ -1,0 +1,130 @@
+-- The groups of a body that is held in memory, one after another.
+use Rattle.std.specs.Prelude.{◌≡◌, ℕ, ◌+◌, ◌-◌, ◌≤◌, Bool, true, false, if◌then◌else◌, List, [], ◌∷◌, take, drop, length}
+use Rattle.std.specs.Prelude.{◌⊎◌, Option, Some, None, Result, Ok, Err}
+use Rattle.std.specs.Str.{chars, IsUtf8}
+use Rattle.properties_format.specs.Text as text
+use Rattle.properties_format.specs.Encoding.{Encoding}
+use Rattle.properties_format.specs.Groups.{is_comment_line, joined}
+use Rattle.properties_format.specs.Body.{HeldLine, as_lines, ending_bytes, group_bytes, last_ending}
+use Rattle.properties_format.specs.Edited.{is_empty_line, is_left_open}
+use Rattle.properties_format.specs.Computed.Body.{held_groups_after, held_groups_of}
+use Rattle.properties_format.specs.Computed.Parts.{unended_bytes}
+use Rattle.properties_text.specs.Encoding.{encoding_of}
+use Rattle.properties_lines.specs.LineSearch.{unit_size}
+use Rattle.properties_lines.specs.Scanner.{HasRightFlags, bytes_of}
+use Rattle.properties_lines.specs.Private.HeldLines.{IsInBody, held_line, lines_left}
+use Rattle.properties_lines.specs.LogicalLine.{text_with}
+use Rattle.properties_editing.specs.Private.BodyLines.{ending_in}
+use Rattle.properties_editing.specs.declared.edit.groups.Group.{Group}
+use Rattle.properties_editing.specs.declared.edit.groups.GroupReader.{GroupReader}
+
+-- ---- the position of a reader
+
+-- The reader is positioned in the body, whose units are one byte long.
+pub record IsWithin (body : List ℕ) (s : GroupReader) : Type 0 where
+  pub bytes : unit_size (encoding_of s.scanner.encoding) ≡ 1
+  pub within_body : IsInBody s.scanner body
+
+-- the groups to come
+abbrev pub groups_left : List ℕ → GroupReader → List (List HeldLine)
+groups_left body s = if s.scanner.is_done then [] else held_groups_of (encoding_of s.scanner.encoding) (drop s.scanner.at body)
+
+-- ---- lines
+
+-- The next line was taken.
+pub record TakesLine (body : List ℕ) (old new : GroupReader) : Type 0 where
+  pub live : old.scanner.is_done ≡ false
+  pub ending : Option text.LineEnding
+  pub lines : lines_left body old.scanner ≡ held_line (encoding_of old.scanner.encoding) body new.scanner.line ending ∷ lines_left body new.scanner
+  pub starts : new.scanner.line.start ≡ old.scanner.at
+  pub ordered : new.scanner.line.start ≤ new.scanner.line.end
+  pub placed : new.scanner.line.end ≤ new.scanner.at
+  pub ends : take (new.scanner.at - new.scanner.line.end) (drop new.scanner.line.end body) ≡ ending_bytes ending
+  pub passed : new.scanner.passed ≡ old.scanner.passed + 1
+  pub flags : HasRightFlags (encoding_of new.scanner.encoding) (bytes_of body new.scanner.line) new.scanner.line
+  pub within : IsWithin body new
+  pub encoding : encoding_of new.scanner.encoding ≡ encoding_of old.scanner.encoding
+  pub same : new ≡ record old { scanner = new.scanner }
+
+abbrev pub FindsLine : {E : Type 0} → List ℕ → GroupReader → Result Bool E → GroupReader → Type 0
+FindsLine body old (Ok true) new = TakesLine body old new
+FindsLine body old (Ok false) new = (old.scanner.is_done ≡ true) × (new ≡ old)
+FindsLine body old (Err e) new = Unit {0}
+
+-- ---- groups
+
+-- The lines are in this span, and the next group starts after them.
+pub record IsSpanOf (held : List HeldLine) (group : Group) (after : ℕ) : Type 0 where
+  pub unended : group.end ≡ group.start + length (unended_bytes held)
+  pub ending : ending_in group.ending ≡ last_ending held
+  pub next : after ≡ group.start + length (group_bytes held)
+  pub opens : group.is_open ≡ is_left_open held
+  pub empty : group.is_empty ≡ is_empty_line held
+
+-- the logical line of a group, in UTF-8
+abbrev pub text_of : List ℕ → GroupReader → Group → List ℕ
+text_of body s group = text_with s.line (take (group.end - group.start) (drop group.start body))
+
+-- That line is valid text.
+pub record IsTextHeld (body : List ℕ) (s : GroupReader) (group : Group) : Type 0 where
+  pub ordered : group.start ≤ group.end
+  pub within : group.end ≤ length body
+  pub text : s.line.is_kept ≡ false → IsUtf8 (take (group.end - group.start) (drop group.start body))
+
+-- The next group was returned.
+pub record TakesGroup (body : List ℕ) (old : GroupReader) (group : Group) (new : GroupReader) : Type 0 where
+  pub held : List HeldLine
+  pub live : old.scanner.is_done ≡ false
+  pub groups : groups_left body old ≡ held ∷ groups_left body new
+  pub starts : group.start ≡ old.scanner.at
+  pub number : group.number ≡ old.scanner.passed + 1
+  pub passed : new.scanner.passed ≡ old.scanner.passed + length held
+  pub span : IsSpanOf held group new.scanner.at
+  pub within : IsWithin body new
+  pub encoding : encoding_of new.scanner.encoding ≡ encoding_of old.scanner.encoding
+  pub held_text : IsTextHeld body new group
+  pub text : chars (text_of body new group) ≡ joined (as_lines held)
+
+abbrev pub GivesGroup : {E : Type 0} → List ℕ → GroupReader → Result (Option Group) E → GroupReader → Type 0
+GivesGroup body old (Ok None) new = (old.scanner.is_done ≡ true) × (new ≡ old)
+GivesGroup body old (Ok (Some group)) new = TakesGroup body old group new
+GivesGroup body old (Err e) new = Unit {0}
+
+-- The first group of a body was returned.
+pub record IsFirstGroup (e : Encoding) (body : List ℕ) (group : Group) (new : GroupReader) : Type 0 where
+  pub held : List HeldLine
+  pub more : List (List HeldLine)
+  pub groups : held_groups_of e body ≡ held ∷ more
+  pub starts : group.start ≡ 0
+  pub span : IsSpanOf held group new.scanner.at
+  pub held_text : IsTextHeld body new group
+  pub text : chars (text_of body new group) ≡ joined (as_lines held)
+
+-- ---- continuations
+
+-- the groups that begin with a group that was read so far, followed by the lines that are left, which continue the
+-- group if it is open
+abbrev pub groups_from : Bool → List HeldLine → List HeldLine → List (List HeldLine)
+groups_from true held rest = held_groups_after held rest
+groups_from false held rest = held ∷ held_groups_after [] rest
+
+-- A group was read up to one of its lines, whatever the reader was before that group.
+pub record ReadsGroup (body : List ℕ) (old : GroupReader) (group : Group) (new : GroupReader) : Type 0 where
+  pub first : HeldLine
+  pub more : List HeldLine
+  pub live : old.scanner.is_done ≡ false
+  pub groups : held_groups_after [] (lines_left body old.scanner) ≡ groups_from group.is_open (first ∷ more) (lines_left body new.scanner)
+  pub starts : group.start ≡ old.scanner.at
+  pub number : group.number ≡ old.scanner.passed + 1
+  pub passed : new.scanner.passed ≡ old.scanner.passed + length (first ∷ more)
+  pub span : IsSpanOf (first ∷ more) group new.scanner.at
+  pub encoding : encoding_of new.scanner.encoding ≡ encoding_of old.scanner.encoding
+  pub opened : group.is_open ≡ true → (is_comment_line first.text ≡ false) × (new.line.is_kept ≡ true)
+  pub held_text : IsTextHeld body new group
+  pub text : chars (text_of body new group) ≡ joined (as_lines (first ∷ more))
+
+-- The group was read further: to a line that isn't open, or to the last line.
+pub record JoinsGroup (body : List ℕ) (old : GroupReader) (group : Group) (joined : Group) (new : GroupReader) : Type 0 where
+  pub whole : (before : GroupReader) → ReadsGroup body before group old → ReadsGroup body before joined new
+  pub ended : joined.is_open ≡ false ⊎ new.scanner.is_done ≡ true
+  pub within : IsWithin body new

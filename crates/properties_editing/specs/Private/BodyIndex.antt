@@ -1,0 +1,343 @@
+-- Which pair a logical line is, and what an index of a body's pairs says.
+pub mod Keys
+use Rattle.std.specs.Prelude.{◌≡◌, ◌⊎◌, bytes_eq, nat_lt, ◌==◌, ℕ, ◌+◌, ◌-◌, ◌^◌, ◌≤◌, ◌<◌, min, Bool, true, false, if◌then◌else◌, List, [], ◌∷◌, ◌++◌, map, length, take, drop, get_or, Option, Some, None, option_and_then, Result, Ok, Err}
+use Rattle.std.specs.Option.{option_map}
+use Rattle.std.specs.Map.{lookup, update}
+use Rattle.std.specs.BTreeMap.{IsOrdered}
+use Rattle.std.specs.String.{string_cmp}
+use Rattle.std.specs.declared.string.String.{String}
+use Rattle.properties_format.specs.Text.{carriage_return, line_feed}
+use Rattle.properties_format.specs.Encoding.{Encoding}
+use Rattle.properties_format.specs.Groups.{joined}
+use Rattle.properties_format.specs.Entries.{comment, pair}
+use Rattle.properties_format.specs.Items.{Outcome, ignored, given, broken}
+use Rattle.properties_format.specs.Body.{HeldLine, as_lines, group_bytes}
+use Rattle.properties_format.specs.Edited.{final_group, edited, is_empty_line, is_left_open, IsEditResult}
+use Rattle.properties_format.specs.Edits.{Edit, IsEdited, IsEditAllResult}
+use Rattle.properties_format.specs.Computed.Body.{held_groups_of, is_pair_with}
+use Rattle.properties_format.specs.Computed.Edited.{IsSound, AreSound}
+use Rattle.properties_format.specs.Computed.Items.{outcome_of}
+use Rattle.properties_format.specs.Computed.Lines.{begins_with_lf}
+use Rattle.properties_format.specs.Computed.Maps.{first_value}
+use Rattle.properties_format.specs.Computed.Parts.{unended_bytes}
+use Rattle.properties_text.specs.Encoding.{encoding_of}
+use Rattle.properties_editing.specs.Private.BodyKeys.{IsErrorOfGroups, closing_bytes, closing_of}
+use Rattle.properties_editing.specs.Editing.{HasValueSet, IsRemoved, IsSet}
+use Rattle.properties_items.specs.FoundItems.{IsNoItem, outcome_pair, pair_characters}
+use Rattle.properties_items.specs.Texts.{characters}
+use Rattle.properties_editing.specs.Private.Sources.{IsInForce}
+use Rattle.properties_editing.specs.declared.edit.groups.Group.{Group}
+use Rattle.properties_editing.specs.declared.edit.index.Index.{Index}
+use Rattle.properties_editing.specs.declared.edit.index.IndexedPair.{IndexedPair}
+use Rattle.properties_editing.specs.declared.edit.index.Shift.{Shift}
+use Rattle.properties_editing.specs.declared.edit.index.Shift.TheVariants as shift
+use Rattle.properties_editing.specs.declared.edit.place.BodySpan.{BodySpan}
+use Rattle.properties_editing.specs.declared.edit.place.Closing.{Closing}
+use Rattle.properties_editing.specs.declared.edit.place.Closing.TheVariants as closing
+use Rattle.properties_editing.specs.declared.edit.source.BodyStart.{BodyStart}
+use Rattle.properties_items.specs.declared.error.PropertiesError.{PropertiesError}
+
+-- The pair that a logical line is, if it is one, was returned; or an error in the line with this number.
+abbrev pub FindsPairOfLine : {Y Z : Type 0} → List ℕ → ℕ → Result (Option (String Y × String Z)) PropertiesError → Type 0
+FindsPairOfLine line number (Ok answer) = IsSound (outcome_of line) × (option_map pair_characters answer ≡ outcome_pair (outcome_of line))
+FindsPairOfLine line number (Err e) = IsNoItem number line e
+
+-- ---- the parts of groups
+
+-- what a group says
+abbrev pub outcome : List HeldLine → Outcome
+outcome g = outcome_of (joined (as_lines g))
+
+-- a part, if there is one, before others
+abbrev pub some_span : Bool → BodySpan → List BodySpan → List BodySpan
+some_span true s ss = s ∷ ss
+some_span false s ss = ss
+
+-- the part of a group that starts here, without its last line ending
+abbrev pub span_of : ℕ → List HeldLine → BodySpan
+span_of n g = record { start = n; end = n + length (unended_bytes g) }
+
+-- the parts of the groups that say such things, where the first group starts here
+abbrev pub spans_where : (Outcome → Bool) → ℕ → List (List HeldLine) → List BodySpan
+spans_where such n [] = []
+spans_where such n (g ∷ gs) = some_span (such (outcome g)) (span_of n g) (spans_where such (n + length (group_bytes g)) gs)
+
+-- whether a logical line is a pair
+abbrev pub is_pair : Outcome → Bool
+is_pair ignored = false
+is_pair (given (comment text)) = false
+is_pair (given (pair key value)) = true
+is_pair (broken kind) = false
+
+-- the value that a logical line gives a key
+abbrev pub value_by : List ℕ → Outcome → Option (List ℕ)
+value_by key ignored = None
+value_by key (given (comment text)) = None
+value_by key (given (pair k value)) = if bytes_eq k key then Some value else None
+value_by key (broken kind) = None
+
+-- the value of a key in groups: that of the last pair with it
+abbrev pub last_value : List ℕ → List (List HeldLine) → Option (List ℕ)
+last_value key [] = None
+last_value key (g ∷ gs) = first_value (last_value key gs) (value_by key (outcome g))
+
+-- ---- what is stored
+
+-- what is stored of the pairs with a key
+abbrev pub stored_at : {Y : Type 0} → List (String Y × IndexedPair) → List ℕ → Option IndexedPair
+stored_at entries key = lookup (λ k. bytes_eq key (characters k)) entries
+
+-- the value that is stored of a key
+abbrev pub stored_value : {Y : Type 0} → List (String Y × IndexedPair) → List ℕ → Option (List ℕ)
+stored_value entries key = option_map (λ p. characters p.value) (stored_at entries key)
+
+-- the places of the pairs with a key
+abbrev pub places_of : Option IndexedPair → List ℕ
+places_of None = []
+places_of (Some p) = p.earlier.items ++ p.place ∷ []
+
+-- the part in a place, if there is one
+abbrev pub span_at : List (Option BodySpan) → ℕ → Option BodySpan
+span_at spans place = get_or spans place None
+
+-- where the last pair with a key is
+abbrev pub last_span : List (Option BodySpan) → Option IndexedPair → Option BodySpan
+last_span spans None = None
+last_span spans (Some p) = span_at spans p.place
+
+abbrev pub found_span : Index → List ℕ → Option BodySpan
+found_span index key = last_span index.spans.items (stored_at index.pairs.entries key)
+
+-- the parts that are there
+abbrev pub live_spans : List (Option BodySpan) → List BodySpan
+live_spans [] = []
+live_spans (None ∷ spans) = live_spans spans
+live_spans (Some s ∷ spans) = s ∷ live_spans spans
+
+-- the first if there is one, otherwise the second
+abbrev pub span_or : Option BodySpan → Option BodySpan → Option BodySpan
+span_or None t = t
+span_or (Some s) t = Some s
+
+-- the last part that is there
+abbrev pub last_live : List (Option BodySpan) → Option BodySpan
+last_live [] = None
+last_live (s ∷ spans) = span_or (last_live spans) s
+
+-- A pair more was stored, after all others.
+pub record KeepsPair (key value : List ℕ) (span : BodySpan) (old new : Index) : Type 0 where
+  pub pair : IndexedPair
+  pub has_value : characters pair.value ≡ value
+  pub stored : (k : List ℕ) → stored_at new.pairs.entries k ≡ update bytes_eq (stored_at old.pairs.entries) key (Some pair) k
+  pub places : places_of (Some pair) ≡ places_of (stored_at old.pairs.entries key) ++ length old.spans.items ∷ []
+  pub spans : new.spans.items ≡ old.spans.items ++ Some span ∷ []
+  pub ordered : IsOrdered string_cmp new.pairs
+
+-- What is stored is as it was. There may be a place more that is empty.
+pub record KeepsNothing (old new : Index) : Type 0 where
+  pub stored : (k : List ℕ) → stored_at new.pairs.entries k ≡ stored_at old.pairs.entries k
+  pub spans : (new.spans.items ≡ old.spans.items) ⊎ (new.spans.items ≡ old.spans.items ++ None ∷ [])
+  pub closing : new.closing ≡ old.closing
+  pub ordered : IsOrdered string_cmp new.pairs
+
+abbrev pub AddsPair : Option (List ℕ × List ℕ) → BodySpan → Index → Index → Type 0
+AddsPair None span old new = (new.pairs ≡ old.pairs) × (new.spans ≡ old.spans)
+AddsPair (Some (key, value)) span old new = KeepsPair key value span old new
+
+-- The group and its pair, if it is one, were stored.
+pub record AddsGroup (group : Group) (told : Option (List ℕ × List ℕ)) (old new : Index) : Type 0 where
+  pub closing : new.closing ≡ closing_of group.is_empty group.is_open
+  pub pair : AddsPair told (record { start = group.start; end = group.end }) old new
+
+-- ---- an index of groups
+
+-- The parts that are there are those of all pairs of these groups, in order. In the places of each key are the parts of the
+-- pairs with it, in order, and the value of the last one is stored.
+pub record IsListed {Y : Type 0} (groups : List (List HeldLine)) (entries : List (String Y × IndexedPair)) (spans : List (Option BodySpan)) : Type 0 where
+  pub live : live_spans spans ≡ spans_where is_pair 0 groups
+  pub stored : (k : List ℕ) → map (span_at spans) (places_of (stored_at entries k)) ≡ map Some (spans_where (is_pair_with k) 0 groups)
+  pub values : (k : List ℕ) → stored_value entries k ≡ last_value k groups
+
+-- So it is of an index, which also says what separates a new pair from the last group.
+pub record IsIndex (groups : List (List HeldLine)) (index : Index) : Type 0 where
+  pub listed : IsListed groups index.pairs.entries index.spans.items
+  pub closing : (groups ≡ []) ⊎ (index.closing ≡ closing_of (is_empty_line (final_group groups)) (is_left_open (final_group groups)))
+  pub ordered : IsOrdered string_cmp index.pairs
+
+-- A body without malformed escapes was read, and the index is that of its groups; or its first malformed escape was
+-- found, or memory ran out.
+abbrev pub ParsesIndex : Encoding → List ℕ → Result Index PropertiesError → Type 0
+ParsesIndex e body (Ok index) = AreSound (held_groups_of e body) × IsIndex (held_groups_of e body) index
+ParsesIndex e body (Err error) = IsErrorOfGroups (held_groups_of e body) error
+
+-- ---- parts that change
+
+-- a position, after what ended in one place ends in another
+abbrev pub moved_to : ℕ → ℕ → ℕ → ℕ
+moved_to old new p = if nat_lt p old then p else min (p - old + new) (2 ^ 64 - 1)
+
+abbrev pub moved_span : ℕ → ℕ → BodySpan → BodySpan
+moved_span old new s = record { start = moved_to old new s.start; end = moved_to old new s.end }
+
+-- a part, after what ended in this place is so much longer
+abbrev pub lengthened_span : ℕ → ℕ → BodySpan → BodySpan
+lengthened_span place more s = record { start = s.start; end = if s.end == place then min (place + more) (2 ^ 64 - 1) else s.end }
+
+-- a part after a change, unless it is cut out
+abbrev pub shifted : Shift → BodySpan → Option BodySpan
+shifted (shift.Moved old new) s = Some (moved_span old new s)
+shifted (shift.Lengthened place more) s = Some (lengthened_span place more s)
+shifted (shift.Cut start end) s = if s.start == start then None else Some (moved_span end start s)
+
+-- all parts after a change
+abbrev pub all_shifted : Shift → List (Option BodySpan) → List (Option BodySpan)
+all_shifted change spans = map (option_and_then (shifted change)) spans
+
+-- The first so many parts were changed, and the others are not yet.
+pub record AreShiftedTo (change : Shift) (count : ℕ) (old new : List (Option BodySpan)) : Type 0 where
+  pub size : length new ≡ length old
+  pub done : (i : ℕ) → i < count → span_at new i ≡ option_and_then (shifted change) (span_at old i)
+  pub left : (i : ℕ) → count ≤ i → span_at new i ≡ span_at old i
+
+-- A pair was stored that was appended, where what ended in this place is so much longer.
+pub record GrowsIndex (key value : List ℕ) (span : BodySpan) (place more : ℕ) (old new : Index) : Type 0 where
+  pub mid : Index
+  pub keeps : KeepsPair key value span old mid
+  pub pairs : new.pairs ≡ mid.pairs
+  pub longer : new.spans.items ≡ all_shifted (shift.Lengthened place more) mid.spans.items
+  pub closing : new.closing ≡ closing.Nothing
+
+-- The last pair with a key has another value and ends in another place.
+pub record FollowsPair (key value : List ℕ) (old_end new_end : ℕ) (is_last : Bool) (old new : Index) : Type 0 where
+  pub spans : new.spans.items ≡ all_shifted (shift.Moved old_end new_end) old.spans.items
+  pub closing : new.closing ≡ (if is_last then closing.OneEnding else old.closing)
+  pub places : (k : List ℕ) → places_of (stored_at new.pairs.entries k) ≡ places_of (stored_at old.pairs.entries k)
+  pub values : (k : List ℕ) → stored_value new.pairs.entries k
+      ≡ (if bytes_eq key k then option_map (λ v. value) (stored_value old.pairs.entries k) else stored_value old.pairs.entries k)
+  pub ordered : IsOrdered string_cmp new.pairs
+
+-- what a line ending adds to a group that is left open, by what separates a new pair from it
+abbrev pub opened_closing : Closing → Closing
+opened_closing closing.Nothing = closing.Nothing
+opened_closing closing.OneEnding = closing.Nothing
+opened_closing closing.TwoEndings = closing.OneEnding
+
+-- A pair was appended to a source, as this line, and stored.
+pub record IsPairAppended (opened : BodyStart) (key value by line ending old : List ℕ) (was : Index) (new : List ℕ) (is : Index) : Type 0 where
+  pub bytes : new ≡ old ++ (closing_bytes by was.closing ++ (line ++ ending))
+  pub index : let place = length old - opened.start in
+      let start = place + length (closing_bytes by was.closing) in
+      GrowsIndex key value (record { start = start; end = start + length line }) place (length (closing_bytes by (opened_closing was.closing))) was is
+
+-- So it is; or memory ran out, and nothing changed that is looked at, if the key is new.
+abbrev pub AppendsPair : {E : Type 0} → BodyStart → List ℕ → List ℕ → List ℕ → List ℕ → List ℕ → List ℕ → Index → Result Unit E → List ℕ → Index → Type 0
+AppendsPair opened key value by line ending old was (Ok done) new is = IsPairAppended opened key value by line ending old was new is
+AppendsPair opened key value by line ending old was (Err error) new is = (new ≡ old) × (stored_at was.pairs.entries key ≡ None → KeepsNothing was is)
+
+-- The source has the value for the key, and the index is that of its groups.
+pub record IsValueAdded (opened : BodyStart) (key value old new : List ℕ) (index : Index) : Type 0 where
+  pub set : (e : Encoding) → IsInForce old e opened → HasValueSet e old key value new
+  pub sound : AreSound (held_groups_of (encoding_of opened.encoding) (drop opened.start new))
+  pub is_index : IsIndex (held_groups_of (encoding_of opened.encoding) (drop opened.start new)) index
+
+-- So it is; or memory ran out, and nothing changed that is looked at.
+abbrev pub AddsValue : {E : Type 0} → BodyStart → List ℕ → List ℕ → List ℕ → Index → Result Unit E → List ℕ → Index → Type 0
+AddsValue opened key value old was (Ok done) new is = IsValueAdded opened key value old new is
+AddsValue opened key value old was (Err error) new is = (new ≡ old) × KeepsNothing was is
+
+-- The source has the printed pair for the key, and the index is that of its groups.
+pub record IsKeyAdded (opened : BodyStart) (key value old new : List ℕ) (index : Index) : Type 0 where
+  pub set : (e : Encoding) → IsInForce old e opened → IsSet e old key value new
+  pub sound : AreSound (held_groups_of (encoding_of opened.encoding) (drop opened.start new))
+  pub is_index : IsIndex (held_groups_of (encoding_of opened.encoding) (drop opened.start new)) index
+
+abbrev pub AddsKey : {E : Type 0} → BodyStart → List ℕ → List ℕ → List ℕ → Index → Result Unit E → List ℕ → Index → Type 0
+AddsKey opened key value old was (Ok done) new is = IsKeyAdded opened key value old new is
+AddsKey opened key value old was (Err error) new is = (new ≡ old) × KeepsNothing was is
+
+-- ---- a key that is there or not
+
+-- The source has the value for the key, and the index is that of its groups.
+pub record IsValuePut (e : Encoding) (opened : BodyStart) (key value old new : List ℕ) (index : Index) : Type 0 where
+  pub set : HasValueSet e old key value new
+  pub sound : AreSound (held_groups_of (encoding_of opened.encoding) (drop opened.start new))
+  pub is_index : IsIndex (held_groups_of (encoding_of opened.encoding) (drop opened.start new)) index
+
+-- So it is in each encoding that may have been requested; or memory ran out, and nothing changed that is looked at.
+abbrev pub PutsValue : {E : Type 0} → BodyStart → List ℕ → List ℕ → List ℕ → Index → Result Unit E → List ℕ → Index → Type 0
+PutsValue opened key value old was (Ok done) new is = (e : Encoding) → IsInForce old e opened → IsValuePut e opened key value old new is
+PutsValue opened key value old was (Err error) new is = (new ≡ old) × KeepsNothing was is
+
+-- The source has the printed pair for the key, and the index is that of its groups.
+pub record IsPairPut (e : Encoding) (opened : BodyStart) (key value old new : List ℕ) (index : Index) : Type 0 where
+  pub set : IsSet e old key value new
+  pub sound : AreSound (held_groups_of (encoding_of opened.encoding) (drop opened.start new))
+  pub is_index : IsIndex (held_groups_of (encoding_of opened.encoding) (drop opened.start new)) index
+
+abbrev pub PutsPair : {E : Type 0} → BodyStart → List ℕ → List ℕ → List ℕ → Index → Result Unit E → List ℕ → Index → Type 0
+PutsPair opened key value old was (Ok done) new is = (e : Encoding) → IsInForce old e opened → IsPairPut e opened key value old new is
+PutsPair opened key value old was (Err error) new is = (new ≡ old) × KeepsNothing was is
+
+-- ---- a key that is removed
+
+-- the size of the line ending that bytes begin with
+abbrev pub ending_size : List ℕ → ℕ
+ending_size [] = 0
+ending_size (b ∷ bs) = if b == carriage_return then (if begins_with_lf bs then 2 else 1) else (if b == line_feed then 1 else 0)
+
+-- The part is one of the body that starts here.
+abbrev pub IsInSource : ℕ → List ℕ → Option BodySpan → Type 0
+IsInSource start source None = Unit {0}
+IsInSource start source (Some span) = (span.start ≤ span.end) × (start + span.end ≤ length source)
+
+-- A part and the line ending after it were cut out.
+pub record IsCutOut (start : ℕ) (span : BodySpan) (old : List ℕ) (was : Index) (new : List ℕ) (is : Index) : Type 0 where
+  pub bytes : let end = start + span.end + ending_size (drop (start + span.end) old) in new ≡ take (start + span.start) old ++ drop end old
+  pub spans : is.spans.items ≡ all_shifted (shift.Cut span.start (span.end + ending_size (drop (start + span.end) old))) was.spans.items
+  pub pairs : is.pairs ≡ was.pairs
+  pub closing : is.closing ≡ (if start + span.end == length old then closing.Nothing else was.closing)
+
+-- So it is, if there is a part.
+abbrev pub CutsOut : ℕ → Option BodySpan → List ℕ → Index → List ℕ → Index → Type 0
+CutsOut start None old was new is = (new ≡ old) × (is ≡ was)
+CutsOut start (Some span) old was new is = IsCutOut start span old was new is
+
+-- An LF was put before the source.
+pub record PutsFirst (old : List ℕ) (was : Index) (new : List ℕ) (is : Index) : Type 0 where
+  pub bytes : new ≡ line_feed ∷ old
+  pub spans : is.spans.items ≡ all_shifted (shift.Moved 0 1) was.spans.items
+  pub pairs : is.pairs ≡ was.pairs
+  pub closing : is.closing ≡ was.closing
+
+-- So it was if the source began like a byte order mark; otherwise nothing changed.
+abbrev pub GuardsFront : Bool → List ℕ → Index → List ℕ → Index → Type 0
+GuardsFront true old was new is = PutsFirst old was new is
+GuardsFront false old was new is = (new ≡ old) × (is ≡ was)
+
+-- The source is without the key, and the index is that of its groups.
+pub record ArePairsRemoved (e : Encoding) (opened : BodyStart) (key old new : List ℕ) (index : Index) : Type 0 where
+  pub removed : IsRemoved e old key new
+  pub sound : AreSound (held_groups_of (encoding_of opened.encoding) (drop opened.start new))
+  pub is_index : IsIndex (held_groups_of (encoding_of opened.encoding) (drop opened.start new)) index
+
+abbrev pub RemovesPairs : BodyStart → List ℕ → List ℕ → List ℕ → Index → Type 0
+RemovesPairs opened key old new is = (e : Encoding) → IsInForce old e opened → ArePairsRemoved e opened key old new is
+
+-- ---- an edit
+
+-- The source was edited, and the index is that of its groups.
+pub record IsEditMade (e : Encoding) (opened : BodyStart) (edit : Edit) (old new : List ℕ) (index : Index) : Type 0 where
+  pub result : IsEditResult e old (IsEdited e old edit) (edited new)
+  pub in_force : IsInForce new e opened
+  pub sound : AreSound (held_groups_of (encoding_of opened.encoding) (drop opened.start new))
+  pub is_index : IsIndex (held_groups_of (encoding_of opened.encoding) (drop opened.start new)) index
+
+abbrev pub MakesEdit : BodyStart → Edit → List ℕ → List ℕ → Index → Type 0
+MakesEdit opened edit old new is = (e : Encoding) → IsInForce old e opened → IsEditMade e opened edit old new is
+
+-- So it is of edits in turn.
+pub record AreEditsMade (e : Encoding) (opened : BodyStart) (source : List ℕ) (edits : List Edit) (bytes : List ℕ) (index : Index) : Type 0 where
+  pub result : IsEditAllResult e source edits (edited bytes)
+  pub in_force : IsInForce bytes e opened
+  pub sound : AreSound (held_groups_of (encoding_of opened.encoding) (drop opened.start bytes))
+  pub is_index : IsIndex (held_groups_of (encoding_of opened.encoding) (drop opened.start bytes)) index

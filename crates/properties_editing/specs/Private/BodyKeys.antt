@@ -1,0 +1,118 @@
+-- Which logical lines are pairs with a key, and where the last of these pairs is in a body.
+use Rattle.std.specs.Prelude.{◌≡◌, ◌⊎◌, ℕ, ◌+◌, Bool, if◌then◌else◌, List, [], ◌∷◌, ◌++◌, take, drop, ◌-◌, ◌==◌, ◌&&◌, ◌≤◌, length, Option, Some, None, Result, Ok, Err}
+use Rattle.std.specs.Str.{chars}
+use Rattle.std.specs.declared.vec.Vec.{Vec}
+use Rattle.properties_format.specs.Text.{line_feed}
+use Rattle.properties_format.specs.Encoding.{Encoding, begins_like_bom}
+use Rattle.properties_format.specs.Escapes.{Malformed}
+use Rattle.properties_format.specs.Body.{HeldLine, groups_bytes}
+use Rattle.properties_format.specs.Edited.{unreadable, final_group, added_ending, separation}
+use Rattle.properties_format.specs.Items.{ignored}
+use Rattle.properties_format.specs.Computed.Items.{outcome_of}
+use Rattle.properties_format.specs.Computed.Body.{is_pair_with, entries_in, held_groups_of}
+use Rattle.properties_format.specs.Computed.Parts.{unended_bytes}
+use Rattle.properties_format.specs.Computed.Edited.{KeyPlace, last_place, without, IsSound, AreSound, result_by}
+use Rattle.properties_items.specs.BorrowedItems.{IsFoundIn}
+use Rattle.properties_items.specs.FoundItems.{IsNoItem}
+use Rattle.properties_items.specs.Errors.{IsBareError, IsMalformed}
+use Rattle.properties_editing.specs.declared.edit.groups.Group.{Group}
+use Rattle.properties_editing.specs.declared.edit.place.Closing.{Closing}
+use Rattle.properties_editing.specs.declared.edit.place.Closing.TheVariants as closing
+use Rattle.properties_editing.specs.declared.edit.place.KeyPlace as place
+use Rattle.properties_editing.specs.declared.edit.place.BodySpan.{BodySpan}
+use Rattle.properties_items.specs.declared.error.ErrorKind.TheVariants as kind
+use Rattle.properties_items.specs.declared.error.PropertiesError.{PropertiesError}
+use Rattle.properties_items.specs.declared.found.Found.{Found}
+
+-- What was found in a logical line, or `None` if it is blank; or an error in the line with this number.
+abbrev pub FindsItem : List ℕ → ℕ → Result (Option Found) PropertiesError → Type 0
+FindsItem line number (Ok None) = outcome_of (chars line) ≡ ignored
+FindsItem line number (Ok (Some found)) = IsFoundIn line found
+FindsItem line number (Err e) = IsNoItem number (chars line) e
+
+-- The result says whether a logical line is a pair with this key; or there is an error in the line with this number.
+abbrev pub ChecksKeyOfLine : List ℕ → List ℕ → ℕ → Result Bool PropertiesError → Type 0
+ChecksKeyOfLine line key number (Ok answer) = IsSound (outcome_of line) × (answer ≡ is_pair_with key (outcome_of line))
+ChecksKeyOfLine line key number (Err e) = IsNoItem number line e
+
+-- ---- the first malformed escape of a body
+
+-- The first malformed escape of these groups is malformed in some way, and the error reports how and in which line; or
+-- memory ran out.
+abbrev pub IsErrorOfGroups : List (List HeldLine) → PropertiesError → Type 0
+IsErrorOfGroups groups e =
+    ((how : Malformed) × (n : ℕ) × ((made : List ℕ) → result_by (entries_in 1 groups) made ≡ unreadable how n) × IsMalformed how n e)
+    ⊎ IsBareError kind.Memory e
+
+-- ---- where a key is
+
+-- The last pair with the key is in this span.
+pub record IsPlaceOf (key : List ℕ) (groups : List (List HeldLine)) (pair : BodySpan) : Type 0 where
+  pub place : KeyPlace
+  pub is : last_place key groups ≡ Some place
+  pub division : groups ≡ place.before ++ place.group ∷ place.after
+  pub starts : pair.start ≡ length (groups_bytes place.before)
+  pub ends : pair.end ≡ pair.start + length (unended_bytes place.group)
+
+abbrev pub IsPlace : List ℕ → List (List HeldLine) → Option BodySpan → Type 0
+IsPlace key groups None = last_place key groups ≡ None
+IsPlace key groups (Some pair) = IsPlaceOf key groups pair
+
+-- what separates a new pair from a group, by whether the group is an empty line and whether it is left open
+abbrev pub closing_of : Bool → Bool → Closing
+closing_of is_empty is_open = if is_empty then closing.Nothing else (if is_open then closing.TwoEndings else closing.OneEnding)
+
+-- the bytes of that separation, made of this line ending
+abbrev pub closing_bytes : List ℕ → Closing → List ℕ
+closing_bytes ending closing.Nothing = []
+closing_bytes ending closing.OneEnding = ending
+closing_bytes ending closing.TwoEndings = ending ++ ending
+
+-- what is known of the key after one more group, which may be a pair with it
+abbrev pub found_after : place.KeyPlace → Group → Bool → place.KeyPlace
+found_after found group is_pair =
+    record {
+      pair = if is_pair then Some (record { start = group.start; end = group.end }) else found.pair;
+      closing = closing_of group.is_empty group.is_open;
+    }
+
+-- A body without malformed escapes was read, and the place of the key was found.
+pub record IsKeyFound (e : Encoding) (body key : List ℕ) (found : place.KeyPlace) : Type 0 where
+  pub sound : AreSound (held_groups_of e body)
+  pub pair : IsPlace key (held_groups_of e body) found.pair
+  pub closing : (source : List ℕ) → separation source (final_group (held_groups_of e body)) ≡ closing_bytes (added_ending source) found.closing
+
+-- the result of searching for a key
+abbrev pub FindsKey : Encoding → List ℕ → List ℕ → Result place.KeyPlace PropertiesError → Type 0
+FindsKey e body key (Ok found) = IsKeyFound e body key found
+FindsKey e body key (Err error) = IsErrorOfGroups (held_groups_of e body) error
+
+-- ---- what is left without a key
+
+-- the bytes of these parts of a body, one after the other
+abbrev pub spans_bytes : List ℕ → List BodySpan → List ℕ
+spans_bytes body [] = []
+spans_bytes body (s ∷ ss) = take (s.end - s.start) (drop s.start body) ++ spans_bytes body ss
+
+-- These are parts of the body.
+abbrev pub AreWithin : List ℕ → List BodySpan → Type 0
+AreWithin body [] = Unit {0}
+AreWithin body (s ∷ ss) = (s.start ≤ s.end) × (s.end ≤ length body) × AreWithin body ss
+
+-- a source with only these parts of its body, and an LF before them if they would begin like a byte order mark and the
+-- source has none
+abbrev pub left_bytes : List ℕ → ℕ → List BodySpan → List ℕ
+left_bytes source start others =
+    let rest = spans_bytes (drop start source) others in
+    take start source ++ ((if start == 0 && begins_like_bom rest then line_feed ∷ [] else []) ++ rest)
+
+-- A body without malformed escapes was read, and these parts of it are left without the key.
+pub record AreOthersFound (e : Encoding) (body key : List ℕ) (others : List BodySpan) : Type 0 where
+  pub sound : AreSound (held_groups_of e body)
+  pub within : AreWithin body others
+  pub bytes : spans_bytes body others ≡ without key (held_groups_of e body)
+
+-- the result of searching for the parts that are left
+abbrev pub FindsOthers : {Z : Type 0} → Encoding → List ℕ → List ℕ → Result (Vec BodySpan Z) PropertiesError → Type 0
+FindsOthers e body key (Ok others) = AreOthersFound e body key others.items
+FindsOthers e body key (Err error) = IsErrorOfGroups (held_groups_of e body) error

@@ -1,0 +1,156 @@
+-- How the value of a key is set in a body that is held in memory: where the value of a pair begins, and how a new pair is
+-- laid out.
+use Rattle.std.specs.Prelude.{◌≡◌, ℕ, ◌+◌, ◌-◌, ◌≤◌, Bool, true, false, if◌then◌else◌, List, [], ◌∷◌, ◌++◌, length, take, drop, Option, Some, None, Result, Ok, Err, unwrap_or}
+use Rattle.std.specs.Str.{chars, encode_utf8_all}
+use Rattle.std.specs.Global.{Vec}
+use Rattle.properties_format.specs.Text as text
+use Rattle.properties_format.specs.Encoding.{Encoding}
+use Rattle.properties_format.specs.Groups.{joined}
+use Rattle.properties_format.specs.Split.{IsPair}
+use Rattle.properties_format.specs.Computed.Split.{split_of}
+use Rattle.properties_format.specs.Entries.{pair}
+use Rattle.properties_format.specs.Items.{given}
+use Rattle.properties_format.specs.Computed.Items.{outcome_of}
+use Rattle.properties_format.specs.Text.{is_blanks}
+use Rattle.properties_format.specs.Printing.{encoded_text, printed_key}
+use Rattle.properties_format.specs.Body.{HeldLine, as_lines, groups_bytes, held_in, AreGroupsOf}
+use Rattle.properties_format.specs.Edited.{is_editable}
+use Rattle.properties_format.specs.Valued.{value_text, printed_value, ending_among}
+use Rattle.properties_format.specs.Computed.Body.{held_groups_of}
+use Rattle.properties_format.specs.Computed.Edited.{IsSound}
+use Rattle.properties_format.specs.Computed.Settings.{is_good_separator}
+use Rattle.properties_format.specs.Computed.Parts.{unended_bytes}
+use Rattle.properties_format.specs.Computed.Valued.{before_value, between_if_pair, between_of, front_of, has_value, is_pair_to, last_between, separator_by}
+use Rattle.properties_text.specs.Parsing.{bytes_in, IsSpan}
+use Rattle.properties_text.specs.declared.parse.Span.{Span}
+use Rattle.properties_items.specs.Texts.{characters}
+use Rattle.properties_items.specs.LineEndings.{ending_of}
+use Rattle.properties_editing.specs.Private.BodyLines.{ending_in}
+use Rattle.properties_items.specs.FoundItems.{IsNoItem}
+use Rattle.properties_items.specs.Errors.{IsBareError}
+use Rattle.properties_items.specs.declared.line.LineEnding.{LineEnding}
+use Rattle.properties_editing.specs.declared.edit.new_pair.Layout.{Layout}
+use Rattle.properties_editing.specs.declared.edit.place.BodySpan.{BodySpan}
+use Rattle.properties_editing.specs.declared.edit.place.Closing.{Closing}
+use Rattle.properties_editing.specs.declared.edit.value.NewValue.{NewValue}
+use Rattle.properties_items.specs.declared.error.ErrorKind.TheVariants as kind
+use Rattle.properties_items.specs.declared.error.PropertiesError.{PropertiesError}
+
+-- The result says whether a logical line is a pair with this value; or there is an error in the line with this number.
+abbrev pub ChecksValueOfLine : List ℕ → List ℕ → ℕ → Result Bool PropertiesError → Type 0
+ChecksValueOfLine line value number (Ok answer) = IsSound (outcome_of line) × (answer ≡ is_pair_to value (outcome_of line))
+ChecksValueOfLine line value number (Err e) = IsNoItem number line e
+
+-- ---- where the value of a pair begins
+
+-- The span separates key and value in a logical line, and the value begins after it.
+pub record IsBetweenAt (line : List ℕ) (span : Span) : Type 0 where
+  pub is_span : IsSpan line span
+  pub of_pair : between_if_pair (split_of (chars line)) (chars line) ≡ Some (chars (bytes_in line span))
+  pub before : chars (take span.end line) ≡ before_value (chars line)
+
+abbrev pub IsBetweenIn : List ℕ → Option Span → Type 0
+IsBetweenIn line None = between_if_pair (split_of (chars line)) (chars line) ≡ None
+IsBetweenIn line (Some span) = IsBetweenAt line span
+
+-- The bytes are one group, and this many bytes come before the value in its logical line.
+pub record IsBeforeValue (e : Encoding) (bytes : List ℕ) (before : ℕ) : Type 0 where
+  pub group : List HeldLine
+  pub is_group : held_groups_of e bytes ≡ group ∷ []
+  pub key : List ℕ
+  pub value : List ℕ
+  pub is_pair : IsPair (joined (as_lines group)) key value
+  pub size : length (encode_utf8_all (before_value (joined (as_lines group)))) ≡ before
+
+-- The bytes are one group, and its front has this size.
+pub record IsFrontSize (e : Encoding) (bytes : List ℕ) (size : ℕ) : Type 0 where
+  pub group : List HeldLine
+  pub is_group : held_groups_of e bytes ≡ group ∷ []
+  pub is_size : size ≡ length (front_of e group)
+
+-- ---- a pair with another value
+
+-- The bytes are one group, which is a pair.
+pub record IsPairAlone (e : Encoding) (bytes : List ℕ) : Type 0 where
+  pub group : List HeldLine
+  pub is_group : held_groups_of e bytes ≡ group ∷ []
+  pub key : List ℕ
+  pub value : List ℕ
+  pub is_pair : outcome_of (joined (as_lines group)) ≡ given (pair key value)
+
+-- The bytes are one group, which doesn't have the value. It gets the value if these bytes come after its front.
+pub record IsNewValue (e : Encoding) (bytes value : List ℕ) (new : NewValue) : Type 0 where
+  pub group : List HeldLine
+  pub is_group : held_groups_of e bytes ≡ group ∷ []
+  pub other : has_value value group ≡ false
+  pub within : new.front_size ≤ length bytes
+  pub front : take new.front_size bytes ≡ front_of e group
+  pub bytes_are : new.bytes ≡ encoded_text e (value_text e (between_of group) value)
+
+-- How a pair by itself gets a value, or `None` if it has the value; or memory ran out.
+abbrev pub GivesValue : Encoding → List ℕ → List ℕ → Result (Option NewValue) PropertiesError → Type 0
+GivesValue e bytes value (Ok None) = (group : List HeldLine) × (held_groups_of e bytes ≡ group ∷ []) × (has_value value group ≡ true)
+GivesValue e bytes value (Ok (Some new)) = IsNewValue e bytes value new
+GivesValue e bytes value (Err error) = IsBareError kind.Memory error
+
+-- a source with a value for the pair in this span of it
+abbrev pub revalued_in : Encoding → List ℕ → ℕ → ℕ → List ℕ → List HeldLine → List ℕ
+revalued_in e source start end value group =
+    if has_value value group then source
+    else take start source ++ (front_of e group ++ (encoded_text e (value_text e (between_of group) value) ++ drop end source))
+
+-- The source with a value for the pair in this span of it; or memory ran out.
+abbrev pub Revalues : Encoding → List ℕ → ℕ → ℕ → List ℕ → Result (Vec ℕ) PropertiesError → Type 0
+Revalues e source start end value (Ok bytes) =
+    (group : List HeldLine) × (held_groups_of e (take (end - start) (drop start source)) ≡ group ∷ [])
+    × (bytes.items ≡ revalued_in e source start end value group)
+Revalues e source start end value (Err error) = IsBareError kind.Memory error
+
+-- ---- a new pair
+
+-- The last pair of these groups, whatever its key, is in this span.
+pub record IsLastPairOf (groups : List (List HeldLine)) (span : BodySpan) : Type 0 where
+  pub before : List (List HeldLine)
+  pub group : List HeldLine
+  pub after : List (List HeldLine)
+  pub division : groups ≡ before ++ group ∷ after
+  pub between : List ℕ
+  pub of_pair : between_if_pair (split_of (joined (as_lines group))) (joined (as_lines group)) ≡ Some between
+  pub last : last_between groups ≡ Some between
+  pub starts : span.start ≡ length (groups_bytes before)
+  pub ends : span.end ≡ span.start + length (unended_bytes group)
+
+abbrev pub IsLastPair : List (List HeldLine) → Option BodySpan → Type 0
+IsLastPair groups None = last_between groups ≡ None
+IsLastPair groups (Some span) = IsLastPairOf groups span
+
+abbrev pub FindsLastPair : Encoding → List ℕ → Option BodySpan → Type 0
+FindsLastPair e body span = IsLastPair (held_groups_of e body) span
+
+-- The bytes are one group.
+abbrev pub IsGroupAlone : Encoding → List ℕ → Type 0
+IsGroupAlone e bytes = (group : List HeldLine) × (held_groups_of e bytes ≡ group ∷ [])
+
+-- This is the last line ending of a body, or an LF if it has none.
+abbrev pub IsLastEnding : List ℕ → LineEnding → Type 0
+IsLastEnding body by =
+    (e : Encoding) (groups : List (List HeldLine)) → is_editable e ≡ true → AreGroupsOf e body groups
+    → ending_of by ≡ ending_among text.lf (held_in groups)
+
+-- This is the last line ending of a body, if it has one.
+abbrev pub IsEndingWithin : List ℕ → Option LineEnding → Type 0
+IsEndingWithin body o =
+    (e : Encoding) (groups : List (List HeldLine)) → is_editable e ≡ true → AreGroupsOf e body groups
+    → (by : text.LineEnding) → ending_among by (held_in groups) ≡ unwrap_or (ending_in o) by
+
+-- the bytes of a new pair without its line ending, which is the first of the body or not
+abbrev pub unended_pair : Encoding → Bool → List ℕ → List ℕ → List ℕ → List ℕ
+unended_pair e first key separator value =
+    encoded_text e (printed_key e false first key ++ (separator ++ printed_value e (is_blanks separator) value))
+
+-- A new pair after the body is laid out like this.
+pub record IsLayoutAfter (e : Encoding) (body : List ℕ) (closing : Closing) (key : List ℕ) (layout : Layout) : Type 0 where
+  pub closes : layout.closing ≡ closing
+  pub separates : characters layout.separator ≡ separator_by key (last_between (held_groups_of e body))
+  pub good : is_good_separator (characters layout.separator) ≡ true
+  pub ends : IsLastEnding body layout.ending

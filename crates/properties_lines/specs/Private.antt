@@ -1,0 +1,2 @@
+pub mod InputBuffer
+pub mod HeldLines
