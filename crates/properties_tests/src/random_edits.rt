@@ -5,14 +5,17 @@
 ghost use Rattle.std.specs.Prelude.{◌<◌};
 
 use crate::same::same;
-use java_properties::{Document, Edit, Encoding, edit_all, remove_key, set_key, set_value};
-use java_properties::PropertiesError;
+use java_properties::{
+    Document, Edit, Encoding, PropertiesError, edit_all, remove_key, set_key, set_value,
+};
 use std::alloc::{AllocError, Global};
 use std::process::Abort;
 use std::test::Fail;
 
 const BYTES: [u8; 19] = *b"aaab==: \\\\\n\n\r\r\n#\xef\xbb\xbf";
+
 const KEYS: [&str; 7] = ["a", "b", "", "aa", "ab", "\u{ef}\u{bb}\u{bf}", "ba"];
+
 const VALUES: [&str; 7] = ["", "a", "b c", " x ", "=", "\\", "\u{ef}"];
 
 #[test]
