@@ -83,7 +83,8 @@ editable-unit utf_16be h = absurd (cc)
 
 -- ---- what a document tells
 
-pub items-sound : (n : ℕ) (gs : List (List HeldLine)) → AreSound gs → AreItems (entries_in n gs)
+-- The entries of groups without malformed escapes are items.
+items-sound : (n : ℕ) (gs : List (List HeldLine)) → AreSound gs → AreItems (entries_in n gs)
 items-sound n [] s = tt
 items-sound n (g ∷ gs) s = of-outcome (outcome g) s.0 (items-sound (n + length g) gs s.1)
   where
@@ -92,17 +93,23 @@ items-sound n (g ∷ gs) s = of-outcome (outcome g) s.0 (items-sound (n + length
     of-outcome (given content) s h = h
     of-outcome (broken kind) s h = absurd s
 
+-- Its items are the entries of the groups of its body.
+own-items : (d : Inside) → IsDocument d
+    → items_of (encoding_of d.encoding) d.source.items end
+    ≡ entries_in 1 (held_groups_of (encoding_of d.opened.encoding) (drop d.opened.start d.source.items))
+own-items d i =
+    items_of-groups (encoding_of d.encoding) d.source.items
+    ∙ ap (λ v. let w : InForce = v in entries_in 1 (held_groups_of w.encoding w.body)) i.in_force.in_force
+
 -- What it has stored of a key is its value.
 pub has-value : (d : Inside) → IsDocument d → (key : List ℕ) (value : Option (List ℕ)) → stored_value d.index.pairs.entries key ≡ value → HasValueAt (open_document d) key value
 has-value d i key value is =
     let e = encoding_of d.encoding in
     let source = d.source.items in
     let gs = held_groups_of (encoding_of d.opened.encoding) (drop d.opened.start source) in
-    let same : items_of e source end ≡ entries_in 1 gs =
-    items_of-groups e source ∙ ap (λ v. let w : InForce = v in entries_in 1 (held_groups_of w.encoding w.body)) i.in_force.in_force in
     record {
       entries = entries_in 1 gs;
-      items = subst (IsItems e source end) same (items_of-meets e source end);
+      items = subst (IsItems e source end) (own-items d i) (items_of-meets e source end);
       whole = items-sound 1 gs i.sound;
       is = subst (IsValue (entries_in 1 gs) key) is (map-values 1 gs (stored_value d.index.pairs.entries) i.sound i.is_index.listed.values key);
     }
@@ -114,7 +121,13 @@ checks_has_key f d key (Some x) h = (f x, h)
 
 -- Its index is that of a body.
 pub index-some : (d : Inside) → IsDocument d → IndexesSome d.index
-index-some d i = record { encoding = encoding_of d.opened.encoding; body = drop d.opened.start d.source.items; editable = i.editable; is_index = i.is_index }
+index-some d i =
+    record {
+      encoding = encoding_of d.opened.encoding;
+      body = drop d.opened.start d.source.items;
+      editable = i.editable;
+      is_index = i.is_index;
+    }
 
 -- The keys of groups are those of their entries.
 entries-keys : (n : ℕ) (gs : List (List HeldLine)) → AreSound gs → pair_keys (entries_in n gs) ≡ group_keys gs
@@ -136,11 +149,9 @@ keys-are d i keys tells =
     let source = d.source.items in
     let body = drop d.opened.start source in
     let gs = held_groups_of f body in
-    let same : items_of e source end ≡ entries_in 1 gs =
-    items_of-groups e source ∙ ap (λ v. let w : InForce = v in entries_in 1 (held_groups_of w.encoding w.body)) i.in_force.in_force in
     record {
       entries = entries_in 1 gs;
-      items = subst (IsItems e source end) same (items_of-meets e source end);
+      items = subst (IsItems e source end) (own-items d i) (items_of-meets e source end);
       whole = items-sound 1 gs i.sound;
       are = are-keys (entries_in 1 gs) (group_keys gs) (characters_of keys) (entries-keys 1 gs i.sound) (tells f body i.editable i.is_index);
     }

@@ -67,6 +67,7 @@ abbrev spans_with : List ℕ → List KeySpan → List BodySpan
 spans_with key [] = []
 spans_with key (p ∷ pairs) = some_span (bytes_eq p.key key) p.span (spans_with key pairs)
 
+-- The keys of these pairs are those of the groups.
 keys-pairs : (n : ℕ) (gs : List (List HeldLine)) → keys_of (pairs_of n gs) ≡ group_keys gs
 keys-pairs n [] = refl
 keys-pairs n (g ∷ gs) =
@@ -112,11 +113,12 @@ abbrev Ascend : ℕ → List BodySpan → Type 0
 Ascend n [] = Unit {0}
 Ascend n (s ∷ ss) = (n ≤ s.start) × Ascend (s.start + 1) ss
 
+-- So it is from an earlier place.
 ascend-lower : (n low : ℕ) (ss : List BodySpan) → low ≤ n → Ascend n ss → Ascend low ss
 ascend-lower n low [] h a = tt
 ascend-lower n low (s ∷ ss) h a = let first = a.0 in ((omega arith), a.1)
 
--- Pairs have bytes, so their parts do so.
+-- The parts of pairs do so, since a pair has bytes.
 pairs-ascend : (e : Encoding) (n : ℕ) (gs : List (List HeldLine)) → AreInTurn e gs → Ascend n (spans_of (pairs_of n gs))
 pairs-ascend e n [] t = tt
 pairs-ascend e n (g ∷ []) t = of-key (outcome_key (outcome g))
@@ -139,6 +141,7 @@ pairs-ascend e n (g ∷ h ∷ gs) t = of-outcome (outcome g) refl (pairs-ascend 
         ((omega arith), ascend-lower (n + length (group_bytes g)) (n + 1) (spans_of rest) (omega arith) a)
     of-outcome (broken kind) q a = ascend-lower (n + length (group_bytes g)) n (spans_of rest) (omega arith) a
 
+-- Each starts at the first place or behind it.
 above : (n : ℕ) (xs : List KeySpan) (x : KeySpan) (ys : List KeySpan) → Ascend n (spans_of (xs ++ x ∷ ys)) → n ≤ x.span.start
 above n [] x ys a = a.0
 above n (w ∷ xs) x ys a = let first = a.0 in let rest = above (w.span.start + 1) xs x ys a.1 in omega arith
@@ -189,6 +192,7 @@ record IsFirstPair (pairs : List KeySpan) (key : List ℕ) (span : BodySpan) : T
   division : pairs ≡ before ++ record { span = span; key = key } ∷ after
   none_before : HasNot key (keys_of before)
 
+-- The first part of the pairs with a key is that of the first one.
 first-pair : (key : List ℕ) (pairs : List KeySpan) (s : BodySpan) (ss : List BodySpan) → spans_with key pairs ≡ s ∷ ss → IsFirstPair pairs key s
 first-pair key [] s ss h = absurd (cc)
 first-pair key (p ∷ pairs) s ss h = elim (cases_Bool (bytes_eq p.key key)) [
@@ -219,16 +223,18 @@ has-span key (p ∷ pairs) h = elim (cases_Bool (bytes_eq p.key key)) [
     later (inl q) b = let t = (bytes_eq-Decides p.key key).1 q in absurd (cc)
     later (inr m) b = m
 
+-- The keys before a pair, its own, and those after it.
 keys-divided : (xs : List KeySpan) (x : KeySpan) (ys : List KeySpan) → keys_of (xs ++ x ∷ ys) ≡ keys_of xs ++ x.key ∷ keys_of ys
 keys-divided xs x ys = map-append (λ p. p.key) xs (x ∷ ys)
 
+-- A key between others is one of them.
 has-middle : (key : List ℕ) (xs ys : List (List ℕ)) → Has key (xs ++ key ∷ ys)
 has-middle key [] ys = inl refl
 has-middle key (x ∷ xs) ys = inr (has-middle key xs ys)
 
 -- ---- places
 
--- What is there later starts later.
+-- No part that is there starts before the first place.
 live-above : (spans : List (Option BodySpan)) (n i : ℕ) (s : BodySpan) → Ascend n (live_spans spans) → span_at spans i ≡ Some s → n ≤ s.start
 live-above [] n i s a h = absurd (cc)
 live-above (None ∷ spans) n zero s a h = absurd (cc)
@@ -236,6 +242,7 @@ live-above (None ∷ spans) n (suc i) s a h = live-above spans n i s a h
 live-above (Some t ∷ spans) n zero s a h = let same : t ≡ s = cc in subst (λ v. n ≤ v.start) same a.0
 live-above (Some t ∷ spans) n (suc i) s a h = let first = a.0 in let rest = live-above spans (t.start + 1) i s a.1 h in omega arith
 
+-- Of two parts that are there, the one in the earlier place starts earlier.
 live-order : (spans : List (Option BodySpan)) (n i j : ℕ) (s t : BodySpan) → Ascend n (live_spans spans) → i < j
     → span_at spans i ≡ Some s → span_at spans j ≡ Some t → s.start < t.start
 live-order [] n i j s t a l h k = absurd (cc)
@@ -276,12 +283,14 @@ module _ {Y : Type 0} (e : Encoding) (gs : List (List HeldLine)) (turn : AreInTu
   abbrev pairs : List KeySpan
   pairs = pairs_of 0 gs
 
+  -- The parts of the pairs ascend, and so do those that are there.
   ascends : Ascend 0 (spans_of pairs)
   ascends = pairs-ascend e 0 gs turn
 
   live-ascends : Ascend 0 (live_spans spans)
   live-ascends = subst (Ascend 0) (sym (h.live ∙ spans-pairs 0 gs)) ascends
 
+  -- In the places of a key are the parts of the pairs with it.
   stored-with : (key : List ℕ) → map (span_at spans) (places_of (stored_at entries key)) ≡ map Some (spans_with key pairs)
   stored-with key = h.stored key ∙ ap (map Some) (with-pairs key 0 gs)
 
@@ -298,6 +307,7 @@ module _ {Y : Type 0} (e : Encoding) (gs : List (List HeldLine)) (turn : AreInTu
       of-spans [] q k = absurd (cc)
       of-spans (s ∷ ss) q k = let at : span_at spans i ≡ Some s = cc in record { span = s; at = at; first = first-pair key pairs s ss q }
 
+  -- A key of a pair has a first place.
   place-of : (key : List ℕ) (s : BodySpan) (ss : List BodySpan) → spans_with key pairs ≡ s ∷ ss → (i : ℕ) × IsFirstIn entries key i
   place-of key s ss q = of-places (places_of (stored_at entries key)) refl (stored-with key ∙ ap (map Some) q)
     where
@@ -347,6 +357,7 @@ module _ {Y : Type 0} (e : Encoding) (gs : List (List HeldLine)) (turn : AreInTu
   abbrev AreFirstFrom : ℕ → List (Option (List ℕ)) → Type 0
   AreFirstFrom n firsts = (i : ℕ) (key : List ℕ) → get_or firsts i None ≡ Some key → IsFirstIn entries key (n + i)
 
+  -- So it is from the next place on.
   first_from-next : (n : ℕ) (o : Option (List ℕ)) (firsts : List (Option (List ℕ))) → AreFirstFrom n (o ∷ firsts) → AreFirstFrom (n + 1) firsts
   first_from-next n o firsts a i key q = let m : n + suc i ≡ n + 1 + i = omega arith in subst (IsFirstIn entries key) m (a (suc i) key q)
 
@@ -360,6 +371,7 @@ module _ {Y : Type 0} (e : Encoding) (gs : List (List HeldLine)) (turn : AreInTu
     later-keys key place p (n + 1) firsts (omega arith) (first_from-next n (Some other) firsts a),
   )
 
+  -- Each of the keys comes before those at later places.
   all-apart : (n : ℕ) (firsts : List (Option (List ℕ))) → AreFirstFrom n firsts → AllPairs HaveOrderedFirsts (keys_at firsts)
   all-apart n [] a = λ i j d l m. absurd (omega arith)
   all-apart n (None ∷ firsts) a = all-apart (n + 1) firsts (first_from-next n None firsts a)
@@ -387,6 +399,7 @@ module _ {Y : Type 0} (e : Encoding) (gs : List (List HeldLine)) (turn : AreInTu
 
 -- ---- what an entry of a map says
 
+-- what is in the middle of a list
 get-middle : {X : Type 0} (xs : List X) (x : X) (ys : List X) → slice_get (xs ++ x ∷ ys) (length xs) ≡ Some x
 get-middle [] x ys = refl
 get-middle (y ∷ xs) x ys = get-middle xs x ys
@@ -398,6 +411,7 @@ entry-stored m done rest key stored ordered divided =
     let at = ap (λ v. slice_get v (length done)) (sym divided) ∙ get-middle done (key, stored) rest in
     at_chars-sorted m (string_bytes key) (IsUtf8-string_bytes key) ∙ btree_map_get_place string_cmp_total m (length done) key stored ordered at
 
+-- The first of some places, and those after it.
 head-got : (places : List ℕ) (i : ℕ) → Some i ≡ slice_get places 0 → (more : List ℕ) × (places ≡ i ∷ more)
 head-got [] i e = absurd (cc)
 head-got (n ∷ places) i e = let same : n ≡ i = cc in (places, ap (λ v. v ∷ places) same)
@@ -428,11 +442,13 @@ none-at zero i key e = cc
 none-at (suc n) zero key e = cc
 none-at (suc n) (suc i) key e = none-at n i key e
 
+-- So nothing is placed.
 pub placing-none : {Y : Type 0} (entries rest : List (String Y × IndexedPair)) (n : ℕ) (firsts : List (Option (Bor (List ℕ))))
     → rest ≡ entries → firsts ≡ replicate n None → IsPlacing entries rest (map key_at firsts)
 placing-none entries rest n firsts all none =
     record { done = []; division = all; only = λ i key e. absurd (none-at n i key (ap (λ v. get_or (map key_at v) i None) (sym none) ∙ e)); every = tt }
 
+-- One entry more is placed.
 placed-push : {Y : Type 0} (done : List (String Y × IndexedPair)) (e : String Y × IndexedPair) (firsts : List (Option (List ℕ)))
     → AllPlaced done firsts → ((i : ℕ) (rest : List ℕ) → places_of (Some e.1) ≡ i ∷ rest → get_or firsts i None ≡ Some (characters e.0))
     → AllPlaced (done ++ e ∷ []) firsts
@@ -483,6 +499,7 @@ module _ {Y : Type 0} (entries rest : List (String Y × IndexedPair)) (firsts : 
             (λ j others e. let f = first in let same : j ≡ i = cc in ap (λ v. get_or next v None) same ∙ here);
       }
 
+-- What is stored of a key is that of an entry, which is placed.
 placed-at : {Y : Type 0} (entries : List (String Y × IndexedPair)) (firsts : List (Option (List ℕ))) (key : List ℕ) (i : ℕ) → AllPlaced entries firsts
     → IsFirstIn entries key i → get_or firsts i None ≡ Some key
 placed-at [] firsts key i a (rest, e) = absurd (cc)
@@ -507,6 +524,7 @@ placing-all entries firsts h =
 
 -- ---- the keys of an index
 
+-- The groups of a body are in turn.
 index-turn : (e : Encoding) (body : List ℕ) → is_editable e ≡ true → AreInTurn e (held_groups_of e body)
 index-turn e body ok = in-turn e body (held_groups_of e body) ok (held_groups_of-meets e body)
 
@@ -537,6 +555,7 @@ placing-next index rest firsts key stored i borrowed some h first is size =
           (λ other q. first-only e gs turn entries spans listed other (characters key) i q own)),
     )
 
+-- The keys that are at places, where a place is made of something.
 keys-mapped : {X : Type 0} (f : X → Option (List ℕ)) (xs : List X) → keys_at (map f xs) ≡ filter_map f xs
 keys-mapped f [] = refl
 keys-mapped f (x ∷ xs) = ap (cons_option (f x)) (keys-mapped f xs)

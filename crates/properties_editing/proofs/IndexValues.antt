@@ -25,7 +25,7 @@ last-append key (x ∷ xs) ys =
 
 -- ---- the map of their entries
 
-pub value-entries : (n : ℕ) (gs : List (List HeldLine)) (key : List ℕ) → AreSound gs → value_in (entries_in n gs) key ≡ last_value key gs
+value-entries : (n : ℕ) (gs : List (List HeldLine)) (key : List ℕ) → AreSound gs → value_in (entries_in n gs) key ≡ last_value key gs
 value-entries n [] key s = refl
 value-entries n (g ∷ gs) key s = by (outcome g) s.0 (value-entries (n + length g) gs key s.1)
   where
