@@ -38,7 +38,7 @@ use Rattle.java_properties.specs.MalformedEscapes.{escape_record, escape_records
 use Rattle.java_properties.specs.Private.LineByLine.{PushesMalformed}
 use Rattle.properties_items.specs.declared.error.ErrorKind.TheVariants as kind
 use Rattle.properties_items.specs.declared.error.PropertiesError.{PropertiesError}
-use Rattle.java_properties.specs.declared.iter.malformed.MalformedEscape.{MalformedEscape}
+use Rattle.properties_items.specs.declared.findings.MalformedEscape.{MalformedEscape}
 use Rattle.properties_items.proofs.FoundItems.{found-item}
 use Rattle.java_properties.proofs.StatedItems.{state-all}
 

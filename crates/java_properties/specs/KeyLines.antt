@@ -11,7 +11,7 @@ use Rattle.properties_format.specs.Items.{Outcome, ignored, given, broken, IsOut
 use Rattle.properties_items.specs.Texts.{characters}
 use Rattle.java_properties.specs.MalformedEscapes.{FailsToFind, StopsFinding}
 use Rattle.properties_items.specs.declared.error.PropertiesError.{PropertiesError}
-use Rattle.java_properties.specs.declared.iter.keys.KeyLine as code
+use Rattle.properties_items.specs.declared.findings.KeyLine as code
 
 -- ---- the keys of an input
 

@@ -11,7 +11,7 @@ use Rattle.properties_items.specs.Errors.{IsBareError, IsStreamError, malformed_
 use Rattle.java_properties.specs.PropertiesIter.{PassesAll}
 use Rattle.properties_items.specs.declared.error.ErrorKind.TheVariants as kind
 use Rattle.properties_items.specs.declared.error.PropertiesError.{PropertiesError}
-use Rattle.java_properties.specs.declared.iter.malformed.MalformedEscape.{MalformedEscape}
+use Rattle.properties_items.specs.declared.findings.MalformedEscape.{MalformedEscape}
 
 -- an escape of the format, as the code represents it
 abbrev pub escape_record : format.MalformedEscape → MalformedEscape

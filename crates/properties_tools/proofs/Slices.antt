@@ -13,8 +13,8 @@ use Rattle.java_properties.specs.MalformedEscapes.{FailsToFind, FindsMalformed, 
 use Rattle.java_properties.specs.PropertiesIter.{PassesAll}
 use Rattle.properties_items.specs.declared.error.ErrorKind.TheVariants as kind
 use Rattle.properties_items.specs.declared.error.PropertiesError.{PropertiesError}
-use Rattle.java_properties.specs.declared.iter.keys.KeyLine.{KeyLine}
-use Rattle.java_properties.specs.declared.iter.malformed.MalformedEscape.{MalformedEscape}
+use Rattle.properties_items.specs.declared.findings.KeyLine.{KeyLine}
+use Rattle.properties_items.specs.declared.findings.MalformedEscape.{MalformedEscape}
 use Rattle.properties_tools.specs.Propedit.Sources.{FindsKeysIn, FindsMalformedIn}
 use Rattle.properties_tools.proofs.FewLines.{few-passed}
 use Rattle.properties_tools.proofs.SliceReads.{slice_reader, slice-read, slice-whole, slice-faultless}

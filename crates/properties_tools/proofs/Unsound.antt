@@ -5,7 +5,7 @@ use Rattle.properties_format.specs.Encoding.{Encoding}
 use Rattle.properties_format.specs.MalformedEscapes as format
 use Rattle.properties_format.specs.MalformedEscapes.{AreMalformedEscapes}
 use Rattle.java_properties.specs.MalformedEscapes.{escape_record, escape_records}
-use Rattle.java_properties.specs.declared.iter.malformed.MalformedEscape.{MalformedEscape}
+use Rattle.properties_items.specs.declared.findings.MalformedEscape.{MalformedEscape}
 use Rattle.properties_tools.specs.Propedit.Lines.{AreIllFormedLines, HasIllFormed}
 use Rattle.properties_tools.specs.Propedit.Sources.{HasMalformed, IsFirstMalformed}
 

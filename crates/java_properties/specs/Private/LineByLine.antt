@@ -12,8 +12,8 @@ use Rattle.properties_items.specs.Texts.{characters}
 use Rattle.java_properties.specs.MalformedEscapes.{escape_records}
 use Rattle.properties_items.specs.declared.error.ErrorKind.TheVariants as kind
 use Rattle.properties_items.specs.declared.error.PropertiesError.{PropertiesError}
-use Rattle.java_properties.specs.declared.iter.keys.KeyLine as code
-use Rattle.java_properties.specs.declared.iter.malformed.MalformedEscape.{MalformedEscape}
+use Rattle.properties_items.specs.declared.findings.KeyLine as code
+use Rattle.properties_items.specs.declared.findings.MalformedEscape.{MalformedEscape}
 
 -- the key of a logical line, if it is a pair without a malformed escape; or memory ran out
 abbrev pub FindsLineKey : {Z : Type 0} → List ℕ → Result (Option (String Z)) PropertiesError → Type 0

@@ -12,32 +12,13 @@ ghost use Rattle.java_properties.specs.Private.LineByLine.{AddsKeyLine, FindsLin
 
 use counted_io::CountedRead;
 use properties_items::error::{PropertiesError, make};
+use properties_items::findings::KeyLine;
 use properties_items::found::{find_escaped, item_key};
 use properties_lines::joiner::LineJoiner;
 use properties_text::encoding::Encoding;
 use properties_text::escape::UnescapeError;
 use std::alloc::{AllocError, Global};
 use std::collections::BTreeMap;
-
-/// The key of a pair, with the number of the line that the pair begins in.
-///
-/// ```text
-/// for key in &key_lines(alloc, &mut input, Encoding::UTF_8)? {
-///     if key.first != key.line_number {
-///         println!(rt; "{name}:{}: the key of line {} again", key.line_number, key.first)?;
-///     }
-/// }
-/// ```
-#[derive(Clone, Debug, PartialEq, Eq, Drop)]
-pub struct KeyLine {
-    /// The number of the pair's first natural line. Lines are numbered from 1.
-    pub line_number: usize,
-    /// The key.
-    pub key: String,
-    /// The number of the line that the first pair with this key begins in. It equals `line_number` if no earlier pair
-    /// has the key.
-    pub first: usize,
-}
 
 /// Reads an input to its end and returns the key of each pair, in order. Pairs with a malformed escape are left out.
 ///

@@ -7,30 +7,14 @@ ghost use Rattle.java_properties.specs.MalformedEscapes.{FindsMalformed};
 ghost use Rattle.java_properties.specs.Private.LineByLine.{PushesMalformed};
 
 use counted_io::CountedRead;
-use properties_items::error::{ErrorKind, PropertiesError, make};
+use properties_items::error::{PropertiesError, make};
+use properties_items::findings::MalformedEscape;
 use properties_items::found::find_escaped;
 use properties_lines::join::is_comment_line;
 use properties_lines::joiner::LineJoiner;
 use properties_text::encoding::Encoding;
 use properties_text::escape::UnescapeError;
 use std::alloc::Global;
-
-/// The first malformed escape of a logical line.
-///
-/// ```text
-/// for escape in &malformed_escapes(alloc, &mut input, Encoding::UTF_8)? {
-///     println!(rt; "{name}:{}: {}", escape.line_number, escape.kind)?;
-/// }
-/// ```
-#[derive(Clone, Copy, Debug, PartialEq, Eq)]
-pub struct MalformedEscape {
-    /// The number of the logical line's first natural line. Lines are numbered from 1.
-    pub line_number: usize,
-    /// How it is malformed: `NotEnoughDigits`, `NotHex` or `InvalidCharacter`.
-    pub kind: ErrorKind,
-    /// Whether the line is a comment.
-    pub in_comment: bool,
-}
 
 /// Reads an input to its end and returns the first malformed escape of each logical line that has one, in order.
 ///

@@ -11,7 +11,7 @@ use Rattle.java_properties.specs.KeyLines.{AreKeyLines, KeyEntry}
 use Rattle.java_properties.specs.MalformedEscapes.{escape_records}
 use Rattle.properties_items.specs.declared.error.ErrorKind.TheVariants as kind
 use Rattle.properties_items.specs.declared.error.PropertiesError.{PropertiesError}
-use Rattle.java_properties.specs.declared.iter.malformed.MalformedEscape.{MalformedEscape}
+use Rattle.properties_items.specs.declared.findings.MalformedEscape.{MalformedEscape}
 use Rattle.properties_tools.specs.Propedit.Failures.{escape_reason}
 use Rattle.properties_tools.specs.Propedit.Lines.{AreIllFormedLines}
 
