@@ -1,7 +1,7 @@
 -- The parts of groups, and what changes of a body do to them.
-use Rattle.std.proofs.Common.{◌≡◌, ◌≢◌, ◌<◌, ◌≤◌, ℕ, zero, suc, ◌+◌, ◌-◌, ◌^◌, Bool, true, false, List, [], ◌∷◌, ◌++◌, Option, Some, None, refl, ap, ap₂, sym, ◌∙◌, append_assoc, append-nil, length, length-append, arith}
+use Rattle.std.proofs.Common.{◌≡◌, ◌≢◌, ◌<◌, ◌≤◌, ℕ, zero, suc, ◌+◌, ◌-◌, ◌^◌, Bool, true, false, List, [], ◌∷◌, ◌++◌, Option, Some, None, refl, ap, ap₂, sym, ◌∙◌, inl, inr, append_assoc, append-nil, length, length-append, arith}
 use Rattle.std.specs.Prelude.{map, min, ◌==◌, nat_lt, if◌then◌else◌, get_or, option_and_then}
-use Rattle.std.proofs.lemmas.Bool.{cond-true, cond-false}
+use Rattle.std.proofs.lemmas.Bool.{cases_Bool, cond-true, cond-false}
 use Rattle.std.proofs.lemmas.Bool.Decides.{nat_tests}
 use Rattle.std.proofs.lemmas.List.{map-append}
 use Rattle.properties_format.specs.Items.{Outcome}
@@ -190,3 +190,23 @@ replaced-shift such before g h after old new same ending some old_is new_is fits
     ∙ shift-append f (spans_where such 0 before) (spans_where such n (g ∷ after)) (spans_where such 0 before) (spans_where such n (h ∷ after))
     (moved-before old new such before 0 (omega arith)) middle
     ∙ ap (map Some) (sym (spans-join such before (h ∷ after)))
+
+-- ---- parts that get no longer
+
+-- A part that gets longer by nothing stays.
+pub none-longer : (place : ℕ) → place < 2 ^ 64 → (spans : List (Option BodySpan)) → all_shifted (shift.Lengthened place 0) spans ≡ spans
+none-longer place fits [] = refl
+none-longer place fits (None ∷ spans) = ap (λ v. None ∷ v) (none-longer place fits spans)
+none-longer place fits (Some s ∷ spans) = ap₂ (λ v w. Some v ∷ w) (same s) (none-longer place fits spans)
+  where
+    end : (p : ℕ) → (if p == place then min (place + 0) (2 ^ 64 - 1) else p) ≡ p
+    end p = elim (cases_Bool (p == place)) [
+      | inl is ↦
+          let at : p ≡ place = grind (arith, nat_tests) in
+          let top : min (place + 0) (2 ^ 64 - 1) ≡ place = omega arith in
+          cond-true (p == place) (min (place + 0) (2 ^ 64 - 1)) p is ∙ top ∙ sym at
+      | inr other ↦ cond-false (p == place) (min (place + 0) (2 ^ 64 - 1)) p other
+    ]
+
+    same : (s : BodySpan) → lengthened_span place 0 s ≡ s
+    same s = ap (λ n. record { start = s.start; end = n }) (end s.end)

@@ -14,6 +14,7 @@ ghost use Rattle.properties_format.specs.Edited.{is_editable};
 ghost use Rattle.properties_format.specs.Computed.Body.{held_groups_of};
 ghost use Rattle.properties_format.specs.Computed.Edited.{AreSound};
 ghost use Rattle.properties_text.specs.Encoding.{encoding_of};
+ghost use Rattle.properties_editing.specs.declared.edit.index.Shift.TheVariants as shift;
 ghost use Rattle.properties_editing.specs.Private.BodyIndex.{AddsGroup, CutsOut, IsCutOut, IsInSource, PutsPair, PutsValue, RemovesPairs, ending_size, AddsKey, AddsValue, AppendsPair, FollowsPair, GrowsIndex, GuardsFront, IsIndex, KeepsNothing, KeepsPair, ParsesIndex, PutsFirst, all_shifted, found_span, last_live, lengthened_span, moved_span, moved_to, opened_closing, places_of, shifted, span_at, stored_at};
 ghost use Rattle.properties_items.specs.FoundItems.{pair_characters};
 ghost use Rattle.properties_editing.specs.Private.BodyKeys.{IsPlaceOf};
@@ -152,7 +153,7 @@ impl Index {
         ensures same { OnErr result (stored_at self.old.pairs.entries (characters key) ≡ None → KeepsNothing self.old self.new) }
     {
         self.keep(alloc, key, value, span)?;
-        shift_spans(&mut self.spans, Shift::Lengthened(place, more));
+        lengthen_spans(&mut self.spans, place, more);
         self.closing = Closing::Nothing;
         Ok(())
     }
@@ -539,6 +540,15 @@ fn all_places(alloc: Global, known: Option<IndexedPair>) -> Result<Vec<usize>, A
     let mut places = pair.earlier;
     places.push(pair.place)?;
     Ok(places)
+}
+
+// Makes the parts that end in this place so much longer. Where that is nothing, no part is looked at.
+fn lengthen_spans(spans: &mut Vec<Option<BodySpan>>, place: usize, more: usize)
+    ensures { spans.new.items ≡ all_shifted (shift.Lengthened place more) spans.old.items }
+{
+    if more > 0 {
+        shift_spans(spans, Shift::Lengthened(place, more));
+    }
 }
 
 // Changes the parts of a body.
