@@ -18,11 +18,13 @@ from wrap import WIDTH, wrapped
 
 TOP = pathlib.Path(__file__).resolve().parent.parent
 FOR_CALLERS = ["java_properties", "counted_io", "properties_tools"]
-INNER = ["properties_text", "properties_lines", "byte_blocks", "single_lines"]
+INNER = ["properties_items", "properties_editing", "properties_text", "properties_lines", "byte_blocks", "single_lines"]
 ABOUT = {
     "java_properties": "The library. The functions of the module `laws` do nothing when they run; their contracts are laws.",
     "counted_io": "Readers and writers that count their I/O errors. `Counted` makes one of any reader or writer.",
     "properties_tools": "What the programs `propfilter` and `propedit` do, over any streams.",
+    "properties_items": "What reader, writer and editor share. `java_properties` hands on the types that its callers need.",
+    "properties_editing": "The editor. `java_properties` hands all of it on but for its laws, which its own `laws` hands on.",
     "properties_text": "Calls for a single line, in the modules `encoding`, `escape`, `parse` and others.",
     "properties_lines": "The natural and the logical lines of a reader.",
     "byte_blocks": "Classes of bytes, and searches for them, sixteen bytes at once.",
@@ -38,17 +40,11 @@ def source_of(path):
     return next(parent for parent in path.parents if parent.name == "src")
 
 
-def source_of(crate):
-    return TOP / "crates" / crate / "src"
-
-
 def files(crate):
-    """The source files that are compiled outside tests, lib.rt first, after those of the crates that it hands on."""
-    found = []
-    for each in (HANDED_ON if crate == "java_properties" else []) + [crate]:
-        own = [path for path in sorted(source_of(each).rglob("*.rt")) if "tests" not in path.with_suffix("").parts]
-        found += sorted(own, key=lambda path: path.name != "lib.rt")
-    return found
+    """The source files that are compiled outside tests, lib.rt first."""
+    source = TOP / "crates" / crate / "src"
+    found = [path for path in sorted(source.rglob("*.rt")) if "tests" not in path.with_suffix("").parts]
+    return sorted(found, key=lambda path: path.name != "lib.rt")
 
 
 def uses(path):
@@ -70,7 +66,7 @@ def uses(path):
 def exported(crate):
     """The module from which a caller has each name that the root of the crate and its public modules hand on, by the
     name and its file, and the module of each of their files. The root is the empty text."""
-    source = source_of(crate)
+    source = TOP / "crates" / crate / "src"
     names, pages, left = {}, {}, [(source / "lib.rt", "")]
     while left:
         path, module = left.pop(0)
