@@ -1,18 +1,6 @@
 // Iterates over the comments and pairs of a file.
 
-ghost use Rattle.std.specs.Prelude.{◌≡◌, ◌<◌, [], true, None, IsOkAnd, OnSome};
-ghost use Rattle.std.specs.Str.{chars};
-ghost use Rattle.std.specs.Iterator.{at_most};
-ghost use Rattle.counted_io.specs.Streams.{IsSameReader, IsSameSink};
-ghost use Rattle.properties_format.specs.Encoding.{windows_1252};
-ghost use Rattle.properties_format.specs.ItemsToCome.{start};
-ghost use Rattle.properties_text.specs.Encoding.{encoding_of};
-ghost use Rattle.properties_lines.specs.LineReader.{lines_left};
-ghost use Rattle.java_properties.specs.BorrowedItems.{borrowed_entry, found_entry, BorrowsPlain, IsFoundIn, AdvanceGives, NextRefGives};
-ghost use Rattle.java_properties.specs.PropertiesIter.{Reading, NextGives};
-ghost use Rattle.java_properties.specs.Copying.{CopiesNext};
 
-pub(crate) mod copy;
 pub(crate) mod found;
 mod into;
 pub(crate) mod items;
@@ -22,19 +10,15 @@ mod refs;
 mod whole;
 
 use crate::error::PropertiesError;
-pub use crate::iter::copy::CopyError;
 use crate::iter::items::ItemReader;
 use crate::line::Line;
-use crate::writer::PropertiesWriter;
-use counted_io::{CountedRead, CountedWrite};
+use counted_io::CountedRead;
 pub use found::Found;
 pub use keys::{KeyLine, key_lines};
 pub use malformed::{MalformedEscape, malformed_escapes};
 use properties_text::encoding::Encoding;
 pub use refs::{ContentRef, LineRef};
 use std::alloc::Global;
-use std::marker::Model;
-use std::mem;
 pub use whole::{Stopped, read_lines};
 
 /// The comments and pairs of a file, in order, each with its line number.
@@ -52,23 +36,14 @@ pub use whole::{Stopped, read_lines};
 /// ```
 #[derive(Drop)]
 pub struct PropertiesIter<R> {
-    reader: R,
-    items: ItemReader,
-    // The error that `copy_next` met, until `take_error` returns it.
-    error: Option<CopyError>,
-}
-
-impl<R> Model for PropertiesIter<R> {
-    ghost Value = { Reading R };
-
-    ghost view = { λ it. record { reader = it.reader; state = it.items.state; line = it.items.line; error = it.error } };
+    pub(crate) reader: R,
+    pub(crate) items: ItemReader,
 }
 
 impl<R: CountedRead> PropertiesIter<R> {
     /// Creates an iterator that reads windows-1252, unless a byte order mark selects another encoding. It reads nothing
     /// and allocates nothing until the first item is requested.
     pub fn new(alloc: Global, input: R) -> Result<PropertiesIter<R>, PropertiesError>
-        ensures { IsOkAnd result (λ it. it ≡ record { reader = input; state = start windows_1252; line = []; error = None }) }
     {
         PropertiesIter::new_with_encoding(alloc, input, Encoding::WINDOWS_1252)
     }
@@ -80,12 +55,10 @@ impl<R: CountedRead> PropertiesIter<R> {
         input: R,
         encoding: Encoding,
     ) -> Result<PropertiesIter<R>, PropertiesError>
-        ensures { IsOkAnd result (λ it. it ≡ record { reader = input; state = start (encoding_of encoding); line = []; error = None }) }
     {
         Ok(PropertiesIter {
             reader: input,
             items: ItemReader::new(alloc, encoding),
-            error: None,
         })
     }
 
@@ -95,7 +68,6 @@ impl<R: CountedRead> PropertiesIter<R> {
     /// Besides its input buffer, it allocates only for texts whose escapes must be resolved, and for lines whose text
     /// isn't in the input byte for byte. You can mix calls of `next_ref` and `next`.
     pub fn next_ref(&mut self) -> Option<Result<LineRef<'_>, PropertiesError>>
-        ensures { NextRefGives R.CountedRead self.old result }
     {
         match self.advance()? {
             Ok(found) => Some(Ok(self.get(found))),
@@ -115,63 +87,18 @@ impl<R: CountedRead> PropertiesIter<R> {
     /// }
     /// ```
     pub fn advance(&mut self) -> Option<Result<Found, PropertiesError>>
-        ensures gives { AdvanceGives R.CountedRead self.old result self.new }
-        ensures nearer { OnSome result (lines_left self.new.state < lines_left self.old.state) }
-        ensures kept { self.new.error ≡ self.old.error }
     {
         self.items.advance(&mut self.reader)
     }
 
     /// Returns the item that [`advance`](Self::advance) found, borrowed until the next call.
     pub fn get(&self, found: Found) -> LineRef<'_>
-        requires { IsFoundIn self.now.line found }
-        ensures item { borrowed_entry result ≡ found_entry self.now.line found }
-        ensures borrowed { BorrowsPlain (chars self.now.line) result.content }
     {
         self.items.get(found)
     }
 
-    /// Advances to the next item and, if it is a pair, writes it to `writer`, as [`advance`](Self::advance),
-    /// [`get`](Self::get) and [`write`](PropertiesWriter::write) would. Returns `false` at the end, and at an error,
-    /// which [`take_error`](Self::take_error) returns.
-    ///
-    /// If the input and the output are in windows-1252, and the writer isn't set to ASCII only, most lines are printed
-    /// from their bytes, without being decoded. After an error of the writing, the next call goes on with the next item.
-    /// An error that isn't taken stays until a later one replaces it.
-    ///
-    /// ```text
-    /// while items.copy_next(&mut writer) {}
-    /// if let Some(error) = items.take_error() {
-    ///     return Err(PropertiesError::from(error));
-    /// }
-    /// writer.finish()?;
-    /// ```
-    #[inline(always)]
-    pub fn copy_next<W: CountedWrite>(&mut self, writer: &mut PropertiesWriter<W>) -> bool
-        ensures copies { CopiesNext R.CountedRead W.CountedWrite self.old writer.old result self.new writer.new }
-        ensures nearer { result ≡ true → lines_left self.new.state < lines_left self.old.state }
-        ensures same_reader { IsSameReader R.CountedRead self.old.reader self.new.reader }
-        ensures same_sink { IsSameSink W.CountedWrite writer.old.sink writer.new.sink }
-    {
-        self.items.copy_next(
-            &mut self.reader,
-            &mut writer.engine,
-            &mut writer.sink,
-            &mut self.error,
-        )
-    }
-
-    /// Returns the error that [`copy_next`](Self::copy_next) met, if it met one and it wasn't returned before.
-    pub fn take_error(&mut self) -> Option<CopyError>
-        ensures error { result ≡ self.old.error }
-        ensures taken { self.new ≡ record self.old { error = None } }
-    {
-        mem::replace(&mut self.error, None)
-    }
-
     /// Returns a reference to the reader, which is positioned after the bytes that were read so far.
     pub fn get_ref(&self) -> &R
-        ensures { result.now ≡ self.now.reader }
     {
         &self.reader
     }
@@ -179,12 +106,10 @@ impl<R: CountedRead> PropertiesIter<R> {
     /// Returns the reader, positioned after the bytes that were read so far. The iterator reads ahead, so the reader
     /// may be past the last item.
     pub fn into_inner(self) -> R
-        ensures { result ≡ self.reader }
     {
         let PropertiesIter {
             reader,
             items: _,
-            error: _,
         } = self;
         reader
     }
@@ -192,10 +117,6 @@ impl<R: CountedRead> PropertiesIter<R> {
 
 impl<R: CountedRead> Iterator for PropertiesIter<R> {
     type Item = Result<Line, PropertiesError>;
-
-    ghost next_gives = { λ old answer new. NextGives R.CountedRead old answer new };
-
-    ghost remaining = { λ it. at_most (lines_left it.state) };
 
     fn next(&mut self) -> Option<Result<Line, PropertiesError>> {
         self.items.next_item(&mut self.reader)

@@ -1,58 +1,53 @@
-// How natural lines are joined. Blanks, comment signs and backslashes are ASCII, so lines are examined by their bytes.
-
-ghost use Rattle.std.specs.Prelude.{◌≡◌};
-ghost use Rattle.std.specs.Str.{chars};
-ghost use Rattle.properties_format.specs.Text.{without_leading_blanks};
-ghost use Rattle.properties_format.specs.Groups.{addition, is_comment_line, is_open, without_open_backslash};
+//! How natural lines are joined. Blanks, comment signs and backslashes are ASCII, so lines are examined by their bytes.
 
 use properties_text::characters::is_comment_sign;
-use properties_text::escape::count_ending_backslashes;
 use properties_text::parse::leading_blanks;
 
-/// Returns whether the first character that isn't a blank is a comment sign.
-pub fn is_comment_line(text: &str) -> bool
-    ensures { result ≡ is_comment_line (chars text.now) }
-{
-    is_comment(text.as_bytes())
-}
-
 /// Returns whether the first byte that isn't a blank is a comment sign.
-pub(crate) fn is_comment(bytes: &[u8]) -> bool
-    ensures { result ≡ is_comment_line bytes.now }
-{
-    match bytes.get(leading_blanks(bytes)) {
+pub fn is_comment(line: &[u8]) -> bool {
+    match line.get(leading_blanks(line)) {
         Some(first) => is_comment_sign(char::from(*first)),
         None => false,
     }
 }
 
 /// Returns whether the line ends in an odd number of backslashes, of which the last one leaves it open.
-pub fn is_open(text: &str) -> bool
-    ensures { result ≡ is_open (chars text.now) }
-{
-    count_ending_backslashes(text) % 2 == 1
+#[inline(always)]
+pub fn is_open(line: &[u8]) -> bool {
+    match line {
+        [.., b'\\', b'\\'] => ends_open(line),
+        [.., b'\\'] => true,
+        _ => false,
+    }
+}
+
+#[inline(never)]
+fn ends_open(line: &[u8]) -> bool {
+    let mut end = line.len();
+    while end > 0 && line[end - 1] == b'\\' {
+        end -= 1;
+    }
+    (line.len() - end) % 2 == 1
+}
+
+/// Returns whether the next line is joined to this one, which isn't joined to one before it.
+#[inline(always)]
+pub fn is_continued(line: &[u8]) -> bool {
+    is_open(line) && !is_comment(line)
 }
 
 /// Returns the line without the backslash that leaves it open, if there is one.
-pub fn without_open_backslash(text: &str) -> &str
-    ensures { chars result.now ≡ without_open_backslash (chars text.now) }
-{
-    if is_open(text) {
-        &text[..text.len() - 1]
+#[inline(always)]
+pub fn without_open_backslash(line: &[u8]) -> &[u8] {
+    if is_open(line) {
+        &line[..line.len() - 1]
     } else {
-        text
+        line
     }
 }
 
 /// Returns what a line adds to an open line before it.
-pub fn addition(text: &str) -> &str
-    ensures { chars result.now ≡ addition (chars text.now) }
-{
-    without_open_backslash(without_leading_blanks(text))
-}
-
-fn without_leading_blanks(text: &str) -> &str
-    ensures { chars result.now ≡ without_leading_blanks (chars text.now) }
-{
-    &text[leading_blanks(text.as_bytes())..]
+#[inline(always)]
+pub fn addition(line: &[u8]) -> &[u8] {
+    without_open_backslash(&line[leading_blanks(line)..])
 }

@@ -12,12 +12,12 @@ fn joins_lines_up_to_a_fault(rt: HostRuntime) -> Result<(), Fail> {
     let pieces = vec![in alloc; piece]?;
     let mut reader = ScriptedReader::new(pieces, Tail::Fault(io::ErrorKind::Other));
     let mut lines = LineJoiner::new(alloc, Encoding::WINDOWS_1252);
-    assert_eq!(rt; lines.next_line(&mut reader), Some(1));
+    assert_eq!(rt; lines.next_text(&mut reader), Some(1));
     assert_eq!(rt; lines.line(), "a=12");
-    assert_eq!(rt; lines.next_line(&mut reader), Some(3));
+    assert_eq!(rt; lines.next_text(&mut reader), Some(3));
     assert_eq!(rt; lines.line(), "café");
     assert!(rt; !lines.has_backslash());
-    assert!(rt; lines.next_line(&mut reader).is_none());
+    assert!(rt; lines.next_text(&mut reader).is_none());
     let Some(LineError::Io(4, _)) = lines.take_error() else {
         return Err(Fail::from("there is no error"));
     };
@@ -31,14 +31,14 @@ fn has_undecoded(alloc: Global, input: &[u8], expected: &[(usize, &[u8])]) -> Re
     let mut reader = ScriptedReader::new(pieces, Tail::End);
     let mut lines = LineJoiner::new(alloc, Encoding::WINDOWS_1252);
     for (number, bytes) in expected {
-        if lines.next_undecoded(&mut reader) != NextLine::Undecoded(*number) {
+        if lines.next_line(&mut reader) != Some(*number) {
             return Ok(false);
         }
-        if &lines.undecoded()[..lines.undecoded_length()] != *bytes {
+        if &lines.with_room()[..lines.length()] != *bytes {
             return Ok(false);
         }
     }
-    Ok(lines.next_undecoded(&mut reader) == NextLine::None && lines.take_error().is_none())
+    Ok(lines.next_line(&mut reader).is_none() && lines.take_error().is_none())
 }
 
 #[test]
@@ -75,13 +75,13 @@ fn reports_backslashes_of_undecoded_lines(rt: HostRuntime) -> Result<(), Fail> {
     let pieces = vec![in alloc; piece]?;
     let mut reader = ScriptedReader::new(pieces, Tail::Fault(io::ErrorKind::Other));
     let mut lines = LineJoiner::new(alloc, Encoding::WINDOWS_1252);
-    assert_eq!(rt; lines.next_undecoded(&mut reader), NextLine::Undecoded(1));
+    assert_eq!(rt; lines.next_line(&mut reader), Some(1));
     assert!(rt; !lines.has_backslash());
-    assert_eq!(rt; lines.next_undecoded(&mut reader), NextLine::Undecoded(2));
+    assert_eq!(rt; lines.next_line(&mut reader), Some(2));
     assert!(rt; lines.has_backslash());
-    assert_eq!(rt; lines.next_undecoded(&mut reader), NextLine::Undecoded(3));
-    assert!(rt; lines.has_backslash());
-    assert_eq!(rt; lines.next_undecoded(&mut reader), NextLine::None);
+    assert_eq!(rt; lines.next_line(&mut reader), Some(3));
+    assert!(rt; !lines.has_backslash());
+    assert_eq!(rt; lines.next_line(&mut reader), None);
     let Some(LineError::Io(5, _)) = lines.take_error() else {
         return Err(Fail::from("there is no error"));
     };
@@ -95,7 +95,7 @@ fn decodes_lines_of_utf_8(rt: HostRuntime) -> Result<(), Fail> {
     let pieces = vec![in alloc; piece]?;
     let mut reader = ScriptedReader::new(pieces, Tail::End);
     let mut lines = LineJoiner::new(alloc, Encoding::UTF_8);
-    assert_eq!(rt; lines.next_undecoded(&mut reader), NextLine::Text(1));
+    assert_eq!(rt; lines.next_text(&mut reader), Some(1));
     assert_eq!(rt; lines.line(), "café");
     Ok(())
 }

@@ -39,12 +39,7 @@ fn copy_some(
     items: &mut PropertiesIter<&[u8]>,
     lines: &mut PropertiesWriter<Counted<Vec<u8>>>,
 ) -> Option<CopyError> {
-    for _ in INPUT {
-        if !items.copy_next(&mut *lines) {
-            break;
-        }
-    }
-    items.take_error()
+    lines.copy_pairs(items).err()
 }
 
 // Copies each pair and says so. Where memory is refused for a line, its pair is left out; and so are those after it if

@@ -12,13 +12,3 @@ pub fn is_ascii(bytes: &[u8]) -> bool
 {
     find::<PastAscii>(bytes).is_none()
 }
-
-/// Returns the number of ASCII bytes at the front.
-#[inline(always)]
-pub fn leading_ascii(bytes: &[u8]) -> usize
-    ensures within { result ≤ length bytes.now }
-    ensures ascii { IsAscii (take result bytes.now) }
-    ensures ends { result < length bytes.now → 0x80 ≤ get_or bytes.now result 0 }
-{
-    find::<PastAscii>(bytes).unwrap_or(bytes.len())
-}

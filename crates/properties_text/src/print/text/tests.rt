@@ -1,9 +1,18 @@
 // Pairs that are printed as a file spells them.
 
-use super::*;
-use crate::escape::Malformed;
-use crate::print::tests::{ASCII, UTF_8, WINDOWS_1252};
+use crate::encoding::LineEncoding;
+use crate::escape::{Malformed, UnescapeError};
+use crate::line_buffer::LineBuffer;
+use crate::parse::{ParsedSpans, parse_bytes};
+use crate::print::{Pair, Repertoire, print_pair};
+use std::alloc::Global;
 use std::test::Fail;
+
+const WINDOWS_1252: Repertoire = Repertoire::Windows1252;
+
+const ASCII: Repertoire = Repertoire::Ascii;
+
+const UTF_8: Repertoire = Repertoire::Utf8;
 
 // What is printed after `|` for the pair of a line, or how it was refused.
 fn printed(
@@ -14,17 +23,21 @@ fn printed(
 ) -> Result<LineBuffer, Fail> {
     let mut line = LineBuffer::new(alloc);
     line.push(b'|')?;
-    let Some(pair) = UndecodedPair::parse(spelt, spelt.len()) else {
+    let Some(ParsedSpans::KVPair(key, value)) = parse_bytes(spelt) else {
         line.extend(b"no pair")?;
         return Ok(line);
     };
-    match print_undecoded_pair(alloc, &mut line, repertoire, first, pair, b" = ", b"\r\n") {
-        Ok(()) => {}
-        Err(UnescapeError::Malformed(Malformed::NotEnoughDigits)) => line.extend(b"short")?,
-        Err(UnescapeError::Malformed(Malformed::NotHex)) => line.extend(b"no digit")?,
-        Err(UnescapeError::Malformed(Malformed::InvalidCharacter)) => line.extend(b"alone")?,
-        Err(UnescapeError::Memory) => line.extend(b"memory")?,
-    }
+    let pair = Pair::spelt(LineEncoding::Windows1252, spelt, key, value);
+    let result_of = print_pair(&mut line, repertoire, first, pair, " = ", "\r\n");
+    let refusal: &[u8] = match result_of {
+        Ok(()) => return Ok(line),
+        Err(UnescapeError::Malformed(Malformed::NotEnoughDigits)) => b"short",
+        Err(UnescapeError::Malformed(Malformed::NotHex)) => b"no digit",
+        Err(UnescapeError::Malformed(Malformed::InvalidCharacter)) => b"alone",
+        Err(UnescapeError::Memory) => b"memory",
+    };
+    line.truncate(1);
+    line.extend(refusal)?;
     Ok(line)
 }
 
