@@ -11,6 +11,7 @@ use Rattle.properties_format.specs.Reading.Encoding.{first_piece, pieces_of}
 use Rattle.properties_format.specs.Reading.Waiting.{awaits_bom, awaits_more}
 use Rattle.properties_text.specs.Encoding.{encoding_of}
 use Rattle.properties_text.specs.declared.encoding.Encoding.{Encoding}
+use Rattle.properties_text.specs.declared.encoding.Encoding.TheVariants.{WINDOWS_1252, UTF_8, UTF_16LE, UTF_16BE}
 use Rattle.properties_text.specs.declared.encoding.byte_order_mark.ByteOrderMark.{ByteOrderMark}
 use Rattle.properties_text.specs.declared.encoding.byte_order_mark.ByteOrderMark.TheVariants.{Present, Absent, Undecided}
 use Rattle.properties_text.specs.declared.encoding.first_piece.FirstPiece.{FirstPiece}
@@ -89,3 +90,10 @@ pub record KeepsText (old more new : List ℕ) : Type 0 where
   pub others : List ℕ
   pub begins : chars new ++ others ≡ chars old ++ more
   pub longer : length old ≤ length new
+
+-- whether the encoding is a form of UTF-16
+abbrev pub IsUtf16 : Encoding → Type 0
+IsUtf16 WINDOWS_1252 = ⊥
+IsUtf16 UTF_8 = ⊥
+IsUtf16 UTF_16LE = Unit {0}
+IsUtf16 UTF_16BE = Unit {0}

@@ -4,7 +4,7 @@ use Rattle.std.specs.Char.{IsScalar}
 use Rattle.std.specs.Str.{IsUtf8, chars}
 use Rattle.properties_format.specs.Text.{backslash}
 use Rattle.properties_format.specs.Encoding as format
-use Rattle.properties_format.specs.Escapes.{letter_u, NoSpelling, are_hexadecimal, code_unit, is_high, is_low, pair_character, breaks, Four}
+use Rattle.properties_format.specs.Escapes.{letter_u, NoSpelling, are_hexadecimal, code_unit, is_high, is_low, pair_character, means, breaks, Four}
 use Rattle.properties_format.specs.Reading.Escapes.{in_front, meaning_of}
 use Rattle.properties_format.specs.Reading.Undecoded.{characters_of}
 use Rattle.properties_text.specs.Escaping.{malformed_in, four_bytes}
@@ -13,10 +13,6 @@ use Rattle.properties_text.specs.declared.encoding.line.LineEncoding.TheVariants
 use Rattle.properties_text.specs.declared.encoding.line.Spelt.{Spelt}
 use Rattle.properties_text.specs.declared.escape.Malformed.{Malformed}
 use Rattle.properties_text.specs.declared.escape.Malformed.TheVariants.{NotEnoughDigits, NotHex, InvalidCharacter}
-
-abbrev pub line_of : LineEncoding → format.Encoding
-line_of Windows1252 = format.windows_1252
-line_of Utf8 = format.utf_8
 
 -- the characters of the bytes of a line
 abbrev pub text_in : LineEncoding → List ℕ → List ℕ
@@ -86,3 +82,8 @@ abbrev pub CountsFour : LineEncoding → List ℕ → Malformed → Type 0
 CountsFour e bytes NotEnoughDigits = length (text_in e bytes) < 4
 CountsFour e bytes NotHex = 4 ≤ length (text_in e bytes)
 CountsFour e bytes InvalidCharacter = ⊥
+
+-- The result of reading all escapes of a text: it means another, or how its first malformed escape is malformed.
+abbrev pub Checks : LineEncoding → List ℕ → Result Unit Malformed → Type 0
+Checks e bytes (Ok done) = (meant : List ℕ) × (meaning_of (text_in e bytes) ≡ means meant)
+Checks e bytes (Err malformed) = meaning_of (text_in e bytes) ≡ breaks (malformed_in malformed)

@@ -1,5 +1,14 @@
 //! Resolving the escapes of a key, a value or a comment's text.
 
+ghost use Rattle.std.specs.Prelude.{◌≡◌, ◌≤◌, ◌<◌, not, length, ◌++◌, get_or, true, IfOk, OnOk};
+ghost use Rattle.std.specs.Str.{chars};
+ghost use Rattle.std.specs.String.{string_bytes};
+ghost use Rattle.memchr.specs.Find.{IsFirstByte, is_byte};
+ghost use Rattle.properties_format.specs.Text.{backslash};
+ghost use Rattle.properties_format.specs.Groups.{ending_backslashes};
+ghost use Rattle.properties_text.specs.declared.escape.UnescapeError.TheVariants.{Memory};
+ghost use Rattle.properties_text.specs.Spelt.{IsWell, Checks};
+ghost use Rattle.properties_text.specs.Escaping.{holds_backslash, is_borrowed_result, Unescapes, Appends, ResolvesFront};
 
 use crate::encoding::{LineEncoding, put_character};
 use byte_blocks::{Byte, find};
@@ -35,6 +44,8 @@ pub enum UnescapeError {
 }
 
 impl From<AllocError> for UnescapeError {
+    ghost from_gives = { λ _ e. e ≡ Memory };
+
     fn from(_: AllocError) -> UnescapeError {
         UnescapeError::Memory
     }
@@ -49,6 +60,8 @@ impl From<AllocError> for UnescapeError {
 /// let text = unescape(alloc, r"caf\u00e9\tbar")?; // `café`, a tab and `bar`, owned
 /// ```
 pub fn unescape(alloc: Global, s: &str) -> Result<CowStr<'_>, UnescapeError>
+    ensures meaning { Unescapes (chars s.now) result }
+    ensures borrowed { is_borrowed_result result ≡ not (holds_backslash (chars s.now)) }
 {
     let Some(first) = find_backslash(s.as_bytes()) else {
         return Ok(CowStr::Borrowed(s));
@@ -62,6 +75,7 @@ pub fn unescape(alloc: Global, s: &str) -> Result<CowStr<'_>, UnescapeError>
 
 /// Returns whether the text contains a backslash.
 pub fn has_backslash(s: &str) -> bool
+    ensures { result ≡ holds_backslash (chars s.now) }
 {
     find_backslash(s.as_bytes()).is_some()
 }
@@ -71,6 +85,7 @@ const RUN: usize = 64;
 
 // Appends the text with its escapes resolved.
 fn push_resolved(text: &mut String, s: &str) -> Result<(), UnescapeError>
+    ensures { Appends (chars s.now) (chars (string_bytes text.old)) result (chars (string_bytes text.new)) }
 {
     let mut run = [0; RUN];
     let mut rest = s;
@@ -99,6 +114,10 @@ struct Escapes<'a> {
 // Resolves the escapes at the front and writes their characters to the run, as long as there is room.
 #[inline(always)]
 fn put_escapes<'a>(run: &mut [u8], text: &'a str) -> Result<Escapes<'a>, Malformed>
+    ensures same_room { length run.new ≡ length run.old }
+    ensures resolves { ResolvesFront text.now run.new result }
+    ensures shorter { IfOk result (λ escapes. 4 ≤ length run.old → get_or text.now 0 0 ≡ backslash
+        → length escapes.rest.now < length text.now) }
 {
     let mut escapes = Escapes { end: 0, rest: text };
     while run.len() - escapes.end >= 4 && starts_with_backslash(escapes.rest) {
@@ -116,12 +135,18 @@ fn put_escapes<'a>(run: &mut [u8], text: &'a str) -> Result<Escapes<'a>, Malform
 
 #[inline(always)]
 fn starts_with_backslash(text: &str) -> bool
+    ensures some { result ≡ true → 0 < length text.now }
+    ensures first { result ≡ true → get_or text.now 0 0 ≡ backslash }
+    ensures other { 0 < length text.now → get_or text.now 0 0 ≡ backslash → result ≡ true }
 {
-    matches!(text.as_bytes(), [b'\\', ..])
+    !text.is_empty() && text.as_bytes()[0] == b'\\'
 }
 
 /// Returns whether the escapes of a well-formed text can be resolved, or else why the first malformed one can't.
-pub fn check_escapes(encoding: LineEncoding, text: &[u8]) -> Result<(), Malformed> {
+pub fn check_escapes(encoding: LineEncoding, text: &[u8]) -> Result<(), Malformed>
+    requires { IsWell encoding text.now }
+    ensures { Checks encoding text.now result }
+{
     let mut rest = text;
     while let Some(at) = find_next(rest) {
         let escape = match read_escape(encoding, &rest[at..]) {
@@ -136,6 +161,7 @@ pub fn check_escapes(encoding: LineEncoding, text: &[u8]) -> Result<(), Malforme
 // Appends part of a text. Between adjacent escapes it is empty.
 #[inline(always)]
 fn push_part(text: &mut String, part: &str) -> Result<(), AllocError>
+    ensures { OnOk result (string_bytes text.new ≡ string_bytes text.old ++ part.now) }
 {
     if part.is_empty() {
         return Ok(());
@@ -146,6 +172,7 @@ fn push_part(text: &mut String, part: &str) -> Result<(), AllocError>
 // The index of the first backslash. Between adjacent escapes no search is needed.
 #[inline]
 fn find_next(text: &[u8]) -> Option<usize>
+    ensures { IsFirstByte (is_byte backslash) text.now result }
 {
     match text {
         [b'\\', ..] => Some(0),
@@ -156,6 +183,7 @@ fn find_next(text: &[u8]) -> Option<usize>
 // The index of the first backslash. In a short text, found without a call.
 #[inline(always)]
 fn find_backslash(text: &[u8]) -> Option<usize>
+    ensures { IsFirstByte (is_byte backslash) text.now result }
 {
     match text.len() {
         0..=SHORT => find::<Byte<b'\\'>>(text),
@@ -165,6 +193,7 @@ fn find_backslash(text: &[u8]) -> Option<usize>
 
 /// Returns the number of backslashes at the end of a text.
 pub fn count_ending_backslashes(s: &str) -> usize
+    ensures { result ≡ ending_backslashes (chars s.now) }
 {
     let bytes = s.as_bytes();
     let mut start = bytes.len();

@@ -1,9 +1,22 @@
 //! Printing texts: escaping and encoding them.
 
+ghost use Rattle.std.specs.Prelude.{◌≡◌, ◌≤◌, ◌<◌, ◌++◌, ◌∷◌, true, false, [], ℕ, length, take, get_or, OnErr};
+ghost use Rattle.std.specs.Str.{chars};
+ghost use Rattle.properties_format.specs.Text.{backslash};
+ghost use Rattle.properties_format.specs.Encoding.{begins_like_bom};
+ghost use Rattle.properties_format.specs.Escapes.{means};
+ghost use Rattle.properties_format.specs.Reading.Escapes.{meaning_of};
+ghost use Rattle.properties_format.specs.Printing.{unicode_escape, literal, encoded_text};
+ghost use Rattle.properties_format.specs.Valued.{printed_inside, printed_first, printed_last, printed_rest, printed_value};
+ghost use Rattle.properties_text.specs.Encoding.{line_of};
+ghost use Rattle.properties_text.specs.Parsing.{IsSpan, bytes_in};
+ghost use Rattle.properties_text.specs.Spelt.{text_in, IsWell};
+ghost use Rattle.properties_text.specs.Printing.{encoding_in, only_in, AppendsOnOk, character_bytes, text_bytes, put_of, puts_of, key_bytes, held_text};
+ghost use Rattle.properties_text.specs.PrintedTexts.{is_copied, StopsIn, PrintsKey, PrintsEscaped, bytes_of, key_of, value_of, IsPair, PrintsPair};
 
 use crate::characters::{is_comment_sign, is_separator};
 use crate::encoding::LineEncoding;
-use crate::encoding::byte_order_mark::{ByteOrderMark, byte_order_mark};
+use crate::encoding::byte_order_mark::begins_like_mark;
 use crate::escape::UnescapeError;
 use crate::line_buffer::{make_room, put_raw};
 use crate::parse::Span;
@@ -40,6 +53,8 @@ pub enum Repertoire {
 }
 
 impl From<LineEncoding> for Repertoire {
+    ghost from_gives = { λ from to. (encoding_in to ≡ line_of from) × (only_in to ≡ false) };
+
     fn from(encoding: LineEncoding) -> Repertoire {
         match encoding {
             LineEncoding::Windows1252 => Repertoire::Windows1252,
@@ -54,13 +69,13 @@ pub struct Pair<'a> {
     encoding: LineEncoding,
     // Whether a backslash begins an escape, as in a file. Otherwise it stands for itself.
     escaped: bool,
-    key: Text<'a>,
-    value: Text<'a>,
+    key: Part<'a>,
+    value: Part<'a>,
 }
 
 // The bytes of a key or a value, and others after them, which aren't printed but may be read as part of a block.
 #[derive(Clone, Copy)]
-struct Text<'a> {
+struct Part<'a> {
     bytes: &'a [u8],
     // The number of bytes in the text.
     size: usize,
@@ -69,39 +84,61 @@ struct Text<'a> {
 impl<'a> Pair<'a> {
     /// A key and a value.
     #[inline(always)]
-    pub fn literal(key: &'a str, value: &'a str) -> Pair<'a> {
+    pub fn literal(key: &'a str, value: &'a str) -> Pair<'a>
+        ensures well { IsPair result }
+        ensures key { key_of result ≡ means (chars key.now) }
+        ensures value { value_of result ≡ means (chars value.now) }
+    {
         Pair {
             encoding: LineEncoding::Utf8,
             escaped: false,
-            key: Text::of(key),
-            value: Text::of(value),
+            key: Part::of(key),
+            value: Part::of(value),
         }
     }
 
     /// The key and the value at these positions in a line, as a file spells them. The line is well-formed.
     #[inline(always)]
-    pub fn spelt(encoding: LineEncoding, line: &'a [u8], key: Span, value: Span) -> Pair<'a> {
+    pub fn spelt(encoding: LineEncoding, line: &'a [u8], key: Span, value: Span) -> Pair<'a>
+        requires key_ordered { key.start ≤ key.end }
+        requires key_within { key.end ≤ length line.now }
+        requires value_ordered { value.start ≤ value.end }
+        requires value_within { value.end ≤ length line.now }
+        requires key { IsWell encoding (bytes_in line.now key) }
+        requires value { IsWell encoding (bytes_in line.now value) }
+        ensures well { IsPair result }
+        ensures key { key_of result ≡ meaning_of (text_in encoding (bytes_in line.now key)) }
+        ensures value { value_of result ≡ meaning_of (text_in encoding (bytes_in line.now value)) }
+    {
         Pair {
             encoding,
             escaped: true,
-            key: Text::at(line, key),
-            value: Text::at(line, value),
+            key: Part::at(line, key),
+            value: Part::at(line, value),
         }
     }
 }
 
-impl<'a> Text<'a> {
+impl<'a> Part<'a> {
     #[inline(always)]
-    fn of(text: &'a str) -> Text<'a> {
-        Text {
+    fn of(text: &'a str) -> Part<'a>
+        ensures size { result.size ≡ length text.now }
+        ensures bytes { result.bytes.now ≡ text.now }
+    {
+        Part {
             bytes: text.as_bytes(),
             size: text.len(),
         }
     }
 
     #[inline(always)]
-    fn at(line: &'a [u8], span: Span) -> Text<'a> {
-        Text {
+    fn at(line: &'a [u8], span: Span) -> Part<'a>
+        requires ordered { span.start ≤ span.end }
+        requires within { span.end ≤ length line.now }
+        ensures size { result.size ≤ length result.bytes.now }
+        ensures bytes { bytes_of result ≡ bytes_in line.now span }
+    {
+        Part {
             bytes: &line[span.start..],
             size: span.end - span.start,
         }
@@ -119,7 +156,9 @@ type EscapedAscii = Either<PastAscii, Either<Controls, Byte<b'\\'>>>;
 
 // Whether bytes past ASCII are copied.
 #[inline(always)]
-fn is_copied(encoding: LineEncoding, repertoire: Repertoire) -> bool {
+fn is_copied(encoding: LineEncoding, repertoire: Repertoire) -> bool
+    ensures { result ≡ is_copied encoding repertoire }
+{
     match (encoding, repertoire) {
         (LineEncoding::Windows1252, Repertoire::Windows1252) => true,
         (LineEncoding::Utf8, Repertoire::Utf8) => true,
@@ -139,7 +178,11 @@ pub fn print_pair(
     pair: Pair<'_>,
     separator: &str,
     ending: &str,
-) -> Result<(), UnescapeError> {
+) -> Result<(), UnescapeError>
+    requires { IsPair pair }
+    ensures printed { PrintsPair repertoire first line.old pair.entry separator.now ending.now result line.new }
+    ensures unchanged { OnErr result (line.new ≡ line.old) }
+{
     match (pair.escaped, is_copied(pair.encoding, repertoire)) {
         (true, true) => {
             print_parts::<Escaped>(line, repertoire, first, pair, separator, ending)
@@ -165,7 +208,13 @@ fn print_parts<Stops: ByteClass>(
     pair: Pair<'_>,
     separator: &str,
     ending: &str,
-) -> Result<(), UnescapeError> {
+) -> Result<(), UnescapeError>
+    requires well { IsPair pair }
+    requires stops { StopsIn Stops.holds pair.encoding repertoire }
+    requires escaped { Stops.holds backslash ≡ pair.escaped }
+    ensures printed { PrintsPair repertoire first line.old pair.entry separator.now ending.now result line.new }
+    ensures unchanged { OnErr result (line.new ≡ line.old) }
+{
     let Pair {
         encoding,
         escaped: _,
@@ -191,18 +240,20 @@ fn print_first<Stops: ByteClass>(
     encoding: LineEncoding,
     bytes: &[u8],
     size: usize,
-) -> Result<usize, UnescapeError> {
+) -> Result<usize, UnescapeError>
+    requires size { size ≤ length bytes.now }
+    requires at { at ≤ length out.old.items }
+    requires stops { StopsIn Stops.holds encoding repertoire }
+    requires well { IsWell encoding (take size bytes.now) }
+    ensures printed { PrintsKey encoding repertoire first (Stops.holds backslash) (take size bytes.now) out.old.items at out.new.items result }
+    ensures same { take at out.new.items ≡ take at out.old.items }
+    ensures longer { length out.old.items ≤ length out.new.items }
+{
     let end = print_bytes::<Stops>(out, at, repertoire, encoding, bytes, size)?;
     if first && begins_like_mark(&out[at..end]) {
         return print_with_first_escaped::<Stops>(out, at, repertoire, encoding, bytes, size);
     }
     Ok(end)
-}
-
-// Whether what was printed begins like a byte order mark.
-#[inline(never)]
-fn begins_like_mark(printed: &[u8]) -> bool {
-    matches!(byte_order_mark(printed), ByteOrderMark::Present(_, _))
 }
 
 // Puts a key with its first character escaped. That is no backslash that stands for itself, since it begins no mark.
@@ -214,7 +265,17 @@ fn print_with_first_escaped<Stops: ByteClass>(
     encoding: LineEncoding,
     bytes: &[u8],
     size: usize,
-) -> Result<usize, UnescapeError> {
+) -> Result<usize, UnescapeError>
+    requires size { size ≤ length bytes.now }
+    requires at { at ≤ length out.old.items }
+    requires stops { StopsIn Stops.holds encoding repertoire }
+    requires well { IsWell encoding (take size bytes.now) }
+    requires some { 0 < size }
+    requires escape { get_or bytes.now 0 0 ≡ backslash → Stops.holds backslash ≡ true }
+    ensures printed { PrintsEscaped encoding repertoire (Stops.holds backslash) (take size bytes.now) out.old.items at out.new.items result }
+    ensures same { take at out.new.items ≡ take at out.old.items }
+    ensures longer { length out.old.items ≤ length out.new.items }
+{
     let first = match first_character(encoding, &bytes[..size]) {
         Ok(first) => first,
         Err(malformed) => return Err(UnescapeError::Malformed(malformed)),
@@ -231,7 +292,9 @@ pub fn print_key(
     repertoire: Repertoire,
     first: bool,
     key: &str,
-) -> Result<(), AllocError> {
+) -> Result<(), AllocError>
+    ensures { AppendsOnOk line.old (key_bytes repertoire first (chars key.now)) result line.new }
+{
     let (out, at) = (&mut line.bytes, line.filled);
     let printed = match repertoire {
         Repertoire::Utf8 => print_first::<Literal>(
@@ -272,7 +335,11 @@ pub fn print_texts(
     value: &str,
     separator: &str,
     ending: &str,
-) -> Result<(), AllocError> {
+) -> Result<(), AllocError>
+    ensures { let value = puts_of repertoire (chars value.now) in
+        let bytes = key_bytes repertoire first (chars key.now) ++ (separator.now ++ (value ++ ending.now)) in
+        AppendsOnOk line.old bytes result line.new }
+{
     let pair = Pair::literal(key, value);
     match print_pair(line, repertoire, first, pair, separator, ending) {
         Ok(()) => Ok(()),
@@ -284,7 +351,7 @@ pub fn print_texts(
 /// Appends the bytes of a text, escaped as its place in the line requires. Fails if memory runs out.
 ///
 /// ```text
-/// print_text(&mut line, repertoire, Place::KeyOrValue, "a b")?; // appends `a\ b`
+/// print_text(&mut line, repertoire, Place::Comment, "a\n")?; // appends `a\n`, a backslash and a letter
 /// ```
 pub fn print_text(
     line: &mut LineBuffer,
@@ -292,6 +359,7 @@ pub fn print_text(
     place: Place,
     text: &str,
 ) -> Result<(), AllocError>
+    ensures { AppendsOnOk line.old (text_bytes repertoire place (chars text.now)) result line.new }
 {
     for character in text.chars() {
         print_character(line, repertoire, place, character)?;
@@ -315,6 +383,10 @@ pub fn print_value(
     after_blanks: bool,
     text: &str,
 ) -> Result<(), AllocError>
+    requires { only_in repertoire ≡ false }
+    ensures { let e = encoding_in repertoire in
+        let value = printed_value e after_blanks (chars text.now) in
+        AppendsOnOk line.old (encoded_text e value) result line.new }
 {
     let mut characters = text.chars();
     let Some(first) = characters.next() else {
@@ -335,6 +407,10 @@ fn print_first_of_value(
     after_blanks: bool,
     first: char,
 ) -> Result<(), AllocError>
+    requires { only_in repertoire ≡ false }
+    ensures { let e = encoding_in repertoire in
+        let text = printed_first e after_blanks first in
+        AppendsOnOk line.old (encoded_text e text) result line.new }
 {
     if first == ' ' || (after_blanks && is_separator(first)) {
         return print_in_key_or_value(line, repertoire, first);
@@ -348,6 +424,10 @@ fn print_rest_of_value(
     repertoire: Repertoire,
     rest: &str,
 ) -> Result<(), AllocError>
+    requires { only_in repertoire ≡ false }
+    ensures { let e = encoding_in repertoire in
+        let text = printed_rest e (chars rest.now) in
+        AppendsOnOk line.old (encoded_text e text) result line.new }
 {
     let mut held = None;
     for character in rest.chars() {
@@ -366,6 +446,9 @@ fn print_held(
     repertoire: Repertoire,
     held: Option<char>,
 ) -> Result<(), AllocError>
+    requires { only_in repertoire ≡ false }
+    ensures { let e = encoding_in repertoire in
+        AppendsOnOk line.old (encoded_text e (held_text e held)) result line.new }
 {
     match held {
         Some(character) => print_in_value(line, repertoire, character),
@@ -374,11 +457,15 @@ fn print_held(
 }
 
 // Prints the last character of a value.
+#[tactic(auto, using(crate::proofs::Printing::Values::last_space))]
 fn print_last_of_value(
     line: &mut LineBuffer,
     repertoire: Repertoire,
     last: char,
 ) -> Result<(), AllocError>
+    requires { only_in repertoire ≡ false }
+    ensures { let e = encoding_in repertoire in
+        AppendsOnOk line.old (encoded_text e (printed_last e last)) result line.new }
 {
     if last == ' ' {
         return print_escape(line, last);
@@ -392,6 +479,9 @@ fn print_in_value(
     repertoire: Repertoire,
     character: char,
 ) -> Result<(), AllocError>
+    requires { only_in repertoire ≡ false }
+    ensures { let e = encoding_in repertoire in
+        AppendsOnOk line.old (encoded_text e (printed_inside e character)) result line.new }
 {
     if character == ' ' || is_separator(character) || is_comment_sign(character) {
         return print_literal(line, repertoire, character);
@@ -405,6 +495,7 @@ fn print_character(
     place: Place,
     character: char,
 ) -> Result<(), AllocError>
+    ensures { AppendsOnOk line.old (character_bytes repertoire place character) result line.new }
 {
     match place {
         Place::Comment => print_in_comment(line, repertoire, character),
@@ -417,6 +508,7 @@ fn print_in_key_or_value(
     repertoire: Repertoire,
     character: char,
 ) -> Result<(), AllocError>
+    ensures { AppendsOnOk line.old (put_of repertoire character) result line.new }
 {
     make_room(&mut line.bytes, line.filled, LONGEST)?;
     line.filled = put_printed(&mut line.bytes, line.filled, repertoire, character);
@@ -428,6 +520,8 @@ fn print_in_comment(
     repertoire: Repertoire,
     character: char,
 ) -> Result<(), AllocError>
+    ensures { let bytes = character_bytes repertoire Place.Comment character in
+        AppendsOnOk line.old bytes result line.new }
 {
     match character {
         '\n' => print_after_backslash(line, b'n'),
@@ -443,6 +537,9 @@ fn print_literal(
     repertoire: Repertoire,
     character: char,
 ) -> Result<(), AllocError>
+    ensures { let e = encoding_in repertoire in
+        let text = literal e (only_in repertoire) character in
+        AppendsOnOk line.old (encoded_text e text) result line.new }
 {
     make_room(&mut line.bytes, line.filled, LONGEST)?;
     line.filled = put_literal(&mut line.bytes, line.filled, repertoire, character);
@@ -450,12 +547,14 @@ fn print_literal(
 }
 
 fn print_after_backslash(line: &mut LineBuffer, byte: u8) -> Result<(), AllocError>
+    ensures { AppendsOnOk line.old (backslash ∷ byte ∷ []) result line.new }
 {
     line.extend(&[b'\\', byte])
 }
 
 // Prints a character as `\u` and four digits, or as two such escapes: a high and a low surrogate.
 fn print_escape(line: &mut LineBuffer, character: char) -> Result<(), AllocError>
+    ensures { AppendsOnOk line.old (unicode_escape character) result line.new }
 {
     make_room(&mut line.bytes, line.filled, LONGEST)?;
     line.filled = put_escape(&mut line.bytes, line.filled, character);

@@ -1,6 +1,6 @@
 // Tests whether bytes are ASCII, block by block.
 
-ghost use Rattle.std.specs.Prelude.{◌≡◌, ◌<◌, ◌≤◌, ◌↔◌, true, length, take, get_or};
+ghost use Rattle.std.specs.Prelude.{◌≡◌, ◌↔◌, true};
 ghost use Rattle.std.specs.Str.{IsAscii};
 
 use byte_blocks::{PastAscii, find};

@@ -1,5 +1,11 @@
 //! Decoding bytes to characters.
 
+ghost use Rattle.std.specs.Prelude.{◌↔◌, ◌⊎◌, IsSome, ◌≡◌, ◌≤◌, ◌<◌, ◌+◌, ◌*◌, ◌%◌, ◌++◌, ◌∷◌, [], length, take, IfSome};
+ghost use Rattle.std.specs.Char.{encode_utf8, IsScalar};
+ghost use Rattle.std.specs.Str.{IsUtf8};
+ghost use Rattle.properties_text.specs.Encoding.{encoding_of};
+ghost use Rattle.properties_text.specs.Decoding.{IsText, IsUtf16, DecodesFront};
+ghost use Rattle.properties_text.specs.declared.encoding.Encoding.TheVariants.{WINDOWS_1252};
 
 use super::first_piece::first_piece;
 use super::latin_1::{put_16, tabled};
@@ -11,6 +17,8 @@ use std::simd::prelude::*;
 /// Returns the bytes as text if they are UTF-8 already in this encoding; otherwise `None`.
 #[inline(always)]
 pub fn as_text(encoding: Encoding, bytes: &[u8]) -> Option<&str>
+    ensures exactly { IsSome result ↔ IsText (encoding_of encoding) bytes.now }
+    ensures same { IfSome result (λ text. text.now ≡ bytes.now) }
 {
     match encoding {
         Encoding::WINDOWS_1252 => windows_1252::as_text(bytes),
@@ -36,6 +44,11 @@ pub fn decode_run<'a>(
     encoding: Encoding,
     bytes: &'a [u8],
 ) -> Decoded<'a>
+    requires room { start + 4 ≤ length run.old }
+    requires is_text { IsUtf8 (take start run.old) }
+    ensures front { DecodesFront encoding bytes.now run.old start run.new result }
+    ensures shorter { 0 < length bytes.now → length result.rest.now < length bytes.now }
+    ensures stops { length result.rest.now ≡ 0 ⊎ length run.new < result.end + 64 }
 {
     // Each encoding has a loop of its own, so the encoding isn't tested at each character.
     match encoding {
@@ -49,6 +62,11 @@ pub fn decode_run<'a>(
 // Decodes blocks of sixteen, and fewer bytes as for the other encodings.
 #[inline(always)]
 fn decode_windows_1252<'a>(run: &mut [u8], start: usize, bytes: &'a [u8]) -> Decoded<'a>
+    requires room { start + 4 ≤ length run.old }
+    requires is_text { IsUtf8 (take start run.old) }
+    ensures front { DecodesFront WINDOWS_1252 bytes.now run.old start run.new result }
+    ensures shorter { 0 < length bytes.now → length result.rest.now < length bytes.now }
+    ensures stops { length result.rest.now ≡ 0 ⊎ length run.new < result.end + 64 }
 {
     let front = decode_blocks(run, start, bytes);
     // If more blocks follow, the next run starts with them.
@@ -61,6 +79,11 @@ fn decode_windows_1252<'a>(run: &mut [u8], start: usize, bytes: &'a [u8]) -> Dec
 // Decodes windows-1252 sixteen bytes at a time, as long as there are as many bytes and room for them.
 #[inline(always)]
 fn decode_blocks<'a>(run: &mut [u8], start: usize, bytes: &'a [u8]) -> Decoded<'a>
+    requires within { start ≤ length run.old }
+    requires is_text { IsUtf8 (take start run.old) }
+    ensures front { DecodesFront WINDOWS_1252 bytes.now run.old start run.new result }
+    ensures shorter { result.end + 4 * length result.rest.now ≤ start + 4 * length bytes.now }
+    ensures stops { length result.rest.now < 16 ⊎ length run.new < result.end + 64 }
 {
     let mut at = start;
     let mut rest = bytes;
@@ -83,6 +106,12 @@ fn decode_blocks<'a>(run: &mut [u8], start: usize, bytes: &'a [u8]) -> Decoded<'
 // Decodes `count` bytes of windows-1252 one by one.
 #[inline(always)]
 fn decode_each<'a>(run: &mut [u8], start: usize, bytes: &'a [u8], count: usize) -> Decoded<'a>
+    requires room { start + 4 * count ≤ length run.old }
+    requires count { count ≤ length bytes.now }
+    requires is_text { IsUtf8 (take start run.old) }
+    ensures front { DecodesFront WINDOWS_1252 bytes.now run.old start run.new result }
+    ensures end { result.end ≤ start + 3 * count }
+    ensures left { length result.rest.now + count ≡ length bytes.now }
 {
     let mut at = start;
     let mut rest = bytes;
@@ -105,6 +134,12 @@ fn decode_utf_16<'a>(
     encoding: Encoding,
     bytes: &'a [u8],
 ) -> Decoded<'a>
+    requires room { start + 4 ≤ length run.old }
+    requires is_text { IsUtf8 (take start run.old) }
+    requires wide { IsUtf16 encoding }
+    ensures front { DecodesFront encoding bytes.now run.old start run.new result }
+    ensures shorter { 0 < length bytes.now → length result.rest.now < length bytes.now }
+    ensures stops { length result.rest.now ≡ 0 ⊎ length run.new < result.end + 64 }
 {
     let mut at = start;
     let mut rest = bytes;
@@ -134,6 +169,12 @@ fn decode_run_of<'a>(
     encoding: Encoding,
     bytes: &'a [u8],
 ) -> Decoded<'a>
+    requires within { start ≤ length run.old }
+    requires is_text { IsUtf8 (take start run.old) }
+    ensures front { DecodesFront encoding bytes.now run.old start run.new result }
+    ensures shorter { start + 4 ≤ length run.old → 0 < length bytes.now
+        → length result.rest.now < length bytes.now }
+    ensures stops { length result.rest.now ≡ 0 ⊎ length run.new < result.end + 64 }
 {
     let mut at = start;
     let mut rest = bytes;
@@ -148,6 +189,9 @@ fn decode_run_of<'a>(
 // Writes four bytes at index `at`.
 #[inline(always)]
 fn put_four(run: &mut [u8], at: usize, text: [u8; 4])
+    requires { at + 4 ≤ length run.old }
+    ensures same_room { length run.new ≡ length run.old }
+    ensures text { take (at + 4) run.new ≡ take at run.old ++ text }
 {
     run[at..at + 4].copy_from_slice(&text);
 }
@@ -155,6 +199,12 @@ fn put_four(run: &mut [u8], at: usize, text: [u8; 4])
 /// Writes a character at index `at`, and returns the index after it.
 #[inline(always)]
 pub fn put_character(run: &mut [u8], at: usize, character: char) -> usize
+    requires { at + 4 ≤ length run.old }
+    ensures within { result ≤ at + 4 }
+    ensures more { at < result }
+    ensures scalar { IsScalar character }
+    ensures same_room { length run.new ≡ length run.old }
+    ensures text { take result run.new ≡ take at run.old ++ encode_utf8 character }
 {
     let code = u32::from(character);
     if code < 0x80 {
@@ -177,12 +227,21 @@ pub fn put_character(run: &mut [u8], at: usize, character: char) -> usize
 // Writes a continuation byte with the six low bits of `bits` at index `at`, and returns the index after it.
 #[inline(always)]
 fn put_continuation(run: &mut [u8], at: usize, bits: u32) -> usize
+    requires { at < length run.old }
+    ensures after { result ≡ at + 1 }
+    ensures same_room { length run.new ≡ length run.old }
+    ensures byte { take result run.new ≡ take at run.old ++ (0x80 + bits % 0x40) ∷ [] }
 {
     put(run, at, 0x80 + bits % 0x40)
 }
 
 #[inline(always)]
 fn put(run: &mut [u8], at: usize, byte: u32) -> usize
+    requires within { at < length run.old }
+    requires byte { byte < 0x100 }
+    ensures after { result ≡ at + 1 }
+    ensures same_room { length run.new ≡ length run.old }
+    ensures byte { take result run.new ≡ take at run.old ++ byte ∷ [] }
 {
     run[at] = byte as u8;
     at + 1

@@ -1,5 +1,10 @@
 // The encodings of a line that is printed, and of one that is printed from its bytes.
 
+ghost use Rattle.std.specs.Prelude.{◌≡◌, ◌<◌, length};
+ghost use Rattle.properties_format.specs.Encoding.{output_encoding};
+ghost use Rattle.properties_text.specs.Encoding.{encoding_of, line_of};
+ghost use Rattle.properties_text.specs.Spelt.{IsWell, IsFirst};
+
 use super::utf_8;
 use super::windows_1252::character_of;
 use super::Encoding;
@@ -14,6 +19,8 @@ pub enum LineEncoding {
 }
 
 impl From<Encoding> for LineEncoding {
+    ghost from_gives = { λ from to. line_of to ≡ output_encoding (encoding_of from) };
+
     fn from(encoding: Encoding) -> LineEncoding {
         match encoding {
             Encoding::WINDOWS_1252 => LineEncoding::Windows1252,
@@ -34,7 +41,11 @@ pub struct Spelt {
 impl LineEncoding {
     /// Returns the character at the front of a text that is well-formed and not empty.
     #[inline(always)]
-    pub fn first_character(self, text: &[u8]) -> Spelt {
+    pub fn first_character(self, text: &[u8]) -> Spelt
+        requires some { 0 < length text.now }
+        requires well { IsWell self text.now }
+        ensures { IsFirst self text.now result }
+    {
         match self {
             LineEncoding::Windows1252 => Spelt {
                 character: character_of(text[0]),

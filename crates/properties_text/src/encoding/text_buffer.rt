@@ -62,7 +62,9 @@ impl TextBuffer {
 
     /// Returns the bytes of the text.
     #[inline(always)]
-    pub fn as_line(&self) -> &LineBuffer {
+    pub fn as_line(&self) -> &LineBuffer
+        ensures { result.now ≡ self.now }
+    {
         &self.line
     }
 

@@ -66,7 +66,9 @@ pub fn as_text(bytes: &[u8]) -> Option<&str>
 /// Returns the byte of a character, or `None` if it has none. For the characters of most other scripts, comparing code
 /// points decides it, without a search.
 #[inline(always)]
-pub fn byte_of(character: char) -> Option<u8> {
+pub fn byte_of(character: char) -> Option<u8>
+    ensures { result ≡ windows_1252_byte character }
+{
     match character {
         '\0'..='\x7f' | '\u{a0}'..='\u{ff}' => u8::try_from(u32::from(character)).ok(),
         '\u{2dd}'..='\u{2012}' | '\u{2123}'..=char::MAX => None,

@@ -3,8 +3,8 @@
 ghost use Rattle.std.specs.Prelude.{◌≡◌, ◌≢◌, ◌<◌, ◌≤◌, ℕ, length, get_or, drop, Option, Some, None, Ok, Err, IfSome, if◌then◌else◌, ◌&&◌};
 ghost use Rattle.std.specs.Char.{IsScalar};
 ghost use Rattle.properties_format.specs.Text.{backslash};
-ghost use Rattle.properties_format.specs.Escapes.{letter_u, are_hexadecimal, code_unit, is_high, is_low, pair_character, escaped_character};
-ghost use Rattle.properties_text.specs.Escaping.{digit_value, four_bytes};
+ghost use Rattle.properties_format.specs.Escapes.{letter_u, is_high, is_low, pair_character, escaped_character};
+ghost use Rattle.properties_text.specs.Escaping.{digit_value};
 ghost use Rattle.properties_text.specs.Spelt.{IsWell, IsRead, Reads, BeginsUnit, HasDigits, LacksDigits, HasLow, LacksLow, CountsFour};
 
 use super::Malformed;
@@ -160,17 +160,6 @@ fn digits_after(text: &[u8]) -> Option<u32>
     }
     let high = digit_value(text[2]) * 0x1000 + digit_value(text[3]) * 0x100;
     let value = high + digit_value(text[4]) * 0x10 + digit_value(text[5]);
-    if value < NONE { Some(value) } else { None }
-}
-
-// The value of four bytes, if all are hexadecimal digits.
-#[inline(always)]
-fn value_of(first: u8, second: u8, third: u8, fourth: u8) -> Option<u32>
-    ensures { let four = four_bytes first second third fourth in
-        result ≡ (if are_hexadecimal four then Some (code_unit four) else None) }
-{
-    let high = digit_value(first) * 0x1000 + digit_value(second) * 0x100;
-    let value = high + digit_value(third) * 0x10 + digit_value(fourth);
     if value < NONE { Some(value) } else { None }
 }
 

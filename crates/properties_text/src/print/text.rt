@@ -4,7 +4,9 @@
 ghost use Rattle.std.specs.Prelude.{◌≡◌, ◌+◌, ◌-◌, ◌*◌, ◌<◌, ◌≤◌, ◌++◌, ℕ, Bool, true, false, length, take, drop, get_or, IfOk};
 ghost use Rattle.properties_format.specs.Text.{backslash};
 ghost use Rattle.properties_text.specs.Spelt.{IsWell};
-ghost use Rattle.properties_text.specs.PrintedTexts.{put_of, past_in, ReadsBy, PutsStops, IsRunPut, StopsIn, Prints};
+ghost use Rattle.properties_format.specs.Printing.{literal, encoded_text};
+ghost use Rattle.properties_text.specs.Printing.{encoding_in, only_in, put_of};
+ghost use Rattle.properties_text.specs.PrintedTexts.{past_in, ReadsBy, PutsStops, IsRunPut, StopsIn, Prints};
 
 use super::Repertoire;
 use super::bytes::{first_16, put_16, put_any, put_byte};
@@ -64,7 +66,14 @@ fn put_past(out: &mut [u8], at: usize, repertoire: Repertoire, character: char) 
 
 /// Puts a character as it is, or as a `\u` escape if the repertoire lacks it, and returns the index after it.
 #[inline(always)]
-pub fn put_literal(out: &mut [u8], at: usize, repertoire: Repertoire, character: char) -> usize {
+pub fn put_literal(out: &mut [u8], at: usize, repertoire: Repertoire, character: char) -> usize
+    requires { at + 12 ≤ length out.old }
+    ensures same_room { length out.new ≡ length out.old }
+    ensures within { result ≤ at + 12 }
+    ensures put { let e = encoding_in repertoire in
+        let text = literal e (only_in repertoire) character in
+        take result out.new ≡ take at out.old ++ encoded_text e text }
+{
     if character.is_ascii() {
         out[at] = u32::from(character) as u8;
         return at + 1;
@@ -100,7 +109,9 @@ fn print_rest<Stops: ByteClass>(
     requires stops { StopsIn Stops.holds encoding repertoire }
     requires well { IsWell encoding (take size bytes.now) }
     requires begins { 0 < size → Stops.holds (get_or (take size bytes.now) 0 0) ≡ true }
-    ensures { Prints encoding repertoire (Stops.holds backslash) (take size bytes.now) out.old.items at out.new.items result }
+    ensures printed { Prints encoding repertoire (Stops.holds backslash) (take size bytes.now) out.old.items at out.new.items result }
+    ensures same { take at out.new.items ≡ take at out.old.items }
+    ensures longer { length out.old.items ≤ length out.new.items }
 {
     let mut put = Put { read: 0, end: at };
     while put.read < size {
@@ -147,6 +158,7 @@ fn put_stops<Stops: ByteClass>(
     requires well { IsWell encoding (past_in encoding repertoire (drop from text.now)) }
     ensures same_room { length out.new ≡ length out.old }
     ensures put { PutsStops encoding repertoire (Stops.holds backslash) out.old at text.now from out.new result }
+    ensures same { take at out.new ≡ take at out.old }
     ensures onwards { IfOk result (λ put. from < length text.now → Stops.holds (get_or text.now from 0) ≡ true → from < put.read) }
 {
     let mut put = Put {
@@ -196,7 +208,9 @@ pub fn print_bytes<Stops: ByteClass>(
     requires at { at ≤ length out.old.items }
     requires stops { StopsIn Stops.holds encoding repertoire }
     requires well { IsWell encoding (take size bytes.now) }
-    ensures { Prints encoding repertoire (Stops.holds backslash) (take size bytes.now) out.old.items at out.new.items result }
+    ensures printed { Prints encoding repertoire (Stops.holds backslash) (take size bytes.now) out.old.items at out.new.items result }
+    ensures same { take at out.new.items ≡ take at out.old.items }
+    ensures longer { length out.old.items ≤ length out.new.items }
 {
     make_room_for(out, at, size)?;
     let put = put_run::<Stops>(out, at, bytes, size, 0);

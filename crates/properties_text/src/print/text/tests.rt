@@ -22,7 +22,7 @@ fn printed(
     spelt: &[u8],
 ) -> Result<LineBuffer, Fail> {
     let mut line = LineBuffer::new(alloc);
-    line.push(b'|')?;
+    line.extend(b"|")?;
     let Some(ParsedSpans::KVPair(key, value)) = parse_bytes(spelt) else {
         line.extend(b"no pair")?;
         return Ok(line);
