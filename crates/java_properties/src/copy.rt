@@ -1,5 +1,9 @@
 // Copies the pairs of a reader to a writer.
 
+ghost use Rattle.std.specs.Prelude.{◌≡◌};
+ghost use Rattle.counted_io.specs.Streams.{IsSameReader, IsSameSink};
+ghost use Rattle.java_properties.specs.Copying.{error_in, Copies};
+
 use crate::error::PropertiesError;
 use crate::iter::PropertiesIter;
 use crate::writer::PropertiesWriter;
@@ -25,6 +29,8 @@ pub enum CopyError {
 }
 
 impl From<CopyError> for PropertiesError {
+    ghost from_gives = { λ error e. e ≡ error_in error };
+
     fn from(error: CopyError) -> PropertiesError {
         match error {
             CopyError::Read(error) | CopyError::Write(error) => error,
@@ -33,6 +39,10 @@ impl From<CopyError> for PropertiesError {
 }
 
 impl fmt::Display for CopyError {
+    ghost use Rattle.java_properties.specs.DisplayTexts.{error_display};
+
+    ghost output = { λ error. error_display (error_in error) };
+
     fn fmt<W: fmt::Write>(&self, f: &mut fmt::Formatter<W>) -> fmt::Result {
         match self {
             CopyError::Read(error) | CopyError::Write(error) => write!(f, "{error}"),
@@ -55,7 +65,11 @@ impl<W: CountedWrite> PropertiesWriter<W> {
     pub fn copy_pairs<R: CountedRead>(
         &mut self,
         items: &mut PropertiesIter<R>,
-    ) -> Result<(), CopyError> {
+    ) -> Result<(), CopyError>
+        ensures copies { Copies R.CountedRead W.CountedWrite items.old self.old result items.new self.new }
+        ensures same_reader { IsSameReader R.CountedRead items.old.reader items.new.reader }
+        ensures same_sink { IsSameSink W.CountedWrite self.old.sink self.new.sink }
+    {
         let lines = &mut items.items.lines;
         while let Some(number) = lines.next_line(&mut items.reader) {
             match build_line(&mut self.engine, lines) {

@@ -1,5 +1,15 @@
 // Iterates over the comments and pairs of a file.
 
+ghost use Rattle.std.specs.Prelude.{◌≡◌, ◌<◌, [], IsOkAnd, OnSome};
+ghost use Rattle.std.specs.Str.{chars};
+ghost use Rattle.std.specs.Iterator.{at_most};
+ghost use Rattle.counted_io.specs.Streams.{IsSameReader};
+ghost use Rattle.properties_format.specs.Encoding.{windows_1252};
+ghost use Rattle.properties_format.specs.ItemsToCome.{start};
+ghost use Rattle.properties_text.specs.Encoding.{encoding_of};
+ghost use Rattle.properties_lines.specs.LineReader.{lines_left};
+ghost use Rattle.java_properties.specs.BorrowedItems.{borrowed_entry, found_entry, BorrowsPlain, IsFoundIn, AdvanceGives, NextRefGives};
+ghost use Rattle.java_properties.specs.PropertiesIter.{Reading, NextGives};
 
 pub(crate) mod found;
 mod into;
@@ -19,6 +29,7 @@ pub use malformed::{MalformedEscape, malformed_escapes};
 use properties_text::encoding::Encoding;
 pub use refs::{ContentRef, LineRef};
 use std::alloc::Global;
+use std::marker::Model;
 pub use whole::{Stopped, read_lines};
 
 /// The comments and pairs of a file, in order, each with its line number.
@@ -40,10 +51,17 @@ pub struct PropertiesIter<R> {
     pub(crate) items: ItemReader,
 }
 
+impl<R> Model for PropertiesIter<R> {
+    ghost Value = { Reading R };
+
+    ghost view = { λ it. record { reader = it.reader; state = it.items.state; line = it.items.line } };
+}
+
 impl<R: CountedRead> PropertiesIter<R> {
     /// Creates an iterator that reads windows-1252, unless a byte order mark selects another encoding. It reads nothing
     /// and allocates nothing until the first item is requested.
     pub fn new(alloc: Global, input: R) -> Result<PropertiesIter<R>, PropertiesError>
+        ensures { IsOkAnd result (λ it. it ≡ record { reader = input; state = start windows_1252; line = [] }) }
     {
         PropertiesIter::new_with_encoding(alloc, input, Encoding::WINDOWS_1252)
     }
@@ -55,6 +73,7 @@ impl<R: CountedRead> PropertiesIter<R> {
         input: R,
         encoding: Encoding,
     ) -> Result<PropertiesIter<R>, PropertiesError>
+        ensures { IsOkAnd result (λ it. it ≡ record { reader = input; state = start (encoding_of encoding); line = [] }) }
     {
         Ok(PropertiesIter {
             reader: input,
@@ -68,6 +87,7 @@ impl<R: CountedRead> PropertiesIter<R> {
     /// Besides its input buffer, it allocates only for texts whose escapes must be resolved, and for lines whose text
     /// isn't in the input byte for byte. You can mix calls of `next_ref` and `next`.
     pub fn next_ref(&mut self) -> Option<Result<LineRef<'_>, PropertiesError>>
+        ensures { NextRefGives R.CountedRead self.old result }
     {
         match self.advance()? {
             Ok(found) => Some(Ok(self.get(found))),
@@ -87,18 +107,25 @@ impl<R: CountedRead> PropertiesIter<R> {
     /// }
     /// ```
     pub fn advance(&mut self) -> Option<Result<Found, PropertiesError>>
+        ensures gives { AdvanceGives R.CountedRead self.old result self.new }
+        ensures nearer { OnSome result (lines_left self.new.state < lines_left self.old.state) }
+        ensures kept { self.new.error ≡ self.old.error }
     {
         self.items.advance(&mut self.reader)
     }
 
     /// Returns the item that [`advance`](Self::advance) found, borrowed until the next call.
     pub fn get(&self, found: Found) -> LineRef<'_>
+        requires { IsFoundIn self.now.line found }
+        ensures item { borrowed_entry result ≡ found_entry self.now.line found }
+        ensures borrowed { BorrowsPlain (chars self.now.line) result.content }
     {
         self.items.get(found)
     }
 
     /// Returns a reference to the reader, which is positioned after the bytes that were read so far.
     pub fn get_ref(&self) -> &R
+        ensures { result.now ≡ self.now.reader }
     {
         &self.reader
     }
@@ -106,6 +133,7 @@ impl<R: CountedRead> PropertiesIter<R> {
     /// Returns the reader, positioned after the bytes that were read so far. The iterator reads ahead, so the reader
     /// may be past the last item.
     pub fn into_inner(self) -> R
+        ensures { result ≡ self.reader }
     {
         let PropertiesIter {
             reader,

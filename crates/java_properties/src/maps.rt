@@ -1,5 +1,11 @@
 // Reads and writes whole maps.
 
+ghost use Rattle.std.specs.Prelude.{IfOk};
+ghost use Rattle.counted_io.specs.Streams.{IsSameReader, IsSameSink};
+ghost use Rattle.java_properties.specs.PropertiesIter.{format_content};
+ghost use Rattle.properties_format.specs.Encoding.{windows_1252};
+ghost use Rattle.properties_text.specs.Encoding.{output_of};
+ghost use Rattle.java_properties.specs.Maps.{texts_of, InsertsIfPair, ReadsMap, AreInOrder, WritesPairs, WritesMap, MapReadsBack};
 
 mod sorted;
 
@@ -31,6 +37,8 @@ pub fn read<R: CountedRead>(
     alloc: Global,
     input: &mut R,
 ) -> Result<HashMap<String, String>, PropertiesError>
+    ensures reads { ReadsMap R.CountedRead input.old result input.new }
+    ensures same_reader { IsSameReader R.CountedRead input.old input.new }
 {
     let mut items = ItemReader::new(alloc, Encoding::WINDOWS_1252);
     let mut map = HashMap::new(alloc);
@@ -46,6 +54,7 @@ fn insert_if_pair(
     map: &mut HashMap<String, String>,
     content: LineContent,
 ) -> Result<(), PropertiesError>
+    ensures { InsertsIfPair map.old.entries (format_content content) result map.new.entries }
 {
     match content {
         LineContent::Comment(_text) => Ok(()),
@@ -71,6 +80,11 @@ pub fn write<W: CountedWrite>(
     writer: &mut W,
     map: &HashMap<String, String>,
 ) -> Result<(), PropertiesError>
+    ensures writes { let entries = map.now.entries in
+        WritesMap W.CountedWrite windows_1252 entries writer.old result writer.new }
+    ensures reads_back { let entries = map.now.entries in
+        MapReadsBack W.CountedWrite windows_1252 entries writer.old result writer.new }
+    ensures same_sink { IsSameSink W.CountedWrite writer.old writer.new }
 {
     let pairs = pairs_in_order(alloc, map)?;
     write_pairs(
@@ -88,6 +102,9 @@ fn write_pairs<W: CountedWrite>(
     pairs: &[(&String, &String)],
     encoding: LineEncoding,
 ) -> Result<(), PropertiesError>
+    ensures writes { let texts = texts_of pairs.now in
+        WritesPairs W.CountedWrite (output_of encoding) texts writer.old result writer.new }
+    ensures same_sink { IsSameSink W.CountedWrite writer.old writer.new }
 {
     let mut engine = Engine::new(alloc, encoding);
     for (key, value) in pairs {
@@ -101,6 +118,7 @@ fn pairs_in_order<'a>(
     alloc: Global,
     map: &'a HashMap<String, String>,
 ) -> Result<Vec<(&'a String, &'a String)>, AllocError>
+    ensures { IfOk result (λ pairs. AreInOrder map.now.entries (texts_of pairs.items)) }
 {
     let mut pairs = Vec::with_capacity(alloc, map.len())?;
     for (key, value) in map {

@@ -1,5 +1,13 @@
 // Writes comments and pairs line by line.
 
+ghost use Rattle.std.specs.Prelude.{◌≡◌, IsOkAnd};
+ghost use Rattle.std.specs.Str.{chars};
+ghost use Rattle.counted_io.specs.Streams.{IsSameSink};
+ghost use Rattle.properties_format.specs.Encoding.{windows_1252, output_encoding};
+ghost use Rattle.properties_format.specs.Entries as entry;
+ghost use Rattle.properties_text.specs.Encoding.{encoding_of};
+ghost use Rattle.java_properties.specs.ReadBack.{IsGoodWriter};
+ghost use Rattle.java_properties.specs.PropertiesWriter.{new_writer, WritesLine, Flushes, SetsPrefix, SetsSeparator, SetsEnding, SetsAsciiOnly};
 
 use crate::error::PropertiesError;
 use counted_io::CountedWrite;
@@ -34,11 +42,22 @@ pub struct PropertiesWriter<W> {
     pub(crate) engine: Engine,
 }
 
+impl<W> Model for PropertiesWriter<W> {
+    ghost use Rattle.java_properties.specs.PropertiesWriter.{Writing};
+
+    ghost Value = { Writing W };
+
+    ghost use Rattle.java_properties.specs.Engine.{writing};
+
+    ghost view = { λ w. writing w.engine w.sink };
+}
+
 impl<W: CountedWrite> PropertiesWriter<W> {
     /// Creates a writer of windows-1252. Characters that it can't encode are written as escapes.
     ///
     /// It writes nothing and allocates nothing before it is used.
     pub fn new(alloc: Global, writer: W) -> Result<PropertiesWriter<W>, PropertiesError>
+        ensures { IsOkAnd result (λ made. made ≡ new_writer windows_1252 writer) }
     {
         PropertiesWriter::new_with_encoding(alloc, writer, Encoding::WINDOWS_1252)
     }
@@ -51,6 +70,8 @@ impl<W: CountedWrite> PropertiesWriter<W> {
         writer: W,
         encoding: Encoding,
     ) -> Result<PropertiesWriter<W>, PropertiesError>
+        ensures { let output = output_encoding (encoding_of encoding) in
+            IsOkAnd result (λ made. made ≡ new_writer output writer) }
     {
         Ok(PropertiesWriter {
             sink: writer,
@@ -61,6 +82,7 @@ impl<W: CountedWrite> PropertiesWriter<W> {
     // Creates a writer of windows-1252 as if this many lines had been written.
     #[cfg(test)]
     fn after_lines(alloc: Global, writer: W, lines: usize) -> PropertiesWriter<W>
+        ensures { result ≡ record (new_writer windows_1252 writer) { lines = lines } }
     {
         let mut engine = Engine::new(alloc, LineEncoding::from(Encoding::WINDOWS_1252));
         engine.count_from(lines);
@@ -74,6 +96,8 @@ impl<W: CountedWrite> PropertiesWriter<W> {
     ///
     /// Line endings in the text are written as escapes, so the comment stays on one line.
     pub fn write_comment(&mut self, comment: &str) -> Result<(), PropertiesError>
+        ensures writes { WritesLine W.CountedWrite self.old (entry.comment (chars comment.now)) result self.new }
+        ensures same_sink { IsSameSink W.CountedWrite self.old.sink self.new.sink }
     {
         // `Ok` is built anew, because passing the result on would copy the space for its error.
         self.engine
@@ -85,6 +109,9 @@ impl<W: CountedWrite> PropertiesWriter<W> {
     ///
     /// An empty key is refused if the separator consists only of blanks, because its value would be read as the key.
     pub fn write(&mut self, key: &str, value: &str) -> Result<(), PropertiesError>
+        ensures writes { let line = entry.pair (chars key.now) (chars value.now) in
+            WritesLine W.CountedWrite self.old line result self.new }
+        ensures same_sink { IsSameSink W.CountedWrite self.old.sink self.new.sink }
     {
         // `Ok` is built anew, because passing the result on would copy the space for its error.
         self.engine
@@ -95,6 +122,7 @@ impl<W: CountedWrite> PropertiesWriter<W> {
     /// Sets what comments begin with from now on: optional blanks, then `#` or `!`, then any text without line endings.
     /// Any other prefix is refused. The default is `# `.
     pub fn set_comment_prefix(&mut self, prefix: &str) -> Result<(), PropertiesError>
+        ensures { SetsPrefix self.old (chars prefix.now) result self.new }
     {
         self.engine.settings.set_comment_prefix(prefix)
     }
@@ -102,12 +130,14 @@ impl<W: CountedWrite> PropertiesWriter<W> {
     /// Sets what comes between keys and values from now on: optional blanks, one `=` or `:`, optional blanks; or one or
     /// more blanks. Any other separator is refused. The default is `=`.
     pub fn set_kv_separator(&mut self, separator: &str) -> Result<(), PropertiesError>
+        ensures { SetsSeparator self.old (chars separator.now) result self.new }
     {
         self.engine.settings.set_kv_separator(separator)
     }
 
     /// Sets what ends lines from now on. The default is LF.
     pub fn set_line_ending(&mut self, line_ending: LineEnding)
+        ensures { SetsEnding self.old line_ending self.new }
     {
         self.engine.settings.set_line_ending(line_ending);
     }
@@ -122,12 +152,15 @@ impl<W: CountedWrite> PropertiesWriter<W> {
     /// writer.write("caf\u{e9}", "1")?; // The sink holds `caf\u00e9=1` and a line feed, all of it ASCII.
     /// ```
     pub fn set_ascii_only(&mut self, on: bool)
+        ensures { SetsAsciiOnly self.old on self.new }
     {
         self.engine.settings.set_ascii_only(on);
     }
 
     /// Flushes the sink.
     pub fn flush(&mut self) -> Result<(), PropertiesError>
+        ensures flushes { Flushes W.CountedWrite self.old result self.new }
+        ensures same_sink { IsSameSink W.CountedWrite self.old.sink self.new.sink }
     {
         self.engine.flush(&mut self.sink)
     }
@@ -135,6 +168,8 @@ impl<W: CountedWrite> PropertiesWriter<W> {
     /// Flushes the sink. Call it after the last line, so that a sink that buffers bytes passes them on. You can still
     /// write lines afterwards.
     pub fn finish(&mut self) -> Result<(), PropertiesError>
+        ensures flushes { Flushes W.CountedWrite self.old result self.new }
+        ensures same_sink { IsSameSink W.CountedWrite self.old.sink self.new.sink }
     {
         self.flush()
     }
@@ -151,18 +186,21 @@ impl<W: CountedWrite> PropertiesWriter<W> {
     /// // A proof that comes after may take lists of pairs to be equal that this writer writes as equal bytes.
     /// ```
     pub fn tell_settings_are_good(&self)
+        ensures { IsGoodWriter self.now }
     {
         self.engine.settings.tell_they_are_good();
     }
 
     /// Returns a reference to the sink, with what was written so far.
     pub fn get_ref(&self) -> &W
+        ensures { result.now ≡ self.now.sink }
     {
         &self.sink
     }
 
     /// Returns the sink, with what was written so far.
     pub fn into_inner(self) -> W
+        ensures { result ≡ self.sink }
     {
         let PropertiesWriter { sink, engine: _ } = self;
         sink

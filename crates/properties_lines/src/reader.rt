@@ -1,5 +1,11 @@
 //! The natural lines of a reader, one after another, as undecoded bytes.
 
+ghost use Rattle.std.specs.Prelude.{◌≡◌, ◌+◌, ◌<◌, ◌≤◌, ◌^◌, None, Some, true, [], length, take};
+ghost use Rattle.std.specs.Option.{is_some};
+ghost use Rattle.counted_io.specs.Streams.{IsSameReader};
+ghost use Rattle.properties_format.specs.ItemsToCome.{start};
+ghost use Rattle.properties_text.specs.Encoding.{encoding_of};
+ghost use Rattle.properties_lines.specs.LineReader.{Finds, Reads, ScansHeld, lines_left};
 
 use crate::error::LineError;
 use crate::input::InputBuffer;
@@ -33,12 +39,34 @@ pub struct LineReader {
     error: Option<LineError>,
 }
 
+impl Model for LineReader {
+    ghost use Rattle.std.specs.Prelude.{◌≡◌, ◌≢◌, ◌-◌, true, None, length};
+    ghost use Rattle.properties_lines.specs.Scanner.{scanner_state, bytes_of, Fits};
+    ghost use Rattle.properties_lines.specs.LineReader.{Finder};
+
+    ghost Value = { Finder };
+
+    ghost view = { λ s. record {
+      state = scanner_state s.scanner s.input.held;
+      line = bytes_of s.input.held s.scanner.line;
+      is_ascii = s.scanner.line.is_ascii;
+      has_backslash = s.scanner.line.has_backslash;
+      waiting = length s.input.held - s.scanner.at;
+      error = s.error;
+    } };
+
+    ghost invariant = { λ s. Fits s.scanner s.input.held × (s.error ≢ None → s.scanner.is_done ≡ true) };
+}
+
 // How many bytes from the start of a line on are tested at once.
 const WINDOW: usize = 1024;
 
 impl LineReader {
     /// Starts at the beginning of an input. Allocates nothing.
     pub fn new(alloc: Global, encoding: Encoding) -> LineReader
+        ensures state { result.state ≡ start (encoding_of encoding) }
+        ensures line { result.line ≡ [] }
+        ensures error { result.error ≡ None }
     {
         LineReader {
             input: InputBuffer::new(alloc),
@@ -51,6 +79,7 @@ impl LineReader {
     /// Returns the bytes of the line that was found last, without its line ending.
     #[inline(always)]
     pub fn line(&self) -> &[u8]
+        ensures { result.now ≡ self.now.line }
     {
         let line = self.scanner.line();
         &self.input.held()[line.start..line.end]
@@ -59,6 +88,8 @@ impl LineReader {
     /// Returns the bytes that are held, from the start of that line on.
     #[inline(always)]
     pub fn bytes_onward(&self) -> &[u8]
+        ensures line { take (length self.now.line) result.now ≡ self.now.line }
+        ensures within { length self.now.line ≤ length result.now }
     {
         &self.input.held()[self.scanner.line().start..]
     }
@@ -66,6 +97,7 @@ impl LineReader {
     /// Returns the number of bytes in that line.
     #[inline(always)]
     pub fn length(&self) -> usize
+        ensures { result ≡ length self.now.line }
     {
         let line = self.scanner.line();
         line.end - line.start
@@ -74,6 +106,7 @@ impl LineReader {
     /// Returns whether that line consists of ASCII characters of one byte each.
     #[inline(always)]
     pub fn is_ascii(&self) -> bool
+        ensures { result ≡ self.now.is_ascii }
     {
         self.scanner.line().is_ascii
     }
@@ -104,6 +137,7 @@ impl LineReader {
     /// Returns whether one of that line's bytes is the byte of a backslash.
     #[inline(always)]
     pub fn has_backslash(&self) -> bool
+        ensures { result ≡ self.now.has_backslash }
     {
         self.scanner.line().has_backslash
     }
@@ -111,6 +145,7 @@ impl LineReader {
     /// Returns the number of that line, or 0 before the first line.
     #[inline(always)]
     pub fn number(&self) -> usize
+        ensures { result ≡ self.now.state.passed }
     {
         self.scanner.number()
     }
@@ -118,6 +153,7 @@ impl LineReader {
     /// Returns the encoding of that line, or the requested encoding while it isn't decided.
     #[inline(always)]
     pub fn encoding(&self) -> Encoding
+        ensures { encoding_of result ≡ self.now.state.encoding }
     {
         self.scanner.encoding()
     }
@@ -125,12 +161,14 @@ impl LineReader {
     // Sets the number of lines found, so that a test can reach the last number.
     #[cfg(test)]
     fn count_from(&mut self, passed: usize)
+        ensures { self.new ≡ record self.old { state = record self.old.state { passed = passed } } }
     {
         self.scanner.count_from(passed);
     }
 
     /// Ends the reading permanently.
     pub fn end(&mut self)
+        ensures { self.new ≡ record self.old { state = record self.old.state { is_done = true } } }
     {
         self.scanner.end();
     }
@@ -138,6 +176,7 @@ impl LineReader {
     /// Ends the reading permanently, and keeps this error.
     #[inline(never)]
     pub fn fail(&mut self, error: LineError)
+        ensures { self.new ≡ record self.old { state = record self.old.state { is_done = true }; error = Some error } }
     {
         self.scanner.end();
         self.error = Some(error);
@@ -145,12 +184,15 @@ impl LineReader {
 
     /// Returns the error that ended the reading, if there is one and it wasn't returned before.
     pub fn take_error(&mut self) -> Option<LineError>
+        ensures error { result ≡ self.old.error }
+        ensures taken { self.new ≡ record self.old { error = None } }
     {
         mem::replace(&mut self.error, None)
     }
 
     /// Returns whether an error is kept.
     pub fn has_failed(&self) -> bool
+        ensures { result ≡ is_some self.now.error }
     {
         self.error.is_some()
     }
@@ -160,6 +202,10 @@ impl LineReader {
     /// A line that ends in a CR is found at once: an LF that comes next belongs to the same line ending.
     #[inline(always)]
     pub fn find_line<R: CountedRead>(&mut self, reader: &mut R) -> bool
+        ensures finds { Finds R.CountedRead self.old reader.old result self.new reader.new }
+        ensures same_reader { IsSameReader R.CountedRead reader.old reader.new }
+        ensures nearer { result ≡ true → lines_left self.new.state < lines_left self.old.state }
+        ensures fits { self.old.state.passed < 2 ^ 64 }
     {
         let _number = self.number();
         match self.scan(false) {
@@ -171,6 +217,9 @@ impl LineReader {
     // Finds the next line, and reads if necessary.
     #[inline(never)]
     fn read_line<R: CountedRead>(&mut self, reader: &mut R) -> bool
+        ensures finds { Finds R.CountedRead self.old reader.old result self.new reader.new }
+        ensures same_reader { IsSameReader R.CountedRead reader.old reader.new }
+        ensures nearer { result ≡ true → lines_left self.new.state < lines_left self.old.state }
     {
         let mut ended = false;
         'reads: loop {
@@ -194,12 +243,17 @@ impl LineReader {
     // Searches for a line among the bytes that are held.
     #[inline(always)]
     fn scan(&mut self, ended: bool) -> Scan
+        ensures { ScansHeld self.old ended result self.new }
     {
         self.scanner.next(self.input.held(), ended)
     }
 
     // Reads once.
     fn read<R: CountedRead>(&mut self, reader: &mut R) -> Read
+        requires numbered { self.old.state.passed + 1 < 2 ^ 64 }
+        ensures reads { Reads R.CountedRead self.old reader.old result self.new reader.new }
+        ensures same_reader { IsSameReader R.CountedRead reader.old reader.new }
+        ensures fits { self.old.waiting < 2 ^ 64 }
     {
         let _length = self.input.held().len();
         let Ok(gone) = self.input.make_room(self.scanner.place()) else {

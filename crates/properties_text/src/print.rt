@@ -256,7 +256,7 @@ fn print_first<Stops: ByteClass>(
     Ok(end)
 }
 
-// Puts a key with its first character escaped. That is no backslash that stands for itself, since it begins no mark.
+// Puts a key with its first character escaped.
 #[inline(never)]
 fn print_with_first_escaped<Stops: ByteClass>(
     out: &mut Vec<u8>,
@@ -271,12 +271,11 @@ fn print_with_first_escaped<Stops: ByteClass>(
     requires stops { StopsIn Stops.holds encoding repertoire }
     requires well { IsWell encoding (take size bytes.now) }
     requires some { 0 < size }
-    requires escape { get_or bytes.now 0 0 ≡ backslash → Stops.holds backslash ≡ true }
     ensures printed { PrintsEscaped encoding repertoire (Stops.holds backslash) (take size bytes.now) out.old.items at out.new.items result }
     ensures same { take at out.new.items ≡ take at out.old.items }
     ensures longer { length out.old.items ≤ length out.new.items }
 {
-    let first = match first_character(encoding, &bytes[..size]) {
+    let first = match first_character::<Stops>(encoding, &bytes[..size]) {
         Ok(first) => first,
         Err(malformed) => return Err(UnescapeError::Malformed(malformed)),
     };
@@ -295,26 +294,13 @@ pub fn print_key(
 ) -> Result<(), AllocError>
     ensures { AppendsOnOk line.old (key_bytes repertoire first (chars key.now)) result line.new }
 {
+    let encoding = LineEncoding::Utf8;
     let (out, at) = (&mut line.bytes, line.filled);
-    let printed = match repertoire {
-        Repertoire::Utf8 => print_first::<Literal>(
-            out,
-            at,
-            repertoire,
-            first,
-            LineEncoding::Utf8,
-            key.as_bytes(),
-            key.len(),
-        ),
-        _ => print_first::<LiteralAscii>(
-            out,
-            at,
-            repertoire,
-            first,
-            LineEncoding::Utf8,
-            key.as_bytes(),
-            key.len(),
-        ),
+    let (bytes, size) = (key.as_bytes(), key.len());
+    let printed = if is_copied(encoding, repertoire) {
+        print_first::<Literal>(out, at, repertoire, first, encoding, bytes, size)
+    } else {
+        print_first::<LiteralAscii>(out, at, repertoire, first, encoding, bytes, size)
     };
     match printed {
         Ok(end) => {

@@ -1,5 +1,10 @@
 // Copies the pairs of a reader to a sink.
 
+ghost use Rattle.std.specs.Prelude.{◌≡◌, true, false, None};
+ghost use Rattle.counted_io.specs.Streams.{IsSameReader, IsSameSink};
+ghost use Rattle.properties_format.specs.ItemsToCome.{start};
+ghost use Rattle.properties_text.specs.Encoding.{encoding_of};
+ghost use Rattle.properties_tools.specs.Filter.{pair_writer, Filters, FiltersToAscii, Settles};
 
 use counted_io::{CountedRead, CountedWrite};
 use java_properties::{CopyError, Encoding, PropertiesError, PropertiesIter, PropertiesWriter};
@@ -25,6 +30,12 @@ pub fn filter<R: CountedRead, W: CountedWrite>(
     writer: &mut W,
     encoding: Encoding,
 ) -> Result<(), PropertiesError>
+    ensures filters { let e = encoding_of encoding in
+        Filters R.CountedRead W.CountedWrite e false input.old writer.old result input.new writer.new }
+    ensures settles { let e = encoding_of encoding in
+        Settles R.CountedRead W.CountedWrite e input.old writer.old result input.new writer.new }
+    ensures same_reader { IsSameReader R.CountedRead input.old input.new }
+    ensures same_sink { IsSameSink W.CountedWrite writer.old writer.new }
 {
     filter_with(alloc, input, writer, encoding, false)
 }
@@ -45,6 +56,12 @@ pub fn filter_ascii<R: CountedRead, W: CountedWrite>(
     writer: &mut W,
     encoding: Encoding,
 ) -> Result<(), PropertiesError>
+    ensures filters { let e = encoding_of encoding in
+        Filters R.CountedRead W.CountedWrite e true input.old writer.old result input.new writer.new }
+    ensures ascii { let e = encoding_of encoding in
+        FiltersToAscii R.CountedRead W.CountedWrite e input.old writer.old result input.new writer.new }
+    ensures same_reader { IsSameReader R.CountedRead input.old input.new }
+    ensures same_sink { IsSameSink W.CountedWrite writer.old writer.new }
 {
     filter_with(alloc, input, writer, encoding, true)
 }
@@ -56,6 +73,11 @@ fn filter_with<R: CountedRead, W: CountedWrite>(
     encoding: Encoding,
     ascii_only: bool,
 ) -> Result<(), PropertiesError>
+    ensures filters { let e = encoding_of encoding in
+        Filters R.CountedRead W.CountedWrite e ascii_only
+        input.old writer.old result input.new writer.new }
+    ensures same_reader { IsSameReader R.CountedRead input.old input.new }
+    ensures same_sink { IsSameSink W.CountedWrite writer.old writer.new }
 {
     let mut items = PropertiesIter::new_with_encoding(alloc, input, encoding)?;
     let mut lines = PropertiesWriter::new_with_encoding(alloc, writer, encoding)?;
@@ -71,6 +93,17 @@ fn write_pairs<R: CountedRead, W: CountedWrite>(
     items: &mut PropertiesIter<R>,
     lines: &mut PropertiesWriter<W>,
 ) -> Result<(), PropertiesError>
+    requires reading { items.old.state ≡ start items.old.state.encoding }
+    requires writing { let only = lines.old.settings.ascii_only in
+        lines.old ≡ pair_writer items.old.state.encoding only lines.old.sink }
+    ensures filters { let e = items.old.state.encoding in
+        let input = items.old.reader in
+        let only = lines.old.settings.ascii_only in
+        let output = lines.old.sink in
+        Filters R.CountedRead W.CountedWrite e only
+        input output result items.new.reader lines.new.sink }
+    ensures same_reader { IsSameReader R.CountedRead items.old.reader items.new.reader }
+    ensures same_sink { IsSameSink W.CountedWrite lines.old.sink lines.new.sink }
 {
     match lines.copy_pairs(items) {
         Ok(()) => lines.finish(),

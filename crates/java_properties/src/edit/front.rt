@@ -1,5 +1,12 @@
 // The front of a pair: its bytes up to the end of its separator, or of its key if nothing separates key and value.
 
+ghost use Rattle.std.specs.Prelude.{◌≡◌, ◌≤◌, ◌+◌, ◌-◌, ◌<◌, if◌then◌else◌, length, take, IfOk};
+ghost use Rattle.std.specs.Str.{chars, IsUtf8};
+ghost use Rattle.properties_format.specs.Groups.{is_open};
+ghost use Rattle.properties_format.specs.Reading.Valued.{added_by, after_ascii, ascii_count};
+ghost use Rattle.properties_text.specs.Encoding.{encoding_of};
+ghost use Rattle.properties_lines.specs.LineSearch.{unit_size};
+ghost use Rattle.java_properties.specs.BodyValues.{IsBeforeValue, IsBetweenIn, IsFrontSize};
 
 use crate::edit::groups::GroupReader;
 use properties_lines::join::{addition, is_open, without_open_backslash};
@@ -10,6 +17,7 @@ use std::alloc::{AllocError, Global};
 /// Returns what separates the key and the value of a logical line, or `None` if the line isn't a pair. The value begins
 /// where the separator ends.
 pub fn between(line: &str) -> Option<Span>
+    ensures { IsBetweenIn line.now result }
 {
     match parse_spans(line)? {
         ParsedSpans::Comment(_) => None,
@@ -29,6 +37,9 @@ pub fn front_size(
     pair: &[u8],
     before: usize,
 ) -> Result<usize, AllocError>
+    requires bytes { unit_size (encoding_of encoding) ≡ 1 }
+    requires before { IsBeforeValue (encoding_of encoding) pair.now before }
+    ensures { IfOk result (λ size. IsFrontSize (encoding_of encoding) pair.now size) }
 {
     let mut lines = GroupReader::new(alloc, encoding);
     let mut text = TextBuffer::new(alloc);
@@ -52,6 +63,8 @@ pub fn front_size(
 
 // Returns what a line adds to the logical line.
 fn added_by(is_first: bool, text: &[u8]) -> &[u8]
+    requires { IsUtf8 text.now }
+    ensures { chars result.now ≡ added_by is_first (chars text.now) }
 {
     if is_first {
         without_open_backslash(text)
@@ -62,6 +75,13 @@ fn added_by(is_first: bool, text: &[u8]) -> &[u8]
 
 // Returns how many bytes of a line, which has this text, come before the last `added - left` bytes of what it adds.
 fn head_size(bytes: &[u8], text: &str, added: usize, left: usize) -> usize
+    requires left { left ≤ added }
+    requires added { added + (if is_open (chars text.now) then 1 else 0) ≤ length text.now }
+    requires backslash { (if is_open (chars text.now) then 1 else 0) ≤ length bytes.now }
+    ensures whole { left ≡ added → result ≡ length bytes.now - (if is_open (chars text.now) then 1 else 0) }
+    ensures inside { left < added → result ≡ after_ascii (ascii_count
+        (take (length text.now - (if is_open (chars text.now) then 1 else 0) - added + left) text.now)) bytes.now }
+    ensures within { result ≤ length bytes.now }
 {
     let backslash = usize::from(is_open(text.as_bytes()));
     if left == added {
@@ -74,6 +94,7 @@ fn head_size(bytes: &[u8], text: &str, added: usize, left: usize) -> usize
 
 // Returns how many of these bytes are ASCII.
 fn ascii_count(bytes: &[u8]) -> usize
+    ensures { result ≡ ascii_count bytes.now }
 {
     let mut count = 0;
     for byte in bytes {
@@ -84,6 +105,8 @@ fn ascii_count(bytes: &[u8]) -> usize
 
 // Returns the position after this many ASCII bytes.
 fn after_ascii(bytes: &[u8], count: usize) -> usize
+    ensures place { result ≡ after_ascii count bytes.now }
+    ensures within { result ≤ length bytes.now }
 {
     let mut left = count;
     let mut place = 0;

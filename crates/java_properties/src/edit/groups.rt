@@ -1,5 +1,11 @@
 // Iterates over the groups of a body that is held in memory: logical lines, with the spans of their bytes.
 
+ghost use Rattle.std.specs.Prelude.{◌≡◌, ℕ, List, false, IfOk};
+ghost use Rattle.properties_lines.specs.HeldLines.{IsInBody};
+ghost use Rattle.java_properties.specs.BodyLines.{IsEndingOf};
+ghost use Rattle.properties_text.specs.Encoding.{encoding_of};
+ghost use Rattle.properties_lines.specs.LineSearch.{unit_size};
+ghost use Rattle.java_properties.specs.BodyGroups.{IsWithin, FindsLine, GivesGroup, JoinsGroup, IsFirstGroup, text_of, IsTextHeld};
 
 use crate::writer::LineEnding;
 use properties_lines::logical::{LogicalLine, is_line_in};
@@ -30,6 +36,8 @@ pub fn first_group(
     encoding: Encoding,
     body: &[u8],
 ) -> Result<(GroupReader, Group), AllocError>
+    requires { unit_size (encoding_of encoding) ≡ 1 }
+    ensures { IfOk result (λ read. IsFirstGroup (encoding_of encoding) body.now read.1 read.0) }
 {
     let mut groups = GroupReader::new(alloc, encoding);
     match groups.next(body)? {
@@ -50,6 +58,11 @@ pub struct GroupReader {
 impl GroupReader {
     /// Starts before the first group of a body. The encoding's units are one byte long.
     pub fn new(alloc: Global, encoding: Encoding) -> GroupReader
+        ensures encoding { result.scanner.encoding ≡ encoding }
+        ensures start { result.scanner.at ≡ 0 }
+        ensures none { result.scanner.passed ≡ 0 }
+        ensures going { result.scanner.is_done ≡ false }
+        ensures within_body { (body : List ℕ) → IsInBody result.scanner body }
     {
         GroupReader {
             scanner: Scanner::in_body(encoding),
@@ -59,18 +72,23 @@ impl GroupReader {
 
     /// Returns the logical line of the group that was returned last.
     pub fn line<'a>(&'a self, body: &'a [u8], group: Group) -> &'a str
+        requires { IsTextHeld body.now self.now group }
+        ensures { result.now ≡ text_of body.now self.now group }
     {
         self.line.as_str(&body[group.start..group.end])
     }
 
     /// Returns the position after the group that was returned last.
     pub fn place(&self) -> usize
+        ensures { result ≡ self.now.scanner.at }
     {
         self.scanner.place()
     }
 
     /// Returns the next group, or `None` after the last one.
     pub fn next(&mut self, body: &[u8]) -> Result<Option<Group>, AllocError>
+        requires { IsWithin body.now self.old }
+        ensures { GivesGroup body.now self.old result self.new }
     {
         if !self.find_line(body)? {
             return Ok(None);
@@ -95,6 +113,8 @@ impl GroupReader {
 
     // Joins the following lines to a group that is open, up to and including the first line that isn't open.
     fn join(&mut self, body: &[u8], group: Group) -> Result<Group, AllocError>
+        requires { IsWithin body.now self.old }
+        ensures { IfOk result (λ joined. JoinsGroup body.now self.old group joined self.new) }
     {
         let mut joined = group;
         while joined.is_open && self.find_line(body)? {
@@ -116,12 +136,15 @@ impl GroupReader {
 
     /// Returns the natural line that was found last.
     pub fn raw_line(&self) -> RawLine
+        ensures { result ≡ self.now.scanner.line }
     {
         *self.scanner.line()
     }
 
     /// Finds the next natural line and returns whether there is one.
     pub fn find_line(&mut self, body: &[u8]) -> Result<bool, AllocError>
+        requires { IsWithin body.now self.old }
+        ensures { FindsLine body.now self.old result self.new }
     {
         match self.scanner.next(body, true) {
             Scan::Line => Ok(true),
@@ -134,6 +157,7 @@ impl GroupReader {
 
 // Returns the line ending that these bytes form.
 fn ending_of(bytes: &[u8]) -> Option<LineEnding>
+    ensures { IsEndingOf bytes.now result }
 {
     match bytes {
         [] => None,

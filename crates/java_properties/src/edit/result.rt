@@ -1,11 +1,20 @@
 // The bytes of an edited source.
 
+ghost use Rattle.std.specs.Prelude.{◌≡◌, ◌==◌, ◌≤◌, ◌+◌, ◌-◌, ◌++◌, [], ◌∷◌, take, drop, length, IfOk, OnOk};
+ghost use Rattle.std.specs.Str.{chars};
+ghost use Rattle.properties_format.specs.Text.{line_feed};
+ghost use Rattle.properties_format.specs.Writing.{is_empty};
+ghost use Rattle.properties_format.specs.Edited.{added_ending, pair_bytes};
+ghost use Rattle.java_properties.specs.BodyKeys.{AreWithin, left_bytes, closing_bytes, spans_bytes};
+ghost use Rattle.properties_format.specs.Encoding.{output_encoding};
+ghost use Rattle.properties_text.specs.Encoding.{encoding_of};
+ghost use Rattle.properties_text.specs.Printing.{AppendsOnOk};
 
 use crate::edit::place::{BodySpan, Closing, closing_bytes, separation_after};
 use crate::edit::source::BodyStart;
 use crate::edit::value::repertoire_of;
 use properties_text::encoding::Encoding;
-use properties_text::encoding::byte_order_mark::{ByteOrderMark, byte_order_mark};
+use properties_text::encoding::byte_order_mark::begins_like_mark;
 use properties_text::print::{LineBuffer, print_texts};
 use std::alloc::{AllocError, Global};
 
@@ -18,6 +27,12 @@ pub fn replaced(
     key: &str,
     value: &str,
 ) -> Result<Vec<u8>, AllocError>
+    requires ordered { pair.start ≤ pair.end }
+    requires within { opened.start + pair.end ≤ length source.now }
+    ensures { let e = output_encoding (encoding_of opened.encoding) in
+        let line = pair_bytes e (pair.start == 0) (chars key.now) (chars value.now) in
+        IfOk result (λ bytes. bytes.items ≡ take (opened.start + pair.start) source.now
+        ++ (line ++ drop (opened.start + pair.end) source.now)) }
 {
     let mut line = LineBuffer::new(alloc);
     print_new(&mut line, opened.encoding, pair.start == 0, key, value)?;
@@ -36,6 +51,12 @@ pub fn appended(
     key: &str,
     value: &str,
 ) -> Result<Vec<u8>, AllocError>
+    requires { opened.start ≤ length source.now }
+    ensures { let e = output_encoding (encoding_of opened.encoding) in
+        let separation = closing_bytes (added_ending source.now) closing in
+        let first = is_empty (drop opened.start source.now ++ separation) in
+        let line = pair_bytes e first (chars key.now) (chars value.now) in
+        IfOk result (λ bytes. bytes.items ≡ source.now ++ (separation ++ (line ++ line_feed ∷ []))) }
 {
     let separation = closing_bytes(closing, separation_after(source)).as_bytes();
     let first = are_empty(&source[opened.start..], separation);
@@ -53,12 +74,15 @@ pub fn reduced_to(
     opened: BodyStart,
     others: &[BodySpan],
 ) -> Result<Vec<u8>, AllocError>
+    requires within { opened.start ≤ length source.now }
+    requires parts { AreWithin (drop opened.start source.now) others.now }
+    ensures { IfOk result (λ bytes. bytes.items ≡ left_bytes source.now opened.start others.now) }
 {
     let body = &source[opened.start..];
     let mut bytes = Vec::with_capacity(alloc, size_with(opened.start, others))?;
     bytes.extend_from_slice(&source[..opened.start])?;
     push_spans(&mut bytes, body, others)?;
-    if opened.start == 0 && begins_like_bom(&bytes) {
+    if opened.start == 0 && begins_like_mark(&bytes) {
         // This is rare, so the bytes are moved.
         bytes.insert(0, b'\n')?;
     }
@@ -76,6 +100,8 @@ fn size_with(mark: usize, spans: &[BodySpan]) -> usize {
 
 // Appends these parts of a body.
 fn push_spans(bytes: &mut Vec<u8>, body: &[u8], spans: &[BodySpan]) -> Result<(), AllocError>
+    requires { AreWithin body.now spans.now }
+    ensures { OnOk result (bytes.new.items ≡ bytes.old.items ++ spans_bytes body.now spans.now) }
 {
     for span in spans {
         bytes.extend_from_slice(part(body, *span))?;
@@ -85,20 +111,16 @@ fn push_spans(bytes: &mut Vec<u8>, body: &[u8], spans: &[BodySpan]) -> Result<()
 
 /// Returns a part of a body.
 pub fn part(body: &[u8], span: BodySpan) -> &[u8]
+    requires ordered { span.start ≤ span.end }
+    requires within { span.end ≤ length body.now }
+    ensures { result.now ≡ take (span.end - span.start) (drop span.start body.now) }
 {
     &body[span.start..span.end]
 }
 
-fn begins_like_bom(bytes: &[u8]) -> bool
-{
-    match byte_order_mark(bytes) {
-        ByteOrderMark::Present(_, _) => true,
-        ByteOrderMark::Absent | ByteOrderMark::Undecided => false,
-    }
-}
-
 /// Returns whether both slices are empty.
 pub fn are_empty(rest: &[u8], separation: &[u8]) -> bool
+    ensures { result ≡ is_empty (rest.now ++ separation.now) }
 {
     rest.is_empty() && separation.is_empty()
 }
@@ -112,6 +134,8 @@ fn print_new(
     key: &str,
     value: &str,
 ) -> Result<(), AllocError>
+    ensures { let e = output_encoding (encoding_of encoding) in
+        AppendsOnOk line.old (pair_bytes e first (chars key.now) (chars value.now)) result line.new }
 {
     print_texts(line, repertoire_of(encoding), first, key, value, "=", "")
 }
@@ -125,6 +149,8 @@ pub fn printed_pair(
     key: &str,
     value: &str,
 ) -> Result<Vec<u8>, AllocError>
+    ensures { let e = output_encoding (encoding_of encoding) in
+        IfOk result (λ bytes. bytes.items ≡ pair_bytes e first (chars key.now) (chars value.now)) }
 {
     let mut line = LineBuffer::new(alloc);
     print_new(&mut line, encoding, first, key, value)?;
@@ -138,6 +164,7 @@ pub fn concatenated(
     middle: &[u8],
     back: &[u8],
 ) -> Result<Vec<u8>, AllocError>
+    ensures { IfOk result (λ bytes. bytes.items ≡ front.now ++ (middle.now ++ back.now)) }
 {
     let size = front
         .len()

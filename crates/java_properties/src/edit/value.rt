@@ -1,5 +1,15 @@
 // A pair with another value, and its layout kept.
 
+ghost use Rattle.std.specs.Prelude.{◌≡◌, ◌≤◌, ◌+◌, ◌-◌, take, drop, length, false};
+ghost use Rattle.std.specs.Str.{chars};
+ghost use Rattle.properties_format.specs.Text.{is_blanks};
+ghost use Rattle.properties_format.specs.Encoding.{output_encoding};
+ghost use Rattle.properties_format.specs.Printing.{encoded_text};
+ghost use Rattle.properties_format.specs.Valued.{value_text};
+ghost use Rattle.properties_text.specs.Encoding.{encoding_of, output_of};
+ghost use Rattle.properties_text.specs.Printing.{AppendsOnOk};
+ghost use Rattle.properties_lines.specs.LineSearch.{unit_size};
+ghost use Rattle.java_properties.specs.BodyValues.{GivesValue, IsPairAlone, Revalues};
 
 use crate::edit::front::{between, front_size};
 use crate::edit::groups::first_group;
@@ -30,6 +40,9 @@ pub fn new_value(
     pair: &[u8],
     value: &str,
 ) -> Result<Option<NewValue>, PropertiesError>
+    requires bytes { unit_size (encoding_of encoding) ≡ 1 }
+    requires alone { IsPairAlone (encoding_of encoding) pair.now }
+    ensures { GivesValue (encoding_of encoding) pair.now (chars value.now) result }
 {
     let (groups, group) = first_group(alloc, encoding, pair)?;
     let line = groups.line(pair, group);
@@ -53,6 +66,12 @@ pub fn with_value(
     pair: BodySpan,
     value: &str,
 ) -> Result<Vec<u8>, PropertiesError>
+    requires bytes { unit_size (encoding_of opened.encoding) ≡ 1 }
+    requires ordered { pair.start ≤ pair.end }
+    requires within { opened.start + pair.end ≤ length source.now }
+    requires alone { IsPairAlone (encoding_of opened.encoding)
+        (take (pair.end - pair.start) (drop (opened.start + pair.start) source.now)) }
+    ensures { Revalues (encoding_of opened.encoding) source.now (opened.start + pair.start) (opened.start + pair.end) (chars value.now) result }
 {
     let start = opened.start + pair.start;
     let end = opened.start + pair.end;
@@ -72,6 +91,8 @@ fn print_value_after(
     separator: &str,
     value: &str,
 ) -> Result<(), AllocError>
+    ensures { let e = output_encoding (encoding_of encoding) in
+        AppendsOnOk line.old (encoded_text e (value_text e (chars separator.now) (chars value.now))) result line.new }
 {
     let repertoire = repertoire_of(encoding);
     if separator.is_empty() {
@@ -83,12 +104,15 @@ fn print_value_after(
 
 /// Returns the characters that an edit prints as they are: all that the encoding has.
 pub fn repertoire_of(encoding: Encoding) -> Repertoire
+    ensures encoding { output_of result.encoding ≡ output_encoding (encoding_of encoding) }
+    ensures all { result.ascii_only ≡ false }
 {
     Repertoire::from(LineEncoding::from(encoding))
 }
 
 /// Returns whether a text is blanks and nothing else.
 pub fn are_blanks(text: &str) -> bool
+    ensures { result ≡ is_blanks (chars text.now) }
 {
     leading_blanks(text.as_bytes()) == text.len()
 }

@@ -1,5 +1,14 @@
 // Reads items one after another from a reader that is passed to each call.
 
+ghost use Rattle.std.specs.Prelude.{◌≡◌, ◌<◌, None, [], OnSome};
+ghost use Rattle.std.specs.Str.{chars};
+ghost use Rattle.counted_io.specs.Streams.{IsSameReader};
+ghost use Rattle.properties_format.specs.ItemsToCome.{start};
+ghost use Rattle.properties_text.specs.Encoding.{encoding_of};
+ghost use Rattle.properties_lines.specs.LineReader.{lines_left};
+ghost use Rattle.properties_lines.specs.LineJoiner.{Joiner};
+ghost use Rattle.java_properties.specs.BorrowedItems.{borrowed_entry, found_entry, BorrowsPlain, IsFoundIn};
+ghost use Rattle.java_properties.specs.GivenItems.{FindsItem, GivesItem, Owns};
 
 use crate::error::PropertiesError;
 use crate::iter::found::{Found, find_escaped, find_plain};
@@ -18,9 +27,18 @@ pub struct ItemReader {
     alloc: Global,
 }
 
+impl Model for ItemReader {
+    ghost Value = { Joiner };
+
+    ghost view = { λ s. s.lines.at };
+
+    ghost invariant = { λ s. s.lines.error ≡ None };
+}
+
 impl ItemReader {
     /// Returns the state at the start of an input. Allocates nothing.
     pub fn new(alloc: Global, encoding: Encoding) -> ItemReader
+        ensures { result ≡ record { state = start (encoding_of encoding); line = [] } }
     {
         ItemReader {
             lines: LineJoiner::new(alloc, encoding),
@@ -33,6 +51,9 @@ impl ItemReader {
         &mut self,
         reader: &mut R,
     ) -> Option<Result<Found, PropertiesError>>
+        ensures finds { FindsItem R.CountedRead self.old.state reader.old result self.new reader.new }
+        ensures same_reader { IsSameReader R.CountedRead reader.old reader.new }
+        ensures nearer { OnSome result (lines_left self.new.state < lines_left self.old.state) }
     {
         while let Some(number) = self.lines.next_text(reader) {
             let line = self.lines.line();
@@ -57,6 +78,9 @@ impl ItemReader {
 
     /// Returns the item that was found last.
     pub fn get(&self, found: Found) -> LineRef<'_>
+        requires { IsFoundIn self.now.line found }
+        ensures item { borrowed_entry result ≡ found_entry self.now.line found }
+        ensures borrowed { BorrowsPlain (chars self.now.line) result.content }
     {
         found.cut(self.lines.line())
     }
@@ -66,6 +90,9 @@ impl ItemReader {
         &mut self,
         reader: &mut R,
     ) -> Option<Result<Line, PropertiesError>>
+        ensures gives { GivesItem R.CountedRead self.old.state reader.old result self.new.state reader.new }
+        ensures same_reader { IsSameReader R.CountedRead reader.old reader.new }
+        ensures nearer { OnSome result (lines_left self.new.state < lines_left self.old.state) }
     {
         match self.advance(reader)? {
             Ok(found) => Some(self.own(found)),
@@ -75,6 +102,8 @@ impl ItemReader {
 
     // Returns the item that was found last, with owned texts. If there is no memory for them, the reading ends.
     fn own(&mut self, found: Found) -> Result<Line, PropertiesError>
+        requires { IsFoundIn self.old.line found }
+        ensures { Owns self.old found result self.new }
     {
         let line = self.get(found).into_line(self.alloc);
         if line.is_err() {

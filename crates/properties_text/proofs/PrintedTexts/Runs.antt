@@ -44,25 +44,26 @@ by-spelling true e bs (Ok spelt) on h = record { some = h.some; within = h.withi
 by-spelling true e bs (Err m) on h = h.1
 by-spelling false e bs r on h = absurd (cc)
 
-pub reads-escape : (escaped : Bool) (e : LineEncoding) (bs : List ℕ) (r : Result Spelt Malformed) → get_or bs 0 0 ≡ backslash → (get_or bs 0 0 ≡ backslash → escaped ≡ true) → Reads e bs r → ReadsBy escaped e bs r
-reads-escape escaped e bs r is on h = by-spelling escaped e bs r (on is) h
+pub reads-escape : (escaped : Bool) (e : LineEncoding) (bs : List ℕ) (r : Result Spelt Malformed) → escaped ≡ true → Reads e bs r → ReadsBy escaped e bs r
+reads-escape escaped e bs r on h = by-spelling escaped e bs r on h
 
-pub reads-itself : (escaped : Bool) (e : LineEncoding) (bs : List ℕ) (spelt : Spelt) → IsWell e bs → (get_or bs 0 0 ≡ backslash → ⊥) → IsFirst e bs spelt → ReadsBy escaped e bs (Ok spelt)
+pub reads-itself : (escaped : Bool) (e : LineEncoding) (bs : List ℕ) (spelt : Spelt) → IsWell e bs → (get_or bs 0 0 ≡ backslash → escaped ≡ false) → IsFirst e bs spelt → ReadsBy escaped e bs (Ok spelt)
 reads-itself escaped e bs spelt w other h = record {
   some = h.some;
   within = h.within;
-  meaning = ap (meaning_by escaped) h.characters ∙ by escaped;
+  meaning = ap (meaning_by escaped) h.characters ∙ by escaped other;
   well = h.well;
 }
   where
-    not-one : spelt.character ≡ backslash → ⊥
-    not-one q =
+    not-one : (get_or bs 0 0 ≡ backslash → true ≡ false) → spelt.character ≡ backslash → ⊥
+    not-one other q =
         let back = ascii-back e bs spelt.character (text_in e (drop spelt.length bs)) w h.characters (omega (arith, q)) in
-        other (ap (λ v. get_or v 0 0) back.1 ∙ q)
+        let both : true ≡ false = other (ap (λ v. get_or v 0 0) back.1 ∙ q) in
+        cc
 
-    by : (escaped : Bool) → meaning_by escaped (spelt.character ∷ text_in e (drop spelt.length bs)) ≡ in_front spelt.character (meaning_by escaped (text_in e (drop spelt.length bs)))
-    by true = meaning_of-itself spelt.character (text_in e (drop spelt.length bs)) (ne_eqb spelt.character backslash not-one)
-    by false = refl
+    by : (escaped : Bool) → (get_or bs 0 0 ≡ backslash → escaped ≡ false) → meaning_by escaped (spelt.character ∷ text_in e (drop spelt.length bs)) ≡ in_front spelt.character (meaning_by escaped (text_in e (drop spelt.length bs)))
+    by true other = meaning_of-itself spelt.character (text_in e (drop spelt.length bs)) (ne_eqb spelt.character backslash (not-one other))
+    by false other = refl
 
 -- ---- one more is put
 
@@ -235,13 +236,12 @@ written-back size xs ys e = ap (λ n. take n (xs ++ ys)) (sym e) ∙ take-append
 -- the character at a stop
 pub stop-put : (holds : ℕ → Bool) (e : LineEncoding) (t : Repertoire) (whole : Meaning) (text : List ℕ) (so_far put : Put) (out new bs : List ℕ) (spelt : Spelt) → bs ≡ drop so_far.read text → StopsIn holds e t
     → so_far.read < length text → holds (get_or bs 0 0) ≡ true → ArePut e t (holds backslash) whole text so_far out
-    → ((escaped : Bool) → (get_or bs 0 0 ≡ backslash → escaped ≡ true) → IsReadBy escaped e bs spelt)
+    → IsReadBy (holds backslash) e bs spelt
     → put.read ≡ so_far.read + spelt.length → put.end ≤ length new → take put.end new ≡ take so_far.end out ++ put_of t spelt.character → ArePut e t (holds backslash) whole text put new
 stop-put holds e t whole text so_far put out new bs spelt is s inside stop held reads at within printed =
     let own : holds (get_or (drop so_far.read text) 0 0) ≡ true = ap (λ v. holds (get_or v 0 0)) (sym is) ∙ stop in
     let w = stop-well holds e t (drop so_far.read text) s (omega (arith, length-drop so_far.read text, inside)) own held.well in
-    let h = reads (holds backslash) (λ q. ap holds (sym q) ∙ stop) in
-    put-character holds e t whole text so_far put out new spelt s held w (subst (λ v. IsReadBy (holds backslash) e v spelt) is h) at within printed
+    put-character holds e t whole text so_far put out new spelt s held w (subst (λ v. IsReadBy (holds backslash) e v spelt) is reads) at within printed
 
 -- a byte before one
 pub byte-put : (holds : ℕ → Bool) (e : LineEncoding) (t : Repertoire) (whole : Meaning) (text : List ℕ) (so_far put : Put) (out new bs : List ℕ) → bs ≡ drop so_far.read text → StopsIn holds e t
@@ -262,14 +262,13 @@ broken-front x (breaks k) kind e = let f = sym (text_in_front-breaks x k) ∙ e 
 -- a malformed escape at a stop
 pub stop-broken : (holds : ℕ → Bool) (e : LineEncoding) (t : Repertoire) (text old : List ℕ) (at from : ℕ) (so_far : Put) (out bs : List ℕ) (m : Malformed) → bs ≡ drop so_far.read text → StopsIn holds e t
     → so_far.read < length text → holds (get_or bs 0 0) ≡ true → ArePut e t (holds backslash) (from_on e t (holds backslash) old at text from) text so_far out
-    → ((escaped : Bool) → (get_or bs 0 0 ≡ backslash → escaped ≡ true) → meaning_by escaped (text_in e bs) ≡ breaks (malformed_in m))
+    → meaning_by (holds backslash) (text_in e bs) ≡ breaks (malformed_in m)
     → rest_in e t (holds backslash) (drop from text) ≡ breaks (malformed_in m)
 stop-broken holds e t text old at from so_far out bs m is s inside stop held reads =
     let own : holds (get_or (drop so_far.read text) 0 0) ≡ true = ap (λ v. holds (get_or v 0 0)) (sym is) ∙ stop in
     let w = stop-well holds e t (drop so_far.read text) s (omega (arith, length-drop so_far.read text, inside)) own held.well in
-    let h = reads (holds backslash) (λ q. ap holds (sym q) ∙ stop) in
     let rest : rest_in e t (holds backslash) (drop so_far.read text) ≡ breaks (malformed_in m) =
-    rest-well e t (holds backslash) (drop so_far.read text) w ∙ ap (λ v. printed_by t (meaning_by (holds backslash) (text_in e v))) (sym is) ∙ ap (printed_by t) h in
+    rest-well e t (holds backslash) (drop so_far.read text) w ∙ ap (λ v. printed_by t (meaning_by (holds backslash) (text_in e v))) (sym is) ∙ ap (printed_by t) reads in
     broken-front (take at old) (rest_in e t (holds backslash) (drop from text)) (malformed_in m)
     (held.printed ∙ ap (text_in_front (take so_far.end out)) rest ∙ text_in_front-breaks (take so_far.end out) (malformed_in m))
 
@@ -399,6 +398,29 @@ front-kept old new bytes from at end before room within e =
       ∙ ap (take from) e
       ∙ take-append-le from (take at old) bytes (omega (arith, length-take-le at old room, before))
       ∙ take-take from at old before,
+    )
+
+-- So do fewer bytes of it.
+pub fewer-kept : (xs ys : List ℕ) (k n : ℕ) → k ≤ n → take n xs ≡ take n ys → take k xs ≡ take k ys
+fewer-kept xs ys k n h e = sym (take-take k n xs h) ∙ ap (take k) e ∙ take-take k n ys h
+
+-- A turn of the loop keeps it.
+pub turn-kept : (holds : ℕ → Bool) (text : List ℕ) (from : ℕ) (so_far next put : Put) (items0 items1 slice1 new2 items2 items3 slice3 new4 items4 : List ℕ) → from ≤ so_far.end
+    → take so_far.end items1 ≡ take so_far.end items0 → slice1 ≡ items1 → take so_far.end new2 ≡ take so_far.end slice1 → so_far.end ≤ next.end → next.end ≤ length new2 → items2 ≡ new2
+    → take next.end items3 ≡ take next.end items2 → length items2 ≤ length items3 → slice3 ≡ items3
+    → IsRunPut holds slice3 next.end text next.read put new4 → put.end ≤ length new4 → items4 ≡ new4 → (from ≤ put.end) × (take from items4 ≡ take from items0)
+turn-kept holds text from so_far next put items0 items1 slice1 new2 items2 items3 slice3 new4 items4 before same1 value1 stops after within back2 same3 more3 value3 run within4 back4 =
+    let room : next.end ≤ length slice3 = omega (arith, within, ap length back2, more3, ap length value3) in
+    let kept = front-kept slice3 new4 (printed_bytes (take (put.read - next.read) (drop next.read text))) from next.end put.end (omega (arith, before, after)) room within4 run.printed in (
+      omega (arith, before, after, kept.0),
+      ap (take from) back4
+      ∙ kept.1
+      ∙ ap (take from) value3
+      ∙ fewer-kept items3 items2 from next.end (omega (arith, before, after)) same3
+      ∙ ap (take from) back2
+      ∙ fewer-kept new2 slice1 from so_far.end before stops
+      ∙ ap (take from) value1
+      ∙ fewer-kept items1 items0 from so_far.end before same1,
     )
 
 -- ---- a front, and the rest

@@ -15,14 +15,14 @@ use Rattle.properties_format.specs.Reading.Undecoded.{characters_of}
 use Rattle.properties_format.proofs.Encodings.Windows1252.{windows_1252-ascii}
 use Rattle.properties_format.proofs.Escapes.Laws.{meaning_of-itself, meaning_of-escaped, meaning_of-unicode, meaning_of-surrogates, meaning_of-last, IsMalformedUnit}
 use Rattle.properties_format.proofs.Escapes.Unique.{meaning_of-empty}
-use Rattle.properties_text.specs.Escaping.{malformed_in, IsUnit, LacksDigit, ReadsUnit}
+use Rattle.properties_text.specs.Escaping.{malformed_in}
 use Rattle.properties_text.specs.Spelt.{text_in, IsWell, IsFirst, IsRead, Reads, digits_in, BeginsUnit, HasDigits, LacksDigits, HasLow, LacksLow, CountsFour}
 use Rattle.properties_text.specs.declared.encoding.line.LineEncoding.{LineEncoding}
 use Rattle.properties_text.specs.declared.encoding.line.LineEncoding.TheVariants.{Windows1252, Utf8}
 use Rattle.properties_text.specs.declared.encoding.line.Spelt.{Spelt}
 use Rattle.properties_text.specs.declared.escape.Malformed.{Malformed}
 use Rattle.properties_text.specs.declared.escape.Malformed.TheVariants.{NotEnoughDigits, NotHex, InvalidCharacter}
-use Rattle.properties_text.proofs.Texts.Escapes.{malformed-unread, malformed-unpaired, scalar-unit, surrogate-unit, meaning-unit, meaning-pair, other-character}
+use Rattle.properties_text.proofs.Texts.Escapes.{IsUnit, LacksDigit, IsUnread, malformed-unread, malformed-unpaired, scalar-unit, surrogate-unit, meaning-unit, meaning-pair, other-character}
 use Rattle.properties_text.proofs.Texts.Units.{ascii-digits, unit-bytes}
 use Rattle.properties_text.proofs.Spelt.First.{ascii-first, ascii-back}
 
@@ -130,7 +130,7 @@ four-of (a ∷ b ∷ []) h = absurd (omega arith)
 four-of (a ∷ b ∷ c ∷ []) h = absurd (omega arith)
 four-of (a ∷ b ∷ c ∷ d ∷ rest) h = (record { first = a; second = b; third = c; fourth = d }, rest, refl)
 
-unread : (e : LineEncoding) (bs : List ℕ) (m : Malformed) → IsWell e (drop 2 bs) → LacksDigits bs → CountsFour e (drop 2 bs) m → ReadsUnit (text_in e (drop 2 bs)) (Err m)
+unread : (e : LineEncoding) (bs : List ℕ) (m : Malformed) → IsWell e (drop 2 bs) → LacksDigits bs → CountsFour e (drop 2 bs) m → IsUnread (text_in e (drop 2 bs)) m
 unread e bs NotEnoughDigits w l h = h
 unread e bs NotHex w l h =
     let f = four-of (text_in e (drop 2 bs)) h in

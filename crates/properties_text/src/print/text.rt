@@ -81,17 +81,40 @@ pub fn put_literal(out: &mut [u8], at: usize, repertoire: Repertoire, character:
     put_past(out, at, repertoire, character)
 }
 
-/// Returns the first character of a text in which a backslash begins an escape.
+/// Returns the first character of a text, in which a backslash begins an escape if it is a stop.
 #[inline(always)]
-pub fn first_character(encoding: LineEncoding, text: &[u8]) -> Result<Spelt, Malformed>
+pub fn first_character<Stops: ByteClass>(
+    encoding: LineEncoding,
+    text: &[u8],
+) -> Result<Spelt, Malformed>
     requires some { 0 < length text.now }
     requires well { IsWell encoding text.now }
-    ensures { (escaped : Bool) → (get_or text.now 0 0 ≡ backslash → escaped ≡ true) → ReadsBy escaped encoding text.now result }
+    ensures { ReadsBy (Stops.holds backslash) encoding text.now result }
 {
-    if text[0] == b'\\' {
+    if begins_escape::<Stops>(text) {
         return read_escape(encoding, text);
     }
     Ok(encoding.first_character(text))
+}
+
+// Whether a text begins with a backslash, and that is a stop.
+#[inline(always)]
+fn begins_escape<Stops: ByteClass>(text: &[u8]) -> bool
+    requires { 0 < length text.now }
+    ensures yes { result ≡ true → get_or text.now 0 0 ≡ backslash }
+    ensures stop { result ≡ true → Stops.holds backslash ≡ true }
+    ensures no { result ≡ false → get_or text.now 0 0 ≡ backslash → Stops.holds backslash ≡ false }
+{
+    Stops::contains(b'\\') && text[0] == b'\\'
+}
+
+// Whether a text begins with a stop. Most are backslashes, which are tested again when they are read.
+#[inline(always)]
+fn begins_with_stop<Stops: ByteClass>(text: &[u8]) -> bool
+    requires { 0 < length text.now }
+    ensures { result ≡ Stops.holds (get_or text.now 0 0) }
+{
+    begins_escape::<Stops>(text) || Stops::contains(text[0])
 }
 
 // Does what `print_bytes` does for a text that begins with a stop. Kept out of line because most texts have no stops.
@@ -159,6 +182,7 @@ fn put_stops<Stops: ByteClass>(
     ensures same_room { length out.new ≡ length out.old }
     ensures put { PutsStops encoding repertoire (Stops.holds backslash) out.old at text.now from out.new result }
     ensures same { take at out.new ≡ take at out.old }
+    ensures after { IfOk result (λ put. at ≤ put.end) }
     ensures onwards { IfOk result (λ put. from < length text.now → Stops.holds (get_or text.now from 0) ≡ true → from < put.read) }
 {
     let mut put = Put {
@@ -167,8 +191,8 @@ fn put_stops<Stops: ByteClass>(
     };
     while put.read < text.len() && out.len() - put.end >= LONGEST {
         let rest = &text[put.read..];
-        if Stops::contains(rest[0]) {
-            let first = match first_character(encoding, rest) {
+        if begins_with_stop::<Stops>(rest) {
+            let first = match first_character::<Stops>(encoding, rest) {
                 Ok(first) => first,
                 Err(malformed) => return Err(malformed),
             };

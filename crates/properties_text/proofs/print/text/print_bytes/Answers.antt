@@ -23,8 +23,8 @@ print_rest-requires-clause-well g c =
     subst (IsWell c.args.encoding) (sym (rest-at c.args.bytes.now c.args.size run.result.read (omega (arith, read, size))))
     (rest-own g.Stops.ByteClass.holds c.args.encoding c.args.repertoire _ text _ run.result c.requires.stops (omega (arith, size, c.if-put-size.true)) (run.ensures.stops c.if-put-size.true) held)
 
-pub returns-then-put-size : goal.returns-then-put-size
-returns-then-put-size g c =
+pub returns-then-put-size-clause-printed : goal.returns-then-put-size-clause-printed
+returns-then-put-size-clause-printed g c =
     let text = take c.args.size c.args.bytes.now in
     let size : length text ≡ c.args.size = length-take-le c.args.size c.args.bytes.now c.requires.size in
     let run = c.put_run-put in
@@ -40,10 +40,10 @@ returns-then-put-size g c =
     back in
     let own = rest-own g.Stops.ByteClass.holds c.args.encoding c.args.repertoire _ text _ run.result c.requires.stops (omega (arith, size, c.if-put-size.true)) (run.ensures.stops c.if-put-size.true) held in
     rest-printed c.args.encoding c.args.repertoire (g.Stops.ByteClass.holds backslash) text c.args.out.now.items c.args.at run.result _ _ c.print_rest.new.out.items c.print_rest.result
-    c.requires.well held own (rest-at c.args.bytes.now c.args.size run.result.read (omega (arith, read, size))) c.print_rest.ensures
+    c.requires.well held own (rest-at c.args.bytes.now c.args.size run.result.read (omega (arith, read, size))) c.print_rest.ensures.printed
 
-pub returns : goal.returns
-returns g c =
+pub returns-clause-printed : goal.returns-clause-printed
+returns-clause-printed g c =
     let text = take c.args.size c.args.bytes.now in
     let size : length text ≡ c.args.size = length-take-le c.args.size c.args.bytes.now c.requires.size in
     let run = c.put_run-put in

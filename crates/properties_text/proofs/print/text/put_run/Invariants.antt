@@ -10,3 +10,12 @@ invariant-loop-put g l = record {
 
 abbrev pub decreases-loop-put : goal.decreases-loop-put
 decreases-loop-put g l = l.size - l.put.read
+
+abbrev pub invariant-loop-put-2 : goal.invariant-loop-put-2
+invariant-loop-put-2 g l = record {
+  same : length l.out ≡ length l.fn.out;
+  run : IsRunPut g.Stops.ByteClass.holds l.fn.out l.at (take l.size l.bytes) l.from l.put l.out;
+}
+
+abbrev pub decreases-loop-put-2 : goal.decreases-loop-put-2
+decreases-loop-put-2 g l = l.size - l.put.read
