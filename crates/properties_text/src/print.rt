@@ -222,10 +222,13 @@ fn print_parts<Stops: ByteClass>(
         value,
     } = pair;
     let out = &mut line.bytes;
-    let at = print_first::<Stops>(out, line.filled, repertoire, first, encoding, key.bytes, key.size)?;
-    let at = put_raw(out, at, separator.as_bytes())?;
-    let at = print_bytes::<Stops>(out, at, repertoire, encoding, value.bytes, value.size)?;
-    line.filled = put_raw(out, at, ending.as_bytes())?;
+    let filled = line.filled;
+    let after_key =
+        print_first::<Stops>(out, filled, repertoire, first, encoding, key.bytes, key.size)?;
+    let after_separator = put_raw(out, after_key, separator.as_bytes())?;
+    let after_value =
+        print_bytes::<Stops>(out, after_separator, repertoire, encoding, value.bytes, value.size)?;
+    line.filled = put_raw(out, after_value, ending.as_bytes())?;
     Ok(())
 }
 
