@@ -1,8 +1,7 @@
 //! The bytes of a logical line: those of its only natural line, or others that are kept.
 
-use crate::join::{is_continued, is_open};
+use crate::join::{begin_bytes, is_continued, join_bytes};
 use properties_text::encoding::{Encoding, LineEncoding, TextBuffer, as_text};
-use properties_text::parse::leading_blanks;
 use properties_text::print::LineBuffer;
 use std::alloc::{AllocError, Global};
 
@@ -116,8 +115,7 @@ impl LogicalLine {
         if !is_continued(line) {
             return Ok(false);
         }
-        joined.clear();
-        joined.extend(&line[..line.len() - 1])?;
+        begin_bytes(joined, line)?;
         self.place = Place::Joined;
         Ok(true)
     }
@@ -130,11 +128,11 @@ impl LogicalLine {
         bytes: &[u8],
     ) -> Result<bool, AllocError> {
         if is_line {
-            return add(&mut self.joined, bytes);
+            return join_bytes(&mut self.joined, bytes);
         }
         self.decode(encoding, bytes)?;
         self.place = Place::Joined;
-        add(&mut self.joined, self.decoded.as_line().as_slice())
+        join_bytes(&mut self.joined, self.decoded.as_line().as_slice())
     }
 
     /// Decodes the line to UTF-8, unless it is UTF-8 or ASCII.
@@ -164,15 +162,6 @@ impl LogicalLine {
         self.decoded.clear();
         self.decoded.push_decoded(encoding, bytes)
     }
-}
-
-// Joins a line to an open one, and returns whether the next line is joined too.
-#[inline(always)]
-fn add(joined: &mut LineBuffer, line: &[u8]) -> Result<bool, AllocError> {
-    let rest = &line[leading_blanks(line)..];
-    let is_open = is_open(rest);
-    joined.extend(&rest[..rest.len() - usize::from(is_open)])?;
-    Ok(is_open)
 }
 
 /// Returns whether a natural line is in windows-1252 or in well-formed UTF-8.

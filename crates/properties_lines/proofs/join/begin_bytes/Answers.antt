@@ -1,7 +1,7 @@
 use Rattle.std.proofs.Common.{◌≡◌, ◌-◌, ◌++◌, ℕ, List, length, take, ap, ◌∙◌, subst}
 use Rattle.std.specs.Prelude.{OnOk}
 use Rattle.properties_lines.proofs.OpenLines.{open-cut}
-use Rattle.properties_lines.proofs.joined.begin_bytes.Goals as goal
+use Rattle.properties_lines.proofs.join.begin_bytes.Goals as goal
 
 pub returns : goal.returns
 returns c =
