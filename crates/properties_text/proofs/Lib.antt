@@ -10,3 +10,4 @@ pub mod BlankFronts
 pub mod Latin1
 pub mod Spelt
 pub mod PrintedTexts
+pub mod UnitBlocks
