@@ -16,6 +16,7 @@
 //! ```
 #![tactic(auto)]
 
+mod copy;
 mod edit;
 mod error;
 mod iter;
@@ -24,12 +25,13 @@ mod line;
 mod maps;
 mod writer;
 
+pub use copy::CopyError;
 pub use edit::{
     Document, Edit, edit_all, read_source, remove_key, set_key, set_value, write_source,
 };
 pub use error::{Cause, ErrorKind, PropertiesError, Reason};
 pub use iter::{
-    ContentRef, CopyError, Found, KeyLine, LineRef, MalformedEscape, PropertiesIter, Stopped,
+    ContentRef, Found, KeyLine, LineRef, MalformedEscape, PropertiesIter, Stopped,
     key_lines, malformed_escapes, read_lines,
 };
 pub use line::{Line, LineContent};

@@ -11,7 +11,7 @@ use crate::error::LineError;
 use crate::input::InputBuffer;
 use crate::scanner::{Scan, Scanner};
 use counted_io::CountedRead;
-use properties_text::encoding::Encoding;
+use properties_text::encoding::{Encoding, well_formed_length};
 use std::alloc::Global;
 use std::marker::Model;
 use std::mem;
@@ -34,6 +34,8 @@ enum Read {
 pub struct LineReader {
     input: InputBuffer,
     scanner: Scanner,
+    // Up to here, the bytes that are held are known to be well-formed UTF-8, from the start of some line on.
+    well_formed: usize,
     error: Option<LineError>,
 }
 
@@ -56,6 +58,9 @@ impl Model for LineReader {
     ghost invariant = { λ s. Fits s.scanner s.input.held × (s.error ≢ None → s.scanner.is_done ≡ true) };
 }
 
+// How many bytes from the start of a line on are tested at once.
+const WINDOW: usize = 1024;
+
 impl LineReader {
     /// Starts at the beginning of an input. Allocates nothing.
     pub fn new(alloc: Global, encoding: Encoding) -> LineReader
@@ -66,6 +71,7 @@ impl LineReader {
         LineReader {
             input: InputBuffer::new(alloc),
             scanner: Scanner::new(encoding),
+            well_formed: 0,
             error: None,
         }
     }
@@ -103,6 +109,29 @@ impl LineReader {
         ensures { result ≡ self.now.is_ascii }
     {
         self.scanner.line().is_ascii
+    }
+
+    /// Returns whether the bytes of that line are in windows-1252 or in well-formed UTF-8.
+    #[inline(always)]
+    pub fn is_well_formed(&mut self) -> bool {
+        if self.is_ascii() {
+            return true;
+        }
+        match self.encoding() {
+            Encoding::WINDOWS_1252 => true,
+            Encoding::UTF_8 => self.scanner.line().end <= self.well_formed || self.test(),
+            Encoding::UTF_16LE | Encoding::UTF_16BE => false,
+        }
+    }
+
+    // Tests the line, and lines after it.
+    #[inline(never)]
+    fn test(&mut self) -> bool {
+        let line = self.scanner.line();
+        let held = self.input.held();
+        let end = held.len().min(line.end.max(line.start.saturating_add(WINDOW)));
+        self.well_formed = line.start + well_formed_length(&held[line.start..end]);
+        line.end <= self.well_formed
     }
 
     /// Returns whether one of that line's bytes is the byte of a backslash.
@@ -224,6 +253,7 @@ impl LineReader {
             return Read::Failed;
         };
         self.scanner.release(gone);
+        self.well_formed = self.well_formed.saturating_sub(gone);
         match self.input.fill(reader) {
             Ok(0) => Read::End,
             Ok(_) => Read::Bytes,

@@ -1,5 +1,5 @@
 -- The results of the decoder's parts: the byte order mark, the first piece, and text that needs no decoding.
-use Rattle.std.specs.Prelude.{◌≡◌, ℕ, ◌≤◌, ◌<◌, ◌++◌, Bool, true, false, List, length, take, drop}
+use Rattle.std.specs.Prelude.{◌≡◌, ℕ, ◌≤◌, ◌<◌, ◌++◌, Bool, true, false, List, [], ◌∷◌, length, take, drop}
 use Rattle.std.specs.Char.{IsScalar, encode_utf8}
 use Rattle.std.specs.Str.{IsAscii, IsUtf8, chars}
 use Rattle.properties_format.specs.Encoding as format
@@ -11,6 +11,7 @@ use Rattle.properties_format.specs.Reading.Encoding.{first_piece, pieces_of}
 use Rattle.properties_format.specs.Reading.Waiting.{awaits_bom, awaits_more}
 use Rattle.properties_text.specs.Encoding.{encoding_of}
 use Rattle.properties_text.specs.declared.encoding.Encoding.{Encoding}
+use Rattle.properties_text.specs.declared.encoding.Encoding.TheVariants.{UTF_16LE, UTF_16BE}
 use Rattle.properties_text.specs.declared.encoding.byte_order_mark.ByteOrderMark.{ByteOrderMark}
 use Rattle.properties_text.specs.declared.encoding.byte_order_mark.ByteOrderMark.TheVariants.{Present, Absent, Undecided}
 use Rattle.properties_text.specs.declared.encoding.first_piece.FirstPiece.{FirstPiece}
@@ -41,6 +42,30 @@ FindsByteOrderMark b Undecided = IsUnmarked b × (awaits_bom b ≡ true)
 abbrev pub unit_of : ByteOrder → ℕ → ℕ → ℕ
 unit_of LowFirst = low_first
 unit_of HighFirst = high_first
+
+-- the bytes at even indices, and those at odd indices, of whole pairs of bytes
+abbrev pub evens : List ℕ → List ℕ
+evens [] = []
+evens (a ∷ []) = []
+evens (a ∷ b ∷ bytes) = a ∷ evens bytes
+
+abbrev pub odds : List ℕ → List ℕ
+odds [] = []
+odds (a ∷ []) = []
+odds (a ∷ b ∷ bytes) = b ∷ odds bytes
+
+-- the low bytes of the units of some bytes, and the high bytes
+abbrev pub lows_of : ByteOrder → List ℕ → List ℕ
+lows_of LowFirst = evens
+lows_of HighFirst = odds
+
+abbrev pub highs_of : ByteOrder → List ℕ → List ℕ
+highs_of LowFirst = odds
+highs_of HighFirst = evens
+
+abbrev pub utf_16_of : ByteOrder → Encoding
+utf_16_of LowFirst = UTF_16LE
+utf_16_of HighFirst = UTF_16BE
 
 abbrev pub range_of : ByteRange → Range
 range_of r = from_to r.0 r.1

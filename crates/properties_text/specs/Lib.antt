@@ -4,4 +4,5 @@ pub mod Latin1
 pub mod Parsing
 pub mod Escaping
 pub mod Printing
-pub mod UndecodedTexts
+pub mod Spelt
+pub mod PrintedTexts

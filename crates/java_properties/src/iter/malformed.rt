@@ -9,7 +9,7 @@ ghost use Rattle.java_properties.specs.LineByLine.{PushesMalformed};
 use crate::error::{ErrorKind, PropertiesError};
 use crate::iter::found::find_escaped;
 use counted_io::CountedRead;
-use properties_lines::join::is_comment_line;
+use properties_lines::join::is_comment;
 use properties_lines::joiner::LineJoiner;
 use properties_text::encoding::Encoding;
 use properties_text::escape::UnescapeError;
@@ -53,7 +53,7 @@ pub fn malformed_escapes<R: CountedRead>(
 {
     let mut lines = LineJoiner::new(alloc, encoding);
     let mut escapes = Vec::new(alloc);
-    while let Some(number) = lines.next_line(input) {
+    while let Some(number) = lines.next_text(input) {
         push_malformed(alloc, &mut escapes, number, lines.line())?;
     }
     if let Some(error) = lines.take_error() {
@@ -80,7 +80,7 @@ fn push_malformed(
     escapes.push(MalformedEscape {
         line_number,
         kind: ErrorKind::malformed(malformed),
-        in_comment: is_comment_line(line),
+        in_comment: is_comment(line.as_bytes()),
     })?;
     Ok(())
 }

@@ -60,6 +60,14 @@ impl TextBuffer {
         unsafe { str::from_utf8_unchecked(self.line.as_slice()) }
     }
 
+    /// Returns the bytes of the text.
+    #[inline(always)]
+    pub fn as_line(&self) -> &LineBuffer
+        ensures { result.now ≡ self.now }
+    {
+        &self.line
+    }
+
     /// Keeps the first `length` bytes of the text. They must end at the end of a character.
     pub fn truncate(&mut self, length: usize)
         requires { IsCharBoundary self.old length }

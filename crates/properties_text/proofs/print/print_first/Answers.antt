@@ -1,17 +1,22 @@
-use Rattle.std.proofs.Common.{◌++◌, sym, ap, ◌∙◌}
-use Rattle.std.specs.Str.{chars}
-use Rattle.std.proofs.lemmas.Str.{chars_past_char}
-use Rattle.properties_text.specs.Printing.{text_bytes}
-use Rattle.properties_text.specs.declared.print.Place.TheVariants.{KeyOrValue}
-use Rattle.properties_text.proofs.Printing.Bytes.{one-more}
+use Rattle.std.proofs.Common.{◌≡◌, ◌&&◌, true, false, take, drop, length, sym, ap, ap₂, ◌∙◌, arith}
+use Rattle.std.proofs.lemmas.Bool.{and_left, and_right, and_from}
+use Rattle.properties_format.specs.Text.{backslash}
+use Rattle.properties_format.specs.Encoding.{begins_like_bom}
+use Rattle.properties_text.specs.Printing.{puts_of}
+use Rattle.properties_text.proofs.PrintedTexts.Keys.{slice-put, key-plain, key-result, some-text}
+use Rattle.properties_text.proofs.PrintedTexts.Runs.{front-kept}
 use Rattle.properties_text.proofs.print.print_first.Goals as goal
 
-pub returns-clause-printed : goal.returns-clause-printed
-returns-clause-printed c =
-    let text = c.args.text.now in
-    let after = c.next.new.self.rest.now in
-    let line = c.args.line.now in
-    let r = c.args.repertoire in
-    let parts = chars_past_char text after c.in-Some.character c.utf8.text (sym c.chars-characters.ensures.rest ∙ c.in-Some.ensures.steps.0) in
-    rw c.as_str.ensures (one-more r line c.print_in_key_or_value.new.line _ (chars after) c.in-Some.character
-    (ap (λ v. line ++ text_bytes r KeyOrValue v) (sym parts)) c.in_ok-print_in_key_or_value.ensures)
+pub range-requires : goal.range-requires
+range-requires g c =
+    let h = c.in_ok-end.ensures.printed in
+    (slice-put c.args.out.now.items c.print_bytes.new.out.items (puts_of c.args.repertoire h.meant) c.args.at c.in_ok-end.end c.requires.at h.within h.printed).0
+
+pub returns-then-begins_like_mark-clause-printed : goal.returns-then-begins_like_mark-clause-printed
+returns-then-begins_like_mark-clause-printed g c =
+    let h = c.in_ok-end.ensures.printed in
+    let slice = slice-put c.args.out.now.items c.print_bytes.new.out.items (puts_of c.args.repertoire h.meant) c.args.at c.in_ok-end.end c.requires.at h.within h.printed in
+    let like = ap begins_like_bom (sym (c.range.ensures.value ∙ slice.1)) ∙ sym c.begins_like_mark.ensures ∙ c.if-begins_like_mark.true in
+    key-result c.args.encoding c.args.repertoire c.args.first (g.Stops.ByteClass.holds backslash) (take c.args.size c.args.bytes.now) c.args.out.now.items c.args.at
+    c.print_bytes.new.out.items c.print_with_first_escaped.new.out.items c.in_ok-end.end h c.print_with_first_escaped.result
+    (and_from c.args.first (begins_like_bom (puts_of c.args.repertoire h.meant)) c.if-first.true like) c.in_ok-end.ensures.same c.print_with_first_escaped.ensures.printed

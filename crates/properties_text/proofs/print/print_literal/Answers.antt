@@ -1,13 +1,13 @@
 use Rattle.std.proofs.Common.{sym, ◌∙◌}
-use Rattle.properties_text.specs.Encoding.{output_of}
+use Rattle.properties_text.specs.Printing.{encoding_in, only_in}
 use Rattle.properties_text.proofs.Printing.Characters.{literal_lacked, literal_kept}
 use Rattle.properties_text.proofs.print.print_literal.Goals as goal
 use Rattle.properties_text.proofs.print.print_literal.Goals.{else-allows-via-then-allows+in_ok-print_encoded+else-branch, else-allows-via-else-allows}
 
 pub returns : goal.returns
 returns c =
-    let e = output_of c.args.repertoire.encoding in
-    let only = c.args.repertoire.ascii_only in
+    let e = encoding_in c.args.repertoire in
+    let only = (only_in c.args.repertoire) in
     let here = c.args.character in
     elim c.else-allows.branch [
       | else-allows-via-then-allows+in_ok-print_encoded+else-branch w ↦

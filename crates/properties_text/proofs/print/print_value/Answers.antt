@@ -6,14 +6,14 @@ use Rattle.std.proofs.lemmas.Result.{on_ok_weaker}
 use Rattle.properties_format.specs.Printing.{encoded_text}
 use Rattle.properties_format.specs.Writing.{is_empty}
 use Rattle.properties_format.specs.Valued.{printed_value}
-use Rattle.properties_text.specs.Encoding.{output_of}
+use Rattle.properties_text.specs.Printing.{encoding_in}
 use Rattle.properties_text.proofs.Printing.Values.{space-alone, value-after, some-characters, none-left}
 use Rattle.properties_text.proofs.print.print_value.Goals as goal
 use Rattle.properties_text.proofs.print.print_value.Goals.{else-is_empty-via-then-is_empty+else-first-eq32, else-is_empty-via-else-is_empty}
 
 pub returns-then-first-eq32 : goal.returns-then-first-eq32
 returns-then-first-eq32 c =
-    let e = output_of c.args.repertoire.encoding in
+    let e = encoding_in c.args.repertoire in
     let after = c.next.new.self.rest.now in
     let parts = chars_past_char c.args.text.now after c.in-Some.first c.utf8.text (sym c.chars-characters.ensures.rest ∙ c.in-Some.ensures.steps.0) in
     let empty = sym c.is_empty.ensures ∙ c.if-is_empty.true in
@@ -26,7 +26,7 @@ returns-then-first-eq32 c =
 
 pub returns : goal.returns
 returns c =
-    let e = output_of c.args.repertoire.encoding in
+    let e = encoding_in c.args.repertoire in
     let after = c.next.new.self.rest.now in
     let parts = chars_past_char c.args.text.now after c.in-Some.first c.utf8.text (sym c.chars-characters.ensures.rest ∙ c.in-Some.ensures.steps.0) in
     let rest = c.as_str-rest.result.now in

@@ -1,18 +1,17 @@
-use Rattle.std.proofs.Common.{◌∙◌, sym}
-use Rattle.std.specs.Str.{chars}
-use Rattle.std.proofs.lemmas.Str.{chars_past_char}
-use Rattle.properties_format.specs.Printing.{in_key_or_value}
-use Rattle.properties_text.specs.Encoding.{output_of}
-use Rattle.properties_text.proofs.Printing.Characters.{first_escaped_more}
+use Rattle.std.proofs.Common.{◌≡◌, take, drop, length, sym, ap, ◌∙◌, arith}
+use Rattle.std.proofs.lemmas.List.{length-take-le}
+use Rattle.properties_format.specs.Text.{backslash}
+use Rattle.properties_text.proofs.PrintedTexts.Keys.{escaped-result}
+use Rattle.properties_text.proofs.PrintedTexts.Runs.{rest-at}
 use Rattle.properties_text.proofs.print.print_with_first_escaped.Goals as goal
 
-pub returns : goal.returns
-returns c =
-    let e = output_of c.args.repertoire.encoding in
-    let next = c.in-Some.ensures.steps in
-    let parts = chars_past_char c.args.key.now c.next.new.self.rest.now c.in-Some.character c.utf8.key (sym c.chars-characters.ensures.rest ∙ next.0) in
-    let rest = c.as_str.ensures in
-    let escaped = c.in_ok-print_escape.ensures in
-    let printed = c.print_text.ensures in
-    let more = first_escaped_more e c.args.repertoire.ascii_only in_key_or_value c.args.line.now (chars c.next.new.self.rest.now) c.in-Some.character in
-    rw (parts, ← more, ← escaped, ← rest) printed
+pub returns-clause-printed : goal.returns-clause-printed
+returns-clause-printed g c =
+    let text = take c.args.size c.args.bytes.now in
+    let first = c.in-Ok.first in
+    let read = c.in-Ok.ensures in
+    let size : length text ≡ c.args.size = length-take-le c.args.size c.args.bytes.now c.requires.size in
+    escaped-result c.args.encoding c.args.repertoire (g.Stops.ByteClass.holds backslash) text c.args.out.now.items c.args.at
+    c.make_room.new.bytes.items c.print_bytes.new.out.items _ c.put_escape-end.result first c.print_bytes.result
+    read (rest-at c.args.bytes.now c.args.size first.length (omega (arith, read.within, size))) (c.put_escape-end.ensures.put ∙ ap (λ v. v ++ _) c.in_ok-make_room.ensures.same)
+    c.print_bytes.ensures.printed
