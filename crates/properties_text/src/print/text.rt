@@ -309,6 +309,3 @@ fn put_block<Stops: ByteClass>(out: &mut [u8], so_far: Put, bytes: &[u8], size: 
         end,
     }
 }
-
-#[cfg(test)]
-mod tests;
