@@ -335,6 +335,12 @@ run-none holds old at text put inside is =
       printed = ap (λ m. take m old) is ∙ sym (append-nil (take at old)) ∙ ap (λ m. take at old ++ printed_bytes (take m (drop put.read text))) (sym n);
     }
 
+-- the same put and bytes
+pub run-is : (holds : ℕ → Bool) (old : List ℕ) (at : ℕ) (text : List ℕ) (from : ℕ) (one put : Put) (out new : List ℕ) → put ≡ one → new ≡ out
+    → IsRunPut holds old at text from one out → IsRunPut holds old at text from put new
+run-is holds old at text from one put out new is same h =
+    subst (λ p. IsRunPut holds old at text from p new) (sym is) (subst (IsRunPut holds old at text from one) (sym same) h)
+
 -- the bytes of a block before a stop
 pub block-run : (holds : ℕ → Bool) (old bytes v new : List ℕ) (marks : List Bool) (size : ℕ) (so_far : Put) (kept end : ℕ) → size ≤ length bytes → so_far.read ≤ size → ((b : ℕ) → b < 0x20 → holds b ≡ true)
     → take (length bytes - so_far.read) (take 16 v) ≡ take 16 (drop so_far.read bytes) → marks ≡ map holds v → kept ≤ clear_front marks → kept ≤ 16 → kept ≤ size - so_far.read
@@ -404,24 +410,19 @@ front-kept old new bytes from at end before room within e =
 pub fewer-kept : (xs ys : List ℕ) (k n : ℕ) → k ≤ n → take n xs ≡ take n ys → take k xs ≡ take k ys
 fewer-kept xs ys k n h e = sym (take-take k n xs h) ∙ ap (take k) e ∙ take-take k n ys h
 
--- A turn of the loop keeps it.
-pub turn-kept : (holds : ℕ → Bool) (text : List ℕ) (from : ℕ) (so_far next put : Put) (items0 items1 slice1 new2 items2 items3 slice3 new4 items4 : List ℕ) → from ≤ so_far.end
-    → take so_far.end items1 ≡ take so_far.end items0 → slice1 ≡ items1 → take so_far.end new2 ≡ take so_far.end slice1 → so_far.end ≤ next.end → next.end ≤ length new2 → items2 ≡ new2
-    → take next.end items3 ≡ take next.end items2 → length items2 ≤ length items3 → slice3 ≡ items3
-    → IsRunPut holds slice3 next.end text next.read put new4 → put.end ≤ length new4 → items4 ≡ new4 → (from ≤ put.end) × (take from items4 ≡ take from items0)
-turn-kept holds text from so_far next put items0 items1 slice1 new2 items2 items3 slice3 new4 items4 before same1 value1 stops after within back2 same3 more3 value3 run within4 back4 =
-    let room : next.end ≤ length slice3 = omega (arith, within, ap length back2, more3, ap length value3) in
-    let kept = front-kept slice3 new4 (printed_bytes (take (put.read - next.read) (drop next.read text))) from next.end put.end (omega (arith, before, after)) room within4 run.printed in (
-      omega (arith, before, after, kept.0),
-      ap (take from) back4
-      ∙ kept.1
-      ∙ ap (take from) value3
-      ∙ fewer-kept items3 items2 from next.end (omega (arith, before, after)) same3
-      ∙ ap (take from) back2
-      ∙ fewer-kept new2 slice1 from so_far.end before stops
-      ∙ ap (take from) value1
-      ∙ fewer-kept items1 items0 from so_far.end before same1,
-    )
+-- So does it where room is made and what a slice of it holds is written back.
+pub slice-kept : (from end : ℕ) (items0 items1 slice1 new2 items2 : List ℕ) → from ≤ end → take end items1 ≡ take end items0 → slice1 ≡ items1
+    → take end new2 ≡ take end slice1 → items2 ≡ new2 → take from items2 ≡ take from items0
+slice-kept from end items0 items1 slice1 new2 items2 before same value stays back =
+    ap (take from) back ∙ fewer-kept new2 slice1 from end before stays ∙ ap (take from) value ∙ fewer-kept items1 items0 from end before same
+
+-- And where a run is put.
+pub run-kept : (holds : ℕ → Bool) (text : List ℕ) (from at read : ℕ) (put : Put) (items0 items1 slice1 new2 items2 : List ℕ) → from ≤ at → at ≤ length slice1
+    → take at items1 ≡ take at items0 → slice1 ≡ items1 → IsRunPut holds slice1 at text read put new2 → put.end ≤ length new2 → items2 ≡ new2
+    → (from ≤ put.end) × (take from items2 ≡ take from items0)
+run-kept holds text from at read put items0 items1 slice1 new2 items2 before room same value run within back =
+    let kept = front-kept slice1 new2 (printed_bytes (take (put.read - read) (drop read text))) at at put.end (omega arith) room within run.printed in
+    (omega (arith, kept.0, before), slice-kept from at items0 items1 slice1 new2 items2 before same value kept.1 back)
 
 -- ---- a front, and the rest
 
