@@ -7,6 +7,7 @@ use Rattle.properties_format.specs.Encoding.{begins_like_bom}
 use Rattle.properties_format.specs.Escapes.{Meaning, means, breaks}
 use Rattle.properties_format.specs.Printing.{in_key_or_value, unicode_escape, printed_characters, with_first_escaped, encoded_text}
 use Rattle.properties_format.specs.Reading.Escapes.{in_front}
+use Rattle.properties_format.proofs.Escapes.Unique.{meaning_of-empty}
 use Rattle.properties_text.specs.Escaping.{malformed_in}
 use Rattle.properties_text.specs.Printing.{encoding_in, only_in, puts_of, key_bytes}
 use Rattle.properties_text.specs.Spelt.{text_in, IsWell}
@@ -18,6 +19,7 @@ use Rattle.properties_text.specs.declared.escape.UnescapeError.TheVariants as er
 use Rattle.properties_text.specs.declared.print.Pair.{Pair}
 use Rattle.properties_text.specs.declared.print.Repertoire.{Repertoire}
 use Rattle.properties_text.proofs.Printing.Characters.{first_escaped_more}
+use Rattle.properties_text.proofs.PrintedTexts.Runs.{front-kept}
 use Rattle.properties_text.proofs.Spelt.Escapes.{no-text}
 
 -- ---- what was put
@@ -41,6 +43,12 @@ slice-put old new bytes at end room within e =
       ∙ drop-append-le at (take at old) bytes (omega (arith, front))
       ∙ ap (λ v. v ++ bytes) (drop_all at (take at old) (omega (arith, front))),
     )
+
+-- What is before it stays.
+pub kept-on : (from at end : ℕ) (first old new bytes : List ℕ) → (from ≤ at) × (take from old ≡ take from first) → at ≤ length old → end ≤ length new → take end new ≡ take at old ++ bytes
+    → (from ≤ end) × (take from new ≡ take from first)
+kept-on from at end first old new bytes held room within e =
+    let kept = front-kept old new bytes from at end held.0 room within e in (omega (arith, held.0, kept.0), kept.1 ∙ held.1)
 
 -- ---- keys
 
@@ -81,14 +89,18 @@ module _ (e : LineEncoding) (r : Repertoire) (first escaped : Bool) (text old : 
   key-result out new mid h (Err (error.Malformed m)) like same k = k
   key-result out new mid h (Err error.Memory) like same k = tt
 
+empty-means : (escaped : Bool) → meaning_by escaped [] ≡ means []
+empty-means true = meaning_of-empty
+empty-means false = refl
+
 -- An empty text begins like no byte order mark.
 pub some-text : (e : LineEncoding) (r : Repertoire) (escaped : Bool) (text old : List ℕ) (at : ℕ) (new : List ℕ) (end : ℕ) (h : IsPrinted e r escaped text old at new end)
-    → meaning_by escaped [] ≡ means [] → begins_like_bom (puts_of r h.meant) ≡ true → 0 < length text
-some-text e r escaped [] old at new end h none like =
-    let empty : h.meant ≡ [] = means-same h.meant [] (sym h.meaning ∙ ap (meaning_by escaped) (no-text e [] refl) ∙ none) in
+    → begins_like_bom (puts_of r h.meant) ≡ true → 0 < length text
+some-text e r escaped [] old at new end h like =
+    let empty : h.meant ≡ [] = means-same h.meant [] (sym h.meaning ∙ ap (meaning_by escaped) (no-text e [] refl) ∙ empty-means escaped) in
     let no : begins_like_bom (puts_of r []) ≡ true = ap (λ v. begins_like_bom (puts_of r v)) (sym empty) ∙ like in
     absurd (cc)
-some-text e r escaped (b ∷ bs) old at new end h none like = omega arith
+some-text e r escaped (b ∷ bs) old at new end h like = omega arith
 
 -- The first character is escaped, and the rest is printed.
 pub escaped-rest : (e : LineEncoding) (r : Repertoire) (escaped : Bool) (text old : List ℕ) (at : ℕ) (mid new rest : List ℕ) (between end : ℕ) (first : Spelt)
@@ -143,5 +155,5 @@ key-refused r first line p separator ending old at out new error.Memory h = tt
 pub value-refused : (r : Repertoire) (first : Bool) (line : List ℕ) (p : Pair) (separator ending old : List ℕ) (at end between : ℕ) (out1 out2 out3 new : List ℕ) (e : UnescapeError)
     → IsKeyPut p.encoding r first p.escaped (bytes_of p.key) old at out1 end → Prints p.encoding r p.escaped (bytes_of p.value) out2 between out3 (Err e)
     → PrintsPair r first line p separator ending (Err e) new
-value-refused r first line p separator ending old at end between out1 out2 out3 new (error.Malformed m) k h = inr (k.meant, (k.meaning, h))
+value-refused r first line p separator ending old at end between out1 out2 out3 new (error.Malformed m) k h = inr (k.meant, k.meaning, h)
 value-refused r first line p separator ending old at end between out1 out2 out3 new error.Memory k h = tt

@@ -1,30 +1,75 @@
-use Rattle.std.proofs.Common.{take, subst}
-use Rattle.properties_text.specs.PrintedTexts.{IsPrinted, IsKeyPut, Prints, PrintsKey, bytes_of}
-use Rattle.properties_text.specs.declared.escape.UnescapeError.{UnescapeError}
-use Rattle.std.specs.Prelude.{Result, Err}
-use Rattle.properties_text.proofs.PrintedTexts.Keys.{pair-put, key-refused, value-refused}
+use Rattle.std.proofs.Common.{◌++◌, take, refl, ap, subst, sym, ◌∙◌, arith}
+use Rattle.std.specs.Prelude.{Err}
+use Rattle.std.proofs.lemmas.Result.{err_from_is_err_and}
+use Rattle.properties_text.specs.Printing.{key_bytes, puts_of}
+use Rattle.properties_text.specs.PrintedTexts.{IsPrinted, IsKeyPut, Prints, PrintsKey, bytes_of, IsPairPrinted}
+use Rattle.properties_text.proofs.TextFronts.{at-error}
+use Rattle.properties_text.proofs.PrintedTexts.Keys.{pair-put, key-refused, value-refused, kept-on}
+use Rattle.properties_text.proofs.PrintedTexts.Runs.{fewer-kept}
 use Rattle.properties_text.proofs.print.print_parts.Goals as goal
 
 pub returns-in_err-after_key-clause-printed : goal.returns-in_err-after_key-clause-printed
 returns-in_err-after_key-clause-printed g c =
     let p = c.args.pair in
-    key-refused c.args.repertoire c.args.first _ p c.args.separator.now c.args.ending.now c.args.line.now.bytes.items c.args.line.now.filled c.print_first.new.out.items _ c.in_err-after_key.e
-    (subst (λ v. PrintsKey p.encoding c.args.repertoire c.args.first v (bytes_of p.key) c.args.line.now.bytes.items c.args.line.now.filled c.print_first.new.out.items (Err c.in_err-after_key.e)) c.requires.escaped c.in_err-after_key.ensures.printed)
+    let e = err_from_is_err_and c.from_residual.result c.from_residual.ensures.1 in
+    let old = c.line.inside.bytes.items in
+    let printed = c.in_err-after_key.ensures.printed in
+    rw (e.1, e.2) (
+    key-refused c.args.repertoire c.args.first c.args.line.now p c.args.separator.now c.args.ending.now old c.line.inside.filled c.print_first.new.out.items _ c.in_err-after_key.field-0.0
+    (subst (λ v. PrintsKey p.encoding c.args.repertoire c.args.first v (bytes_of p.key) old c.line.inside.filled c.print_first.new.out.items (Err c.in_err-after_key.field-0.0)) c.requires.escaped printed))
 
 pub returns-in_err-after_value-clause-printed : goal.returns-in_err-after_value-clause-printed
 returns-in_err-after_value-clause-printed g c =
     let p = c.args.pair in
-    value-refused c.args.repertoire c.args.first _ p c.args.separator.now c.args.ending.now c.args.line.now.bytes.items c.args.line.now.filled c.in_ok-after_key.after_key c.in_ok-after_separator.after_separator
-    c.print_first.new.out.items c.put_raw.new.out.items c.print_bytes.new.out.items _ c.in_err-after_value.e
-    (subst (λ v. IsKeyPut p.encoding c.args.repertoire c.args.first v (bytes_of p.key) c.args.line.now.bytes.items c.args.line.now.filled c.print_first.new.out.items c.in_ok-after_key.after_key) c.requires.escaped c.in_ok-after_key.ensures.printed)
-    (subst (λ v. Prints p.encoding c.args.repertoire v (bytes_of p.value) c.put_raw.new.out.items c.in_ok-after_separator.after_separator c.print_bytes.new.out.items (Err c.in_err-after_value.e)) c.requires.escaped c.in_err-after_value.ensures.printed)
+    let e = err_from_is_err_and c.from_residual-in_err-after_value.result c.from_residual-in_err-after_value.ensures.1 in
+    let old = c.line.inside.bytes.items in
+    let printed = c.in_err-after_value.ensures.printed in
+    rw (e.1, e.2) (
+    value-refused c.args.repertoire c.args.first c.args.line.now p c.args.separator.now c.args.ending.now old c.line.inside.filled c.in_ok-after_key.after_key c.in_ok-after_separator.after_separator
+    c.print_first.new.out.items c.put_raw.new.out.items c.print_bytes.new.out.items _ c.in_err-after_value.field-0.0
+    (subst (λ v. IsKeyPut p.encoding c.args.repertoire c.args.first v (bytes_of p.key) old c.line.inside.filled c.print_first.new.out.items c.in_ok-after_key.after_key) c.requires.escaped c.in_ok-after_key.ensures.printed)
+    (subst (λ v. Prints p.encoding c.args.repertoire v (bytes_of p.value) c.put_raw.new.out.items c.in_ok-after_separator.after_separator c.print_bytes.new.out.items (Err c.in_err-after_value.field-0.0)) c.requires.escaped printed))
 
 pub returns-clause-printed : goal.returns-clause-printed
 returns-clause-printed g c =
     let p = c.args.pair in
-    pair-put c.args.repertoire c.args.first p c.args.separator.now c.args.ending.now c.args.line.now.bytes.items c.args.line.now.filled c.in_ok-after_key.after_key c.in_ok-after_separator.after_separator c.in_ok-after_value.after_value _
-    c.print_first.new.out.items c.put_raw.new.out.items c.print_bytes.new.out.items c.put_raw-2.new.out.items
-    (subst (λ v. IsKeyPut p.encoding c.args.repertoire c.args.first v (bytes_of p.key) c.args.line.now.bytes.items c.args.line.now.filled c.print_first.new.out.items c.in_ok-after_key.after_key) c.requires.escaped c.in_ok-after_key.ensures.printed)
-    c.in_ok-after_separator.ensures.put
-    (subst (λ v. IsPrinted p.encoding c.args.repertoire v (bytes_of p.value) c.put_raw.new.out.items c.in_ok-after_separator.after_separator c.print_bytes.new.out.items c.in_ok-after_value.after_value) c.requires.escaped c.in_ok-after_value.ensures.printed)
-    c.in_ok-put_raw.ensures.put
+    let old = c.line.inside.bytes.items in
+    subst (λ v. IsPairPrinted c.args.repertoire c.args.first v p c.args.separator.now c.args.ending.now (take c.in_ok-line-inside.field-0 c.put_raw-2.new.out.items)) c.line.view_is (
+    pair-put c.args.repertoire c.args.first p c.args.separator.now c.args.ending.now old c.line.inside.filled c.in_ok-after_key.after_key c.in_ok-after_separator.after_separator
+    c.in_ok-after_value.after_value c.in_ok-line-inside.field-0 c.print_first.new.out.items c.put_raw.new.out.items c.print_bytes.new.out.items c.put_raw-2.new.out.items
+    (subst (λ v. IsKeyPut p.encoding c.args.repertoire c.args.first v (bytes_of p.key) old c.line.inside.filled c.print_first.new.out.items c.in_ok-after_key.after_key) c.requires.escaped c.in_ok-after_key.ensures.printed)
+    (c.in_ok-after_separator.ensures.put ∙ ap (λ v. take c.in_ok-after_key.after_key c.print_first.new.out.items ++ v) c.as_bytes.ensures.value)
+    (subst (λ v. IsPrinted p.encoding c.args.repertoire v (bytes_of p.value) c.put_raw.new.out.items c.in_ok-after_separator.after_separator c.print_bytes.new.out.items c.in_ok-after_value.after_value) c.requires.escaped
+    c.in_ok-after_value.ensures.printed)
+    (c.in_ok-line-inside.ensures.put ∙ ap (λ v. take c.in_ok-after_value.after_value c.print_bytes.new.out.items ++ v) c.as_bytes-2.ensures.value))
+
+pub returns-in_err-after_separator-clause-unchanged : goal.returns-in_err-after_separator-clause-unchanged
+returns-in_err-after_separator-clause-unchanged g c =
+    let from = c.line.inside.filled in
+    let old = c.line.inside.bytes.items in
+    let key = c.in_ok-after_key.ensures.printed in
+    let one = kept-on from from c.in_ok-after_key.after_key old old c.print_first.new.out.items (key_bytes c.args.repertoire c.args.first key.meant) (omega arith, refl) c.line.invariant key.within key.printed in
+    at-error c.from_residual-in_err-after_separator.result (fewer-kept c.put_raw.new.out.items c.print_first.new.out.items from c.in_ok-after_key.after_key one.0 c.put_raw.ensures.same ∙ one.1 ∙ c.line.view_is)
+
+pub returns-in_err-after_value-clause-unchanged : goal.returns-in_err-after_value-clause-unchanged
+returns-in_err-after_value-clause-unchanged g c =
+    let from = c.line.inside.filled in
+    let old = c.line.inside.bytes.items in
+    let key = c.in_ok-after_key.ensures.printed in
+    let separator = c.in_ok-after_separator.ensures in
+    let one = kept-on from from c.in_ok-after_key.after_key old old c.print_first.new.out.items (key_bytes c.args.repertoire c.args.first key.meant) (omega arith, refl) c.line.invariant key.within key.printed in
+    let two = kept-on from c.in_ok-after_key.after_key c.in_ok-after_separator.after_separator old c.print_first.new.out.items c.put_raw.new.out.items c.as_bytes.result.now one key.within separator.within separator.put in
+    at-error c.from_residual-in_err-after_value.result (fewer-kept c.print_bytes.new.out.items c.put_raw.new.out.items from c.in_ok-after_separator.after_separator two.0 c.print_bytes.ensures.same ∙ two.1 ∙ c.line.view_is)
+
+pub returns-in_err-line-inside-clause-unchanged : goal.returns-in_err-line-inside-clause-unchanged
+returns-in_err-line-inside-clause-unchanged g c =
+    let from = c.line.inside.filled in
+    let old = c.line.inside.bytes.items in
+    let key = c.in_ok-after_key.ensures.printed in
+    let separator = c.in_ok-after_separator.ensures in
+    let value = c.in_ok-after_value.ensures.printed in
+    let one = kept-on from from c.in_ok-after_key.after_key old old c.print_first.new.out.items (key_bytes c.args.repertoire c.args.first key.meant) (omega arith, refl) c.line.invariant key.within key.printed in
+    let two = kept-on from c.in_ok-after_key.after_key c.in_ok-after_separator.after_separator old c.print_first.new.out.items c.put_raw.new.out.items c.as_bytes.result.now one key.within separator.within separator.put in
+    let three = kept-on from c.in_ok-after_separator.after_separator c.in_ok-after_value.after_value old c.put_raw.new.out.items c.print_bytes.new.out.items (puts_of c.args.repertoire value.meant)
+      two separator.within value.within value.printed in
+    at-error c.from_residual-in_err-line-inside.result (fewer-kept c.put_raw-2.new.out.items c.print_bytes.new.out.items from c.in_ok-after_value.after_value three.0 c.put_raw-2.ensures.same ∙ three.1 ∙ c.line.view_is)
