@@ -12,11 +12,6 @@ use Rattle.byte_blocks.specs.Marks.{clear_front}
 use Rattle.byte_blocks.proofs.Marking.{clear-before}
 use Rattle.properties_format.specs.Text.{space}
 
--- The bytes before the first control character.
-pub no-controls : (block : List ℕ) (marks : List Bool) (n : ℕ) → marks ≡ map is_control block → n ≤ clear_front marks → All (λ b. space ≤ b) (take n block)
-no-controls block marks n is le =
-    All-weaker (λ b. is_control b ≡ false) (λ b. space ≤ b) (λ b fails. ltb-false b space fails) (take n block) (clear-before is_control block marks n is le)
-
 -- The bytes before the first one that isn't ASCII.
 pub ascii-before : (block : List ℕ) (marks : List Bool) (n : ℕ) → marks ≡ map is_past_ascii block → n ≤ clear_front marks → All (λ b. b < 0x80) (take n block)
 ascii-before block marks n is le =

@@ -92,10 +92,6 @@ pub record ArePut (e : LineEncoding) (t : Repertoire) (escaped : Bool) (whole : 
   pub well : IsWell e (past_in e t (drop put.read text))
   pub printed : whole ≡ text_in_front (take put.end out) (rest_in e t escaped (drop put.read text))
 
--- what a text comes to after what was put before it
-abbrev pub after : LineEncoding → Repertoire → Bool → List ℕ → ℕ → List ℕ → Meaning
-after e t escaped old at text = text_in_front (take at old) (printed_in e t escaped text)
-
 -- The text means another, and what that is printed as was put.
 pub record IsPrinted (e : LineEncoding) (t : Repertoire) (escaped : Bool) (text old : List ℕ) (at : ℕ) (new : List ℕ) (end : ℕ) : Type 0 where
   pub within : end ≤ length new

@@ -288,14 +288,15 @@ fn print_with_first_escaped<Stops: ByteClass>(
     print_bytes::<Stops>(out, end, repertoire, encoding, rest, size - first.length)
 }
 
-/// Appends a key, as [`print_pair`] does.
+/// Appends a key, as [`print_pair`] does. Fails if memory runs out.
 pub fn print_key(
     line: &mut LineBuffer,
     repertoire: Repertoire,
     first: bool,
     key: &str,
 ) -> Result<(), AllocError>
-    ensures { AppendsOnOk line.old (key_bytes repertoire first (chars key.now)) result line.new }
+    ensures appended { AppendsOnOk line.old (key_bytes repertoire first (chars key.now)) result line.new }
+    ensures unchanged { OnErr result (line.new ≡ line.old) }
 {
     let encoding = LineEncoding::Utf8;
     let (out, at) = (&mut line.bytes, line.filled);
@@ -325,9 +326,10 @@ pub fn print_texts(
     separator: &str,
     ending: &str,
 ) -> Result<(), AllocError>
-    ensures { let value = puts_of repertoire (chars value.now) in
+    ensures appended { let value = puts_of repertoire (chars value.now) in
         let bytes = key_bytes repertoire first (chars key.now) ++ (separator.now ++ (value ++ ending.now)) in
         AppendsOnOk line.old bytes result line.new }
+    ensures unchanged { OnErr result (line.new ≡ line.old) }
 {
     let pair = Pair::literal(key, value);
     match print_pair(line, repertoire, first, pair, separator, ending) {

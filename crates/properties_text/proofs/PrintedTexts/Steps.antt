@@ -45,9 +45,6 @@ put-ascii t c h = ascii-printed (encoding_in t) (only_in t) c h
 pub put-utf_8 : (c : ℕ) → 0x80 ≤ c → put_of repertoire.Utf8 c ≡ encode c
 put-utf_8 c h = rw (past-special c h, past-letter c h, past-control c h) (append-nil (encode c))
 
-pub put-byte : (c b : ℕ) → 0x80 ≤ c → windows_1252_byte c ≡ Some b → put_of repertoire.Windows1252 c ≡ b ∷ []
-put-byte c b h e = byte-printed c b e ∙ past-byte b (byte-past c b h e)
-
 pub put-lacked : (c : ℕ) → 0x80 ≤ c → windows_1252_byte c ≡ None → put_of repertoire.Windows1252 c ≡ unicode_escape c
 put-lacked c h e = lacked-printed c h (ap is_some e)
 

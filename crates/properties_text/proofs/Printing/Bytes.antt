@@ -47,13 +47,6 @@ printed_byte-digits b h = elim (cases_Bool (is_special b)) [
   ]
 ]
 
--- One more byte is printed.
-pub printed_bytes-more : (bs : List ℕ) (i : ℕ) → i < length bs → printed_bytes (take (i + 1) bs) ≡ printed_bytes (take i bs) ++ printed_byte (get_or bs i 0)
-printed_bytes-more bs i h =
-    ap printed_bytes (take_more bs i 0 h)
-    ∙ printed_bytes-append (take i bs) (get_or bs i 0 ∷ [])
-    ∙ ap (λ v. printed_bytes (take i bs) ++ v) (append-nil (printed_byte (get_or bs i 0)))
-
 -- ---- ASCII
 
 -- An ASCII character is printed as its byte is.
@@ -71,11 +64,6 @@ ascii-printed e only c h = elim (cases_Bool (is_special c)) [
 
 -- ---- UTF-8
 
--- all bytes are above ASCII
-abbrev ArePast : List ℕ → Type 0
-ArePast [] = Unit {0}
-ArePast (b ∷ bs) = (0x80 ≤ b) × ArePast bs
-
 pub past-special : (b : ℕ) → 0x80 ≤ b → is_special b ≡ false
 past-special b h = false_from_ne_true (is_special b) (λ t. absurd (omega (arith, special-ascii b t)))
 
@@ -88,27 +76,6 @@ past-control b h = le-ltb b space (omega arith)
 -- A byte above ASCII is copied.
 pub past-byte : (b : ℕ) → 0x80 ≤ b → printed_byte b ≡ b ∷ []
 past-byte b h = rw (past-special b h, past-letter b h, past-control b h) refl
-
-past-bytes : (bs : List ℕ) → ArePast bs → printed_bytes bs ≡ bs
-past-bytes [] h = refl
-past-bytes (b ∷ bs) h = ap₂ (λ x y. x ++ y) (past-byte b h.0) (past-bytes bs h.1)
-
--- The bytes of a character above ASCII are above ASCII.
-encode-past : (c : ℕ) → 0x80 ≤ c → ArePast (encode_utf8 c)
-encode-past c h = elim (cases_lt c 0x800) [
-  | inl k ↦ rw (encode-two c h k) (omega arith, (omega arith, tt))
-  | inr k ↦ elim (cases_lt c 0x1_0000) [
-    | inl m ↦ rw (encode-three c k m) (omega arith, (omega arith, (omega arith, tt)))
-    | inr m ↦ rw (encode-four c m) (omega arith, (omega arith, (omega arith, (omega arith, tt))))
-  ]
-]
-
-utf_8-printed : (c : ℕ) → encoded_text utf_8 (printed_character utf_8 false in_key_or_value c) ≡ printed_bytes (encode_utf8 c)
-utf_8-printed c = elim (cases_lt c 0x80) [
-  | inl h ↦ ascii-printed utf_8 false c h ∙ sym (ap printed_bytes (encode_ascii c h) ∙ append-nil (printed_byte c))
-  | inr h ↦
-      rw (past-special c h, past-letter c h, past-control c h) (append-nil (encode_utf8 c) ∙ sym (past-bytes (encode_utf8 c) (encode-past c h)))
-]
 
 -- ---- windows-1252
 
@@ -149,17 +116,6 @@ byte-printed c b e = elim (cases_lt c 0x80) [
       let known : encoded windows_1252 c ≡ Some (b ∷ []) = ap one_byte e in
       rw (past-special c h, past-letter c h, past-control c h, known) (rw known (sym (past-byte b (byte-past c b h e))))
 ]
-
--- Characters that have bytes are printed as those bytes are.
-pub bytes-printed : (cs bs : List ℕ) → map windows_1252_byte cs ≡ map Some bs → encoded_text windows_1252 (printed_characters windows_1252 false in_key_or_value cs) ≡ printed_bytes bs
-bytes-printed [] [] h = refl
-bytes-printed [] (b ∷ bs) h = absurd (cc)
-bytes-printed (c ∷ cs) [] h = absurd (cc)
-bytes-printed (c ∷ cs) (b ∷ bs) h =
-    let first : windows_1252_byte c ≡ Some b = cc in
-    let more : map windows_1252_byte cs ≡ map Some bs = cc in
-    encoded_text-append windows_1252 (printed_character windows_1252 false in_key_or_value c) (printed_characters windows_1252 false in_key_or_value cs)
-    ∙ ap₂ (λ x y. x ++ y) (byte-printed c b first) (bytes-printed cs bs more)
 
 -- A character that windows-1252 lacks is escaped.
 pub lacked-printed : (c : ℕ) → 0x80 ≤ c → is_some (windows_1252_byte c) ≡ false → encoded_text windows_1252 (printed_character windows_1252 false in_key_or_value c) ≡ unicode_escape c

@@ -12,28 +12,6 @@ use Rattle.properties_format.proofs.Printing.Characters.{encoded_text-append, pr
 pub encoded_escape : (e : Encoding) (c : ℕ) → encoded_text e (unicode_escape c) ≡ unicode_escape c
 encoded_escape e c = encoded_text-ascii e (unicode_escape c) (unicode_escape-ascii c)
 
--- A character that may be written unescaped is.
-pub literal_known : (e : Encoding) (only : Bool) (c : ℕ) → (not only || nat_lt c 0x80) ≡ true → is_some (encoded e c) ≡ true → encoded_text e (literal e only c) ≡ unwrap_or (encoded e c) []
-literal_known e only c k h =
-    ap (encoded_text e) (cond-true (may_be_unescaped e only c) (c ∷ []) (unicode_escape c) (and_from (not only || nat_lt c 0x80) (is_some (encoded e c)) k h)) ∙ append-nil (unwrap_or (encoded e c) [])
-
-nothing : (o : Option (List ℕ)) → is_some o ≡ false → unwrap_or o [] ≡ []
-nothing None h = refl
-nothing (Some x) h = cc
-
--- A character that the encoding lacks is escaped; nothing was appended for it before.
-pub literal_lacked : (e : Encoding) (only : Bool) (c : ℕ) (before at : List ℕ) → is_some (encoded e c) ≡ false → at ≡ before ++ unwrap_or (encoded e c) []
-    → before ++ encoded_text e (literal e only c) ≡ at ++ unicode_escape c
-literal_lacked e only c before at h k =
-    ap (λ v. before ++ encoded_text e v) (cond-false (may_be_unescaped e only c) (c ∷ []) (unicode_escape c) (and_right (not only || nat_lt c 0x80) (is_some (encoded e c)) h))
-    ∙ ap (λ v. before ++ v) (encoded_escape e c)
-    ∙ ap (λ v. v ++ unicode_escape c) (sym (k ∙ ap (λ v. before ++ v) (nothing (encoded e c) h) ∙ append-nil before))
-
--- A character that ASCII-only output rules out is escaped.
-pub literal_kept : (e : Encoding) (only : Bool) (c : ℕ) → (not only || nat_lt c 0x80) ≡ false → encoded_text e (literal e only c) ≡ unicode_escape c
-literal_kept e only c k =
-    ap (encoded_text e) (cond-false (may_be_unescaped e only c) (c ∷ []) (unicode_escape c) (and_left (not only || nat_lt c 0x80) (is_some (encoded e c)) k)) ∙ encoded_escape e c
-
 -- Above U+FFFF, an escape is two.
 pub escape_wide : (c : ℕ) (before at : List ℕ) → 0x1_0000 ≤ c → at ≡ before ++ unit_escape (high_surrogate c)
     → before ++ unicode_escape c ≡ at ++ unit_escape (low_surrogate c)

@@ -11,8 +11,6 @@ use Rattle.byte_blocks.specs.Moving.{spread}
 use Rattle.properties_text.specs.Printing.{printed_byte, printed_bytes, with_backslashes}
 use Rattle.byte_blocks.specs.Classes.{is_control}
 use Rattle.byte_blocks.specs.Marks.{clear_front}
-use Rattle.properties_text.proofs.Blocks.{no-controls}
-use Rattle.properties_text.proofs.Printing.Bytes.{printed_bytes-more}
 
 -- ---- backslashes
 
