@@ -1,6 +1,5 @@
 -- What is appended when a text is printed, by its place in the line.
-use Rattle.std.specs.Prelude.{◌≡◌, ℕ, nat_lt, ◌==◌, ◌&&◌, not, Bool, true, false, if◌then◌else◌, List, [], ◌∷◌, ◌++◌, Option, Some, None, Result, OnOk}
-use Rattle.std.specs.Str.{chars}
+use Rattle.std.specs.Prelude.{◌≡◌, ℕ, nat_lt, ◌==◌, Bool, true, false, if◌then◌else◌, List, [], ◌∷◌, ◌++◌, Option, Some, None, Result, OnOk}
 use Rattle.properties_format.specs.Printing as format
 use Rattle.properties_format.specs.Text.{tab, line_feed, form_feed, space, backslash}
 use Rattle.properties_format.specs.Encoding.{Encoding, windows_1252, utf_8}

@@ -1,17 +1,16 @@
 -- Keys, which may come first in a file, and pairs.
-use Rattle.std.proofs.Common.{◌≡◌, ℕ, ◌+◌, ◌-◌, ◌<◌, ◌≤◌, ◌&&◌, Bool, true, false, List, [], ◌∷◌, ◌++◌, length, take, drop, refl, sym, ap, subst, ◌∙◌, inl, inr, append_assoc, arith}
+use Rattle.std.proofs.Common.{◌≡◌, ℕ, ◌+◌, ◌-◌, ◌<◌, ◌≤◌, ◌&&◌, Bool, true, false, List, [], ◌∷◌, ◌++◌, length, take, drop, refl, sym, ap, ◌∙◌, inl, inr, append_assoc, arith}
 use Rattle.std.specs.Prelude.{Result, Ok, Err}
 use Rattle.std.proofs.lemmas.Bool.{cond-true, cond-false}
 use Rattle.std.proofs.lemmas.List.{length-take-le, length-append, drop-take, drop-append-le, drop_all}
 use Rattle.properties_format.specs.Encoding.{begins_like_bom}
-use Rattle.properties_format.specs.Escapes.{Meaning, means, breaks}
+use Rattle.properties_format.specs.Escapes.{means}
 use Rattle.properties_format.specs.Printing.{in_key_or_value, unicode_escape, printed_characters, with_first_escaped, encoded_text}
 use Rattle.properties_format.specs.Reading.Escapes.{in_front}
 use Rattle.properties_format.proofs.Escapes.Unique.{meaning_of-empty}
-use Rattle.properties_text.specs.Escaping.{malformed_in}
 use Rattle.properties_text.specs.Printing.{encoding_in, only_in, puts_of, key_bytes}
-use Rattle.properties_text.specs.Spelt.{text_in, IsWell}
-use Rattle.properties_text.specs.PrintedTexts.{meaning_by, IsReadBy, IsPrinted, Prints, IsKeyPut, PrintsKey, IsEscapedPut, PrintsEscaped, bytes_of, key_of, value_of, IsPairPrinted, PrintsPair}
+use Rattle.properties_text.specs.Spelt.{text_in}
+use Rattle.properties_text.specs.PrintedTexts.{meaning_by, IsReadBy, IsPrinted, Prints, IsKeyPut, PrintsKey, IsEscapedPut, PrintsEscaped, bytes_of, IsPairPrinted, PrintsPair}
 use Rattle.properties_text.specs.declared.encoding.line.LineEncoding.{LineEncoding}
 use Rattle.properties_text.specs.declared.encoding.line.Spelt.{Spelt}
 use Rattle.properties_text.specs.declared.escape.UnescapeError.{UnescapeError}

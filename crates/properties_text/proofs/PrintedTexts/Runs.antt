@@ -1,8 +1,8 @@
 -- Reading and putting by turns.
-use Rattle.std.proofs.Common.{◌≡◌, ℕ, ◌+◌, ◌-◌, ◌*◌, ◌<◌, ◌≤◌, ◌==◌, Bool, true, false, List, [], ◌∷◌, ◌++◌, length, map, take, drop, get_or, refl, sym, ap, ap₂, ◌∙◌, subst, inl, inr, append-nil, append_assoc, arith, ne_eqb, eqb-true}
-use Rattle.std.specs.Prelude.{Option, Some, None, Result, Ok, Err}
+use Rattle.std.proofs.Common.{◌≡◌, ℕ, ◌+◌, ◌-◌, ◌*◌, ◌<◌, ◌≤◌, Bool, true, false, List, [], ◌∷◌, ◌++◌, length, map, take, drop, get_or, refl, sym, ap, ap₂, ◌∙◌, subst, inl, inr, append-nil, append_assoc, arith, ne_eqb}
+use Rattle.std.specs.Prelude.{Some, Result, Ok, Err}
 use Rattle.std.specs.List.{All}
-use Rattle.std.proofs.lemmas.Bool.{cases_Bool, cases_lt, cond-false}
+use Rattle.std.proofs.lemmas.Bool.{cases_lt, cond-false}
 use Rattle.std.proofs.lemmas.Str.{IsUtf8-nil}
 use Rattle.std.proofs.Math.Seq.{take-append_seam, take-add}
 use Rattle.std.proofs.lemmas.List.{length-map, length-append, take-append-le, get_or-drop, get_or-take, get_or_past, length-take, length-take-le, take-take, drop-take, drop-drop, drop_more, drop_all, take-append-drop, length-drop, take_more}
@@ -10,13 +10,13 @@ use Rattle.std.proofs.lemmas.List.Elements.{All-push, All-append, All-weaker, Al
 use Rattle.properties_format.specs.Text.{backslash}
 use Rattle.properties_format.specs.Escapes as format
 use Rattle.properties_format.specs.Escapes.{Meaning, means, breaks}
-use Rattle.properties_format.specs.Reading.Escapes.{meaning_of, in_front, text_in_front}
+use Rattle.properties_format.specs.Reading.Escapes.{in_front, text_in_front}
 use Rattle.properties_format.proofs.Escapes.Laws.{meaning_of-itself}
 use Rattle.properties_format.proofs.Escapes.Unique.{text_in_front-means, text_in_front-breaks, meaning_of-empty}
 use Rattle.properties_text.specs.Escaping.{malformed_in}
-use Rattle.properties_text.specs.Printing.{printed_byte, printed_bytes, with_backslashes, backslashes_before, put_of, puts_of}
-use Rattle.properties_text.specs.Spelt.{text_in, IsWell, IsFirst, IsRead, Reads}
-use Rattle.properties_text.specs.PrintedTexts.{meaning_by, printed_by, printed_in, is_copied, is_inside, inside_in, past_in, rest_in, StopsIn, ArePut, IsReadBy, ReadsBy, from_on, PutsStops, IsRunPut, IsPrinted, Prints}
+use Rattle.properties_text.specs.Printing.{printed_byte, printed_bytes, with_backslashes, put_of, puts_of}
+use Rattle.properties_text.specs.Spelt.{text_in, IsWell, IsFirst, Reads}
+use Rattle.properties_text.specs.PrintedTexts.{meaning_by, printed_by, printed_in, is_inside, past_in, rest_in, StopsIn, ArePut, IsReadBy, ReadsBy, from_on, IsRunPut, IsPrinted, Prints}
 use Rattle.properties_text.specs.declared.encoding.line.LineEncoding.{LineEncoding}
 use Rattle.properties_text.specs.declared.encoding.line.LineEncoding.TheVariants.{Windows1252, Utf8}
 use Rattle.properties_text.specs.declared.encoding.line.Spelt.{Spelt}
@@ -35,7 +35,7 @@ use Rattle.properties_text.proofs.Texts.Resolving.{text_in_front-append}
 use Rattle.properties_text.proofs.Spelt.First.{ascii-back}
 use Rattle.properties_text.proofs.Spelt.Escapes.{no-text}
 use Rattle.properties_text.proofs.Printing.Bytes.{printed_bytes-append}
-use Rattle.properties_text.proofs.PrintedTexts.Steps.{printed-one, rest-well, past-well, one-byte, run-of, not-inside}
+use Rattle.properties_text.proofs.PrintedTexts.Steps.{printed-one, rest-well, past-well, run-of, not-inside}
 
 -- ---- reading one character
 

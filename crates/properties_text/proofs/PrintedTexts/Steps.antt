@@ -1,40 +1,34 @@
 -- One byte, a run of bytes, or one character more of a text is printed.
-use Rattle.std.proofs.Common.{◌≡◌, ℕ, ◌+◌, ◌/◌, ◌%◌, ◌<◌, ◌≤◌, ◌==◌, ◌&&◌, Bool, not, true, false, List, [], ◌∷◌, ◌++◌, length, take, drop, get_or, map, refl, sym, ap, ap₂, ◌∙◌, subst, inl, inr, append-nil, append_assoc, arith, nat_lt, lt-ltb, le-ltb, ne_eqb}
-use Rattle.std.specs.Prelude.{Option, Some, None, is_some, nat_le}
-use lib.Utf8.{encode, encodes, scalars, scalar}
+use Rattle.std.proofs.Common.{◌≡◌, ℕ, ◌+◌, ◌/◌, ◌%◌, ◌<◌, ◌≤◌, ◌==◌, Bool, not, true, false, List, [], ◌∷◌, ◌++◌, length, get_or, refl, sym, ap, ap₂, ◌∙◌, subst, inl, inr, append-nil, arith, nat_lt, lt-ltb, le-ltb, ne_eqb}
+use Rattle.std.specs.Prelude.{None, is_some, nat_le}
+use lib.Utf8.{encode, encodes}
 use Rattle.std.specs.List.{All}
-use Rattle.std.specs.Str.{IsUtf8, chars}
-use Rattle.std.proofs.lemmas.Bool.{cases_Bool, cases_lt, cond-true, cond-false, and_parts, and_from, and_left, and_right, lt-leb, le-leb}
-use Rattle.std.proofs.lemmas.Bool.Decides.{nat_tests}
+use Rattle.std.specs.Str.{IsUtf8}
+use Rattle.std.proofs.lemmas.Bool.{cases_lt, cond-true, cond-false, and_from, and_left, and_right, lt-leb, le-leb}
 use Rattle.std.proofs.lemmas.List.Elements.{All-head, All-tail}
-use Rattle.std.proofs.lemmas.Str.{encodes-chars, chars-encodes}
-use Rattle.properties_format.specs.Encoding.{Encoding, windows_1252, utf_8, encoded}
+use Rattle.properties_format.specs.Encoding.{utf_8, encoded}
 use Rattle.properties_format.specs.Text.{backslash, space}
 use Rattle.properties_format.specs.Windows1252.{windows_1252_character, windows_1252_byte}
 use Rattle.properties_format.specs.Escapes.{Meaning, means, breaks}
 use Rattle.properties_format.specs.Printing.{in_key_or_value, printed_character, printed_characters, encoded_text, unicode_escape, is_special, has_letter, may_be_unescaped}
-use Rattle.properties_format.specs.Reading.Escapes.{meaning_of, in_front, text_in_front}
-use Rattle.properties_format.specs.Reading.Undecoded.{characters_of}
+use Rattle.properties_format.specs.Reading.Escapes.{in_front, text_in_front}
 use Rattle.properties_format.proofs.Undecoded.{same}
 use Rattle.properties_format.proofs.Encodings.Utf8Characters.{encode-one, encode-two, encode-three, encode-four}
 use Rattle.properties_format.proofs.Encodings.Windows1252.{windows_1252_byte-character}
 use Rattle.properties_format.proofs.Escapes.Laws.{meaning_of-itself}
-use Rattle.properties_format.proofs.Escapes.Unique.{text_in_front-means, text_in_front-breaks, meaning_of-empty}
-use Rattle.properties_format.proofs.Printing.Characters.{encoded_text-append, printed_characters-append}
-use Rattle.properties_text.specs.Printing.{printed_byte, printed_bytes, with_backslashes, encoding_in, only_in, put_of, puts_of}
-use Rattle.properties_text.specs.Spelt.{text_in, IsWell, IsFirst, IsRead}
-use Rattle.properties_text.specs.PrintedTexts.{meaning_by, printed_by, printed_in, is_copied, is_inside, inside, past, inside_in, past_in, rest_in, StopsIn, ArePut}
+use Rattle.properties_format.proofs.Escapes.Unique.{text_in_front-means, text_in_front-breaks}
+use Rattle.properties_format.proofs.Printing.Characters.{encoded_text-append}
+use Rattle.properties_text.specs.Printing.{printed_byte, printed_bytes, encoding_in, only_in, put_of, puts_of}
+use Rattle.properties_text.specs.Spelt.{text_in, IsWell}
+use Rattle.properties_text.specs.PrintedTexts.{meaning_by, printed_by, printed_in, is_copied, is_inside, inside, past, past_in, rest_in, StopsIn}
 use Rattle.properties_text.specs.declared.encoding.line.LineEncoding.{LineEncoding}
 use Rattle.properties_text.specs.declared.encoding.line.LineEncoding.TheVariants.{Windows1252, Utf8}
-use Rattle.properties_text.specs.declared.encoding.line.Spelt.{Spelt}
 use Rattle.properties_text.specs.declared.print.Repertoire.{Repertoire}
 use Rattle.properties_text.specs.declared.print.Repertoire.TheVariants as repertoire
-use Rattle.properties_text.specs.declared.print.text.Put.{Put}
 use Rattle.properties_text.proofs.Texts.Characters.{character_and}
 use Rattle.properties_text.proofs.Texts.Resolving.{text_in_front-append}
-use Rattle.properties_text.proofs.Printing.Bytes.{ascii-printed, byte-printed, lacked-printed, past-special, past-letter, past-control, past-byte, byte-past}
+use Rattle.properties_text.proofs.Printing.Bytes.{ascii-printed, byte-printed, lacked-printed, past-special, past-letter, past-control, past-byte}
 use Rattle.properties_text.proofs.Printing.Characters.{encoded_escape}
-use Rattle.properties_text.proofs.Printing.Vectors.{spelt}
 use Rattle.properties_text.proofs.Spelt.First.{ascii-first}
 
 -- ---- a character

@@ -1,20 +1,12 @@
 -- Texts printed byte by byte.
-use Rattle.std.proofs.Common.{◌≡◌, ℕ, ◌+◌, ◌-◌, ◌<◌, ◌≤◌, ◌==◌, Bool, true, false, nat_lt, List, [], ◌∷◌, ◌++◌, refl, sym, ap, ap₂, ◌∙◌, inl, inr, append_assoc, append-nil, arith, length, take, drop, get_or, lit<, le-ltb, lt-ltb, ltb-true, ne_eqb, eqb-true}
-use Rattle.std.specs.Prelude.{Option, Some, None, is_some, map, not, ◌&&◌, encode_utf8, encode_utf8_all, slice_index, unwrap_or}
-use Rattle.std.specs.Str.{chars, IsUtf8, IsAscii}
+use Rattle.std.proofs.Common.{◌≡◌, ℕ, ◌+◌, ◌-◌, ◌<◌, ◌≤◌, ◌==◌, Bool, true, false, nat_lt, List, [], ◌∷◌, ◌++◌, refl, sym, ap, ◌∙◌, inl, inr, append_assoc, arith, lit<, le-ltb, lt-ltb, ltb-true, ne_eqb, eqb-true}
+use Rattle.std.specs.Prelude.{Option, Some, None, is_some, not, ◌&&◌, slice_index, unwrap_or}
 use Rattle.std.proofs.lemmas.Bool.{cases_Bool, cases_lt, cond-true, cond-false, agree_below_at, false_from_ne_true}
-use Rattle.std.specs.List.{All}
-use Rattle.std.proofs.lemmas.List.Elements.{All-head, All-tail}
-use Rattle.std.proofs.lemmas.Str.Ascii.{All-from_ascii}
-use Rattle.std.proofs.lemmas.Str.{encodes-chars, chars-append, chars-IsAscii, encode_ascii, IsUtf8-from_ascii}
-use Rattle.std.proofs.lemmas.List.{take_more, take_all, length-drop, length-take-le, take-append-le, take-append-drop}
-use Rattle.std.proofs.Math.Seq.{take-append-add}
 use Rattle.properties_format.specs.Text.{space, backslash}
 use Rattle.properties_format.specs.Windows1252.{windows_1252_byte, windows_1252_table, is_in_table, place_from}
-use Rattle.properties_format.specs.Encoding.{Encoding, windows_1252, utf_8, one_byte, encoded}
-use Rattle.properties_format.specs.Printing.{in_key_or_value, unit_escape, unicode_escape, may_be_unescaped, is_special, has_letter, letter_escape, printed_character, printed_characters, encoded_text}
-use Rattle.properties_format.proofs.Printing.Characters.{AreAscii, encoded_text-append, printed_characters-append, encoded_text-ascii, encoded-ascii, special-ascii, letter_escape-ascii}
-use Rattle.properties_format.proofs.Encodings.Utf8Characters.{encode-two, encode-three, encode-four}
+use Rattle.properties_format.specs.Encoding.{Encoding, windows_1252, one_byte, encoded}
+use Rattle.properties_format.specs.Printing.{in_key_or_value, unit_escape, unicode_escape, may_be_unescaped, is_special, has_letter, letter_escape, printed_character, encoded_text}
+use Rattle.properties_format.proofs.Printing.Characters.{encoded_text-ascii, encoded-ascii, special-ascii, letter_escape-ascii}
 use Rattle.properties_text.specs.Printing.{printed_byte, printed_bytes, backslashes_before, last_of}
 use Rattle.properties_text.specs.declared.print.bytes.TheConstants.{BEFORE, LAST}
 use Rattle.properties_format.proofs.ReadBack.Comments.{literal-ascii}

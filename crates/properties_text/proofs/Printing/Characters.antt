@@ -1,11 +1,11 @@
 -- What is printed for a character and for a text.
-use Rattle.std.proofs.Common.{◌≡◌, ℕ, ◌≤◌, ◌||◌, not, Bool, true, false, nat_lt, List, [], ◌∷◌, ◌++◌, refl, sym, ap, ◌∙◌, append_assoc, append-nil, le-ltb}
-use Rattle.std.specs.Prelude.{Option, Some, None, is_some, unwrap_or, encode_utf8_all}
+use Rattle.std.proofs.Common.{◌≡◌, ℕ, ◌≤◌, Bool, nat_lt, List, [], ◌∷◌, ◌++◌, refl, sym, ap, ◌∙◌, append_assoc, append-nil, le-ltb}
+use Rattle.std.specs.Prelude.{encode_utf8_all}
 use Rattle.std.specs.Str.{chars, IsUtf8}
-use Rattle.std.proofs.lemmas.Bool.{cond-true, cond-false, and_from, and_left, and_right}
+use Rattle.std.proofs.lemmas.Bool.{cond-false}
 use Rattle.std.proofs.lemmas.Str.{encodes-chars, encode_ascii}
-use Rattle.properties_format.specs.Encoding.{Encoding, encoded}
-use Rattle.properties_format.specs.Printing.{Place, unit_escape, high_surrogate, low_surrogate, unicode_escape, may_be_unescaped, literal, printed_character, printed_characters, encoded_text}
+use Rattle.properties_format.specs.Encoding.{Encoding}
+use Rattle.properties_format.specs.Printing.{Place, unit_escape, high_surrogate, low_surrogate, unicode_escape, printed_character, printed_characters, encoded_text}
 use Rattle.properties_format.proofs.Printing.Characters.{encoded_text-append, printed_characters-append, AreAscii, encoded_text-ascii, unicode_escape-ascii}
 
 -- An escape encodes as itself.

@@ -1,4 +1,4 @@
-use Rattle.std.proofs.Common.{◌++◌, take, refl, ap, subst, sym, ◌∙◌, arith}
+use Rattle.std.proofs.Common.{◌++◌, take, refl, ap, subst, ◌∙◌, arith}
 use Rattle.std.specs.Prelude.{Err}
 use Rattle.std.proofs.lemmas.Result.{err_from_is_err_and}
 use Rattle.properties_text.specs.Printing.{key_bytes, puts_of}
