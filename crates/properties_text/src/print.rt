@@ -184,9 +184,7 @@ pub fn print_pair(
     ensures unchanged { OnErr result (line.new ≡ line.old) }
 {
     match (pair.escaped, is_copied(pair.encoding, repertoire)) {
-        (true, true) => {
-            print_parts::<Escaped>(line, repertoire, first, pair, separator, ending)
-        }
+        (true, true) => { print_parts::<Escaped>(line, repertoire, first, pair, separator, ending) }
         (true, false) => {
             print_parts::<EscapedAscii>(line, repertoire, first, pair, separator, ending)
         }
@@ -223,11 +221,18 @@ fn print_parts<Stops: ByteClass>(
     } = pair;
     let out = &mut line.bytes;
     let filled = line.filled;
-    let after_key =
-        print_first::<Stops>(out, filled, repertoire, first, encoding, key.bytes, key.size)?;
+    let after_key = print_first::<Stops>(
+        out, filled, repertoire, first, encoding, key.bytes, key.size,
+    )?;
     let after_separator = put_raw(out, after_key, separator.as_bytes())?;
-    let after_value =
-        print_bytes::<Stops>(out, after_separator, repertoire, encoding, value.bytes, value.size)?;
+    let after_value = print_bytes::<Stops>(
+        out,
+        after_separator,
+        repertoire,
+        encoding,
+        value.bytes,
+        value.size,
+    )?;
     line.filled = put_raw(out, after_value, ending.as_bytes())?;
     Ok(())
 }

@@ -37,10 +37,10 @@ slice-put old new bytes at end room within e =
     let whole : at + (end - at) ≡ end = omega (arith, size) in (
       omega (arith, size),
       sym (drop-take at (end - at) new)
-      ∙ ap (λ n. drop at (take n new)) whole
-      ∙ ap (drop at) e
-      ∙ drop-append-le at (take at old) bytes (omega (arith, front))
-      ∙ ap (λ v. v ++ bytes) (drop_all at (take at old) (omega (arith, front))),
+          ∙ ap (λ n. drop at (take n new)) whole
+          ∙ ap (drop at) e
+          ∙ drop-append-le at (take at old) bytes (omega (arith, front))
+          ∙ ap (λ v. v ++ bytes) (drop_all at (take at old) (omega (arith, front))),
     )
 
 -- What is before it stays.

@@ -401,9 +401,9 @@ front-kept old new bytes from at end before room within e =
     let long : from ≤ end = omega (arith, size, before) in (
       omega (arith, size),
       sym (take-take from end new long)
-      ∙ ap (take from) e
-      ∙ take-append-le from (take at old) bytes (omega (arith, length-take-le at old room, before))
-      ∙ take-take from at old before,
+          ∙ ap (take from) e
+          ∙ take-append-le from (take at old) bytes (omega (arith, length-take-le at old room, before))
+          ∙ take-take from at old before,
     )
 
 -- So do fewer bytes of it.

@@ -176,8 +176,11 @@ led c h = elim (cases_lt c 0x800) [
   | inl k ↦ (192 + c / 64, (128 + c % 64) ∷ [], record { bytes = encode-two c h k; led = omega arith; more = (next-inside c, tt) })
   | inr m ↦ elim (cases_lt c 0x1_0000) [
     | inl k ↦ (224 + c / 4096, (128 + c / 64 % 64) ∷ (128 + c % 64) ∷ [], record { bytes = encode-three c m k; led = omega arith; more = (next-inside (c / 64), (next-inside c, tt)) })
-    | inr n ↦ (240 + c / 262144, (128 + c / 4096 % 64) ∷ (128 + c / 64 % 64) ∷ (128 + c % 64) ∷ [],
-        record { bytes = encode-four c n; led = omega arith; more = (next-inside (c / 4096), (next-inside (c / 64), (next-inside c, tt))) })
+    | inr n ↦ (
+      240 + c / 262144,
+      (128 + c / 4096 % 64) ∷ (128 + c / 64 % 64) ∷ (128 + c % 64) ∷ [],
+      record { bytes = encode-four c n; led = omega arith; more = (next-inside (c / 4096), (next-inside (c / 64), (next-inside c, tt))) },
+    )
   ]
 ]
 

@@ -139,7 +139,14 @@ fn print_rest<Stops: ByteClass>(
     let mut put = Put { read: 0, end: at };
     while put.read < size {
         make_room(out, put.end, LONGEST)?;
-        put = match put_stops::<Stops>(out, put.end, repertoire, encoding, &bytes[..size], put.read) {
+        put = match put_stops::<Stops>(
+            out,
+            put.end,
+            repertoire,
+            encoding,
+            &bytes[..size],
+            put.read,
+        ) {
             Ok(next) => next,
             Err(malformed) => return Err(UnescapeError::Malformed(malformed)),
         };
@@ -239,7 +246,14 @@ pub fn print_bytes<Stops: ByteClass>(
     make_room_for(out, at, size)?;
     let put = put_run::<Stops>(out, at, bytes, size, 0);
     if put.read < size {
-        return print_rest::<Stops>(out, put.end, repertoire, encoding, &bytes[put.read..], size - put.read);
+        return print_rest::<Stops>(
+            out,
+            put.end,
+            repertoire,
+            encoding,
+            &bytes[put.read..],
+            size - put.read,
+        );
     }
     Ok(put.end)
 }
@@ -291,7 +305,13 @@ fn put_run<Stops: ByteClass>(
 
 // Puts the bytes of a block up to a stop.
 #[inline(always)]
-fn put_block<Stops: ByteClass>(out: &mut [u8], so_far: Put, bytes: &[u8], size: usize, v: u8x16) -> Put
+fn put_block<Stops: ByteClass>(
+    out: &mut [u8],
+    so_far: Put,
+    bytes: &[u8],
+    size: usize,
+    v: u8x16,
+) -> Put
     requires size { size ≤ length bytes.now }
     requires from { so_far.read ≤ size }
     requires room { so_far.end + 32 ≤ length out.old }

@@ -44,7 +44,7 @@ returns-clause-printed g c =
     elim c.else-first.branch [
       | else-first-via-then-first+else-begins_like_mark w ↦
           let other = ap begins_like_bom (sym slice.1) ∙ ap (λ v. begins_like_bom (take (c.in_ok-end.end - c.args.at) (drop c.args.at v))) (sym w.deref.ensures.value)
-            ∙ sym w.begins_like_mark.ensures ∙ w.if-begins_like_mark.false in
+          ∙ sym w.begins_like_mark.ensures ∙ w.if-begins_like_mark.false in
           plain (and_right c.args.first (begins_like_bom (puts_of c.args.repertoire h.meant)) other)
       | else-first-via-else-first w ↦ plain (and_left c.args.first (begins_like_bom (puts_of c.args.repertoire h.meant)) w.if-first.false)
     ]

@@ -71,5 +71,5 @@ returns-in_err-line-inside-clause-unchanged g c =
     let one = kept-on from from c.in_ok-after_key.after_key old old c.print_first.new.out.items (key_bytes c.args.repertoire c.args.first key.meant) (omega arith, refl) c.line.invariant key.within key.printed in
     let two = kept-on from c.in_ok-after_key.after_key c.in_ok-after_separator.after_separator old c.print_first.new.out.items c.put_raw.new.out.items c.as_bytes.result.now one key.within separator.within separator.put in
     let three = kept-on from c.in_ok-after_separator.after_separator c.in_ok-after_value.after_value old c.put_raw.new.out.items c.print_bytes.new.out.items (puts_of c.args.repertoire value.meant)
-      two separator.within value.within value.printed in
+    two separator.within value.within value.printed in
     at-error c.from_residual-in_err-line-inside.result (fewer-kept c.put_raw-2.new.out.items c.print_bytes.new.out.items from c.in_ok-after_value.after_value three.0 c.put_raw-2.ensures.same ∙ three.1 ∙ c.line.view_is)
