@@ -45,6 +45,10 @@ puts_of r text = format.encoded_text (encoding_in r) (format.printed_characters 
 abbrev pub key_bytes : Repertoire → Bool → List ℕ → List ℕ
 key_bytes r first key = format.encoded_text (encoding_in r) (format.printed_key (encoding_in r) (only_in r) first key)
 
+-- the bytes of a key whose first character is escaped
+abbrev pub escaped_key : Repertoire → List ℕ → List ℕ
+escaped_key r key = format.encoded_text (encoding_in r) (format.with_first_escaped (encoding_in r) (only_in r) key)
+
 -- the character held back inside a value that is set in place, or nothing if none is
 abbrev pub held_text : Encoding → Option ℕ → List ℕ
 held_text e None = []

@@ -11,8 +11,8 @@ ghost use Rattle.properties_format.specs.Valued.{printed_inside, printed_first, 
 ghost use Rattle.properties_text.specs.Encoding.{line_of};
 ghost use Rattle.properties_text.specs.Parsing.{IsSpan, bytes_in};
 ghost use Rattle.properties_text.specs.Spelt.{text_in, IsWell};
-ghost use Rattle.properties_text.specs.Printing.{encoding_in, only_in, AppendsOnOk, character_bytes, text_bytes, put_of, puts_of, key_bytes, held_text};
-ghost use Rattle.properties_text.specs.PrintedTexts.{is_copied, StopsIn, PrintsKey, PrintsEscaped, bytes_of, key_of, value_of, IsPair, PrintsPair};
+ghost use Rattle.properties_text.specs.Printing.{encoding_in, only_in, AppendsOnOk, character_bytes, text_bytes, put_of, puts_of, key_bytes, escaped_key, held_text};
+ghost use Rattle.properties_text.specs.PrintedTexts.{is_copied, StopsIn, meaning_in, Prints, bytes_of, key_of, value_of, IsPair, PrintsPair};
 
 use crate::characters::{is_comment_sign, is_separator};
 use crate::encoding::LineEncoding;
@@ -253,7 +253,7 @@ fn print_first<Stops: ByteClass>(
     requires at { at ≤ length out.old.items }
     requires stops { StopsIn Stops.holds encoding repertoire }
     requires well { IsWell encoding (take size bytes.now) }
-    ensures printed { PrintsKey encoding repertoire first (Stops.holds backslash) (take size bytes.now) out.old.items at out.new.items result }
+    ensures printed { Prints (meaning_in encoding (Stops.holds backslash) (take size bytes.now)) (key_bytes repertoire first) out.old.items at out.new.items result }
     ensures same { take at out.new.items ≡ take at out.old.items }
     ensures longer { length out.old.items ≤ length out.new.items }
 {
@@ -279,7 +279,7 @@ fn print_with_first_escaped<Stops: ByteClass>(
     requires stops { StopsIn Stops.holds encoding repertoire }
     requires well { IsWell encoding (take size bytes.now) }
     requires some { 0 < size }
-    ensures printed { PrintsEscaped encoding repertoire (Stops.holds backslash) (take size bytes.now) out.old.items at out.new.items result }
+    ensures printed { Prints (meaning_in encoding (Stops.holds backslash) (take size bytes.now)) (escaped_key repertoire) out.old.items at out.new.items result }
     ensures same { take at out.new.items ≡ take at out.old.items }
     ensures longer { length out.old.items ≤ length out.new.items }
 {

@@ -20,7 +20,7 @@ use Rattle.properties_format.proofs.Escapes.Unique.{text_in_front-means, text_in
 use Rattle.properties_format.proofs.Printing.Characters.{encoded_text-append}
 use Rattle.properties_text.specs.Printing.{printed_byte, printed_bytes, encoding_in, only_in, put_of, puts_of}
 use Rattle.properties_text.specs.Spelt.{text_in, IsWell}
-use Rattle.properties_text.specs.PrintedTexts.{meaning_by, printed_by, printed_in, is_copied, is_inside, inside, past, past_in, rest_in, StopsIn}
+use Rattle.properties_text.specs.PrintedTexts.{meaning_by, meaning_in, printed_by, printed_in, is_copied, is_inside, inside, past, past_in, rest_in, StopsIn}
 use Rattle.properties_text.specs.declared.encoding.line.LineEncoding.{LineEncoding}
 use Rattle.properties_text.specs.declared.encoding.line.LineEncoding.TheVariants.{Windows1252, Utf8}
 use Rattle.properties_text.specs.declared.print.Repertoire.{Repertoire}
@@ -118,7 +118,7 @@ meaning-itself false c x h = refl
 pub printed-itself : (e : LineEncoding) (t : Repertoire) (escaped : Bool) (bs rest : List ℕ) (c : ℕ) → text_in e bs ≡ c ∷ text_in e rest → (escaped ≡ true → (c == backslash) ≡ false)
     → printed_in e t escaped bs ≡ text_in_front (put_of t c) (printed_in e t escaped rest)
 printed-itself e t escaped bs rest c h k =
-    ap (λ v. printed_by t (meaning_by escaped v)) h ∙ ap (printed_by t) (meaning-itself escaped c (text_in e rest) k) ∙ printed-one t c (meaning_by escaped (text_in e rest))
+    ap (λ v. printed_by t (meaning_by escaped v)) h ∙ ap (printed_by t) (meaning-itself escaped c (text_in e rest) k) ∙ printed-one t c (meaning_in e escaped rest)
 
 -- One byte more of a run is printed.
 pub record IsByte (e : LineEncoding) (t : Repertoire) (escaped : Bool) (b : ℕ) (bs : List ℕ) : Type 0 where

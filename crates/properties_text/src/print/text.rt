@@ -5,8 +5,8 @@ ghost use Rattle.std.specs.Prelude.{◌≡◌, ◌+◌, ◌-◌, ◌*◌, ◌<�
 ghost use Rattle.properties_format.specs.Text.{backslash};
 ghost use Rattle.properties_text.specs.Spelt.{IsWell};
 ghost use Rattle.properties_format.specs.Printing.{literal, encoded_text};
-ghost use Rattle.properties_text.specs.Printing.{encoding_in, only_in, put_of};
-ghost use Rattle.properties_text.specs.PrintedTexts.{past_in, ReadsBy, PutsStops, IsRunPut, StopsIn, Prints};
+ghost use Rattle.properties_text.specs.Printing.{encoding_in, only_in, put_of, puts_of};
+ghost use Rattle.properties_text.specs.PrintedTexts.{past_in, ReadsBy, PutsStops, IsRunPut, StopsIn, meaning_in, Prints};
 
 use super::Repertoire;
 use super::bytes::{first_16, put_16, put_any, put_byte};
@@ -132,7 +132,7 @@ fn print_rest<Stops: ByteClass>(
     requires stops { StopsIn Stops.holds encoding repertoire }
     requires well { IsWell encoding (take size bytes.now) }
     requires begins { 0 < size → Stops.holds (get_or (take size bytes.now) 0 0) ≡ true }
-    ensures printed { Prints encoding repertoire (Stops.holds backslash) (take size bytes.now) out.old.items at out.new.items result }
+    ensures printed { Prints (meaning_in encoding (Stops.holds backslash) (take size bytes.now)) (puts_of repertoire) out.old.items at out.new.items result }
     ensures same { take at out.new.items ≡ take at out.old.items }
     ensures longer { length out.old.items ≤ length out.new.items }
 {
@@ -239,7 +239,7 @@ pub fn print_bytes<Stops: ByteClass>(
     requires at { at ≤ length out.old.items }
     requires stops { StopsIn Stops.holds encoding repertoire }
     requires well { IsWell encoding (take size bytes.now) }
-    ensures printed { Prints encoding repertoire (Stops.holds backslash) (take size bytes.now) out.old.items at out.new.items result }
+    ensures printed { Prints (meaning_in encoding (Stops.holds backslash) (take size bytes.now)) (puts_of repertoire) out.old.items at out.new.items result }
     ensures same { take at out.new.items ≡ take at out.old.items }
     ensures longer { length out.old.items ≤ length out.new.items }
 {
