@@ -57,6 +57,7 @@ Appends text before (Err e) after = IsRefused text e
 pub record AreResolved (text new : List ℕ) (escapes : Escapes) : Type 0 where
   pub within : escapes.end ≤ length new
   pub is_text : IsUtf8 (take escapes.end new)
+  pub rest_is_text : IsUtf8 escapes.rest.now
   pub meaning : meaning_of (chars text) ≡ text_in_front (chars (take escapes.end new)) (meaning_of (chars escapes.rest.now))
 
 -- The result of resolving the escapes at the front of a text.

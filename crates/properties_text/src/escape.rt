@@ -119,18 +119,14 @@ fn put_escapes<'a>(run: &mut [u8], text: &'a str) -> Result<Escapes<'a>, Malform
     ensures shorter { IfOk result (λ escapes. 4 ≤ length run.old → get_or text.now 0 0 ≡ backslash
         → length escapes.rest.now < length text.now) }
 {
-    let mut escapes = Escapes { end: 0, rest: text };
-    while run.len() - escapes.end >= 4 && starts_with_backslash(escapes.rest) {
-        let escape = match read_escape(LineEncoding::Utf8, escapes.rest.as_bytes()) {
-            Ok(escape) => escape,
-            Err(malformed) => return Err(malformed),
-        };
-        escapes = Escapes {
-            end: put_character(run, escapes.end, escape.character),
-            rest: &escapes.rest[escape.length..],
-        };
+    let mut end = 0;
+    let mut rest = text;
+    while run.len() - end >= 4 && starts_with_backslash(rest) {
+        let escape = read_escape(LineEncoding::Utf8, rest.as_bytes())?;
+        end = put_character(run, end, escape.character);
+        rest = &rest[escape.length..];
     }
-    Ok(escapes)
+    Ok(Escapes { end, rest })
 }
 
 #[inline(always)]
@@ -149,11 +145,9 @@ pub fn check_escapes(encoding: LineEncoding, text: &[u8]) -> Result<(), Malforme
 {
     let mut rest = text;
     while let Some(at) = find_next(rest) {
-        let escape = match read_escape(encoding, &rest[at..]) {
-            Ok(escape) => escape,
-            Err(malformed) => return Err(malformed),
-        };
-        rest = &rest[at + escape.length..];
+        let escapes = &rest[at..];
+        let escape = read_escape(encoding, escapes)?;
+        rest = &escapes[escape.length..];
     }
     Ok(())
 }

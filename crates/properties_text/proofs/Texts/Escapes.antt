@@ -41,19 +41,6 @@ IsUnread text NotEnoughDigits = length text < 4
 IsUnread text NotHex = LacksDigit text
 IsUnread text InvalidCharacter = ⊥
 
--- The value of four digits, if there is one.
-pub value-some : (d : Four) (v : ℕ) → Some v ≡ (if are_hexadecimal d then Some (code_unit d) else None) → (are_hexadecimal d ≡ true) × (v ≡ code_unit d)
-value-some d v e = elim (cases_Bool (are_hexadecimal d)) [
-  | inl h ↦ (h, (let k = e ∙ cond-true (are_hexadecimal d) _ _ h in cc))
-  | inr h ↦ (let k = e ∙ cond-false (are_hexadecimal d) _ _ h in absurd (cc))
-]
-
-pub value-none : (d : Four) → None ≡ (if are_hexadecimal d then Some (code_unit d) else None) → are_hexadecimal d ≡ false
-value-none d e = elim (cases_Bool (are_hexadecimal d)) [
-  | inl h ↦ (let k = e ∙ cond-true (are_hexadecimal d) _ _ h in absurd (cc))
-  | inr h ↦ h
-]
-
 -- ---- meanings
 
 pub meaning-unit : (text rest : List ℕ) (value : ℕ) → IsUnit text value rest → is_surrogate value ≡ false

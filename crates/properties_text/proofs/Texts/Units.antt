@@ -1,6 +1,6 @@
 -- `\u` escapes, read from their bytes.
-use Rattle.std.proofs.Common.{◌≡◌, ℕ, ◌+◌, ◌*◌, ◌<◌, ◌≤◌, ◌==◌, ◌&&◌, if◌then◌else◌, true, List, [], ◌∷◌, ◌++◌, length, take, drop, get_or, refl, sym, ap, ap₂, subst, ◌∙◌, inl, inr, arith}
-use Rattle.std.specs.Prelude.{Option, Some, None, nat_le}
+use Rattle.std.proofs.Common.{◌≡◌, ℕ, ◌+◌, ◌*◌, ◌<◌, ◌≤◌, ◌==◌, ◌&&◌, true, false, List, [], ◌∷◌, ◌++◌, length, take, drop, get_or, refl, sym, ap, ap₂, subst, ◌∙◌, inl, inr, arith}
+use Rattle.std.specs.Prelude.{nat_le}
 use lib.Utf8.{encodes}
 use Rattle.std.specs.Str.{IsUtf8, chars}
 use Rattle.std.proofs.lemmas.Bool.{cases_Bool, cond-true, cond-false, and_parts, and_from, agree_below_at, eqb-true, leb-true}
@@ -49,22 +49,24 @@ digits-value a b c d h =
     let r = and_parts (is_hexadecimal c) (is_hexadecimal d) p.1 in
     omega (arith, digit-of a q.0, digit-of b q.1, digit-of c r.0, digit-of d r.1)
 
-pub four-value : (a b c d : ℕ) → digit_value a * 0x1000 + digit_value b * 0x100 + digit_value c * 0x10 + digit_value d < 0x10000
-    → Some (digit_value a * 0x1000 + digit_value b * 0x100 + digit_value c * 0x10 + digit_value d)
-    ≡ (if are_hexadecimal (four_bytes a b c d) then Some (code_unit (four_bytes a b c d)) else None)
-four-value a b c d h =
+-- The sum of what four bytes are worth is their value, if all of them are digits.
+pub four-digits : (a b c d m n o p : ℕ) → m ≡ digit_value a → n ≡ digit_value b → o ≡ digit_value c → p ≡ digit_value d
+    → m * 0x1000 + n * 0x100 + o * 0x10 + p < 0x10000
+    → (are_hexadecimal (four_bytes a b c d) ≡ true) × (m * 0x1000 + n * 0x100 + o * 0x10 + p ≡ code_unit (four_bytes a b c d))
+four-digits a b c d m n o p m-is n-is o-is p-is h =
     let first = digit-is a (omega (arith, h)) in
     let second = digit-is b (omega (arith, h)) in
     let third = digit-is c (omega (arith, h)) in
     let fourth = digit-is d (omega (arith, h)) in
     let all = and_from (is_hexadecimal a && is_hexadecimal b) _ (and_from (is_hexadecimal a) _ first second) (and_from (is_hexadecimal c) _ third fourth) in
-    ap Some (digits-value a b c d all) ∙ sym (cond-true (are_hexadecimal (four_bytes a b c d)) _ _ all)
+    (all, omega (arith, digits-value a b c d all))
 
-pub four-none : (a b c d : ℕ) → 0x10000 ≤ digit_value a * 0x1000 + digit_value b * 0x100 + digit_value c * 0x10 + digit_value d
-    → None ≡ (if are_hexadecimal (four_bytes a b c d) then Some (code_unit (four_bytes a b c d)) else None)
-four-none a b c d h = elim (cases_Bool (are_hexadecimal (four_bytes a b c d))) [
+-- If it is too large, one of them isn't.
+pub no-four-digits : (a b c d m n o p : ℕ) → m ≡ digit_value a → n ≡ digit_value b → o ≡ digit_value c → p ≡ digit_value d
+    → 0x10000 ≤ m * 0x1000 + n * 0x100 + o * 0x10 + p → are_hexadecimal (four_bytes a b c d) ≡ false
+no-four-digits a b c d m n o p m-is n-is o-is p-is h = elim (cases_Bool (are_hexadecimal (four_bytes a b c d))) [
   | inl t ↦ absurd (omega (arith, h, digits-value a b c d t, code_unit-below (four_bytes a b c d) t))
-  | inr f ↦ sym (cond-false (are_hexadecimal (four_bytes a b c d)) _ _ f)
+  | inr f ↦ f
 ]
 
 -- Digits are ASCII.

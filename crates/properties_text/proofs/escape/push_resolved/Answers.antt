@@ -33,7 +33,7 @@ loop-at-preserved c =
     let grown = c.in_ok-push_part.ensures ∙ ap (λ v. text ++ v) (c.range.ensures.value ∙ slice-front rest at) in
     let more = take escapes.end c.put_escapes.new.run in
     record {
-      utf8 = c.in-Ok.utf8.rest;
+      utf8 = c.in-Ok.ensures.resolves.rest_is_text;
       resolved = resolved_many (chars c.args.s.now) _ _ (chars rest) (chars (take at rest)) (chars (drop at rest)) (chars escapes.rest.now) _ (chars more)
           c.loop-at.invariant.resolved s.meaning
           (ap (λ v. meaning_of (chars v)) (sym c.range_from.ensures.value) ∙ c.in-Ok.ensures.resolves.meaning)
