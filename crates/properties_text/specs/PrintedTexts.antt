@@ -1,15 +1,13 @@
 -- What a text of a line is printed as, by the encoding of the line, what a backslash means in it, and what may be printed.
 use Rattle.std.specs.Prelude.{◌≡◌, ◌⊎◌, ◌≤◌, ◌<◌, ◌+◌, ◌-◌, ◌*◌, ℕ, nat_le, nat_lt, ◌&&◌, Bool, not, true, false, if◌then◌else◌, List, [], ◌∷◌, ◌++◌, length, take, drop, Result, Ok, Err}
-use Rattle.std.specs.Str.{IsUtf8}
 use Rattle.properties_format.specs.Encoding as format
-use Rattle.properties_format.specs.Text.{backslash}
 use Rattle.properties_format.specs.Escapes as format_escapes
 use Rattle.properties_format.specs.Escapes.{Meaning, means, breaks}
 use Rattle.properties_format.specs.Printing.{encoded_text, with_first_escaped}
 use Rattle.properties_format.specs.Reading.Escapes.{meaning_of, in_front, text_in_front}
 use Rattle.properties_text.specs.Escaping.{malformed_in}
 use Rattle.properties_text.specs.Spelt.{text_in, IsWell}
-use Rattle.properties_text.specs.Printing.{encoding_in, only_in, put_of, puts_of, key_bytes, printed_bytes}
+use Rattle.properties_text.specs.Printing.{encoding_in, only_in, puts_of, key_bytes, printed_bytes}
 use Rattle.properties_text.specs.declared.encoding.line.Spelt.{Spelt}
 use Rattle.properties_text.specs.declared.escape.Malformed.{Malformed}
 use Rattle.std.specs.List.{All}
@@ -30,13 +28,17 @@ abbrev pub meaning_by : Bool → List ℕ → Meaning
 meaning_by true text = meaning_of text
 meaning_by false text = means text
 
+-- what the bytes of a text mean
+abbrev pub meaning_in : LineEncoding → Bool → List ℕ → Meaning
+meaning_in e escaped bytes = meaning_by escaped (text_in e bytes)
+
 abbrev pub printed_by : Repertoire → Meaning → Meaning
 printed_by t (means text) = means (puts_of t text)
 printed_by t (breaks kind) = breaks kind
 
 -- what the bytes of a text come to when they are printed
 abbrev pub printed_in : LineEncoding → Repertoire → Bool → List ℕ → Meaning
-printed_in e t escaped bytes = printed_by t (meaning_by escaped (text_in e bytes))
+printed_in e t escaped bytes = printed_by t (meaning_in e escaped bytes)
 
 -- ---- a text after some bytes that were copied, perhaps inside a character
 
@@ -92,22 +94,18 @@ pub record ArePut (e : LineEncoding) (t : Repertoire) (escaped : Bool) (whole : 
   pub well : IsWell e (past_in e t (drop put.read text))
   pub printed : whole ≡ text_in_front (take put.end out) (rest_in e t escaped (drop put.read text))
 
--- what a text comes to after what was put before it
-abbrev pub after : LineEncoding → Repertoire → Bool → List ℕ → ℕ → List ℕ → Meaning
-after e t escaped old at text = text_in_front (take at old) (printed_in e t escaped text)
-
--- The text means another, and what that is printed as was put.
-pub record IsPrinted (e : LineEncoding) (t : Repertoire) (escaped : Bool) (text old : List ℕ) (at : ℕ) (new : List ℕ) (end : ℕ) : Type 0 where
+-- The meaning is a text, and the bytes of that were put after what was put before.
+pub record IsPut (meaning : Meaning) (bytes : List ℕ → List ℕ) (old : List ℕ) (at : ℕ) (new : List ℕ) (end : ℕ) : Type 0 where
   pub within : end ≤ length new
   pub meant : List ℕ
-  pub meaning : meaning_by escaped (text_in e text) ≡ means meant
-  pub printed : take end new ≡ take at old ++ puts_of t meant
+  pub means_it : meaning ≡ means meant
+  pub printed : take end new ≡ take at old ++ bytes meant
 
--- The result of printing a text after what was put before: it was printed; or it is malformed, and the error says how; or memory ran out.
-abbrev pub Prints : LineEncoding → Repertoire → Bool → List ℕ → List ℕ → ℕ → List ℕ → Result ℕ UnescapeError → Type 0
-Prints e t escaped text old at new (Ok end) = IsPrinted e t escaped text old at new end
-Prints e t escaped text old at new (Err (error.Malformed malformed)) = meaning_by escaped (text_in e text) ≡ breaks (malformed_in malformed)
-Prints e t escaped text old at new (Err error.Memory) = Unit {0}
+-- The result of printing a text: its bytes were put; or it is malformed, and the error says how; or memory ran out.
+abbrev pub Prints : Meaning → (List ℕ → List ℕ) → List ℕ → ℕ → List ℕ → Result ℕ UnescapeError → Type 0
+Prints meaning bytes old at new (Ok end) = IsPut meaning bytes old at new end
+Prints meaning bytes old at new (Err (error.Malformed malformed)) = meaning ≡ breaks (malformed_in malformed)
+Prints meaning bytes old at new (Err error.Memory) = Unit {0}
 
 -- ---- reading
 
@@ -115,13 +113,13 @@ Prints e t escaped text old at new (Err error.Memory) = Unit {0}
 pub record IsReadBy (escaped : Bool) (e : LineEncoding) (bytes : List ℕ) (spelt : Spelt) : Type 0 where
   pub some : 0 < spelt.length
   pub within : spelt.length ≤ length bytes
-  pub meaning : meaning_by escaped (text_in e bytes) ≡ in_front spelt.character (meaning_by escaped (text_in e (drop spelt.length bytes)))
+  pub meaning : meaning_in e escaped bytes ≡ in_front spelt.character (meaning_in e escaped (drop spelt.length bytes))
   pub well : IsWell e (drop spelt.length bytes)
 
 -- The result of reading the first character of bytes.
 abbrev pub ReadsBy : Bool → LineEncoding → List ℕ → Result Spelt Malformed → Type 0
 ReadsBy escaped e bytes (Ok spelt) = IsReadBy escaped e bytes spelt
-ReadsBy escaped e bytes (Err malformed) = meaning_by escaped (text_in e bytes) ≡ breaks (malformed_in malformed)
+ReadsBy escaped e bytes (Err malformed) = meaning_in e escaped bytes ≡ breaks (malformed_in malformed)
 
 -- what a text comes to from one place on, after what was put before another
 abbrev pub from_on : LineEncoding → Repertoire → Bool → List ℕ → ℕ → List ℕ → ℕ → Meaning
@@ -140,41 +138,17 @@ pub record IsRunPut (holds : ℕ → Bool) (old : List ℕ) (at : ℕ) (text : L
   pub clear : All (λ b. holds b ≡ false) (take (put.read - from) (drop from text))
   pub printed : take put.end new ≡ take at old ++ printed_bytes (take (put.read - from) (drop from text))
 
--- ---- keys, and pairs
-
--- The text means another, and that was put as a key.
-pub record IsKeyPut (e : LineEncoding) (r : Repertoire) (first escaped : Bool) (text old : List ℕ) (at : ℕ) (new : List ℕ) (end : ℕ) : Type 0 where
-  pub within : end ≤ length new
-  pub meant : List ℕ
-  pub meaning : meaning_by escaped (text_in e text) ≡ means meant
-  pub printed : take end new ≡ take at old ++ key_bytes r first meant
-
-abbrev pub PrintsKey : LineEncoding → Repertoire → Bool → Bool → List ℕ → List ℕ → ℕ → List ℕ → Result ℕ UnescapeError → Type 0
-PrintsKey e r first escaped text old at new (Ok end) = IsKeyPut e r first escaped text old at new end
-PrintsKey e r first escaped text old at new (Err (error.Malformed malformed)) = meaning_by escaped (text_in e text) ≡ breaks (malformed_in malformed)
-PrintsKey e r first escaped text old at new (Err error.Memory) = Unit {0}
-
--- The text means another, and that was put with its first character escaped.
-pub record IsEscapedPut (e : LineEncoding) (r : Repertoire) (escaped : Bool) (text old : List ℕ) (at : ℕ) (new : List ℕ) (end : ℕ) : Type 0 where
-  pub within : end ≤ length new
-  pub meant : List ℕ
-  pub meaning : meaning_by escaped (text_in e text) ≡ means meant
-  pub printed : take end new ≡ take at old ++ encoded_text (encoding_in r) (with_first_escaped (encoding_in r) (only_in r) meant)
-
-abbrev pub PrintsEscaped : LineEncoding → Repertoire → Bool → List ℕ → List ℕ → ℕ → List ℕ → Result ℕ UnescapeError → Type 0
-PrintsEscaped e r escaped text old at new (Ok end) = IsEscapedPut e r escaped text old at new end
-PrintsEscaped e r escaped text old at new (Err (error.Malformed malformed)) = meaning_by escaped (text_in e text) ≡ breaks (malformed_in malformed)
-PrintsEscaped e r escaped text old at new (Err error.Memory) = Unit {0}
+-- ---- pairs
 
 -- the bytes of a key or a value, and what it means
 abbrev pub bytes_of : Part → List ℕ
 bytes_of t = take t.size t.bytes.now
 
 abbrev pub key_of : Pair → Meaning
-key_of p = meaning_by p.escaped (text_in p.encoding (bytes_of p.key))
+key_of p = meaning_in p.encoding p.escaped (bytes_of p.key)
 
 abbrev pub value_of : Pair → Meaning
-value_of p = meaning_by p.escaped (text_in p.encoding (bytes_of p.value))
+value_of p = meaning_in p.encoding p.escaped (bytes_of p.value)
 
 -- The key and the value are well-formed.
 pub record IsPair (p : Pair) : Type 0 where

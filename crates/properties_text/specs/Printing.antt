@@ -1,6 +1,5 @@
 -- What is appended when a text is printed, by its place in the line.
-use Rattle.std.specs.Prelude.{◌≡◌, ℕ, nat_lt, ◌==◌, ◌&&◌, not, Bool, true, false, if◌then◌else◌, List, [], ◌∷◌, ◌++◌, Option, Some, None, Result, OnOk}
-use Rattle.std.specs.Str.{chars}
+use Rattle.std.specs.Prelude.{◌≡◌, ℕ, nat_lt, ◌==◌, Bool, true, false, if◌then◌else◌, List, [], ◌∷◌, ◌++◌, Option, Some, None, Result, OnOk}
 use Rattle.properties_format.specs.Printing as format
 use Rattle.properties_format.specs.Text.{tab, line_feed, form_feed, space, backslash}
 use Rattle.properties_format.specs.Encoding.{Encoding, windows_1252, utf_8}
@@ -45,6 +44,10 @@ puts_of r text = format.encoded_text (encoding_in r) (format.printed_characters 
 
 abbrev pub key_bytes : Repertoire → Bool → List ℕ → List ℕ
 key_bytes r first key = format.encoded_text (encoding_in r) (format.printed_key (encoding_in r) (only_in r) first key)
+
+-- the bytes of a key whose first character is escaped
+abbrev pub escaped_key : Repertoire → List ℕ → List ℕ
+escaped_key r key = format.encoded_text (encoding_in r) (format.with_first_escaped (encoding_in r) (only_in r) key)
 
 -- the character held back inside a value that is set in place, or nothing if none is
 abbrev pub held_text : Encoding → Option ℕ → List ℕ

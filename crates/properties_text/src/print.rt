@@ -11,8 +11,8 @@ ghost use Rattle.properties_format.specs.Valued.{printed_inside, printed_first, 
 ghost use Rattle.properties_text.specs.Encoding.{line_of};
 ghost use Rattle.properties_text.specs.Parsing.{IsSpan, bytes_in};
 ghost use Rattle.properties_text.specs.Spelt.{text_in, IsWell};
-ghost use Rattle.properties_text.specs.Printing.{encoding_in, only_in, AppendsOnOk, character_bytes, text_bytes, put_of, puts_of, key_bytes, held_text};
-ghost use Rattle.properties_text.specs.PrintedTexts.{is_copied, StopsIn, PrintsKey, PrintsEscaped, bytes_of, key_of, value_of, IsPair, PrintsPair};
+ghost use Rattle.properties_text.specs.Printing.{encoding_in, only_in, AppendsOnOk, character_bytes, text_bytes, put_of, puts_of, key_bytes, escaped_key, held_text};
+ghost use Rattle.properties_text.specs.PrintedTexts.{is_copied, StopsIn, meaning_in, Prints, bytes_of, key_of, value_of, IsPair, PrintsPair};
 
 use crate::characters::{is_comment_sign, is_separator};
 use crate::encoding::LineEncoding;
@@ -184,9 +184,7 @@ pub fn print_pair(
     ensures unchanged { OnErr result (line.new ≡ line.old) }
 {
     match (pair.escaped, is_copied(pair.encoding, repertoire)) {
-        (true, true) => {
-            print_parts::<Escaped>(line, repertoire, first, pair, separator, ending)
-        }
+        (true, true) => { print_parts::<Escaped>(line, repertoire, first, pair, separator, ending) }
         (true, false) => {
             print_parts::<EscapedAscii>(line, repertoire, first, pair, separator, ending)
         }
@@ -223,11 +221,18 @@ fn print_parts<Stops: ByteClass>(
     } = pair;
     let out = &mut line.bytes;
     let filled = line.filled;
-    let after_key =
-        print_first::<Stops>(out, filled, repertoire, first, encoding, key.bytes, key.size)?;
+    let after_key = print_first::<Stops>(
+        out, filled, repertoire, first, encoding, key.bytes, key.size,
+    )?;
     let after_separator = put_raw(out, after_key, separator.as_bytes())?;
-    let after_value =
-        print_bytes::<Stops>(out, after_separator, repertoire, encoding, value.bytes, value.size)?;
+    let after_value = print_bytes::<Stops>(
+        out,
+        after_separator,
+        repertoire,
+        encoding,
+        value.bytes,
+        value.size,
+    )?;
     line.filled = put_raw(out, after_value, ending.as_bytes())?;
     Ok(())
 }
@@ -248,7 +253,7 @@ fn print_first<Stops: ByteClass>(
     requires at { at ≤ length out.old.items }
     requires stops { StopsIn Stops.holds encoding repertoire }
     requires well { IsWell encoding (take size bytes.now) }
-    ensures printed { PrintsKey encoding repertoire first (Stops.holds backslash) (take size bytes.now) out.old.items at out.new.items result }
+    ensures printed { Prints (meaning_in encoding (Stops.holds backslash) (take size bytes.now)) (key_bytes repertoire first) out.old.items at out.new.items result }
     ensures same { take at out.new.items ≡ take at out.old.items }
     ensures longer { length out.old.items ≤ length out.new.items }
 {
@@ -274,7 +279,7 @@ fn print_with_first_escaped<Stops: ByteClass>(
     requires stops { StopsIn Stops.holds encoding repertoire }
     requires well { IsWell encoding (take size bytes.now) }
     requires some { 0 < size }
-    ensures printed { PrintsEscaped encoding repertoire (Stops.holds backslash) (take size bytes.now) out.old.items at out.new.items result }
+    ensures printed { Prints (meaning_in encoding (Stops.holds backslash) (take size bytes.now)) (escaped_key repertoire) out.old.items at out.new.items result }
     ensures same { take at out.new.items ≡ take at out.old.items }
     ensures longer { length out.old.items ≤ length out.new.items }
 {
@@ -288,14 +293,15 @@ fn print_with_first_escaped<Stops: ByteClass>(
     print_bytes::<Stops>(out, end, repertoire, encoding, rest, size - first.length)
 }
 
-/// Appends a key, as [`print_pair`] does.
+/// Appends a key, as [`print_pair`] does. Fails if memory runs out.
 pub fn print_key(
     line: &mut LineBuffer,
     repertoire: Repertoire,
     first: bool,
     key: &str,
 ) -> Result<(), AllocError>
-    ensures { AppendsOnOk line.old (key_bytes repertoire first (chars key.now)) result line.new }
+    ensures appended { AppendsOnOk line.old (key_bytes repertoire first (chars key.now)) result line.new }
+    ensures unchanged { OnErr result (line.new ≡ line.old) }
 {
     let encoding = LineEncoding::Utf8;
     let (out, at) = (&mut line.bytes, line.filled);
@@ -325,9 +331,10 @@ pub fn print_texts(
     separator: &str,
     ending: &str,
 ) -> Result<(), AllocError>
-    ensures { let value = puts_of repertoire (chars value.now) in
+    ensures appended { let value = puts_of repertoire (chars value.now) in
         let bytes = key_bytes repertoire first (chars key.now) ++ (separator.now ++ (value ++ ending.now)) in
         AppendsOnOk line.old bytes result line.new }
+    ensures unchanged { OnErr result (line.new ≡ line.old) }
 {
     let pair = Pair::literal(key, value);
     match print_pair(line, repertoire, first, pair, separator, ending) {

@@ -1,14 +1,13 @@
 -- The words of this kernel in those that other contracts have.
-use Rattle.std.proofs.Common.{◌≡◌, ℕ, true, false, List, refl, sym, subst, ◌∙◌}
+use Rattle.std.proofs.Common.{◌≡◌, ℕ, List, sym, subst}
 use Rattle.properties_format.specs.Pieces.{characters}
-use Rattle.properties_format.specs.Encoding.{windows_1252, utf_8}
-use Rattle.properties_format.specs.Escapes.{Meaning, means, breaks, Means, Breaks, IsMeaning}
+use Rattle.properties_format.specs.Encoding.{utf_8}
+use Rattle.properties_format.specs.Escapes.{means, Means, IsMeaning}
 use Rattle.properties_format.specs.Reading.Escapes.{meaning_of}
 use Rattle.properties_format.specs.Reading.Encoding.{pieces_of}
 use Rattle.properties_format.proofs.Undecoded.{decodes}
 use Rattle.properties_format.proofs.Escapes.Unique.{meaning_of-meets}
 use Rattle.properties_format.proofs.Encodings.WellFormed.{well_formed-from_IsUtf8}
-use Rattle.properties_text.specs.Escaping.{malformed_in, IsRefused}
 use Rattle.properties_text.specs.Encoding.{line_of}
 use Rattle.properties_text.specs.Spelt.{text_in, IsWell}
 use Rattle.properties_text.specs.declared.encoding.line.LineEncoding.{LineEncoding}

@@ -1,8 +1,8 @@
 -- Reading and putting by turns.
-use Rattle.std.proofs.Common.{◌≡◌, ℕ, ◌+◌, ◌-◌, ◌*◌, ◌<◌, ◌≤◌, ◌==◌, Bool, true, false, List, [], ◌∷◌, ◌++◌, length, map, take, drop, get_or, refl, sym, ap, ap₂, ◌∙◌, subst, inl, inr, append-nil, append_assoc, arith, ne_eqb, eqb-true}
-use Rattle.std.specs.Prelude.{Option, Some, None, Result, Ok, Err}
+use Rattle.std.proofs.Common.{◌≡◌, ℕ, ◌+◌, ◌-◌, ◌*◌, ◌<◌, ◌≤◌, Bool, true, false, List, [], ◌∷◌, ◌++◌, length, map, take, drop, get_or, refl, sym, ap, ap₂, ◌∙◌, subst, inl, inr, append-nil, append_assoc, arith, ne_eqb}
+use Rattle.std.specs.Prelude.{Some, Result, Ok, Err}
 use Rattle.std.specs.List.{All}
-use Rattle.std.proofs.lemmas.Bool.{cases_Bool, cases_lt, cond-false}
+use Rattle.std.proofs.lemmas.Bool.{cases_lt, cond-false}
 use Rattle.std.proofs.lemmas.Str.{IsUtf8-nil}
 use Rattle.std.proofs.Math.Seq.{take-append_seam, take-add}
 use Rattle.std.proofs.lemmas.List.{length-map, length-append, take-append-le, get_or-drop, get_or-take, get_or_past, length-take, length-take-le, take-take, drop-take, drop-drop, drop_more, drop_all, take-append-drop, length-drop, take_more}
@@ -10,13 +10,13 @@ use Rattle.std.proofs.lemmas.List.Elements.{All-push, All-append, All-weaker, Al
 use Rattle.properties_format.specs.Text.{backslash}
 use Rattle.properties_format.specs.Escapes as format
 use Rattle.properties_format.specs.Escapes.{Meaning, means, breaks}
-use Rattle.properties_format.specs.Reading.Escapes.{meaning_of, in_front, text_in_front}
+use Rattle.properties_format.specs.Reading.Escapes.{in_front, text_in_front}
 use Rattle.properties_format.proofs.Escapes.Laws.{meaning_of-itself}
 use Rattle.properties_format.proofs.Escapes.Unique.{text_in_front-means, text_in_front-breaks, meaning_of-empty}
 use Rattle.properties_text.specs.Escaping.{malformed_in}
-use Rattle.properties_text.specs.Printing.{printed_byte, printed_bytes, with_backslashes, backslashes_before, put_of, puts_of}
-use Rattle.properties_text.specs.Spelt.{text_in, IsWell, IsFirst, IsRead, Reads}
-use Rattle.properties_text.specs.PrintedTexts.{meaning_by, printed_by, printed_in, is_copied, is_inside, inside_in, past_in, rest_in, StopsIn, ArePut, IsReadBy, ReadsBy, from_on, PutsStops, IsRunPut, IsPrinted, Prints}
+use Rattle.properties_text.specs.Printing.{printed_byte, printed_bytes, with_backslashes, put_of, puts_of}
+use Rattle.properties_text.specs.Spelt.{text_in, IsWell, IsFirst, Reads}
+use Rattle.properties_text.specs.PrintedTexts.{meaning_by, meaning_in, printed_by, printed_in, is_inside, past_in, rest_in, StopsIn, ArePut, IsReadBy, ReadsBy, from_on, IsRunPut, IsPut, Prints}
 use Rattle.properties_text.specs.declared.encoding.line.LineEncoding.{LineEncoding}
 use Rattle.properties_text.specs.declared.encoding.line.LineEncoding.TheVariants.{Windows1252, Utf8}
 use Rattle.properties_text.specs.declared.encoding.line.Spelt.{Spelt}
@@ -35,7 +35,7 @@ use Rattle.properties_text.proofs.Texts.Resolving.{text_in_front-append}
 use Rattle.properties_text.proofs.Spelt.First.{ascii-back}
 use Rattle.properties_text.proofs.Spelt.Escapes.{no-text}
 use Rattle.properties_text.proofs.Printing.Bytes.{printed_bytes-append}
-use Rattle.properties_text.proofs.PrintedTexts.Steps.{printed-one, rest-well, past-well, one-byte, run-of, not-inside}
+use Rattle.properties_text.proofs.PrintedTexts.Steps.{printed-one, rest-well, past-well, run-of, not-inside}
 
 -- ---- reading one character
 
@@ -61,7 +61,7 @@ reads-itself escaped e bs spelt w other h = record {
         let both : true ≡ false = other (ap (λ v. get_or v 0 0) back.1 ∙ q) in
         cc
 
-    by : (escaped : Bool) → (get_or bs 0 0 ≡ backslash → escaped ≡ false) → meaning_by escaped (spelt.character ∷ text_in e (drop spelt.length bs)) ≡ in_front spelt.character (meaning_by escaped (text_in e (drop spelt.length bs)))
+    by : (escaped : Bool) → (get_or bs 0 0 ≡ backslash → escaped ≡ false) → meaning_by escaped (spelt.character ∷ text_in e (drop spelt.length bs)) ≡ in_front spelt.character (meaning_in e escaped (drop spelt.length bs))
     by true other = meaning_of-itself spelt.character (text_in e (drop spelt.length bs)) (ne_eqb spelt.character backslash (not-one other))
     by false other = refl
 
@@ -106,7 +106,7 @@ put-character holds e t whole text so_far put out new spelt s held own h is with
     (
     rest-well e t (holds backslash) bs own
     ∙ ap (printed_by t) h.meaning
-    ∙ printed-one t spelt.character (meaning_by (holds backslash) (text_in e (drop spelt.length bs)))
+    ∙ printed-one t spelt.character (meaning_in e (holds backslash) (drop spelt.length bs))
     ∙ ap (λ v. text_in_front (put_of t spelt.character) (printed_in e t (holds backslash) v)) left
     ∙ ap (text_in_front (put_of t spelt.character)) (sym (rest-well e t (holds backslash) (drop put.read text) well))
     )
@@ -178,7 +178,7 @@ rest-nil e t escaped = rest-well e t escaped [] (nil-well e) ∙ ap (λ v. print
     none false = refl
 
 pub put-all : (e : LineEncoding) (t : Repertoire) (escaped : Bool) (text old : List ℕ) (at : ℕ) (put : Put) (new : List ℕ) → IsWell e text → length text ≤ put.read
-    → ArePut e t escaped (from_on e t escaped old at text 0) text put new → IsPrinted e t escaped text old at new put.end
+    → ArePut e t escaped (from_on e t escaped old at text 0) text put new → IsPut (meaning_in e escaped text) (puts_of t) old at new put.end
 put-all e t escaped text old at put new w all held =
     let rest = ap (rest_in e t escaped) (drop_all put.read text all) ∙ rest-nil e t escaped in
     let whole : text_in_front (take at old) (printed_in e t escaped text) ≡ means (take put.end new) =
@@ -187,14 +187,14 @@ put-all e t escaped text old at put new w all held =
     ∙ ap (text_in_front (take put.end new)) rest
     ∙ text_in_front-means (take put.end new) []
     ∙ ap means (append-nil (take put.end new)) in
-    let found = from-printed t (meaning_by escaped (text_in e text)) (take at old) (take put.end new) whole in
-    record { within = held.within; meant = found.0; meaning = found.1; printed = found.2 }
+    let found = from-printed t (meaning_in e escaped text) (take at old) (take put.end new) whole in
+    record { within = held.within; meant = found.0; means_it = found.1; printed = found.2 }
 
 pub put-broken : (e : LineEncoding) (t : Repertoire) (escaped : Bool) (text old : List ℕ) (at : ℕ) (put : Put) (new : List ℕ) (m : Malformed) → IsWell e text
     → ArePut e t escaped (from_on e t escaped old at text 0) text put new → rest_in e t escaped (drop put.read text) ≡ breaks (malformed_in m)
-    → meaning_by escaped (text_in e text) ≡ breaks (malformed_in m)
+    → meaning_in e escaped text ≡ breaks (malformed_in m)
 put-broken e t escaped text old at put new m w held fault =
-    from-broken t (meaning_by escaped (text_in e text)) (take at old) (malformed_in m) (
+    from-broken t (meaning_in e escaped text) (take at old) (malformed_in m) (
     ap (text_in_front (take at old)) (sym (rest-well e t escaped text w))
     ∙ held.printed
     ∙ ap (text_in_front (take put.end new)) fault
@@ -262,13 +262,13 @@ broken-front x (breaks k) kind e = let f = sym (text_in_front-breaks x k) ∙ e 
 -- a malformed escape at a stop
 pub stop-broken : (holds : ℕ → Bool) (e : LineEncoding) (t : Repertoire) (text old : List ℕ) (at from : ℕ) (so_far : Put) (out bs : List ℕ) (m : Malformed) → bs ≡ drop so_far.read text → StopsIn holds e t
     → so_far.read < length text → holds (get_or bs 0 0) ≡ true → ArePut e t (holds backslash) (from_on e t (holds backslash) old at text from) text so_far out
-    → meaning_by (holds backslash) (text_in e bs) ≡ breaks (malformed_in m)
+    → meaning_in e (holds backslash) bs ≡ breaks (malformed_in m)
     → rest_in e t (holds backslash) (drop from text) ≡ breaks (malformed_in m)
 stop-broken holds e t text old at from so_far out bs m is s inside stop held reads =
     let own : holds (get_or (drop so_far.read text) 0 0) ≡ true = ap (λ v. holds (get_or v 0 0)) (sym is) ∙ stop in
     let w = stop-well holds e t (drop so_far.read text) s (omega (arith, length-drop so_far.read text, inside)) own held.well in
     let rest : rest_in e t (holds backslash) (drop so_far.read text) ≡ breaks (malformed_in m) =
-    rest-well e t (holds backslash) (drop so_far.read text) w ∙ ap (λ v. printed_by t (meaning_by (holds backslash) (text_in e v))) (sym is) ∙ ap (printed_by t) reads in
+    rest-well e t (holds backslash) (drop so_far.read text) w ∙ ap (printed_in e t (holds backslash)) (sym is) ∙ ap (printed_by t) reads in
     broken-front (take at old) (rest_in e t (holds backslash) (drop from text)) (malformed_in m)
     (held.printed ∙ ap (text_in_front (take so_far.end out)) rest ∙ text_in_front-breaks (take so_far.end out) (malformed_in m))
 
@@ -401,9 +401,9 @@ front-kept old new bytes from at end before room within e =
     let long : from ≤ end = omega (arith, size, before) in (
       omega (arith, size),
       sym (take-take from end new long)
-      ∙ ap (take from) e
-      ∙ take-append-le from (take at old) bytes (omega (arith, length-take-le at old room, before))
-      ∙ take-take from at old before,
+          ∙ ap (take from) e
+          ∙ take-append-le from (take at old) bytes (omega (arith, length-take-le at old room, before))
+          ∙ take-take from at old before,
     )
 
 -- So do fewer bytes of it.
@@ -428,19 +428,19 @@ run-kept holds text from at read put items0 items1 slice1 new2 items2 before roo
 
 pub rest-printed : (e : LineEncoding) (t : Repertoire) (escaped : Bool) (text old : List ℕ) (at : ℕ) (put : Put) (out rest new : List ℕ) (r : Result ℕ UnescapeError) → IsWell e text
     → ArePut e t escaped (from_on e t escaped old at text 0) text put out → IsWell e (drop put.read text) → rest ≡ drop put.read text
-    → Prints e t escaped rest out put.end new r → Prints e t escaped text old at new r
+    → Prints (meaning_in e escaped rest) (puts_of t) out put.end new r → Prints (meaning_in e escaped text) (puts_of t) old at new r
 rest-printed e t escaped text old at put out rest new (Ok end) w held own is h =
     let whole : text_in_front (take at old) (printed_in e t escaped text) ≡ means (take end new) =
     ap (text_in_front (take at old)) (sym (rest-well e t escaped text w))
     ∙ held.printed
-    ∙ ap (text_in_front (take put.end out)) (rest-well e t escaped (drop put.read text) own ∙ ap (λ v. printed_by t (meaning_by escaped (text_in e v))) (sym is) ∙ ap (printed_by t) h.meaning)
+    ∙ ap (text_in_front (take put.end out)) (rest-well e t escaped (drop put.read text) own ∙ ap (printed_in e t escaped) (sym is) ∙ ap (printed_by t) h.means_it)
     ∙ text_in_front-means (take put.end out) (puts_of t h.meant)
     ∙ ap means (sym h.printed) in
-    let found = from-printed t (meaning_by escaped (text_in e text)) (take at old) (take end new) whole in
-    record { within = h.within; meant = found.0; meaning = found.1; printed = found.2 }
+    let found = from-printed t (meaning_in e escaped text) (take at old) (take end new) whole in
+    record { within = h.within; meant = found.0; means_it = found.1; printed = found.2 }
 rest-printed e t escaped text old at put out rest new (Err (error.Malformed m)) w held own is h =
     put-broken e t escaped text old at put out m w held
-    (rest-well e t escaped (drop put.read text) own ∙ ap (λ v. printed_by t (meaning_by escaped (text_in e v))) (sym is) ∙ ap (printed_by t) h)
+    (rest-well e t escaped (drop put.read text) own ∙ ap (printed_in e t escaped) (sym is) ∙ ap (printed_by t) h)
 rest-printed e t escaped text old at put out rest new (Err error.Memory) w held own is h = tt
 
 -- what is left of a text, as a slice of its bytes

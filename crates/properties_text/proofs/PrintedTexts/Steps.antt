@@ -1,40 +1,34 @@
 -- One byte, a run of bytes, or one character more of a text is printed.
-use Rattle.std.proofs.Common.{◌≡◌, ℕ, ◌+◌, ◌/◌, ◌%◌, ◌<◌, ◌≤◌, ◌==◌, ◌&&◌, Bool, not, true, false, List, [], ◌∷◌, ◌++◌, length, take, drop, get_or, map, refl, sym, ap, ap₂, ◌∙◌, subst, inl, inr, append-nil, append_assoc, arith, nat_lt, lt-ltb, le-ltb, ne_eqb}
-use Rattle.std.specs.Prelude.{Option, Some, None, is_some, nat_le}
-use lib.Utf8.{encode, encodes, scalars, scalar}
+use Rattle.std.proofs.Common.{◌≡◌, ℕ, ◌+◌, ◌/◌, ◌%◌, ◌<◌, ◌≤◌, ◌==◌, Bool, not, true, false, List, [], ◌∷◌, ◌++◌, length, get_or, refl, sym, ap, ap₂, ◌∙◌, subst, inl, inr, append-nil, arith, nat_lt, lt-ltb, le-ltb, ne_eqb}
+use Rattle.std.specs.Prelude.{None, is_some, nat_le}
+use lib.Utf8.{encode, encodes}
 use Rattle.std.specs.List.{All}
-use Rattle.std.specs.Str.{IsUtf8, chars}
-use Rattle.std.proofs.lemmas.Bool.{cases_Bool, cases_lt, cond-true, cond-false, and_parts, and_from, and_left, and_right, lt-leb, le-leb}
-use Rattle.std.proofs.lemmas.Bool.Decides.{nat_tests}
+use Rattle.std.specs.Str.{IsUtf8}
+use Rattle.std.proofs.lemmas.Bool.{cases_lt, cond-true, cond-false, and_from, and_left, and_right, lt-leb, le-leb}
 use Rattle.std.proofs.lemmas.List.Elements.{All-head, All-tail}
-use Rattle.std.proofs.lemmas.Str.{encodes-chars, chars-encodes}
-use Rattle.properties_format.specs.Encoding.{Encoding, windows_1252, utf_8, encoded}
+use Rattle.properties_format.specs.Encoding.{utf_8, encoded}
 use Rattle.properties_format.specs.Text.{backslash, space}
 use Rattle.properties_format.specs.Windows1252.{windows_1252_character, windows_1252_byte}
 use Rattle.properties_format.specs.Escapes.{Meaning, means, breaks}
 use Rattle.properties_format.specs.Printing.{in_key_or_value, printed_character, printed_characters, encoded_text, unicode_escape, is_special, has_letter, may_be_unescaped}
-use Rattle.properties_format.specs.Reading.Escapes.{meaning_of, in_front, text_in_front}
-use Rattle.properties_format.specs.Reading.Undecoded.{characters_of}
+use Rattle.properties_format.specs.Reading.Escapes.{in_front, text_in_front}
 use Rattle.properties_format.proofs.Undecoded.{same}
 use Rattle.properties_format.proofs.Encodings.Utf8Characters.{encode-one, encode-two, encode-three, encode-four}
 use Rattle.properties_format.proofs.Encodings.Windows1252.{windows_1252_byte-character}
 use Rattle.properties_format.proofs.Escapes.Laws.{meaning_of-itself}
-use Rattle.properties_format.proofs.Escapes.Unique.{text_in_front-means, text_in_front-breaks, meaning_of-empty}
-use Rattle.properties_format.proofs.Printing.Characters.{encoded_text-append, printed_characters-append}
-use Rattle.properties_text.specs.Printing.{printed_byte, printed_bytes, with_backslashes, encoding_in, only_in, put_of, puts_of}
-use Rattle.properties_text.specs.Spelt.{text_in, IsWell, IsFirst, IsRead}
-use Rattle.properties_text.specs.PrintedTexts.{meaning_by, printed_by, printed_in, is_copied, is_inside, inside, past, inside_in, past_in, rest_in, StopsIn, ArePut}
+use Rattle.properties_format.proofs.Escapes.Unique.{text_in_front-means, text_in_front-breaks}
+use Rattle.properties_format.proofs.Printing.Characters.{encoded_text-append}
+use Rattle.properties_text.specs.Printing.{printed_byte, printed_bytes, encoding_in, only_in, put_of, puts_of}
+use Rattle.properties_text.specs.Spelt.{text_in, IsWell}
+use Rattle.properties_text.specs.PrintedTexts.{meaning_by, meaning_in, printed_by, printed_in, is_copied, is_inside, inside, past, past_in, rest_in, StopsIn}
 use Rattle.properties_text.specs.declared.encoding.line.LineEncoding.{LineEncoding}
 use Rattle.properties_text.specs.declared.encoding.line.LineEncoding.TheVariants.{Windows1252, Utf8}
-use Rattle.properties_text.specs.declared.encoding.line.Spelt.{Spelt}
 use Rattle.properties_text.specs.declared.print.Repertoire.{Repertoire}
 use Rattle.properties_text.specs.declared.print.Repertoire.TheVariants as repertoire
-use Rattle.properties_text.specs.declared.print.text.Put.{Put}
 use Rattle.properties_text.proofs.Texts.Characters.{character_and}
 use Rattle.properties_text.proofs.Texts.Resolving.{text_in_front-append}
-use Rattle.properties_text.proofs.Printing.Bytes.{ascii-printed, byte-printed, lacked-printed, past-special, past-letter, past-control, past-byte, byte-past}
+use Rattle.properties_text.proofs.Printing.Bytes.{ascii-printed, byte-printed, lacked-printed, past-special, past-letter, past-control, past-byte}
 use Rattle.properties_text.proofs.Printing.Characters.{encoded_escape}
-use Rattle.properties_text.proofs.Printing.Vectors.{spelt}
 use Rattle.properties_text.proofs.Spelt.First.{ascii-first}
 
 -- ---- a character
@@ -44,9 +38,6 @@ put-ascii t c h = ascii-printed (encoding_in t) (only_in t) c h
 
 pub put-utf_8 : (c : ℕ) → 0x80 ≤ c → put_of repertoire.Utf8 c ≡ encode c
 put-utf_8 c h = rw (past-special c h, past-letter c h, past-control c h) (append-nil (encode c))
-
-pub put-byte : (c b : ℕ) → 0x80 ≤ c → windows_1252_byte c ≡ Some b → put_of repertoire.Windows1252 c ≡ b ∷ []
-put-byte c b h e = byte-printed c b e ∙ past-byte b (byte-past c b h e)
 
 pub put-lacked : (c : ℕ) → 0x80 ≤ c → windows_1252_byte c ≡ None → put_of repertoire.Windows1252 c ≡ unicode_escape c
 put-lacked c h e = lacked-printed c h (ap is_some e)
@@ -127,7 +118,7 @@ meaning-itself false c x h = refl
 pub printed-itself : (e : LineEncoding) (t : Repertoire) (escaped : Bool) (bs rest : List ℕ) (c : ℕ) → text_in e bs ≡ c ∷ text_in e rest → (escaped ≡ true → (c == backslash) ≡ false)
     → printed_in e t escaped bs ≡ text_in_front (put_of t c) (printed_in e t escaped rest)
 printed-itself e t escaped bs rest c h k =
-    ap (λ v. printed_by t (meaning_by escaped v)) h ∙ ap (printed_by t) (meaning-itself escaped c (text_in e rest) k) ∙ printed-one t c (meaning_by escaped (text_in e rest))
+    ap (λ v. printed_by t (meaning_by escaped v)) h ∙ ap (printed_by t) (meaning-itself escaped c (text_in e rest) k) ∙ printed-one t c (meaning_in e escaped rest)
 
 -- One byte more of a run is printed.
 pub record IsByte (e : LineEncoding) (t : Repertoire) (escaped : Bool) (b : ℕ) (bs : List ℕ) : Type 0 where
@@ -185,8 +176,11 @@ led c h = elim (cases_lt c 0x800) [
   | inl k ↦ (192 + c / 64, (128 + c % 64) ∷ [], record { bytes = encode-two c h k; led = omega arith; more = (next-inside c, tt) })
   | inr m ↦ elim (cases_lt c 0x1_0000) [
     | inl k ↦ (224 + c / 4096, (128 + c / 64 % 64) ∷ (128 + c % 64) ∷ [], record { bytes = encode-three c m k; led = omega arith; more = (next-inside (c / 64), (next-inside c, tt)) })
-    | inr n ↦ (240 + c / 262144, (128 + c / 4096 % 64) ∷ (128 + c / 64 % 64) ∷ (128 + c % 64) ∷ [],
-        record { bytes = encode-four c n; led = omega arith; more = (next-inside (c / 4096), (next-inside (c / 64), (next-inside c, tt))) })
+    | inr n ↦ (
+      240 + c / 262144,
+      (128 + c / 4096 % 64) ∷ (128 + c / 64 % 64) ∷ (128 + c % 64) ∷ [],
+      record { bytes = encode-four c n; led = omega arith; more = (next-inside (c / 4096), (next-inside (c / 64), (next-inside c, tt))) },
+    )
   ]
 ]
 

@@ -1,20 +1,12 @@
 -- Texts printed byte by byte.
-use Rattle.std.proofs.Common.{◌≡◌, ℕ, ◌+◌, ◌-◌, ◌<◌, ◌≤◌, ◌==◌, Bool, true, false, nat_lt, List, [], ◌∷◌, ◌++◌, refl, sym, ap, ap₂, ◌∙◌, inl, inr, append_assoc, append-nil, arith, length, take, drop, get_or, lit<, le-ltb, lt-ltb, ltb-true, ne_eqb, eqb-true}
-use Rattle.std.specs.Prelude.{Option, Some, None, is_some, map, not, ◌&&◌, encode_utf8, encode_utf8_all, slice_index, unwrap_or}
-use Rattle.std.specs.Str.{chars, IsUtf8, IsAscii}
+use Rattle.std.proofs.Common.{◌≡◌, ℕ, ◌+◌, ◌-◌, ◌<◌, ◌≤◌, ◌==◌, Bool, true, false, nat_lt, List, [], ◌∷◌, ◌++◌, refl, sym, ap, ◌∙◌, inl, inr, append_assoc, arith, lit<, le-ltb, lt-ltb, ltb-true, ne_eqb, eqb-true}
+use Rattle.std.specs.Prelude.{Option, Some, None, is_some, not, ◌&&◌, slice_index, unwrap_or}
 use Rattle.std.proofs.lemmas.Bool.{cases_Bool, cases_lt, cond-true, cond-false, agree_below_at, false_from_ne_true}
-use Rattle.std.specs.List.{All}
-use Rattle.std.proofs.lemmas.List.Elements.{All-head, All-tail}
-use Rattle.std.proofs.lemmas.Str.Ascii.{All-from_ascii}
-use Rattle.std.proofs.lemmas.Str.{encodes-chars, chars-append, chars-IsAscii, encode_ascii, IsUtf8-from_ascii}
-use Rattle.std.proofs.lemmas.List.{take_more, take_all, length-drop, length-take-le, take-append-le, take-append-drop}
-use Rattle.std.proofs.Math.Seq.{take-append-add}
 use Rattle.properties_format.specs.Text.{space, backslash}
 use Rattle.properties_format.specs.Windows1252.{windows_1252_byte, windows_1252_table, is_in_table, place_from}
-use Rattle.properties_format.specs.Encoding.{Encoding, windows_1252, utf_8, one_byte, encoded}
-use Rattle.properties_format.specs.Printing.{in_key_or_value, unit_escape, unicode_escape, may_be_unescaped, is_special, has_letter, letter_escape, printed_character, printed_characters, encoded_text}
-use Rattle.properties_format.proofs.Printing.Characters.{AreAscii, encoded_text-append, printed_characters-append, encoded_text-ascii, encoded-ascii, special-ascii, letter_escape-ascii}
-use Rattle.properties_format.proofs.Encodings.Utf8Characters.{encode-two, encode-three, encode-four}
+use Rattle.properties_format.specs.Encoding.{Encoding, windows_1252, one_byte, encoded}
+use Rattle.properties_format.specs.Printing.{in_key_or_value, unit_escape, unicode_escape, may_be_unescaped, is_special, has_letter, letter_escape, printed_character, encoded_text}
+use Rattle.properties_format.proofs.Printing.Characters.{encoded_text-ascii, encoded-ascii, special-ascii, letter_escape-ascii}
 use Rattle.properties_text.specs.Printing.{printed_byte, printed_bytes, backslashes_before, last_of}
 use Rattle.properties_text.specs.declared.print.bytes.TheConstants.{BEFORE, LAST}
 use Rattle.properties_format.proofs.ReadBack.Comments.{literal-ascii}
@@ -47,13 +39,6 @@ printed_byte-digits b h = elim (cases_Bool (is_special b)) [
   ]
 ]
 
--- One more byte is printed.
-pub printed_bytes-more : (bs : List ℕ) (i : ℕ) → i < length bs → printed_bytes (take (i + 1) bs) ≡ printed_bytes (take i bs) ++ printed_byte (get_or bs i 0)
-printed_bytes-more bs i h =
-    ap printed_bytes (take_more bs i 0 h)
-    ∙ printed_bytes-append (take i bs) (get_or bs i 0 ∷ [])
-    ∙ ap (λ v. printed_bytes (take i bs) ++ v) (append-nil (printed_byte (get_or bs i 0)))
-
 -- ---- ASCII
 
 -- An ASCII character is printed as its byte is.
@@ -71,11 +56,6 @@ ascii-printed e only c h = elim (cases_Bool (is_special c)) [
 
 -- ---- UTF-8
 
--- all bytes are above ASCII
-abbrev ArePast : List ℕ → Type 0
-ArePast [] = Unit {0}
-ArePast (b ∷ bs) = (0x80 ≤ b) × ArePast bs
-
 pub past-special : (b : ℕ) → 0x80 ≤ b → is_special b ≡ false
 past-special b h = false_from_ne_true (is_special b) (λ t. absurd (omega (arith, special-ascii b t)))
 
@@ -88,27 +68,6 @@ past-control b h = le-ltb b space (omega arith)
 -- A byte above ASCII is copied.
 pub past-byte : (b : ℕ) → 0x80 ≤ b → printed_byte b ≡ b ∷ []
 past-byte b h = rw (past-special b h, past-letter b h, past-control b h) refl
-
-past-bytes : (bs : List ℕ) → ArePast bs → printed_bytes bs ≡ bs
-past-bytes [] h = refl
-past-bytes (b ∷ bs) h = ap₂ (λ x y. x ++ y) (past-byte b h.0) (past-bytes bs h.1)
-
--- The bytes of a character above ASCII are above ASCII.
-encode-past : (c : ℕ) → 0x80 ≤ c → ArePast (encode_utf8 c)
-encode-past c h = elim (cases_lt c 0x800) [
-  | inl k ↦ rw (encode-two c h k) (omega arith, (omega arith, tt))
-  | inr k ↦ elim (cases_lt c 0x1_0000) [
-    | inl m ↦ rw (encode-three c k m) (omega arith, (omega arith, (omega arith, tt)))
-    | inr m ↦ rw (encode-four c m) (omega arith, (omega arith, (omega arith, (omega arith, tt))))
-  ]
-]
-
-utf_8-printed : (c : ℕ) → encoded_text utf_8 (printed_character utf_8 false in_key_or_value c) ≡ printed_bytes (encode_utf8 c)
-utf_8-printed c = elim (cases_lt c 0x80) [
-  | inl h ↦ ascii-printed utf_8 false c h ∙ sym (ap printed_bytes (encode_ascii c h) ∙ append-nil (printed_byte c))
-  | inr h ↦
-      rw (past-special c h, past-letter c h, past-control c h) (append-nil (encode_utf8 c) ∙ sym (past-bytes (encode_utf8 c) (encode-past c h)))
-]
 
 -- ---- windows-1252
 
@@ -149,17 +108,6 @@ byte-printed c b e = elim (cases_lt c 0x80) [
       let known : encoded windows_1252 c ≡ Some (b ∷ []) = ap one_byte e in
       rw (past-special c h, past-letter c h, past-control c h, known) (rw known (sym (past-byte b (byte-past c b h e))))
 ]
-
--- Characters that have bytes are printed as those bytes are.
-pub bytes-printed : (cs bs : List ℕ) → map windows_1252_byte cs ≡ map Some bs → encoded_text windows_1252 (printed_characters windows_1252 false in_key_or_value cs) ≡ printed_bytes bs
-bytes-printed [] [] h = refl
-bytes-printed [] (b ∷ bs) h = absurd (cc)
-bytes-printed (c ∷ cs) [] h = absurd (cc)
-bytes-printed (c ∷ cs) (b ∷ bs) h =
-    let first : windows_1252_byte c ≡ Some b = cc in
-    let more : map windows_1252_byte cs ≡ map Some bs = cc in
-    encoded_text-append windows_1252 (printed_character windows_1252 false in_key_or_value c) (printed_characters windows_1252 false in_key_or_value cs)
-    ∙ ap₂ (λ x y. x ++ y) (byte-printed c b first) (bytes-printed cs bs more)
 
 -- A character that windows-1252 lacks is escaped.
 pub lacked-printed : (c : ℕ) → 0x80 ≤ c → is_some (windows_1252_byte c) ≡ false → encoded_text windows_1252 (printed_character windows_1252 false in_key_or_value c) ≡ unicode_escape c

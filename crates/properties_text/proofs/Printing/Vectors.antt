@@ -1,18 +1,14 @@
 -- Bytes printed sixteen at a time.
-use Rattle.std.proofs.Common.{◌≡◌, ℕ, ◌+◌, ◌<◌, ◌≤◌, false, cond, Bool, List, [], ◌∷◌, ◌++◌, refl, sym, ap, ap₂, ◌∙◌, arith, length, take, map, replicate, get_or, append_assoc}
+use Rattle.std.proofs.Common.{◌≡◌, ℕ, ◌+◌, ◌≤◌, false, cond, Bool, List, [], ◌∷◌, ◌++◌, refl, sym, ap, ap₂, ◌∙◌, arith, length, take, map, replicate}
 use Rattle.std.specs.List.{All}
 use Rattle.std.proofs.lemmas.Bool.{le-ltb, ne_eqb}
-use Rattle.std.proofs.lemmas.List.{take-take, take-map}
+use Rattle.std.proofs.lemmas.List.{take-map}
 use Rattle.std.proofs.lemmas.List.Elements.{All-head, All-tail}
 use Rattle.std.proofs.lemmas.Simd.{splat_is_map}
 use Rattle.properties_format.specs.Text.{space, backslash}
 use Rattle.properties_format.specs.Printing.{is_special, has_letter}
 use Rattle.byte_blocks.specs.Moving.{spread}
 use Rattle.properties_text.specs.Printing.{printed_byte, printed_bytes, with_backslashes}
-use Rattle.byte_blocks.specs.Classes.{is_control}
-use Rattle.byte_blocks.specs.Marks.{clear_front}
-use Rattle.properties_text.proofs.Blocks.{no-controls}
-use Rattle.properties_text.proofs.Printing.Bytes.{printed_bytes-more}
 
 -- ---- backslashes
 

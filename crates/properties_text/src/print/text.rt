@@ -5,8 +5,8 @@ ghost use Rattle.std.specs.Prelude.{◌≡◌, ◌+◌, ◌-◌, ◌*◌, ◌<�
 ghost use Rattle.properties_format.specs.Text.{backslash};
 ghost use Rattle.properties_text.specs.Spelt.{IsWell};
 ghost use Rattle.properties_format.specs.Printing.{literal, encoded_text};
-ghost use Rattle.properties_text.specs.Printing.{encoding_in, only_in, put_of};
-ghost use Rattle.properties_text.specs.PrintedTexts.{past_in, ReadsBy, PutsStops, IsRunPut, StopsIn, Prints};
+ghost use Rattle.properties_text.specs.Printing.{encoding_in, only_in, put_of, puts_of};
+ghost use Rattle.properties_text.specs.PrintedTexts.{past_in, ReadsBy, PutsStops, IsRunPut, StopsIn, meaning_in, Prints};
 
 use super::Repertoire;
 use super::bytes::{first_16, put_16, put_any, put_byte};
@@ -132,14 +132,21 @@ fn print_rest<Stops: ByteClass>(
     requires stops { StopsIn Stops.holds encoding repertoire }
     requires well { IsWell encoding (take size bytes.now) }
     requires begins { 0 < size → Stops.holds (get_or (take size bytes.now) 0 0) ≡ true }
-    ensures printed { Prints encoding repertoire (Stops.holds backslash) (take size bytes.now) out.old.items at out.new.items result }
+    ensures printed { Prints (meaning_in encoding (Stops.holds backslash) (take size bytes.now)) (puts_of repertoire) out.old.items at out.new.items result }
     ensures same { take at out.new.items ≡ take at out.old.items }
     ensures longer { length out.old.items ≤ length out.new.items }
 {
     let mut put = Put { read: 0, end: at };
     while put.read < size {
         make_room(out, put.end, LONGEST)?;
-        put = match put_stops::<Stops>(out, put.end, repertoire, encoding, &bytes[..size], put.read) {
+        put = match put_stops::<Stops>(
+            out,
+            put.end,
+            repertoire,
+            encoding,
+            &bytes[..size],
+            put.read,
+        ) {
             Ok(next) => next,
             Err(malformed) => return Err(UnescapeError::Malformed(malformed)),
         };
@@ -232,14 +239,21 @@ pub fn print_bytes<Stops: ByteClass>(
     requires at { at ≤ length out.old.items }
     requires stops { StopsIn Stops.holds encoding repertoire }
     requires well { IsWell encoding (take size bytes.now) }
-    ensures printed { Prints encoding repertoire (Stops.holds backslash) (take size bytes.now) out.old.items at out.new.items result }
+    ensures printed { Prints (meaning_in encoding (Stops.holds backslash) (take size bytes.now)) (puts_of repertoire) out.old.items at out.new.items result }
     ensures same { take at out.new.items ≡ take at out.old.items }
     ensures longer { length out.old.items ≤ length out.new.items }
 {
     make_room_for(out, at, size)?;
     let put = put_run::<Stops>(out, at, bytes, size, 0);
     if put.read < size {
-        return print_rest::<Stops>(out, put.end, repertoire, encoding, &bytes[put.read..], size - put.read);
+        return print_rest::<Stops>(
+            out,
+            put.end,
+            repertoire,
+            encoding,
+            &bytes[put.read..],
+            size - put.read,
+        );
     }
     Ok(put.end)
 }
@@ -291,7 +305,13 @@ fn put_run<Stops: ByteClass>(
 
 // Puts the bytes of a block up to a stop.
 #[inline(always)]
-fn put_block<Stops: ByteClass>(out: &mut [u8], so_far: Put, bytes: &[u8], size: usize, v: u8x16) -> Put
+fn put_block<Stops: ByteClass>(
+    out: &mut [u8],
+    so_far: Put,
+    bytes: &[u8],
+    size: usize,
+    v: u8x16,
+) -> Put
     requires size { size ≤ length bytes.now }
     requires from { so_far.read ≤ size }
     requires room { so_far.end + 32 ≤ length out.old }

@@ -1,10 +1,11 @@
-use Rattle.std.proofs.Common.{◌≡◌, ◌-◌, true, false, take, drop, length, sym, ap, ◌∙◌, arith}
+use Rattle.std.proofs.Common.{◌-◌, true, false, take, drop, sym, ap, ◌∙◌, arith}
 use Rattle.std.proofs.lemmas.Bool.{and_left, and_right, and_from}
 use Rattle.std.proofs.lemmas.List.{length-take-le}
 use Rattle.properties_format.specs.Text.{backslash}
 use Rattle.properties_format.specs.Encoding.{begins_like_bom}
 use Rattle.properties_text.specs.Printing.{puts_of}
-use Rattle.properties_text.proofs.PrintedTexts.Keys.{slice-put, key-plain, key-result, some-text}
+use Rattle.properties_text.specs.PrintedTexts.{meaning_in}
+use Rattle.properties_text.proofs.PrintedTexts.Keys.{slice-put, key-plain, key-escaped, some-text}
 use Rattle.properties_text.proofs.print.print_first.Goals as goal
 use Rattle.properties_text.proofs.print.print_first.Goals.{else-first-via-then-first+else-begins_like_mark, else-first-via-else-first}
 
@@ -31,7 +32,7 @@ returns-then-begins_like_mark-clause-printed g c =
     let h = c.in_ok-end.ensures.printed in
     let slice = slice-put c.args.out.now.items c.print_bytes.new.out.items (puts_of c.args.repertoire h.meant) c.args.at c.in_ok-end.end c.requires.at h.within h.printed in
     let like = ap begins_like_bom (sym slice.1) ∙ ap (λ v. begins_like_bom (take (c.in_ok-end.end - c.args.at) (drop c.args.at v))) (sym c.deref.ensures.value) ∙ sym c.if-begins_like_mark.ensures in
-    key-result c.args.encoding c.args.repertoire c.args.first (g.Stops.ByteClass.holds backslash) (take c.args.size c.args.bytes.now) c.args.out.now.items c.args.at
+    key-escaped (meaning_in c.args.encoding (g.Stops.ByteClass.holds backslash) (take c.args.size c.args.bytes.now)) c.args.repertoire c.args.first c.args.out.now.items c.args.at
     c.print_bytes.new.out.items c.print_with_first_escaped.new.out.items c.in_ok-end.end h c.print_with_first_escaped.result
     (and_from c.args.first (begins_like_bom (puts_of c.args.repertoire h.meant)) c.if-first.true like) c.in_ok-end.ensures.same c.print_with_first_escaped.ensures.printed
 
@@ -39,12 +40,12 @@ pub returns-clause-printed : goal.returns-clause-printed
 returns-clause-printed g c =
     let h = c.in_ok-end.ensures.printed in
     let slice = slice-put c.args.out.now.items c.print_bytes.new.out.items (puts_of c.args.repertoire h.meant) c.args.at c.in_ok-end.end c.requires.at h.within h.printed in
-    let plain = key-plain c.args.encoding c.args.repertoire c.args.first (g.Stops.ByteClass.holds backslash) (take c.args.size c.args.bytes.now) c.args.out.now.items c.args.at
+    let plain = key-plain (meaning_in c.args.encoding (g.Stops.ByteClass.holds backslash) (take c.args.size c.args.bytes.now)) c.args.repertoire c.args.first c.args.out.now.items c.args.at
     c.print_bytes.new.out.items c.in_ok-end.end h in
     elim c.else-first.branch [
       | else-first-via-then-first+else-begins_like_mark w ↦
           let other = ap begins_like_bom (sym slice.1) ∙ ap (λ v. begins_like_bom (take (c.in_ok-end.end - c.args.at) (drop c.args.at v))) (sym w.deref.ensures.value)
-            ∙ sym w.begins_like_mark.ensures ∙ w.if-begins_like_mark.false in
+          ∙ sym w.begins_like_mark.ensures ∙ w.if-begins_like_mark.false in
           plain (and_right c.args.first (begins_like_bom (puts_of c.args.repertoire h.meant)) other)
       | else-first-via-else-first w ↦ plain (and_left c.args.first (begins_like_bom (puts_of c.args.repertoire h.meant)) w.if-first.false)
     ]

@@ -3,7 +3,7 @@ use Rattle.std.proofs.lemmas.List.{length-take-le}
 use Rattle.properties_format.specs.Text.{backslash}
 use Rattle.properties_format.specs.Printing.{unicode_escape}
 use Rattle.properties_text.specs.Spelt.{IsWell}
-use Rattle.properties_text.proofs.PrintedTexts.Keys.{escaped-result}
+use Rattle.properties_text.proofs.PrintedTexts.Keys.{escaped-rest}
 use Rattle.properties_text.proofs.PrintedTexts.Runs.{rest-at, written-back, front-kept, fewer-kept, slice-kept}
 use Rattle.properties_text.proofs.print.print_with_first_escaped.Goals as goal
 
@@ -16,7 +16,7 @@ returns-clause-printed g c =
     let put = c.put_escape-end in
     let room : length put.new.out ≡ c.make_room.new.bytes.len = put.ensures.same_room ∙ ap length c.deref_mut.ensures.value ∙ sym c.make_room.new.bytes.ok.0 in
     let back = written-back c.make_room.new.bytes.len put.new.out (drop (length put.new.out) c.make_room.new.bytes.items) room in
-    escaped-result c.args.encoding c.args.repertoire (g.Stops.ByteClass.holds backslash) text c.args.out.now.items c.args.at
+    escaped-rest c.args.encoding c.args.repertoire (g.Stops.ByteClass.holds backslash) text c.args.out.now.items c.args.at
     (take c.make_room.new.bytes.len (put.new.out ++ drop (length put.new.out) c.make_room.new.bytes.items)) c.print_bytes.new.out.items _ put.result first c.print_bytes.result
     read (rest-at c.args.bytes.now c.args.size first.length (omega (arith, read.within, size))) (ap (take put.result) back ∙ put.ensures.put ∙ ap (λ v. take c.args.at v ++ unicode_escape first.character) c.deref_mut.ensures.value ∙ ap (λ v. v ++ unicode_escape first.character) c.in_ok-make_room.ensures.same)
     c.print_bytes.ensures.printed

@@ -1,4 +1,3 @@
-use Rattle.std.proofs.Common.{refl}
 use Rattle.properties_text.proofs.PrintedTexts.Runs.{reads-escape, reads-itself}
 use Rattle.properties_text.proofs.print.text.first_character.Goals as goal
 

@@ -1,8 +1,7 @@
-use Rattle.std.proofs.Common.{◌≡◌, ◌<◌, ℕ, ◌++◌, length, get_or, take, drop, refl, sym, ap, subst, ◌∙◌, arith}
+use Rattle.std.proofs.Common.{◌≡◌, ◌++◌, length, take, drop, sym, ap, subst, ◌∙◌, arith}
 use Rattle.std.proofs.lemmas.List.{length-take-le}
 use Rattle.properties_format.specs.Text.{backslash}
 use Rattle.properties_text.specs.Spelt.{IsWell}
-use Rattle.properties_text.specs.PrintedTexts.{ArePut, from_on}
 use Rattle.properties_text.proofs.PrintedTexts.Runs.{put-all, start-run, rest-own, rest-at, rest-printed, run-kept, fewer-kept, written-back, small-take}
 use Rattle.properties_text.proofs.print.text.print_bytes.Goals as goal
 

@@ -1,4 +1,4 @@
-use Rattle.std.proofs.Common.{◌≡◌, ◌<◌, ◌≤◌, ℕ, ◌++◌, length, get_or, take, drop, refl, sym, ap, subst, ◌∙◌, arith}
+use Rattle.std.proofs.Common.{◌≡◌, ◌≤◌, ◌++◌, length, take, drop, sym, ap, ◌∙◌, arith}
 use Rattle.std.proofs.lemmas.List.{length-take-le}
 use Rattle.properties_format.specs.Text.{backslash}
 use Rattle.properties_text.proofs.PrintedTexts.Runs.{put-all, put-broken, turn, fewer-kept, slice-kept, run-kept, written-back, small-take}
@@ -60,10 +60,10 @@ loop-put-preserved g c =
       longer = omega (arith, c.loop-put.invariant.longer, c.in_ok-make_room.ensures.longer, c.in_ok-make_room_for.ensures.longer, ap length back2, ap length back4, length2, length4, c.make_room.new.bytes.ok.0, c.make_room_for.new.out.ok.0);
       stop = run.ensures.stops;
       put = turn g.Stops.ByteClass.holds c.args.encoding c.args.repertoire _ text c.loop-put.put c.in-Ok.next run.result
-      c.loop-put.out.items c.make_room.new.bytes.items c.deref_mut.result.now stops.new.out _ c.make_room_for.new.out.items c.deref_mut-in-loop-put.result.now run.new.out _
-      c.requires.stops (small-take c.args.size c.args.bytes.now (λ i. omega (arith, c.type_inv.bytes i))) c.loop-put.invariant.put c.in_ok-make_room.ensures.same c.in_ok-make_room.ensures.longer c.deref_mut.ensures.value
-      c.in-Ok.ensures.put back2 c.in_ok-make_room_for.ensures.same c.in_ok-make_room_for.ensures.longer
-      c.deref_mut-in-loop-put.ensures.value run.ensures.run end_within back4;
+          c.loop-put.out.items c.make_room.new.bytes.items c.deref_mut.result.now stops.new.out _ c.make_room_for.new.out.items c.deref_mut-in-loop-put.result.now run.new.out _
+          c.requires.stops (small-take c.args.size c.args.bytes.now (λ i. omega (arith, c.type_inv.bytes i))) c.loop-put.invariant.put c.in_ok-make_room.ensures.same c.in_ok-make_room.ensures.longer c.deref_mut.ensures.value
+          c.in-Ok.ensures.put back2 c.in_ok-make_room_for.ensures.same c.in_ok-make_room_for.ensures.longer
+          c.deref_mut-in-loop-put.ensures.value run.ensures.run end_within back4;
     }
 
 pub returns-clause-printed : goal.returns-clause-printed

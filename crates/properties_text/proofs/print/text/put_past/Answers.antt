@@ -1,6 +1,5 @@
 use Rattle.std.proofs.Common.{take, ◌++◌, ap, sym, ◌∙◌}
 use Rattle.properties_text.specs.Printing.{put_of}
-
 use Rattle.properties_text.proofs.PrintedTexts.Steps.{put-lacked, put-escaped}
 use Rattle.properties_text.proofs.print.text.put_past.Goals as goal
 

@@ -1,4 +1,4 @@
-use Rattle.std.proofs.Common.{take, ◌++◌, ap, sym, ◌∙◌, arith, ltb-true}
+use Rattle.std.proofs.Common.{take, ◌++◌, ap, sym, ◌∙◌, ltb-true}
 use Rattle.properties_text.specs.Printing.{printed_byte}
 use Rattle.properties_text.proofs.PrintedTexts.Steps.{put-ascii}
 use Rattle.properties_text.proofs.print.text.put_printed.Goals as goal

@@ -17,7 +17,7 @@ loop-put-2-preserved g c =
     record {
       same = own.length ∙ c.loop-put-2.invariant.same;
       run = run-more g.Stops.ByteClass.holds c.args.out.now c.args.at (take c.args.size c.args.bytes.now) c.args.from c.loop-put-2.put c.loop-put-2.out c.put_byte-end.new.out c.put_byte-end.result
-      c.loop-put-2.invariant.run (omega (arith, size, t)) (ap g.Stops.ByteClass.holds same ∙ sym k ∙ l) own.within (own.printed ∙ ap (λ v. take c.loop-put-2.put.end c.loop-put-2.out ++ printed_byte v) (sym same));
+          c.loop-put-2.invariant.run (omega (arith, size, t)) (ap g.Stops.ByteClass.holds same ∙ sym k ∙ l) own.within (own.printed ∙ ap (λ v. take c.loop-put-2.put.end c.loop-put-2.out ++ printed_byte v) (sym same));
     }
 
 pub loop-put-preserved : goal.loop-put-preserved
@@ -41,7 +41,7 @@ loop-put-2-init g c =
           record {
             same = ap length w.out-is ∙ own.same_room ∙ w.loop-put.invariant.same;
             run = is w.put_block-put.result c.if-size-from-ge-FEW.put w.put_block-put.new.out c.if-size-from-ge-FEW.out w.put-is w.out-is
-            (run-on g.Stops.ByteClass.holds c.args.out.now c.args.at text c.args.from w.loop-put.put w.put_block-put.result w.loop-put.out w.put_block-put.new.out w.loop-put.invariant.run own.run);
+                (run-on g.Stops.ByteClass.holds c.args.out.now c.args.at text c.args.from w.loop-put.put w.put_block-put.result w.loop-put.out w.put_block-put.new.out w.loop-put.invariant.run own.run);
           }
       | then-size-from-ge-FEW+else-size-put-ge8 w ↦ record {
         same = ap length w.out-is ∙ w.loop-put.invariant.same;
@@ -50,7 +50,7 @@ loop-put-2-init g c =
       | else-size-from-ge-FEW w ↦ record {
         same = ap length w.out-is;
         run = is start c.if-size-from-ge-FEW.put c.args.out.now c.if-size-from-ge-FEW.out w.put-is w.out-is
-        (run-none g.Stops.ByteClass.holds c.args.out.now c.args.at text start (omega (arith, size, c.requires.from)) refl);
+            (run-none g.Stops.ByteClass.holds c.args.out.now c.args.at text start (omega (arith, size, c.requires.from)) refl);
       }
     ]
 

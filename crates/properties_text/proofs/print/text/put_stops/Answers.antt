@@ -1,4 +1,4 @@
-use Rattle.std.proofs.Common.{◌≡◌, true, length, get_or, take, drop, refl, sym, ap, subst, ◌∙◌, arith}
+use Rattle.std.proofs.Common.{true, length, refl, sym, ◌∙◌, arith}
 use Rattle.properties_text.proofs.TextFronts.{taken-rest}
 use Rattle.properties_text.proofs.PrintedTexts.Runs.{stop-put, byte-put, stop-broken, small-at, front-kept}
 use Rattle.properties_text.proofs.print.text.put_stops.Goals as goal
@@ -21,8 +21,8 @@ loop-put-preserved-then-begins_with_stop g c =
       onwards = omega (arith, h.onwards);
       start = λ q. absurd (let some = c.in-Ok.ensures.some in omega (arith, some, h.onwards, q));
       put = stop-put g.Stops.ByteClass.holds c.args.encoding c.args.repertoire _ c.args.text.now c.loop-put.put _ c.loop-put.out c.put_printed-end.new.out _ c.in-Ok.first
-      (taken-rest c.loop-put.put.read c.args.text.now) c.requires.stops c.loop-put-test.true (sym c.begins_with_stop.ensures ∙ c.if-begins_with_stop.true) h.put c.in-Ok.ensures
-      refl (omega (arith, c.put_printed-end.ensures.within, c.put_printed-end.ensures.same_room, c.if-out-put-ge-LONGEST.true)) c.put_printed-end.ensures.put;
+          (taken-rest c.loop-put.put.read c.args.text.now) c.requires.stops c.loop-put-test.true (sym c.begins_with_stop.ensures ∙ c.if-begins_with_stop.true) h.put c.in-Ok.ensures
+          refl (omega (arith, c.put_printed-end.ensures.within, c.put_printed-end.ensures.same_room, c.if-out-put-ge-LONGEST.true)) c.put_printed-end.ensures.put;
     }
 
 pub loop-put-preserved : goal.loop-put-preserved
@@ -37,7 +37,7 @@ loop-put-preserved g c =
       onwards = omega (arith, h.onwards);
       start = λ q. absurd (omega (arith, h.onwards, q));
       put = byte-put g.Stops.ByteClass.holds c.args.encoding c.args.repertoire _ c.args.text.now c.loop-put.put _ c.loop-put.out c.put_byte-end.new.out _
-      (taken-rest c.loop-put.put.read c.args.text.now) c.requires.stops c.loop-put-test.true (sym c.begins_with_stop.ensures ∙ c.if-begins_with_stop.false)
-      (small-at c.args.text.now _ c.loop-put.put.read (taken-rest c.loop-put.put.read c.args.text.now) (λ i. omega (arith, c.type_inv.text i))) h.put
-      refl (omega (arith, c.put_byte-end.ensures.within, c.put_byte-end.ensures.length, c.if-out-put-ge-LONGEST.true)) c.put_byte-end.ensures.printed;
+          (taken-rest c.loop-put.put.read c.args.text.now) c.requires.stops c.loop-put-test.true (sym c.begins_with_stop.ensures ∙ c.if-begins_with_stop.false)
+          (small-at c.args.text.now _ c.loop-put.put.read (taken-rest c.loop-put.put.read c.args.text.now) (λ i. omega (arith, c.type_inv.text i))) h.put
+          refl (omega (arith, c.put_byte-end.ensures.within, c.put_byte-end.ensures.length, c.if-out-put-ge-LONGEST.true)) c.put_byte-end.ensures.printed;
     }
