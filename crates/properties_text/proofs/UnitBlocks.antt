@@ -67,37 +67,28 @@ first-zero [] (suc n) h = tt
 first-zero (b ∷ v) (suc n) h = (zero-byte b (h 0 (omega arith)), first-zero v n (λ k lt. h (suc k) (omega arith)))
 
 -- The low bytes are below 100 hexadecimal.
-below-evens : (v : List ℕ) (n : ℕ) → Each1 (Fits w8) v → AllByRecursion (λ u. u < 0x100) (take n (evens v))
-below-evens v zero h = tt
-below-evens [] (suc n) h = tt
-below-evens (a ∷ []) (suc n) h = tt
-below-evens (a ∷ b ∷ v) (suc n) h = (h.0.fits, below-evens v n h.1.1)
+small-evens : (v : List ℕ) → Each1 (Fits w8) v → AllByRecursion (λ u. u < 0x100) (evens v)
+small-evens [] h = tt
+small-evens (a ∷ []) h = tt
+small-evens (a ∷ b ∷ v) h = (h.0.fits, small-evens v h.1.1)
 
-below-odds : (v : List ℕ) (n : ℕ) → Each1 (Fits w8) v → AllByRecursion (λ u. u < 0x100) (take n (odds v))
-below-odds v zero h = tt
-below-odds [] (suc n) h = tt
-below-odds (a ∷ []) (suc n) h = tt
-below-odds (a ∷ b ∷ v) (suc n) h = (h.1.0.fits, below-odds v n h.1.1)
-
-below-lows : (order : ByteOrder) (v : List ℕ) (n : ℕ) → Each1 (Fits w8) v → AllByRecursion (λ u. u < 0x100) (take n (lows_of order v))
-below-lows LowFirst = below-evens
-below-lows HighFirst = below-odds
+small-odds : (v : List ℕ) → Each1 (Fits w8) v → AllByRecursion (λ u. u < 0x100) (odds v)
+small-odds [] h = tt
+small-odds (a ∷ []) h = tt
+small-odds (a ∷ b ∷ v) h = (h.1.0.fits, small-odds v h.1.1)
 
 fits-append : (a b : List ℕ) → Each1 (Fits w8) a → Each1 (Fits w8) b → Each1 (Fits w8) (a ++ b)
 fits-append [] b h k = k
 fits-append (x ∷ a) b h k = (h.0, fits-append a b h.1 k)
 
-module _ (order : ByteOrder) (a b highs : List ℕ) (marks : List Bool) (n : ℕ) (is : highs ≡ highs_of order (a ++ b)) (marked : marks ≡ map is_some highs)
-    (few : n ≤ clear_front marks) where
-  -- The first units are their low bytes.
-  pub first-same : take n (lows_of order (a ++ b)) ≡ take n (units_of order (a ++ b))
-  first-same =
-      let zeros = first-zero highs n (fails-before is_some highs marks n marked few) in
-      sym (low-units order (a ++ b) n (subst (λ l. AllByRecursion (λ h. h < 1) (take n l)) is zeros))
+pub small-lows : (order : ByteOrder) (a b : List ℕ) → Each1 (Fits w8) a → Each1 (Fits w8) b → AllByRecursion (λ u. u < 0x100) (lows_of order (a ++ b))
+small-lows LowFirst a b h k = small-evens (a ++ b) (fits-append a b h k)
+small-lows HighFirst a b h k = small-odds (a ++ b) (fits-append a b h k)
 
-  -- The first units are below 100 hexadecimal.
-  pub first-bytes : Each1 (Fits w8) a → Each1 (Fits w8) b → AllByRecursion (λ u. u < 0x100) (take n (units_of order (a ++ b)))
-  first-bytes fits_a fits_b = subst (AllByRecursion (λ u. u < 0x100)) first-same (below-lows order (a ++ b) n (fits-append a b fits_a fits_b))
+small-taken : (n : ℕ) (v : List ℕ) → AllByRecursion (λ u. u < 0x100) v → AllByRecursion (λ u. u < 0x100) (take n v)
+small-taken zero v h = tt
+small-taken (suc n) [] h = tt
+small-taken (suc n) (u ∷ v) h = (h.0, small-taken n v h.1)
 
 -- ---- what the units encode
 
@@ -126,23 +117,29 @@ front-is order (suc n) (suc (suc w)) (a ∷ b ∷ bytes) le long h =
 
 -- ---- the text that is written for them
 
--- The text of the first n of sixteen units is appended to a text.
-pub units-decoded : (order : ByteOrder) (a b highs : List ℕ) (marks : List Bool) (n : ℕ) (old new bytes rest all : List ℕ) → highs ≡ highs_of order (a ++ b) → marks ≡ map is_some highs
-    → n ≤ clear_front marks → n ≤ 16 → take 32 bytes ≡ a ++ b → 32 ≤ length bytes → Each1 (Fits w8) a → Each1 (Fits w8) b → IsUtf8 old
-    → all_scalars (take n (lows_of order (a ++ b))) ≡ true → new ≡ old ++ encode_utf8_all (take n (lows_of order (a ++ b))) → rest ≡ drop (2 * n) bytes
-    → chars old ++ text_of (utf_16_of order) bytes ≡ all → IsUtf8 new × (chars new ++ text_of (utf_16_of order) rest ≡ all)
-units-decoded order a b highs marks n old new bytes rest all is marked few le front long fits_a fits_b u scalars e left joins =
-    let cs = take n (lows_of order (a ++ b)) in
-    let same : cs ≡ take n (units_of order (a ++ b)) = first-same order a b highs marks n is marked few in
-    let own : take n (units_of order (take 32 bytes)) ≡ cs = ap (λ v. take n (units_of order v)) front ∙ sym same in
-    let small : AllByRecursion (λ u. u < 0x100) (take n (units_of order (take 32 bytes))) =
-    subst (λ v. AllByRecursion (λ u. u < 0x100) (take n (units_of order v))) (sym front) (first-bytes order a b highs marks n is marked few fits_a fits_b) in
-    let split : text_of (utf_16_of order) bytes ≡ cs ++ text_of (utf_16_of order) rest =
-    front-is order n 32 bytes (omega (arith, le)) long small ∙ ap₂ (λ x y. x ++ text_of (utf_16_of order) y) own (sym left) in (
-      subst IsUtf8 (sym e) (IsUtf8-append old (encode_utf8_all cs) u (cs, (scalars, refl))),
-      ap (λ l. chars l ++ text_of (utf_16_of order) rest) e
-          ∙ ap (λ l. l ++ text_of (utf_16_of order) rest) (chars-append old (encode_utf8_all cs) u ∙ ap (λ l. chars old ++ l) (chars-encodes cs scalars))
-          ∙ append_assoc (chars old) cs (text_of (utf_16_of order) rest)
-          ∙ ap (λ l. chars old ++ l) (sym split)
-          ∙ joins,
-    )
+-- The text of the first n units of some bytes, whose high bytes are zero, is appended to a text.
+module _ (order : ByteOrder) (lows highs : List ℕ) (marks : List Bool) (n w : ℕ) (bytes : List ℕ)
+    (lows_are : lows ≡ lows_of order (take w bytes)) (highs_are : highs ≡ highs_of order (take w bytes)) (marked : marks ≡ map is_some highs)
+    (few : n ≤ clear_front marks) (within : 2 * n ≤ w) (long : w ≤ length bytes) (small : AllByRecursion (λ u. u < 0x100) lows) where
+  first-same : take n (units_of order (take w bytes)) ≡ take n lows
+  first-same =
+      let zeros = first-zero highs n (fails-before is_some highs marks n marked few) in
+      low-units order (take w bytes) n (subst (λ l. AllByRecursion (λ h. h < 1) (take n l)) highs_are zeros) ∙ ap (take n) (sym lows_are)
+
+  first-text : text_of (utf_16_of order) bytes ≡ take n lows ++ text_of (utf_16_of order) (drop (2 * n) bytes)
+  first-text =
+      front-is order n w bytes within long (subst (AllByRecursion (λ u. u < 0x100)) (sym first-same) (small-taken n lows small))
+      ∙ ap (λ v. v ++ text_of (utf_16_of order) (drop (2 * n) bytes)) first-same
+
+  pub units-decoded : (old new all : List ℕ) → IsUtf8 old → all_scalars (take n lows) ≡ true → new ≡ old ++ encode_utf8_all (take n lows)
+      → chars old ++ text_of (utf_16_of order) bytes ≡ all → IsUtf8 new × (chars new ++ text_of (utf_16_of order) (drop (2 * n) bytes) ≡ all)
+  units-decoded old new all u scalars e joins =
+      let cs = take n lows in
+      let after = text_of (utf_16_of order) (drop (2 * n) bytes) in (
+        subst IsUtf8 (sym e) (IsUtf8-append old (encode_utf8_all cs) u (cs, (scalars, refl))),
+        ap (λ l. chars l ++ after) e
+            ∙ ap (λ l. l ++ after) (chars-append old (encode_utf8_all cs) u ∙ ap (λ l. chars old ++ l) (chars-encodes cs scalars))
+            ∙ append_assoc (chars old) cs after
+            ∙ ap (λ l. chars old ++ l) (sym first-text)
+            ∙ joins,
+      )

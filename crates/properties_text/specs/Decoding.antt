@@ -86,6 +86,12 @@ IsFirstPiece e b d shown = ShowsPiece (first_piece e b d) (awaits_more e b d) sh
 abbrev pub text_of : Encoding → List ℕ → List ℕ
 text_of encoding d = characters (pieces_of (encoding_of encoding) d)
 
+-- So many bytes at the front are well-formed UTF-8, and no more.
+pub record IsLongestText (bytes : List ℕ) (n : ℕ) : Type 0 where
+  pub within : n ≤ length bytes
+  pub text : IsUtf8 (take n bytes)
+  pub longest : (m : ℕ) → m ≤ length bytes → IsUtf8 (take m bytes) → m ≤ n
+
 -- The result is the character of a windows-1252 byte, in UTF-8.
 pub record IsTextOfByte (byte : ℕ) (text : ByteText) : Type 0 where
   pub begins : take text.length text.bytes ≡ encode_utf8 (windows_1252_character byte)

@@ -66,7 +66,7 @@ pub record IsFirstBackslash (bs : List ℕ) (at : ℕ) : Type 0 where
   pub there : drop at bs ≡ backslash ∷ drop (at + 1) bs
   pub byte : get_or bs at 0 ≡ backslash
 
-found_some : (bs : List ℕ) (at : ℕ) → IsFirstByte (is_byte backslash) bs (Some at) → IsFirstBackslash bs at
+pub found_some : (bs : List ℕ) (at : ℕ) → IsFirstByte (is_byte backslash) bs (Some at) → IsFirstBackslash bs at
 found_some bs at h =
     let inside : at < length bs = h.0.high in
     let is : get_or bs at 0 ≡ backslash = eqb-true (get_or bs at 0) backslash h.1 in
@@ -79,7 +79,7 @@ found_some bs at h =
       byte = is;
     }
 
-found_none : (bs : List ℕ) → IsFirstByte (is_byte backslash) bs None → holds_backslash bs ≡ false
+pub found_none : (bs : List ℕ) → IsFirstByte (is_byte backslash) bs None → holds_backslash bs ≡ false
 found_none bs h = nowhere bs (λ k l e. h k (omega arith) l e)
 
 -- A text up to its first backslash, and the text after that.

@@ -2,6 +2,7 @@
 
 ghost use Rattle.std.specs.Prelude.{◌↔◌, ◌⊎◌, IsSome, ◌≡◌, ◌≤◌, ◌<◌, ◌+◌, ◌*◌, ◌%◌, ◌++◌, ◌∷◌, [], length, take, IfSome};
 ghost use Rattle.std.specs.Char.{encode_utf8, IsScalar};
+ghost use Rattle.std.specs.List.{AllByRecursion};
 ghost use Rattle.std.specs.Str.{IsUtf8};
 ghost use Rattle.properties_text.specs.Encoding.{encoding_of};
 ghost use Rattle.properties_text.specs.Decoding.{IsText, DecodesFront, utf_16_of, lows_of, highs_of};
@@ -179,6 +180,7 @@ struct Units {
 fn split_units(order: ByteOrder, a: u8x16, b: u8x16) -> Units
     ensures lows { result.lows ≡ lows_of order (a ++ b) }
     ensures highs { result.highs ≡ highs_of order (a ++ b) }
+    ensures small { AllByRecursion (λ low. low < 0x100) result.lows }
 {
     let evens = a.shuffle(
         b,

@@ -5,7 +5,7 @@ ghost use Rattle.std.specs.Str.{IsUtf8};
 ghost use Rattle.properties_format.specs.Utf8.{well_formed_rows, sequence_character, IsWellFormedText};
 ghost use Rattle.properties_format.specs.Reading.Utf8.{is_in, ranges_after, fitting};
 ghost use Rattle.properties_format.specs.Encoding.{utf_8};
-ghost use Rattle.properties_text.specs.Decoding.{IsFirstPiece, range_of};
+ghost use Rattle.properties_text.specs.Decoding.{IsFirstPiece, IsLongestText, range_of};
 ghost use Rattle.properties_text.specs.Spelt.{IsFirst, length_by_first};
 ghost use Rattle.properties_text.specs.declared.encoding.line.LineEncoding.TheVariants.{Utf8};
 
@@ -124,6 +124,7 @@ pub fn as_text(bytes: &[u8]) -> Option<&str>
 pub fn text_front(bytes: &[u8]) -> (&str, &[u8])
     ensures whole { bytes.now ≡ result.0.now ++ result.1.now }
     ensures text { IsUtf8 result.0.now }
+    ensures longest { IsLongestText bytes.now (length result.0.now) }
 {
     match str::from_utf8(bytes) {
         Ok(text) => (text, &[]),
@@ -136,9 +137,7 @@ pub fn text_front(bytes: &[u8]) -> (&str, &[u8])
 
 /// Returns the length of the longest well-formed front.
 pub fn well_formed_length(bytes: &[u8]) -> usize
-    ensures within { result ≤ length bytes.now }
-    ensures well { IsUtf8 (take result bytes.now) }
-    ensures all { IsUtf8 bytes.now → result ≡ length bytes.now }
+    ensures { IsLongestText bytes.now result }
 {
     text_front(bytes).0.len()
 }
