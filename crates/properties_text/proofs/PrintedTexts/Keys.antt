@@ -44,7 +44,8 @@ slice-put old new bytes at end room within e =
     )
 
 -- What is before it stays.
-pub kept-on : (from at end : ℕ) (first old new bytes : List ℕ) → (from ≤ at) × (take from old ≡ take from first) → at ≤ length old → end ≤ length new → take end new ≡ take at old ++ bytes
+pub kept-on : (from at end : ℕ) (first old new bytes : List ℕ) → (from ≤ at) × (take from old ≡ take from first) → at ≤ length old → end ≤ length new
+    → take end new ≡ take at old ++ bytes
     → (from ≤ end) × (take from new ≡ take from first)
 kept-on from at end first old new bytes held room within e =
     let kept = front-kept old new bytes from at end held.0 room within e in (omega (arith, held.0, kept.0), kept.1 ∙ held.1)
@@ -62,7 +63,8 @@ marked-key r first key like = ap (encoded_text (encoding_in r)) (cond-true (firs
     (with_first_escaped (encoding_in r) (only_in r) key) (printed_characters (encoding_in r) (only_in r) in_key_or_value key) like)
 
 module _ (m : Meaning) (r : Repertoire) (first : Bool) (old : List ℕ) (at : ℕ) where
-  pub key-plain : (new : List ℕ) (end : ℕ) (h : IsPut m (puts_of r) old at new end) → (first && begins_like_bom (puts_of r h.meant)) ≡ false → IsPut m (key_bytes r first) old at new end
+  pub key-plain : (new : List ℕ) (end : ℕ) (h : IsPut m (puts_of r) old at new end) → (first && begins_like_bom (puts_of r h.meant)) ≡ false
+      → IsPut m (key_bytes r first) old at new end
   key-plain new end h other = record {
     within = h.within;
     meant = h.meant;
@@ -71,7 +73,8 @@ module _ (m : Meaning) (r : Repertoire) (first : Bool) (old : List ℕ) (at : �
   }
 
   -- It was put anew.
-  pub key-escaped : (out new : List ℕ) (mid : ℕ) (h : IsPut m (puts_of r) old at out mid) (result : Result ℕ UnescapeError) → (first && begins_like_bom (puts_of r h.meant)) ≡ true
+  pub key-escaped : (out new : List ℕ) (mid : ℕ) (h : IsPut m (puts_of r) old at out mid) (result : Result ℕ UnescapeError)
+      → (first && begins_like_bom (puts_of r h.meant)) ≡ true
       → take at out ≡ take at old → Prints m (escaped_key r) out at new result → Prints m (key_bytes r first) old at new result
   key-escaped out new mid h (Ok end) like same k =
       let text_is : h.meant ≡ k.meant = means-same h.meant k.meant (sym h.means_it ∙ k.means_it) in
@@ -90,7 +93,8 @@ empty-means true = meaning_of-empty
 empty-means false = refl
 
 -- An empty text begins like no byte order mark.
-pub some-text : (e : LineEncoding) (r : Repertoire) (escaped : Bool) (text old : List ℕ) (at : ℕ) (new : List ℕ) (end : ℕ) (h : IsPut (meaning_in e escaped text) (puts_of r) old at new end)
+pub some-text : (e : LineEncoding) (r : Repertoire) (escaped : Bool) (text old : List ℕ) (at : ℕ) (new : List ℕ) (end : ℕ)
+    (h : IsPut (meaning_in e escaped text) (puts_of r) old at new end)
     → begins_like_bom (puts_of r h.meant) ≡ true → 0 < length text
 some-text e r escaped [] old at new end h like =
     let empty : h.meant ≡ [] = means-same h.meant [] (sym h.means_it ∙ ap (meaning_by escaped) (no-text e [] refl) ∙ empty-means escaped) in
@@ -99,7 +103,8 @@ some-text e r escaped [] old at new end h like =
 some-text e r escaped (b ∷ bs) old at new end h like = omega arith
 
 -- The first character is escaped, and the rest is printed.
-pub escaped-rest : (e : LineEncoding) (r : Repertoire) (escaped : Bool) (text old : List ℕ) (at : ℕ) (mid new rest : List ℕ) (between : ℕ) (first : Spelt) (result : Result ℕ UnescapeError)
+pub escaped-rest : (e : LineEncoding) (r : Repertoire) (escaped : Bool) (text old : List ℕ) (at : ℕ) (mid new rest : List ℕ) (between : ℕ) (first : Spelt)
+    (result : Result ℕ UnescapeError)
     → IsReadBy escaped e text first → rest ≡ drop first.length text → take between mid ≡ take at old ++ unicode_escape first.character
     → Prints (meaning_in e escaped rest) (puts_of r) mid between new result → Prints (meaning_in e escaped text) (escaped_key r) old at new result
 escaped-rest e r escaped text old at mid new rest between first (Ok end) read is put h = record {
@@ -120,7 +125,8 @@ escaped-rest e r escaped text old at mid new rest between first (Err error.Memor
 -- The key, the separator, the value and the ending were put one after another.
 pub pair-put : (r : Repertoire) (first : Bool) (p : Pair) (separator ending old : List ℕ) (at0 at1 at2 at3 at4 : ℕ) (out1 out2 out3 out4 : List ℕ)
     → IsPut (key_of p) (key_bytes r first) old at0 out1 at1 → take at2 out2 ≡ take at1 out1 ++ separator
-    → IsPut (value_of p) (puts_of r) out2 at2 out3 at3 → take at4 out4 ≡ take at3 out3 ++ ending → IsPairPrinted r first (take at0 old) p separator ending (take at4 out4)
+    → IsPut (value_of p) (puts_of r) out2 at2 out3 at3 → take at4 out4 ≡ take at3 out3 ++ ending
+    → IsPairPrinted r first (take at0 old) p separator ending (take at4 out4)
 pair-put r first p separator ending old at0 at1 at2 at3 at4 out1 out2 out3 out4 k s v e =
     let front = take at0 old in
     let key = key_bytes r first k.meant in
@@ -145,7 +151,9 @@ key-refused r first line p separator ending old at out new (error.Malformed kind
 key-refused r first line p separator ending old at out new error.Memory h = tt
 
 -- The key is, and the value isn't.
-pub value-refused : (r : Repertoire) (first : Bool) (line : List ℕ) (p : Pair) (separator ending old : List ℕ) (at end between : ℕ) (out1 out2 out3 new : List ℕ) (e : UnescapeError)
-    → IsPut (key_of p) (key_bytes r first) old at out1 end → Prints (value_of p) (puts_of r) out2 between out3 (Err e) → PrintsPair r first line p separator ending (Err e) new
+pub value-refused : (r : Repertoire) (first : Bool) (line : List ℕ) (p : Pair) (separator ending old : List ℕ) (at end between : ℕ)
+    (out1 out2 out3 new : List ℕ) (e : UnescapeError)
+    → IsPut (key_of p) (key_bytes r first) old at out1 end → Prints (value_of p) (puts_of r) out2 between out3 (Err e)
+    → PrintsPair r first line p separator ending (Err e) new
 value-refused r first line p separator ending old at end between out1 out2 out3 new (error.Malformed kind) k h = inr (k.meant, k.means_it, h)
 value-refused r first line p separator ending old at end between out1 out2 out3 new error.Memory k h = tt

@@ -47,7 +47,8 @@ by-spelling false e bs r on h = absurd (cc)
 pub reads-escape : (escaped : Bool) (e : LineEncoding) (bs : List ℕ) (r : Result Spelt Malformed) → escaped ≡ true → Reads e bs r → ReadsBy escaped e bs r
 reads-escape escaped e bs r on h = by-spelling escaped e bs r on h
 
-pub reads-itself : (escaped : Bool) (e : LineEncoding) (bs : List ℕ) (spelt : Spelt) → IsWell e bs → (get_or bs 0 0 ≡ backslash → escaped ≡ false) → IsFirst e bs spelt → ReadsBy escaped e bs (Ok spelt)
+pub reads-itself : (escaped : Bool) (e : LineEncoding) (bs : List ℕ) (spelt : Spelt) → IsWell e bs → (get_or bs 0 0 ≡ backslash → escaped ≡ false)
+    → IsFirst e bs spelt → ReadsBy escaped e bs (Ok spelt)
 reads-itself escaped e bs spelt w other h = record {
   some = h.some;
   within = h.within;
@@ -61,14 +62,16 @@ reads-itself escaped e bs spelt w other h = record {
         let both : true ≡ false = other (ap (λ v. get_or v 0 0) back.1 ∙ q) in
         cc
 
-    by : (escaped : Bool) → (get_or bs 0 0 ≡ backslash → escaped ≡ false) → meaning_by escaped (spelt.character ∷ text_in e (drop spelt.length bs)) ≡ in_front spelt.character (meaning_in e escaped (drop spelt.length bs))
+    by : (escaped : Bool) → (get_or bs 0 0 ≡ backslash → escaped ≡ false) → meaning_by escaped (spelt.character ∷ text_in e (drop spelt.length bs)) ≡ in_front
+        spelt.character (meaning_in e escaped (drop spelt.length bs))
     by true other = meaning_of-itself spelt.character (text_in e (drop spelt.length bs)) (ne_eqb spelt.character backslash (not-one other))
     by false other = refl
 
 -- ---- one more is put
 
 -- at a stop, a character begins
-pub stop-well : (holds : ℕ → Bool) (e : LineEncoding) (t : Repertoire) (bs : List ℕ) → StopsIn holds e t → 0 < length bs → holds (get_or bs 0 0) ≡ true → IsWell e (past_in e t bs) → IsWell e bs
+pub stop-well : (holds : ℕ → Bool) (e : LineEncoding) (t : Repertoire) (bs : List ℕ) → StopsIn holds e t → 0 < length bs → holds (get_or bs 0 0) ≡ true
+    → IsWell e (past_in e t bs) → IsWell e bs
 stop-well holds Windows1252 t bs s some h w = tt
 stop-well holds Utf8 repertoire.Windows1252 bs s some h w = w
 stop-well holds Utf8 repertoire.Ascii bs s some h w = w
@@ -78,7 +81,8 @@ stop-well holds Utf8 repertoire.Utf8 (b ∷ bs) s some h w = elim (cases_lt b 0x
   | inr l ↦ absurd (let f = s.past b l in cc)
 ]
 
-pub put-step : (e : LineEncoding) (t : Repertoire) (escaped : Bool) (whole : Meaning) (text : List ℕ) (so_far put : Put) (out new bytes : List ℕ) → ArePut e t escaped whole text so_far out
+pub put-step : (e : LineEncoding) (t : Repertoire) (escaped : Bool) (whole : Meaning) (text : List ℕ) (so_far put : Put) (out new bytes : List ℕ)
+    → ArePut e t escaped whole text so_far out
     → put.read ≤ length text → put.end ≤ length new → IsWell e (past_in e t (drop put.read text))
     → rest_in e t escaped (drop so_far.read text) ≡ text_in_front bytes (rest_in e t escaped (drop put.read text))
     → take put.end new ≡ take so_far.end out ++ bytes → ArePut e t escaped whole text put new
@@ -94,9 +98,11 @@ put-step e t escaped whole text so_far put out new bytes held read within well s
 }
 
 -- a character at a stop
-pub put-character : (holds : ℕ → Bool) (e : LineEncoding) (t : Repertoire) (whole : Meaning) (text : List ℕ) (so_far put : Put) (out new : List ℕ) (spelt : Spelt) → StopsIn holds e t
+pub put-character : (holds : ℕ → Bool) (e : LineEncoding) (t : Repertoire) (whole : Meaning) (text : List ℕ) (so_far put : Put) (out new : List ℕ)
+    (spelt : Spelt) → StopsIn holds e t
     → ArePut e t (holds backslash) whole text so_far out → IsWell e (drop so_far.read text) → IsReadBy (holds backslash) e (drop so_far.read text) spelt
-    → put.read ≡ so_far.read + spelt.length → put.end ≤ length new → take put.end new ≡ take so_far.end out ++ put_of t spelt.character → ArePut e t (holds backslash) whole text put new
+    → put.read ≡ so_far.read + spelt.length → put.end ≤ length new → take put.end new ≡ take so_far.end out ++ put_of t spelt.character
+    → ArePut e t (holds backslash) whole text put new
 put-character holds e t whole text so_far put out new spelt s held own h is within e' =
     let bs = drop so_far.read text in
     let left : drop spelt.length bs ≡ drop put.read text = drop-drop spelt.length so_far.read text ∙ ap (λ n. drop n text) (sym is) in
@@ -113,9 +119,12 @@ put-character holds e t whole text so_far put out new spelt s held own h is with
     e'
 
 -- a run of bytes
-pub put-bytes : (holds : ℕ → Bool) (e : LineEncoding) (t : Repertoire) (whole : Meaning) (text : List ℕ) (so_far put : Put) (out new xs : List ℕ) → StopsIn holds e t
-    → ArePut e t (holds backslash) whole text so_far out → drop so_far.read text ≡ xs ++ drop put.read text → All (λ b. b < 256) xs → All (λ b. holds b ≡ false) xs
-    → put.read ≤ length text → put.end ≤ length new → take put.end new ≡ take so_far.end out ++ printed_bytes xs → ArePut e t (holds backslash) whole text put new
+pub put-bytes : (holds : ℕ → Bool) (e : LineEncoding) (t : Repertoire) (whole : Meaning) (text : List ℕ) (so_far put : Put) (out new xs : List ℕ)
+    → StopsIn holds e t
+    → ArePut e t (holds backslash) whole text so_far out → drop so_far.read text ≡ xs ++ drop put.read text → All (λ b. b < 256) xs
+    → All (λ b. holds b ≡ false) xs
+    → put.read ≤ length text → put.end ≤ length new → take put.end new ≡ take so_far.end out ++ printed_bytes xs
+    → ArePut e t (holds backslash) whole text put new
 put-bytes holds e t whole text so_far put out new xs s held front small clear read within e' =
     let r = run-of holds e t xs (drop put.read text) s small clear (subst (λ v. IsWell e (past_in e t v)) front held.well) in
     put-step e t (holds backslash) whole text so_far put out new (printed_bytes xs) held read within r.well
@@ -123,28 +132,34 @@ put-bytes holds e t whole text so_far put out new xs s held front small clear re
 
 -- the run that was put from a place on
 pub put-run : (holds : ℕ → Bool) (e : LineEncoding) (t : Repertoire) (whole : Meaning) (text : List ℕ) (so_far put : Put) (out new : List ℕ) → StopsIn holds e t
-    → ArePut e t (holds backslash) whole text so_far out → ((i : ℕ) → get_or text i 0 < 256) → IsRunPut holds out so_far.end text so_far.read put new → put.end ≤ length new
+    → ArePut e t (holds backslash) whole text so_far out → ((i : ℕ) → get_or text i 0 < 256) → IsRunPut holds out so_far.end text so_far.read put new
+    → put.end ≤ length new
     → ArePut e t (holds backslash) whole text put new
 put-run holds e t whole text so_far put out new s held small r within =
     let xs = take (put.read - so_far.read) (drop so_far.read text) in
     let n : so_far.read + (put.read - so_far.read) ≡ put.read = omega (arith, r.onwards) in
     put-bytes holds e t whole text so_far put out new xs s held
-    (sym (take-append-drop (put.read - so_far.read) (drop so_far.read text)) ∙ ap (λ v. xs ++ v) (drop-drop (put.read - so_far.read) so_far.read text ∙ ap (λ n. drop n text) n))
-    (All-take (λ b. b < 256) (put.read - so_far.read) (drop so_far.read text) (All-drop (λ b. b < 256) so_far.read text (All-from_get_or (λ b. b < 256) text 0 (λ i inside. small i))))
+    (sym (take-append-drop (put.read - so_far.read) (drop so_far.read text)) ∙ ap (λ v. xs ++ v) (drop-drop (put.read - so_far.read) so_far.read text ∙ ap
+    (λ n. drop n text) n))
+    (All-take (λ b. b < 256) (put.read - so_far.read) (drop so_far.read text) (All-drop (λ b. b < 256) so_far.read text
+    (All-from_get_or (λ b. b < 256) text 0 (λ i inside. small i))))
     r.clear r.read within r.printed
 
 -- Nothing was put yet.
-pub put-none : (e : LineEncoding) (t : Repertoire) (escaped : Bool) (text : List ℕ) (from at : ℕ) (out : List ℕ) → from ≤ length text → at ≤ length out → IsWell e (past_in e t (drop from text))
+pub put-none : (e : LineEncoding) (t : Repertoire) (escaped : Bool) (text : List ℕ) (from at : ℕ) (out : List ℕ) → from ≤ length text → at ≤ length out
+    → IsWell e (past_in e t (drop from text))
     → ArePut e t escaped (from_on e t escaped out at text from) text record { read = from; end = at } out
 put-none e t escaped text from at out h k w = record { read = h; within = k; well = w; printed = refl }
 
 -- what was put goes on from what was put before
-pub put-on : (e : LineEncoding) (t : Repertoire) (escaped : Bool) (whole : Meaning) (text : List ℕ) (so_far put : Put) (out new : List ℕ) → ArePut e t escaped whole text so_far out
+pub put-on : (e : LineEncoding) (t : Repertoire) (escaped : Bool) (whole : Meaning) (text : List ℕ) (so_far put : Put) (out new : List ℕ)
+    → ArePut e t escaped whole text so_far out
     → ArePut e t escaped (from_on e t escaped out so_far.end text so_far.read) text put new → ArePut e t escaped whole text put new
 put-on e t escaped whole text so_far put out new held h = record { read = h.read; within = h.within; well = h.well; printed = held.printed ∙ h.printed }
 
 -- more room
-pub put-same : (e : LineEncoding) (t : Repertoire) (escaped : Bool) (whole : Meaning) (text : List ℕ) (put : Put) (out new : List ℕ) → ArePut e t escaped whole text put out
+pub put-same : (e : LineEncoding) (t : Repertoire) (escaped : Bool) (whole : Meaning) (text : List ℕ) (put : Put) (out new : List ℕ)
+    → ArePut e t escaped whole text put out
     → take put.end new ≡ take put.end out → length out ≤ length new → ArePut e t escaped whole text put new
 put-same e t escaped whole text put out new held h k = record {
   read = held.read;
@@ -155,7 +170,8 @@ put-same e t escaped whole text put out new held h k = record {
 
 -- ---- the end, and a fault
 
-from-printed : (t : Repertoire) (m : Meaning) (x y : List ℕ) → text_in_front x (printed_by t m) ≡ means y → (z : List ℕ) × (m ≡ means z) × (y ≡ x ++ puts_of t z)
+from-printed : (t : Repertoire) (m : Meaning) (x y : List ℕ) → text_in_front x (printed_by t m) ≡ means y
+    → (z : List ℕ) × (m ≡ means z) × (y ≡ x ++ puts_of t z)
 from-printed t (means z) x y e = let f = sym (text_in_front-means x (puts_of t z)) ∙ e in (z, refl, same-bytes (x ++ puts_of t z) y f)
   where
     same-bytes : (a b : List ℕ) → means a ≡ means b → b ≡ a
@@ -177,7 +193,8 @@ rest-nil e t escaped = rest-well e t escaped [] (nil-well e) ∙ ap (λ v. print
     none true = ap (printed_by t) meaning_of-empty
     none false = refl
 
-pub put-all : (e : LineEncoding) (t : Repertoire) (escaped : Bool) (text old : List ℕ) (at : ℕ) (put : Put) (new : List ℕ) → IsWell e text → length text ≤ put.read
+pub put-all : (e : LineEncoding) (t : Repertoire) (escaped : Bool) (text old : List ℕ) (at : ℕ) (put : Put) (new : List ℕ) → IsWell e text
+    → length text ≤ put.read
     → ArePut e t escaped (from_on e t escaped old at text 0) text put new → IsPut (meaning_in e escaped text) (puts_of t) old at new put.end
 put-all e t escaped text old at put new w all held =
     let rest = ap (rest_in e t escaped) (drop_all put.read text all) ∙ rest-nil e t escaped in
@@ -203,7 +220,8 @@ put-broken e t escaped text old at put new m w held fault =
 -- ---- a run, byte by byte
 
 -- One byte more was put.
-pub run-more : (holds : ℕ → Bool) (old : List ℕ) (at : ℕ) (text : List ℕ) (from : ℕ) (put : Put) (out new : List ℕ) (end : ℕ) → IsRunPut holds old at text from put out → put.read < length text
+pub run-more : (holds : ℕ → Bool) (old : List ℕ) (at : ℕ) (text : List ℕ) (from : ℕ) (put : Put) (out new : List ℕ) (end : ℕ)
+    → IsRunPut holds old at text from put out → put.read < length text
     → holds (get_or text put.read 0) ≡ false → end ≤ put.end + 2 → take end new ≡ take put.end out ++ printed_byte (get_or text put.read 0)
     → IsRunPut holds old at text from record { read = put.read + 1; end = end } new
 run-more holds old at text from put out new end held inside clear few printed =
@@ -224,7 +242,8 @@ run-more holds old at text from put out new end held inside clear few printed =
           printed
           ∙ ap (λ v. v ++ printed_byte b) held.printed
           ∙ append_assoc (take at old) (printed_bytes (take k (drop from text))) (printed_byte b)
-          ∙ ap (λ v. take at old ++ v) (sym (ap printed_bytes xs ∙ printed_bytes-append (take k (drop from text)) (b ∷ []) ∙ ap (λ v. printed_bytes (take k (drop from text)) ++ v) (append-nil (printed_byte b))));
+          ∙ ap (λ v. take at old ++ v) (sym (ap printed_bytes xs ∙ printed_bytes-append (take k (drop from text)) (b ∷ [])
+          ∙ ap (λ v. printed_bytes (take k (drop from text)) ++ v) (append-nil (printed_byte b))));
     }
 
 -- what a vector has after its slice was written
@@ -234,22 +253,27 @@ written-back size xs ys e = ap (λ n. take n (xs ++ ys)) (sym e) ∙ take-append
 -- ---- one turn of each loop
 
 -- the character at a stop
-pub stop-put : (holds : ℕ → Bool) (e : LineEncoding) (t : Repertoire) (whole : Meaning) (text : List ℕ) (so_far put : Put) (out new bs : List ℕ) (spelt : Spelt) → bs ≡ drop so_far.read text → StopsIn holds e t
+pub stop-put : (holds : ℕ → Bool) (e : LineEncoding) (t : Repertoire) (whole : Meaning) (text : List ℕ) (so_far put : Put) (out new bs : List ℕ)
+    (spelt : Spelt) → bs ≡ drop so_far.read text → StopsIn holds e t
     → so_far.read < length text → holds (get_or bs 0 0) ≡ true → ArePut e t (holds backslash) whole text so_far out
     → IsReadBy (holds backslash) e bs spelt
-    → put.read ≡ so_far.read + spelt.length → put.end ≤ length new → take put.end new ≡ take so_far.end out ++ put_of t spelt.character → ArePut e t (holds backslash) whole text put new
+    → put.read ≡ so_far.read + spelt.length → put.end ≤ length new → take put.end new ≡ take so_far.end out ++ put_of t spelt.character
+    → ArePut e t (holds backslash) whole text put new
 stop-put holds e t whole text so_far put out new bs spelt is s inside stop held reads at within printed =
     let own : holds (get_or (drop so_far.read text) 0 0) ≡ true = ap (λ v. holds (get_or v 0 0)) (sym is) ∙ stop in
     let w = stop-well holds e t (drop so_far.read text) s (omega (arith, length-drop so_far.read text, inside)) own held.well in
     put-character holds e t whole text so_far put out new spelt s held w (subst (λ v. IsReadBy (holds backslash) e v spelt) is reads) at within printed
 
 -- a byte before one
-pub byte-put : (holds : ℕ → Bool) (e : LineEncoding) (t : Repertoire) (whole : Meaning) (text : List ℕ) (so_far put : Put) (out new bs : List ℕ) → bs ≡ drop so_far.read text → StopsIn holds e t
+pub byte-put : (holds : ℕ → Bool) (e : LineEncoding) (t : Repertoire) (whole : Meaning) (text : List ℕ) (so_far put : Put) (out new bs : List ℕ)
+    → bs ≡ drop so_far.read text → StopsIn holds e t
     → so_far.read < length text → holds (get_or bs 0 0) ≡ false → get_or bs 0 0 < 256 → ArePut e t (holds backslash) whole text so_far out
-    → put.read ≡ so_far.read + 1 → put.end ≤ length new → take put.end new ≡ take so_far.end out ++ printed_byte (get_or bs 0 0) → ArePut e t (holds backslash) whole text put new
+    → put.read ≡ so_far.read + 1 → put.end ≤ length new → take put.end new ≡ take so_far.end out ++ printed_byte (get_or bs 0 0)
+    → ArePut e t (holds backslash) whole text put new
 byte-put holds e t whole text so_far put out new bs is s inside clear small held at within printed =
     let b = get_or bs 0 0 in
-    let first : get_or text so_far.read 0 ≡ b = sym (ap (λ v. get_or v 0 0) is ∙ get_or-drop so_far.read text 0 0 ∙ ap (λ m. get_or text m 0) (let n : so_far.read + 0 ≡ so_far.read = omega arith in n)) in
+    let first : get_or text so_far.read 0 ≡ b = sym (ap (λ v. get_or v 0 0) is ∙ get_or-drop so_far.read text 0 0 ∙ ap (λ m. get_or text m 0)
+    (let n : so_far.read + 0 ≡ so_far.read = omega arith in n)) in
     let front : drop so_far.read text ≡ b ∷ drop put.read text = drop_more text so_far.read 0 inside ∙ ap₂ (λ x m. x ∷ drop m text) first (sym at) in
     put-bytes holds e t whole text so_far put out new (b ∷ []) s held front
     (All-cons (λ b. b < 256) b [] small (All-nil (λ b. b < 256))) (All-cons (λ b. holds b ≡ false) b [] clear (All-nil (λ b. holds b ≡ false)))
@@ -260,7 +284,8 @@ broken-front x (means z) kind e = let f = sym (text_in_front-means x z) ∙ e in
 broken-front x (breaks k) kind e = let f = sym (text_in_front-breaks x k) ∙ e in cc
 
 -- a malformed escape at a stop
-pub stop-broken : (holds : ℕ → Bool) (e : LineEncoding) (t : Repertoire) (text old : List ℕ) (at from : ℕ) (so_far : Put) (out bs : List ℕ) (m : Malformed) → bs ≡ drop so_far.read text → StopsIn holds e t
+pub stop-broken : (holds : ℕ → Bool) (e : LineEncoding) (t : Repertoire) (text old : List ℕ) (at from : ℕ) (so_far : Put) (out bs : List ℕ) (m : Malformed)
+    → bs ≡ drop so_far.read text → StopsIn holds e t
     → so_far.read < length text → holds (get_or bs 0 0) ≡ true → ArePut e t (holds backslash) (from_on e t (holds backslash) old at text from) text so_far out
     → meaning_in e (holds backslash) bs ≡ breaks (malformed_in m)
     → rest_in e t (holds backslash) (drop from text) ≡ breaks (malformed_in m)
@@ -273,17 +298,21 @@ stop-broken holds e t text old at from so_far out bs m is s inside stop held rea
     (held.printed ∙ ap (text_in_front (take so_far.end out)) rest ∙ text_in_front-breaks (take so_far.end out) (malformed_in m))
 
 -- the stops and a run
-pub turn : (holds : ℕ → Bool) (e : LineEncoding) (t : Repertoire) (whole : Meaning) (text : List ℕ) (so_far next put : Put) (items0 items1 slice1 new2 items2 items3 slice3 new4 items4 : List ℕ) → StopsIn holds e t
+pub turn : (holds : ℕ → Bool) (e : LineEncoding) (t : Repertoire) (whole : Meaning) (text : List ℕ) (so_far next put : Put)
+    (items0 items1 slice1 new2 items2 items3 slice3 new4 items4 : List ℕ) → StopsIn holds e t
     → ((i : ℕ) → get_or text i 0 < 256) → ArePut e t (holds backslash) whole text so_far items0
     → take so_far.end items1 ≡ take so_far.end items0 → length items0 ≤ length items1 → slice1 ≡ items1
     → ArePut e t (holds backslash) (from_on e t (holds backslash) slice1 so_far.end text so_far.read) text next new2 → items2 ≡ new2
     → take next.end items3 ≡ take next.end items2 → length items2 ≤ length items3 → slice3 ≡ items3
     → IsRunPut holds slice3 next.end text next.read put new4 → put.end ≤ length new4 → items4 ≡ new4 → ArePut e t (holds backslash) whole text put items4
-turn holds e t whole text so_far next put items0 items1 slice1 new2 items2 items3 slice3 new4 items4 s small held same1 more1 value1 stops back2 same3 more3 value3 run within back4 =
+turn holds e t whole text so_far next put items0 items1 slice1 new2 items2 items3 slice3 new4 items4 s small held same1 more1 value1 stops back2 same3 more3
+    value3 run within back4 =
     let one = put-same e t (holds backslash) whole text so_far items0 items1 held same1 more1 in
-    let two = put-on e t (holds backslash) whole text so_far next items1 new2 one (subst (λ v. ArePut e t (holds backslash) (from_on e t (holds backslash) v so_far.end text so_far.read) text next new2) value1 stops) in
+    let two = put-on e t (holds backslash) whole text so_far next items1 new2 one (subst
+    (λ v. ArePut e t (holds backslash) (from_on e t (holds backslash) v so_far.end text so_far.read) text next new2) value1 stops) in
     let three = put-same e t (holds backslash) whole text next new2 items3 two (same3 ∙ ap (take next.end) back2) (omega (arith, more3, ap length back2)) in
-    let four = put-run holds e t whole text next put items3 new4 s three small (subst (λ v. IsRunPut holds v next.end text next.read put new4) value3 run) within in
+    let four = put-run holds e t whole text next put items3 new4 s three small (subst (λ v. IsRunPut holds v next.end text next.read put new4) value3 run)
+    within in
     subst (ArePut e t (holds backslash) whole text put) (sym back4) four
 
 pub small-at : (text bs : List ℕ) (read : ℕ) → bs ≡ drop read text → ((i : ℕ) → get_or text i 0 < 256) → get_or bs 0 0 < 256
@@ -298,7 +327,8 @@ small-take n xs small i = elim (cases_lt i n) [
 -- ---- blocks
 
 -- a run after a run
-pub run-on : (holds : ℕ → Bool) (old : List ℕ) (at : ℕ) (text : List ℕ) (from : ℕ) (so_far put : Put) (out new : List ℕ) → IsRunPut holds old at text from so_far out
+pub run-on : (holds : ℕ → Bool) (old : List ℕ) (at : ℕ) (text : List ℕ) (from : ℕ) (so_far put : Put) (out new : List ℕ)
+    → IsRunPut holds old at text from so_far out
     → IsRunPut holds out so_far.end text so_far.read put new → IsRunPut holds old at text from put new
 run-on holds old at text from so_far put out new one two =
     let k = so_far.read - from in
@@ -324,7 +354,8 @@ run-on holds old at text from so_far put out new one two =
     }
 
 -- no run yet
-pub run-none : (holds : ℕ → Bool) (old : List ℕ) (at : ℕ) (text : List ℕ) (put : Put) → put.read ≤ length text → put.end ≡ at → IsRunPut holds old at text put.read put old
+pub run-none : (holds : ℕ → Bool) (old : List ℕ) (at : ℕ) (text : List ℕ) (put : Put) → put.read ≤ length text → put.end ≡ at
+    → IsRunPut holds old at text put.read put old
 run-none holds old at text put inside is =
     let n : put.read - put.read ≡ 0 = omega arith in
     record {
@@ -342,8 +373,10 @@ run-is holds old at text from one put out new is same h =
     subst (λ p. IsRunPut holds old at text from p new) (sym is) (subst (IsRunPut holds old at text from one) (sym same) h)
 
 -- the bytes of a block before a stop
-pub block-run : (holds : ℕ → Bool) (old bytes v new : List ℕ) (marks : List Bool) (size : ℕ) (so_far : Put) (kept end : ℕ) → size ≤ length bytes → so_far.read ≤ size → ((b : ℕ) → b < 0x20 → holds b ≡ true)
-    → take (length bytes - so_far.read) (take 16 v) ≡ take 16 (drop so_far.read bytes) → marks ≡ map holds v → kept ≤ clear_front marks → kept ≤ 16 → kept ≤ size - so_far.read
+pub block-run : (holds : ℕ → Bool) (old bytes v new : List ℕ) (marks : List Bool) (size : ℕ) (so_far : Put) (kept end : ℕ) → size ≤ length bytes
+    → so_far.read ≤ size → ((b : ℕ) → b < 0x20 → holds b ≡ true)
+    → take (length bytes - so_far.read) (take 16 v) ≡ take 16 (drop so_far.read bytes) → marks ≡ map holds v → kept ≤ clear_front marks → kept ≤ 16
+    → kept ≤ size - so_far.read
     → end ≤ so_far.end + 2 * kept → take end new ≡ take so_far.end old ++ with_backslashes (take kept v)
     → IsRunPut holds old so_far.end (take size bytes) so_far.read record { read = so_far.read + kept; end = end } new
 block-run holds old bytes v new marks size so_far kept end inside from controls block are clear few within most printed =
@@ -426,14 +459,16 @@ run-kept holds text from at read put items0 items1 slice1 new2 items2 before roo
 
 -- ---- a front, and the rest
 
-pub rest-printed : (e : LineEncoding) (t : Repertoire) (escaped : Bool) (text old : List ℕ) (at : ℕ) (put : Put) (out rest new : List ℕ) (r : Result ℕ UnescapeError) → IsWell e text
+pub rest-printed : (e : LineEncoding) (t : Repertoire) (escaped : Bool) (text old : List ℕ) (at : ℕ) (put : Put) (out rest new : List ℕ)
+    (r : Result ℕ UnescapeError) → IsWell e text
     → ArePut e t escaped (from_on e t escaped old at text 0) text put out → IsWell e (drop put.read text) → rest ≡ drop put.read text
     → Prints (meaning_in e escaped rest) (puts_of t) out put.end new r → Prints (meaning_in e escaped text) (puts_of t) old at new r
 rest-printed e t escaped text old at put out rest new (Ok end) w held own is h =
     let whole : text_in_front (take at old) (printed_in e t escaped text) ≡ means (take end new) =
     ap (text_in_front (take at old)) (sym (rest-well e t escaped text w))
     ∙ held.printed
-    ∙ ap (text_in_front (take put.end out)) (rest-well e t escaped (drop put.read text) own ∙ ap (printed_in e t escaped) (sym is) ∙ ap (printed_by t) h.means_it)
+    ∙ ap (text_in_front (take put.end out)) (rest-well e t escaped (drop put.read text) own ∙ ap (printed_in e t escaped) (sym is)
+    ∙ ap (printed_by t) h.means_it)
     ∙ text_in_front-means (take put.end out) (puts_of t h.meant)
     ∙ ap means (sym h.printed) in
     let found = from-printed t (meaning_in e escaped text) (take at old) (take end new) whole in
@@ -451,19 +486,24 @@ rest-at bytes size read h =
     ∙ ap (λ m. drop read (take m bytes)) (let e : read + (size - read) ≡ size = omega (arith, h) in e)
 
 -- the first run
-pub start-run : (holds : ℕ → Bool) (e : LineEncoding) (t : Repertoire) (text old : List ℕ) (at : ℕ) (items1 slice1 new2 items2 : List ℕ) (put : Put) → StopsIn holds e t → ((i : ℕ) → get_or text i 0 < 256)
-    → at ≤ length old → IsWell e text → take at items1 ≡ take at old → length old ≤ length items1 → slice1 ≡ items1 → IsRunPut holds slice1 at text 0 put new2 → put.end ≤ length new2 → items2 ≡ new2
+pub start-run : (holds : ℕ → Bool) (e : LineEncoding) (t : Repertoire) (text old : List ℕ) (at : ℕ) (items1 slice1 new2 items2 : List ℕ) (put : Put)
+    → StopsIn holds e t → ((i : ℕ) → get_or text i 0 < 256)
+    → at ≤ length old → IsWell e text → take at items1 ≡ take at old → length old ≤ length items1 → slice1 ≡ items1 → IsRunPut holds slice1 at text 0 put new2
+    → put.end ≤ length new2 → items2 ≡ new2
     → ArePut e t (holds backslash) (from_on e t (holds backslash) old at text 0) text put items2
 start-run holds e t text old at items1 slice1 new2 items2 put s small room w same more value run within back =
     let none : Put = record { read = 0; end = at } in
     let one = put-none e t (holds backslash) text 0 at old (omega arith) room (subst (IsWell e) (sym (past-well e t text w)) w) in
     let two = put-same e t (holds backslash) (from_on e t (holds backslash) old at text 0) text none old items1 one same more in
-    let three = put-run holds e t (from_on e t (holds backslash) old at text 0) text none put items1 new2 s two small (subst (λ v. IsRunPut holds v at text 0 put new2) value run) within in
+    let three = put-run holds e t (from_on e t (holds backslash) old at text 0) text none put items1 new2 s two small
+    (subst (λ v. IsRunPut holds v at text 0 put new2) value run) within in
     subst (ArePut e t (holds backslash) (from_on e t (holds backslash) old at text 0) text put) (sym back) three
 
 -- what is left begins at a stop
-pub rest-own : (holds : ℕ → Bool) (e : LineEncoding) (t : Repertoire) (whole : Meaning) (text out : List ℕ) (put : Put) → StopsIn holds e t → put.read < length text → holds (get_or text put.read 0) ≡ true
+pub rest-own : (holds : ℕ → Bool) (e : LineEncoding) (t : Repertoire) (whole : Meaning) (text out : List ℕ) (put : Put) → StopsIn holds e t
+    → put.read < length text → holds (get_or text put.read 0) ≡ true
     → ArePut e t (holds backslash) whole text put out → IsWell e (drop put.read text)
 rest-own holds e t whole text out put s inside stop held =
-    let first : get_or (drop put.read text) 0 0 ≡ get_or text put.read 0 = get_or-drop put.read text 0 0 ∙ ap (λ m. get_or text m 0) (let n : put.read + 0 ≡ put.read = omega arith in n) in
+    let first : get_or (drop put.read text) 0 0 ≡ get_or text put.read 0 = get_or-drop put.read text 0 0
+    ∙ ap (λ m. get_or text m 0) (let n : put.read + 0 ≡ put.read = omega arith in n) in
     stop-well holds e t (drop put.read text) s (omega (arith, length-drop put.read text, inside)) (ap holds first ∙ stop) held.well

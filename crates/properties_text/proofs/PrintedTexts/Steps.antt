@@ -56,7 +56,8 @@ put-escaped c h =
 
 pub printed-one : (t : Repertoire) (c : ℕ) (m : Meaning) → printed_by t (in_front c m) ≡ text_in_front (put_of t c) (printed_by t m)
 printed-one t c (means x) =
-    ap means (encoded_text-append (encoding_in t) (printed_character (encoding_in t) (only_in t) in_key_or_value c) (printed_characters (encoding_in t) (only_in t) in_key_or_value x))
+    ap means (encoded_text-append (encoding_in t) (printed_character (encoding_in t) (only_in t) in_key_or_value c)
+    (printed_characters (encoding_in t) (only_in t) in_key_or_value x))
     ∙ sym (text_in_front-means (put_of t c) (puts_of t x))
 printed-one t c (breaks kind) = sym (text_in_front-breaks (put_of t c) kind)
 
@@ -111,14 +112,17 @@ past-well Utf8 repertoire.Utf8 bs w = (no-inside bs w).1
 -- ---- one character
 
 -- a character that stands for itself
-meaning-itself : (escaped : Bool) (c : ℕ) (x : List ℕ) → (escaped ≡ true → (c == backslash) ≡ false) → meaning_by escaped (c ∷ x) ≡ in_front c (meaning_by escaped x)
+meaning-itself : (escaped : Bool) (c : ℕ) (x : List ℕ) → (escaped ≡ true → (c == backslash) ≡ false)
+    → meaning_by escaped (c ∷ x) ≡ in_front c (meaning_by escaped x)
 meaning-itself true c x h = meaning_of-itself c x (h refl)
 meaning-itself false c x h = refl
 
-pub printed-itself : (e : LineEncoding) (t : Repertoire) (escaped : Bool) (bs rest : List ℕ) (c : ℕ) → text_in e bs ≡ c ∷ text_in e rest → (escaped ≡ true → (c == backslash) ≡ false)
+pub printed-itself : (e : LineEncoding) (t : Repertoire) (escaped : Bool) (bs rest : List ℕ) (c : ℕ) → text_in e bs ≡ c ∷ text_in e rest
+    → (escaped ≡ true → (c == backslash) ≡ false)
     → printed_in e t escaped bs ≡ text_in_front (put_of t c) (printed_in e t escaped rest)
 printed-itself e t escaped bs rest c h k =
-    ap (λ v. printed_by t (meaning_by escaped v)) h ∙ ap (printed_by t) (meaning-itself escaped c (text_in e rest) k) ∙ printed-one t c (meaning_in e escaped rest)
+    ap (λ v. printed_by t (meaning_by escaped v)) h ∙ ap (printed_by t) (meaning-itself escaped c (text_in e rest) k)
+    ∙ printed-one t c (meaning_in e escaped rest)
 
 -- One byte more of a run is printed.
 pub record IsByte (e : LineEncoding) (t : Repertoire) (escaped : Bool) (b : ℕ) (bs : List ℕ) : Type 0 where
@@ -126,7 +130,8 @@ pub record IsByte (e : LineEncoding) (t : Repertoire) (escaped : Bool) (b : ℕ)
   pub well : IsWell e (past_in e t bs)
 
 -- from a place at which a character begins, to another
-whole-byte : (e : LineEncoding) (t : Repertoire) (escaped : Bool) (b c : ℕ) (bs : List ℕ) → IsWell e (b ∷ bs) → IsWell e bs → text_in e (b ∷ bs) ≡ c ∷ text_in e bs
+whole-byte : (e : LineEncoding) (t : Repertoire) (escaped : Bool) (b c : ℕ) (bs : List ℕ) → IsWell e (b ∷ bs) → IsWell e bs
+    → text_in e (b ∷ bs) ≡ c ∷ text_in e bs
     → (escaped ≡ true → (c == backslash) ≡ false) → put_of t c ≡ printed_byte b → IsByte e t escaped b bs
 whole-byte e t escaped b c bs w v s k p = record {
   printed =
@@ -143,7 +148,8 @@ ascii-well Utf8 repertoire.Windows1252 b bs h w = w
 ascii-well Utf8 repertoire.Ascii b bs h w = w
 ascii-well Utf8 repertoire.Utf8 b bs h w = subst IsUtf8 (cond-false (is_inside b) _ _ (not-inside b h)) w
 
-ascii-byte : (e : LineEncoding) (t : Repertoire) (escaped : Bool) (b : ℕ) (bs : List ℕ) → b < 0x80 → IsWell e (past_in e t (b ∷ bs)) → (escaped ≡ true → (b == backslash) ≡ false) → IsByte e t escaped b bs
+ascii-byte : (e : LineEncoding) (t : Repertoire) (escaped : Bool) (b : ℕ) (bs : List ℕ) → b < 0x80 → IsWell e (past_in e t (b ∷ bs))
+    → (escaped ≡ true → (b == backslash) ≡ false) → IsByte e t escaped b bs
 ascii-byte e t escaped b bs h w k =
     let own = ascii-well e t b bs h w in
     let a = ascii-first e b bs h own in
@@ -175,7 +181,15 @@ led : (c : ℕ) → 0x80 ≤ c → (b : ℕ) × (xs : List ℕ) × IsLed c b xs
 led c h = elim (cases_lt c 0x800) [
   | inl k ↦ (192 + c / 64, (128 + c % 64) ∷ [], record { bytes = encode-two c h k; led = omega arith; more = (next-inside c, tt) })
   | inr m ↦ elim (cases_lt c 0x1_0000) [
-    | inl k ↦ (224 + c / 4096, (128 + c / 64 % 64) ∷ (128 + c % 64) ∷ [], record { bytes = encode-three c m k; led = omega arith; more = (next-inside (c / 64), (next-inside c, tt)) })
+    | inl k ↦ (
+      224 + c / 4096,
+      (128 + c / 64 % 64) ∷ (128 + c % 64) ∷ [],
+      record {
+        bytes = encode-three c m k;
+        led = omega arith;
+        more = (next-inside (c / 64), (next-inside c, tt));
+      },
+    )
     | inr n ↦ (
       240 + c / 262144,
       (128 + c / 4096 % 64) ∷ (128 + c / 64 % 64) ∷ (128 + c % 64) ∷ [],
@@ -192,7 +206,8 @@ lead-byte escaped b bs h ((c ∷ cs), (s, w)) = elim (cases_lt c 0x80) [
   | inr high ↦ lead-of escaped b bs c (encodes cs) high h ((c ∷ cs), (s, w)) (sym w)
 ]
   where
-    lead-of : (escaped : Bool) (b : ℕ) (bs : List ℕ) (c : ℕ) (rest : List ℕ) → 0x80 ≤ c → 0xc0 ≤ b → IsUtf8 (b ∷ bs) → b ∷ bs ≡ encode c ++ rest → IsByte Utf8 repertoire.Utf8 escaped b bs
+    lead-of : (escaped : Bool) (b : ℕ) (bs : List ℕ) (c : ℕ) (rest : List ℕ) → 0x80 ≤ c → 0xc0 ≤ b → IsUtf8 (b ∷ bs) → b ∷ bs ≡ encode c ++ rest
+        → IsByte Utf8 repertoire.Utf8 escaped b bs
     lead-of escaped b bs c rest high h u e =
         let l = led c high in
         let a = character_and (b ∷ bs) rest c u e in
@@ -207,7 +222,8 @@ lead-byte escaped b bs h ((c ∷ cs), (s, w)) = elim (cases_lt c 0x80) [
           printed =
               rest-well Utf8 repertoire.Utf8 escaped (b ∷ bs) u
               ∙ printed-itself Utf8 repertoire.Utf8 escaped (b ∷ bs) rest c a.characters (λ k. ne_eqb c backslash (λ q. absurd (omega arith)))
-              ∙ ap (λ v. text_in_front v (printed_in Utf8 repertoire.Utf8 escaped rest)) (put-utf_8 c high ∙ l.2.bytes ∙ ap₂ (λ x y. x ∷ y) (sym first) (sym in_bs))
+              ∙ ap (λ v. text_in_front v (printed_in Utf8 repertoire.Utf8 escaped rest)) (put-utf_8 c high ∙ l.2.bytes ∙ ap₂ (λ x y. x ∷ y) (sym first)
+              (sym in_bs))
               ∙ ap (λ v. in_front b (text_in_front (inside bs) (printed_in Utf8 repertoire.Utf8 escaped v))) (sym past_bs)
               ∙ ap (λ v. text_in_front v (rest_in Utf8 repertoire.Utf8 escaped bs)) (sym (past-byte b (omega arith)));
           well = subst IsUtf8 (sym past_bs) a.utf8;
@@ -224,7 +240,8 @@ inside-byte escaped b bs h k w =
       well = subst IsUtf8 p w;
     }
 
-past-copied : (e : LineEncoding) (t : Repertoire) (escaped : Bool) (b : ℕ) (bs : List ℕ) → 0x80 ≤ b → b < 256 → is_copied e t ≡ true → IsWell e (past_in e t (b ∷ bs)) → IsByte e t escaped b bs
+past-copied : (e : LineEncoding) (t : Repertoire) (escaped : Bool) (b : ℕ) (bs : List ℕ) → 0x80 ≤ b → b < 256 → is_copied e t ≡ true
+    → IsWell e (past_in e t (b ∷ bs)) → IsByte e t escaped b bs
 past-copied Windows1252 repertoire.Windows1252 escaped b bs h k is w =
     whole-byte Windows1252 repertoire.Windows1252 escaped b (windows_1252_character b) bs tt tt refl
     (λ q. same backslash (omega arith) b ∙ ne_eqb b backslash (λ x. absurd (omega arith)))
@@ -241,7 +258,8 @@ past-copied Utf8 repertoire.Utf8 escaped b bs h k is w = elim (cases_lt b 0xc0) 
 -- ---- runs
 
 -- A byte that doesn't stop a run is printed by itself.
-pub one-byte : (holds : ℕ → Bool) (e : LineEncoding) (t : Repertoire) (b : ℕ) (bs : List ℕ) → StopsIn holds e t → b < 256 → holds b ≡ false → IsWell e (past_in e t (b ∷ bs))
+pub one-byte : (holds : ℕ → Bool) (e : LineEncoding) (t : Repertoire) (b : ℕ) (bs : List ℕ) → StopsIn holds e t → b < 256 → holds b ≡ false
+    → IsWell e (past_in e t (b ∷ bs))
     → IsByte e t (holds backslash) b bs
 one-byte holds e t b bs s k f w = elim (cases_lt b 0x80) [
   | inl h ↦ ascii-byte e t (holds backslash) b bs h w (λ on. ne_eqb b backslash (λ q. let same : holds b ≡ holds backslash = ap holds q in absurd (cc)))

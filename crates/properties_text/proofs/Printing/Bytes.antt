@@ -16,7 +16,8 @@ use Rattle.properties_text.proofs.Printing.Characters.{encoded_escape}
 
 pub printed_bytes-append : (x y : List ℕ) → printed_bytes (x ++ y) ≡ printed_bytes x ++ printed_bytes y
 printed_bytes-append [] y = refl
-printed_bytes-append (b ∷ x) y = ap (λ v. printed_byte b ++ v) (printed_bytes-append x y) ∙ sym (append_assoc (printed_byte b) (printed_bytes x) (printed_bytes y))
+printed_bytes-append (b ∷ x) y = ap (λ v. printed_byte b ++ v) (printed_bytes-append x y) ∙ sym (append_assoc (printed_byte b) (printed_bytes x)
+    (printed_bytes y))
 
 -- ---- the tables
 
@@ -91,14 +92,16 @@ place-past n (x ∷ xs) c b h = elim (cases_Bool (x == c)) [
 pub byte-past : (c b : ℕ) → 0x80 ≤ c → windows_1252_byte c ≡ Some b → 0x80 ≤ b
 byte-past c b h e = elim (cases_Bool (nat_lt c 0x100 && not (is_in_table c))) [
   | inl k ↦ own c b h (sym (cond-true (nat_lt c 0x100 && not (is_in_table c)) (Some c) (place_from 0x80 windows_1252_table c) k) ∙ e)
-  | inr k ↦ place-past 0x80 windows_1252_table c b (sym (cond-false (nat_lt c 0x100 && not (is_in_table c)) (Some c) (place_from 0x80 windows_1252_table c) k) ∙ e)
+  | inr k ↦ place-past 0x80 windows_1252_table c b (sym (cond-false (nat_lt c 0x100 && not (is_in_table c)) (Some c) (place_from 0x80 windows_1252_table c) k)
+      ∙ e)
 ]
   where
     own : (c b : ℕ) → 0x80 ≤ c → Some c ≡ Some b → 0x80 ≤ b
     own c b h e = let same : c ≡ b = cc in omega arith
 
 -- A character that has a byte is printed as that byte is.
-pub byte-printed : (c b : ℕ) → windows_1252_byte c ≡ Some b → encoded_text windows_1252 (printed_character windows_1252 false in_key_or_value c) ≡ printed_byte b
+pub byte-printed : (c b : ℕ) → windows_1252_byte c ≡ Some b → encoded_text windows_1252 (printed_character windows_1252 false in_key_or_value
+    c) ≡ printed_byte b
 byte-printed c b e = elim (cases_lt c 0x80) [
   | inl h ↦
       let own : Some (b ∷ []) ≡ Some (c ∷ []) = sym (ap one_byte e) ∙ encoded-ascii windows_1252 c h in
@@ -110,7 +113,8 @@ byte-printed c b e = elim (cases_lt c 0x80) [
 ]
 
 -- A character that windows-1252 lacks is escaped.
-pub lacked-printed : (c : ℕ) → 0x80 ≤ c → is_some (windows_1252_byte c) ≡ false → encoded_text windows_1252 (printed_character windows_1252 false in_key_or_value c) ≡ unicode_escape c
+pub lacked-printed : (c : ℕ) → 0x80 ≤ c → is_some (windows_1252_byte c) ≡ false → encoded_text windows_1252 (printed_character windows_1252 false
+    in_key_or_value c) ≡ unicode_escape c
 lacked-printed c h e =
     ap (encoded_text windows_1252) (
     cond-false (is_special c) _ _ (past-special c h)

@@ -11,7 +11,8 @@ use Rattle.properties_text.proofs.print.print_rest_of_value.Goals as goal
 
 pub loop-character-preserved : goal.loop-character-preserved
 loop-character-preserved c =
-    held-more (encoding_in c.args.repertoire) c.args.line.now c.loop-character.yielded c.loop-character.line c.print_held.new.line c.loop-character.held c.in-Some.character
+    held-more (encoding_in c.args.repertoire) c.args.line.now c.loop-character.yielded c.loop-character.line c.print_held.new.line c.loop-character.held
+    c.in-Some.character
     c.loop-character.invariant c.in_ok-print_held.ensures
 
 pub returns-in-Some-held : goal.returns-in-Some-held

@@ -21,7 +21,8 @@ returns-then-first-eq32 c =
     let first = c.if-first-eq32.true in
     let all = parts ∙ ap₂ (λ v w. v ∷ w) first none in
     on_ok_weaker c.print_escape.result
-    (λ h. space-alone e c.args.after_blanks c.args.line.now c.print_escape.new.line h ∙ ap (λ v. c.args.line.now ++ encoded_text e (printed_value e c.args.after_blanks v)) (sym all))
+    (λ h. space-alone e c.args.after_blanks c.args.line.now c.print_escape.new.line h ∙ ap (λ v. c.args.line.now ++ encoded_text e
+    (printed_value e c.args.after_blanks v)) (sym all))
     c.print_escape.ensures
 
 pub returns : goal.returns
@@ -33,7 +34,8 @@ returns c =
     let all = parts ∙ ap (λ v. c.in-Some.first ∷ chars v) (sym c.as_str-rest.ensures) in
     let other : (is_empty (chars rest) && c.in-Some.first == 0x20) ≡ false = elim c.else-is_empty.branch [
       | else-is_empty-via-then-is_empty+else-first-eq32 w ↦
-          and_right (is_empty (chars rest)) (c.in-Some.first == 0x20) (false_from_ne_true (c.in-Some.first == 0x20) (λ t. w.if-first-eq32.false (eqb-true c.in-Some.first 0x20 t)))
+          and_right (is_empty (chars rest)) (c.in-Some.first == 0x20) (false_from_ne_true (c.in-Some.first == 0x20)
+          (λ t. w.if-first-eq32.false (eqb-true c.in-Some.first 0x20 t)))
       | else-is_empty-via-else-is_empty w ↦
           and_left (is_empty (chars rest)) (c.in-Some.first == 0x20) (some-characters rest c.as_str-rest.utf8 (sym c.is_empty.ensures ∙ w.if-is_empty.false))
     ] in

@@ -17,8 +17,11 @@ returns-clause-printed g c =
     let room : length put.new.out ≡ c.make_room.new.bytes.len = put.ensures.same_room ∙ ap length c.deref_mut.ensures.value ∙ sym c.make_room.new.bytes.ok.0 in
     let back = written-back c.make_room.new.bytes.len put.new.out (drop (length put.new.out) c.make_room.new.bytes.items) room in
     escaped-rest c.args.encoding c.args.repertoire (g.Stops.ByteClass.holds backslash) text c.args.out.now.items c.args.at
-    (take c.make_room.new.bytes.len (put.new.out ++ drop (length put.new.out) c.make_room.new.bytes.items)) c.print_bytes.new.out.items _ put.result first c.print_bytes.result
-    read (rest-at c.args.bytes.now c.args.size first.length (omega (arith, read.within, size))) (ap (take put.result) back ∙ put.ensures.put ∙ ap (λ v. take c.args.at v ++ unicode_escape first.character) c.deref_mut.ensures.value ∙ ap (λ v. v ++ unicode_escape first.character) c.in_ok-make_room.ensures.same)
+    (take c.make_room.new.bytes.len (put.new.out ++ drop (length put.new.out) c.make_room.new.bytes.items)) c.print_bytes.new.out.items _ put.result first
+    c.print_bytes.result
+    read (rest-at c.args.bytes.now c.args.size first.length (omega (arith, read.within, size)))
+    (ap (take put.result) back ∙ put.ensures.put ∙ ap (λ v. take c.args.at v ++ unicode_escape first.character) c.deref_mut.ensures.value
+    ∙ ap (λ v. v ++ unicode_escape first.character) c.in_ok-make_room.ensures.same)
     c.print_bytes.ensures.printed
 
 pub print_bytes-requires-clause-well : goal.print_bytes-requires-clause-well
@@ -34,6 +37,14 @@ returns-clause-same g c =
     let back = written-back c.make_room.new.bytes.len put.new.out (drop (length put.new.out) c.make_room.new.bytes.items) room in
     let wide = c.in_ok-make_room.ensures.room in
     let kept = front-kept c.deref_mut.result.now put.new.out (unicode_escape c.in-Ok.first.character) c.args.at c.args.at put.result (omega arith)
-    (omega (arith, wide, ap length c.deref_mut.ensures.value)) (omega (arith, put.ensures.within, put.ensures.same_room, wide, ap length c.deref_mut.ensures.value)) put.ensures.put in
+    (omega (arith, wide, ap length c.deref_mut.ensures.value)) (omega (
+      arith,
+      put.ensures.within,
+      put.ensures.same_room,
+      wide,
+      ap length
+          c.deref_mut.ensures.value,
+    )) put.ensures.put in
     fewer-kept c.print_bytes.new.out.items _ c.args.at put.result kept.0 c.print_bytes.ensures.same
-    ∙ slice-kept c.args.at c.args.at c.args.out.now.items c.make_room.new.bytes.items c.deref_mut.result.now put.new.out _ (omega arith) c.in_ok-make_room.ensures.same c.deref_mut.ensures.value kept.1 back
+    ∙ slice-kept c.args.at c.args.at c.args.out.now.items c.make_room.new.bytes.items c.deref_mut.result.now put.new.out _ (omega arith)
+    c.in_ok-make_room.ensures.same c.deref_mut.ensures.value kept.1 back

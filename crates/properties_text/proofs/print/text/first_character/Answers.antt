@@ -7,4 +7,5 @@ returns-then-begins_escape g c =
 
 pub returns : goal.returns
 returns g c =
-    reads-itself _ c.args.encoding c.args.text.now c.first_character.result c.requires.well (c.begins_escape.ensures.no c.if-begins_escape.false) c.first_character.ensures
+    reads-itself _ c.args.encoding c.args.text.now c.first_character.result c.requires.well (c.begins_escape.ensures.no c.if-begins_escape.false)
+    c.first_character.ensures

@@ -9,15 +9,18 @@ use Rattle.properties_text.proofs.print.text.put_run.Goals.{then-size-from-ge-FE
 pub loop-put-2-preserved : goal.loop-put-2-preserved
 loop-put-2-preserved g c =
     let size : length (take c.args.size c.args.bytes.now) ≡ c.args.size = length-take-le c.args.size c.args.bytes.now c.requires.size in
-    let same : get_or (take c.args.size c.args.bytes.now) c.loop-put-2.put.read 0 ≡ get_or c.args.bytes.now c.loop-put-2.put.read 0 = get_or-take c.args.size c.args.bytes.now c.loop-put-2.put.read 0 c.loop-put-2-test.true in
+    let same : get_or (take c.args.size c.args.bytes.now) c.loop-put-2.put.read 0 ≡ get_or c.args.bytes.now c.loop-put-2.put.read 0 = get_or-take c.args.size
+    c.args.bytes.now c.loop-put-2.put.read 0 c.loop-put-2-test.true in
     let own = c.put_byte-end.ensures in
     let t = c.loop-put-2-test.true in
     let k = c.contains.ensures in
     let l = c.if-not-contains.true in
     record {
       same = own.length ∙ c.loop-put-2.invariant.same;
-      run = run-more g.Stops.ByteClass.holds c.args.out.now c.args.at (take c.args.size c.args.bytes.now) c.args.from c.loop-put-2.put c.loop-put-2.out c.put_byte-end.new.out c.put_byte-end.result
-          c.loop-put-2.invariant.run (omega (arith, size, t)) (ap g.Stops.ByteClass.holds same ∙ sym k ∙ l) own.within (own.printed ∙ ap (λ v. take c.loop-put-2.put.end c.loop-put-2.out ++ printed_byte v) (sym same));
+      run = run-more g.Stops.ByteClass.holds c.args.out.now c.args.at (take c.args.size c.args.bytes.now) c.args.from c.loop-put-2.put c.loop-put-2.out
+          c.put_byte-end.new.out c.put_byte-end.result
+          c.loop-put-2.invariant.run (omega (arith, size, t)) (ap g.Stops.ByteClass.holds same ∙ sym k ∙ l) own.within
+          (own.printed ∙ ap (λ v. take c.loop-put-2.put.end c.loop-put-2.out ++ printed_byte v) (sym same));
     }
 
 pub loop-put-preserved : goal.loop-put-preserved
@@ -26,7 +29,8 @@ loop-put-preserved g c =
     let own = c.put_block-next.ensures in
     record {
       same = own.same_room ∙ h.same;
-      run = run-on g.Stops.ByteClass.holds c.args.out.now c.args.at (take c.args.size c.args.bytes.now) c.args.from c.loop-put.put c.put_block-next.result c.loop-put.out c.put_block-next.new.out h.run own.run;
+      run = run-on g.Stops.ByteClass.holds c.args.out.now c.args.at (take c.args.size c.args.bytes.now) c.args.from c.loop-put.put c.put_block-next.result
+          c.loop-put.out c.put_block-next.new.out h.run own.run;
     }
 
 pub loop-put-2-init : goal.loop-put-2-init
@@ -41,7 +45,8 @@ loop-put-2-init g c =
           record {
             same = ap length w.out-is ∙ own.same_room ∙ w.loop-put.invariant.same;
             run = is w.put_block-put.result c.if-size-from-ge-FEW.put w.put_block-put.new.out c.if-size-from-ge-FEW.out w.put-is w.out-is
-                (run-on g.Stops.ByteClass.holds c.args.out.now c.args.at text c.args.from w.loop-put.put w.put_block-put.result w.loop-put.out w.put_block-put.new.out w.loop-put.invariant.run own.run);
+                (run-on g.Stops.ByteClass.holds c.args.out.now c.args.at text c.args.from w.loop-put.put w.put_block-put.result w.loop-put.out
+                w.put_block-put.new.out w.loop-put.invariant.run own.run);
           }
       | then-size-from-ge-FEW+else-size-put-ge8 w ↦ record {
         same = ap length w.out-is ∙ w.loop-put.invariant.same;
@@ -56,5 +61,6 @@ loop-put-2-init g c =
 
 pub returns-then-next-put-clause-run : goal.returns-then-next-put-clause-run
 returns-then-next-put-clause-run g c =
-    run-on g.Stops.ByteClass.holds c.args.out.now c.args.at (take c.args.size c.args.bytes.now) c.args.from c.loop-put.put c.put_block-next.result c.loop-put.out c.put_block-next.new.out
+    run-on g.Stops.ByteClass.holds c.args.out.now c.args.at (take c.args.size c.args.bytes.now) c.args.from c.loop-put.put c.put_block-next.result
+    c.loop-put.out c.put_block-next.new.out
     c.loop-put.invariant.run c.put_block-next.ensures.run

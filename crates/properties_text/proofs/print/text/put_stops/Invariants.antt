@@ -10,7 +10,8 @@ invariant-loop-put g l = record {
   room : l.at ≤ l.put.end;
   onwards : l.from ≤ l.put.read;
   start : l.put.read ≡ l.from → l.put.end ≡ l.at;
-  put : ArePut l.encoding l.repertoire (g.Stops.ByteClass.holds backslash) (from_on l.encoding l.repertoire (g.Stops.ByteClass.holds backslash) l.fn.out l.at l.text l.from) l.text l.put l.out;
+  put : ArePut l.encoding l.repertoire (g.Stops.ByteClass.holds backslash) (from_on l.encoding l.repertoire (g.Stops.ByteClass.holds backslash) l.fn.out l.at
+      l.text l.from) l.text l.put l.out;
 }
 
 abbrev pub decreases-loop-put : goal.decreases-loop-put
