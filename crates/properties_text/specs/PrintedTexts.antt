@@ -1,13 +1,11 @@
 -- What a text of a line is printed as, by the encoding of the line, what a backslash means in it, and what may be printed.
 use Rattle.std.specs.Prelude.{◌≡◌, ◌⊎◌, ◌≤◌, ◌<◌, ◌+◌, ◌-◌, ◌*◌, ℕ, nat_le, nat_lt, ◌&&◌, Bool, not, true, false, if◌then◌else◌, List, [], ◌∷◌, ◌++◌, length, take, drop, Result, Ok, Err}
-use Rattle.properties_format.specs.Encoding as format
 use Rattle.properties_format.specs.Escapes as format_escapes
 use Rattle.properties_format.specs.Escapes.{Meaning, means, breaks}
-use Rattle.properties_format.specs.Printing.{encoded_text, with_first_escaped}
 use Rattle.properties_format.specs.Reading.Escapes.{meaning_of, in_front, text_in_front}
 use Rattle.properties_text.specs.Escaping.{malformed_in}
 use Rattle.properties_text.specs.Spelt.{text_in, IsWell}
-use Rattle.properties_text.specs.Printing.{encoding_in, only_in, puts_of, key_bytes, printed_bytes}
+use Rattle.properties_text.specs.Printing.{puts_of, key_bytes, printed_bytes}
 use Rattle.properties_text.specs.declared.encoding.line.Spelt.{Spelt}
 use Rattle.properties_text.specs.declared.escape.Malformed.{Malformed}
 use Rattle.std.specs.List.{All}

@@ -8,14 +8,14 @@ use Rattle.std.specs.Char.{IsScalar, InScalarRange}
 use Rattle.std.specs.Str.{IsUtf8, chars}
 use Rattle.std.proofs.lemmas.Bool.{cases_lt, and_parts}
 use Rattle.std.proofs.lemmas.Str.{encodes-chars}
-use Rattle.std.proofs.lemmas.List.{drop_more, length-append}
+use Rattle.std.proofs.lemmas.List.{length-append}
 use Rattle.properties_format.specs.Text.{scalar as is_scalar}
 use Rattle.properties_format.specs.Utf8.{sequence_character}
 use Rattle.properties_format.specs.Windows1252.{windows_1252_character}
 use Rattle.properties_format.specs.Reading.Undecoded.{characters_of}
 use Rattle.properties_format.proofs.Encodings.Utf8Characters.{encode-one, encode-two, encode-three, encode-four, encode-is_sequence}
-use Rattle.properties_format.proofs.Encodings.WellFormed.{scalar-from_char, char-from_scalar}
-use Rattle.properties_format.proofs.Encodings.Windows1252.{windows_1252-scalar, windows_1252-ascii, windows_1252_character-ascii}
+use Rattle.properties_format.proofs.Encodings.WellFormed.{scalar-from_char}
+use Rattle.properties_format.proofs.Encodings.Windows1252.{windows_1252-ascii, windows_1252_character-ascii}
 use Rattle.properties_text.specs.Spelt.{text_in, IsWell, IsFirst, length_by_first}
 use Rattle.properties_text.specs.declared.encoding.line.LineEncoding.{LineEncoding}
 use Rattle.properties_text.specs.declared.encoding.line.LineEncoding.TheVariants.{Windows1252, Utf8}

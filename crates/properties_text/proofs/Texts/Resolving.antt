@@ -3,11 +3,10 @@ use Rattle.std.proofs.Common.{◌≡◌, ℕ, suc, ◌<◌, ◌+◌, ◌-◌, �
 use Rattle.std.specs.Prelude.{Option, Some, None, slice_range, ◌%◌}
 use Rattle.std.specs.Option.{is_some}
 use lib.Utf8.{encode, encodes}
-use Rattle.std.specs.Char.{IsScalar}
 use Rattle.std.specs.Str.{IsUtf8, IsCharBoundary, chars}
 use Rattle.std.proofs.lemmas.Bool.{cases_Bool, or_from, or_parts, eqb-true, false_from_ne_true}
 use Rattle.std.proofs.lemmas.List.{take-append-drop, drop_more, get_or-take, length-take-le}
-use Rattle.std.proofs.lemmas.Str.{encodes-chars, chars-append, chars-encodes, IsUtf8-take, IsUtf8-drop, IsCharBoundary-before_ascii, IsCharBoundary-after_ascii}
+use Rattle.std.proofs.lemmas.Str.{encodes-chars, chars-append, IsUtf8-take, IsUtf8-drop, IsCharBoundary-before_ascii}
 use Rattle.memchr.specs.Find.{IsFirstByte, is_byte}
 use Rattle.properties_format.specs.Text.{backslash}
 use Rattle.properties_format.specs.Escapes.{Malformed, Meaning, means, breaks, Means, Breaks, IsMeaning}
@@ -20,7 +19,7 @@ use Rattle.properties_format.proofs.Escapes.Unique.{text_in_front-means, text_in
 use Rattle.properties_text.specs.Escaping.{holds_backslash, malformed_in, IsRefused}
 use Rattle.properties_text.specs.declared.escape.UnescapeError.{UnescapeError}
 use Rattle.properties_text.specs.declared.escape.UnescapeError.TheVariants as error
-use Rattle.properties_text.proofs.Texts.Characters.{AreWide, IsEncoded, one, wide, encoded, wide-no_backslash, character_and}
+use Rattle.properties_text.proofs.Texts.Characters.{AreWide, IsEncoded, one, wide, encoded, wide-no_backslash}
 
 -- ---- where a backslash is
 
