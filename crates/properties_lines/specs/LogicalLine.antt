@@ -7,6 +7,7 @@ use Rattle.properties_format.specs.Utf8.{IsWellFormedText}
 use Rattle.properties_format.specs.Reading.Cut.{decoded_line}
 use Rattle.properties_text.specs.Encoding.{line_of}
 use Rattle.properties_text.specs.Spelt.{text_in, IsWell}
+use Rattle.properties_text.specs.declared.encoding.line.LineEncoding.TheVariants.{Utf8}
 use Rattle.properties_lines.specs.declared.logical.Place.{Place}
 use Rattle.properties_lines.specs.declared.logical.Place.TheVariants.{Natural, Decoded, Joined}
 use Rattle.properties_lines.specs.declared.logical.LogicalLine.{LogicalLine}
@@ -26,6 +27,10 @@ bytes_at Joined natural decoded joined = joined
 -- the bytes, given those of the natural line
 abbrev pub bytes_with : LogicalLine → List ℕ → List ℕ
 bytes_with line natural = bytes_at line.place natural line.decoded line.joined
+
+-- What was decoded is in UTF-8.
+abbrev pub IsSound : LogicalLine → Type 0
+IsSound line = line.place ≡ Decoded → line.encoding ≡ Utf8
 
 -- The second list begins with the first.
 pub record BeginsWith (bytes whole : List ℕ) : Type 0 where
@@ -102,5 +107,6 @@ Begins e bytes (Err error) new = Unit {0}
 
 -- The line with these bytes was joined to an unfinished line, and the result says whether it is open.
 abbrev pub AddsLine : {E : Type 0} → Encoding → List ℕ → LogicalLine → Result Bool E → LogicalLine → Type 0
-AddsLine e bytes old (Ok left_open) new = AddsText {E = Unit} (decoded_line e bytes) (unfinished_text old) (Ok left_open) (unfinished_text new) × IsUnfinished e new
+AddsLine e bytes old (Ok left_open) new = (left_open ≡ is_open (decoded_line e bytes))
+    × (unfinished_text new ≡ unfinished_text old ++ addition (decoded_line e bytes)) × IsUnfinished e new
 AddsLine e bytes old (Err error) new = Unit {0}

@@ -1,14 +1,14 @@
 //! The bytes of a logical line: those of its only natural line, or others that are kept.
 
-ghost use Rattle.std.specs.Prelude.{◌≡◌, ℕ, List, [], length, true, false, OnOk};
+ghost use Rattle.std.specs.Prelude.{◌≡◌, ◌≢◌, ℕ, List, [], length, false, if◌then◌else◌, OnOk};
 ghost use Rattle.std.specs.Str.{IsUtf8, chars};
 ghost use Rattle.properties_format.specs.Encoding.{output_encoding};
 ghost use Rattle.properties_format.specs.Reading.Cut.{decoded_line};
 ghost use Rattle.properties_text.specs.Encoding.{encoding_of, line_of};
 ghost use Rattle.properties_text.specs.Spelt.{IsWell, text_in};
 ghost use Rattle.properties_text.specs.declared.encoding.line.LineEncoding.TheVariants.{Utf8};
-ghost use Rattle.properties_lines.specs.LogicalLine.{is_natural, bytes_with, BeginsWith, IsTextOf, TellsLine, Begins, AddsLine, IsUnfinished};
-ghost use Rattle.properties_lines.specs.declared.logical.Place.TheVariants.{Natural, Decoded};
+ghost use Rattle.properties_lines.specs.LogicalLine.{is_natural, bytes_at, bytes_with, BeginsWith, IsSound, IsTextOf, TellsLine, Begins, AddsLine, IsUnfinished};
+ghost use Rattle.properties_lines.specs.declared.logical.Place.TheVariants.{Natural, Decoded, Joined};
 
 use crate::join::{begin_bytes, join_bytes};
 use properties_text::encoding::{Encoding, LineEncoding, TextBuffer, as_text};
@@ -136,19 +136,29 @@ impl LogicalLine {
         bytes: &[u8],
     ) -> Result<bool, AllocError>
         requires { TellsLine (encoding_of encoding) bytes.now is_line }
-        ensures { Begins (encoding_of encoding) bytes.now result self.new }
+        ensures begins { Begins (encoding_of encoding) bytes.now result self.new }
+        ensures sound { IsSound self.new }
     {
         self.borrow(encoding);
-        let is_continued = if is_line {
-            begin_bytes(&mut self.joined, bytes)?
-        } else {
-            self.decode(encoding, bytes)?;
-            begin_bytes(&mut self.joined, self.decoded.as_line().as_slice())?
-        };
-        if is_continued {
-            self.place = Place::Joined;
+        if is_line {
+            let is_continued = begin_bytes(&mut self.joined, bytes)?;
+            self.set_place(is_continued, Place::Natural);
+            return Ok(is_continued);
         }
+        self.decode(encoding, bytes)?;
+        let is_continued = begin_bytes(&mut self.joined, self.decoded.as_line().as_slice())?;
+        self.set_place(is_continued, Place::Decoded);
         Ok(is_continued)
+    }
+
+    fn set_place(&mut self, is_joined: bool, otherwise: Place)
+        ensures { self.new ≡ record self.old { place = if is_joined then Joined else otherwise } }
+    {
+        self.place = if is_joined {
+            Place::Joined
+        } else {
+            otherwise
+        };
     }
 
     /// Joins the line with these bytes to this one, and returns whether the next line is joined too.
@@ -160,48 +170,57 @@ impl LogicalLine {
     ) -> Result<bool, AllocError>
         requires line { TellsLine (encoding_of encoding) bytes.now is_line }
         requires unfinished { IsUnfinished (encoding_of encoding) self.old }
-        ensures { AddsLine (encoding_of encoding) bytes.now self.old result self.new }
+        ensures adds { AddsLine (encoding_of encoding) bytes.now self.old result self.new }
+        ensures sound { IsSound self.new }
     {
         if is_line {
             return join_bytes(&mut self.joined, bytes);
         }
         self.decode(encoding, bytes)?;
-        self.place = Place::Joined;
         join_bytes(&mut self.joined, self.decoded.as_line().as_slice())
     }
 
     /// Decodes the line to UTF-8, unless it is UTF-8 or ASCII.
     #[inline(never)]
     pub fn make_text(&mut self, natural: &[u8]) -> Result<(), AllocError>
-        requires { IsWell self.old.encoding (bytes_with self.old natural.now) }
-        ensures { OnOk result (IsTextOf (text_in self.old.encoding (bytes_with self.old natural.now)) (bytes_with self.new natural.now)) }
+        requires well { IsWell self.old.encoding (bytes_with self.old natural.now) }
+        requires sound { IsSound self.old }
+        ensures sound { IsSound self.new }
+        ensures text { OnOk result (IsTextOf (text_in self.old.encoding (bytes_with self.old natural.now)) (bytes_with self.new natural.now)) }
     {
         if self.encoding == LineEncoding::Utf8 {
             return Ok(());
         }
-        let LogicalLine { place, decoded, joined, .. } = self;
-        let line = match place {
-            Place::Joined => joined.as_slice(),
-            _ => natural,
-        };
+        let line = undecoded(self.place, natural, &self.joined);
         if as_text(Encoding::WINDOWS_1252, line).is_some() {
             return Ok(());
         }
-        decoded.clear();
-        decoded.push_decoded(Encoding::WINDOWS_1252, line)?;
+        self.decoded.clear();
+        self.decoded.push_decoded(Encoding::WINDOWS_1252, line)?;
         self.place = Place::Decoded;
         self.encoding = LineEncoding::Utf8;
         Ok(())
     }
 
-    // Makes this the text of a natural line.
+    // Decodes a natural line to UTF-8.
     fn decode(&mut self, encoding: Encoding, bytes: &[u8]) -> Result<(), AllocError>
         ensures decoded { OnOk result (chars self.new.decoded ≡ decoded_line (encoding_of encoding) bytes.now) }
-        ensures same { self.new ≡ record self.old { place = Decoded; decoded = self.new.decoded } }
+        ensures utf8 { IsUtf8 self.new.decoded }
+        ensures same { self.new ≡ record self.old { decoded = self.new.decoded } }
     {
-        self.place = Place::Decoded;
         self.decoded.clear();
         self.decoded.push_decoded(encoding, bytes)
+    }
+}
+
+// The bytes of a line that isn't decoded.
+fn undecoded<'a>(place: Place, natural: &'a [u8], joined: &'a LineBuffer) -> &'a [u8]
+    requires { place ≢ Decoded }
+    ensures { (decoded : List ℕ) → result.now ≡ bytes_at place natural.now decoded joined.now }
+{
+    match place {
+        Place::Joined => joined.as_slice(),
+        _ => natural,
     }
 }
 
