@@ -8,7 +8,7 @@ ghost use Rattle.properties_text.specs.Encoding.{encoding_of};
 ghost use Rattle.properties_text.specs.Escaping.{holds_backslash};
 ghost use Rattle.properties_text.specs.Spelt.{IsWell};
 ghost use Rattle.properties_lines.specs.LineReader.{lines_left, HasRightLineFlags};
-ghost use Rattle.properties_lines.specs.LogicalLine.{BeginsWith, IsUnfinished, unfinished_text};
+ghost use Rattle.properties_lines.specs.LogicalLine.{BeginsWith, IsSound, IsUnfinished, unfinished_text};
 ghost use Rattle.properties_lines.specs.LineJoiner.{Joining, Joins, Advances, JoinsOn, ReadsRest};
 ghost use Rattle.properties_lines.specs.declared.logical.Place.TheVariants.{Joined};
 
@@ -36,7 +36,8 @@ pub struct LineJoiner {
 
 impl Model for LineJoiner {
     ghost use Rattle.std.specs.Prelude.{◌&&◌};
-    ghost use Rattle.properties_lines.specs.LogicalLine.{bytes_with, is_natural};
+    ghost use Rattle.properties_lines.specs.LineJoiner.{Joining};
+    ghost use Rattle.properties_lines.specs.LogicalLine.{bytes_with, is_natural, IsSound};
 
     ghost Value = { Joining };
 
@@ -47,6 +48,8 @@ impl Model for LineJoiner {
       has_backslash = s.has_backslash;
       error = s.lines.error;
     } };
+
+    ghost invariant = { λ s. IsSound s.line };
 }
 
 impl LineJoiner {
@@ -179,6 +182,7 @@ fn read_rest<R: CountedRead>(
     requires decided { lines.old.state.is_decided ≡ true }
     requires backslash { has_backslash.old ≡ false → holds_backslash lines.old.line ≡ false }
     requires error { lines.old.error ≡ None }
+    ensures sound { IsSound line.new }
     ensures reads { ReadsRest R.CountedRead lines.old reader.old result lines.new line.new has_backslash.new reader.new }
     ensures same_reader { IsSameReader R.CountedRead reader.old reader.new }
     ensures left { lines_left lines.new.state ≤ lines_left lines.old.state }
@@ -214,6 +218,7 @@ fn join_lines<R: CountedRead>(
     ensures joins { JoinsOn R.CountedRead lines.old reader.old (unfinished_text line.old) result lines.new reader.new (unfinished_text line.new) }
     ensures place { result ≡ true → line.new.place ≡ Joined }
     ensures well { result ≡ true → IsWell line.new.encoding line.new.joined }
+    ensures sound { IsSound line.new }
     ensures same_reader { IsSameReader R.CountedRead reader.old reader.new }
     ensures left { lines_left lines.new.state ≤ lines_left lines.old.state }
 {

@@ -116,7 +116,8 @@ impl LineReader {
     /// Returns whether the bytes of that line are in windows-1252 or in well-formed UTF-8.
     #[inline(always)]
     pub fn is_well_formed(&mut self) -> bool
-        requires { HasRightLineFlags self.old }
+        requires flags { HasRightLineFlags self.old }
+        requires decided { self.old.state.is_decided ≡ true }
         ensures tells { TellsLine self.old.state.encoding self.old.line result }
         ensures same { self.new ≡ self.old }
     {
@@ -133,6 +134,9 @@ impl LineReader {
     // Tests the line, and lines after it.
     #[inline(never)]
     fn test(&mut self) -> bool
+        requires some { 0 < length self.old.line }
+        requires decided { self.old.state.is_decided ≡ true }
+        requires encoding { self.old.state.encoding ≡ utf_8 }
         ensures tells { TellsLine utf_8 self.old.line result }
         ensures same { self.new ≡ self.old }
     {
