@@ -45,6 +45,7 @@ impl Model for LineReader {
     ghost use Rattle.std.specs.Prelude.{◌≡◌, ◌≢◌, ◌-◌, true, None, length};
     ghost use Rattle.properties_lines.specs.Scanner.{scanner_state, bytes_of, Fits};
     ghost use Rattle.properties_lines.specs.LineReader.{Finder};
+    ghost use Rattle.properties_lines.specs.Tested.{IsTested};
 
     ghost Value = { Finder };
 
@@ -57,7 +58,8 @@ impl Model for LineReader {
       error = s.error;
     } };
 
-    ghost invariant = { λ s. Fits s.scanner s.input.held × (s.error ≢ None → s.scanner.is_done ≡ true) };
+    ghost invariant = { λ s. Fits s.scanner s.input.held × (s.error ≢ None → s.scanner.is_done ≡ true)
+        × IsTested s.scanner s.input.held s.well_formed };
 }
 
 // How many bytes from the start of a line on are tested at once.

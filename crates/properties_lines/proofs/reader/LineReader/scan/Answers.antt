@@ -13,3 +13,6 @@ returns c =
     let S : List ℕ → Type 0 = λ v. Scans s v c.args.ended c.next.result new in
     let T : Finder → Type 0 = λ v. ScansHeld v c.args.ended c.next.result (finder_of new held error) in
     subst T c.self.view_is (scans-held s new held error c.args.ended c.next.result c.self.invariant.1 (subst S c.held.ensures c.next.ensures))
+
+pub invariant_of-self : goal.invariant_of-self
+invariant_of-self c = ?
