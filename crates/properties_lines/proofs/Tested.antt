@@ -1,18 +1,22 @@
 -- What is known of the UTF-8 that a reader holds.
 use Rattle.std.proofs.Common.{◌≡◌, ◌≢◌, ◌⊎◌, ◌<◌, ◌≤◌, ◌+◌, ◌-◌, ℕ, zero, suc, Bool, true, false, List, [], ◌∷◌, ◌++◌, length, take, drop, get_or, refl, sym, ap, ap₂, subst, ◌∙◌, inl, inr, arith}
 use Rattle.std.specs.Prelude.{Option, Some, None}
-use Rattle.std.specs.Str.{IsUtf8}
+use Rattle.std.specs.Str.{IsAscii, IsUtf8}
 use Rattle.std.proofs.lemmas.Bool.{cases_Bool, cases_lt, eqb-true}
-use Rattle.std.proofs.lemmas.List.{get_or-take, get_or-drop, take-take, drop-take, drop-drop, drop-append-le, length-drop, length-take-le, length-append, get_or_append_left, take-append-le}
+use Rattle.std.proofs.lemmas.List.{get_or-take, get_or-drop, take-take, drop-take, drop-drop, drop-append-le, length-drop, length-take-le, length-append, get_or_append_left, take-append-le, nil_from_length}
 use Rattle.std.proofs.Math.Seq.{drop-append_seam}
-use Rattle.std.proofs.lemmas.Str.{IsUtf8-take, IsUtf8-drop, IsCharBoundary-before_ascii, IsCharBoundary-after_ascii}
+use Rattle.std.proofs.lemmas.Str.{IsUtf8-take, IsUtf8-drop, IsUtf8-from_ascii, IsCharBoundary-before_ascii, IsCharBoundary-after_ascii}
 use Rattle.properties_format.specs.Text as text
-use Rattle.properties_format.specs.Encoding.{Encoding, InForce, utf_8}
+use Rattle.properties_format.specs.Encoding.{Encoding, InForce, windows_1252, utf_8, utf_16le, utf_16be}
 use Rattle.properties_format.specs.Cut.{units}
 use Rattle.properties_format.specs.Reading.Lines.{begins_with_lf}
+use Rattle.properties_format.proofs.Encodings.WellFormed.{well_formed-from_IsUtf8, IsUtf8-from_well_formed}
 use Rattle.properties_text.specs.Encoding.{encoding_of}
 use Rattle.properties_text.specs.Decoding.{IsLongestText}
 use Rattle.properties_lines.specs.Scanner.{is_decided, after_cr, bytes_of, scanner_state, front_of, without_feed, ending_bytes, EndsWhole, Fits, IsCutOff, GivesLine, AsksForMore, Scans}
+use Rattle.properties_lines.specs.LineSearch.{unit_size}
+use Rattle.properties_lines.specs.LineReader.{Finder, HasRightLineFlags}
+use Rattle.properties_lines.specs.LogicalLine.{IsLineIn, TellsLine}
 use Rattle.properties_lines.specs.Tested.{between, IsApart, KnowsText, IsTested}
 use Rattle.properties_lines.specs.declared.scanner.RawLine.{RawLine}
 use Rattle.properties_lines.specs.declared.scanner.Scanner.{Scanner}
@@ -36,7 +40,7 @@ after-ascii bs k u l a = IsUtf8-drop bs (k + 1) u (IsCharBoundary-after_ascii bs
 between-none : (a w : ℕ) (bs : List ℕ) → w ≤ a → between a w bs ≡ []
 between-none a w bs h = ap (λ n. take n (drop a bs)) (let e : w - a ≡ 0 = omega arith in e)
 
-between-length : (a w : ℕ) (bs : List ℕ) → w ≤ length bs → length (between a w bs) ≡ w - a
+pub between-length : (a w : ℕ) (bs : List ℕ) → w ≤ length bs → length (between a w bs) ≡ w - a
 between-length a w bs h = length-take-le (w - a) (drop a bs) (omega (arith, length-drop a bs))
 
 between-at : (a w k : ℕ) (bs : List ℕ) → a ≤ k → k < w → get_or (between a w bs) (k - a) 0 ≡ get_or bs k 0
@@ -394,3 +398,58 @@ module _ (s : Scanner) (held : List ℕ) (w most n : ℕ) (t : IsTested s held w
       subst IsUtf8 (sym (between-take s.line.start s.line.end most held (omega arith) reaches)) u in
       let h = found.longest (s.line.end - s.line.start) (omega (arith, size)) line in
       omega (arith, h)
+
+  -- The test says whether the line is well-formed.
+  pub tells-text : (b : Bool) → (b ≡ true → s.line.end ≤ s.line.start + n) → (b ≡ false → s.line.start + n < s.line.end) → TellsLine utf_8 (bytes_of held s.line) b
+  tells-text true h k = well_formed-from_IsUtf8 (bytes_of held s.line) (reached (h refl))
+  tells-text false h k = λ w. not-reached (k refl) (IsUtf8-from_well_formed (bytes_of held s.line) w)
+
+-- ---- a line that needs no test
+
+pub ascii-line : (e : Encoding) (bytes : List ℕ) → unit_size e ≡ 1 → IsAscii bytes → IsLineIn e bytes
+ascii-line windows_1252 bytes h a = tt
+ascii-line utf_8 bytes h a = well_formed-from_IsUtf8 bytes (IsUtf8-from_ascii bytes a)
+ascii-line utf_16le bytes h a = absurd (omega (arith, h))
+ascii-line utf_16be bytes h a = absurd (omega (arith, h))
+
+-- A line that isn't ASCII has a byte.
+pub some-byte : (f : Finder) → HasRightLineFlags f → f.state.encoding ≡ utf_8 → f.is_ascii ≡ false → 0 < length f.line
+some-byte f flags e not = elim (cases_lt 0 (length f.line)) [
+  | inl some ↦ some
+  | inr none ↦
+      let size : unit_size f.state.encoding ≡ 1 = ap unit_size e in
+      let empty : f.line ≡ [] = nil_from_length f.line (omega arith) in
+      let ascii = (flags 0 0).ascii.1 (size, subst IsAscii (sym empty) (λ i. omega arith)) in
+      absurd (let a : f.is_ascii ≡ true = ascii in cc)
+]
+
+pub known-text : (s : Scanner) (held : List ℕ) (w : ℕ) (e : Encoding) (b : Bool) → IsTested s held w → is_decided s.front ≡ true → encoding_of s.encoding ≡ utf_8 → e ≡ utf_8 → s.line.end ≤ w
+    → (b ≡ false → w < s.line.end) → TellsLine e (bytes_of held s.line) b
+known-text s held w e true t d is same l h =
+    subst (λ v. IsLineIn v (bytes_of held s.line)) (sym same) (well_formed-from_IsUtf8 (bytes_of held s.line) ((t.text d is).line l))
+known-text s held w e false t d is same l h = absurd (omega (arith, l, h refl))
+
+-- ---- the invariant of a reader
+
+pub kept-ended : (s new : Scanner) (held : List ℕ) (w : ℕ) → Fits s held → IsTested s held w → new ≡ record s { is_done = true } → Fits new held × (new.is_done ≡ true) × IsTested new held w
+kept-ended s new held w f t is = rw is (record { within = f.within; searched = f.searched; fresh = f.fresh; line = f.line }, refl, tested-ended s held w t)
+
+pub fits-scan : (old new : Scanner) (held : List ℕ) (ended : Bool) (answer : Scan) → Fits old held → Scans old held ended answer new → Fits new held
+fits-scan old new held ended scan.Line f g = g.fits
+fits-scan old new held ended scan.More f g = g.1.fits
+fits-scan old new held ended scan.End f g = subst (λ v. Fits v held) (sym g.1) f
+fits-scan old new held ended scan.TooMany f g = subst (λ v. Fits v held) (sym g.2) f
+
+pub done-scan : (old new : Scanner) (held : List ℕ) (ended : Bool) (answer : Scan) → old.is_done ≡ true → Scans old held ended answer new → new.is_done ≡ true
+done-scan old new held ended scan.Line d g = let l = g.live in absurd (cc)
+done-scan old new held ended scan.More d g = let l = g.1.live in absurd (cc)
+done-scan old new held ended scan.End d g = ap (λ v. let x : Scanner = v in x.is_done) g.1 ∙ d
+done-scan old new held ended scan.TooMany d g = let l = g.0 in absurd (cc)
+
+pub tested-new : (s : Scanner) (held : List ℕ) → (s.line.start ≡ 0) × (s.line.end ≡ 0) → IsTested s held 0
+tested-new s held z =
+    let empty : s.line.start ≡ s.line.end = omega (arith, z.0, z.1) in
+    record { within = omega arith; known = λ h. absurd (omega (arith, h)); fresh = λ u. empty; text = λ d e. empty-text s held 0 refl empty }
+
+pub released-empty : (s new : Scanner) (gone : ℕ) → new ≡ release s gone → new.line.start ≡ new.line.end
+released-empty s new gone is = rw is refl
