@@ -1,12 +1,11 @@
 -- How natural lines are joined, step by step.
 use Rattle.std.proofs.Common.{◌≡◌, ◌+◌, ℕ, Bool, true, false, List, [], ◌∷◌, ◌++◌, refl, sym, ap, ap₂, ◌∙◌, inl, inr, subst, append_assoc, append-nil}
-use Rattle.std.specs.Prelude.{◌≢◌, ◌⊎◌, ◌&&◌, not, Option, Some, None, is_some}
-use Rattle.std.specs.Str.{chars, IsAscii, IsUtf8}
+use Rattle.std.specs.Prelude.{◌⊎◌, ◌&&◌, not, Option, Some, None, is_some}
+use Rattle.std.specs.Str.{IsAscii}
 use Rattle.std.proofs.lemmas.Bool.{cases_Bool, and_parts}
 use Rattle.counted_io.specs.Streams.{Reader}
 use Rattle.counted_io.proofs.Streams.{read-none, read-more, failed-more}
-use Rattle.properties_format.specs.Encoding.{Encoding, output_encoding}
-use Rattle.properties_format.specs.Reading.Cut.{decoded_line}
+use Rattle.properties_format.specs.Encoding.{output_encoding}
 use Rattle.properties_format.specs.Lines as format
 use Rattle.properties_format.specs.Lines.{InputEnd, end, fault, more}
 use Rattle.properties_format.specs.Groups.{is_open, is_comment_line, addition, without_open_backslash, joined_after, AreOpen, EndsClosed, IsWhole, IsUnfinished}

@@ -22,7 +22,7 @@ use Rattle.properties_text.proofs.TextFronts.{text-decoded}
 use Rattle.properties_text.proofs.Texts.Backslashes.{ending_backslashes-text}
 use Rattle.properties_text.proofs.Texts.Joins.{is_comment_line-text, without_open_backslash-part}
 use Rattle.properties_text.proofs.Texts.Split.{without_leading_blanks-part}
-use Rattle.properties_lines.specs.LogicalLine.{bytes_at, IsTextOf, IsLineIn, AddsText, BeginsText, Begins, AddsLine, is_continued, IsNotContinued, IsUnfinished, OpensJoin, unfinished_text}
+use Rattle.properties_lines.specs.LogicalLine.{bytes_at, IsTextOf, IsLineIn, AddsText, BeginsText, Begins, AddsLine, is_continued, IsNotContinued, IsUnfinished, OpensJoin}
 use Rattle.properties_lines.specs.declared.logical.LogicalLine.{LogicalLine}
 use Rattle.properties_lines.specs.declared.logical.Place.{Place}
 use Rattle.properties_lines.specs.declared.logical.Place.TheVariants.{Joined}

@@ -1,18 +1,12 @@
 -- Which lines of undecoded bytes are continued.
-use Rattle.std.proofs.Common.{◌≡◌, ℕ, ◌<◌, ◌≤◌, ◌+◌, ◌-◌, Bool, true, false, not, if◌then◌else◌, List, [], ◌∷◌, ◌++◌, length, take, drop, get_or, refl, sym, ap, ap₂, ◌∙◌, inl, inr, arith, length-append}
-use Rattle.std.specs.Prelude.{Ok}
+use Rattle.std.proofs.Common.{◌≡◌, ℕ, ◌<◌, ◌≤◌, ◌+◌, ◌-◌, Bool, true, false, not, if◌then◌else◌, List, [], ◌∷◌, length, take, drop, get_or, refl, sym, ap, ◌∙◌, inl, inr, arith, length-append}
 use Rattle.std.proofs.lemmas.Bool.{cases_Bool}
-use Rattle.std.proofs.lemmas.List.{drop_more, drop_all, map-append}
+use Rattle.std.proofs.lemmas.List.{drop_more, drop_all}
 use Rattle.std.proofs.Math.Seq.{take-append_seam}
 use Rattle.properties_format.specs.Text.{backslash, is_blank, is_comment_sign, without_leading_blanks}
-use Rattle.properties_format.specs.Groups.{is_open, is_comment_line, begins_with_comment_sign, without_last, without_open_backslash, addition}
-use Rattle.properties_format.specs.Encoding.{Encoding, windows_1252}
-use Rattle.properties_format.specs.Windows1252.{windows_1252_character}
-use Rattle.properties_format.specs.Reading.Cut.{decoded_line}
-use Rattle.properties_format.specs.Reading.Undecoded.{characters_of}
+use Rattle.properties_format.specs.Groups.{is_open, is_comment_line, begins_with_comment_sign, without_last, without_open_backslash}
 use Rattle.properties_format.proofs.Groups.Open.{is_open-after, blank-other, open-ends}
-use Rattle.properties_format.proofs.Undecoded.{decodes, comments, opens, closed, adds}
-use Rattle.properties_lines.specs.LogicalLine.{AddsText, is_continued, IsNotContinued}
+use Rattle.properties_lines.specs.LogicalLine.{is_continued, IsNotContinued}
 
 -- ---- comment lines
 
@@ -57,9 +51,6 @@ continued-comment text c = rw c refl
 
 pub continued-other : (text : List ℕ) → is_comment_line text ≡ false → is_continued text ≡ is_open text
 continued-other text c = rw c refl
-
-pub continued-closed : (text : List ℕ) → is_open text ≡ false → is_continued text ≡ false
-continued-closed text o = elim (cases_Bool (is_comment_line text)) [ inl c ↦ continued-comment text c | inr c ↦ continued-other text c ∙ o ]
 
 pub stands-alone : (text : List ℕ) → is_continued text ≡ false → IsNotContinued text
 stands-alone text h = elim (cases_Bool (is_comment_line text)) [ inl c ↦ inl c | inr c ↦ inr (sym (continued-other text c) ∙ h) ]

@@ -8,7 +8,6 @@ use Rattle.std.proofs.Math.Seq.{drop-append_seam}
 use Rattle.std.proofs.lemmas.Str.{IsUtf8-take, IsUtf8-drop, IsUtf8-from_ascii, IsCharBoundary-before_ascii, IsCharBoundary-after_ascii}
 use Rattle.properties_format.specs.Text as text
 use Rattle.properties_format.specs.Encoding.{Encoding, InForce, windows_1252, utf_8, utf_16le, utf_16be}
-use Rattle.properties_format.specs.Cut.{units}
 use Rattle.properties_format.specs.Reading.Lines.{begins_with_lf}
 use Rattle.properties_format.proofs.Encodings.WellFormed.{well_formed-from_IsUtf8, IsUtf8-from_well_formed}
 use Rattle.properties_text.specs.Encoding.{encoding_of}

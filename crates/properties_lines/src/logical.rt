@@ -154,11 +154,7 @@ impl LogicalLine {
     fn set_place(&mut self, is_joined: bool, otherwise: Place)
         ensures { self.new ≡ record self.old { place = if is_joined then Joined else otherwise } }
     {
-        self.place = if is_joined {
-            Place::Joined
-        } else {
-            otherwise
-        };
+        self.place = if is_joined { Place::Joined } else { otherwise };
     }
 
     /// Joins the line with these bytes to this one, and returns whether the next line is joined too.

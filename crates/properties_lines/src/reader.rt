@@ -144,7 +144,9 @@ impl LineReader {
     {
         let line = self.scanner.line();
         let held = self.input.held();
-        let end = held.len().min(line.end.max(line.start.saturating_add(WINDOW)));
+        let end = held
+            .len()
+            .min(line.end.max(line.start.saturating_add(WINDOW)));
         self.well_formed = line.start + well_formed_length(&held[line.start..end]);
         line.end <= self.well_formed
     }

@@ -1,5 +1,4 @@
-use Rattle.std.proofs.Common.{◌≡◌, ◌-◌, true, false, length, take, refl, sym, ap, ◌∙◌}
-use Rattle.properties_format.specs.Groups.{is_open, without_open_backslash}
+use Rattle.std.proofs.Common.{sym, ◌∙◌}
 use Rattle.properties_lines.proofs.OpenLines.{open-cut}
 use Rattle.properties_lines.proofs.join.without_open_backslash.Goals as goal
 

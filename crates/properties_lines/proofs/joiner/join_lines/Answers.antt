@@ -1,5 +1,4 @@
-use Rattle.std.proofs.Common.{◌≡◌, [], ◌++◌, ◌∙◌, refl, sym, subst, arith}
-use Rattle.properties_text.specs.Encoding.{encoding_of}
+use Rattle.std.proofs.Common.{[], ◌++◌, ◌∙◌, refl, sym, subst, arith}
 use Rattle.properties_lines.specs.LogicalLine.{IsUnfinished, unfinished_text}
 use Rattle.properties_lines.proofs.LineJoiner.{goes-start, goes-more, joins-closed, joins-over, joins-lost}
 use Rattle.properties_lines.proofs.joiner.join_lines.Goals as goal

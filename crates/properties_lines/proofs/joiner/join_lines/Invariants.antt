@@ -1,9 +1,9 @@
-use Rattle.std.proofs.Common.{◌≡◌, ℕ, List, true, ◌≤◌}
+use Rattle.std.proofs.Common.{◌≡◌, ℕ, List, ◌≤◌}
 use Rattle.std.specs.Prelude.{None}
 use Rattle.counted_io.specs.Streams.{reader, IsSameReader}
 use Rattle.properties_lines.specs.LineReader.{lines_left}
 use Rattle.properties_lines.specs.LineJoiner.{GoesOn}
-use Rattle.properties_lines.specs.LogicalLine.{IsUnfinished, IsSound, unfinished_text}
+use Rattle.properties_lines.specs.LogicalLine.{IsUnfinished, unfinished_text}
 use Rattle.properties_lines.proofs.joiner.join_lines.Given as goal
 
 abbrev pub invariant-loop-lines : goal.invariant-loop-lines

@@ -1,4 +1,4 @@
-use Rattle.std.proofs.Common.{◌≡◌, ◌∙◌, sym, ap, subst}
+use Rattle.std.proofs.Common.{◌∙◌, sym, ap, subst}
 use Rattle.std.specs.Prelude.{Some}
 use Rattle.counted_io.specs.Streams.{reader}
 use Rattle.properties_format.specs.Encoding.{output_encoding}

@@ -1,4 +1,4 @@
-use Rattle.std.proofs.Common.{◌≡◌, ◌∙◌, ℕ, List, true, leb, arith, sym, ap, subst}
+use Rattle.std.proofs.Common.{◌∙◌, leb, arith, sym, ap, subst}
 use Rattle.std.proofs.lemmas.Bool.{leb-false}
 use Rattle.properties_lines.specs.LineReader.{Finder}
 use Rattle.properties_lines.specs.LogicalLine.{TellsLine}

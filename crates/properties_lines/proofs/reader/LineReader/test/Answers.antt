@@ -1,9 +1,8 @@
-use Rattle.std.proofs.Common.{◌≡◌, ◌<◌, ◌≤◌, ◌+◌, ◌∙◌, ℕ, List, true, leb, length, sym, ap, subst, arith}
-use Rattle.std.specs.Prelude.{◌-◌}
+use Rattle.std.proofs.Common.{◌≡◌, ◌<◌, ◌≤◌, ◌+◌, ◌∙◌, true, leb, length, ap, subst, arith}
 use Rattle.std.proofs.lemmas.Bool.{leb-true, leb-false}
 use Rattle.properties_format.specs.Encoding.{utf_8}
 use Rattle.properties_text.specs.Encoding.{encoding_of}
-use Rattle.properties_lines.specs.Scanner.{is_decided, bytes_of}
+use Rattle.properties_lines.specs.Scanner.{is_decided}
 use Rattle.properties_lines.specs.LineReader.{Finder}
 use Rattle.properties_lines.specs.LogicalLine.{TellsLine}
 use Rattle.properties_lines.specs.declared.scanner.RawLine.{RawLine}
