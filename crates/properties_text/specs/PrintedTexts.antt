@@ -3,11 +3,10 @@ use Rattle.std.specs.Prelude.{◌≡◌, ◌⊎◌, ◌≤◌, ◌<◌, ◌+◌,
 use Rattle.properties_format.specs.Encoding as format
 use Rattle.properties_format.specs.Escapes as format_escapes
 use Rattle.properties_format.specs.Escapes.{Meaning, means, breaks}
-use Rattle.properties_format.specs.Printing.{encoded_text, with_first_escaped}
 use Rattle.properties_format.specs.Reading.Escapes.{meaning_of, in_front, text_in_front}
 use Rattle.properties_text.specs.Escaping.{malformed_in}
 use Rattle.properties_text.specs.Spelt.{text_in, IsWell}
-use Rattle.properties_text.specs.Printing.{encoding_in, only_in, puts_of, key_bytes, printed_bytes}
+use Rattle.properties_text.specs.Printing.{puts_of, key_bytes, printed_bytes}
 use Rattle.properties_text.specs.declared.encoding.line.Spelt.{Spelt}
 use Rattle.properties_text.specs.declared.escape.Malformed.{Malformed}
 use Rattle.std.specs.List.{All}
@@ -125,10 +124,11 @@ ReadsBy escaped e bytes (Err malformed) = meaning_in e escaped bytes ≡ breaks 
 abbrev pub from_on : LineEncoding → Repertoire → Bool → List ℕ → ℕ → List ℕ → ℕ → Meaning
 from_on e t escaped old at text from = text_in_front (take at old) (rest_in e t escaped (drop from text))
 
--- The result of going on: what was read and put, or how the rest is malformed.
-abbrev pub PutsStops : LineEncoding → Repertoire → Bool → List ℕ → ℕ → List ℕ → ℕ → List ℕ → Result Put Malformed → Type 0
+-- The result of going on: what was read and put; or how the rest is malformed; or memory ran out.
+abbrev pub PutsStops : LineEncoding → Repertoire → Bool → List ℕ → ℕ → List ℕ → ℕ → List ℕ → Result Put UnescapeError → Type 0
 PutsStops e t escaped old at text from new (Ok put) = ArePut e t escaped (from_on e t escaped old at text from) text put new
-PutsStops e t escaped old at text from new (Err malformed) = rest_in e t escaped (drop from text) ≡ breaks (malformed_in malformed)
+PutsStops e t escaped old at text from new (Err (error.Malformed malformed)) = rest_in e t escaped (drop from text) ≡ breaks (malformed_in malformed)
+PutsStops e t escaped old at text from new (Err error.Memory) = Unit {0}
 
 -- A run of bytes was put, none of which stops it, up to one that does.
 pub record IsRunPut (holds : ℕ → Bool) (old : List ℕ) (at : ℕ) (text : List ℕ) (from : ℕ) (put : Put) (new : List ℕ) : Type 0 where

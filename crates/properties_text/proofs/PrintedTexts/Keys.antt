@@ -9,8 +9,7 @@ use Rattle.properties_format.specs.Printing.{in_key_or_value, unicode_escape, pr
 use Rattle.properties_format.specs.Reading.Escapes.{in_front}
 use Rattle.properties_format.proofs.Escapes.Unique.{meaning_of-empty}
 use Rattle.properties_text.specs.Printing.{encoding_in, only_in, puts_of, key_bytes, escaped_key}
-use Rattle.properties_text.specs.Spelt.{text_in}
-use Rattle.properties_text.specs.PrintedTexts.{meaning_by, meaning_in, IsReadBy, IsPut, Prints, bytes_of, key_of, value_of, IsPairPrinted, PrintsPair}
+use Rattle.properties_text.specs.PrintedTexts.{meaning_by, meaning_in, IsReadBy, IsPut, Prints, key_of, value_of, IsPairPrinted, PrintsPair}
 use Rattle.properties_text.specs.declared.encoding.line.LineEncoding.{LineEncoding}
 use Rattle.properties_text.specs.declared.encoding.line.Spelt.{Spelt}
 use Rattle.properties_text.specs.declared.escape.UnescapeError.{UnescapeError}

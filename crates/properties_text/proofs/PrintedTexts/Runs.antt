@@ -16,7 +16,7 @@ use Rattle.properties_format.proofs.Escapes.Unique.{text_in_front-means, text_in
 use Rattle.properties_text.specs.Escaping.{malformed_in}
 use Rattle.properties_text.specs.Printing.{printed_byte, printed_bytes, with_backslashes, put_of, puts_of}
 use Rattle.properties_text.specs.Spelt.{text_in, IsWell, IsFirst, Reads}
-use Rattle.properties_text.specs.PrintedTexts.{meaning_by, meaning_in, printed_by, printed_in, is_inside, past_in, rest_in, StopsIn, ArePut, IsReadBy, ReadsBy, from_on, IsRunPut, IsPut, Prints}
+use Rattle.properties_text.specs.PrintedTexts.{meaning_by, meaning_in, printed_by, printed_in, is_inside, past_in, rest_in, StopsIn, ArePut, IsReadBy, ReadsBy, from_on, PutsStops, IsRunPut, IsPut, Prints}
 use Rattle.properties_text.specs.declared.encoding.line.LineEncoding.{LineEncoding}
 use Rattle.properties_text.specs.declared.encoding.line.LineEncoding.TheVariants.{Windows1252, Utf8}
 use Rattle.properties_text.specs.declared.encoding.line.Spelt.{Spelt}
@@ -297,23 +297,41 @@ stop-broken holds e t text old at from so_far out bs m is s inside stop held rea
     broken-front (take at old) (rest_in e t (holds backslash) (drop from text)) (malformed_in m)
     (held.printed ∙ ap (text_in_front (take so_far.end out)) rest ∙ text_in_front-breaks (take so_far.end out) (malformed_in m))
 
--- the stops and a run
-pub turn : (holds : ℕ → Bool) (e : LineEncoding) (t : Repertoire) (whole : Meaning) (text : List ℕ) (so_far next put : Put)
-    (items0 items1 slice1 new2 items2 items3 slice3 new4 items4 : List ℕ) → StopsIn holds e t
-    → ((i : ℕ) → get_or text i 0 < 256) → ArePut e t (holds backslash) whole text so_far items0
-    → take so_far.end items1 ≡ take so_far.end items0 → length items0 ≤ length items1 → slice1 ≡ items1
-    → ArePut e t (holds backslash) (from_on e t (holds backslash) slice1 so_far.end text so_far.read) text next new2 → items2 ≡ new2
-    → take next.end items3 ≡ take next.end items2 → length items2 ≤ length items3 → slice3 ≡ items3
-    → IsRunPut holds slice3 next.end text next.read put new4 → put.end ≤ length new4 → items4 ≡ new4 → ArePut e t (holds backslash) whole text put items4
-turn holds e t whole text so_far next put items0 items1 slice1 new2 items2 items3 slice3 new4 items4 s small held same1 more1 value1 stops back2 same3 more3
-    value3 run within back4 =
-    let one = put-same e t (holds backslash) whole text so_far items0 items1 held same1 more1 in
-    let two = put-on e t (holds backslash) whole text so_far next items1 new2 one (subst
-    (λ v. ArePut e t (holds backslash) (from_on e t (holds backslash) v so_far.end text so_far.read) text next new2) value1 stops) in
-    let three = put-same e t (holds backslash) whole text next new2 items3 two (same3 ∙ ap (take next.end) back2) (omega (arith, more3, ap length back2)) in
-    let four = put-run holds e t whole text next put items3 new4 s three small (subst (λ v. IsRunPut holds v next.end text next.read put new4) value3 run)
-    within in
-    subst (ArePut e t (holds backslash) whole text put) (sym back4) four
+-- What was put where room was made, and written back.
+pub stops-room : (e : LineEncoding) (t : Repertoire) (escaped : Bool) (old : List ℕ) (at : ℕ) (text : List ℕ) (from : ℕ) (items slice written new : List ℕ)
+    (r : Result Put UnescapeError) → take at items ≡ take at old → slice ≡ items → new ≡ written → PutsStops e t escaped slice at text from written r
+    → PutsStops e t escaped old at text from new r
+stops-room e t escaped old at text from items slice written new (Ok put) same value back h = record {
+  read = h.read;
+  within = omega (arith, h.within, ap length back);
+  well = h.well;
+  printed =
+      ap (λ v. text_in_front v (rest_in e t escaped (drop from text))) (sym same ∙ ap (take at) (sym value))
+      ∙ h.printed
+      ∙ ap (λ v. text_in_front (take put.end v) (rest_in e t escaped (drop put.read text))) (sym back);
+}
+stops-room e t escaped old at text from items slice written new (Err (error.Malformed m)) same value back h = h
+stops-room e t escaped old at text from items slice written new (Err error.Memory) same value back h = tt
+
+pub run-room : (holds : ℕ → Bool) (old : List ℕ) (at : ℕ) (text : List ℕ) (from : ℕ) (put : Put) (items slice written new : List ℕ) → take at items ≡ take at old
+    → slice ≡ items → new ≡ written → IsRunPut holds slice at text from put written → IsRunPut holds old at text from put new
+run-room holds old at text from put items slice written new same value back h = record {
+  onwards = h.onwards;
+  read = h.read;
+  within = h.within;
+  clear = h.clear;
+  printed =
+      ap (take put.end) back
+      ∙ h.printed
+      ∙ ap (λ v. v ++ printed_bytes (take (put.read - from) (drop from text))) (ap (take at) value ∙ same);
+}
+
+-- What stops the rest breaks the text.
+pub stops-refused : (e : LineEncoding) (t : Repertoire) (escaped : Bool) (text old : List ℕ) (at : ℕ) (put : Put) (out new : List ℕ) (u : UnescapeError) → IsWell e text
+    → ArePut e t escaped (from_on e t escaped old at text 0) text put out → PutsStops e t escaped out put.end text put.read new (Err u)
+    → Prints (meaning_in e escaped text) (puts_of t) old at new (Err u)
+stops-refused e t escaped text old at put out new (error.Malformed m) w held h = put-broken e t escaped text old at put out m w held h
+stops-refused e t escaped text old at put out new error.Memory w held h = tt
 
 pub small-at : (text bs : List ℕ) (read : ℕ) → bs ≡ drop read text → ((i : ℕ) → get_or text i 0 < 256) → get_or bs 0 0 < 256
 small-at text bs read is small = subst (λ v. v < 256) (sym (ap (λ v. get_or v 0 0) is ∙ get_or-drop read text 0 0)) (small (read + 0))
@@ -450,12 +468,11 @@ slice-kept from end items0 items1 slice1 new2 items2 before same value stays bac
     ap (take from) back ∙ fewer-kept new2 slice1 from end before stays ∙ ap (take from) value ∙ fewer-kept items1 items0 from end before same
 
 -- And where a run is put.
-pub run-kept : (holds : ℕ → Bool) (text : List ℕ) (from at read : ℕ) (put : Put) (items0 items1 slice1 new2 items2 : List ℕ) → from ≤ at → at ≤ length slice1
-    → take at items1 ≡ take at items0 → slice1 ≡ items1 → IsRunPut holds slice1 at text read put new2 → put.end ≤ length new2 → items2 ≡ new2
-    → (from ≤ put.end) × (take from items2 ≡ take from items0)
-run-kept holds text from at read put items0 items1 slice1 new2 items2 before room same value run within back =
-    let kept = front-kept slice1 new2 (printed_bytes (take (put.read - read) (drop read text))) at at put.end (omega arith) room within run.printed in
-    (omega (arith, kept.0, before), slice-kept from at items0 items1 slice1 new2 items2 before same value kept.1 back)
+pub run-kept : (holds : ℕ → Bool) (text : List ℕ) (from at read : ℕ) (put : Put) (old new : List ℕ) → from ≤ at → at ≤ length old
+    → IsRunPut holds old at text read put new → put.end ≤ length new → (from ≤ put.end) × (take from new ≡ take from old)
+run-kept holds text from at read put old new before room run within =
+    let kept = front-kept old new (printed_bytes (take (put.read - read) (drop read text))) from at put.end before room within run.printed in
+    (omega (arith, kept.0, before), kept.1)
 
 -- ---- a front, and the rest
 
@@ -486,18 +503,12 @@ rest-at bytes size read h =
     ∙ ap (λ m. drop read (take m bytes)) (let e : read + (size - read) ≡ size = omega (arith, h) in e)
 
 -- the first run
-pub start-run : (holds : ℕ → Bool) (e : LineEncoding) (t : Repertoire) (text old : List ℕ) (at : ℕ) (items1 slice1 new2 items2 : List ℕ) (put : Put)
-    → StopsIn holds e t → ((i : ℕ) → get_or text i 0 < 256)
-    → at ≤ length old → IsWell e text → take at items1 ≡ take at old → length old ≤ length items1 → slice1 ≡ items1 → IsRunPut holds slice1 at text 0 put new2
-    → put.end ≤ length new2 → items2 ≡ new2
-    → ArePut e t (holds backslash) (from_on e t (holds backslash) old at text 0) text put items2
-start-run holds e t text old at items1 slice1 new2 items2 put s small room w same more value run within back =
-    let none : Put = record { read = 0; end = at } in
-    let one = put-none e t (holds backslash) text 0 at old (omega arith) room (subst (IsWell e) (sym (past-well e t text w)) w) in
-    let two = put-same e t (holds backslash) (from_on e t (holds backslash) old at text 0) text none old items1 one same more in
-    let three = put-run holds e t (from_on e t (holds backslash) old at text 0) text none put items1 new2 s two small
-    (subst (λ v. IsRunPut holds v at text 0 put new2) value run) within in
-    subst (ArePut e t (holds backslash) (from_on e t (holds backslash) old at text 0) text put) (sym back) three
+pub first-run : (holds : ℕ → Bool) (e : LineEncoding) (t : Repertoire) (text old : List ℕ) (at : ℕ) (put : Put) (new : List ℕ) → StopsIn holds e t
+    → ((i : ℕ) → get_or text i 0 < 256) → at ≤ length old → IsWell e text → IsRunPut holds old at text 0 put new → put.end ≤ length new
+    → ArePut e t (holds backslash) (from_on e t (holds backslash) old at text 0) text put new
+first-run holds e t text old at put new s small room w run within =
+    put-run holds e t (from_on e t (holds backslash) old at text 0) text record { read = 0; end = at } put old new s
+    (put-none e t (holds backslash) text 0 at old (omega arith) room (subst (IsWell e) (sym (past-well e t text w)) w)) small run within
 
 -- what is left begins at a stop
 pub rest-own : (holds : ℕ → Bool) (e : LineEncoding) (t : Repertoire) (whole : Meaning) (text out : List ℕ) (put : Put) → StopsIn holds e t
