@@ -2,7 +2,7 @@
 use Rattle.std.specs.Prelude.{encode_utf8_all}
 use Rattle.std.specs.Str.{chars, IsUtf8, all_scalars}
 use Rattle.std.proofs.lemmas.Str.{IsUtf8-append, chars-append, chars-encodes}
-use Rattle.std.proofs.Common.{true, false, inl, inr, ◌≡◌, ℕ, zero, suc, ◌+◌, ◌*◌, ◌<◌, ◌≤◌, ◌==◌, nat_le, not, Bool, List, [], ◌∷◌, ◌++◌, refl, sym, ap, ap₂, subst, ◌∙◌, append_assoc, arith, length, take, drop, get_or, map, eqb-true, w8, Fits}
+use Rattle.std.proofs.Common.{true, false, inl, inr, ◌≡◌, ℕ, zero, suc, ◌*◌, ◌<◌, ◌≤◌, ◌==◌, nat_le, not, Bool, List, [], ◌∷◌, ◌++◌, refl, sym, ap, ap₂, subst, ◌∙◌, append_assoc, arith, length, take, drop, get_or, map, eqb-true, w8, Fits}
 use Rattle.std.specs.List.{AllByRecursion}
 use Rattle.std.specs.Simd.Lanes.{Each1, pick_l}
 use Rattle.std.proofs.lemmas.Bool.{cases_Bool, leb-true}

@@ -1,9 +1,8 @@
 -- Characters and escapes that are read from the bytes of a line, in either encoding.
-use Rattle.std.specs.Prelude.{◌≡◌, ◌<◌, ◌≤◌, ◌⊎◌, ℕ, nat_lt, true, false, if◌then◌else◌, List, ◌∷◌, length, drop, get_or, Option, Some, None, Result, Ok, Err}
+use Rattle.std.specs.Prelude.{◌≡◌, ◌<◌, ◌≤◌, ◌⊎◌, ℕ, nat_lt, true, false, if◌then◌else◌, List, ◌∷◌, length, drop, get_or, Result, Ok, Err}
 use Rattle.std.specs.Char.{IsScalar}
 use Rattle.std.specs.Str.{IsUtf8, chars}
 use Rattle.properties_format.specs.Text.{backslash}
-use Rattle.properties_format.specs.Encoding as format
 use Rattle.properties_format.specs.Escapes.{letter_u, NoSpelling, are_hexadecimal, code_unit, is_high, is_low, pair_character, means, breaks, Four}
 use Rattle.properties_format.specs.Reading.Escapes.{in_front, meaning_of}
 use Rattle.properties_format.specs.Reading.Undecoded.{characters_of}

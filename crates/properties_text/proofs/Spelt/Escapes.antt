@@ -1,19 +1,18 @@
 -- Escapes at the front of some bytes, in either encoding.
-use Rattle.std.proofs.Common.{◌≡◌, ◌≢◌, ℕ, ◌+◌, ◌<◌, ◌≤◌, ◌⊎◌, ◌==◌, ◌&&◌, if◌then◌else◌, true, false, List, [], ◌∷◌, ◌++◌, length, take, drop, get_or, refl, sym, ap, ap₂, ◌∙◌, subst, inl, inr, arith, lit<, ne_eqb, eqb-true, suc}
-use Rattle.std.specs.Prelude.{Option, Some, None, Ok, Err}
+use Rattle.std.proofs.Common.{◌≡◌, ◌≢◌, ℕ, ◌+◌, ◌<◌, ◌≤◌, ◌==◌, ◌&&◌, true, List, [], ◌∷◌, ◌++◌, length, drop, get_or, refl, sym, ap, ap₂, ◌∙◌, subst, inl, inr, arith, lit<, ne_eqb, eqb-true}
+use Rattle.std.specs.Prelude.{None, Err}
 use lib.Utf8.{encodes}
 use Rattle.std.specs.Char.{IsScalar, InScalarRange, OutOfScalarRange}
-use Rattle.std.specs.Str.{IsUtf8, chars}
-use Rattle.std.proofs.lemmas.Bool.{cases_Bool, cases_lt, cond-true, cond-false, and_parts, and_from, and_left, false_from_ne_true}
+use Rattle.std.specs.Str.{chars}
+use Rattle.std.proofs.lemmas.Bool.{cases_lt, cond-false, and_parts, false_from_ne_true}
 use Rattle.std.proofs.lemmas.Str.{encodes-chars, chars-nil}
 use Rattle.std.proofs.lemmas.List.{get_or-drop, drop-drop, length-drop}
 use Rattle.properties_format.specs.Text.{backslash}
 use Rattle.properties_format.specs.Windows1252.{windows_1252_character}
-use Rattle.properties_format.specs.Escapes.{letter_u, NoSpelling, are_hexadecimal, code_unit, is_high, is_low, is_surrogate, pair_character, escaped_character, breaks, Four, four_text, invalid_character}
+use Rattle.properties_format.specs.Escapes.{letter_u, NoSpelling, are_hexadecimal, code_unit, is_low, escaped_character, breaks, Four, four_text}
 use Rattle.properties_format.specs.Reading.Escapes.{in_front, with_low, meaning_of}
-use Rattle.properties_format.specs.Reading.Undecoded.{characters_of}
 use Rattle.properties_format.proofs.Encodings.Windows1252.{windows_1252-ascii}
-use Rattle.properties_format.proofs.Escapes.Laws.{meaning_of-itself, meaning_of-escaped, meaning_of-unicode, meaning_of-surrogates, meaning_of-last, IsMalformedUnit}
+use Rattle.properties_format.proofs.Escapes.Laws.{meaning_of-escaped, meaning_of-last, IsMalformedUnit}
 use Rattle.properties_format.proofs.Escapes.Unique.{meaning_of-empty}
 use Rattle.properties_text.specs.Escaping.{malformed_in}
 use Rattle.properties_text.specs.Spelt.{text_in, IsWell, IsFirst, IsRead, Reads, digits_in, BeginsUnit, HasDigits, LacksDigits, HasLow, LacksLow, CountsFour}
@@ -22,7 +21,7 @@ use Rattle.properties_text.specs.declared.encoding.line.LineEncoding.TheVariants
 use Rattle.properties_text.specs.declared.encoding.line.Spelt.{Spelt}
 use Rattle.properties_text.specs.declared.escape.Malformed.{Malformed}
 use Rattle.properties_text.specs.declared.escape.Malformed.TheVariants.{NotEnoughDigits, NotHex, InvalidCharacter}
-use Rattle.properties_text.proofs.Texts.Escapes.{IsUnit, LacksDigit, IsUnread, malformed-unread, malformed-unpaired, scalar-unit, surrogate-unit, meaning-unit, meaning-pair, other-character}
+use Rattle.properties_text.proofs.Texts.Escapes.{IsUnit, IsUnread, malformed-unread, malformed-unpaired, scalar-unit, surrogate-unit, meaning-unit, meaning-pair, other-character}
 use Rattle.properties_text.proofs.Texts.Units.{ascii-digits, unit-bytes}
 use Rattle.properties_text.proofs.Spelt.First.{ascii-first, ascii-back}
 
@@ -79,13 +78,15 @@ unit-in e bs w b value h =
     let a = after-u e bs w b in
     let f = after-four e (drop 2 bs) a.well (omega (arith, h.within, length-drop 2 bs))
     (omega (arith, ascii.0, dropped bs 2 0)) (omega (arith, ascii.1, dropped bs 2 1)) (omega (arith, ascii.2, dropped bs 2 2)) (omega (arith, ascii.3, dropped bs 2 3)) in
-    let six : drop 4 (drop 2 bs) ≡ drop 6 bs = drop-drop 4 2 bs in
-    (record {
-      digits = d;
-      whole = f.characters ∙ rw (dropped bs 2 0, dropped bs 2 1, dropped bs 2 2, dropped bs 2 3, six) refl;
-      hexadecimal = h.hexadecimal;
-      writes = h.writes;
-    }, subst (IsWell e) six f.well)
+    let six : drop 4 (drop 2 bs) ≡ drop 6 bs = drop-drop 4 2 bs in (
+      record {
+        digits = d;
+        whole = f.characters ∙ rw (dropped bs 2 0, dropped bs 2 1, dropped bs 2 2, dropped bs 2 3, six) refl;
+        hexadecimal = h.hexadecimal;
+        writes = h.writes;
+      },
+      subst (IsWell e) six f.well,
+    )
 
 -- Characters that are digits are their own bytes.
 digits-back : (e : LineEncoding) (bs : List ℕ) (d : Four) (rest : List ℕ) → IsWell e bs → text_in e bs ≡ four_text d ++ rest → are_hexadecimal d ≡ true
@@ -169,8 +170,7 @@ low-back e bs low rest w s h =
     let s'' : text_in e two.0 ≡ four_text low ++ rest = (let k = sym after'.characters ∙ sym (ap (text_in e) two.1) ∙ s' in cc) in
     let four = digits-back e two.0 low rest after'.well s'' h in
     let whole : bs ≡ backslash ∷ letter_u ∷ four_text low ++ four.0 = one.1 ∙ ap (λ v. backslash ∷ v) (two.1 ∙ ap (λ v. letter_u ∷ v) four.1) in
-    let at = digits-at bs four.0 low (ap (drop 2) whole) in
-    (
+    let at = digits-at bs four.0 low (ap (drop 2) whole) in (
       (omega (arith, at.0), ap (λ v. get_or v 0 0) whole, ap (λ v. get_or v 1 0) whole),
       record { within = at.0; hexadecimal = ap are_hexadecimal at.1 ∙ h; writes = sym (ap code_unit at.1) },
       at.1,

@@ -1,5 +1,5 @@
 -- The first character of some bytes, in either encoding.
-use Rattle.std.proofs.Common.{◌≡◌, ℕ, ◌+◌, ◌-◌, ◌/◌, ◌<◌, ◌≤◌, true, List, [], ◌∷◌, ◌++◌, length, take, drop, get_or, refl, sym, ap, ap₂, ◌∙◌, subst, inl, inr, arith, lt-ltb, le-ltb}
+use Rattle.std.proofs.Common.{◌≡◌, ℕ, ◌+◌, ◌-◌, ◌/◌, ◌<◌, ◌≤◌, List, [], ◌∷◌, ◌++◌, length, take, drop, get_or, refl, sym, ap, ap₂, ◌∙◌, subst, inl, inr, arith, lt-ltb, le-ltb}
 use Rattle.std.proofs.Math.Seq.{take-append_seam, drop-append_seam}
 use Rattle.std.specs.Prelude.{Option, Some, None, IsSome, unwrap_or}
 use Rattle.std.specs.Option.{SomeIff}
@@ -7,16 +7,15 @@ use lib.Utf8.{encode, encodes, scalars, scalar}
 use Rattle.std.specs.Char.{IsScalar, InScalarRange}
 use Rattle.std.specs.Str.{IsUtf8, chars}
 use Rattle.std.proofs.lemmas.Bool.{cases_lt, and_parts}
-use Rattle.std.proofs.lemmas.Bool.Decides.{nat_tests}
-use Rattle.std.proofs.lemmas.Str.{encodes-chars, byte_from_char}
-use Rattle.std.proofs.lemmas.List.{drop_more, length-append}
+use Rattle.std.proofs.lemmas.Str.{encodes-chars}
+use Rattle.std.proofs.lemmas.List.{length-append}
 use Rattle.properties_format.specs.Text.{scalar as is_scalar}
 use Rattle.properties_format.specs.Utf8.{sequence_character}
 use Rattle.properties_format.specs.Windows1252.{windows_1252_character}
 use Rattle.properties_format.specs.Reading.Undecoded.{characters_of}
 use Rattle.properties_format.proofs.Encodings.Utf8Characters.{encode-one, encode-two, encode-three, encode-four, encode-is_sequence}
-use Rattle.properties_format.proofs.Encodings.WellFormed.{scalar-from_char, char-from_scalar}
-use Rattle.properties_format.proofs.Encodings.Windows1252.{windows_1252-scalar, windows_1252-ascii, windows_1252_character-ascii}
+use Rattle.properties_format.proofs.Encodings.WellFormed.{scalar-from_char}
+use Rattle.properties_format.proofs.Encodings.Windows1252.{windows_1252-ascii, windows_1252_character-ascii}
 use Rattle.properties_text.specs.Spelt.{text_in, IsWell, IsFirst, length_by_first}
 use Rattle.properties_text.specs.declared.encoding.line.LineEncoding.{LineEncoding}
 use Rattle.properties_text.specs.declared.encoding.line.LineEncoding.TheVariants.{Windows1252, Utf8}
@@ -108,17 +107,6 @@ is-first bs spelt h is = record {
   scalar = subst IsScalar (sym is) h.scalar;
   characters = h.characters ∙ ap (λ x. x ∷ chars (drop spelt.length bs)) (sym is);
   well = h.well;
-}
-
--- ---- windows-1252
-
-pub windows-first : (bs : List ℕ) (spelt : Spelt) → 0 < length bs → get_or bs 0 0 < 256 → spelt.character ≡ windows_1252_character (get_or bs 0 0) → spelt.length ≡ 1 → IsFirst Windows1252 bs spelt
-windows-first bs spelt some small is one = record {
-  some = omega (arith, one);
-  within = omega (arith, one, some);
-  scalar = subst IsScalar (sym is) (char-from_scalar (windows_1252_character (get_or bs 0 0)) (windows_1252-scalar (get_or bs 0 0) small));
-  characters = ap characters_of (drop_more bs 0 0 some) ∙ ap₂ (λ x n. x ∷ characters_of (drop n bs)) (sym is) (sym one);
-  well = tt;
 }
 
 -- ---- ASCII, in either

@@ -1,25 +1,24 @@
 -- Bytes up to their first backslash, in either encoding.
 use Rattle.std.proofs.Common.{◌≡◌, ℕ, ◌<◌, ◌==◌, true, false, List, [], ◌∷◌, ◌++◌, take, drop, length, get_or, refl, sym, ap, ◌∙◌, inl, inr, arith}
-use Rattle.std.specs.Prelude.{Option, Some, None}
+use Rattle.std.specs.Prelude.{Some, None}
 use Rattle.std.proofs.lemmas.Bool.{cases_Bool, eqb-true, or_parts}
 use Rattle.std.proofs.lemmas.List.{take-append-drop, map-append}
-use Rattle.std.specs.Str.{IsUtf8, chars}
+use Rattle.std.specs.Str.{chars}
 use Rattle.memchr.specs.Find.{IsFirstByte, is_byte}
 use Rattle.properties_format.specs.Text.{backslash}
 use Rattle.properties_format.specs.Escapes.{Malformed, means, breaks}
 use Rattle.properties_format.specs.Windows1252.{windows_1252_character}
 use Rattle.properties_format.specs.Writing.{HoldsNoBackslash}
-use Rattle.properties_format.specs.Reading.Escapes.{in_front, text_in_front, meaning_of}
+use Rattle.properties_format.specs.Reading.Escapes.{text_in_front, meaning_of}
 use Rattle.properties_format.specs.Reading.Undecoded.{characters_of}
 use Rattle.properties_format.proofs.Encodings.Windows1252.{windows_1252-ascii}
 use Rattle.properties_format.proofs.Escapes.Laws.{meaning_of-plain_front, meaning_of-plain}
 use Rattle.properties_format.proofs.Escapes.Unique.{text_in_front-means, text_in_front-breaks}
-use Rattle.properties_text.specs.Escaping.{holds_backslash, malformed_in}
+use Rattle.properties_text.specs.Escaping.{holds_backslash}
 use Rattle.properties_text.specs.Spelt.{text_in, IsWell, IsRead}
 use Rattle.properties_text.specs.declared.encoding.line.LineEncoding.{LineEncoding}
 use Rattle.properties_text.specs.declared.encoding.line.LineEncoding.TheVariants.{Windows1252, Utf8}
 use Rattle.properties_text.specs.declared.encoding.line.Spelt.{Spelt}
-use Rattle.properties_text.specs.declared.escape.Malformed.{Malformed as Kind}
 use Rattle.properties_text.proofs.Texts.Resolving.{found_some, found_none, split_at, plain, text_in_front-append}
 
 -- ---- windows-1252

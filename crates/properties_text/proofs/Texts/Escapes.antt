@@ -1,20 +1,14 @@
 -- Escapes at the front of a text.
-use Rattle.std.proofs.Common.{◌≡◌, ℕ, ◌<◌, ◌≤◌, ◌+◌, ◌*◌, ◌==◌, ◌&&◌, if◌then◌else◌, true, false, List, [], ◌∷◌, ◌++◌, length, refl, ap, ap₂, ◌≢◌, sym, ◌∙◌, subst, inl, inr, arith, lit<}
-use Rattle.std.specs.Prelude.{Some, None, Err}
-use Rattle.std.proofs.lemmas.Bool.{cases_Bool, cond-true, cond-false, and_parts, and_from, and_left, and_right, false_from_ne_true, eqb-true, ne_eqb}
+use Rattle.std.proofs.Common.{◌≡◌, ℕ, ◌<◌, ◌≤◌, true, false, List, ◌∷◌, ◌++◌, length, refl, ap, ◌≢◌, sym, ◌∙◌, subst, inl, inr, arith}
+use Rattle.std.specs.Prelude.{None}
+use Rattle.std.proofs.lemmas.Bool.{cases_Bool, ne_eqb}
 use Rattle.std.proofs.lemmas.Bool.Decides.{nat_tests}
 use Rattle.std.specs.Char.{InScalarRange, OutOfScalarRange}
 use Rattle.properties_format.specs.Text.{backslash}
-use Rattle.properties_format.specs.Escapes.{letter_u, is_hexadecimal, hexadecimal_value, Four, four_text, are_hexadecimal, code_unit, is_high, is_low, is_surrogate, pair_character, escaped_character, not_hex, invalid_character}
+use Rattle.properties_format.specs.Escapes.{letter_u, Four, four_text, are_hexadecimal, code_unit, is_high, is_low, is_surrogate, pair_character, escaped_character, not_hex, invalid_character}
 use Rattle.properties_format.specs.Reading.Escapes.{in_front, with_low, meaning_of}
-use Rattle.properties_format.proofs.Escapes.Laws.{meaning_of-escaped, meaning_of-unicode, meaning_of-surrogates, meaning_of-last, IsMalformedUnit, malformed-short, malformed-not_hex, malformed-lone_low, malformed-lone_high}
+use Rattle.properties_format.proofs.Escapes.Laws.{meaning_of-unicode, meaning_of-surrogates, IsMalformedUnit, malformed-short, malformed-not_hex, malformed-lone_low, malformed-lone_high}
 use Rattle.properties_format.proofs.Escapes.Scalars.{code_unit-below}
-use Rattle.properties_format.proofs.Escapes.Unique.{meaning_of-empty}
-use lib.Utf8.{encode, encodes}
-use Rattle.std.specs.Str.{IsUtf8, chars}
-use Rattle.std.proofs.lemmas.Str.{encodes-chars}
-use Rattle.properties_format.proofs.Encodings.Utf8Characters.{encode-one}
-use Rattle.properties_text.proofs.Texts.Characters.{character_and}
 use Rattle.properties_text.specs.Escaping.{malformed_in}
 use Rattle.properties_text.specs.declared.escape.Malformed.{Malformed}
 use Rattle.properties_text.specs.declared.escape.Malformed.TheVariants.{NotEnoughDigits, NotHex, InvalidCharacter}

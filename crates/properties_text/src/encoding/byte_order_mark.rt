@@ -35,5 +35,8 @@ pub fn byte_order_mark(bytes: &[u8]) -> ByteOrderMark
 pub fn begins_like_mark(bytes: &[u8]) -> bool
     ensures { result ≡ begins_like_bom bytes.now }
 {
-    matches!(bytes, [0xef, 0xbb, 0xbf, ..] | [0xfe, 0xff, ..] | [0xff, 0xfe, ..])
+    matches!(
+        bytes,
+        [0xef, 0xbb, 0xbf, ..] | [0xfe, 0xff, ..] | [0xff, 0xfe, ..]
+    )
 }

@@ -130,12 +130,7 @@ fn decode_each<'a>(run: &mut [u8], start: usize, bytes: &'a [u8], count: usize) 
 
 // Decodes sixteen units at a time as far as they are characters of Latin-1, and others one by one.
 #[inline(always)]
-fn decode_utf_16<'a>(
-    run: &mut [u8],
-    start: usize,
-    order: ByteOrder,
-    bytes: &'a [u8],
-) -> Decoded<'a>
+fn decode_utf_16<'a>(run: &mut [u8], start: usize, order: ByteOrder, bytes: &'a [u8]) -> Decoded<'a>
     requires room { start + 4 ≤ length run.old }
     requires is_text { IsUtf8 (take start run.old) }
     ensures front { DecodesFront (utf_16_of order) bytes.now run.old start run.new result }
@@ -146,7 +141,11 @@ fn decode_utf_16<'a>(
     let mut at = start;
     let mut rest = bytes;
     while rest.len() >= 32 && run.len() - at >= 64 {
-        let units = split_units(order, u8x16::from_slice(rest), u8x16::from_slice(&rest[16..]));
+        let units = split_units(
+            order,
+            u8x16::from_slice(rest),
+            u8x16::from_slice(&rest[16..]),
+        );
         let kept = Except::<Byte<0>>::marks(units.highs).front();
         at = put_16(run, at, units.lows, kept);
         rest = &rest[2 * kept..];

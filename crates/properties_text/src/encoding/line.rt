@@ -5,9 +5,8 @@ ghost use Rattle.properties_format.specs.Encoding.{output_encoding};
 ghost use Rattle.properties_text.specs.Encoding.{encoding_of, line_of};
 ghost use Rattle.properties_text.specs.Spelt.{IsWell, IsFirst};
 
-use super::utf_8;
 use super::windows_1252::character_of;
-use super::Encoding;
+use super::{Encoding, utf_8};
 
 /// An encoding in which each ASCII character is one byte, and no such byte is elsewhere.
 #[derive(Clone, Copy, PartialEq, Eq)]

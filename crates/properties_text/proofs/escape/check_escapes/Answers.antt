@@ -1,4 +1,3 @@
-use Rattle.std.proofs.Common.{◌≡◌}
 use Rattle.std.proofs.lemmas.Result.{err_from_is_err_and}
 use Rattle.properties_text.specs.Escaping.{malformed_in}
 use Rattle.properties_text.proofs.TextFronts.{taken-rest}

@@ -1,4 +1,4 @@
-use Rattle.std.proofs.Common.{◌∷◌, ◌++◌, string_bytes, take, drop, sym, ap, ◌∙◌}
+use Rattle.std.proofs.Common.{◌++◌, string_bytes, take, drop, sym, ap, ◌∙◌}
 use Rattle.std.specs.Str.{chars}
 use Rattle.std.proofs.lemmas.Str.{IsUtf8-string_bytes, chars-append}
 use Rattle.properties_format.specs.Reading.Escapes.{meaning_of}

@@ -3,7 +3,6 @@ use Rattle.std.specs.Str.{IsUtf8, chars}
 use Rattle.std.proofs.lemmas.Result.{err_from_is_err_and}
 use Rattle.std.proofs.lemmas.Str.{chars-nil, IsCharBoundary-from_drop}
 use Rattle.std.proofs.lemmas.List.{length-drop}
-use Rattle.properties_format.specs.Escapes.{breaks}
 use Rattle.properties_format.specs.Reading.Escapes.{in_front, meaning_of, text_in_front}
 use Rattle.properties_format.proofs.Escapes.Unique.{text_in_front-breaks}
 use Rattle.properties_text.specs.Escaping.{malformed_in}

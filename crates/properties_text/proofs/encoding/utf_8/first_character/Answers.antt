@@ -1,4 +1,4 @@
-use Rattle.std.proofs.Common.{arith, ap, ◌∙◌, subst, sym}
+use Rattle.std.proofs.Common.{arith, ◌∙◌, subst, sym}
 use Rattle.std.specs.Char.{IsScalar}
 use Rattle.properties_format.proofs.Encodings.WellFormed.{scalar-from_char}
 use Rattle.properties_text.proofs.Spelt.First.{utf_8-first, is-first, the-character, in-range}
@@ -17,6 +17,6 @@ returns c =
     let code = c.sequence_character-code in
     let s : IsScalar code.result = subst IsScalar (sym code.ensures) h.scalar in
     is-first c.args.text.now _ h (
-      c.unwrap_or.ensures
-      ∙ the-character c.from_u32.result code.result c.from_u32.ensures.value (c.from_u32.ensures.succeeds (in-range code.result (scalar-from_char code.result s)))
-      ∙ code.ensures)
+    c.unwrap_or.ensures
+    ∙ the-character c.from_u32.result code.result c.from_u32.ensures.value (c.from_u32.ensures.succeeds (in-range code.result (scalar-from_char code.result s)))
+    ∙ code.ensures)

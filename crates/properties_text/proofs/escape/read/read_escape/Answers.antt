@@ -1,5 +1,4 @@
-use Rattle.std.proofs.Common.{subst, sym, inl, arith, ◌∙◌}
-use Rattle.std.specs.Char.{IsScalar}
+use Rattle.std.proofs.Common.{inl, arith, ◌∙◌}
 use Rattle.properties_format.proofs.Encodings.WellFormed.{char-from_scalar}
 use Rattle.properties_text.proofs.Spelt.Escapes.{reads-ascii}
 use Rattle.properties_text.proofs.escape.read.read_escape.Goals as goal

@@ -1,4 +1,4 @@
-use Rattle.std.proofs.Common.{drop, sym, subst, arith}
+use Rattle.std.proofs.Common.{sym, subst, arith}
 use Rattle.properties_text.specs.Spelt.{IsWell, IsFirst}
 use Rattle.properties_text.proofs.TextFronts.{taken-rest}
 use Rattle.properties_text.proofs.Spelt.Escapes.{after-one, reads-end, reads-past}

@@ -1,7 +1,6 @@
-use Rattle.std.proofs.Common.{drop, refl, sym, subst, arith}
+use Rattle.std.proofs.Common.{refl, sym, subst}
 use Rattle.std.specs.Char.{IsScalar}
 use Rattle.properties_text.specs.Spelt.{IsWell, CountsFour, HasLow, LacksLow}
-use Rattle.properties_text.specs.declared.escape.Malformed.TheVariants.{InvalidCharacter}
 use Rattle.properties_text.proofs.TextFronts.{taken-rest}
 use Rattle.properties_text.proofs.Spelt.Escapes.{after-u, reads-none, reads-unit, reads-pair, reads-unpaired}
 use Rattle.properties_text.proofs.escape.read.read_unicode.Goals as goal

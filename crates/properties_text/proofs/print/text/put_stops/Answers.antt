@@ -1,4 +1,4 @@
-use Rattle.std.proofs.Common.{true, length, refl, sym, ◌∙◌, arith}
+use Rattle.std.proofs.Common.{refl, sym, ◌∙◌, arith}
 use Rattle.properties_text.proofs.TextFronts.{taken-rest}
 use Rattle.properties_text.proofs.PrintedTexts.Runs.{stop-put, byte-put, stop-broken, small-at, front-kept}
 use Rattle.properties_text.proofs.print.text.put_stops.Goals as goal
