@@ -157,17 +157,6 @@ pub put-on : (e : LineEncoding) (t : Repertoire) (escaped : Bool) (whole : Meani
     → ArePut e t escaped (from_on e t escaped out so_far.end text so_far.read) text put new → ArePut e t escaped whole text put new
 put-on e t escaped whole text so_far put out new held h = record { read = h.read; within = h.within; well = h.well; printed = held.printed ∙ h.printed }
 
--- more room
-pub put-same : (e : LineEncoding) (t : Repertoire) (escaped : Bool) (whole : Meaning) (text : List ℕ) (put : Put) (out new : List ℕ)
-    → ArePut e t escaped whole text put out
-    → take put.end new ≡ take put.end out → length out ≤ length new → ArePut e t escaped whole text put new
-put-same e t escaped whole text put out new held h k = record {
-  read = held.read;
-  within = omega (arith, held.within, k);
-  well = held.well;
-  printed = held.printed ∙ ap (λ v. text_in_front v (rest_in e t escaped (drop put.read text))) (sym h);
-}
-
 -- ---- the end, and a fault
 
 from-printed : (t : Repertoire) (m : Meaning) (x y : List ℕ) → text_in_front x (printed_by t m) ≡ means y
