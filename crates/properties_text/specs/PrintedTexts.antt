@@ -1,5 +1,5 @@
 -- What a text of a line is printed as, by the encoding of the line, what a backslash means in it, and what may be printed.
-use Rattle.std.specs.Prelude.{◌≡◌, ◌⊎◌, ◌≤◌, ◌<◌, ◌+◌, ◌-◌, ◌*◌, ℕ, nat_le, nat_lt, ◌&&◌, Bool, not, true, false, if◌then◌else◌, List, [], ◌∷◌, ◌++◌, length, take, drop, Result, Ok, Err}
+use Rattle.std.specs.Prelude.{◌≡◌, ◌⊎◌, ◌≤◌, ◌<◌, ◌+◌, ◌*◌, ℕ, nat_le, nat_lt, ◌&&◌, Bool, not, true, false, if◌then◌else◌, List, [], ◌∷◌, ◌++◌, length, take, drop, Result, Ok, Err}
 use Rattle.properties_format.specs.Escapes as format_escapes
 use Rattle.properties_format.specs.Escapes.{Meaning, means, breaks}
 use Rattle.properties_format.specs.Reading.Escapes.{meaning_of, in_front, text_in_front}
@@ -129,13 +129,22 @@ PutsStops e t escaped old at text from new (Ok put) = ArePut e t escaped (from_o
 PutsStops e t escaped old at text from new (Err (error.Malformed malformed)) = rest_in e t escaped (drop from text) ≡ breaks (malformed_in malformed)
 PutsStops e t escaped old at text from new (Err error.Memory) = Unit {0}
 
--- A run of bytes was put, none of which stops it, up to one that does.
+-- The result of printing the rest of a text: all of it was read and put; or how it is malformed; or memory ran out.
+abbrev pub PrintsRest : LineEncoding → Repertoire → Bool → List ℕ → ℕ → List ℕ → ℕ → List ℕ → Result ℕ UnescapeError → Type 0
+PrintsRest e t escaped old at text from new (Ok end) =
+    ArePut e t escaped (from_on e t escaped old at text from) text record { read = length text; end = end } new
+PrintsRest e t escaped old at text from new (Err (error.Malformed malformed)) = rest_in e t escaped (drop from text) ≡ breaks (malformed_in malformed)
+PrintsRest e t escaped old at text from new (Err error.Memory) = Unit {0}
+
+-- Bytes were put one by one, none of which is a stop.
 pub record IsRunPut (holds : ℕ → Bool) (old : List ℕ) (at : ℕ) (text : List ℕ) (from : ℕ) (put : Put) (new : List ℕ) : Type 0 where
-  pub onwards : from ≤ put.read
+  pub bytes : List ℕ
+  pub text_is : drop from text ≡ bytes ++ drop put.read text
+  pub read_is : put.read ≡ from + length bytes
   pub read : put.read ≤ length text
-  pub within : put.end ≤ at + 2 * (put.read - from)
-  pub clear : All (λ b. holds b ≡ false) (take (put.read - from) (drop from text))
-  pub printed : take put.end new ≡ take at old ++ printed_bytes (take (put.read - from) (drop from text))
+  pub few : put.end ≤ at + 2 * length bytes
+  pub clear : All (λ b. holds b ≡ false) bytes
+  pub printed : take put.end new ≡ take at old ++ printed_bytes bytes
 
 -- ---- pairs
 

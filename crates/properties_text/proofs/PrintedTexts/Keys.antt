@@ -17,6 +17,7 @@ use Rattle.properties_text.specs.declared.escape.UnescapeError.TheVariants as er
 use Rattle.properties_text.specs.declared.print.Pair.{Pair}
 use Rattle.properties_text.specs.declared.print.Repertoire.{Repertoire}
 use Rattle.properties_text.proofs.Printing.Characters.{first_escaped_more}
+use Rattle.properties_text.proofs.TextFronts.{taken-rest}
 use Rattle.properties_text.proofs.PrintedTexts.Runs.{front-kept}
 use Rattle.properties_text.proofs.Spelt.Escapes.{no-text}
 
@@ -100,6 +101,13 @@ some-text e r escaped [] old at new end h like =
     let no : begins_like_bom (puts_of r []) ≡ true = ap (λ v. begins_like_bom (puts_of r v)) (sym empty) ∙ like in
     absurd (cc)
 some-text e r escaped (b ∷ bs) old at new end h like = omega arith
+
+-- what is left of a text, as a slice of its bytes
+pub rest-at : (bytes : List ℕ) (size read : ℕ) → read ≤ size → take (size - read) (take (length bytes - read) (drop read bytes)) ≡ drop read (take size bytes)
+rest-at bytes size read h =
+    ap (take (size - read)) (taken-rest read bytes)
+    ∙ sym (drop-take read (size - read) bytes)
+    ∙ ap (λ m. drop read (take m bytes)) (let e : read + (size - read) ≡ size = omega (arith, h) in e)
 
 -- The first character is escaped, and the rest is printed.
 pub escaped-rest : (e : LineEncoding) (r : Repertoire) (escaped : Bool) (text old : List ℕ) (at : ℕ) (mid new rest : List ℕ) (between : ℕ) (first : Spelt)

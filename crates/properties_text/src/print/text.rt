@@ -7,7 +7,7 @@ ghost use Rattle.properties_format.specs.Text.{backslash};
 ghost use Rattle.properties_text.specs.Spelt.{IsWell};
 ghost use Rattle.properties_format.specs.Printing.{literal, encoded_text};
 ghost use Rattle.properties_text.specs.Printing.{encoding_in, only_in, put_of, puts_of};
-ghost use Rattle.properties_text.specs.PrintedTexts.{past_in, ReadsBy, PutsStops, IsRunPut, StopsIn, meaning_in, Prints};
+ghost use Rattle.properties_text.specs.PrintedTexts.{past_in, ReadsBy, PutsStops, PrintsRest, IsRunPut, StopsIn, meaning_in, Prints};
 
 use super::Repertoire;
 use super::bytes::{first_16, put_16, put_any, put_byte};
@@ -118,7 +118,7 @@ fn begins_with_stop<Stops: ByteClass>(text: &[u8]) -> bool
     begins_escape::<Stops>(text) || Stops::contains(text[0])
 }
 
-// Does what `print_bytes` does for a text that begins with a stop. Kept out of line because most texts have no stops.
+// Puts the rest of a text, which begins with a stop. Kept out of line because most texts have no stops.
 #[inline(never)]
 fn print_rest<Stops: ByteClass>(
     out: &mut Vec<u8>,
@@ -127,17 +127,22 @@ fn print_rest<Stops: ByteClass>(
     encoding: LineEncoding,
     bytes: &[u8],
     size: usize,
+    from: usize,
 ) -> Result<usize, UnescapeError>
     requires size { size ≤ length bytes.now }
+    requires from { from ≤ size }
     requires at { at ≤ length out.old.items }
     requires stops { StopsIn Stops.holds encoding repertoire }
-    requires well { IsWell encoding (take size bytes.now) }
-    requires begins { 0 < size → Stops.holds (get_or (take size bytes.now) 0 0) ≡ true }
-    ensures printed { Prints (meaning_in encoding (Stops.holds backslash) (take size bytes.now)) (puts_of repertoire) out.old.items at out.new.items result }
+    requires well { IsWell encoding (past_in encoding repertoire (drop from (take size bytes.now))) }
+    requires begins { from < size → Stops.holds (get_or (take size bytes.now) from 0) ≡ true }
+    ensures printed { PrintsRest encoding repertoire (Stops.holds backslash) out.old.items at (take size bytes.now) from out.new.items result }
     ensures same { take at out.new.items ≡ take at out.old.items }
     ensures longer { length out.old.items ≤ length out.new.items }
 {
-    let mut put = Put { read: 0, end: at };
+    let mut put = Put {
+        read: from,
+        end: at,
+    };
     while put.read < size {
         put = print_stops::<Stops>(out, put.end, repertoire, encoding, &bytes[..size], put.read)?;
         put = print_run::<Stops>(out, put.end, bytes, size, put.read)?;
@@ -258,14 +263,7 @@ pub fn print_bytes<Stops: ByteClass>(
 {
     let put = print_run::<Stops>(out, at, bytes, size, 0)?;
     if put.read < size {
-        return print_rest::<Stops>(
-            out,
-            put.end,
-            repertoire,
-            encoding,
-            &bytes[put.read..],
-            size - put.read,
-        );
+        return print_rest::<Stops>(out, put.end, repertoire, encoding, bytes, size, put.read);
     }
     Ok(put.end)
 }

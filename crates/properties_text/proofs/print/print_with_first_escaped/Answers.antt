@@ -3,8 +3,8 @@ use Rattle.std.proofs.lemmas.List.{length-take-le}
 use Rattle.properties_format.specs.Text.{backslash}
 use Rattle.properties_format.specs.Printing.{unicode_escape}
 use Rattle.properties_text.specs.Spelt.{IsWell}
-use Rattle.properties_text.proofs.PrintedTexts.Keys.{escaped-rest}
-use Rattle.properties_text.proofs.PrintedTexts.Runs.{rest-at, written-back, front-kept, fewer-kept, slice-kept}
+use Rattle.properties_text.proofs.PrintedTexts.Keys.{escaped-rest, rest-at}
+use Rattle.properties_text.proofs.PrintedTexts.Runs.{written-back, front-kept, fewer-kept, slice-kept}
 use Rattle.properties_text.proofs.print.print_with_first_escaped.Goals as goal
 
 pub returns-clause-printed : goal.returns-clause-printed

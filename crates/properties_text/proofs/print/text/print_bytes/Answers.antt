@@ -3,7 +3,8 @@ use Rattle.std.proofs.lemmas.List.{length-take-le}
 use Rattle.std.proofs.lemmas.Result.{err_from_is_err_and}
 use Rattle.properties_format.specs.Text.{backslash}
 use Rattle.properties_text.specs.Spelt.{IsWell}
-use Rattle.properties_text.proofs.PrintedTexts.Runs.{put-all, first-run, rest-own, rest-at, rest-printed, run-kept, fewer-kept, small-take}
+use Rattle.properties_text.proofs.PrintedTexts.Runs.{put-all, put-none, put-run, rest-printed, run-kept, fewer-kept, small-take}
+use Rattle.properties_text.proofs.PrintedTexts.Steps.{past-well}
 use Rattle.properties_text.proofs.print.text.print_bytes.Goals as goal
 
 pub returns-in_err-put-clause-printed : goal.returns-in_err-put-clause-printed
@@ -15,38 +16,36 @@ pub print_rest-requires-clause-well : goal.print_rest-requires-clause-well
 print_rest-requires-clause-well g c =
     let text = take c.args.size c.args.bytes.now in
     let size : length text ≡ c.args.size = length-take-le c.args.size c.args.bytes.now c.requires.size in
-    let put = c.in_ok-put.put in
     let run = c.in_ok-put.ensures in
-    let held = first-run g.Stops.ByteClass.holds c.args.encoding c.args.repertoire text c.args.out.now.items c.args.at put c.print_run.new.out.items c.requires.stops
-    (small-take c.args.size c.args.bytes.now (λ i. omega (arith, c.type_inv.bytes i))) c.requires.at c.requires.well run.run run.within in
-    let own = rest-own g.Stops.ByteClass.holds c.args.encoding c.args.repertoire _ text c.print_run.new.out.items put c.requires.stops
-    (omega (arith, size, c.if-put-size.true)) (run.stops c.if-put-size.true) held in
-    subst (IsWell c.args.encoding) (sym (rest-at c.args.bytes.now c.args.size put.read (omega (arith, run.run.read, size)))) own
+    let none = put-none c.args.encoding c.args.repertoire (g.Stops.ByteClass.holds backslash) text 0 c.args.at c.args.out.now.items (omega arith) c.requires.at
+    (subst (IsWell c.args.encoding) (sym (past-well c.args.encoding c.args.repertoire text c.requires.well)) c.requires.well) in
+    let held = put-run g.Stops.ByteClass.holds c.args.encoding c.args.repertoire _ text record { read = 0; end = c.args.at } c.in_ok-put.put c.args.out.now.items
+    c.print_run.new.out.items c.requires.stops none run.within (small-take c.args.size c.args.bytes.now (λ i. omega (arith, c.type_inv.bytes i))) run.run in
+    held.well
 
 pub returns-then-put-size-clause-printed : goal.returns-then-put-size-clause-printed
 returns-then-put-size-clause-printed g c =
     let text = take c.args.size c.args.bytes.now in
     let size : length text ≡ c.args.size = length-take-le c.args.size c.args.bytes.now c.requires.size in
-    let put = c.in_ok-put.put in
     let run = c.in_ok-put.ensures in
-    let held = first-run g.Stops.ByteClass.holds c.args.encoding c.args.repertoire text c.args.out.now.items c.args.at put c.print_run.new.out.items c.requires.stops
-    (small-take c.args.size c.args.bytes.now (λ i. omega (arith, c.type_inv.bytes i))) c.requires.at c.requires.well run.run run.within in
-    let own = rest-own g.Stops.ByteClass.holds c.args.encoding c.args.repertoire _ text c.print_run.new.out.items put c.requires.stops
-    (omega (arith, size, c.if-put-size.true)) (run.stops c.if-put-size.true) held in
-    rest-printed c.args.encoding c.args.repertoire (g.Stops.ByteClass.holds backslash) text c.args.out.now.items c.args.at put c.print_run.new.out.items _
-    c.print_rest.new.out.items c.print_rest.result c.requires.well held own (rest-at c.args.bytes.now c.args.size put.read (omega (arith, run.run.read, size)))
-    c.print_rest.ensures.printed
+    let none = put-none c.args.encoding c.args.repertoire (g.Stops.ByteClass.holds backslash) text 0 c.args.at c.args.out.now.items (omega arith) c.requires.at
+    (subst (IsWell c.args.encoding) (sym (past-well c.args.encoding c.args.repertoire text c.requires.well)) c.requires.well) in
+    let held = put-run g.Stops.ByteClass.holds c.args.encoding c.args.repertoire _ text record { read = 0; end = c.args.at } c.in_ok-put.put c.args.out.now.items
+    c.print_run.new.out.items c.requires.stops none run.within (small-take c.args.size c.args.bytes.now (λ i. omega (arith, c.type_inv.bytes i))) run.run in
+    rest-printed c.args.encoding c.args.repertoire (g.Stops.ByteClass.holds backslash) text c.args.out.now.items c.args.at c.in_ok-put.put c.print_run.new.out.items
+    c.print_rest.new.out.items c.print_rest.result c.requires.well held c.print_rest.ensures.printed
 
 pub returns-clause-printed : goal.returns-clause-printed
 returns-clause-printed g c =
     let text = take c.args.size c.args.bytes.now in
     let size : length text ≡ c.args.size = length-take-le c.args.size c.args.bytes.now c.requires.size in
-    let put = c.in_ok-put.put in
     let run = c.in_ok-put.ensures in
-    let held = first-run g.Stops.ByteClass.holds c.args.encoding c.args.repertoire text c.args.out.now.items c.args.at put c.print_run.new.out.items c.requires.stops
-    (small-take c.args.size c.args.bytes.now (λ i. omega (arith, c.type_inv.bytes i))) c.requires.at c.requires.well run.run run.within in
-    put-all c.args.encoding c.args.repertoire (g.Stops.ByteClass.holds backslash) text c.args.out.now.items c.args.at put c.print_run.new.out.items c.requires.well
-    (omega (arith, size, c.if-put-size.false)) held
+    let none = put-none c.args.encoding c.args.repertoire (g.Stops.ByteClass.holds backslash) text 0 c.args.at c.args.out.now.items (omega arith) c.requires.at
+    (subst (IsWell c.args.encoding) (sym (past-well c.args.encoding c.args.repertoire text c.requires.well)) c.requires.well) in
+    let held = put-run g.Stops.ByteClass.holds c.args.encoding c.args.repertoire _ text record { read = 0; end = c.args.at } c.in_ok-put.put c.args.out.now.items
+    c.print_run.new.out.items c.requires.stops none run.within (small-take c.args.size c.args.bytes.now (λ i. omega (arith, c.type_inv.bytes i))) run.run in
+    put-all c.args.encoding c.args.repertoire (g.Stops.ByteClass.holds backslash) text c.args.out.now.items c.args.at c.in_ok-put.put c.print_run.new.out.items
+    c.requires.well (omega (arith, size, c.if-put-size.false)) held
 
 pub returns-then-put-size-clause-same : goal.returns-then-put-size-clause-same
 returns-then-put-size-clause-same g c =

@@ -17,17 +17,8 @@ returns-clause-within g c =
     let wide : length run.new.out ≡ c.make_room_for.new.out.len = run.ensures.same_room ∙ ap length c.deref_mut.ensures.value ∙ sym c.make_room_for.new.out.ok.0 in
     let room = c.in_ok-make_room_for.ensures.room in
     let back = written-back c.make_room_for.new.out.len run.new.out (drop (length run.new.out) c.make_room_for.new.out.items) wide in
-    omega (
-      arith,
-      run.ensures.run.within,
-      run.ensures.run.read,
-      run.ensures.run.onwards,
-      room,
-      wide,
-      ap length back,
-      length-take-le c.args.size c.args.bytes.now c.requires.size,
-      c.make_room_for.new.out.ok.0,
-    )
+    let r = run.ensures.run in
+    omega (arith, r.few, r.read_is, r.read, room, wide, ap length back, length-take-le c.args.size c.args.bytes.now c.requires.size, c.make_room_for.new.out.ok.0)
 
 pub returns-clause-same : goal.returns-clause-same
 returns-clause-same g c =
