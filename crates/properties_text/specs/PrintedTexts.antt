@@ -93,17 +93,17 @@ pub record ArePut (e : LineEncoding) (t : Repertoire) (escaped : Bool) (whole : 
   pub printed : whole ≡ text_in_front (take put.end out) (rest_in e t escaped (drop put.read text))
 
 -- The meaning is a text, and the bytes of that were put after what was put before.
-pub record IsPut (meaning : Meaning) (bytes : List ℕ → List ℕ) (old : List ℕ) (at : ℕ) (new : List ℕ) (end : ℕ) : Type 0 where
+pub record IsPut (m : Meaning) (bytes : List ℕ → List ℕ) (old : List ℕ) (at : ℕ) (new : List ℕ) (end : ℕ) : Type 0 where
   pub within : end ≤ length new
   pub meant : List ℕ
-  pub means_it : meaning ≡ means meant
+  pub meaning : m ≡ means meant
   pub printed : take end new ≡ take at old ++ bytes meant
 
 -- The result of printing a text: its bytes were put; or it is malformed, and the error says how; or memory ran out.
 abbrev pub Prints : Meaning → (List ℕ → List ℕ) → List ℕ → ℕ → List ℕ → Result ℕ UnescapeError → Type 0
-Prints meaning bytes old at new (Ok end) = IsPut meaning bytes old at new end
-Prints meaning bytes old at new (Err (error.Malformed malformed)) = meaning ≡ breaks (malformed_in malformed)
-Prints meaning bytes old at new (Err error.Memory) = Unit {0}
+Prints m bytes old at new (Ok end) = IsPut m bytes old at new end
+Prints m bytes old at new (Err (error.Malformed malformed)) = m ≡ breaks (malformed_in malformed)
+Prints m bytes old at new (Err error.Memory) = Unit {0}
 
 -- ---- reading
 

@@ -188,7 +188,7 @@ put-all e t escaped text old at put new w all held =
     ∙ text_in_front-means (take put.end new) []
     ∙ ap means (append-nil (take put.end new)) in
     let found = from-printed t (meaning_in e escaped text) (take at old) (take put.end new) whole in
-    record { within = held.within; meant = found.0; means_it = found.1; printed = found.2 }
+    record { within = held.within; meant = found.0; meaning = found.1; printed = found.2 }
 
 broken-front : (x : List ℕ) (m : Meaning) (kind : format.Malformed) → text_in_front x m ≡ breaks kind → m ≡ breaks kind
 broken-front x (means z) kind e = let f = sym (text_in_front-means x z) ∙ e in absurd (cc)
