@@ -39,13 +39,10 @@ use Rattle.properties_text.proofs.PrintedTexts.Steps.{printed-one, rest-well, pa
 
 -- ---- reading one character
 
-by-spelling : (escaped : Bool) (e : LineEncoding) (bs : List ℕ) (r : Result Spelt Malformed) → escaped ≡ true → Reads e bs r → ReadsBy escaped e bs r
-by-spelling true e bs (Ok spelt) on h = record { some = h.some; within = h.within; meaning = h.meaning; well = h.well }
-by-spelling true e bs (Err m) on h = h.1
-by-spelling false e bs r on h = absurd (cc)
-
 pub reads-escape : (escaped : Bool) (e : LineEncoding) (bs : List ℕ) (r : Result Spelt Malformed) → escaped ≡ true → Reads e bs r → ReadsBy escaped e bs r
-reads-escape escaped e bs r on h = by-spelling escaped e bs r on h
+reads-escape true e bs (Ok spelt) on h = record { some = h.some; within = h.within; meaning = h.meaning; well = h.well }
+reads-escape true e bs (Err m) on h = h.1
+reads-escape false e bs r on h = absurd (cc)
 
 pub reads-itself : (escaped : Bool) (e : LineEncoding) (bs : List ℕ) (spelt : Spelt) → IsWell e bs → (get_or bs 0 0 ≡ backslash → escaped ≡ false)
     → IsFirst e bs spelt → ReadsBy escaped e bs (Ok spelt)
@@ -70,7 +67,7 @@ reads-itself escaped e bs spelt w other h = record {
 -- ---- one more is put
 
 -- at a stop, a character begins
-pub stop-well : (holds : ℕ → Bool) (e : LineEncoding) (t : Repertoire) (bs : List ℕ) → StopsIn holds e t → 0 < length bs → holds (get_or bs 0 0) ≡ true
+stop-well : (holds : ℕ → Bool) (e : LineEncoding) (t : Repertoire) (bs : List ℕ) → StopsIn holds e t → 0 < length bs → holds (get_or bs 0 0) ≡ true
     → IsWell e (past_in e t bs) → IsWell e bs
 stop-well holds Windows1252 t bs s some h w = tt
 stop-well holds Utf8 repertoire.Windows1252 bs s some h w = w
