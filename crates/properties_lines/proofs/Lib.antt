@@ -6,5 +6,6 @@ pub mod Scans
 pub mod HeldLines
 pub mod LineReaders
 pub mod OpenLines
+pub mod LineTexts
 pub mod LogicalLines
 pub mod LineJoiner

@@ -1,9 +1,9 @@
 //! How natural lines are joined. Blanks, comment signs and backslashes are ASCII, so lines are examined by their bytes.
 
-ghost use Rattle.std.specs.Prelude.{◌≡◌, true, OnOk};
+ghost use Rattle.std.specs.Prelude.{◌≡◌};
 ghost use Rattle.properties_format.specs.Text.{without_leading_blanks};
 ghost use Rattle.properties_format.specs.Groups.{addition, is_comment_line, is_open, without_open_backslash};
-ghost use Rattle.properties_lines.specs.LogicalLine.{AddsText, is_continued};
+ghost use Rattle.properties_lines.specs.LogicalLine.{AddsText, BeginsText, is_continued};
 
 use properties_text::characters::is_comment_sign;
 use properties_text::parse::leading_blanks;
@@ -44,10 +44,10 @@ fn ends_open(bytes: &[u8]) -> bool
     odd
 }
 
-/// Returns whether the next line is joined to this one, which isn't joined to one before it: it is open and isn't a
-/// comment.
+// Returns whether the next line is joined to this one, which isn't joined to one before it: it is open and isn't a
+// comment.
 #[inline(always)]
-pub fn is_continued(bytes: &[u8]) -> bool
+fn is_continued(bytes: &[u8]) -> bool
     ensures { result ≡ is_continued bytes.now }
 {
     is_open(bytes) && !is_comment(bytes)
@@ -81,14 +81,18 @@ fn after_blanks(bytes: &[u8]) -> &[u8]
     &bytes[leading_blanks(bytes)..]
 }
 
-/// Makes `joined` the open line with these bytes, without the backslash that leaves it open.
+/// Returns whether the next line is joined to the line with these bytes. If so, makes `joined` this line without the
+/// backslash that leaves it open.
 #[inline(always)]
-pub fn begin_bytes(joined: &mut LineBuffer, bytes: &[u8]) -> Result<(), AllocError>
-    requires { is_open bytes.now ≡ true }
-    ensures { OnOk result (joined.new ≡ without_open_backslash bytes.now) }
+pub fn begin_bytes(joined: &mut LineBuffer, bytes: &[u8]) -> Result<bool, AllocError>
+    ensures { BeginsText bytes.now result joined.new }
 {
+    if !is_continued(bytes) {
+        return Ok(false);
+    }
     joined.clear();
-    joined.extend(&bytes[..bytes.len() - 1])
+    joined.extend(&bytes[..bytes.len() - 1])?;
+    Ok(true)
 }
 
 /// Joins the line with these bytes to `joined`, and returns whether the next line is joined too.

@@ -4,8 +4,10 @@ ghost use Rattle.std.specs.Prelude.{◌≡◌, ◌+◌, ◌<◌, ◌≤◌, ◌^
 ghost use Rattle.std.specs.Option.{is_some};
 ghost use Rattle.counted_io.specs.Streams.{IsSameReader};
 ghost use Rattle.properties_format.specs.ItemsToCome.{start};
+ghost use Rattle.properties_format.specs.Encoding.{utf_8};
 ghost use Rattle.properties_text.specs.Encoding.{encoding_of};
-ghost use Rattle.properties_lines.specs.LineReader.{Finds, Reads, ScansHeld, lines_left};
+ghost use Rattle.properties_lines.specs.LogicalLine.{TellsLine};
+ghost use Rattle.properties_lines.specs.LineReader.{Finds, Reads, ScansHeld, HasRightLineFlags, lines_left};
 
 use crate::error::LineError;
 use crate::input::InputBuffer;
@@ -113,7 +115,12 @@ impl LineReader {
 
     /// Returns whether the bytes of that line are in windows-1252 or in well-formed UTF-8.
     #[inline(always)]
-    pub fn is_well_formed(&mut self) -> bool {
+    pub fn is_well_formed(&mut self) -> bool
+        requires flags { HasRightLineFlags self.old }
+        requires decided { self.old.state.is_decided ≡ true }
+        ensures tells { TellsLine self.old.state.encoding self.old.line result }
+        ensures same { self.new ≡ self.old }
+    {
         if self.is_ascii() {
             return true;
         }
@@ -126,7 +133,13 @@ impl LineReader {
 
     // Tests the line, and lines after it.
     #[inline(never)]
-    fn test(&mut self) -> bool {
+    fn test(&mut self) -> bool
+        requires some { 0 < length self.old.line }
+        requires decided { self.old.state.is_decided ≡ true }
+        requires encoding { self.old.state.encoding ≡ utf_8 }
+        ensures tells { TellsLine utf_8 self.old.line result }
+        ensures same { self.new ≡ self.old }
+    {
         let line = self.scanner.line();
         let held = self.input.held();
         let end = held.len().min(line.end.max(line.start.saturating_add(WINDOW)));

@@ -1,0 +1,4 @@
+use Rattle.properties_lines.proofs.reader.LineReader.test.Goals as goal
+
+pub returns-clause-tells : goal.returns-clause-tells
+returns-clause-tells c = ?
