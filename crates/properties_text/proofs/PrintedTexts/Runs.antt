@@ -39,11 +39,13 @@ use Rattle.properties_text.proofs.PrintedTexts.Steps.{printed-one, rest-well, pa
 
 -- ---- reading one character
 
+-- What a backslash at a stop spells is read.
 pub reads-escape : (escaped : Bool) (e : LineEncoding) (bs : List ℕ) (r : Result Spelt Malformed) → escaped ≡ true → Reads e bs r → ReadsBy escaped e bs r
 reads-escape true e bs (Ok spelt) on h = record { some = h.some; within = h.within; meaning = h.meaning; well = h.well }
 reads-escape true e bs (Err m) on h = h.1
 reads-escape false e bs r on h = absurd (cc)
 
+-- Any other character stands for itself.
 pub reads-itself : (escaped : Bool) (e : LineEncoding) (bs : List ℕ) (spelt : Spelt) → IsWell e bs → (get_or bs 0 0 ≡ backslash → escaped ≡ false)
     → IsFirst e bs spelt → ReadsBy escaped e bs (Ok spelt)
 reads-itself escaped e bs spelt w other h = record {
@@ -78,6 +80,7 @@ stop-well holds Utf8 repertoire.Utf8 (b ∷ bs) s some h w = elim (cases_lt b 0x
   | inr l ↦ absurd (let f = s.past b l in cc)
 ]
 
+-- so what is left is well-formed
 own-stop : (holds : ℕ → Bool) (e : LineEncoding) (t : Repertoire) (text : List ℕ) (so_far : Put) (bs : List ℕ) → StopsIn holds e t → bs ≡ drop so_far.read text
     → so_far.read < length text → holds (get_or bs 0 0) ≡ true → IsWell e (past_in e t (drop so_far.read text)) → IsWell e bs
 own-stop holds e t text so_far bs s is inside stop well =
@@ -150,6 +153,7 @@ put-on e t escaped whole text so_far put out new held h = record { read = h.read
 
 -- ---- the end, and a fault
 
+-- A text whose printed bytes are these.
 from-printed : (t : Repertoire) (m : Meaning) (x y : List ℕ) → text_in_front x (printed_by t m) ≡ means y
     → (z : List ℕ) × (m ≡ means z) × (y ≡ x ++ puts_of t z)
 from-printed t (means z) x y e = let f = sym (text_in_front-means x (puts_of t z)) ∙ e in (z, refl, same-bytes (x ++ puts_of t z) y f)
@@ -158,10 +162,12 @@ from-printed t (means z) x y e = let f = sym (text_in_front-means x (puts_of t z
     same-bytes a b e = cc
 from-printed t (breaks kind) x y e = let f = sym (text_in_front-breaks x kind) ∙ e in absurd (cc)
 
+-- Only a text that breaks is printed so.
 from-broken : (t : Repertoire) (m : Meaning) (kind : format.Malformed) → printed_by t m ≡ breaks kind → m ≡ breaks kind
 from-broken t (means z) kind e = absurd (cc)
 from-broken t (breaks k) kind e = e
 
+-- Nothing is left.
 rest-nil : (e : LineEncoding) (t : Repertoire) (escaped : Bool) → rest_in e t escaped [] ≡ means []
 rest-nil e t escaped = rest-well e t escaped [] (nil-well e) ∙ ap (λ v. printed_by t (meaning_by escaped v)) (no-text e [] refl) ∙ none escaped
   where
@@ -173,6 +179,7 @@ rest-nil e t escaped = rest-well e t escaped [] (nil-well e) ∙ ap (λ v. print
     none true = ap (printed_by t) meaning_of-empty
     none false = refl
 
+-- All was read, so the text means another, and that was put.
 pub put-all : (e : LineEncoding) (t : Repertoire) (escaped : Bool) (text old : List ℕ) (at : ℕ) (put : Put) (new : List ℕ) → IsWell e text
     → length text ≤ put.read
     → ArePut e t escaped (from_on e t escaped old at text 0) text put new → IsPut (meaning_in e escaped text) (puts_of t) old at new put.end
@@ -187,6 +194,7 @@ put-all e t escaped text old at put new w all held =
     let found = from-printed t (meaning_in e escaped text) (take at old) (take put.end new) whole in
     record { within = held.within; meant = found.0; meaning = found.1; printed = found.2 }
 
+-- What breaks after a front breaks.
 broken-front : (x : List ℕ) (m : Meaning) (kind : format.Malformed) → text_in_front x m ≡ breaks kind → m ≡ breaks kind
 broken-front x (means z) kind e = let f = sym (text_in_front-means x z) ∙ e in absurd (cc)
 broken-front x (breaks k) kind e = let f = sym (text_in_front-breaks x k) ∙ e in cc
@@ -210,6 +218,7 @@ stop-broken holds e t text old at from so_far out bs m is s inside stop held rea
     ∙ rest-well e t (holds backslash) bs (own-stop holds e t text so_far bs s is inside stop held.well)
     ∙ ap (printed_by t) reads)
 
+-- An error at the rest is one of the text.
 pub stops-refused : (e : LineEncoding) (t : Repertoire) (escaped : Bool) (text old : List ℕ) (at from : ℕ) (put : Put) (out new : List ℕ) (u : UnescapeError)
     → ArePut e t escaped (from_on e t escaped old at text from) text put out → PutsStops e t escaped out put.end text put.read new (Err u)
     → PrintsRest e t escaped old at text from new (Err u)
@@ -266,6 +275,7 @@ stops-room e t escaped old at text from items slice written new (Ok put) same va
 stops-room e t escaped old at text from items slice written new (Err (error.Malformed m)) same value back h = h
 stops-room e t escaped old at text from items slice written new (Err error.Memory) same value back h = tt
 
+-- a run that was put where room was made
 pub run-room : (holds : ℕ → Bool) (old : List ℕ) (at : ℕ) (text : List ℕ) (from : ℕ) (put : Put) (items slice written new : List ℕ) → take at items ≡ take at old
     → slice ≡ items → new ≡ written → IsRunPut holds slice at text from put written → IsRunPut holds old at text from put new
 run-room holds old at text from put items slice written new same value back h = record {
@@ -278,6 +288,7 @@ run-room holds old at text from put items slice written new same value back h = 
   printed = ap (take put.end) back ∙ h.printed ∙ ap (λ v. v ++ printed_bytes h.bytes) (ap (take at) value ∙ same);
 }
 
+-- The bytes of a front are bytes.
 pub small-take : (n : ℕ) (xs : List ℕ) → ((i : ℕ) → get_or xs i 0 < 256) → (i : ℕ) → get_or (take n xs) i 0 < 256
 small-take n xs small i = elim (cases_lt i n) [
   | inl h ↦ subst (λ v. v < 256) (sym (get_or-take n xs i 0 h)) (small i)
