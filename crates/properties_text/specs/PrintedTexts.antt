@@ -1,5 +1,5 @@
 -- What a text of a line is printed as, by the encoding of the line, what a backslash means in it, and what may be printed.
-use Rattle.std.specs.Prelude.{◌≡◌, ◌⊎◌, ◌≤◌, ◌<◌, ◌+◌, ◌-◌, ◌*◌, ℕ, nat_le, nat_lt, ◌&&◌, Bool, not, true, false, if◌then◌else◌, List, [], ◌∷◌, ◌++◌, length, take, drop, Result, Ok, Err}
+use Rattle.std.specs.Prelude.{◌≡◌, ◌⊎◌, ◌≤◌, ◌<◌, ◌+◌, ◌*◌, ℕ, nat_le, nat_lt, ◌&&◌, Bool, not, true, false, if◌then◌else◌, List, [], ◌∷◌, ◌++◌, length, take, drop, Result, Ok, Err}
 use Rattle.properties_format.specs.Escapes as format_escapes
 use Rattle.properties_format.specs.Escapes.{Meaning, means, breaks}
 use Rattle.properties_format.specs.Reading.Escapes.{meaning_of, in_front, text_in_front}
@@ -93,17 +93,17 @@ pub record ArePut (e : LineEncoding) (t : Repertoire) (escaped : Bool) (whole : 
   pub printed : whole ≡ text_in_front (take put.end out) (rest_in e t escaped (drop put.read text))
 
 -- The meaning is a text, and the bytes of that were put after what was put before.
-pub record IsPut (meaning : Meaning) (bytes : List ℕ → List ℕ) (old : List ℕ) (at : ℕ) (new : List ℕ) (end : ℕ) : Type 0 where
+pub record IsPut (m : Meaning) (bytes : List ℕ → List ℕ) (old : List ℕ) (at : ℕ) (new : List ℕ) (end : ℕ) : Type 0 where
   pub within : end ≤ length new
   pub meant : List ℕ
-  pub means_it : meaning ≡ means meant
+  pub meaning : m ≡ means meant
   pub printed : take end new ≡ take at old ++ bytes meant
 
 -- The result of printing a text: its bytes were put; or it is malformed, and the error says how; or memory ran out.
 abbrev pub Prints : Meaning → (List ℕ → List ℕ) → List ℕ → ℕ → List ℕ → Result ℕ UnescapeError → Type 0
-Prints meaning bytes old at new (Ok end) = IsPut meaning bytes old at new end
-Prints meaning bytes old at new (Err (error.Malformed malformed)) = meaning ≡ breaks (malformed_in malformed)
-Prints meaning bytes old at new (Err error.Memory) = Unit {0}
+Prints m bytes old at new (Ok end) = IsPut m bytes old at new end
+Prints m bytes old at new (Err (error.Malformed malformed)) = m ≡ breaks (malformed_in malformed)
+Prints m bytes old at new (Err error.Memory) = Unit {0}
 
 -- ---- reading
 
@@ -123,18 +123,28 @@ ReadsBy escaped e bytes (Err malformed) = meaning_in e escaped bytes ≡ breaks 
 abbrev pub from_on : LineEncoding → Repertoire → Bool → List ℕ → ℕ → List ℕ → ℕ → Meaning
 from_on e t escaped old at text from = text_in_front (take at old) (rest_in e t escaped (drop from text))
 
--- The result of going on: what was read and put, or how the rest is malformed.
-abbrev pub PutsStops : LineEncoding → Repertoire → Bool → List ℕ → ℕ → List ℕ → ℕ → List ℕ → Result Put Malformed → Type 0
+-- The result of going on: what was read and put; or how the rest is malformed; or memory ran out.
+abbrev pub PutsStops : LineEncoding → Repertoire → Bool → List ℕ → ℕ → List ℕ → ℕ → List ℕ → Result Put UnescapeError → Type 0
 PutsStops e t escaped old at text from new (Ok put) = ArePut e t escaped (from_on e t escaped old at text from) text put new
-PutsStops e t escaped old at text from new (Err malformed) = rest_in e t escaped (drop from text) ≡ breaks (malformed_in malformed)
+PutsStops e t escaped old at text from new (Err (error.Malformed malformed)) = rest_in e t escaped (drop from text) ≡ breaks (malformed_in malformed)
+PutsStops e t escaped old at text from new (Err error.Memory) = Unit {0}
 
--- A run of bytes was put, none of which stops it, up to one that does.
+-- The result of printing the rest of a text: all of it was read and put; or how it is malformed; or memory ran out.
+abbrev pub PrintsRest : LineEncoding → Repertoire → Bool → List ℕ → ℕ → List ℕ → ℕ → List ℕ → Result ℕ UnescapeError → Type 0
+PrintsRest e t escaped old at text from new (Ok end) =
+    ArePut e t escaped (from_on e t escaped old at text from) text record { read = length text; end = end } new
+PrintsRest e t escaped old at text from new (Err (error.Malformed malformed)) = rest_in e t escaped (drop from text) ≡ breaks (malformed_in malformed)
+PrintsRest e t escaped old at text from new (Err error.Memory) = Unit {0}
+
+-- Bytes were put one by one, none of which is a stop.
 pub record IsRunPut (holds : ℕ → Bool) (old : List ℕ) (at : ℕ) (text : List ℕ) (from : ℕ) (put : Put) (new : List ℕ) : Type 0 where
-  pub onwards : from ≤ put.read
+  pub bytes : List ℕ
+  pub text_is : drop from text ≡ bytes ++ drop put.read text
+  pub read_is : put.read ≡ from + length bytes
   pub read : put.read ≤ length text
-  pub within : put.end ≤ at + 2 * (put.read - from)
-  pub clear : All (λ b. holds b ≡ false) (take (put.read - from) (drop from text))
-  pub printed : take put.end new ≡ take at old ++ printed_bytes (take (put.read - from) (drop from text))
+  pub few : put.end ≤ at + 2 * length bytes
+  pub clear : All (λ b. holds b ≡ false) bytes
+  pub printed : take put.end new ≡ take at old ++ printed_bytes bytes
 
 -- ---- pairs
 

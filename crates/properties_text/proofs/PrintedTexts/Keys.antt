@@ -17,6 +17,7 @@ use Rattle.properties_text.specs.declared.escape.UnescapeError.TheVariants as er
 use Rattle.properties_text.specs.declared.print.Pair.{Pair}
 use Rattle.properties_text.specs.declared.print.Repertoire.{Repertoire}
 use Rattle.properties_text.proofs.Printing.Characters.{first_escaped_more}
+use Rattle.properties_text.proofs.TextFronts.{taken-rest}
 use Rattle.properties_text.proofs.PrintedTexts.Runs.{front-kept}
 use Rattle.properties_text.proofs.Spelt.Escapes.{no-text}
 
@@ -67,7 +68,7 @@ module _ (m : Meaning) (r : Repertoire) (first : Bool) (old : List ℕ) (at : �
   key-plain new end h other = record {
     within = h.within;
     meant = h.meant;
-    means_it = h.means_it;
+    meaning = h.meaning;
     printed = h.printed ∙ ap (λ v. take at old ++ v) (sym (plain-key r first h.meant other));
   }
 
@@ -76,16 +77,22 @@ module _ (m : Meaning) (r : Repertoire) (first : Bool) (old : List ℕ) (at : �
       → (first && begins_like_bom (puts_of r h.meant)) ≡ true
       → take at out ≡ take at old → Prints m (escaped_key r) out at new result → Prints m (key_bytes r first) old at new result
   key-escaped out new mid h (Ok end) like same k =
-      let text_is : h.meant ≡ k.meant = means-same h.meant k.meant (sym h.means_it ∙ k.means_it) in
+      let text_is : h.meant ≡ k.meant = means-same h.meant k.meant (sym h.meaning ∙ k.meaning) in
       let own : (first && begins_like_bom (puts_of r k.meant)) ≡ true = ap (λ v. first && begins_like_bom (puts_of r v)) (sym text_is) ∙ like in
       record {
         within = k.within;
         meant = k.meant;
-        means_it = k.means_it;
+        meaning = k.meaning;
         printed = k.printed ∙ ap₂ (λ v w. v ++ w) same (sym (marked-key r first k.meant own));
       }
   key-escaped out new mid h (Err (error.Malformed kind)) like same k = k
   key-escaped out new mid h (Err error.Memory) like same k = tt
+
+-- What was put begins like a mark if the bytes of the text do.
+pub begins-put : (m : Meaning) (r : Repertoire) (old : List ℕ) (at : ℕ) (new slice : List ℕ) (end : ℕ) (h : IsPut m (puts_of r) old at new end) → at ≤ length old
+    → slice ≡ new → begins_like_bom (puts_of r h.meant) ≡ begins_like_bom (take (end - at) (drop at slice))
+begins-put m r old at new slice end h room value =
+    ap begins_like_bom (sym (slice-put old new (puts_of r h.meant) at end room h.within h.printed).1 ∙ ap (λ v. take (end - at) (drop at v)) (sym value))
 
 empty-means : (escaped : Bool) → meaning_by escaped [] ≡ means []
 empty-means true = meaning_of-empty
@@ -96,10 +103,17 @@ pub some-text : (e : LineEncoding) (r : Repertoire) (escaped : Bool) (text old :
     (h : IsPut (meaning_in e escaped text) (puts_of r) old at new end)
     → begins_like_bom (puts_of r h.meant) ≡ true → 0 < length text
 some-text e r escaped [] old at new end h like =
-    let empty : h.meant ≡ [] = means-same h.meant [] (sym h.means_it ∙ ap (meaning_by escaped) (no-text e [] refl) ∙ empty-means escaped) in
+    let empty : h.meant ≡ [] = means-same h.meant [] (sym h.meaning ∙ ap (meaning_by escaped) (no-text e [] refl) ∙ empty-means escaped) in
     let no : begins_like_bom (puts_of r []) ≡ true = ap (λ v. begins_like_bom (puts_of r v)) (sym empty) ∙ like in
     absurd (cc)
 some-text e r escaped (b ∷ bs) old at new end h like = omega arith
+
+-- what is left of a text, as a slice of its bytes
+pub rest-at : (bytes : List ℕ) (size read : ℕ) → read ≤ size → take (size - read) (take (length bytes - read) (drop read bytes)) ≡ drop read (take size bytes)
+rest-at bytes size read h =
+    ap (take (size - read)) (taken-rest read bytes)
+    ∙ sym (drop-take read (size - read) bytes)
+    ∙ ap (λ m. drop read (take m bytes)) (let e : read + (size - read) ≡ size = omega (arith, h) in e)
 
 -- The first character is escaped, and the rest is printed.
 pub escaped-rest : (e : LineEncoding) (r : Repertoire) (escaped : Bool) (text old : List ℕ) (at : ℕ) (mid new rest : List ℕ) (between : ℕ) (first : Spelt)
@@ -109,7 +123,7 @@ pub escaped-rest : (e : LineEncoding) (r : Repertoire) (escaped : Bool) (text ol
 escaped-rest e r escaped text old at mid new rest between first (Ok end) read is put h = record {
   within = h.within;
   meant = first.character ∷ h.meant;
-  means_it = read.meaning ∙ ap (λ v. in_front first.character (meaning_in e escaped v)) (sym is) ∙ ap (in_front first.character) h.means_it;
+  meaning = read.meaning ∙ ap (λ v. in_front first.character (meaning_in e escaped v)) (sym is) ∙ ap (in_front first.character) h.meaning;
   printed =
       h.printed
       ∙ ap (λ v. v ++ puts_of r h.meant) put
@@ -133,8 +147,8 @@ pair-put r first p separator ending old at0 at1 at2 at3 at4 out1 out2 out3 out4 
     record {
       key = k.meant;
       value = v.meant;
-      key_means = k.means_it;
-      value_means = v.means_it;
+      key_means = k.meaning;
+      value_means = v.meaning;
       printed =
           e
           ∙ ap (λ x. x ++ ending) (v.printed ∙ ap (λ x. x ++ value) (s ∙ ap (λ x. x ++ separator) k.printed))
@@ -154,5 +168,5 @@ pub value-refused : (r : Repertoire) (first : Bool) (line : List ℕ) (p : Pair)
     (out1 out2 out3 new : List ℕ) (e : UnescapeError)
     → IsPut (key_of p) (key_bytes r first) old at out1 end → Prints (value_of p) (puts_of r) out2 between out3 (Err e)
     → PrintsPair r first line p separator ending (Err e) new
-value-refused r first line p separator ending old at end between out1 out2 out3 new (error.Malformed kind) k h = inr (k.meant, k.means_it, h)
+value-refused r first line p separator ending old at end between out1 out2 out3 new (error.Malformed kind) k h = inr (k.meant, k.meaning, h)
 value-refused r first line p separator ending old at end between out1 out2 out3 new error.Memory k h = tt

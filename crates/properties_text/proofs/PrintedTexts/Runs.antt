@@ -4,9 +4,9 @@ use Rattle.std.specs.Prelude.{Some, Result, Ok, Err}
 use Rattle.std.specs.List.{All}
 use Rattle.std.proofs.lemmas.Bool.{cases_lt, cond-false}
 use Rattle.std.proofs.lemmas.Str.{IsUtf8-nil}
-use Rattle.std.proofs.Math.Seq.{take-append_seam, take-add}
-use Rattle.std.proofs.lemmas.List.{length-map, length-append, take-append-le, get_or-drop, get_or-take, get_or_past, length-take, length-take-le, take-take, drop-take, drop-drop, drop_more, drop_all, take-append-drop, length-drop, take_more}
-use Rattle.std.proofs.lemmas.List.Elements.{All-push, All-append, All-weaker, All-nil, All-cons, All-from_get_or, All-take, All-drop}
+use Rattle.std.proofs.Math.Seq.{take-append_seam}
+use Rattle.std.proofs.lemmas.List.{length-map, length-append, take-append-le, get_or-drop, get_or-take, get_or_past, length-take, length-take-le, take-take, drop-take, drop-drop, drop_more, drop_all, take-append-drop, length-drop}
+use Rattle.std.proofs.lemmas.List.Elements.{All-append, All-weaker, All-nil, All-cons, All-from_get_or, All-take, All-drop}
 use Rattle.properties_format.specs.Text.{backslash}
 use Rattle.properties_format.specs.Escapes as format
 use Rattle.properties_format.specs.Escapes.{Meaning, means, breaks}
@@ -16,7 +16,7 @@ use Rattle.properties_format.proofs.Escapes.Unique.{text_in_front-means, text_in
 use Rattle.properties_text.specs.Escaping.{malformed_in}
 use Rattle.properties_text.specs.Printing.{printed_byte, printed_bytes, with_backslashes, put_of, puts_of}
 use Rattle.properties_text.specs.Spelt.{text_in, IsWell, IsFirst, Reads}
-use Rattle.properties_text.specs.PrintedTexts.{meaning_by, meaning_in, printed_by, printed_in, is_inside, past_in, rest_in, StopsIn, ArePut, IsReadBy, ReadsBy, from_on, IsRunPut, IsPut, Prints}
+use Rattle.properties_text.specs.PrintedTexts.{meaning_by, meaning_in, printed_by, printed_in, is_inside, past_in, rest_in, StopsIn, ArePut, IsReadBy, ReadsBy, from_on, PutsStops, PrintsRest, IsRunPut, IsPut, Prints}
 use Rattle.properties_text.specs.declared.encoding.line.LineEncoding.{LineEncoding}
 use Rattle.properties_text.specs.declared.encoding.line.LineEncoding.TheVariants.{Windows1252, Utf8}
 use Rattle.properties_text.specs.declared.encoding.line.Spelt.{Spelt}
@@ -39,14 +39,13 @@ use Rattle.properties_text.proofs.PrintedTexts.Steps.{printed-one, rest-well, pa
 
 -- ---- reading one character
 
-by-spelling : (escaped : Bool) (e : LineEncoding) (bs : List ℕ) (r : Result Spelt Malformed) → escaped ≡ true → Reads e bs r → ReadsBy escaped e bs r
-by-spelling true e bs (Ok spelt) on h = record { some = h.some; within = h.within; meaning = h.meaning; well = h.well }
-by-spelling true e bs (Err m) on h = h.1
-by-spelling false e bs r on h = absurd (cc)
-
+-- What a backslash at a stop spells is read.
 pub reads-escape : (escaped : Bool) (e : LineEncoding) (bs : List ℕ) (r : Result Spelt Malformed) → escaped ≡ true → Reads e bs r → ReadsBy escaped e bs r
-reads-escape escaped e bs r on h = by-spelling escaped e bs r on h
+reads-escape true e bs (Ok spelt) on h = record { some = h.some; within = h.within; meaning = h.meaning; well = h.well }
+reads-escape true e bs (Err m) on h = h.1
+reads-escape false e bs r on h = absurd (cc)
 
+-- Any other character stands for itself.
 pub reads-itself : (escaped : Bool) (e : LineEncoding) (bs : List ℕ) (spelt : Spelt) → IsWell e bs → (get_or bs 0 0 ≡ backslash → escaped ≡ false)
     → IsFirst e bs spelt → ReadsBy escaped e bs (Ok spelt)
 reads-itself escaped e bs spelt w other h = record {
@@ -70,7 +69,7 @@ reads-itself escaped e bs spelt w other h = record {
 -- ---- one more is put
 
 -- at a stop, a character begins
-pub stop-well : (holds : ℕ → Bool) (e : LineEncoding) (t : Repertoire) (bs : List ℕ) → StopsIn holds e t → 0 < length bs → holds (get_or bs 0 0) ≡ true
+stop-well : (holds : ℕ → Bool) (e : LineEncoding) (t : Repertoire) (bs : List ℕ) → StopsIn holds e t → 0 < length bs → holds (get_or bs 0 0) ≡ true
     → IsWell e (past_in e t bs) → IsWell e bs
 stop-well holds Windows1252 t bs s some h w = tt
 stop-well holds Utf8 repertoire.Windows1252 bs s some h w = w
@@ -81,95 +80,80 @@ stop-well holds Utf8 repertoire.Utf8 (b ∷ bs) s some h w = elim (cases_lt b 0x
   | inr l ↦ absurd (let f = s.past b l in cc)
 ]
 
-pub put-step : (e : LineEncoding) (t : Repertoire) (escaped : Bool) (whole : Meaning) (text : List ℕ) (so_far put : Put) (out new bytes : List ℕ)
-    → ArePut e t escaped whole text so_far out
-    → put.read ≤ length text → put.end ≤ length new → IsWell e (past_in e t (drop put.read text))
-    → rest_in e t escaped (drop so_far.read text) ≡ text_in_front bytes (rest_in e t escaped (drop put.read text))
-    → take put.end new ≡ take so_far.end out ++ bytes → ArePut e t escaped whole text put new
-put-step e t escaped whole text so_far put out new bytes held read within well step e' = record {
-  read = read;
-  within = within;
-  well = well;
-  printed =
-      held.printed
-      ∙ ap (text_in_front (take so_far.end out)) step
-      ∙ sym (text_in_front-append (take so_far.end out) bytes (rest_in e t escaped (drop put.read text)))
-      ∙ ap (λ v. text_in_front v (rest_in e t escaped (drop put.read text))) (sym e');
-}
+-- so what is left is well-formed
+own-stop : (holds : ℕ → Bool) (e : LineEncoding) (t : Repertoire) (text : List ℕ) (so_far : Put) (bs : List ℕ) → StopsIn holds e t → bs ≡ drop so_far.read text
+    → so_far.read < length text → holds (get_or bs 0 0) ≡ true → IsWell e (past_in e t (drop so_far.read text)) → IsWell e bs
+own-stop holds e t text so_far bs s is inside stop well =
+    stop-well holds e t bs s (omega (arith, ap length is, length-drop so_far.read text, inside)) stop (subst (λ v. IsWell e (past_in e t v)) (sym is) well)
 
--- a character at a stop
-pub put-character : (holds : ℕ → Bool) (e : LineEncoding) (t : Repertoire) (whole : Meaning) (text : List ℕ) (so_far put : Put) (out new : List ℕ)
-    (spelt : Spelt) → StopsIn holds e t
-    → ArePut e t (holds backslash) whole text so_far out → IsWell e (drop so_far.read text) → IsReadBy (holds backslash) e (drop so_far.read text) spelt
-    → put.read ≡ so_far.read + spelt.length → put.end ≤ length new → take put.end new ≡ take so_far.end out ++ put_of t spelt.character
-    → ArePut e t (holds backslash) whole text put new
-put-character holds e t whole text so_far put out new spelt s held own h is within e' =
-    let bs = drop so_far.read text in
-    let left : drop spelt.length bs ≡ drop put.read text = drop-drop spelt.length so_far.read text ∙ ap (λ n. drop n text) (sym is) in
-    let well : IsWell e (drop put.read text) = subst (IsWell e) left h.well in
-    put-step e t (holds backslash) whole text so_far put out new (put_of t spelt.character) held
-    (omega (arith, held.read, h.within, length-drop so_far.read text, is)) within (subst (IsWell e) (sym (past-well e t (drop put.read text) well)) well)
-    (
-    rest-well e t (holds backslash) bs own
-    ∙ ap (printed_by t) h.meaning
-    ∙ printed-one t spelt.character (meaning_in e (holds backslash) (drop spelt.length bs))
-    ∙ ap (λ v. text_in_front (put_of t spelt.character) (printed_in e t (holds backslash) v)) left
-    ∙ ap (text_in_front (put_of t spelt.character)) (sym (rest-well e t (holds backslash) (drop put.read text) well))
-    )
-    e'
+module _ (holds : ℕ → Bool) (e : LineEncoding) (t : Repertoire) (whole : Meaning) (text : List ℕ) (so_far put : Put) (out new : List ℕ)
+    (s : StopsIn holds e t) (held : ArePut e t (holds backslash) whole text so_far out) (within : put.end ≤ length new) where
+  -- what is put of bytes that were read
+  put-step : (bytes : List ℕ) → put.read ≤ length text → IsWell e (past_in e t (drop put.read text))
+      → rest_in e t (holds backslash) (drop so_far.read text) ≡ text_in_front bytes (rest_in e t (holds backslash) (drop put.read text))
+      → take put.end new ≡ take so_far.end out ++ bytes → ArePut e t (holds backslash) whole text put new
+  put-step bytes read well step printed = record {
+    read = read;
+    within = within;
+    well = well;
+    printed =
+        held.printed
+        ∙ ap (text_in_front (take so_far.end out)) step
+        ∙ sym (text_in_front-append (take so_far.end out) bytes (rest_in e t (holds backslash) (drop put.read text)))
+        ∙ ap (λ v. text_in_front v (rest_in e t (holds backslash) (drop put.read text))) (sym printed);
+  }
 
--- a run of bytes
-pub put-bytes : (holds : ℕ → Bool) (e : LineEncoding) (t : Repertoire) (whole : Meaning) (text : List ℕ) (so_far put : Put) (out new xs : List ℕ)
-    → StopsIn holds e t
-    → ArePut e t (holds backslash) whole text so_far out → drop so_far.read text ≡ xs ++ drop put.read text → All (λ b. b < 256) xs
-    → All (λ b. holds b ≡ false) xs
-    → put.read ≤ length text → put.end ≤ length new → take put.end new ≡ take so_far.end out ++ printed_bytes xs
-    → ArePut e t (holds backslash) whole text put new
-put-bytes holds e t whole text so_far put out new xs s held front small clear read within e' =
-    let r = run-of holds e t xs (drop put.read text) s small clear (subst (λ v. IsWell e (past_in e t v)) front held.well) in
-    put-step e t (holds backslash) whole text so_far put out new (printed_bytes xs) held read within r.well
-    (ap (rest_in e t (holds backslash)) front ∙ r.printed) e'
+  -- the character at a stop
+  pub stop-put : (bs : List ℕ) (spelt : Spelt) → bs ≡ drop so_far.read text → so_far.read < length text → holds (get_or bs 0 0) ≡ true
+      → IsReadBy (holds backslash) e bs spelt → put.read ≡ so_far.read + spelt.length → take put.end new ≡ take so_far.end out ++ put_of t spelt.character
+      → ArePut e t (holds backslash) whole text put new
+  stop-put bs spelt is inside stop h at printed =
+      let own = own-stop holds e t text so_far bs s is inside stop held.well in
+      let left : drop spelt.length bs ≡ drop put.read text = ap (drop spelt.length) is ∙ drop-drop spelt.length so_far.read text ∙ ap (λ n. drop n text) (sym at) in
+      let well : IsWell e (drop put.read text) = subst (IsWell e) left h.well in
+      put-step (put_of t spelt.character)
+      (omega (arith, held.read, h.within, ap length is, length-drop so_far.read text, at)) (subst (IsWell e) (sym (past-well e t (drop put.read text) well)) well)
+      (
+      ap (rest_in e t (holds backslash)) (sym is)
+      ∙ rest-well e t (holds backslash) bs own
+      ∙ ap (printed_by t) h.meaning
+      ∙ printed-one t spelt.character (meaning_in e (holds backslash) (drop spelt.length bs))
+      ∙ ap (λ v. text_in_front (put_of t spelt.character) (printed_in e t (holds backslash) v)) left
+      ∙ ap (text_in_front (put_of t spelt.character)) (sym (rest-well e t (holds backslash) (drop put.read text) well))
+      )
+      printed
 
--- the run that was put from a place on
-pub put-run : (holds : ℕ → Bool) (e : LineEncoding) (t : Repertoire) (whole : Meaning) (text : List ℕ) (so_far put : Put) (out new : List ℕ) → StopsIn holds e t
-    → ArePut e t (holds backslash) whole text so_far out → ((i : ℕ) → get_or text i 0 < 256) → IsRunPut holds out so_far.end text so_far.read put new
-    → put.end ≤ length new
-    → ArePut e t (holds backslash) whole text put new
-put-run holds e t whole text so_far put out new s held small r within =
-    let xs = take (put.read - so_far.read) (drop so_far.read text) in
-    let n : so_far.read + (put.read - so_far.read) ≡ put.read = omega (arith, r.onwards) in
-    put-bytes holds e t whole text so_far put out new xs s held
-    (sym (take-append-drop (put.read - so_far.read) (drop so_far.read text)) ∙ ap (λ v. xs ++ v) (drop-drop (put.read - so_far.read) so_far.read text ∙ ap
-    (λ n. drop n text) n))
-    (All-take (λ b. b < 256) (put.read - so_far.read) (drop so_far.read text) (All-drop (λ b. b < 256) so_far.read text
-    (All-from_get_or (λ b. b < 256) text 0 (λ i inside. small i))))
-    r.clear r.read within r.printed
+  -- a run
+  pub put-run : ((i : ℕ) → get_or text i 0 < 256) → IsRunPut holds out so_far.end text so_far.read put new → ArePut e t (holds backslash) whole text put new
+  put-run small r =
+      let front : take (length r.bytes) (drop so_far.read text) ≡ r.bytes =
+      ap (take (length r.bytes)) r.text_is ∙ take-append_seam r.bytes (drop put.read text) in
+      let own : All (λ b. b < 256) r.bytes = subst (All (λ b. b < 256)) front (All-take (λ b. b < 256) (length r.bytes) (drop so_far.read text)
+      (All-drop (λ b. b < 256) so_far.read text (All-from_get_or (λ b. b < 256) text 0 (λ i inside. small i)))) in
+      let run = run-of holds e t r.bytes (drop put.read text) s own r.clear (subst (λ v. IsWell e (past_in e t v)) r.text_is held.well) in
+      put-step (printed_bytes r.bytes) r.read run.well (ap (rest_in e t (holds backslash)) r.text_is ∙ run.printed) r.printed
 
 -- Nothing was put yet.
 pub put-none : (e : LineEncoding) (t : Repertoire) (escaped : Bool) (text : List ℕ) (from at : ℕ) (out : List ℕ) → from ≤ length text → at ≤ length out
-    → IsWell e (past_in e t (drop from text))
-    → ArePut e t escaped (from_on e t escaped out at text from) text record { read = from; end = at } out
+    → IsWell e (past_in e t (drop from text)) → ArePut e t escaped (from_on e t escaped out at text from) text record { read = from; end = at } out
 put-none e t escaped text from at out h k w = record { read = h; within = k; well = w; printed = refl }
 
--- what was put goes on from what was put before
-pub put-on : (e : LineEncoding) (t : Repertoire) (escaped : Bool) (whole : Meaning) (text : List ℕ) (so_far put : Put) (out new : List ℕ)
-    → ArePut e t escaped whole text so_far out
-    → ArePut e t escaped (from_on e t escaped out so_far.end text so_far.read) text put new → ArePut e t escaped whole text put new
-put-on e t escaped whole text so_far put out new held h = record { read = h.read; within = h.within; well = h.well; printed = held.printed ∙ h.printed }
+-- All was read.
+pub put-whole : (e : LineEncoding) (t : Repertoire) (escaped : Bool) (whole : Meaning) (text : List ℕ) (put : Put) (out : List ℕ) → put.read ≡ length text
+    → ArePut e t escaped whole text put out → ArePut e t escaped whole text record { read = length text; end = put.end } out
+put-whole e t escaped whole text put out is held =
+    let P : ℕ → Type 0 = λ n. ArePut e t escaped whole text record { read = n; end = put.end } out in
+    subst P is held
 
--- more room
-pub put-same : (e : LineEncoding) (t : Repertoire) (escaped : Bool) (whole : Meaning) (text : List ℕ) (put : Put) (out new : List ℕ)
-    → ArePut e t escaped whole text put out
-    → take put.end new ≡ take put.end out → length out ≤ length new → ArePut e t escaped whole text put new
-put-same e t escaped whole text put out new held h k = record {
-  read = held.read;
-  within = omega (arith, held.within, k);
-  well = held.well;
-  printed = held.printed ∙ ap (λ v. text_in_front v (rest_in e t escaped (drop put.read text))) (sym h);
-}
+-- What was put goes on from what was put before.
+pub put-on : (e : LineEncoding) (t : Repertoire) (escaped : Bool) (whole : Meaning) (text : List ℕ) (so_far put : Put) (out new : List ℕ)
+    → ArePut e t escaped whole text so_far out → ArePut e t escaped (from_on e t escaped out so_far.end text so_far.read) text put new
+    → ArePut e t escaped whole text put new
+put-on e t escaped whole text so_far put out new held h = record { read = h.read; within = h.within; well = h.well; printed = held.printed ∙ h.printed }
 
 -- ---- the end, and a fault
 
+-- A text whose printed bytes are these.
 from-printed : (t : Repertoire) (m : Meaning) (x y : List ℕ) → text_in_front x (printed_by t m) ≡ means y
     → (z : List ℕ) × (m ≡ means z) × (y ≡ x ++ puts_of t z)
 from-printed t (means z) x y e = let f = sym (text_in_front-means x (puts_of t z)) ∙ e in (z, refl, same-bytes (x ++ puts_of t z) y f)
@@ -178,10 +162,12 @@ from-printed t (means z) x y e = let f = sym (text_in_front-means x (puts_of t z
     same-bytes a b e = cc
 from-printed t (breaks kind) x y e = let f = sym (text_in_front-breaks x kind) ∙ e in absurd (cc)
 
-from-broken : (t : Repertoire) (m : Meaning) (x : List ℕ) (kind : format.Malformed) → text_in_front x (printed_by t m) ≡ breaks kind → m ≡ breaks kind
-from-broken t (means z) x kind e = let f = sym (text_in_front-means x (puts_of t z)) ∙ e in absurd (cc)
-from-broken t (breaks k) x kind e = let f = sym (text_in_front-breaks x k) ∙ e in cc
+-- Only a text that breaks is printed so.
+from-broken : (t : Repertoire) (m : Meaning) (kind : format.Malformed) → printed_by t m ≡ breaks kind → m ≡ breaks kind
+from-broken t (means z) kind e = absurd (cc)
+from-broken t (breaks k) kind e = e
 
+-- Nothing is left.
 rest-nil : (e : LineEncoding) (t : Repertoire) (escaped : Bool) → rest_in e t escaped [] ≡ means []
 rest-nil e t escaped = rest-well e t escaped [] (nil-well e) ∙ ap (λ v. printed_by t (meaning_by escaped v)) (no-text e [] refl) ∙ none escaped
   where
@@ -193,6 +179,7 @@ rest-nil e t escaped = rest-well e t escaped [] (nil-well e) ∙ ap (λ v. print
     none true = ap (printed_by t) meaning_of-empty
     none false = refl
 
+-- All was read, so the text means another, and that was put.
 pub put-all : (e : LineEncoding) (t : Repertoire) (escaped : Bool) (text old : List ℕ) (at : ℕ) (put : Put) (new : List ℕ) → IsWell e text
     → length text ≤ put.read
     → ArePut e t escaped (from_on e t escaped old at text 0) text put new → IsPut (meaning_in e escaped text) (puts_of t) old at new put.end
@@ -205,166 +192,147 @@ put-all e t escaped text old at put new w all held =
     ∙ text_in_front-means (take put.end new) []
     ∙ ap means (append-nil (take put.end new)) in
     let found = from-printed t (meaning_in e escaped text) (take at old) (take put.end new) whole in
-    record { within = held.within; meant = found.0; means_it = found.1; printed = found.2 }
+    record { within = held.within; meant = found.0; meaning = found.1; printed = found.2 }
 
-pub put-broken : (e : LineEncoding) (t : Repertoire) (escaped : Bool) (text old : List ℕ) (at : ℕ) (put : Put) (new : List ℕ) (m : Malformed) → IsWell e text
-    → ArePut e t escaped (from_on e t escaped old at text 0) text put new → rest_in e t escaped (drop put.read text) ≡ breaks (malformed_in m)
-    → meaning_in e escaped text ≡ breaks (malformed_in m)
-put-broken e t escaped text old at put new m w held fault =
-    from-broken t (meaning_in e escaped text) (take at old) (malformed_in m) (
-    ap (text_in_front (take at old)) (sym (rest-well e t escaped text w))
-    ∙ held.printed
-    ∙ ap (text_in_front (take put.end new)) fault
-    ∙ text_in_front-breaks (take put.end new) (malformed_in m))
+-- What breaks after a front breaks.
+broken-front : (x : List ℕ) (m : Meaning) (kind : format.Malformed) → text_in_front x m ≡ breaks kind → m ≡ breaks kind
+broken-front x (means z) kind e = let f = sym (text_in_front-means x z) ∙ e in absurd (cc)
+broken-front x (breaks k) kind e = let f = sym (text_in_front-breaks x k) ∙ e in cc
+
+-- What breaks the rest breaks what is before it too.
+broken-on : (e : LineEncoding) (t : Repertoire) (escaped : Bool) (text old : List ℕ) (at from : ℕ) (put : Put) (out : List ℕ) (kind : format.Malformed)
+    → ArePut e t escaped (from_on e t escaped old at text from) text put out → rest_in e t escaped (drop put.read text) ≡ breaks kind
+    → rest_in e t escaped (drop from text) ≡ breaks kind
+broken-on e t escaped text old at from put out kind held fault =
+    broken-front (take at old) (rest_in e t escaped (drop from text)) kind
+    (held.printed ∙ ap (text_in_front (take put.end out)) fault ∙ text_in_front-breaks (take put.end out) kind)
+
+-- a malformed escape at a stop
+pub stop-broken : (holds : ℕ → Bool) (e : LineEncoding) (t : Repertoire) (text old : List ℕ) (at from : ℕ) (so_far : Put) (out bs : List ℕ) (m : Malformed)
+    → bs ≡ drop so_far.read text → StopsIn holds e t → so_far.read < length text → holds (get_or bs 0 0) ≡ true
+    → ArePut e t (holds backslash) (from_on e t (holds backslash) old at text from) text so_far out → meaning_in e (holds backslash) bs ≡ breaks (malformed_in m)
+    → rest_in e t (holds backslash) (drop from text) ≡ breaks (malformed_in m)
+stop-broken holds e t text old at from so_far out bs m is s inside stop held reads =
+    broken-on e t (holds backslash) text old at from so_far out (malformed_in m) held (
+    ap (rest_in e t (holds backslash)) (sym is)
+    ∙ rest-well e t (holds backslash) bs (own-stop holds e t text so_far bs s is inside stop held.well)
+    ∙ ap (printed_by t) reads)
+
+-- An error at the rest is one of the text.
+pub stops-refused : (e : LineEncoding) (t : Repertoire) (escaped : Bool) (text old : List ℕ) (at from : ℕ) (put : Put) (out new : List ℕ) (u : UnescapeError)
+    → ArePut e t escaped (from_on e t escaped old at text from) text put out → PutsStops e t escaped out put.end text put.read new (Err u)
+    → PrintsRest e t escaped old at text from new (Err u)
+stops-refused e t escaped text old at from put out new (error.Malformed m) held h = broken-on e t escaped text old at from put out (malformed_in m) held h
+stops-refused e t escaped text old at from put out new error.Memory held h = tt
+
+-- The rest was printed after a front.
+pub rest-printed : (e : LineEncoding) (t : Repertoire) (escaped : Bool) (text old : List ℕ) (at : ℕ) (put : Put) (out new : List ℕ) (r : Result ℕ UnescapeError)
+    → IsWell e text → ArePut e t escaped (from_on e t escaped old at text 0) text put out → PrintsRest e t escaped out put.end text put.read new r
+    → Prints (meaning_in e escaped text) (puts_of t) old at new r
+rest-printed e t escaped text old at put out new (Ok end) w held h =
+    let all : Put = record { read = length text; end = end } in
+    put-all e t escaped text old at all new w (omega arith) (put-on e t escaped (from_on e t escaped old at text 0) text put all out new held h)
+rest-printed e t escaped text old at put out new (Err (error.Malformed m)) w held h =
+    from-broken t (meaning_in e escaped text) (malformed_in m) (sym (rest-well e t escaped text w) ∙ broken-on e t escaped text old at 0 put out (malformed_in m) held h)
+rest-printed e t escaped text old at put out new (Err error.Memory) w held h = tt
 
 -- ---- a run, byte by byte
 
--- One byte more was put.
-pub run-more : (holds : ℕ → Bool) (old : List ℕ) (at : ℕ) (text : List ℕ) (from : ℕ) (put : Put) (out new : List ℕ) (end : ℕ)
-    → IsRunPut holds old at text from put out → put.read < length text
-    → holds (get_or text put.read 0) ≡ false → end ≤ put.end + 2 → take end new ≡ take put.end out ++ printed_byte (get_or text put.read 0)
-    → IsRunPut holds old at text from record { read = put.read + 1; end = end } new
-run-more holds old at text from put out new end held inside clear few printed =
-    let b = get_or text put.read 0 in
-    let k = put.read - from in
-    let n : put.read + 1 - from ≡ k + 1 = omega (arith, held.onwards) in
-    let i : from + k ≡ put.read = omega (arith, held.onwards) in
-    let more : take (k + 1) (drop from text) ≡ take k (drop from text) ++ b ∷ [] =
-    take_more (drop from text) k 0 (omega (arith, inside, length-drop from text, held.onwards))
-    ∙ ap (λ x. take k (drop from text) ++ x ∷ []) (get_or-drop from text k 0 ∙ ap (λ m. get_or text m 0) i) in
-    let xs : take (put.read + 1 - from) (drop from text) ≡ take k (drop from text) ++ b ∷ [] = ap (λ m. take m (drop from text)) n ∙ more in
+-- one byte
+pub run-byte : (holds : ℕ → Bool) (old : List ℕ) (at : ℕ) (text : List ℕ) (from end : ℕ) (new : List ℕ) → from < length text → holds (get_or text from 0) ≡ false
+    → end ≤ at + 2 → take end new ≡ take at old ++ printed_byte (get_or text from 0) → IsRunPut holds old at text from record { read = from + 1; end = end } new
+run-byte holds old at text from end new inside clear few printed =
+    let b = get_or text from 0 in
     record {
-      onwards = omega (arith, held.onwards);
+      bytes = b ∷ [];
+      text_is = drop_more text from 0 inside;
+      read_is = omega arith;
       read = omega (arith, inside);
-      within = omega (arith, held.within, few, held.onwards);
-      clear = subst (All (λ b. holds b ≡ false)) (sym xs) (All-push (λ b. holds b ≡ false) (take k (drop from text)) b held.clear clear);
-      printed =
-          printed
-          ∙ ap (λ v. v ++ printed_byte b) held.printed
-          ∙ append_assoc (take at old) (printed_bytes (take k (drop from text))) (printed_byte b)
-          ∙ ap (λ v. take at old ++ v) (sym (ap printed_bytes xs ∙ printed_bytes-append (take k (drop from text)) (b ∷ [])
-          ∙ ap (λ v. printed_bytes (take k (drop from text)) ++ v) (append-nil (printed_byte b))));
+      few = omega (arith, few);
+      clear = All-cons (λ b. holds b ≡ false) b [] clear (All-nil (λ b. holds b ≡ false));
+      printed = printed ∙ ap (λ v. take at old ++ v) (sym (append-nil (printed_byte b)));
     }
 
 -- what a vector has after its slice was written
 pub written-back : (size : ℕ) (xs ys : List ℕ) → length xs ≡ size → take size (xs ++ ys) ≡ xs
 written-back size xs ys e = ap (λ n. take n (xs ++ ys)) (sym e) ∙ take-append_seam xs ys
 
--- ---- one turn of each loop
+-- ---- where room was made
 
--- the character at a stop
-pub stop-put : (holds : ℕ → Bool) (e : LineEncoding) (t : Repertoire) (whole : Meaning) (text : List ℕ) (so_far put : Put) (out new bs : List ℕ)
-    (spelt : Spelt) → bs ≡ drop so_far.read text → StopsIn holds e t
-    → so_far.read < length text → holds (get_or bs 0 0) ≡ true → ArePut e t (holds backslash) whole text so_far out
-    → IsReadBy (holds backslash) e bs spelt
-    → put.read ≡ so_far.read + spelt.length → put.end ≤ length new → take put.end new ≡ take so_far.end out ++ put_of t spelt.character
-    → ArePut e t (holds backslash) whole text put new
-stop-put holds e t whole text so_far put out new bs spelt is s inside stop held reads at within printed =
-    let own : holds (get_or (drop so_far.read text) 0 0) ≡ true = ap (λ v. holds (get_or v 0 0)) (sym is) ∙ stop in
-    let w = stop-well holds e t (drop so_far.read text) s (omega (arith, length-drop so_far.read text, inside)) own held.well in
-    put-character holds e t whole text so_far put out new spelt s held w (subst (λ v. IsReadBy (holds backslash) e v spelt) is reads) at within printed
+-- What was put where room was made, and written back.
+pub stops-room : (e : LineEncoding) (t : Repertoire) (escaped : Bool) (old : List ℕ) (at : ℕ) (text : List ℕ) (from : ℕ) (items slice written new : List ℕ)
+    (r : Result Put UnescapeError) → take at items ≡ take at old → slice ≡ items → new ≡ written → PutsStops e t escaped slice at text from written r
+    → PutsStops e t escaped old at text from new r
+stops-room e t escaped old at text from items slice written new (Ok put) same value back h = record {
+  read = h.read;
+  within = omega (arith, h.within, ap length back);
+  well = h.well;
+  printed =
+      ap (λ v. text_in_front v (rest_in e t escaped (drop from text))) (sym same ∙ ap (take at) (sym value))
+      ∙ h.printed
+      ∙ ap (λ v. text_in_front (take put.end v) (rest_in e t escaped (drop put.read text))) (sym back);
+}
+stops-room e t escaped old at text from items slice written new (Err (error.Malformed m)) same value back h = h
+stops-room e t escaped old at text from items slice written new (Err error.Memory) same value back h = tt
 
--- a byte before one
-pub byte-put : (holds : ℕ → Bool) (e : LineEncoding) (t : Repertoire) (whole : Meaning) (text : List ℕ) (so_far put : Put) (out new bs : List ℕ)
-    → bs ≡ drop so_far.read text → StopsIn holds e t
-    → so_far.read < length text → holds (get_or bs 0 0) ≡ false → get_or bs 0 0 < 256 → ArePut e t (holds backslash) whole text so_far out
-    → put.read ≡ so_far.read + 1 → put.end ≤ length new → take put.end new ≡ take so_far.end out ++ printed_byte (get_or bs 0 0)
-    → ArePut e t (holds backslash) whole text put new
-byte-put holds e t whole text so_far put out new bs is s inside clear small held at within printed =
-    let b = get_or bs 0 0 in
-    let first : get_or text so_far.read 0 ≡ b = sym (ap (λ v. get_or v 0 0) is ∙ get_or-drop so_far.read text 0 0 ∙ ap (λ m. get_or text m 0)
-    (let n : so_far.read + 0 ≡ so_far.read = omega arith in n)) in
-    let front : drop so_far.read text ≡ b ∷ drop put.read text = drop_more text so_far.read 0 inside ∙ ap₂ (λ x m. x ∷ drop m text) first (sym at) in
-    put-bytes holds e t whole text so_far put out new (b ∷ []) s held front
-    (All-cons (λ b. b < 256) b [] small (All-nil (λ b. b < 256))) (All-cons (λ b. holds b ≡ false) b [] clear (All-nil (λ b. holds b ≡ false)))
-    (omega (arith, at, inside)) within (printed ∙ ap (λ v. take so_far.end out ++ v) (sym (append-nil (printed_byte b))))
+-- a run that was put where room was made
+pub run-room : (holds : ℕ → Bool) (old : List ℕ) (at : ℕ) (text : List ℕ) (from : ℕ) (put : Put) (items slice written new : List ℕ) → take at items ≡ take at old
+    → slice ≡ items → new ≡ written → IsRunPut holds slice at text from put written → IsRunPut holds old at text from put new
+run-room holds old at text from put items slice written new same value back h = record {
+  bytes = h.bytes;
+  text_is = h.text_is;
+  read_is = h.read_is;
+  read = h.read;
+  few = h.few;
+  clear = h.clear;
+  printed = ap (take put.end) back ∙ h.printed ∙ ap (λ v. v ++ printed_bytes h.bytes) (ap (take at) value ∙ same);
+}
 
-broken-front : (x : List ℕ) (m : Meaning) (kind : format.Malformed) → text_in_front x m ≡ breaks kind → m ≡ breaks kind
-broken-front x (means z) kind e = let f = sym (text_in_front-means x z) ∙ e in absurd (cc)
-broken-front x (breaks k) kind e = let f = sym (text_in_front-breaks x k) ∙ e in cc
-
--- a malformed escape at a stop
-pub stop-broken : (holds : ℕ → Bool) (e : LineEncoding) (t : Repertoire) (text old : List ℕ) (at from : ℕ) (so_far : Put) (out bs : List ℕ) (m : Malformed)
-    → bs ≡ drop so_far.read text → StopsIn holds e t
-    → so_far.read < length text → holds (get_or bs 0 0) ≡ true → ArePut e t (holds backslash) (from_on e t (holds backslash) old at text from) text so_far out
-    → meaning_in e (holds backslash) bs ≡ breaks (malformed_in m)
-    → rest_in e t (holds backslash) (drop from text) ≡ breaks (malformed_in m)
-stop-broken holds e t text old at from so_far out bs m is s inside stop held reads =
-    let own : holds (get_or (drop so_far.read text) 0 0) ≡ true = ap (λ v. holds (get_or v 0 0)) (sym is) ∙ stop in
-    let w = stop-well holds e t (drop so_far.read text) s (omega (arith, length-drop so_far.read text, inside)) own held.well in
-    let rest : rest_in e t (holds backslash) (drop so_far.read text) ≡ breaks (malformed_in m) =
-    rest-well e t (holds backslash) (drop so_far.read text) w ∙ ap (printed_in e t (holds backslash)) (sym is) ∙ ap (printed_by t) reads in
-    broken-front (take at old) (rest_in e t (holds backslash) (drop from text)) (malformed_in m)
-    (held.printed ∙ ap (text_in_front (take so_far.end out)) rest ∙ text_in_front-breaks (take so_far.end out) (malformed_in m))
-
--- the stops and a run
-pub turn : (holds : ℕ → Bool) (e : LineEncoding) (t : Repertoire) (whole : Meaning) (text : List ℕ) (so_far next put : Put)
-    (items0 items1 slice1 new2 items2 items3 slice3 new4 items4 : List ℕ) → StopsIn holds e t
-    → ((i : ℕ) → get_or text i 0 < 256) → ArePut e t (holds backslash) whole text so_far items0
-    → take so_far.end items1 ≡ take so_far.end items0 → length items0 ≤ length items1 → slice1 ≡ items1
-    → ArePut e t (holds backslash) (from_on e t (holds backslash) slice1 so_far.end text so_far.read) text next new2 → items2 ≡ new2
-    → take next.end items3 ≡ take next.end items2 → length items2 ≤ length items3 → slice3 ≡ items3
-    → IsRunPut holds slice3 next.end text next.read put new4 → put.end ≤ length new4 → items4 ≡ new4 → ArePut e t (holds backslash) whole text put items4
-turn holds e t whole text so_far next put items0 items1 slice1 new2 items2 items3 slice3 new4 items4 s small held same1 more1 value1 stops back2 same3 more3
-    value3 run within back4 =
-    let one = put-same e t (holds backslash) whole text so_far items0 items1 held same1 more1 in
-    let two = put-on e t (holds backslash) whole text so_far next items1 new2 one (subst
-    (λ v. ArePut e t (holds backslash) (from_on e t (holds backslash) v so_far.end text so_far.read) text next new2) value1 stops) in
-    let three = put-same e t (holds backslash) whole text next new2 items3 two (same3 ∙ ap (take next.end) back2) (omega (arith, more3, ap length back2)) in
-    let four = put-run holds e t whole text next put items3 new4 s three small (subst (λ v. IsRunPut holds v next.end text next.read put new4) value3 run)
-    within in
-    subst (ArePut e t (holds backslash) whole text put) (sym back4) four
-
-pub small-at : (text bs : List ℕ) (read : ℕ) → bs ≡ drop read text → ((i : ℕ) → get_or text i 0 < 256) → get_or bs 0 0 < 256
-small-at text bs read is small = subst (λ v. v < 256) (sym (ap (λ v. get_or v 0 0) is ∙ get_or-drop read text 0 0)) (small (read + 0))
-
+-- The bytes of a front are bytes.
 pub small-take : (n : ℕ) (xs : List ℕ) → ((i : ℕ) → get_or xs i 0 < 256) → (i : ℕ) → get_or (take n xs) i 0 < 256
 small-take n xs small i = elim (cases_lt i n) [
   | inl h ↦ subst (λ v. v < 256) (sym (get_or-take n xs i 0 h)) (small i)
   | inr h ↦ let e = get_or_past (take n xs) i 0 (omega (arith, length-take n xs, h)) in omega (arith, e)
 ]
 
+-- the first byte of what is left
+pub first-at : (text : List ℕ) (from : ℕ) → get_or (take (length text - from) (drop from text)) 0 0 ≡ get_or text from 0
+first-at text from =
+    ap (λ v. get_or v 0 0) (taken-rest from text)
+    ∙ get_or-drop from text 0 0
+    ∙ ap (λ m. get_or text m 0) (let n : from + 0 ≡ from = omega arith in n)
+
 -- ---- blocks
 
 -- a run after a run
-pub run-on : (holds : ℕ → Bool) (old : List ℕ) (at : ℕ) (text : List ℕ) (from : ℕ) (so_far put : Put) (out new : List ℕ)
-    → IsRunPut holds old at text from so_far out
+pub run-on : (holds : ℕ → Bool) (old : List ℕ) (at : ℕ) (text : List ℕ) (from : ℕ) (so_far put : Put) (out new : List ℕ) → IsRunPut holds old at text from so_far out
     → IsRunPut holds out so_far.end text so_far.read put new → IsRunPut holds old at text from put new
-run-on holds old at text from so_far put out new one two =
-    let k = so_far.read - from in
-    let l = put.read - so_far.read in
-    let n : put.read - from ≡ k + l = omega (arith, one.onwards, two.onwards) in
-    let i : from + k ≡ so_far.read = omega (arith, one.onwards) in
-    let xs = take k (drop from text) in
-    let ys = take l (drop so_far.read text) in
-    let both : take (put.read - from) (drop from text) ≡ xs ++ ys =
-    ap (λ m. take m (drop from text)) n
-    ∙ take-add k l (drop from text)
-    ∙ ap (λ v. xs ++ take l v) (drop-drop k from text ∙ ap (λ m. drop m text) i) in
-    record {
-      onwards = omega (arith, one.onwards, two.onwards);
-      read = two.read;
-      within = omega (arith, one.within, two.within, one.onwards, two.onwards);
-      clear = subst (All (λ b. holds b ≡ false)) (sym both) (All-append (λ b. holds b ≡ false) xs ys one.clear two.clear);
-      printed =
-          two.printed
-          ∙ ap (λ v. v ++ printed_bytes ys) one.printed
-          ∙ append_assoc (take at old) (printed_bytes xs) (printed_bytes ys)
-          ∙ ap (λ v. take at old ++ v) (sym (ap printed_bytes both ∙ printed_bytes-append xs ys));
-    }
+run-on holds old at text from so_far put out new one two = record {
+  bytes = one.bytes ++ two.bytes;
+  text_is = one.text_is ∙ ap (λ v. one.bytes ++ v) two.text_is ∙ sym (append_assoc one.bytes two.bytes (drop put.read text));
+  read_is = omega (arith, one.read_is, two.read_is, length-append one.bytes two.bytes);
+  read = two.read;
+  few = omega (arith, one.few, two.few, length-append one.bytes two.bytes);
+  clear = All-append (λ b. holds b ≡ false) one.bytes two.bytes one.clear two.clear;
+  printed =
+      two.printed
+      ∙ ap (λ v. v ++ printed_bytes two.bytes) one.printed
+      ∙ append_assoc (take at old) (printed_bytes one.bytes) (printed_bytes two.bytes)
+      ∙ ap (λ v. take at old ++ v) (sym (printed_bytes-append one.bytes two.bytes));
+}
 
 -- no run yet
-pub run-none : (holds : ℕ → Bool) (old : List ℕ) (at : ℕ) (text : List ℕ) (put : Put) → put.read ≤ length text → put.end ≡ at
-    → IsRunPut holds old at text put.read put old
-run-none holds old at text put inside is =
-    let n : put.read - put.read ≡ 0 = omega arith in
-    record {
-      onwards = omega arith;
-      read = inside;
-      within = omega (arith, is);
-      clear = subst (λ m. All (λ b. holds b ≡ false) (take m (drop put.read text))) (sym n) (All-nil (λ b. holds b ≡ false));
-      printed = ap (λ m. take m old) is ∙ sym (append-nil (take at old)) ∙ ap (λ m. take at old ++ printed_bytes (take m (drop put.read text))) (sym n);
-    }
+pub run-none : (holds : ℕ → Bool) (old : List ℕ) (at : ℕ) (text : List ℕ) (from : ℕ) → from ≤ length text
+    → IsRunPut holds old at text from record { read = from; end = at } old
+run-none holds old at text from inside = record {
+  bytes = [];
+  text_is = refl;
+  read_is = omega arith;
+  read = inside;
+  few = omega arith;
+  clear = All-nil (λ b. holds b ≡ false);
+  printed = sym (append-nil (take at old));
+}
 
 -- the same put and bytes
 pub run-is : (holds : ℕ → Bool) (old : List ℕ) (at : ℕ) (text : List ℕ) (from : ℕ) (one put : Put) (out new : List ℕ) → put ≡ one → new ≡ out
@@ -374,31 +342,32 @@ run-is holds old at text from one put out new is same h =
 
 -- the bytes of a block before a stop
 pub block-run : (holds : ℕ → Bool) (old bytes v new : List ℕ) (marks : List Bool) (size : ℕ) (so_far : Put) (kept end : ℕ) → size ≤ length bytes
-    → so_far.read ≤ size → ((b : ℕ) → b < 0x20 → holds b ≡ true)
+    → so_far.read ≤ size → ((b : ℕ) → b < 0x20 → holds b ≡ true) → length v ≡ 16
     → take (length bytes - so_far.read) (take 16 v) ≡ take 16 (drop so_far.read bytes) → marks ≡ map holds v → kept ≤ clear_front marks → kept ≤ 16
-    → kept ≤ size - so_far.read
-    → end ≤ so_far.end + 2 * kept → take end new ≡ take so_far.end old ++ with_backslashes (take kept v)
+    → kept ≤ size - so_far.read → end ≤ so_far.end + 2 * kept → take end new ≡ take so_far.end old ++ with_backslashes (take kept v)
     → IsRunPut holds old so_far.end (take size bytes) so_far.read record { read = so_far.read + kept; end = end } new
-block-run holds old bytes v new marks size so_far kept end inside from controls block are clear few within most printed =
+block-run holds old bytes v new marks size so_far kept end inside from controls long block are clear few within most printed =
     let r = so_far.read in
-    let n : r + kept - r ≡ kept = omega arith in
+    let text = take size bytes in
+    let many : length (take kept v) ≡ kept = length-take-le kept v (omega (arith, few, long)) in
     let own : All (λ b. holds b ≡ false) (take kept v) = clear-before holds v marks kept are clear in
     let front : take kept v ≡ take kept (drop r bytes) =
     sym (take-take kept 16 v few)
     ∙ sym (take-take kept (length bytes - r) (take 16 v) (omega (arith, within, inside)))
     ∙ ap (take kept) block
     ∙ take-take kept 16 (drop r bytes) few in
-    let back : take kept (drop r (take size bytes)) ≡ take kept (drop r bytes) =
+    let back : take kept (drop r text) ≡ take kept (drop r bytes) =
     ap (take kept) (ap (λ m. drop r (take m bytes)) (let e : size ≡ r + (size - r) = omega (arith, from) in e) ∙ drop-take r (size - r) bytes)
     ∙ take-take kept (size - r) (drop r bytes) within in
-    let same : take (r + kept - r) (drop r (take size bytes)) ≡ take kept v = ap (λ m. take m (drop r (take size bytes))) n ∙ back ∙ sym front in
     let plain : All (λ b. space ≤ b) (take kept v) = All-weaker (λ b. holds b ≡ false) (λ b. space ≤ b) (above-controls holds controls) (take kept v) own in
     record {
-      onwards = omega arith;
+      bytes = take kept v;
+      text_is = sym (take-append-drop kept (drop r text)) ∙ ap₂ (λ x y. x ++ y) (back ∙ sym front) (drop-drop kept r text);
+      read_is = omega (arith, many);
       read = omega (arith, length-take-le size bytes inside, within, from);
-      within = omega (arith, most);
-      clear = subst (All (λ b. holds b ≡ false)) (sym same) own;
-      printed = printed ∙ ap (λ v. take so_far.end old ++ v) (spelt (take kept v) plain ∙ ap printed_bytes (sym same));
+      few = omega (arith, most, many);
+      clear = own;
+      printed = printed ∙ ap (λ v. take so_far.end old ++ v) (spelt (take kept v) plain);
     }
   where
     above-controls : (holds : ℕ → Bool) → ((b : ℕ) → b < 0x20 → holds b ≡ true) → (b : ℕ) → holds b ≡ false → space ≤ b
@@ -450,60 +419,8 @@ slice-kept from end items0 items1 slice1 new2 items2 before same value stays bac
     ap (take from) back ∙ fewer-kept new2 slice1 from end before stays ∙ ap (take from) value ∙ fewer-kept items1 items0 from end before same
 
 -- And where a run is put.
-pub run-kept : (holds : ℕ → Bool) (text : List ℕ) (from at read : ℕ) (put : Put) (items0 items1 slice1 new2 items2 : List ℕ) → from ≤ at → at ≤ length slice1
-    → take at items1 ≡ take at items0 → slice1 ≡ items1 → IsRunPut holds slice1 at text read put new2 → put.end ≤ length new2 → items2 ≡ new2
-    → (from ≤ put.end) × (take from items2 ≡ take from items0)
-run-kept holds text from at read put items0 items1 slice1 new2 items2 before room same value run within back =
-    let kept = front-kept slice1 new2 (printed_bytes (take (put.read - read) (drop read text))) at at put.end (omega arith) room within run.printed in
-    (omega (arith, kept.0, before), slice-kept from at items0 items1 slice1 new2 items2 before same value kept.1 back)
-
--- ---- a front, and the rest
-
-pub rest-printed : (e : LineEncoding) (t : Repertoire) (escaped : Bool) (text old : List ℕ) (at : ℕ) (put : Put) (out rest new : List ℕ)
-    (r : Result ℕ UnescapeError) → IsWell e text
-    → ArePut e t escaped (from_on e t escaped old at text 0) text put out → IsWell e (drop put.read text) → rest ≡ drop put.read text
-    → Prints (meaning_in e escaped rest) (puts_of t) out put.end new r → Prints (meaning_in e escaped text) (puts_of t) old at new r
-rest-printed e t escaped text old at put out rest new (Ok end) w held own is h =
-    let whole : text_in_front (take at old) (printed_in e t escaped text) ≡ means (take end new) =
-    ap (text_in_front (take at old)) (sym (rest-well e t escaped text w))
-    ∙ held.printed
-    ∙ ap (text_in_front (take put.end out)) (rest-well e t escaped (drop put.read text) own ∙ ap (printed_in e t escaped) (sym is)
-    ∙ ap (printed_by t) h.means_it)
-    ∙ text_in_front-means (take put.end out) (puts_of t h.meant)
-    ∙ ap means (sym h.printed) in
-    let found = from-printed t (meaning_in e escaped text) (take at old) (take end new) whole in
-    record { within = h.within; meant = found.0; means_it = found.1; printed = found.2 }
-rest-printed e t escaped text old at put out rest new (Err (error.Malformed m)) w held own is h =
-    put-broken e t escaped text old at put out m w held
-    (rest-well e t escaped (drop put.read text) own ∙ ap (printed_in e t escaped) (sym is) ∙ ap (printed_by t) h)
-rest-printed e t escaped text old at put out rest new (Err error.Memory) w held own is h = tt
-
--- what is left of a text, as a slice of its bytes
-pub rest-at : (bytes : List ℕ) (size read : ℕ) → read ≤ size → take (size - read) (take (length bytes - read) (drop read bytes)) ≡ drop read (take size bytes)
-rest-at bytes size read h =
-    ap (take (size - read)) (taken-rest read bytes)
-    ∙ sym (drop-take read (size - read) bytes)
-    ∙ ap (λ m. drop read (take m bytes)) (let e : read + (size - read) ≡ size = omega (arith, h) in e)
-
--- the first run
-pub start-run : (holds : ℕ → Bool) (e : LineEncoding) (t : Repertoire) (text old : List ℕ) (at : ℕ) (items1 slice1 new2 items2 : List ℕ) (put : Put)
-    → StopsIn holds e t → ((i : ℕ) → get_or text i 0 < 256)
-    → at ≤ length old → IsWell e text → take at items1 ≡ take at old → length old ≤ length items1 → slice1 ≡ items1 → IsRunPut holds slice1 at text 0 put new2
-    → put.end ≤ length new2 → items2 ≡ new2
-    → ArePut e t (holds backslash) (from_on e t (holds backslash) old at text 0) text put items2
-start-run holds e t text old at items1 slice1 new2 items2 put s small room w same more value run within back =
-    let none : Put = record { read = 0; end = at } in
-    let one = put-none e t (holds backslash) text 0 at old (omega arith) room (subst (IsWell e) (sym (past-well e t text w)) w) in
-    let two = put-same e t (holds backslash) (from_on e t (holds backslash) old at text 0) text none old items1 one same more in
-    let three = put-run holds e t (from_on e t (holds backslash) old at text 0) text none put items1 new2 s two small
-    (subst (λ v. IsRunPut holds v at text 0 put new2) value run) within in
-    subst (ArePut e t (holds backslash) (from_on e t (holds backslash) old at text 0) text put) (sym back) three
-
--- what is left begins at a stop
-pub rest-own : (holds : ℕ → Bool) (e : LineEncoding) (t : Repertoire) (whole : Meaning) (text out : List ℕ) (put : Put) → StopsIn holds e t
-    → put.read < length text → holds (get_or text put.read 0) ≡ true
-    → ArePut e t (holds backslash) whole text put out → IsWell e (drop put.read text)
-rest-own holds e t whole text out put s inside stop held =
-    let first : get_or (drop put.read text) 0 0 ≡ get_or text put.read 0 = get_or-drop put.read text 0 0
-    ∙ ap (λ m. get_or text m 0) (let n : put.read + 0 ≡ put.read = omega arith in n) in
-    stop-well holds e t (drop put.read text) s (omega (arith, length-drop put.read text, inside)) (ap holds first ∙ stop) held.well
+pub run-kept : (holds : ℕ → Bool) (text : List ℕ) (from at read : ℕ) (put : Put) (old new : List ℕ) → from ≤ at → at ≤ length old
+    → IsRunPut holds old at text read put new → put.end ≤ length new → (from ≤ put.end) × (take from new ≡ take from old)
+run-kept holds text from at read put old new before room run within =
+    let kept = front-kept old new (printed_bytes run.bytes) from at put.end before room within run.printed in
+    (omega (arith, kept.0, before), kept.1)

@@ -33,15 +33,19 @@ use Rattle.properties_text.proofs.Spelt.First.{ascii-first}
 
 -- ---- a character
 
+-- ASCII is printed as its byte is, in each repertoire.
 pub put-ascii : (t : Repertoire) (c : ℕ) → c < 0x80 → put_of t c ≡ printed_byte c
 put-ascii t c h = ascii-printed (encoding_in t) (only_in t) c h
 
+-- In UTF-8, what is past ASCII is printed as it is.
 pub put-utf_8 : (c : ℕ) → 0x80 ≤ c → put_of repertoire.Utf8 c ≡ encode c
 put-utf_8 c h = rw (past-special c h, past-letter c h, past-control c h) (append-nil (encode c))
 
+-- In windows-1252, what has no byte is escaped.
 pub put-lacked : (c : ℕ) → 0x80 ≤ c → windows_1252_byte c ≡ None → put_of repertoire.Windows1252 c ≡ unicode_escape c
 put-lacked c h e = lacked-printed c h (ap is_some e)
 
+-- In ASCII alone, what is past ASCII is.
 pub put-escaped : (c : ℕ) → 0x80 ≤ c → put_of repertoire.Ascii c ≡ unicode_escape c
 put-escaped c h =
     ap (encoded_text utf_8) (
@@ -54,6 +58,7 @@ put-escaped c h =
 
 -- ---- characters in front of a meaning
 
+-- A character is printed in front of what follows it.
 pub printed-one : (t : Repertoire) (c : ℕ) (m : Meaning) → printed_by t (in_front c m) ≡ text_in_front (put_of t c) (printed_by t m)
 printed-one t c (means x) =
     ap means (encoded_text-append (encoding_in t) (printed_character (encoding_in t) (only_in t) in_key_or_value c)
@@ -63,12 +68,15 @@ printed-one t c (breaks kind) = sym (text_in_front-breaks (put_of t c) kind)
 
 -- ---- a byte that isn't inside a character
 
+-- A byte of ASCII isn't inside a character,
 pub not-inside : (b : ℕ) → b < 0x80 → is_inside b ≡ false
 not-inside b h = and_left (nat_le 0x80 b) (nat_lt b 0xc0) (lt-leb 0x80 b h)
 
+-- nor is the first byte of one past ASCII.
 leads : (b : ℕ) → 0xc0 ≤ b → is_inside b ≡ false
 leads b h = and_right (nat_le 0x80 b) (nat_lt b 0xc0) (le-ltb b 0xc0 h)
 
+-- The other bytes past ASCII are.
 is-inside : (b : ℕ) → 0x80 ≤ b → b < 0xc0 → is_inside b ≡ true
 is-inside b h k = and_from (nat_le 0x80 b) (nat_lt b 0xc0) (le-leb 0x80 b h) (lt-ltb b 0xc0 k)
 
@@ -103,6 +111,7 @@ rest-well Utf8 repertoire.Utf8 escaped bs w =
     let n = no-inside bs w in
     ap₂ (λ x y. text_in_front x (printed_in Utf8 repertoire.Utf8 escaped y)) n.0 n.1
 
+-- So no byte of a well-formed text is passed over.
 pub past-well : (e : LineEncoding) (t : Repertoire) (bs : List ℕ) → IsWell e bs → past_in e t bs ≡ bs
 past-well Windows1252 t bs w = refl
 past-well Utf8 repertoire.Windows1252 bs w = refl
@@ -117,6 +126,7 @@ meaning-itself : (escaped : Bool) (c : ℕ) (x : List ℕ) → (escaped ≡ true
 meaning-itself true c x h = meaning_of-itself c x (h refl)
 meaning-itself false c x h = refl
 
+-- It is printed in front of the rest.
 pub printed-itself : (e : LineEncoding) (t : Repertoire) (escaped : Bool) (bs rest : List ℕ) (c : ℕ) → text_in e bs ≡ c ∷ text_in e rest
     → (escaped ≡ true → (c == backslash) ≡ false)
     → printed_in e t escaped bs ≡ text_in_front (put_of t c) (printed_in e t escaped rest)
@@ -270,10 +280,12 @@ one-byte holds e t b bs s k f w = elim (cases_lt b 0x80) [
     copies true h = refl
     copies false h = absurd (cc)
 
+-- Bytes of a run are printed one by one, and then the rest.
 pub record IsRun (e : LineEncoding) (t : Repertoire) (escaped : Bool) (xs bs : List ℕ) : Type 0 where
   pub printed : rest_in e t escaped (xs ++ bs) ≡ text_in_front (printed_bytes xs) (rest_in e t escaped bs)
   pub well : IsWell e (past_in e t bs)
 
+-- They are, in each encoding: no stop is among them.
 pub run-of : (holds : ℕ → Bool) (e : LineEncoding) (t : Repertoire) (xs bs : List ℕ) → StopsIn holds e t → All (λ b. b < 256) xs → All (λ b. holds b ≡ false) xs
     → IsWell e (past_in e t (xs ++ bs)) → IsRun e t (holds backslash) xs bs
 run-of holds e t [] bs s small clear w = record { printed = refl; well = w }

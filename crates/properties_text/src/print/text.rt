@@ -1,12 +1,13 @@
 // Prints a key or a value from its bytes: by turns a run of bytes that are copied or get a backslash, and a character at
 // which such a run stops.
 
-ghost use Rattle.std.specs.Prelude.{◌≡◌, ◌+◌, ◌-◌, ◌*◌, ◌<◌, ◌≤◌, ◌++◌, ℕ, Bool, true, false, length, take, drop, get_or, IfOk};
+ghost use Rattle.std.specs.Prelude.{◌≡◌, ◌+◌, ◌-◌, ◌*◌, ◌<◌, ◌≤◌, ◌++◌, ℕ, Bool, true, false, length, take, drop, get_or, IfOk, IsOkUnless};
+ghost use Rattle.properties_text.specs.declared.escape.UnescapeError.TheVariants.{Memory};
 ghost use Rattle.properties_format.specs.Text.{backslash};
 ghost use Rattle.properties_text.specs.Spelt.{IsWell};
 ghost use Rattle.properties_format.specs.Printing.{literal, encoded_text};
 ghost use Rattle.properties_text.specs.Printing.{encoding_in, only_in, put_of, puts_of};
-ghost use Rattle.properties_text.specs.PrintedTexts.{past_in, ReadsBy, PutsStops, IsRunPut, StopsIn, meaning_in, Prints};
+ghost use Rattle.properties_text.specs.PrintedTexts.{past_in, ReadsBy, PutsStops, PrintsRest, IsRunPut, StopsIn, meaning_in, Prints};
 
 use super::Repertoire;
 use super::bytes::{first_16, put_16, put_any, put_byte};
@@ -117,7 +118,7 @@ fn begins_with_stop<Stops: ByteClass>(text: &[u8]) -> bool
     begins_escape::<Stops>(text) || Stops::contains(text[0])
 }
 
-// Does what `print_bytes` does for a text that begins with a stop. Kept out of line because most texts have no stops.
+// Puts the rest of a text, which begins with a stop. Kept out of line because most texts have no stops.
 #[inline(never)]
 fn print_rest<Stops: ByteClass>(
     out: &mut Vec<u8>,
@@ -126,32 +127,25 @@ fn print_rest<Stops: ByteClass>(
     encoding: LineEncoding,
     bytes: &[u8],
     size: usize,
+    from: usize,
 ) -> Result<usize, UnescapeError>
     requires size { size ≤ length bytes.now }
+    requires from { from ≤ size }
     requires at { at ≤ length out.old.items }
     requires stops { StopsIn Stops.holds encoding repertoire }
-    requires well { IsWell encoding (take size bytes.now) }
-    requires begins { 0 < size → Stops.holds (get_or (take size bytes.now) 0 0) ≡ true }
-    ensures printed { Prints (meaning_in encoding (Stops.holds backslash) (take size bytes.now)) (puts_of repertoire) out.old.items at out.new.items result }
+    requires well { IsWell encoding (past_in encoding repertoire (drop from (take size bytes.now))) }
+    requires begins { from < size → Stops.holds (get_or (take size bytes.now) from 0) ≡ true }
+    ensures printed { PrintsRest encoding repertoire (Stops.holds backslash) out.old.items at (take size bytes.now) from out.new.items result }
     ensures same { take at out.new.items ≡ take at out.old.items }
     ensures longer { length out.old.items ≤ length out.new.items }
 {
-    let mut put = Put { read: 0, end: at };
+    let mut put = Put {
+        read: from,
+        end: at,
+    };
     while put.read < size {
-        make_room(out, put.end, LONGEST)?;
-        put = match put_stops::<Stops>(
-            out,
-            put.end,
-            repertoire,
-            encoding,
-            &bytes[..size],
-            put.read,
-        ) {
-            Ok(next) => next,
-            Err(malformed) => return Err(UnescapeError::Malformed(malformed)),
-        };
-        make_room_for(out, put.end, size - put.read)?;
-        put = put_run::<Stops>(out, put.end, bytes, size, put.read);
+        put = print_stops::<Stops>(out, put.end, repertoire, encoding, &bytes[..size], put.read)?;
+        put = print_run::<Stops>(out, put.end, bytes, size, put.read)?;
     }
     Ok(put.end)
 }
@@ -171,6 +165,30 @@ fn make_room_for(out: &mut Vec<u8>, at: usize, size: usize) -> Result<(), AllocE
     make_room(out, at, (2 * size).saturating_add(ROOM))
 }
 
+// Makes room for a character, and puts the characters at which a run stops, from index `from` on.
+#[inline(always)]
+fn print_stops<Stops: ByteClass>(
+    out: &mut Vec<u8>,
+    at: usize,
+    repertoire: Repertoire,
+    encoding: LineEncoding,
+    text: &[u8],
+    from: usize,
+) -> Result<Put, UnescapeError>
+    requires from { from ≤ length text.now }
+    requires at { at ≤ length out.old.items }
+    requires stops { StopsIn Stops.holds encoding repertoire }
+    requires well { IsWell encoding (past_in encoding repertoire (drop from text.now)) }
+    ensures put { PutsStops encoding repertoire (Stops.holds backslash) out.old.items at text.now from out.new.items result }
+    ensures same { take at out.new.items ≡ take at out.old.items }
+    ensures longer { length out.old.items ≤ length out.new.items }
+    ensures after { IfOk result (λ put. at ≤ put.end) }
+    ensures onwards { IfOk result (λ put. from < length text.now → Stops.holds (get_or text.now from 0) ≡ true → from < put.read) }
+{
+    make_room(out, at, LONGEST)?;
+    put_stops::<Stops>(out, at, repertoire, encoding, text, from)
+}
+
 // Puts the characters at which a run stops, as long as there is room. A byte between two of them is put too, since often
 // a blank stands there.
 #[inline(always)]
@@ -181,7 +199,7 @@ fn put_stops<Stops: ByteClass>(
     encoding: LineEncoding,
     text: &[u8],
     from: usize,
-) -> Result<Put, Malformed>
+) -> Result<Put, UnescapeError>
     requires from { from ≤ length text.now }
     requires room { at + 12 ≤ length out.old }
     requires stops { StopsIn Stops.holds encoding repertoire }
@@ -201,7 +219,7 @@ fn put_stops<Stops: ByteClass>(
         if begins_with_stop::<Stops>(rest) {
             let first = match first_character::<Stops>(encoding, rest) {
                 Ok(first) => first,
-                Err(malformed) => return Err(malformed),
+                Err(malformed) => return Err(UnescapeError::Malformed(malformed)),
             };
             let end = put_printed(out, put.end, repertoire, first.character);
             put = Put {
@@ -243,19 +261,35 @@ pub fn print_bytes<Stops: ByteClass>(
     ensures same { take at out.new.items ≡ take at out.old.items }
     ensures longer { length out.old.items ≤ length out.new.items }
 {
-    make_room_for(out, at, size)?;
-    let put = put_run::<Stops>(out, at, bytes, size, 0);
+    let put = print_run::<Stops>(out, at, bytes, size, 0)?;
     if put.read < size {
-        return print_rest::<Stops>(
-            out,
-            put.end,
-            repertoire,
-            encoding,
-            &bytes[put.read..],
-            size - put.read,
-        );
+        return print_rest::<Stops>(out, put.end, repertoire, encoding, bytes, size, put.read);
     }
     Ok(put.end)
+}
+
+// Makes room for a text from index `from` on, and puts it up to a stop.
+#[inline(always)]
+fn print_run<Stops: ByteClass>(
+    out: &mut Vec<u8>,
+    at: usize,
+    bytes: &[u8],
+    size: usize,
+    from: usize,
+) -> Result<Put, UnescapeError>
+    requires size { size ≤ length bytes.now }
+    requires from { from ≤ size }
+    requires at { at ≤ length out.old.items }
+    requires controls { (b : ℕ) → b < 0x20 → Stops.holds b ≡ true }
+    ensures run { IfOk result (λ put. IsRunPut Stops.holds out.old.items at (take size bytes.now) from put out.new.items) }
+    ensures within { IfOk result (λ put. put.end ≤ length out.new.items) }
+    ensures stops { IfOk result (λ put. put.read < size → Stops.holds (get_or (take size bytes.now) put.read 0) ≡ true) }
+    ensures refused { IsOkUnless result Memory }
+    ensures same { take at out.new.items ≡ take at out.old.items }
+    ensures longer { length out.old.items ≤ length out.new.items }
+{
+    make_room_for(out, at, size - from)?;
+    Ok(put_run::<Stops>(out, at, bytes, size, from))
 }
 
 // Puts the text from index `from` on, up to a stop.

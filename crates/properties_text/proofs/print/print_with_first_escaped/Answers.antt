@@ -3,8 +3,8 @@ use Rattle.std.proofs.lemmas.List.{length-take-le}
 use Rattle.properties_format.specs.Text.{backslash}
 use Rattle.properties_format.specs.Printing.{unicode_escape}
 use Rattle.properties_text.specs.Spelt.{IsWell}
-use Rattle.properties_text.proofs.PrintedTexts.Keys.{escaped-rest}
-use Rattle.properties_text.proofs.PrintedTexts.Runs.{rest-at, written-back, front-kept, fewer-kept, slice-kept}
+use Rattle.properties_text.proofs.PrintedTexts.Keys.{escaped-rest, rest-at}
+use Rattle.properties_text.proofs.PrintedTexts.Runs.{written-back, front-kept, fewer-kept, slice-kept}
 use Rattle.properties_text.proofs.print.print_with_first_escaped.Goals as goal
 
 pub returns-clause-printed : goal.returns-clause-printed
@@ -36,15 +36,9 @@ returns-clause-same g c =
     let room : length put.new.out ≡ c.make_room.new.bytes.len = put.ensures.same_room ∙ ap length c.deref_mut.ensures.value ∙ sym c.make_room.new.bytes.ok.0 in
     let back = written-back c.make_room.new.bytes.len put.new.out (drop (length put.new.out) c.make_room.new.bytes.items) room in
     let wide = c.in_ok-make_room.ensures.room in
+    let value = ap length c.deref_mut.ensures.value in
     let kept = front-kept c.deref_mut.result.now put.new.out (unicode_escape c.in-Ok.first.character) c.args.at c.args.at put.result (omega arith)
-    (omega (arith, wide, ap length c.deref_mut.ensures.value)) (omega (
-      arith,
-      put.ensures.within,
-      put.ensures.same_room,
-      wide,
-      ap length
-          c.deref_mut.ensures.value,
-    )) put.ensures.put in
+    (omega (arith, wide, value)) (omega (arith, put.ensures.within, put.ensures.same_room, wide, value)) put.ensures.put in
     fewer-kept c.print_bytes.new.out.items _ c.args.at put.result kept.0 c.print_bytes.ensures.same
     ∙ slice-kept c.args.at c.args.at c.args.out.now.items c.make_room.new.bytes.items c.deref_mut.result.now put.new.out _ (omega arith)
     c.in_ok-make_room.ensures.same c.deref_mut.ensures.value kept.1 back

@@ -10,7 +10,7 @@ invariant-loop-put g l = record {
   longer : length l.fn.out.items ≤ length l.out.items;
   stop : l.put.read < l.size → g.Stops.ByteClass.holds (get_or (take l.size l.bytes) l.put.read 0) ≡ true;
   put : ArePut l.encoding l.repertoire (g.Stops.ByteClass.holds backslash) (from_on l.encoding l.repertoire (g.Stops.ByteClass.holds backslash) l.fn.out.items
-      l.at (take l.size l.bytes) 0) (take l.size l.bytes) l.put l.out.items;
+      l.at (take l.size l.bytes) l.from) (take l.size l.bytes) l.put l.out.items;
 }
 
 abbrev pub decreases-loop-put : goal.decreases-loop-put

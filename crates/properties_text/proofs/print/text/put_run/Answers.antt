@@ -1,26 +1,26 @@
-use Rattle.std.proofs.Common.{◌≡◌, ◌++◌, length, get_or, take, refl, sym, ap, ◌∙◌, arith}
+use Rattle.std.proofs.Common.{◌≡◌, ◌<◌, ◌+◌, ◌++◌, length, get_or, take, sym, ap, ◌∙◌, arith}
 use Rattle.std.proofs.lemmas.List.{length-take-le, get_or-take}
 use Rattle.properties_text.specs.Printing.{printed_byte}
-use Rattle.properties_text.proofs.PrintedTexts.Runs.{run-more, run-on, run-none, run-is}
+use Rattle.properties_text.proofs.PrintedTexts.Runs.{run-byte, run-on, run-none, run-is}
 use Rattle.properties_text.specs.declared.print.text.Put.{Put}
 use Rattle.properties_text.proofs.print.text.put_run.Goals as goal
 use Rattle.properties_text.proofs.print.text.put_run.Goals.{then-size-from-ge-FEW+then-size-put-ge8, then-size-from-ge-FEW+else-size-put-ge8, else-size-from-ge-FEW}
 
 pub loop-put-2-preserved : goal.loop-put-2-preserved
 loop-put-2-preserved g c =
-    let size : length (take c.args.size c.args.bytes.now) ≡ c.args.size = length-take-le c.args.size c.args.bytes.now c.requires.size in
-    let same : get_or (take c.args.size c.args.bytes.now) c.loop-put-2.put.read 0 ≡ get_or c.args.bytes.now c.loop-put-2.put.read 0 = get_or-take c.args.size
-    c.args.bytes.now c.loop-put-2.put.read 0 c.loop-put-2-test.true in
+    let text = take c.args.size c.args.bytes.now in
+    let loop = c.loop-put-2 in
+    let size : length text ≡ c.args.size = length-take-le c.args.size c.args.bytes.now c.requires.size in
+    let same : get_or text loop.put.read 0 ≡ get_or c.args.bytes.now loop.put.read 0 = get_or-take c.args.size c.args.bytes.now loop.put.read 0 c.loop-put-2-test.true in
     let own = c.put_byte-end.ensures in
-    let t = c.loop-put-2-test.true in
-    let k = c.contains.ensures in
-    let l = c.if-not-contains.true in
+    let clear = ap g.Stops.ByteClass.holds same ∙ sym c.contains.ensures ∙ c.if-not-contains.true in
+    let inside : loop.put.read < length text = omega (arith, size, c.loop-put-2-test.true) in
     record {
-      same = own.length ∙ c.loop-put-2.invariant.same;
-      run = run-more g.Stops.ByteClass.holds c.args.out.now c.args.at (take c.args.size c.args.bytes.now) c.args.from c.loop-put-2.put c.loop-put-2.out
-          c.put_byte-end.new.out c.put_byte-end.result
-          c.loop-put-2.invariant.run (omega (arith, size, t)) (ap g.Stops.ByteClass.holds same ∙ sym k ∙ l) own.within
-          (own.printed ∙ ap (λ v. take c.loop-put-2.put.end c.loop-put-2.out ++ printed_byte v) (sym same));
+      same = own.length ∙ loop.invariant.same;
+      run = run-on g.Stops.ByteClass.holds c.args.out.now c.args.at text c.args.from loop.put record { read = loop.put.read + 1; end = c.put_byte-end.result }
+          loop.out c.put_byte-end.new.out loop.invariant.run
+          (run-byte g.Stops.ByteClass.holds loop.out loop.put.end text loop.put.read c.put_byte-end.result c.put_byte-end.new.out inside clear own.within
+          (own.printed ∙ ap (λ v. take loop.put.end loop.out ++ printed_byte v) (sym same)));
     }
 
 pub loop-put-preserved : goal.loop-put-preserved
@@ -55,7 +55,7 @@ loop-put-2-init g c =
       | else-size-from-ge-FEW w ↦ record {
         same = ap length w.out-is;
         run = is start c.if-size-from-ge-FEW.put c.args.out.now c.if-size-from-ge-FEW.out w.put-is w.out-is
-            (run-none g.Stops.ByteClass.holds c.args.out.now c.args.at text start (omega (arith, size, c.requires.from)) refl);
+            (run-none g.Stops.ByteClass.holds c.args.out.now c.args.at text c.args.from (omega (arith, size, c.requires.from)));
       }
     ]
 
