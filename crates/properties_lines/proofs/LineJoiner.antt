@@ -142,7 +142,8 @@ start-pends s text = elim (cases_Bool s.is_done) [
 ]
 
 -- bytes after bytes
-regroup : (join : Option format.Line) (s : ReaderState) (r q d : List ℕ) (ending : InputEnd) → entries_pending join s ((r ++ q) ++ d) ending ≡ entries_pending join s (r ++ (q ++ d)) ending
+regroup : (join : Option format.Line) (s : ReaderState) (r q d : List ℕ) (ending : InputEnd)
+    → entries_pending join s ((r ++ q) ++ d) ending ≡ entries_pending join s (r ++ (q ++ d)) ending
 regroup join s r q d ending = ap (λ v. entries_pending join s v ending) (append_assoc r q d)
 
 abbrev joint : ℕ → List ℕ → format.Line
@@ -201,7 +202,8 @@ module _ {R : Type 0} {reader : Reader R} where
   }
 
   -- what was held at first did not close the join, if what is held now gives no line
-  lazy-none : {s t : ReaderState} {from to : R} {old r text : List ℕ} → GoesOn reader s from old r text t to → t.is_done ≡ false → natural_to_come t [] more ≡ []
+  lazy-none : {s t : ReaderState} {from to : R} {old r text : List ℕ} → GoesOn reader s from old r text t to → t.is_done ≡ false
+      → natural_to_come t [] more ≡ []
       → (number : ℕ) → entries_pending (join_of number old) s [] more ≡ []
   lazy-none {s} {t} {from} {to} {old} {r} {text} h g none = by-lazy h.lazy
     where
@@ -316,7 +318,8 @@ module _ {R : Type 0} {reader : Reader R} where
   })
 
   -- no more lines came
-  pub joins-over : {from at to : R} {old r text : List ℕ} (before lines after : Finder) (failed : Bool) → GoesOn reader before.state from old r text lines.state at
+  pub joins-over : {from at to : R} {old r text : List ℕ} (before lines after : Finder) (failed : Bool)
+      → GoesOn reader before.state from old r text lines.state at
       → lines.error ≡ None → Finds reader lines at false after to → failed ≡ is_some after.error → JoinsOn reader before from old (not failed) after to text
   joins-over before lines after failed h e (inl n) f =
       let state = ap (λ v. let w : Finder = v in w.state) n.1 in
@@ -329,7 +332,8 @@ module _ {R : Type 0} {reader : Reader R} where
 
 -- ---- what is known of a line
 
-pub known-plain : (f : Finder) (has_backslash : Bool) → HasRightLineFlags f → has_backslash ≡ f.has_backslash → has_backslash ≡ false → holds_backslash f.line ≡ false
+pub known-plain : (f : Finder) (has_backslash : Bool) → HasRightLineFlags f → has_backslash ≡ f.has_backslash → has_backslash ≡ false
+    → holds_backslash f.line ≡ false
 known-plain f has_backslash h told k = sym (h 0 0).backslash ∙ sym told ∙ k
 
 -- ---- logical lines
@@ -366,7 +370,8 @@ join-comes {s} {t} {u} {r} {q} l (Passes.at_last f gives) c o (Closes.at_last e 
     )
 
 -- so is its group
-alone-group : {s t : ReaderState} {r : List ℕ} (l : format.Line) → Passes s r (l ∷ []) t → (is_comment_line l.text ≡ true) ⊎ (is_open l.text ≡ false) → JoinsGroup s r l t
+alone-group : {s t : ReaderState} {r : List ℕ} (l : format.Line) → Passes s r (l ∷ []) t → (is_comment_line l.text ≡ true) ⊎ (is_open l.text ≡ false)
+    → JoinsGroup s r l t
 alone-group l p (inl c) = record {
   first = l;
   others = [];
@@ -438,7 +443,8 @@ module _ {R : Type 0} {reader : Reader R} where
   lazy-join {s} {from} {to} {next} {q} number mid n c o idle lazy = by-find n.lazy
     where
       by-passes : n.bytes ≡ [] → to ≡ from → Passes s n.bytes (found_line number mid ∷ []) mid.state
-          → ((first : ℕ) → entries_pending (join_of first (without_open_backslash (line_text mid))) mid.state [] more ≡ []) → IsLazyItems s from (n.bytes ++ q) next
+          → ((first : ℕ) → entries_pending (join_of first (without_open_backslash (line_text mid))) mid.state [] more ≡ [])
+          → IsLazyItems s from (n.bytes ++ q) next
       by-passes e k (Passes.going_on f reads) none =
           inr (ap (λ v. items_to_come s (v ++ []) more) (sym e) ∙ (on-open (on-start s) reads c o).items [] more ∙ none number)
       by-passes e k (Passes.at_last f gives) none = let i = idle f in inl (i.1 ∙ k, ap₂ (λ v w. v ++ w) e i.0)
@@ -451,8 +457,10 @@ module _ {R : Type 0} {reader : Reader R} where
       ]
 
   -- the line and those after it are one
-  joins-joined : {s : ReaderState} {from to next : R} (number : ℕ) (mid : Finder) (text : List ℕ) (new : ReaderState) → finder.FindsNext reader s from number mid to
-      → is_comment_line (line_text mid) ≡ false → is_open (line_text mid) ≡ true → JoinsAll reader mid.state to (without_open_backslash (line_text mid)) text new next
+  joins-joined : {s : ReaderState} {from to next : R} (number : ℕ) (mid : Finder) (text : List ℕ) (new : ReaderState)
+      → finder.FindsNext reader s from number mid to
+      → is_comment_line (line_text mid) ≡ false → is_open (line_text mid) ≡ true
+      → JoinsAll reader mid.state to (without_open_backslash (line_text mid)) text new next
       → JoinsLine reader s from (record { number = number; text = text }) new next
   joins-joined {next = next} number mid text new n c o j = record {
     bytes = n.bytes ++ j.bytes;
@@ -534,7 +542,8 @@ natural-bytes Natural natural decoded joined h = refl
 natural-bytes Decoded natural decoded joined h = absurd (cc)
 natural-bytes Joined natural decoded joined h = absurd (cc)
 
-joined-bytes : (place : Place) (natural decoded joined : List ℕ) → place ≡ Joined → (bytes_at place natural decoded joined ≡ joined) × (is_natural place ≡ false)
+joined-bytes : (place : Place) (natural decoded joined : List ℕ) → place ≡ Joined
+    → (bytes_at place natural decoded joined ≡ joined) × (is_natural place ≡ false)
 joined-bytes place natural decoded joined h = rw h (refl, refl)
 
 -- a search found no backslash
@@ -544,7 +553,8 @@ none-found bytes (Some at) h k = absurd (cc)
 
 module _ {R : Type 0} {reader : Reader R} where
   -- the line is a logical line
-  pub reads-alone : {from : R} (found : Finder) (line : LogicalLine) (has_backslash : Bool) → IsNotContinued (line_text found) → HasText line found.line (line_text found)
+  pub reads-alone : {from : R} (found : Finder) (line : LogicalLine) (has_backslash : Bool) → IsNotContinued (line_text found)
+      → HasText line found.line (line_text found)
       → HasRightLineFlags found → (has_backslash ≡ false → holds_backslash found.line ≡ false) → found.error ≡ None
       → ReadsWhole reader found from found.state.passed found line has_backslash from
   reads-alone {from} found line has_backslash c h flags plain error = record {
@@ -557,13 +567,17 @@ module _ {R : Type 0} {reader : Reader R} where
     ascii = λ k.
         let both = and_parts found.is_ascii (is_natural line.place) k in
         subst IsAscii (sym (natural-bytes line.place found.line line.decoded line.joined both.1)) ((flags 0 0).ascii.0 both.0).1;
-    plain = λ k. sym (holds-in line.encoding (bytes_with line found.line) h.well) ∙ ap holds_backslash h.is ∙ unescaped-decoded found.state.encoding found.line (plain k);
+    plain = λ k. sym (holds-in line.encoding (bytes_with line found.line) h.well) ∙ ap holds_backslash h.is
+        ∙ unescaped-decoded found.state.encoding found.line (plain k);
   }
 
   -- and so is it with the lines that are joined to it
-  pub reads-joined : {from to : R} (found lines : Finder) (begun line : LogicalLine) (has_backslash : Bool) → OpensJoin found.state.encoding (line_text found) begun
-      → JoinsAll reader found.state from (unfinished_text begun) (unfinished_text line) lines.state to → lines.error ≡ None → line.place ≡ Joined → IsWell line.encoding line.joined
-      → (has_backslash ≡ false → holds_backslash (bytes_with line lines.line) ≡ false) → ReadsWhole reader found from found.state.passed lines line has_backslash to
+  pub reads-joined : {from to : R} (found lines : Finder) (begun line : LogicalLine) (has_backslash : Bool)
+      → OpensJoin found.state.encoding (line_text found) begun
+      → JoinsAll reader found.state from (unfinished_text begun) (unfinished_text line) lines.state to → lines.error ≡ None → line.place ≡ Joined
+      → IsWell line.encoding line.joined
+      → (has_backslash ≡ false → holds_backslash (bytes_with line lines.line) ≡ false)
+      → ReadsWhole reader found from found.state.passed lines line has_backslash to
   reads-joined {from} {to} found lines begun line has_backslash o j error place well plain =
       let P : List ℕ → Type 0 = λ v. JoinsAll reader found.state from v (unfinished_text line) lines.state to in
       let at = joined-bytes line.place lines.line line.decoded line.joined place in
@@ -626,8 +640,10 @@ module _ {R : Type 0} {reader : Reader R} where
 
   -- the line is borrowed
   pub joins-borrowed : {from to : R} (old : Joining) (found : Finder) (line : LogicalLine) (has_backslash : Bool)
-      → finder.FindsNext reader old.at.state from found.state.passed found to × HasRightLineFlags found × (found.error ≡ None) → has_backslash ≡ found.has_backslash
-      → line.place ≡ Natural → line_of line.encoding ≡ output_encoding found.state.encoding → IsLineIn found.state.encoding found.line → is_open found.line ≡ false
+      → finder.FindsNext reader old.at.state from found.state.passed found to × HasRightLineFlags found × (found.error ≡ None)
+      → has_backslash ≡ found.has_backslash
+      → line.place ≡ Natural → line_of line.encoding ≡ output_encoding found.state.encoding → IsLineIn found.state.encoding found.line
+      → is_open found.line ≡ false
       → Advances reader old from (Some found.state.passed) (joining found line has_backslash) to
   joins-borrowed {to = to} old found line has_backslash n same place to_is told closed =
       let b = line-in found.state.encoding line.encoding found.line to_is told in
@@ -641,7 +657,8 @@ module _ {R : Type 0} {reader : Reader R} where
 
 module _ {R : Type 0} {reader : Reader R} where
   -- these bytes are its text
-  pub joins-text : {from to : R} (old new : Joining) (number : ℕ) (encoding : LineEncoding) (is_ascii : Bool) (line : List ℕ) → JoinsBytes reader old from number new to
+  pub joins-text : {from to : R} (old new : Joining) (number : ℕ) (encoding : LineEncoding) (is_ascii : Bool) (line : List ℕ)
+      → JoinsBytes reader old from number new to
       → IsTextOf (text_in new.encoding new.at.line) line
       → Joins reader old from (Some number) (record new { at = record new.at { line = line }; encoding = encoding; is_ascii = is_ascii }) to
   joins-text {from} {to} old new number encoding is_ascii line h text =

@@ -105,7 +105,8 @@ module _ (e : LineEncoding) (bytes text : List ℕ) (b : IsBytesOf e bytes text)
   alone-text h = stands-alone text (continued-alike ∙ h)
 
   -- The line is continued.
-  pub opened-text : (asked : Encoding) (line : LogicalLine) → is_continued bytes ≡ true → line.place ≡ Joined → line.encoding ≡ e → line_of e ≡ output_encoding asked
+  pub opened-text : (asked : Encoding) (line : LogicalLine) → is_continued bytes ≡ true → line.place ≡ Joined → line.encoding ≡ e
+      → line_of e ≡ output_encoding asked
       → line.joined ≡ without_open_backslash bytes → OpensJoin asked text line
   opened-text asked line h place same is cut =
       let both = continued-both text (continued-alike ∙ h) in
@@ -162,7 +163,8 @@ ascii-text Windows1252 bytes h = record { utf8 = IsUtf8-from_ascii bytes h; char
 ascii-text Utf8 bytes h = record { utf8 = IsUtf8-from_ascii bytes h; characters = refl }
 
 -- Bytes of windows-1252 were decoded.
-pub decoded-text : (e : LineEncoding) (bytes new : List ℕ) → e ≡ Windows1252 → IsUtf8 new → chars new ≡ decoded_line windows_1252 bytes → IsTextOf (text_in e bytes) new
+pub decoded-text : (e : LineEncoding) (bytes new : List ℕ) → e ≡ Windows1252 → IsUtf8 new → chars new ≡ decoded_line windows_1252 bytes
+    → IsTextOf (text_in e bytes) new
 decoded-text Windows1252 bytes new same u h = record { utf8 = u; characters = h ∙ decodes bytes }
 decoded-text Utf8 bytes new same u h = absurd (cc)
 

@@ -200,7 +200,8 @@ moved-text held at to w u l (inr more) = subst (λ n. IsUtf8 (between n w held))
 
 -- ---- a line was found
 
-found-text : (old new : Scanner) (held : List ℕ) (ended : Bool) (w : ℕ) → Fits old held → IsTested old held w → GivesLine old held ended new → encoding_of new.encoding ≡ utf_8
+found-text : (old new : Scanner) (held : List ℕ) (ended : Bool) (w : ℕ) → Fits old held → IsTested old held w → GivesLine old held ended new
+    → encoding_of new.encoding ≡ utf_8
     → KnowsText new held w
 found-text old new held ended w f t g is =
     let e = encoding_of new.encoding in
@@ -225,7 +226,8 @@ found-text old new held ended w f t g is =
       around = inr (record { order = g.cut.ordered.1; within = g.cut.ordered.2; ascii = ascii; ends = ends });
     }
 
-tested-line : (old new : Scanner) (held : List ℕ) (ended : Bool) (w : ℕ) → Fits old held → IsTested old held w → GivesLine old held ended new → IsTested new held w
+tested-line : (old new : Scanner) (held : List ℕ) (ended : Bool) (w : ℕ) → Fits old held → IsTested old held w → GivesLine old held ended new
+    → IsTested new held w
 tested-line old new held ended w f t g = record {
   within = t.within;
   known = λ some.
@@ -237,7 +239,8 @@ tested-line old new held ended w f t g = record {
 
 -- ---- no line was found yet
 
-more-text : (s new : Scanner) (held : List ℕ) (w : ℕ) → KnowsText s held w → w ≤ length held → new.at ≤ length held → new.line ≡ s.line → new.is_done ≡ s.is_done → Moves held s.at new.at
+more-text : (s new : Scanner) (held : List ℕ) (w : ℕ) → KnowsText s held w → w ≤ length held → new.at ≤ length held → new.line ≡ s.line
+    → new.is_done ≡ s.is_done → Moves held s.at new.at
     → KnowsText new held w
 more-text s new held w t l m line done moved = record {
   ahead = moved-text held s.at new.at w t.ahead l moved;
@@ -297,7 +300,8 @@ tested-more old new held w f t g = record {
   ];
 }
 
-pub tested-scan : (old new : Scanner) (held : List ℕ) (ended : Bool) (w : ℕ) (answer : Scan) → Fits old held → IsTested old held w → Scans old held ended answer new
+pub tested-scan : (old new : Scanner) (held : List ℕ) (ended : Bool) (w : ℕ) (answer : Scan) → Fits old held → IsTested old held w
+    → Scans old held ended answer new
     → IsTested new held w
 tested-scan old new held ended w scan.Line f t g = tested-line old new held ended w f t g
 tested-scan old new held ended w scan.More f t g = tested-more old new held w f t g.1
@@ -324,7 +328,8 @@ tested-ended s held w t = record {
 }
 
 -- Bytes at the front were let go.
-pub tested-left : (s new : Scanner) (held rest : List ℕ) (gone w : ℕ) → IsTested s held w → gone ≤ s.at → new ≡ release s gone → rest ≡ drop gone held → IsTested new rest (w - gone)
+pub tested-left : (s new : Scanner) (held rest : List ℕ) (gone w : ℕ) → IsTested s held w → gone ≤ s.at → new ≡ release s gone → rest ≡ drop gone held
+    → IsTested new rest (w - gone)
 tested-left s new held rest gone w t l is same =
     subst (λ v. IsTested v rest (w - gone)) (sym is) (subst (λ v. IsTested (release s gone) v (w - gone)) (sym same) (record {
       within = omega (arith, t.within, length-drop gone held);
@@ -339,7 +344,8 @@ tested-left s new held rest gone w t l is same =
     }))
 
 -- Bytes were added after those that are held.
-pub tested-filled : (s : Scanner) (held all more : List ℕ) (w : ℕ) → IsTested s held w → s.at ≤ length held → s.line.start ≡ s.line.end → all ≡ held ++ more → IsTested s all w
+pub tested-filled : (s : Scanner) (held all more : List ℕ) (w : ℕ) → IsTested s held w → s.at ≤ length held → s.line.start ≡ s.line.end
+    → all ≡ held ++ more → IsTested s all w
 tested-filled s held all more w t l empty same = subst (λ v. IsTested s v w) (sym same) (record {
   within = omega (arith, t.within, length-append held more);
   known = t.known;
@@ -348,7 +354,8 @@ tested-filled s held all more w t l empty same = subst (λ v. IsTested s v w) (s
     ahead = elim (cases_lt s.at w) [
       | inl less ↦
           let kept : between s.at w (held ++ more) ≡ between s.at w held =
-          ap (take (w - s.at)) (drop-append-le s.at held more l) ∙ take-append-le (w - s.at) (drop s.at held) more (omega (arith, length-drop s.at held, t.within)) in
+          ap (take (w - s.at)) (drop-append-le s.at held more l)
+              ∙ take-append-le (w - s.at) (drop s.at held) more (omega (arith, length-drop s.at held, t.within)) in
           subst IsUtf8 (sym kept) (t.text d e).ahead
       | inr past ↦ subst IsUtf8 (sym (between-none s.at w (held ++ more) past)) no-bytes
     ];
@@ -399,7 +406,8 @@ module _ (s : Scanner) (held : List ℕ) (w most n : ℕ) (t : IsTested s held w
       omega (arith, h)
 
   -- The test says whether the line is well-formed.
-  pub tells-text : (b : Bool) → (b ≡ true → s.line.end ≤ s.line.start + n) → (b ≡ false → s.line.start + n < s.line.end) → TellsLine utf_8 (bytes_of held s.line) b
+  pub tells-text : (b : Bool) → (b ≡ true → s.line.end ≤ s.line.start + n) → (b ≡ false → s.line.start + n < s.line.end)
+      → TellsLine utf_8 (bytes_of held s.line) b
   tells-text true h k = well_formed-from_IsUtf8 (bytes_of held s.line) (reached (h refl))
   tells-text false h k = λ w. not-reached (k refl) (IsUtf8-from_well_formed (bytes_of held s.line) w)
 
@@ -422,7 +430,8 @@ some-byte f flags e not = elim (cases_lt 0 (length f.line)) [
       absurd (let a : f.is_ascii ≡ true = ascii in cc)
 ]
 
-pub known-text : (s : Scanner) (held : List ℕ) (w : ℕ) (e : Encoding) (b : Bool) → IsTested s held w → is_decided s.front ≡ true → encoding_of s.encoding ≡ utf_8 → e ≡ utf_8 → s.line.end ≤ w
+pub known-text : (s : Scanner) (held : List ℕ) (w : ℕ) (e : Encoding) (b : Bool) → IsTested s held w → is_decided s.front ≡ true
+    → encoding_of s.encoding ≡ utf_8 → e ≡ utf_8 → s.line.end ≤ w
     → (b ≡ false → w < s.line.end) → TellsLine e (bytes_of held s.line) b
 known-text s held w e true t d is same l h =
     subst (λ v. IsLineIn v (bytes_of held s.line)) (sym same) (well_formed-from_IsUtf8 (bytes_of held s.line) ((t.text d is).line l))
@@ -430,7 +439,8 @@ known-text s held w e false t d is same l h = absurd (omega (arith, l, h refl))
 
 -- ---- the invariant of a reader
 
-pub kept-ended : (s new : Scanner) (held : List ℕ) (w : ℕ) → Fits s held → IsTested s held w → new ≡ record s { is_done = true } → Fits new held × (new.is_done ≡ true) × IsTested new held w
+pub kept-ended : (s new : Scanner) (held : List ℕ) (w : ℕ) → Fits s held → IsTested s held w → new ≡ record s { is_done = true }
+    → Fits new held × (new.is_done ≡ true) × IsTested new held w
 kept-ended s new held w f t is = rw is (record { within = f.within; searched = f.searched; fresh = f.fresh; line = f.line }, refl, tested-ended s held w t)
 
 pub fits-scan : (old new : Scanner) (held : List ℕ) (ended : Bool) (answer : Scan) → Fits old held → Scans old held ended answer new → Fits new held

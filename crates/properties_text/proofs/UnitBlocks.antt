@@ -37,7 +37,8 @@ pub odds-picked : (v : List ℕ) → length v ≡ 32 → pick_l 0 v odd_places �
 odds-picked v long = ap odds (pick_l_whole 0 v 32 long)
 
 -- If the high bytes are zero, the low bytes are the units.
-pub low-units : (order : ByteOrder) (v : List ℕ) (n : ℕ) → AllByRecursion (λ h. h < 1) (take n (highs_of order v)) → take n (units_of order v) ≡ take n (lows_of order v)
+pub low-units : (order : ByteOrder) (v : List ℕ) (n : ℕ) → AllByRecursion (λ h. h < 1) (take n (highs_of order v))
+    → take n (units_of order v) ≡ take n (lows_of order v)
 low-units order v zero h = refl
 low-units LowFirst [] (suc n) h = refl
 low-units LowFirst (a ∷ []) (suc n) h = refl
@@ -98,11 +99,14 @@ past u n h = elim (cases_Bool (nat_le n u)) [ inl t ↦ absurd (omega (arith, h,
 -- A unit below 100 hexadecimal is a character.
 unit-step : (order : ByteOrder) (a b : ℕ) (rest : List ℕ) → unit_of order a b < 0x100
     → text_of (utf_16_of order) (a ∷ b ∷ rest) ≡ unit_of order a b ∷ text_of (utf_16_of order) rest
-unit-step LowFirst a b rest h = characters-step utf_16le a (b ∷ rest) ∙ rw (past (unit_of LowFirst a b) 0xd800 (omega arith), past (unit_of LowFirst a b) 0xdc00 (omega arith)) refl
-unit-step HighFirst a b rest h = characters-step utf_16be a (b ∷ rest) ∙ rw (past (unit_of HighFirst a b) 0xd800 (omega arith), past (unit_of HighFirst a b) 0xdc00 (omega arith)) refl
+unit-step LowFirst a b rest h = characters-step utf_16le a (b ∷ rest)
+    ∙ rw (past (unit_of LowFirst a b) 0xd800 (omega arith), past (unit_of LowFirst a b) 0xdc00 (omega arith)) refl
+unit-step HighFirst a b rest h = characters-step utf_16be a (b ∷ rest)
+    ∙ rw (past (unit_of HighFirst a b) 0xd800 (omega arith), past (unit_of HighFirst a b) 0xdc00 (omega arith)) refl
 
 -- n of the units of the first w bytes.
-front-is : (order : ByteOrder) (n w : ℕ) (bytes : List ℕ) → 2 * n ≤ w → w ≤ length bytes → AllByRecursion (λ u. u < 0x100) (take n (units_of order (take w bytes)))
+front-is : (order : ByteOrder) (n w : ℕ) (bytes : List ℕ) → 2 * n ≤ w → w ≤ length bytes
+    → AllByRecursion (λ u. u < 0x100) (take n (units_of order (take w bytes)))
     → text_of (utf_16_of order) bytes ≡ take n (units_of order (take w bytes)) ++ text_of (utf_16_of order) (drop (2 * n) bytes)
 front-is order zero w bytes le long h = refl
 front-is order (suc n) zero bytes le long h = absurd (omega arith)

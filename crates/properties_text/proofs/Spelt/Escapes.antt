@@ -44,7 +44,8 @@ after-two e (b ∷ c ∷ bs) w s h k =
     let two = ascii-first e c bs k one.well in
     record { characters = one.characters ∙ ap (λ v. b ∷ v) two.characters; well = two.well }
 
-pub after-four : (e : LineEncoding) (bs : List ℕ) → IsWell e bs → 4 ≤ length bs → get_or bs 0 0 < 128 → get_or bs 1 0 < 128 → get_or bs 2 0 < 128 → get_or bs 3 0 < 128
+pub after-four : (e : LineEncoding) (bs : List ℕ) → IsWell e bs → 4 ≤ length bs → get_or bs 0 0 < 128 → get_or bs 1 0 < 128 → get_or bs 2 0 < 128
+    → get_or bs 3 0 < 128
     → IsAfter e bs (get_or bs 0 0 ∷ get_or bs 1 0 ∷ get_or bs 2 0 ∷ get_or bs 3 0 ∷ []) 4
 after-four e [] w s k l m n = absurd (omega arith)
 after-four e (a ∷ []) w s k l m n = absurd (omega arith)
@@ -117,7 +118,8 @@ digits-at (x ∷ y ∷ bs) more d e = (omega (arith, ap length e), ap (λ v. rec
 
 -- ---- what isn't an escape
 
-lacking : (e : LineEncoding) (bs : List ℕ) (d : Four) (rest : List ℕ) → IsWell e (drop 2 bs) → LacksDigits bs → text_in e (drop 2 bs) ≡ four_text d ++ rest → are_hexadecimal d ≡ true → ⊥
+lacking : (e : LineEncoding) (bs : List ℕ) (d : Four) (rest : List ℕ) → IsWell e (drop 2 bs) → LacksDigits bs
+    → text_in e (drop 2 bs) ≡ four_text d ++ rest → are_hexadecimal d ≡ true → ⊥
 lacking e bs d rest w l s h =
     let back = digits-back e (drop 2 bs) d rest w s h in
     let at = digits-at bs back.0 d back.1 in
@@ -131,7 +133,8 @@ four-of (a ∷ b ∷ []) h = absurd (omega arith)
 four-of (a ∷ b ∷ c ∷ []) h = absurd (omega arith)
 four-of (a ∷ b ∷ c ∷ d ∷ rest) h = (record { first = a; second = b; third = c; fourth = d }, rest, refl)
 
-unread : (e : LineEncoding) (bs : List ℕ) (m : Malformed) → IsWell e (drop 2 bs) → LacksDigits bs → CountsFour e (drop 2 bs) m → IsUnread (text_in e (drop 2 bs)) m
+unread : (e : LineEncoding) (bs : List ℕ) (m : Malformed) → IsWell e (drop 2 bs) → LacksDigits bs → CountsFour e (drop 2 bs) m
+    → IsUnread (text_in e (drop 2 bs)) m
 unread e bs NotEnoughDigits w l h = h
 unread e bs NotHex w l h =
     let f = four-of (text_in e (drop 2 bs)) h in
@@ -141,13 +144,15 @@ unread e bs InvalidCharacter w l h = absurd h
 from-u : (e : LineEncoding) (bs x : List ℕ) (m : Malformed) → text_in e bs ≡ backslash ∷ letter_u ∷ x → IsMalformedUnit x (malformed_in m) → Reads e bs (Err m)
 from-u e bs x m s h = subst (λ v. NoSpelling v × (meaning_of v ≡ breaks (malformed_in m))) (sym s) h
 
-pub reads-none : (e : LineEncoding) (bs : List ℕ) (m : Malformed) → IsWell e bs → BeginsUnit bs → LacksDigits bs → CountsFour e (drop 2 bs) m → Reads e bs (Err m)
+pub reads-none : (e : LineEncoding) (bs : List ℕ) (m : Malformed) → IsWell e bs → BeginsUnit bs → LacksDigits bs → CountsFour e (drop 2 bs) m
+    → Reads e bs (Err m)
 reads-none e bs m w b l h =
     let a = after-u e bs w b in
     from-u e bs (text_in e (drop 2 bs)) m a.characters (malformed-unread (text_in e (drop 2 bs)) m (unread e bs m a.well l h))
 
 -- A low surrogate doesn't follow.
-no-low : (high : Four) (x : List ℕ) → ((low : Four) (rest : List ℕ) → x ≡ backslash ∷ letter_u ∷ four_text low ++ rest → are_hexadecimal low ≡ true → is_low (code_unit low) ≡ true → ⊥)
+no-low : (high : Four) (x : List ℕ)
+    → ((low : Four) (rest : List ℕ) → x ≡ backslash ∷ letter_u ∷ four_text low ++ rest → are_hexadecimal low ≡ true → is_low (code_unit low) ≡ true → ⊥)
     → with_low high x ≡ None
 no-low high (x ∷ y ∷ a ∷ b ∷ c ∷ d ∷ rest) h =
     let low : Four = record { first = a; second = b; third = c; fourth = d } in
@@ -159,7 +164,8 @@ no-low high (x ∷ y ∷ a ∷ b ∷ c ∷ d ∷ rest) h =
     h low rest (ap₂ (λ v w. v ∷ w ∷ a ∷ b ∷ c ∷ d ∷ rest) (eqb-true x backslash q.0) (eqb-true y letter_u q.1)) r.0 r.1))
 no-low high x h = refl
 
-low-back : (e : LineEncoding) (bs : List ℕ) (low : Four) (rest : List ℕ) → IsWell e bs → text_in e bs ≡ backslash ∷ letter_u ∷ four_text low ++ rest → are_hexadecimal low ≡ true
+low-back : (e : LineEncoding) (bs : List ℕ) (low : Four) (rest : List ℕ) → IsWell e bs → text_in e bs ≡ backslash ∷ letter_u ∷ four_text low ++ rest
+    → are_hexadecimal low ≡ true
     → BeginsUnit bs × HasDigits bs (code_unit low) × (digits_in bs ≡ low)
 low-back e bs low rest w s h =
     let one = ascii-back e bs backslash (letter_u ∷ four_text low ++ rest) w s (lit< tt) in
@@ -176,7 +182,8 @@ low-back e bs low rest w s h =
       at.1,
     )
 
-pub reads-unpaired : (e : LineEncoding) (bs : List ℕ) (high : ℕ) → IsWell e bs → BeginsUnit bs → HasDigits bs high → OutOfScalarRange high → LacksLow high (drop 6 bs) → Reads e bs (Err InvalidCharacter)
+pub reads-unpaired : (e : LineEncoding) (bs : List ℕ) (high : ℕ) → IsWell e bs → BeginsUnit bs → HasDigits bs high → OutOfScalarRange high
+    → LacksLow high (drop 6 bs) → Reads e bs (Err InvalidCharacter)
 reads-unpaired e bs high w b h out none =
     let a = after-u e bs w b in
     let u = unit-in e bs w b high h in
@@ -189,7 +196,8 @@ reads-unpaired e bs high w b h out none =
 
 -- ---- what is
 
-pub reads-unit : (e : LineEncoding) (bs : List ℕ) (value c : ℕ) → IsWell e bs → BeginsUnit bs → HasDigits bs value → InScalarRange value → c ≡ value → IsScalar c → IsRead e bs record { character = c; length = 6 }
+pub reads-unit : (e : LineEncoding) (bs : List ℕ) (value c : ℕ) → IsWell e bs → BeginsUnit bs → HasDigits bs value → InScalarRange value → c ≡ value
+    → IsScalar c → IsRead e bs record { character = c; length = 6 }
 reads-unit e bs value c w b h in_range is s =
     let a = after-u e bs w b in
     let u = unit-in e bs w b value h in
@@ -197,11 +205,13 @@ reads-unit e bs value c w b h in_range is s =
       some = omega arith;
       within = h.within;
       scalar = s;
-      meaning = ap meaning_of a.characters ∙ meaning-unit (text_in e (drop 2 bs)) (text_in e (drop 6 bs)) value u.0 (scalar-unit value in_range) ∙ ap (λ v. in_front v (meaning_of (text_in e (drop 6 bs)))) (sym is);
+      meaning = ap meaning_of a.characters ∙ meaning-unit (text_in e (drop 2 bs)) (text_in e (drop 6 bs)) value u.0 (scalar-unit value in_range)
+          ∙ ap (λ v. in_front v (meaning_of (text_in e (drop 6 bs)))) (sym is);
       well = u.1;
     }
 
-pub reads-pair : (e : LineEncoding) (bs : List ℕ) (high c : ℕ) → IsWell e bs → BeginsUnit bs → HasDigits bs high → HasLow high (drop 6 bs) c → IsScalar c → IsRead e bs record { character = c; length = 12 }
+pub reads-pair : (e : LineEncoding) (bs : List ℕ) (high c : ℕ) → IsWell e bs → BeginsUnit bs → HasDigits bs high → HasLow high (drop 6 bs) c
+    → IsScalar c → IsRead e bs record { character = c; length = 12 }
 reads-pair e bs high c w b h l s =
     let a = after-u e bs w b in
     let u = unit-in e bs w b high h in
@@ -220,7 +230,8 @@ reads-pair e bs high c w b h l s =
       well = subst (IsWell e) twelve v.1;
     }
 
-pub reads-ascii : (e : LineEncoding) (bs : List ℕ) (c : ℕ) → IsWell e bs → 2 ≤ length bs → get_or bs 0 0 ≡ backslash → get_or bs 1 0 ≢ letter_u → get_or bs 1 0 < 128
+pub reads-ascii : (e : LineEncoding) (bs : List ℕ) (c : ℕ) → IsWell e bs → 2 ≤ length bs → get_or bs 0 0 ≡ backslash → get_or bs 1 0 ≢ letter_u
+    → get_or bs 1 0 < 128
     → c ≡ escaped_character (get_or bs 1 0) → IsScalar c → IsRead e bs record { character = c; length = 2 }
 reads-ascii e bs c w some b other small is s =
     let x = get_or bs 1 0 in
@@ -229,7 +240,8 @@ reads-ascii e bs c w some b other small is s =
       some = omega arith;
       within = some;
       scalar = s;
-      meaning = ap meaning_of (a.characters ∙ ap (λ v. v ∷ x ∷ text_in e (drop 2 bs)) b) ∙ meaning_of-escaped x (text_in e (drop 2 bs)) (ne_eqb x letter_u other)
+      meaning = ap meaning_of (a.characters ∙ ap (λ v. v ∷ x ∷ text_in e (drop 2 bs)) b)
+          ∙ meaning_of-escaped x (text_in e (drop 2 bs)) (ne_eqb x letter_u other)
           ∙ ap (λ v. in_front v (meaning_of (text_in e (drop 2 bs)))) (sym is);
       well = a.well;
     }
@@ -251,7 +263,8 @@ reads-end e bs w one b =
       well = a.well;
     }
 
-pub reads-past : (e : LineEncoding) (bs : List ℕ) (first : Spelt) → IsWell e bs → 2 ≤ length bs → get_or bs 0 0 ≡ backslash → 0x80 ≤ get_or bs 1 0 → IsFirst e (drop 1 bs) first
+pub reads-past : (e : LineEncoding) (bs : List ℕ) (first : Spelt) → IsWell e bs → 2 ≤ length bs → get_or bs 0 0 ≡ backslash → 0x80 ≤ get_or bs 1 0
+    → IsFirst e (drop 1 bs) first
     → IsRead e bs record { character = first.character; length = 1 + first.length }
 reads-past e bs first w some b past f =
     let a = after-one e bs w (omega arith) (omega (arith, b)) in

@@ -100,7 +100,8 @@ utf_8-first bs n ([], (h, w)) some is = absurd (omega (arith, some, ap length w)
 utf_8-first bs n ((c ∷ cs), (h, w)) some is =
     begins bs (encodes cs) c n ((c ∷ cs), (h, w)) (and_parts (scalar c) (scalars cs) h).0 (sym w) is
 
-pub is-first : (bs : List ℕ) (spelt : Spelt) → IsSequence bs spelt.length → spelt.character ≡ sequence_character (get_or bs 0 0 ∷ take (spelt.length - 1) (drop 1 bs)) → IsFirst Utf8 bs spelt
+pub is-first : (bs : List ℕ) (spelt : Spelt) → IsSequence bs spelt.length
+    → spelt.character ≡ sequence_character (get_or bs 0 0 ∷ take (spelt.length - 1) (drop 1 bs)) → IsFirst Utf8 bs spelt
 is-first bs spelt h is = record {
   some = h.some;
   within = h.within;

@@ -103,7 +103,8 @@ split_at bytes bs at u same h =
       rest_utf8 = rest;
       boundary = here;
       holds = holds_backslash-text bs u ∙ ap holds_backslash (whole ∙ ap (λ v. take at bs ++ v) f.there) ∙ holds-append (take at bs) (drop (at + 1) bs);
-      meaning = ap meaning_of (ap chars whole ∙ chars-append (take at bs) (drop at bs) front) ∙ meaning_of-plain_front (chars (take at bs)) (chars (drop at bs)) plain;
+      meaning = ap meaning_of (ap chars whole ∙ chars-append (take at bs) (drop at bs) front)
+          ∙ meaning_of-plain_front (chars (take at bs)) (chars (drop at bs)) plain;
     }
 
 -- A text without a backslash.
@@ -202,7 +203,8 @@ resolved_broken text before now rest front after kind r e f = broken text kind (
 -- ---- the text before the first escape
 
 -- If the rest is refused with an error, so is the whole.
-pub refused_front : (text front rest : List ℕ) (e : UnescapeError) → meaning_of text ≡ text_in_front front (meaning_of rest) → IsRefused rest e → IsRefused text e
+pub refused_front : (text front rest : List ℕ) (e : UnescapeError) → meaning_of text ≡ text_in_front front (meaning_of rest) → IsRefused rest e
+    → IsRefused text e
 refused_front text front rest (error.Malformed malformed) m b =
     let kind = malformed_in malformed in
     broken text kind (m ∙ ap (text_in_front front) (sym (breaks-only rest kind b)) ∙ text_in_front-breaks front kind)
