@@ -15,19 +15,14 @@ pub fn copy_pairs<R: CountedRead, W: CountedWrite>(
 ) -> Result<(), PropertiesError> {
     let mut items = PropertiesIter::new_with_encoding(alloc, input, from)?;
     let mut writer = PropertiesWriter::new_with_encoding(alloc, output, to)?;
-    for _ in 0..u64::MAX {
-        if !items.copy_next(&mut writer) {
-            break;
-        }
-    }
-    match items.take_error() {
-        None => writer.finish(),
-        Some(CopyError::Read(error)) => {
+    match writer.copy_pairs(&mut items) {
+        Ok(()) => writer.finish(),
+        Err(CopyError::Read(error)) => {
             // The error of the reading is returned, whatever the flush returns.
             let _ = writer.flush();
             Err(error)
         }
-        Some(CopyError::Write(error)) => Err(error),
+        Err(CopyError::Write(error)) => Err(error),
     }
 }
 

@@ -1,18 +1,13 @@
 -- What copying does: it takes the next item of an iterator, and writes it if it is a pair.
-use Rattle.std.specs.Prelude.{◌≡◌, All, ◌⊎◌, ℕ, Bool, true, false, List, Option, Some, Result, Ok, Err}
+use Rattle.std.specs.Prelude.{◌≡◌, All, ◌⊎◌, ℕ, true, false, List, Result, Ok, Err}
 use Rattle.counted_io.specs.Streams.{Reader, Sink}
 use Rattle.properties_format.specs.Text.{scalar}
 use Rattle.properties_format.specs.Entries.{Content, comment, pair, item}
-use Rattle.properties_lines.specs.LineJoiner.{Joiner}
 use Rattle.java_properties.specs.PropertiesIter.{Reading, GivesEntry, GivesNone, GivesMalformed, GivesError}
 use Rattle.java_properties.specs.PropertiesWriter.{Writing, WritesLine}
 use Rattle.properties_items.specs.declared.error.PropertiesError.{PropertiesError}
-use Rattle.java_properties.specs.declared.iter.copy.CopyError.{CopyError}
-use Rattle.java_properties.specs.declared.iter.copy.CopyError.TheVariants.{Read, Write}
-
--- the iterator that lines, a reader and an error form
-abbrev pub reading : {R : Type 0} → Joiner → R → Option CopyError → Reading R
-reading lines reader error = record { reader = reader; state = lines.state; line = lines.line; error = error }
+use Rattle.java_properties.specs.declared.copy.CopyError.{CopyError}
+use Rattle.java_properties.specs.declared.copy.CopyError.TheVariants.{Read, Write}
 
 -- the error of the reading or of the writing
 abbrev pub error_in : CopyError → PropertiesError
@@ -36,37 +31,32 @@ pub record CopiesItem {R W : Type 0} (reader : Reader R) (sink : Sink W) (old : 
   pub gives : GivesEntry reader old.state old.reader (item number content) new.state new.reader
   pub scalars : HasScalars content
   pub writes : WritesIfPair sink writer content (Ok tt) written
-  pub kept : new.error ≡ old.error
 
 -- No more items come, and nothing was written.
 pub record CopiesNone {R W : Type 0} (reader : Reader R) (old : Reading R) (writer : Writing W) (new : Reading R) (written : Writing W) : Type 0 where
   pub gives : GivesNone reader old.state old.reader new.state new.reader
   pub same : written ≡ writer
-  pub kept : new.error ≡ old.error
 
--- No item could be read, nothing was written, and the iterator is at its end. It keeps the error.
-pub record FailsToRead {R W : Type 0} (reader : Reader R) (old : Reading R) (writer : Writing W) (new : Reading R) (written : Writing W) : Type 0 where
-  pub error : PropertiesError
+-- No item could be read, nothing was written, and the iterator is at its end.
+pub record FailsToRead {R W : Type 0} (reader : Reader R) (old : Reading R) (writer : Writing W) (error : PropertiesError) (new : Reading R) (written : Writing W) : Type 0 where
   pub live : old.state.is_done ≡ false
   pub done : new.state.is_done ≡ true
   pub why : GivesMalformed reader old.state old.reader error new.reader ⊎ GivesError reader old.state old.reader error new.reader
   pub same : written ≡ writer
-  pub kept : new.error ≡ Some (Read error)
 
--- The next item is a pair, and writing it failed. The iterator keeps the error.
-pub record FailsToWrite {R W : Type 0} (reader : Reader R) (sink : Sink W) (old : Reading R) (writer : Writing W) (new : Reading R) (written : Writing W) : Type 0 where
-  pub error : PropertiesError
+-- The next item is a pair, and writing it failed.
+pub record FailsToWrite {R W : Type 0} (reader : Reader R) (sink : Sink W) (old : Reading R) (writer : Writing W) (error : PropertiesError) (new : Reading R) (written : Writing W) : Type 0 where
   pub number : ℕ
   pub key : List ℕ
   pub value : List ℕ
   pub gives : GivesEntry reader old.state old.reader (item number (pair key value)) new.state new.reader
   pub scalars : HasScalars (pair key value)
   pub writes : WritesLine sink writer (pair key value) (Err error) written
-  pub kept : new.error ≡ Some (Write error)
 
--- the effect of copying the next item, on the iterator and on the writer
-abbrev pub CopiesNext : {R W : Type 0} → Reader R → Sink W → Reading R → Writing W → Bool → Reading R → Writing W → Type 0
-CopiesNext reader sink old writer true new written = CopiesItem reader sink old writer new written
-CopiesNext reader sink old writer false new written =
-    CopiesNone reader old writer new written
-    ⊎ (FailsToRead reader old writer new written ⊎ FailsToWrite reader sink old writer new written)
+-- Items were copied in turn. Then no more came; or reading the next one failed; or writing it did.
+pub data Copies {R W : Type 0} (reader : Reader R) (sink : Sink W) (old : Reading R) (writer : Writing W) (result : Result Unit CopyError) (new : Reading R) (written : Writing W) : Type 0 where
+  goes_on : (between : Reading R) (so_far : Writing W) → CopiesItem reader sink old writer between so_far → Copies reader sink between so_far result new written
+      → Copies reader sink old writer result new written
+  ends : result ≡ Ok tt → CopiesNone reader old writer new written → Copies reader sink old writer result new written
+  stops_reading : (error : PropertiesError) → result ≡ Err (Read error) → FailsToRead reader old writer error new written → Copies reader sink old writer result new written
+  stops_writing : (error : PropertiesError) → result ≡ Err (Write error) → FailsToWrite reader sink old writer error new written → Copies reader sink old writer result new written

@@ -14,17 +14,15 @@ use Rattle.properties_items.specs.Errors.{IsBareError, IsMalformed, IsStreamErro
 use Rattle.properties_items.specs.Line.{number_of, content_of}
 use Rattle.properties_items.specs.declared.error.ErrorKind.TheVariants as kind
 use Rattle.properties_items.specs.declared.error.PropertiesError.{PropertiesError}
-use Rattle.java_properties.specs.declared.iter.copy.CopyError.{CopyError}
 use Rattle.properties_items.specs.declared.line.Line.{Line}
 use Rattle.properties_items.specs.declared.line.LineContent.{LineContent}
 use Rattle.properties_items.specs.declared.line.LineContent.TheVariants.{Comment, KVPair}
 
--- an iterator: its reader, its state, the logical line that it read last, in UTF-8, and the error that it keeps
+-- an iterator: its reader, its state, and the bytes of the logical line that it read last
 pub record Reading (R : Type 0) : Type 0 where
   pub reader : R
   pub state : ReaderState
   pub line : List ℕ
-  pub error : Option CopyError
 
 -- the entry of a line
 abbrev pub format_content : LineContent → Content

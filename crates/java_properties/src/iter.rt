@@ -1,9 +1,9 @@
 // Iterates over the comments and pairs of a file.
 
-ghost use Rattle.std.specs.Prelude.{◌≡◌, ◌<◌, [], true, None, IsOkAnd, OnSome};
+ghost use Rattle.std.specs.Prelude.{◌≡◌, ◌<◌, [], IsOkAnd, OnSome};
 ghost use Rattle.std.specs.Str.{chars};
 ghost use Rattle.std.specs.Iterator.{at_most};
-ghost use Rattle.counted_io.specs.Streams.{IsSameReader, IsSameSink};
+ghost use Rattle.counted_io.specs.Streams.{IsSameReader};
 ghost use Rattle.properties_format.specs.Encoding.{windows_1252};
 ghost use Rattle.properties_format.specs.ItemsToCome.{start};
 ghost use Rattle.properties_text.specs.Encoding.{encoding_of};
@@ -11,19 +11,15 @@ ghost use Rattle.properties_lines.specs.LineReader.{lines_left};
 ghost use Rattle.properties_items.specs.BorrowedItems.{borrowed_entry, found_entry, BorrowsPlain, IsFoundIn};
 ghost use Rattle.java_properties.specs.Borrowing.{AdvanceGives, NextRefGives};
 ghost use Rattle.java_properties.specs.PropertiesIter.{Reading, NextGives};
-ghost use Rattle.java_properties.specs.Copying.{CopiesNext};
 
-pub(crate) mod copy;
 mod into;
 pub(crate) mod items;
 mod keys;
 mod malformed;
 mod whole;
 
-pub use crate::iter::copy::CopyError;
 use crate::iter::items::ItemReader;
-use crate::writer::PropertiesWriter;
-use counted_io::{CountedRead, CountedWrite};
+use counted_io::CountedRead;
 pub use keys::key_lines;
 pub use malformed::malformed_escapes;
 use properties_items::borrowed::LineRef;
@@ -33,7 +29,6 @@ use properties_items::line::Line;
 use properties_text::encoding::Encoding;
 use std::alloc::Global;
 use std::marker::Model;
-use std::mem;
 pub use whole::{Stopped, read_lines};
 
 /// The comments and pairs of a file, in order, each with its line number.
@@ -51,23 +46,21 @@ pub use whole::{Stopped, read_lines};
 /// ```
 #[derive(Drop)]
 pub struct PropertiesIter<R> {
-    reader: R,
-    items: ItemReader,
-    // The error that `copy_next` met, until `take_error` returns it.
-    error: Option<CopyError>,
+    pub(crate) reader: R,
+    pub(crate) items: ItemReader,
 }
 
 impl<R> Model for PropertiesIter<R> {
     ghost Value = { Reading R };
 
-    ghost view = { λ it. record { reader = it.reader; state = it.items.state; line = it.items.line; error = it.error } };
+    ghost view = { λ it. record { reader = it.reader; state = it.items.state; line = it.items.line } };
 }
 
 impl<R: CountedRead> PropertiesIter<R> {
     /// Creates an iterator that reads windows-1252, unless a byte order mark selects another encoding. It reads nothing
     /// and allocates nothing until the first item is requested.
     pub fn new(alloc: Global, input: R) -> Result<PropertiesIter<R>, PropertiesError>
-        ensures { IsOkAnd result (λ it. it ≡ record { reader = input; state = start windows_1252; line = []; error = None }) }
+        ensures { IsOkAnd result (λ it. it ≡ record { reader = input; state = start windows_1252; line = [] }) }
     {
         PropertiesIter::new_with_encoding(alloc, input, Encoding::WINDOWS_1252)
     }
@@ -79,12 +72,11 @@ impl<R: CountedRead> PropertiesIter<R> {
         input: R,
         encoding: Encoding,
     ) -> Result<PropertiesIter<R>, PropertiesError>
-        ensures { IsOkAnd result (λ it. it ≡ record { reader = input; state = start (encoding_of encoding); line = []; error = None }) }
+        ensures { IsOkAnd result (λ it. it ≡ record { reader = input; state = start (encoding_of encoding); line = [] }) }
     {
         Ok(PropertiesIter {
             reader: input,
             items: ItemReader::new(alloc, encoding),
-            error: None,
         })
     }
 
@@ -130,44 +122,6 @@ impl<R: CountedRead> PropertiesIter<R> {
         self.items.get(found)
     }
 
-    /// Advances to the next item and, if it is a pair, writes it to `writer`, as [`advance`](Self::advance),
-    /// [`get`](Self::get) and [`write`](PropertiesWriter::write) would. Returns `false` at the end, and at an error,
-    /// which [`take_error`](Self::take_error) returns.
-    ///
-    /// If the input and the output are in windows-1252, and the writer isn't set to ASCII only, most lines are printed
-    /// from their bytes, without being decoded. After an error of the writing, the next call goes on with the next item.
-    /// An error that isn't taken stays until a later one replaces it.
-    ///
-    /// ```text
-    /// while items.copy_next(&mut writer) {}
-    /// if let Some(error) = items.take_error() {
-    ///     return Err(PropertiesError::from(error));
-    /// }
-    /// writer.finish()?;
-    /// ```
-    #[inline(always)]
-    pub fn copy_next<W: CountedWrite>(&mut self, writer: &mut PropertiesWriter<W>) -> bool
-        ensures copies { CopiesNext R.CountedRead W.CountedWrite self.old writer.old result self.new writer.new }
-        ensures nearer { result ≡ true → lines_left self.new.state < lines_left self.old.state }
-        ensures same_reader { IsSameReader R.CountedRead self.old.reader self.new.reader }
-        ensures same_sink { IsSameSink W.CountedWrite writer.old.sink writer.new.sink }
-    {
-        self.items.copy_next(
-            &mut self.reader,
-            &mut writer.engine,
-            &mut writer.sink,
-            &mut self.error,
-        )
-    }
-
-    /// Returns the error that [`copy_next`](Self::copy_next) met, if it met one and it wasn't returned before.
-    pub fn take_error(&mut self) -> Option<CopyError>
-        ensures error { result ≡ self.old.error }
-        ensures taken { self.new ≡ record self.old { error = None } }
-    {
-        mem::replace(&mut self.error, None)
-    }
-
     /// Returns a reference to the reader, which is positioned after the bytes that were read so far.
     pub fn get_ref(&self) -> &R
         ensures { result.now ≡ self.now.reader }
@@ -183,7 +137,6 @@ impl<R: CountedRead> PropertiesIter<R> {
         let PropertiesIter {
             reader,
             items: _,
-            error: _,
         } = self;
         reader
     }
@@ -191,10 +144,6 @@ impl<R: CountedRead> PropertiesIter<R> {
 
 impl<R: CountedRead> Iterator for PropertiesIter<R> {
     type Item = Result<Line, PropertiesError>;
-
-    ghost next_gives = { λ old answer new. NextGives R.CountedRead old answer new };
-
-    ghost remaining = { λ it. at_most (lines_left it.state) };
 
     fn next(&mut self) -> Option<Result<Line, PropertiesError>> {
         self.items.next_item(&mut self.reader)

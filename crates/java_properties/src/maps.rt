@@ -14,7 +14,7 @@ use crate::writer::engine::{Content, Engine};
 use counted_io::{CountedRead, CountedWrite};
 use properties_items::error::PropertiesError;
 use properties_items::line::LineContent;
-use properties_text::encoding::{Encoding, OutputEncoding};
+use properties_text::encoding::{Encoding, LineEncoding};
 pub use sorted::{read_sorted, write_sorted};
 use std::alloc::{AllocError, Global};
 use std::collections::HashMap;
@@ -91,7 +91,7 @@ pub fn write<W: CountedWrite>(
         alloc,
         writer,
         &pairs,
-        OutputEncoding::from(Encoding::WINDOWS_1252),
+        LineEncoding::from(Encoding::WINDOWS_1252),
     )
 }
 
@@ -100,7 +100,7 @@ fn write_pairs<W: CountedWrite>(
     alloc: Global,
     writer: &mut W,
     pairs: &[(&String, &String)],
-    encoding: OutputEncoding,
+    encoding: LineEncoding,
 ) -> Result<(), PropertiesError>
     ensures writes { let texts = texts_of pairs.now in
         WritesPairs W.CountedWrite (output_of encoding) texts writer.old result writer.new }

@@ -13,7 +13,7 @@ use counted_io::CountedWrite;
 use engine::{Content, Engine};
 use properties_items::error::PropertiesError;
 use properties_items::line::LineEnding;
-use properties_text::encoding::{Encoding, OutputEncoding};
+use properties_text::encoding::{Encoding, LineEncoding};
 use std::alloc::Global;
 use std::marker::Model;
 
@@ -75,7 +75,7 @@ impl<W: CountedWrite> PropertiesWriter<W> {
     {
         Ok(PropertiesWriter {
             sink: writer,
-            engine: Engine::new(alloc, OutputEncoding::from(encoding)),
+            engine: Engine::new(alloc, LineEncoding::from(encoding)),
         })
     }
 

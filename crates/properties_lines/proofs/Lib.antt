@@ -5,6 +5,8 @@ pub mod ScannerSearch
 pub mod Scans
 pub mod HeldLines
 pub mod LineReaders
+pub mod Tested
 pub mod OpenLines
+pub mod LineTexts
 pub mod LogicalLines
 pub mod LineJoiner

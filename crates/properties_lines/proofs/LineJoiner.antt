@@ -1,12 +1,11 @@
 -- How natural lines are joined, step by step.
 use Rattle.std.proofs.Common.{◌≡◌, ◌+◌, ℕ, Bool, true, false, List, [], ◌∷◌, ◌++◌, refl, sym, ap, ap₂, ◌∙◌, inl, inr, subst, append_assoc, append-nil}
-use Rattle.std.specs.Prelude.{◌≢◌, ◌⊎◌, if◌then◌else◌, not, Option, Some, None, is_some}
-use Rattle.std.specs.Str.{chars, IsUtf8}
-use Rattle.std.proofs.lemmas.Bool.{cases_Bool}
+use Rattle.std.specs.Prelude.{◌⊎◌, ◌&&◌, not, Option, Some, None, is_some}
+use Rattle.std.specs.Str.{IsAscii}
+use Rattle.std.proofs.lemmas.Bool.{cases_Bool, and_parts}
 use Rattle.counted_io.specs.Streams.{Reader}
 use Rattle.counted_io.proofs.Streams.{read-none, read-more, failed-more}
-use Rattle.properties_format.specs.Encoding.{Encoding, windows_1252}
-use Rattle.properties_format.specs.Computed.Cut.{decoded_line}
+use Rattle.properties_format.specs.Encoding.{output_encoding}
 use Rattle.properties_format.specs.Lines as format
 use Rattle.properties_format.specs.Lines.{InputEnd, end, fault, more}
 use Rattle.properties_format.specs.Groups.{is_open, is_comment_line, addition, without_open_backslash, joined_after, AreOpen, EndsClosed, IsWhole, IsUnfinished}
@@ -19,17 +18,24 @@ use Rattle.properties_format.proofs.ItemsToCome.Entries.{gives-on, joining-open,
 use Rattle.properties_format.proofs.ItemsToCome.Steps.{lines-start, lines-on, on-start, on-open, logical-comment_line, logical-closed}
 use Rattle.properties_format.specs.Computed.ReaderSteps.{Gives}
 use Rattle.properties_text.specs.Escaping.{holds_backslash}
-use Rattle.properties_text.proofs.Texts.Resolving.{plain-closed}
+use Rattle.properties_text.proofs.Texts.Resolving.{found_none}
 use Rattle.properties_lines.specs.LineReader as finder
 use Rattle.properties_lines.specs.LineReader.{Finder, Finds, Passes, PassesSome, PassesAll, IsLazy, HasRightLineFlags, FindsError, found_line}
-use Rattle.properties_lines.specs.LogicalLine.{IsAsciiLine, KeepsText, IsNotContinued, OpensJoin, text_with, is_continued}
-use Rattle.properties_lines.specs.LineJoiner.{line_text, join_of, joiner_of, Pends, Closes, AddsOpen, AddsLast, EndJoin, IsLazyJoin, IsLazyItems, GoesOn, JoinsAll, JoinError, JoinsNone, JoinsOn, Joining, Comes, Joins, JoinsGroup, JoinsLine, JoinsNext, JoinsError, IsWindows1252, JoinsBytes, JoinsText, ReadsWhole, ReadsNone, ReadsRest, ReadsContinued, ReadsJoined}
+use Rattle.properties_text.specs.Encoding.{line_of}
+use Rattle.properties_text.specs.Spelt.{text_in, IsWell}
+use Rattle.properties_text.specs.declared.encoding.line.LineEncoding.{LineEncoding}
+use Rattle.memchr.specs.Find.{IsFirstByte, is_byte}
+use Rattle.properties_format.specs.Text.{backslash}
+use Rattle.properties_lines.specs.LogicalLine.{bytes_at, bytes_with, is_natural, IsLineIn, HasText, IsTextOf, IsNotContinued, OpensJoin, unfinished_text}
+use Rattle.properties_lines.specs.declared.logical.Place.{Place}
+use Rattle.properties_lines.specs.declared.logical.Place.TheVariants.{Natural, Decoded, Joined}
+use Rattle.properties_lines.specs.LineJoiner.{line_text, join_of, numbered_bytes, Pends, Closes, AddsOpen, AddsLast, EndJoin, IsLazyJoin, IsLazyItems, GoesOn, JoinsAll, JoinError, JoinsNone, JoinsOn, Joining, Comes, Joins, Advances, JoinsNoLine, JoinsBytes, JoinsGroup, JoinsLine, JoinsError, ReadsWhole, ReadsNone, ReadsRest}
 use Rattle.properties_lines.specs.declared.error.LineError.TheVariants as why
 use Rattle.properties_lines.specs.declared.error.LineError.{LineError}
 use Rattle.properties_lines.specs.declared.logical.LogicalLine.{LogicalLine}
 use Rattle.properties_lines.proofs.LineReaders.{encoding-on}
-use Rattle.properties_lines.proofs.OpenLines.{begun-decoded, continued-other, continued-closed, continued-both, continued-decoded, stands-alone}
-use Rattle.properties_lines.proofs.LogicalLines.{ascii-keeps, unescaped-decoded}
+use Rattle.properties_lines.proofs.LineTexts.{line-in, joins-alike}
+use Rattle.properties_lines.proofs.LogicalLines.{holds-in, unescaped-decoded}
 
 -- ---- where no line comes
 
@@ -136,7 +142,8 @@ start-pends s text = elim (cases_Bool s.is_done) [
 ]
 
 -- bytes after bytes
-regroup : (join : Option format.Line) (s : ReaderState) (r q d : List ℕ) (ending : InputEnd) → entries_pending join s ((r ++ q) ++ d) ending ≡ entries_pending join s (r ++ (q ++ d)) ending
+regroup : (join : Option format.Line) (s : ReaderState) (r q d : List ℕ) (ending : InputEnd)
+    → entries_pending join s ((r ++ q) ++ d) ending ≡ entries_pending join s (r ++ (q ++ d)) ending
 regroup join s r q d ending = ap (λ v. entries_pending join s v ending) (append_assoc r q d)
 
 abbrev joint : ℕ → List ℕ → format.Line
@@ -195,7 +202,8 @@ module _ {R : Type 0} {reader : Reader R} where
   }
 
   -- what was held at first did not close the join, if what is held now gives no line
-  lazy-none : {s t : ReaderState} {from to : R} {old r text : List ℕ} → GoesOn reader s from old r text t to → t.is_done ≡ false → natural_to_come t [] more ≡ []
+  lazy-none : {s t : ReaderState} {from to : R} {old r text : List ℕ} → GoesOn reader s from old r text t to → t.is_done ≡ false
+      → natural_to_come t [] more ≡ []
       → (number : ℕ) → entries_pending (join_of number old) s [] more ≡ []
   lazy-none {s} {t} {from} {to} {old} {r} {text} h g none = by-lazy h.lazy
     where
@@ -310,7 +318,8 @@ module _ {R : Type 0} {reader : Reader R} where
   })
 
   -- no more lines came
-  pub joins-over : {from at to : R} {old r text : List ℕ} (before lines after : Finder) (failed : Bool) → GoesOn reader before.state from old r text lines.state at
+  pub joins-over : {from at to : R} {old r text : List ℕ} (before lines after : Finder) (failed : Bool)
+      → GoesOn reader before.state from old r text lines.state at
       → lines.error ≡ None → Finds reader lines at false after to → failed ≡ is_some after.error → JoinsOn reader before from old (not failed) after to text
   joins-over before lines after failed h e (inl n) f =
       let state = ap (λ v. let w : Finder = v in w.state) n.1 in
@@ -323,13 +332,9 @@ module _ {R : Type 0} {reader : Reader R} where
 
 -- ---- what is known of a line
 
-pub known-ascii : (f : Finder) (e : Encoding) (bytes : List ℕ) (is_ascii : Bool) → HasRightLineFlags f → e ≡ f.state.encoding → bytes ≡ f.line → is_ascii ≡ f.is_ascii
-    → is_ascii ≡ true → IsAsciiLine e bytes
-known-ascii f e bytes is_ascii h same line told k = rw (same, line) ((h 0 0).ascii.0 (sym told ∙ k))
-
-pub known-plain : (f : Finder) (bytes : List ℕ) (has_backslash : Bool) → HasRightLineFlags f → bytes ≡ f.line → has_backslash ≡ f.has_backslash
-    → has_backslash ≡ false → holds_backslash bytes ≡ false
-known-plain f bytes has_backslash h line told k = rw line (sym (h 0 0).backslash ∙ sym told ∙ k)
+pub known-plain : (f : Finder) (has_backslash : Bool) → HasRightLineFlags f → has_backslash ≡ f.has_backslash → has_backslash ≡ false
+    → holds_backslash f.line ≡ false
+known-plain f has_backslash h told k = sym (h 0 0).backslash ∙ sym told ∙ k
 
 -- ---- logical lines
 
@@ -365,7 +370,8 @@ join-comes {s} {t} {u} {r} {q} l (Passes.at_last f gives) c o (Closes.at_last e 
     )
 
 -- so is its group
-alone-group : {s t : ReaderState} {r : List ℕ} (l : format.Line) → Passes s r (l ∷ []) t → (is_comment_line l.text ≡ true) ⊎ (is_open l.text ≡ false) → JoinsGroup s r l t
+alone-group : {s t : ReaderState} {r : List ℕ} (l : format.Line) → Passes s r (l ∷ []) t → (is_comment_line l.text ≡ true) ⊎ (is_open l.text ≡ false)
+    → JoinsGroup s r l t
 alone-group l p (inl c) = record {
   first = l;
   others = [];
@@ -386,18 +392,15 @@ alone-group l p (inr o) = record {
 -- and the group of an open line and those that it is joined to
 join-group : {s t u : ReaderState} {r q text : List ℕ} (l : format.Line) → Passes s r (l ∷ []) t → is_comment_line l.text ≡ false → is_open l.text ≡ true
     → AddsLast t (without_open_backslash l.text) q text u → (t.is_done ≡ true → (u.is_done ≡ true) × (q ≡ []))
-    → (group : JoinsGroup s (r ++ q) (record { number = l.number; text = text }) u) × (group.first ≡ l)
-join-group {s} {t} {u} {r} {q} {text} l p c o h i = (
-  record {
-    first = l;
-    others = h.lines;
-    passes = all-lines p;
-    number = refl;
-    text = h.is ∙ sym (joined-unmarked l h.lines c);
-    ends = by-end h.end_join;
-  },
-  refl,
-)
+    → JoinsGroup s (r ++ q) (record { number = l.number; text = text }) u
+join-group {s} {t} {u} {r} {q} {text} l p c o h i = record {
+  first = l;
+  others = h.lines;
+  passes = all-lines p;
+  number = refl;
+  text = h.is ∙ sym (joined-unmarked l h.lines c);
+  ends = by-end h.end_join;
+}
   where
     by-end : EndJoin h.lines u → IsWhole (l ∷ h.lines) ⊎ (u.is_done ≡ true) × IsUnfinished (l ∷ h.lines)
     by-end (inl k) = inl (inr (c, k l o))
@@ -433,13 +436,6 @@ module _ {R : Type 0} {reader : Reader R} where
     lazy = lazy-items s n.lazy;
   }
 
-  -- and its text is returned
-  joins-alone : {s : ReaderState} {from to : R} (number : ℕ) (found : Finder) (line : List ℕ) → finder.FindsNext reader s from number found to
-      → IsNotContinued (line_text found) → chars line ≡ line_text found → JoinsNext reader s from number (record { state = found.state; line = line }) to
-  joins-alone {s} {from} {to} number found line n c same =
-      let P : List ℕ → Type 0 = λ v. JoinsLine reader s from (record { number = number; text = v }) found.state to in
-      subst P (sym same) (line-alone number found n c)
-
   -- what was held when a join began, and gave no item
   lazy-join : {s : ReaderState} {from to next : R} {q : List ℕ} (number : ℕ) (mid : Finder) (n : finder.FindsNext reader s from number mid to)
       → is_comment_line (line_text mid) ≡ false → is_open (line_text mid) ≡ true → (mid.state.is_done ≡ true → (q ≡ []) × (next ≡ to))
@@ -447,7 +443,8 @@ module _ {R : Type 0} {reader : Reader R} where
   lazy-join {s} {from} {to} {next} {q} number mid n c o idle lazy = by-find n.lazy
     where
       by-passes : n.bytes ≡ [] → to ≡ from → Passes s n.bytes (found_line number mid ∷ []) mid.state
-          → ((first : ℕ) → entries_pending (join_of first (without_open_backslash (line_text mid))) mid.state [] more ≡ []) → IsLazyItems s from (n.bytes ++ q) next
+          → ((first : ℕ) → entries_pending (join_of first (without_open_backslash (line_text mid))) mid.state [] more ≡ [])
+          → IsLazyItems s from (n.bytes ++ q) next
       by-passes e k (Passes.going_on f reads) none =
           inr (ap (λ v. items_to_come s (v ++ []) more) (sym e) ∙ (on-open (on-start s) reads c o).items [] more ∙ none number)
       by-passes e k (Passes.at_last f gives) none = let i = idle f in inl (i.1 ∙ k, ap₂ (λ v w. v ++ w) e i.0)
@@ -460,23 +457,21 @@ module _ {R : Type 0} {reader : Reader R} where
       ]
 
   -- the line and those after it are one
-  joins-joined : {s : ReaderState} {from to next : R} (number : ℕ) (mid : Finder) (text : List ℕ) (new : ReaderState) → finder.FindsNext reader s from number mid to
-      → is_comment_line (line_text mid) ≡ false → is_open (line_text mid) ≡ true → JoinsAll reader mid.state to (without_open_backslash (line_text mid)) text new next
-      → (line : JoinsLine reader s from (record { number = number; text = text }) new next) × (line.group.first ≡ found_line number mid)
-  joins-joined {next = next} number mid text new n c o j =
-      let group = join-group (found_line number mid) n.passes c o j.adds (λ e. (j.done e, (j.idle e).0)) in (
-        record {
-          bytes = n.bytes ++ j.bytes;
-          read = read-more n.read j.read;
-          live = n.live;
-          comes = join-comes (found_line number mid) n.passes c o j.closes (λ e. (j.done e, (j.idle e).0));
-          group = group.0;
-          passes = λ g. some-on (some-come n.passes (elim (cases_Bool mid.state.is_done) [ inl e ↦ let d = j.done e in absurd (cc) | inr e ↦ e ])) (j.passes g);
-          ended = λ e. elim (j.ended e) [ inl k ↦ let P : R → Type 0 = λ v. reader.at_end v ≡ true in subst P (sym (j.idle k).1) (n.ended k) | inr k ↦ k ];
-          lazy = lazy-join number mid n c o j.idle j.lazy;
-        },
-        group.1,
-      )
+  joins-joined : {s : ReaderState} {from to next : R} (number : ℕ) (mid : Finder) (text : List ℕ) (new : ReaderState)
+      → finder.FindsNext reader s from number mid to
+      → is_comment_line (line_text mid) ≡ false → is_open (line_text mid) ≡ true
+      → JoinsAll reader mid.state to (without_open_backslash (line_text mid)) text new next
+      → JoinsLine reader s from (record { number = number; text = text }) new next
+  joins-joined {next = next} number mid text new n c o j = record {
+    bytes = n.bytes ++ j.bytes;
+    read = read-more n.read j.read;
+    live = n.live;
+    comes = join-comes (found_line number mid) n.passes c o j.closes (λ e. (j.done e, (j.idle e).0));
+    group = join-group (found_line number mid) n.passes c o j.adds (λ e. (j.done e, (j.idle e).0));
+    passes = λ g. some-on (some-come n.passes (elim (cases_Bool mid.state.is_done) [ inl e ↦ let d = j.done e in absurd (cc) | inr e ↦ e ])) (j.passes g);
+    ended = λ e. elim (j.ended e) [ inl k ↦ let P : R → Type 0 = λ v. reader.at_end v ≡ true in subst P (sym (j.idle k).1) (n.ended k) | inr k ↦ k ];
+    lazy = lazy-join number mid n c o j.idle j.lazy;
+  }
 
   -- no line was found
   pub joins-refused : {s u : ReaderState} {from to : R} {e : LineError} → FindsError reader s from e u to → JoinsError reader s from e u to
@@ -542,132 +537,91 @@ module _ {R : Type 0} {reader : Reader R} where
 
 -- ---- the rest of a logical line
 
--- what is kept of the text of a line
-pub kept-text : (e : Encoding) (bytes text : List ℕ) (is_kept : Bool) → KeepsText e bytes is_kept text → chars (if is_kept then text else bytes) ≡ decoded_line e bytes
-kept-text e bytes text true h = h
-kept-text e bytes text false h = h.1
+natural-bytes : (place : Place) (natural decoded joined : List ℕ) → is_natural place ≡ true → bytes_at place natural decoded joined ≡ natural
+natural-bytes Natural natural decoded joined h = refl
+natural-bytes Decoded natural decoded joined h = absurd (cc)
+natural-bytes Joined natural decoded joined h = absurd (cc)
 
-pub kept-utf8 : (e : Encoding) (bytes text : List ℕ) (is_kept : Bool) → KeepsText e bytes is_kept text → is_kept ≡ false → IsUtf8 bytes
-kept-utf8 e bytes text true h k = absurd (cc)
-kept-utf8 e bytes text false h k = h.0
+joined-bytes : (place : Place) (natural decoded joined : List ℕ) → place ≡ Joined
+    → (bytes_at place natural decoded joined ≡ joined) × (is_natural place ≡ false)
+joined-bytes place natural decoded joined h = rw h (refl, refl)
 
--- a line without a backslash opens no join
-opens-escaped : (found : Finder) → is_open (line_text found) ≡ true → holds_backslash found.line ≡ false → ⊥
-opens-escaped found o plain =
-    let closed = plain-closed (line_text found) (unescaped-decoded found.state.encoding found.line plain) in
-    absurd (cc)
+-- a search found no backslash
+pub none-found : (bytes : List ℕ) (found : Option ℕ) → IsFirstByte (is_byte backslash) bytes found → is_some found ≡ false → holds_backslash bytes ≡ false
+none-found bytes None h k = found_none bytes h
+none-found bytes (Some at) h k = absurd (cc)
 
 module _ {R : Type 0} {reader : Reader R} where
   -- the line is a logical line
-  pub reads-alone : {from : R} (found : Finder) (line : LogicalLine) → IsNotContinued (line_text found) → KeepsText found.state.encoding found.line line.is_kept line.text
-      → found.error ≡ None → ReadsWhole reader found from found.state.passed found line from
-  reads-alone found line c keeps error =
-      let text = kept-text found.state.encoding found.line line.text line.is_kept keeps in
-      record {
-        number_is = refl;
-        error = error;
-        text = kept-utf8 found.state.encoding found.line line.text line.is_kept keeps;
-        comes = λ n. joins-alone found.state.passed found (text_with line found.line) n c text;
-        encoding = λ d. (d, refl);
-        plain = λ h. ap holds_backslash text ∙ unescaped-decoded found.state.encoding found.line h;
-      }
+  pub reads-alone : {from : R} (found : Finder) (line : LogicalLine) (has_backslash : Bool) → IsNotContinued (line_text found)
+      → HasText line found.line (line_text found)
+      → HasRightLineFlags found → (has_backslash ≡ false → holds_backslash found.line ≡ false) → found.error ≡ None
+      → ReadsWhole reader found from found.state.passed found line has_backslash from
+  reads-alone {from} found line has_backslash c h flags plain error = record {
+    number_is = refl;
+    error = error;
+    well = h.well;
+    comes = λ {S} {start} n.
+        let P : List ℕ → Type 0 = λ v. JoinsLine reader S start (record { number = found.state.passed; text = v }) found.state from in
+        subst P (sym h.is) (line-alone found.state.passed found n c);
+    ascii = λ k.
+        let both = and_parts found.is_ascii (is_natural line.place) k in
+        subst IsAscii (sym (natural-bytes line.place found.line line.decoded line.joined both.1)) ((flags 0 0).ascii.0 both.0).1;
+    plain = λ k. sym (holds-in line.encoding (bytes_with line found.line) h.well) ∙ ap holds_backslash h.is
+        ∙ unescaped-decoded found.state.encoding found.line (plain k);
+  }
 
   -- and so is it with the lines that are joined to it
-  pub reads-joined : {from to : R} (found lines : Finder) (begun line : LogicalLine) → OpensJoin (line_text found) begun
-      → JoinsAll reader found.state from (chars begun.text) (chars line.text) lines.state to → lines.error ≡ None → line.is_kept ≡ true
-      → ReadsWhole reader found from found.state.passed lines line to
-  reads-joined {from} {to} found lines begun line o j error kept =
-      let P : List ℕ → Type 0 = λ v. JoinsAll reader found.state from v (chars line.text) lines.state to in
+  pub reads-joined : {from to : R} (found lines : Finder) (begun line : LogicalLine) (has_backslash : Bool)
+      → OpensJoin found.state.encoding (line_text found) begun
+      → JoinsAll reader found.state from (unfinished_text begun) (unfinished_text line) lines.state to → lines.error ≡ None → line.place ≡ Joined
+      → IsWell line.encoding line.joined
+      → (has_backslash ≡ false → holds_backslash (bytes_with line lines.line) ≡ false)
+      → ReadsWhole reader found from found.state.passed lines line has_backslash to
+  reads-joined {from} {to} found lines begun line has_backslash o j error place well plain =
+      let P : List ℕ → Type 0 = λ v. JoinsAll reader found.state from v (unfinished_text line) lines.state to in
+      let at = joined-bytes line.place lines.line line.decoded line.joined place in
       record {
         number_is = refl;
         error = error;
-        text = λ e. absurd (cc);
+        well = subst (IsWell line.encoding) (sym at.0) well;
         comes = λ {S} {start} n.
-            let Q : Bool → Type 0 = λ v. JoinsNext reader S start found.state.passed (record { state = lines.state; line = if v then line.text else lines.line }) to in
-            subst Q (sym kept) (joins-joined found.state.passed found (chars line.text) lines.state n o.other o.opens (subst P o.closed j)).0;
-        encoding = j.encoding;
-        plain = λ h. absurd (opens-escaped found o.opens h);
+            let Q : List ℕ → Type 0 = λ v. JoinsLine reader S start (numbered_bytes found.state.passed line.encoding v) lines.state to in
+            subst Q (sym at.0) (joins-joined found.state.passed found (unfinished_text line) lines.state n o.other o.opens (subst P o.closed j));
+        ascii = λ k. let both = and_parts lines.is_ascii (is_natural line.place) k in let not = at.1 in absurd (cc);
+        plain = plain;
       }
 
   -- these can't be read to their end
-  pub reads-broken : {from to : R} (found lines : Finder) (begun : List ℕ) → is_comment_line (line_text found) ≡ false → is_open (line_text found) ≡ true
-      → begun ≡ without_open_backslash (line_text found) → JoinsNone reader found from begun lines to → ReadsNone reader found from lines to
-  reads-broken {from} {to} found lines begun c o closed j =
+  pub reads-broken : {from to : R} (found lines : Finder) (begun : LogicalLine) → OpensJoin found.state.encoding (line_text found) begun
+      → JoinsNone reader found from (unfinished_text begun) lines to → ReadsNone reader found from lines to
+  reads-broken {from} {to} found lines begun o j =
       let P : List ℕ → Type 0 = λ v. JoinError reader found.state from v j.error lines.state to in
-      record { done = j.done; error = j.error; kept = j.kept; why = λ n. joins-broken found.state.passed found n c o j.live (subst P closed j.why) }
+      record { done = j.done; error = j.error; kept = j.kept; why = λ n. joins-broken found.state.passed found n o.other o.opens j.live (subst P o.closed j.why) }
 
   -- there was no memory for its text
   pub reads-no_room : {from : R} (found lines : Finder) → lines ≡ failed found why.Memory → ReadsNone reader found from lines from
   reads-no_room found lines e =
       rw e (record { done = refl; error = why.Memory; kept = refl; why = λ n. joins-no_room found.state.passed found n refl })
 
--- ---- lines that aren't decoded
-
--- a line without a backslash isn't continued
-pub plain-whole : (d : List ℕ) → holds_backslash d ≡ false → is_continued d ≡ false
-plain-whole d plain = continued-closed d (plain-closed d plain)
-
--- a line that isn't continued by its bytes is a logical line
-whole-undecoded : (found : Finder) → found.state.encoding ≡ windows_1252 → is_continued found.line ≡ false → IsNotContinued (line_text found)
-whole-undecoded found e h =
-    let P : Encoding → Type 0 = λ v. is_continued (decoded_line v found.line) ≡ is_continued found.line in
-    stands-alone (line_text found) (subst P (sym e) (continued-decoded found.line) ∙ h)
-
--- one that is is no comment, and open
-open-undecoded : (found : Finder) → found.state.encoding ≡ windows_1252 → is_continued found.line ≡ true → (is_comment_line (line_text found) ≡ false) × (is_open (line_text found) ≡ true)
-open-undecoded found e h =
-    let P : Encoding → Type 0 = λ v. is_continued (decoded_line v found.line) ≡ is_continued found.line in
-    continued-both (line_text found) (subst P (sym e) (continued-decoded found.line) ∙ h)
-
--- its text, without the backslash
-begun-undecoded : (found : Finder) (begun : List ℕ) → found.state.encoding ≡ windows_1252 → begun ≡ without_open_backslash found.line
-    → decoded_line windows_1252 begun ≡ without_open_backslash (line_text found)
-begun-undecoded found begun e h =
-    let P : Encoding → Type 0 = λ v. decoded_line windows_1252 begun ≡ without_open_backslash (decoded_line v found.line) in
-    subst P (sym e) (begun-decoded found.line begun h)
-
-module _ {R : Type 0} {reader : Reader R} where
-  -- the lines that continue it are of windows-1252 too
-  pub goes-windows_1252 : {s t : ReaderState} {from to next : R} {old r text : List ℕ} (number : ℕ) (found : Finder) → IsWindows1252 s → GoesOn reader s from old r text t to
-      → finder.FindsNext reader t to number found next → found.state.encoding ≡ windows_1252
-  goes-windows_1252 number found w h n = let a = h.encoding w.0 in let b = n.encoding a.0 in b.1 ∙ a.1 ∙ w.1
-
-  -- it is a logical line with those that were joined to it
-  reads-bytes : {from to : R} (found lines : Finder) (bytes : List ℕ) → (is_comment_line (line_text found) ≡ false) × (is_open (line_text found) ≡ true)
-      → JoinsAll reader found.state from (without_open_backslash (line_text found)) (decoded_line windows_1252 bytes) lines.state to → lines.error ≡ None
-      → ReadsContinued reader found from lines bytes to
-  reads-bytes found lines bytes o j error = record {
-    error = error;
-    comes = λ n.
-        let read = joins-joined found.state.passed found (decoded_line windows_1252 bytes) lines.state n o.0 o.1 j in
-        (read.0, ap (λ v. let w : format.Line = v in is_continued w.text) read.1 ∙ continued-other (line_text found) o.0 ∙ o.1);
-    encoding = j.encoding;
-  }
-
--- the line and those that were joined to it were read to their end, or not
-pub reads-all_bytes : {R : Type 0} (reader : Reader R) (from to : R) (found lines : Finder) (begun bytes : List ℕ) (result : Bool) → found.state.encoding ≡ windows_1252
-    → is_continued found.line ≡ true → begun ≡ without_open_backslash found.line
-    → JoinsOn reader found from (decoded_line windows_1252 begun) result lines to (decoded_line windows_1252 bytes) → ReadsJoined reader found from result lines bytes to
-reads-all_bytes reader from to found lines begun bytes true e h closed j =
-    let P : List ℕ → Type 0 = λ v. JoinsAll reader found.state from v (decoded_line windows_1252 bytes) lines.state to in
-    reads-bytes found lines bytes (open-undecoded found e h) (subst P (begun-undecoded found begun e closed) j.0) j.1
-reads-all_bytes reader from to found lines begun bytes false e h closed j =
-    let o = open-undecoded found e h in
-    reads-broken found lines (decoded_line windows_1252 begun) o.0 o.1 (begun-undecoded found begun e closed) j
-
 -- ---- the next logical line
 
--- what a contract sees of the joiner of this reader, this line and these joined bytes
-abbrev pub joining : Finder → LogicalLine → List ℕ → Bool → Bool → Joining
-joining lines line joined is_joined has_backslash =
-    record { at = joiner_of lines line; bytes = if is_joined then joined else lines.line; has_backslash = has_backslash; error = lines.error }
+-- what a contract sees of the joiner of this reader and this line
+abbrev pub joining : Finder → LogicalLine → Bool → Joining
+joining lines line has_backslash = record {
+  at = record { state = lines.state; line = bytes_with line lines.line };
+  encoding = line.encoding;
+  is_ascii = lines.is_ascii && is_natural line.place;
+  has_backslash = has_backslash;
+  error = lines.error;
+}
 
 module _ {R : Type 0} {reader : Reader R} where
   -- no line was found
-  pub joins-none : {from to : R} (before after : Finder) (line : LogicalLine) (joined : List ℕ) (is_joined has_backslash : Bool) → Finds reader before from false after to
-      → Joins reader (joining before line joined is_joined has_backslash) from None (joining after line joined is_joined has_backslash) to
-  joins-none before after line joined is_joined has_backslash (inl h) = inl (h.0, ap (λ v. joining v line joined is_joined has_backslash) h.1, h.2)
-  joins-none before after line joined is_joined has_backslash (inr h) = inr (record {
+  pub joins-none : {from to : R} (before after : Finder) (line : LogicalLine) (has_backslash : Bool) → Finds reader before from false after to
+      → JoinsNoLine reader (joining before line has_backslash) from (joining after line has_backslash) to
+  joins-none before after line has_backslash (inl h) = inl (h.0, ap (λ v. joining v line has_backslash) h.1, h.2)
+  joins-none before after line has_backslash (inr h) = inr (record {
     live = h.live;
     done = h.failed.done;
     error = h.error;
@@ -675,75 +629,52 @@ module _ {R : Type 0} {reader : Reader R} where
     why = joins-refused h.why;
   })
 
-  -- the line is borrowed
-  pub joins-borrowed : {from to : R} (old : Joining) (found : Finder) (line : LogicalLine) (joined : List ℕ) (is_joined : Bool)
-      → finder.FindsNext reader old.at.state from found.state.passed found to × HasRightLineFlags found × (found.error ≡ None) → found.is_ascii ≡ true → found.has_backslash ≡ false
-      → line.is_kept ≡ false → Joins reader old from (Some found.state.passed) (joining found line joined is_joined false) to
-  joins-borrowed {from} {to} old found line joined is_joined n is_ascii none kept =
-      let e = found.state.encoding in
-      let text = (ascii-keeps e found.line (known-ascii found e found.line found.is_ascii n.1 refl refl refl is_ascii)).1 in
-      let plain = unescaped-decoded e found.line (known-plain found found.line found.has_backslash n.1 refl refl none) in
-      let bytes = if is_joined then joined else found.line in
-      let P : Bool → Type 0 = λ v. Joins reader old from (Some found.state.passed)
-      (record { at = record { state = found.state; line = if v then line.text else found.line }; bytes = bytes; has_backslash = false; error = found.error }) to in
-      let borrowed = joins-alone found.state.passed found found.line n.0 (inr (plain-closed (line_text found) plain)) text in
-      subst P (sym kept) (borrowed, λ h. ap holds_backslash text ∙ plain, n.2)
-
-  -- it couldn't be read
-  pub joins-broken_off : {from mid : R} (to : R) (old : Joining) (found lines : Finder) (line : LogicalLine) (joined : List ℕ) (is_joined : Bool) (has_backslash : Bool)
-      → finder.FindsNext reader old.at.state from found.state.passed found mid → ReadsNone reader found mid lines to
-      → Joins reader old from None (joining lines line joined is_joined has_backslash) to
-  joins-broken_off to old found lines line joined is_joined has_backslash n h = inr (record { live = n.live; done = h.done; error = h.error; kept = h.kept; why = h.why n })
-
   -- the rest of it was read
-  pub joins-rest : {from mid : R} (to : R) (old : Joining) (found lines : Finder) (line : LogicalLine) (joined : List ℕ) (is_joined : Bool) (result : Option ℕ) (has_backslash : Bool)
-      → finder.FindsNext reader old.at.state from found.state.passed found mid × HasRightLineFlags found × (found.error ≡ None) → has_backslash ≡ found.has_backslash
-      → ReadsRest reader found mid result lines line to → Joins reader old from result (joining lines line joined is_joined has_backslash) to
-  joins-rest {from} {mid} to old found lines line joined is_joined (Some number) has_backslash n same h =
+  pub joins-rest : {from mid : R} (to : R) (old : Joining) (found lines : Finder) (line : LogicalLine) (result : Option ℕ) (has_backslash : Bool)
+      → finder.FindsNext reader old.at.state from found.state.passed found mid → ReadsRest reader found mid result lines line has_backslash to
+      → Advances reader old from result (joining lines line has_backslash) to
+  joins-rest {from} {mid} to old found lines line (Some number) has_backslash n h =
       let P : ℕ → Type 0 = λ v. finder.FindsNext reader old.at.state from v found mid in
-      (h.comes (subst P (sym h.number_is) n.0), λ e. h.plain (known-plain found found.line has_backslash n.1 refl same e), h.error)
-  joins-rest to old found lines line joined is_joined None has_backslash n same h = joins-broken_off to old found lines line joined is_joined has_backslash n.0 h.0
+      record { joins = h.comes (subst P (sym h.number_is) n); well = h.well; ascii = h.ascii; plain = h.plain; error = h.error }
+  joins-rest to old found lines line None has_backslash n h = inr (record { live = n.live; done = h.done; error = h.error; kept = h.kept; why = h.why n })
 
-  -- the line isn't decoded
-  pub joins-undecoded : {from to : R} (old : Joining) (found : Finder) (line : LogicalLine) (joined : List ℕ) (has_backslash : Bool)
-      → finder.FindsNext reader old.at.state from found.state.passed found to × HasRightLineFlags found × (found.error ≡ None) → has_backslash ≡ found.has_backslash
-      → found.state.encoding ≡ windows_1252 → is_continued found.line ≡ false
-      → JoinsBytes reader old from found.state.passed (joining found line joined false has_backslash) to
-  joins-undecoded {from} {to} old found line joined has_backslash n same e c =
-      let P : Encoding → Type 0 = λ v. JoinsLine reader old.at.state from (record { number = found.state.passed; text = decoded_line v found.line }) found.state to in
-      record {
-        joins = subst P e (line-alone found.state.passed found n.0 (whole-undecoded found e c));
-        encoding = e;
-        backslash = inl (same ∙ (n.1 0 0).backslash);
-        plain = λ h. unescaped-decoded windows_1252 found.line (known-plain found found.line has_backslash n.1 refl same h);
-        error = n.2;
-      }
+  -- the line is borrowed
+  pub joins-borrowed : {from to : R} (old : Joining) (found : Finder) (line : LogicalLine) (has_backslash : Bool)
+      → finder.FindsNext reader old.at.state from found.state.passed found to × HasRightLineFlags found × (found.error ≡ None)
+      → has_backslash ≡ found.has_backslash
+      → line.place ≡ Natural → line_of line.encoding ≡ output_encoding found.state.encoding → IsLineIn found.state.encoding found.line
+      → is_open found.line ≡ false
+      → Advances reader old from (Some found.state.passed) (joining found line has_backslash) to
+  joins-borrowed {to = to} old found line has_backslash n same place to_is told closed =
+      let b = line-in found.state.encoding line.encoding found.line to_is told in
+      let open_text : is_open (line_text found) ≡ false = ap is_open (sym b.is) ∙ (joins-alike line.encoding found.line b.well).opens ∙ closed in
+      let here : bytes_with line found.line ≡ found.line = rw place refl in
+      let text : HasText line found.line (line_text found) = record { well = subst (IsWell line.encoding) (sym here) b.well; is = ap (text_in line.encoding) here ∙ b.is } in
+      joins-rest to old found found line (Some found.state.passed) has_backslash n.0
+      (reads-alone found line has_backslash (inr open_text) text n.1 (known-plain found has_backslash n.1 same) n.2)
 
-  -- it is joined with others
-  pub joins-bytes : {from mid : R} (to : R) (old : Joining) (found lines : Finder) (line : LogicalLine) (joined : List ℕ) (has_backslash : Bool)
-      → finder.FindsNext reader old.at.state from found.state.passed found mid × HasRightLineFlags found × (found.error ≡ None) → has_backslash ≡ found.has_backslash
-      → found.state.encoding ≡ windows_1252 → is_continued found.line ≡ true → ReadsContinued reader found mid lines joined to
-      → JoinsBytes reader old from found.state.passed (joining lines line joined true has_backslash) to
-  joins-bytes to old found lines line joined has_backslash n same e c h =
-      let read = h.comes n.0 in
-      record {
-        joins = read.0;
-        encoding = (h.encoding n.0.decided).1 ∙ e;
-        backslash = inr read.1;
-        plain = λ k. let closed = plain-whole found.line (known-plain found found.line has_backslash n.1 refl same k) in absurd (cc);
-        error = h.error;
-      }
+-- ---- as a text
 
-  -- it is in another encoding, and the rest of it was read
-  pub joins-text : {from mid : R} (to : R) (old : Joining) (found lines : Finder) (line : LogicalLine) (joined : List ℕ) (is_joined : Bool) (number : ℕ) (has_backslash : Bool)
-      → finder.FindsNext reader old.at.state from found.state.passed found mid × HasRightLineFlags found × (found.error ≡ None) → has_backslash ≡ found.has_backslash
-      → found.state.encoding ≢ windows_1252 → ReadsWhole reader found mid number lines line to
-      → JoinsText reader old from number (joining lines line joined is_joined has_backslash) to
-  joins-text {from} {mid} to old found lines line joined is_joined number has_backslash n same other h =
-      let P : ℕ → Type 0 = λ v. finder.FindsNext reader old.at.state from v found mid in
-      record {
-        joins = h.comes (subst P (sym h.number_is) n.0);
-        other = λ e. other (sym (h.encoding n.0.decided).1 ∙ e);
-        plain = λ e. h.plain (known-plain found found.line has_backslash n.1 refl same e);
-        error = h.error;
-      }
+module _ {R : Type 0} {reader : Reader R} where
+  -- these bytes are its text
+  pub joins-text : {from to : R} (old new : Joining) (number : ℕ) (encoding : LineEncoding) (is_ascii : Bool) (line : List ℕ)
+      → JoinsBytes reader old from number new to
+      → IsTextOf (text_in new.encoding new.at.line) line
+      → Joins reader old from (Some number) (record new { at = record new.at { line = line }; encoding = encoding; is_ascii = is_ascii }) to
+  joins-text {from} {to} old new number encoding is_ascii line h text =
+      let P : List ℕ → Type 0 = λ v. JoinsLine reader old.at.state from (record { number = number; text = v }) new.at.state to in (
+        subst P (sym text.characters) h.joins,
+        λ k. ap holds_backslash text.characters ∙ holds-in new.encoding new.at.line h.well ∙ h.plain k,
+        h.error,
+      )
+
+  -- there was no memory for it
+  pub joins-no_text : {from to : R} (old new failed : Joining) (number : ℕ) → JoinsBytes reader old from number new to → failed.at.state.is_done ≡ true
+      → failed.error ≡ Some why.Memory → JoinsNoLine reader old from failed to
+  joins-no_text old new failed number h done error = inr (record {
+    live = h.joins.live;
+    done = done;
+    error = why.Memory;
+    kept = error;
+    why = inr (inr (record { bytes = h.joins.bytes; read = h.joins.read; is = refl; lazy = h.joins.lazy }));
+  })

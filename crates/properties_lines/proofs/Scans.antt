@@ -154,6 +154,7 @@ more-of old mid held f g n h holds = record {
   line = ap (λ v. let w : Scanner = v in w.line) h.same;
   encoding = λ d. (ap is_decided (settled h), kept-encoding (scanner_state old held) (encoding_of mid.encoding) (drop mid.at held) d h.front);
   stays = stays old.front refl;
+  front = inr h.front;
   fits = record {
     within = h.fits.within;
     searched = searched-whole (encoding_of mid.encoding) (drop mid.at held) holds.none;

@@ -1,9 +1,8 @@
 -- The joiner of lines as contracts see it, and the results and effects of its calls.
-use Rattle.std.specs.Prelude.{◌≡◌, ◌≢◌, ◌⊎◌, ◌++◌, ℕ, Bool, true, false, List, [], ◌∷◌, Option, Some, None}
-use Rattle.std.specs.Str.{chars, IsUtf8}
+use Rattle.std.specs.Prelude.{◌≡◌, ◌⊎◌, ◌++◌, ◌&&◌, ℕ, Bool, true, false, List, [], ◌∷◌, Option, Some, None}
+use Rattle.std.specs.Str.{chars, IsAscii}
 use Rattle.std.specs.declared.io.Error.{Error}
 use Rattle.counted_io.specs.Streams.{Reader, HasRead, HasFailed}
-use Rattle.properties_format.specs.Encoding.{windows_1252}
 use Rattle.properties_format.specs.Lines as format
 use Rattle.properties_format.specs.Lines.{InputEnd, end, fault, more}
 use Rattle.properties_format.specs.Groups.{is_open, joined, joined_after, AreOpen, EndsClosed, IsWhole, IsUnfinished}
@@ -14,32 +13,37 @@ use Rattle.properties_format.specs.Computed.Items.{outcome_of, followed}
 use Rattle.properties_format.specs.Computed.ItemsToCome.{items_to_come, entries_pending}
 use Rattle.properties_format.specs.Computed.ReaderSteps.{ReadsLogical}
 use Rattle.properties_text.specs.Escaping.{holds_backslash}
+use Rattle.properties_text.specs.Spelt.{text_in, IsWell}
+use Rattle.properties_text.specs.declared.encoding.line.LineEncoding.{LineEncoding}
 use Rattle.properties_lines.specs.LineReader as finder
 use Rattle.properties_lines.specs.LineReader.{Finder, Passes, PassesSome, PassesAll}
 use Rattle.properties_lines.specs.Scanner.{KeepsEncoding}
-use Rattle.properties_lines.specs.LogicalLine.{text_with, is_continued}
+use Rattle.properties_lines.specs.LogicalLine.{bytes_with, is_natural}
 use Rattle.properties_lines.specs.declared.logical.LogicalLine.{LogicalLine}
 use Rattle.properties_lines.specs.declared.error.LineError.TheVariants as why
 use Rattle.properties_lines.specs.declared.error.LineError.{LineError}
-use Rattle.properties_lines.specs.declared.joiner.NextLine.{NextLine}
-use Rattle.properties_lines.specs.declared.joiner.NextLine.TheVariants as next
 
--- its state, and the text of the line that was joined last, in UTF-8
+-- its state, and the bytes of the line that was joined last
 pub record Joiner : Type 0 where
   pub state : ReaderState
   pub line : List ℕ
 
--- the joiner, the bytes of the line that was joined last if it isn't decoded, whether that line may contain a backslash,
--- and the error that is kept
+-- the joiner, the encoding of that line, whether it is known to be ASCII, whether it may contain a backslash, and the
+-- error that is kept
 pub record Joining : Type 0 where
   pub at : Joiner
-  pub bytes : List ℕ
+  pub encoding : LineEncoding
+  pub is_ascii : Bool
   pub has_backslash : Bool
   pub error : Option LineError
 
--- that line with a number
+-- that line with a number, if it is in UTF-8
 abbrev pub numbered_line : ℕ → Joiner → format.Line
 numbered_line number joiner = record { number = number; text = chars joiner.line }
+
+-- that line with a number
+abbrev pub numbered_bytes : ℕ → LineEncoding → List ℕ → format.Line
+numbered_bytes number encoding bytes = record { number = number; text = text_in encoding bytes }
 
 -- the text of the line that was found, decoded
 abbrev pub line_text : Finder → List ℕ
@@ -229,61 +233,42 @@ pub record StopsJoining {R : Type 0} (reader : Reader R) (old : Joining) (from :
   pub kept : new.error ≡ Some error
   pub why : JoinsError reader old.at.state from error new.at.state to
 
--- The effect of advancing to the next logical line. After the permanent end, nothing is read.
+-- No line was returned. After the permanent end, nothing is read.
+abbrev pub JoinsNoLine : {R : Type 0} → Reader R → Joining → R → Joining → R → Type 0
+JoinsNoLine reader old from new to = (old.at.state.is_done ≡ true) × (new ≡ old) × (to ≡ from) ⊎ StopsJoining reader old from new to
+
+-- The effect of advancing to the next logical line as a text.
 abbrev pub Joins : {R : Type 0} → Reader R → Joining → R → Option ℕ → Joining → R → Type 0
-Joins reader old from None new to =
-    (old.at.state.is_done ≡ true) × (new ≡ old) × (to ≡ from) ⊎ StopsJoining reader old from new to
+Joins reader old from None new to = JoinsNoLine reader old from new to
 Joins reader old from (Some number) new to =
     JoinsNext reader old.at.state from number new.at to × (new.has_backslash ≡ false → holds_backslash (chars new.at.line) ≡ false)
     × (new.error ≡ None)
 
--- ---- lines that aren't decoded
-
--- A line of windows-1252 was read, and it wasn't decoded. Whether it may contain a backslash is exact, unless its first
--- natural line is continued.
+-- A logical line was returned, in windows-1252 or in well-formed UTF-8.
 pub record JoinsBytes {R : Type 0} (reader : Reader R) (old : Joining) (from : R) (number : ℕ) (new : Joining) (to : R) : Type 0 where
-  pub joins : JoinsLine reader old.at.state from (record { number = number; text = decoded_line windows_1252 new.bytes }) new.at.state to
-  pub encoding : new.at.state.encoding ≡ windows_1252
-  pub backslash : (new.has_backslash ≡ holds_backslash new.bytes) ⊎ (is_continued joins.group.first.text ≡ true)
-  pub plain : new.has_backslash ≡ false → holds_backslash (decoded_line windows_1252 new.bytes) ≡ false
+  pub joins : JoinsLine reader old.at.state from (numbered_bytes number new.encoding new.at.line) new.at.state to
+  pub well : IsWell new.encoding new.at.line
+  pub ascii : new.is_ascii ≡ true → IsAscii new.at.line
+  pub plain : new.has_backslash ≡ false → holds_backslash new.at.line ≡ false
   pub error : new.error ≡ None
 
--- A text in another encoding was returned.
-pub record JoinsText {R : Type 0} (reader : Reader R) (old : Joining) (from : R) (number : ℕ) (new : Joining) (to : R) : Type 0 where
-  pub joins : JoinsNext reader old.at.state from number new.at to
-  pub other : new.at.state.encoding ≢ windows_1252
-  pub plain : new.has_backslash ≡ false → holds_backslash (chars new.at.line) ≡ false
-  pub error : new.error ≡ None
-
--- The effect of advancing to the next logical line, which isn't decoded if it is in windows-1252. After the permanent
--- end, nothing is read.
-abbrev pub JoinsUndecoded : {R : Type 0} → Reader R → Joining → R → NextLine → Joining → R → Type 0
-JoinsUndecoded reader old from (next.Undecoded number) new to = JoinsBytes reader old from number new to
-JoinsUndecoded reader old from (next.Text number) new to = JoinsText reader old from number new to
-JoinsUndecoded reader old from next.None new to = Joins reader old from None new to
-
--- This holds if there is a line.
-abbrev pub OnLine : NextLine → Type 0 → Type 0
-OnLine (next.Undecoded number) p = p
-OnLine (next.Text number) p = p
-OnLine next.None p = Unit {0}
+-- The effect of advancing to the next logical line.
+abbrev pub Advances : {R : Type 0} → Reader R → Joining → R → Option ℕ → Joining → R → Type 0
+Advances reader old from None new to = JoinsNoLine reader old from new to
+Advances reader old from (Some number) new to = JoinsBytes reader old from number new to
 
 -- ---- the rest of a logical line
 
--- the joiner of this reader and this line
-abbrev pub joiner_of : Finder → LogicalLine → Joiner
-joiner_of lines line = record { state = lines.state; line = text_with line lines.line }
-
 -- The natural line that was found, with this number, is a logical line on its own or with the lines that were joined to
 -- it.
-pub record ReadsWhole {R : Type 0} (reader : Reader R) (old : Finder) (from : R) (number : ℕ) (lines : Finder) (line : LogicalLine) (to : R) : Type 0 where
+pub record ReadsWhole {R : Type 0} (reader : Reader R) (old : Finder) (from : R) (number : ℕ) (lines : Finder) (line : LogicalLine) (has_backslash : Bool) (to : R) : Type 0 where
   pub number_is : number ≡ old.state.passed
   pub error : lines.error ≡ None
-  pub text : line.is_kept ≡ false → IsUtf8 lines.line
+  pub well : IsWell line.encoding (bytes_with line lines.line)
   pub comes : {S : ReaderState} {start : R} → finder.FindsNext reader S start number old from
-      → JoinsNext reader S start number (joiner_of lines line) to
-  pub encoding : KeepsEncoding old.state lines.state
-  pub plain : holds_backslash old.line ≡ false → holds_backslash (chars (text_with line lines.line)) ≡ false
+      → JoinsLine reader S start (numbered_bytes number line.encoding (bytes_with line lines.line)) lines.state to
+  pub ascii : (lines.is_ascii && is_natural line.place) ≡ true → IsAscii (bytes_with line lines.line)
+  pub plain : has_backslash ≡ false → holds_backslash (bytes_with line lines.line) ≡ false
 
 -- It isn't, and the reading ended permanently.
 pub record ReadsNone {R : Type 0} (reader : Reader R) (old : Finder) (from : R) (lines : Finder) (to : R) : Type 0 where
@@ -292,21 +277,6 @@ pub record ReadsNone {R : Type 0} (reader : Reader R) (old : Finder) (from : R) 
   pub kept : lines.error ≡ Some error
   pub why : {S : ReaderState} {start : R} → finder.FindsNext reader S start old.state.passed old from → JoinsError reader S start error lines.state to
 
-abbrev pub ReadsRest : {R : Type 0} → Reader R → Finder → R → Option ℕ → Finder → LogicalLine → R → Type 0
-ReadsRest reader old from (Some number) lines line to = ReadsWhole reader old from number lines line to
-ReadsRest reader old from None lines line to = ReadsNone reader old from lines to × (line.is_kept ≡ false → IsUtf8 lines.line)
-
--- The encoding in force is windows-1252.
-abbrev pub IsWindows1252 : ReaderState → Type 0
-IsWindows1252 s = (s.is_decided ≡ true) × (s.encoding ≡ windows_1252)
-
--- The natural line of windows-1252 that was found was joined with those that continue it, and these are the bytes.
-pub record ReadsContinued {R : Type 0} (reader : Reader R) (old : Finder) (from : R) (lines : Finder) (bytes : List ℕ) (to : R) : Type 0 where
-  pub error : lines.error ≡ None
-  pub comes : {S : ReaderState} {start : R} → finder.FindsNext reader S start old.state.passed old from
-      → (n : JoinsLine reader S start (record { number = old.state.passed; text = decoded_line windows_1252 bytes }) lines.state to) × (is_continued n.group.first.text ≡ true)
-  pub encoding : KeepsEncoding old.state lines.state
-
-abbrev pub ReadsJoined : {R : Type 0} → Reader R → Finder → R → Bool → Finder → List ℕ → R → Type 0
-ReadsJoined reader old from true lines bytes to = ReadsContinued reader old from lines bytes to
-ReadsJoined reader old from false lines bytes to = ReadsNone reader old from lines to
+abbrev pub ReadsRest : {R : Type 0} → Reader R → Finder → R → Option ℕ → Finder → LogicalLine → Bool → R → Type 0
+ReadsRest reader old from (Some number) lines line has_backslash to = ReadsWhole reader old from number lines line has_backslash to
+ReadsRest reader old from None lines line has_backslash to = ReadsNone reader old from lines to

@@ -1,57 +1,112 @@
--- The text of a logical line, kept or joined.
-use Rattle.std.specs.Prelude.{◌≡◌, ◌⊎◌, ◌++◌, ℕ, Bool, true, false, if◌then◌else◌, List, Result, Ok, Err}
-use Rattle.std.specs.Str.{chars, IsAscii, IsUtf8}
-use Rattle.properties_format.specs.Encoding.{Encoding}
+-- The bytes of a logical line.
+use Rattle.std.specs.Prelude.{◌≡◌, ◌⊎◌, ◌≤◌, ◌++◌, ℕ, Bool, true, false, if◌then◌else◌, List, length, take, Result, Ok, Err}
+use Rattle.std.specs.Str.{chars, IsUtf8}
+use Rattle.properties_format.specs.Encoding.{Encoding, windows_1252, utf_8, utf_16le, utf_16be, output_encoding}
 use Rattle.properties_format.specs.Groups.{is_comment_line, is_open, addition, without_open_backslash}
+use Rattle.properties_format.specs.Utf8.{IsWellFormedText}
 use Rattle.properties_format.specs.Computed.Cut.{decoded_line}
-use Rattle.properties_lines.specs.LineSearch.{unit_size}
+use Rattle.properties_text.specs.Encoding.{line_of}
+use Rattle.properties_text.specs.Spelt.{text_in, IsWell}
+use Rattle.properties_text.specs.declared.encoding.line.LineEncoding.TheVariants.{Utf8}
+use Rattle.properties_lines.specs.declared.logical.Place.{Place}
+use Rattle.properties_lines.specs.declared.logical.Place.TheVariants.{Natural, Decoded, Joined}
 use Rattle.properties_lines.specs.declared.logical.LogicalLine.{LogicalLine}
 
--- the text: the kept text, or else the bytes of the only natural line
-abbrev pub text_with : LogicalLine → List ℕ → List ℕ
-text_with line bytes = if line.is_kept then line.text else bytes
+-- ---- where the bytes are
 
--- The bytes are ASCII characters of one byte each.
-abbrev pub IsAsciiLine : Encoding → List ℕ → Type 0
-IsAsciiLine e bytes = (unit_size e ≡ 1) × IsAscii bytes
+abbrev pub is_natural : Place → Bool
+is_natural Natural = true
+is_natural Decoded = false
+is_natural Joined = false
 
--- The bytes of a line were decoded, and their text is kept; or the bytes are the text.
-abbrev pub KeepsText : Encoding → List ℕ → Bool → List ℕ → Type 0
-KeepsText e bytes true text = chars text ≡ decoded_line e bytes
-KeepsText e bytes false text = IsUtf8 bytes × (chars bytes ≡ decoded_line e bytes)
+abbrev pub bytes_at : Place → (natural decoded joined : List ℕ) → List ℕ
+bytes_at Natural natural decoded joined = natural
+bytes_at Decoded natural decoded joined = decoded
+bytes_at Joined natural decoded joined = joined
 
--- A text was joined to an unfinished line, and the result says whether it is open.
+-- the bytes, given those of the natural line
+abbrev pub bytes_with : LogicalLine → List ℕ → List ℕ
+bytes_with line natural = bytes_at line.place natural line.decoded line.joined
+
+-- What was decoded is in UTF-8.
+abbrev pub IsSound : LogicalLine → Type 0
+IsSound line = line.place ≡ Decoded → line.encoding ≡ Utf8
+
+-- The second list begins with the first.
+pub record BeginsWith (bytes whole : List ℕ) : Type 0 where
+  pub front : take (length bytes) whole ≡ bytes
+  pub within : length bytes ≤ length whole
+
+-- ---- what they say
+
+-- The line, over this natural line, is well-formed and has this text.
+pub record HasText (line : LogicalLine) (natural text : List ℕ) : Type 0 where
+  pub well : IsWell line.encoding (bytes_with line natural)
+  pub is : text_in line.encoding (bytes_with line natural) ≡ text
+
+-- The bytes are this text in UTF-8.
+pub record IsTextOf (text bytes : List ℕ) : Type 0 where
+  pub utf8 : IsUtf8 bytes
+  pub characters : chars bytes ≡ text
+
+-- Bytes in this encoding are in windows-1252 or in well-formed UTF-8.
+abbrev pub IsLineIn : Encoding → List ℕ → Type 0
+IsLineIn windows_1252 bytes = Unit {0}
+IsLineIn utf_8 bytes = IsWellFormedText bytes
+IsLineIn utf_16le bytes = ⊥
+IsLineIn utf_16be bytes = ⊥
+
+abbrev pub TellsLine : Encoding → List ℕ → Bool → Type 0
+TellsLine e bytes true = IsLineIn e bytes
+TellsLine e bytes false = ¬ (IsLineIn e bytes)
+
+-- ---- joining
+
+-- A line was joined to an unfinished line, and the result says whether it is open.
 abbrev pub AddsText : {E : Type 0} → List ℕ → List ℕ → Result Bool E → List ℕ → Type 0
 AddsText line old (Ok left_open) new = (left_open ≡ is_open line) × (new ≡ old ++ addition line)
 AddsText line old (Err error) new = Unit {0}
-
--- A line was joined to an unfinished line, and the result says whether it is open.
-abbrev pub AddsLine : {E : Type 0} → Encoding → List ℕ → List ℕ → Result Bool E → List ℕ → Type 0
-AddsLine e bytes old answer new = AddsText (decoded_line e bytes) old answer new
 
 -- whether the next line is joined to this one
 abbrev pub is_continued : List ℕ → Bool
 is_continued text = if is_comment_line text then false else is_open text
 
+-- The result says whether the next line is joined to this one. If so, the line is kept without the backslash that
+-- leaves it open.
+abbrev pub BeginsText : {E : Type 0} → List ℕ → Result Bool E → List ℕ → Type 0
+BeginsText line (Ok true) new = (is_continued line ≡ true) × (new ≡ without_open_backslash line)
+BeginsText line (Ok false) new = is_continued line ≡ false
+BeginsText line (Err error) new = Unit {0}
+
 -- No line is joined to this one: it is a comment, or it isn't open.
 abbrev pub IsNotContinued : List ℕ → Type 0
 IsNotContinued text = (is_comment_line text ≡ true) ⊎ (is_open text ≡ false)
 
--- The text of a line is kept without the backslash that leaves it open.
-pub record OpensJoin (text : List ℕ) (new : LogicalLine) : Type 0 where
+-- Natural lines in this encoding may be joined to the line.
+pub record IsUnfinished (e : Encoding) (line : LogicalLine) : Type 0 where
+  pub place : line.place ≡ Joined
+  pub encoding : line_of line.encoding ≡ output_encoding e
+  pub well : IsWell line.encoding line.joined
+
+-- the text of such a line
+abbrev pub unfinished_text : LogicalLine → List ℕ
+unfinished_text line = text_in line.encoding line.joined
+
+-- The line with this text is continued, and is kept without the backslash that leaves it open.
+pub record OpensJoin (e : Encoding) (text : List ℕ) (new : LogicalLine) : Type 0 where
   pub other : is_comment_line text ≡ false
   pub opens : is_open text ≡ true
-  pub kept : new.is_kept ≡ true
-  pub closed : chars new.text ≡ without_open_backslash text
+  pub unfinished : IsUnfinished e new
+  pub closed : unfinished_text new ≡ without_open_backslash text
 
--- The result says whether the line is left open. If so, the backslash that leaves it open was removed.
-abbrev pub Opens : {E : Type 0} → List ℕ → LogicalLine → Result Bool E → LogicalLine → Type 0
-Opens bytes old (Ok true) new = OpensJoin (chars (text_with old bytes)) new
-Opens bytes old (Ok false) new = IsNotContinued (chars (text_with old bytes)) × (new ≡ old)
-Opens bytes old (Err error) new = Unit {0}
-
--- The result says whether the line with these bytes is left open. If it isn't, its text is available.
+-- The result says whether the line with these bytes is left open. If it isn't, its bytes have its text.
 abbrev pub Begins : {E : Type 0} → Encoding → List ℕ → Result Bool E → LogicalLine → Type 0
-Begins e bytes (Ok true) new = OpensJoin (decoded_line e bytes) new
-Begins e bytes (Ok false) new = IsNotContinued (decoded_line e bytes) × KeepsText e bytes new.is_kept new.text
+Begins e bytes (Ok true) new = OpensJoin e (decoded_line e bytes) new
+Begins e bytes (Ok false) new = IsNotContinued (decoded_line e bytes) × HasText new bytes (decoded_line e bytes)
 Begins e bytes (Err error) new = Unit {0}
+
+-- The line with these bytes was joined to an unfinished line, and the result says whether it is open.
+abbrev pub AddsLine : {E : Type 0} → Encoding → List ℕ → LogicalLine → Result Bool E → LogicalLine → Type 0
+AddsLine e bytes old (Ok left_open) new = (left_open ≡ is_open (decoded_line e bytes))
+    × (unfinished_text new ≡ unfinished_text old ++ addition (decoded_line e bytes)) × IsUnfinished e new
+AddsLine e bytes old (Err error) new = Unit {0}

@@ -154,6 +154,7 @@ pub record AsksForMore (old : Scanner) (held : List ℕ) (new : Scanner) : Type 
   pub line : new.line ≡ old.line
   pub encoding : KeepsEncoding (scanner_state old held) (scanner_state new held)
   pub stays : (new.at ≡ old.at) × (new.front ≡ old.front) ⊎ (old.front ≢ Nothing) × (new.front ≡ Nothing)
+  pub front : (new.at ≡ old.at) ⊎ (front_of (scanner_state old held) ≡ record { encoding = encoding_of new.encoding; body = drop new.at held })
   pub fits : Fits new held
   pub saw : new.front ≡ Nothing → new.searched ≡ whole_units (encoding_of new.encoding) (length (drop new.at held))
 

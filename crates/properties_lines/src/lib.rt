@@ -10,7 +10,6 @@
 pub mod error;
 mod input;
 pub mod join;
-mod joined;
 pub mod joiner;
 pub mod logical;
 pub mod reader;

@@ -4,14 +4,16 @@ ghost use Rattle.std.specs.Prelude.{◌≡◌, ◌+◌, ◌<◌, ◌≤◌, ◌^
 ghost use Rattle.std.specs.Option.{is_some};
 ghost use Rattle.counted_io.specs.Streams.{IsSameReader};
 ghost use Rattle.properties_format.specs.ItemsToCome.{start};
+ghost use Rattle.properties_format.specs.Encoding.{utf_8};
 ghost use Rattle.properties_text.specs.Encoding.{encoding_of};
-ghost use Rattle.properties_lines.specs.LineReader.{Finds, Reads, ScansHeld, lines_left};
+ghost use Rattle.properties_lines.specs.LogicalLine.{TellsLine};
+ghost use Rattle.properties_lines.specs.LineReader.{Finds, Reads, ScansHeld, HasRightLineFlags, lines_left};
 
 use crate::error::LineError;
 use crate::input::InputBuffer;
 use crate::scanner::{Scan, Scanner};
 use counted_io::CountedRead;
-use properties_text::encoding::Encoding;
+use properties_text::encoding::{Encoding, well_formed_length};
 use std::alloc::Global;
 use std::marker::Model;
 use std::mem;
@@ -34,6 +36,8 @@ enum Read {
 pub struct LineReader {
     input: InputBuffer,
     scanner: Scanner,
+    // Up to here, the bytes that are held are known to be well-formed UTF-8, from the start of some line on.
+    well_formed: usize,
     error: Option<LineError>,
 }
 
@@ -41,6 +45,7 @@ impl Model for LineReader {
     ghost use Rattle.std.specs.Prelude.{◌≡◌, ◌≢◌, ◌-◌, true, None, length};
     ghost use Rattle.properties_lines.specs.Scanner.{scanner_state, bytes_of, Fits};
     ghost use Rattle.properties_lines.specs.LineReader.{Finder};
+    ghost use Rattle.properties_lines.specs.Tested.{IsTested};
 
     ghost Value = { Finder };
 
@@ -53,8 +58,12 @@ impl Model for LineReader {
       error = s.error;
     } };
 
-    ghost invariant = { λ s. Fits s.scanner s.input.held × (s.error ≢ None → s.scanner.is_done ≡ true) };
+    ghost invariant = { λ s. Fits s.scanner s.input.held × (s.error ≢ None → s.scanner.is_done ≡ true)
+        × IsTested s.scanner s.input.held s.well_formed };
 }
+
+// How many bytes from the start of a line on are tested at once.
+const WINDOW: usize = 1024;
 
 impl LineReader {
     /// Starts at the beginning of an input. Allocates nothing.
@@ -66,6 +75,7 @@ impl LineReader {
         LineReader {
             input: InputBuffer::new(alloc),
             scanner: Scanner::new(encoding),
+            well_formed: 0,
             error: None,
         }
     }
@@ -103,6 +113,42 @@ impl LineReader {
         ensures { result ≡ self.now.is_ascii }
     {
         self.scanner.line().is_ascii
+    }
+
+    /// Returns whether the bytes of that line are in windows-1252 or in well-formed UTF-8.
+    #[inline(always)]
+    pub fn is_well_formed(&mut self) -> bool
+        requires flags { HasRightLineFlags self.old }
+        requires decided { self.old.state.is_decided ≡ true }
+        ensures tells { TellsLine self.old.state.encoding self.old.line result }
+        ensures same { self.new ≡ self.old }
+    {
+        if self.is_ascii() {
+            return true;
+        }
+        match self.encoding() {
+            Encoding::WINDOWS_1252 => true,
+            Encoding::UTF_8 => self.scanner.line().end <= self.well_formed || self.test(),
+            Encoding::UTF_16LE | Encoding::UTF_16BE => false,
+        }
+    }
+
+    // Tests the line, and lines after it.
+    #[inline(never)]
+    fn test(&mut self) -> bool
+        requires some { 0 < length self.old.line }
+        requires decided { self.old.state.is_decided ≡ true }
+        requires encoding { self.old.state.encoding ≡ utf_8 }
+        ensures tells { TellsLine utf_8 self.old.line result }
+        ensures same { self.new ≡ self.old }
+    {
+        let line = self.scanner.line();
+        let held = self.input.held();
+        let end = held
+            .len()
+            .min(line.end.max(line.start.saturating_add(WINDOW)));
+        self.well_formed = line.start + well_formed_length(&held[line.start..end]);
+        line.end <= self.well_formed
     }
 
     /// Returns whether one of that line's bytes is the byte of a backslash.
@@ -224,6 +270,7 @@ impl LineReader {
             return Read::Failed;
         };
         self.scanner.release(gone);
+        self.well_formed = self.well_formed.saturating_sub(gone);
         match self.input.fill(reader) {
             Ok(0) => Read::End,
             Ok(_) => Read::Bytes,

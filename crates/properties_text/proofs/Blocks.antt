@@ -3,19 +3,13 @@ use Rattle.std.proofs.Common.{◌≡◌, ◌↔◌, ◌<◌, ◌≤◌, ℕ, Boo
 use Rattle.std.specs.Prelude.{Option, Some, None, is_some}
 use Rattle.std.specs.List.{All}
 use Rattle.std.specs.Str.{IsAscii}
-use Rattle.std.proofs.lemmas.Bool.{false_from_ne_true, leb-true, leb-false, ltb-false}
+use Rattle.std.proofs.lemmas.Bool.{false_from_ne_true, leb-true, leb-false}
 use Rattle.std.proofs.lemmas.List.Elements.{All-weaker}
 use Rattle.std.proofs.lemmas.Str.Ascii.{IsAscii-from_reads}
 use Rattle.memchr.specs.Find.{IsFirstByte}
-use Rattle.byte_blocks.specs.Classes.{is_control, is_past_ascii}
+use Rattle.byte_blocks.specs.Classes.{is_past_ascii}
 use Rattle.byte_blocks.specs.Marks.{clear_front}
 use Rattle.byte_blocks.proofs.Marking.{clear-before}
-use Rattle.properties_format.specs.Text.{space}
-
--- The bytes before the first control character.
-pub no-controls : (block : List ℕ) (marks : List Bool) (n : ℕ) → marks ≡ map is_control block → n ≤ clear_front marks → All (λ b. space ≤ b) (take n block)
-no-controls block marks n is le =
-    All-weaker (λ b. is_control b ≡ false) (λ b. space ≤ b) (λ b fails. ltb-false b space fails) (take n block) (clear-before is_control block marks n is le)
 
 -- The bytes before the first one that isn't ASCII.
 pub ascii-before : (block : List ℕ) (marks : List Bool) (n : ℕ) → marks ≡ map is_past_ascii block → n ≤ clear_front marks → All (λ b. b < 0x80) (take n block)

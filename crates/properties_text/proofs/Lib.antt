@@ -8,4 +8,6 @@ pub mod Blocks
 pub mod KeyFronts
 pub mod BlankFronts
 pub mod Latin1
-pub mod UndecodedTexts
+pub mod Spelt
+pub mod PrintedTexts
+pub mod UnitBlocks

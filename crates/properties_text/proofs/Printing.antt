@@ -2,5 +2,4 @@ pub mod Bytes
 pub mod Characters
 pub mod Values
 pub mod Escapes
-pub mod Keys
 pub mod Vectors

@@ -1,5 +1,5 @@
 -- The results of the decoder's parts: the byte order mark, the first piece, and text that needs no decoding.
-use Rattle.std.specs.Prelude.{◌≡◌, ℕ, ◌≤◌, ◌<◌, ◌++◌, Bool, true, false, List, length, take, drop}
+use Rattle.std.specs.Prelude.{◌≡◌, ℕ, ◌≤◌, ◌<◌, ◌++◌, Bool, true, false, List, [], ◌∷◌, length, take, drop}
 use Rattle.std.specs.Char.{IsScalar, encode_utf8}
 use Rattle.std.specs.Str.{IsAscii, IsUtf8, chars}
 use Rattle.properties_format.specs.Encoding as format
@@ -11,6 +11,7 @@ use Rattle.properties_format.specs.Computed.Encoding.{first_piece, pieces_of}
 use Rattle.properties_format.specs.Computed.Waiting.{awaits_bom, awaits_more}
 use Rattle.properties_text.specs.Encoding.{encoding_of}
 use Rattle.properties_text.specs.declared.encoding.Encoding.{Encoding}
+use Rattle.properties_text.specs.declared.encoding.Encoding.TheVariants.{UTF_16LE, UTF_16BE}
 use Rattle.properties_text.specs.declared.encoding.byte_order_mark.ByteOrderMark.{ByteOrderMark}
 use Rattle.properties_text.specs.declared.encoding.byte_order_mark.ByteOrderMark.TheVariants.{Present, Absent, Undecided}
 use Rattle.properties_text.specs.declared.encoding.first_piece.FirstPiece.{FirstPiece}
@@ -42,6 +43,30 @@ abbrev pub unit_of : ByteOrder → ℕ → ℕ → ℕ
 unit_of LowFirst = low_first
 unit_of HighFirst = high_first
 
+-- the bytes at even indices, and those at odd indices, of whole pairs of bytes
+abbrev pub evens : List ℕ → List ℕ
+evens [] = []
+evens (a ∷ []) = []
+evens (a ∷ b ∷ bytes) = a ∷ evens bytes
+
+abbrev pub odds : List ℕ → List ℕ
+odds [] = []
+odds (a ∷ []) = []
+odds (a ∷ b ∷ bytes) = b ∷ odds bytes
+
+-- the low bytes of the units of some bytes, and the high bytes
+abbrev pub lows_of : ByteOrder → List ℕ → List ℕ
+lows_of LowFirst = evens
+lows_of HighFirst = odds
+
+abbrev pub highs_of : ByteOrder → List ℕ → List ℕ
+highs_of LowFirst = odds
+highs_of HighFirst = evens
+
+abbrev pub utf_16_of : ByteOrder → Encoding
+utf_16_of LowFirst = UTF_16LE
+utf_16_of HighFirst = UTF_16BE
+
 abbrev pub range_of : ByteRange → Range
 range_of r = from_to r.0 r.1
 
@@ -60,6 +85,12 @@ IsFirstPiece e b d shown = ShowsPiece (first_piece e b d) (awaits_more e b d) sh
 -- the characters of some bytes, decoded by themselves
 abbrev pub text_of : Encoding → List ℕ → List ℕ
 text_of encoding d = characters (pieces_of (encoding_of encoding) d)
+
+-- So many bytes at the front are well-formed UTF-8, and no more.
+pub record IsLongestText (bytes : List ℕ) (n : ℕ) : Type 0 where
+  pub within : n ≤ length bytes
+  pub text : IsUtf8 (take n bytes)
+  pub longest : (m : ℕ) → m ≤ length bytes → IsUtf8 (take m bytes) → m ≤ n
 
 -- The result is the character of a windows-1252 byte, in UTF-8.
 pub record IsTextOfByte (byte : ℕ) (text : ByteText) : Type 0 where

@@ -1,19 +1,17 @@
 -- The results of resolving escapes, as contracts see them.
-use Rattle.std.specs.Prelude.{◌≡◌, ◌<◌, ◌||◌, ◌==◌, ℕ, Bool, true, false, if◌then◌else◌, List, [], ◌∷◌, ◌++◌, length, Option, Some, None, Result, Ok, Err}
-use Rattle.std.specs.Str.{chars}
+use Rattle.std.specs.Prelude.{◌≡◌, ◌≤◌, ◌||◌, ◌==◌, ℕ, Bool, true, false, if◌then◌else◌, List, [], ◌∷◌, ◌++◌, length, take, Result, Ok, Err}
+use Rattle.std.specs.Str.{IsUtf8, chars}
 use Rattle.std.specs.Cow.{cow_str_bytes}
 use Rattle.std.specs.declared.borrow.CowStr.{CowStr}
 use Rattle.std.specs.declared.borrow.CowStr.TheVariants as cow
 use Rattle.properties_format.specs.Text.{backslash}
 use Rattle.properties_format.specs.Escapes as format
-use Rattle.properties_format.specs.Computed.Escapes.{in_front, meaning_of}
+use Rattle.properties_format.specs.Computed.Escapes.{meaning_of, text_in_front}
 use Rattle.properties_text.specs.declared.escape.Malformed.{Malformed}
 use Rattle.properties_text.specs.declared.escape.Malformed.TheVariants.{NotEnoughDigits, NotHex, InvalidCharacter}
 use Rattle.properties_text.specs.declared.escape.UnescapeError.{UnescapeError}
 use Rattle.properties_text.specs.declared.escape.UnescapeError.TheVariants as error
-use Rattle.properties_text.specs.declared.escape.Escape.{Escape}
-use Rattle.properties_text.specs.declared.escape.CodeUnit.{CodeUnit}
-use Rattle.properties_text.specs.declared.escape.Four.{Four}
+use Rattle.properties_text.specs.declared.escape.Escapes.{Escapes}
 
 -- whether the text contains a backslash
 abbrev pub holds_backslash : List ℕ → Bool
@@ -42,49 +40,6 @@ abbrev pub Unescapes : {Z : Type 0} → List ℕ → Result (CowStr Z) UnescapeE
 Unescapes text (Ok meant) = format.Means text (chars (cow_str_bytes meant))
 Unescapes text (Err e) = IsRefused text e
 
--- The text begins with an escape, whose character comes before what the rest means; or with no spelling, and
--- the error reports how it is malformed.
-abbrev pub Resolves : List ℕ → Result Escape Malformed → Type 0
-Resolves text (Ok escape) = meaning_of text ≡ in_front escape.character (meaning_of (chars escape.rest.now))
-Resolves text (Err malformed) = format.NoSpelling text × (meaning_of text ≡ format.breaks (malformed_in malformed))
-
--- The text is four hexadecimal digits with this value, and a rest.
-pub record IsUnit (text : List ℕ) (value : ℕ) (rest : List ℕ) : Type 0 where
-  pub digits : format.Four
-  pub whole : text ≡ format.four_text digits ++ rest
-  pub hexadecimal : format.are_hexadecimal digits ≡ true
-  pub writes : value ≡ format.code_unit digits
-
--- The text doesn't begin with four hexadecimal digits.
-abbrev pub HasNoUnit : List ℕ → Type 0
-HasNoUnit text = (value : ℕ) (rest : List ℕ) → IsUnit text value rest → ⊥
-
--- No `\u` escape of a character is at the front, nor two of surrogates that are one character: if the text begins
--- with `\u`, it begins with no spelling.
-abbrev pub HasNoEscape : List ℕ → Type 0
-HasNoEscape text = (after : List ℕ) → text ≡ backslash ∷ format.letter_u ∷ after → format.NoSpelling text
-
--- The text begins with four characters that aren't all hexadecimal digits.
-pub record LacksDigit (text : List ℕ) : Type 0 where
-  pub four : format.Four
-  pub rest : List ℕ
-  pub whole : text ≡ format.four_text four ++ rest
-  pub not_hexadecimal : format.are_hexadecimal four ≡ false
-
-abbrev pub ReadsUnit : List ℕ → Result CodeUnit Malformed → Type 0
-ReadsUnit text (Ok unit) = IsUnit text unit.value (chars unit.rest.now)
-ReadsUnit text (Err NotEnoughDigits) = length text < 4
-ReadsUnit text (Err NotHex) = LacksDigit text
-ReadsUnit text (Err InvalidCharacter) = ⊥
-
-abbrev pub four_of : Four → format.Four
-four_of four = record { first = four.first; second = four.second; third = four.third; fourth = four.fourth }
-
--- The text begins with these four characters, or has fewer than four.
-abbrev pub StartsWithFour : List ℕ → Option Four → Type 0
-StartsWithFour text None = length text < 4
-StartsWithFour text (Some four) = text ≡ format.four_text (four_of four) ++ chars four.rest.now
-
 -- the value of a byte as a hexadecimal digit, or a number too large for four digits if it isn't one
 abbrev pub digit_value : ℕ → ℕ
 digit_value b = if format.is_hexadecimal b then format.hexadecimal_value b else 0x10000
@@ -97,3 +52,15 @@ four_bytes first second third fourth = record { first = first; second = second; 
 abbrev pub Appends : List ℕ → List ℕ → Result Unit UnescapeError → List ℕ → Type 0
 Appends text before (Ok done) after = (meant : List ℕ) × (meaning_of text ≡ format.means meant) × (after ≡ before ++ meant)
 Appends text before (Err e) after = IsRefused text e
+
+-- The escapes at the front of a text were resolved, and a run begins with the text that they mean.
+pub record AreResolved (text new : List ℕ) (escapes : Escapes) : Type 0 where
+  pub within : escapes.end ≤ length new
+  pub is_text : IsUtf8 (take escapes.end new)
+  pub rest_is_text : IsUtf8 escapes.rest.now
+  pub meaning : meaning_of (chars text) ≡ text_in_front (chars (take escapes.end new)) (meaning_of (chars escapes.rest.now))
+
+-- The result of resolving the escapes at the front of a text.
+abbrev pub ResolvesFront : List ℕ → List ℕ → Result Escapes Malformed → Type 0
+ResolvesFront text new (Ok escapes) = AreResolved text new escapes
+ResolvesFront text new (Err malformed) = meaning_of (chars text) ≡ format.breaks (malformed_in malformed)

@@ -1,7 +1,8 @@
 pub mod Encoding
 pub mod Decoding
+pub mod Private
 pub mod Parsing
 pub mod Escaping
 pub mod Printing
-pub mod UndecodedTexts
-pub mod Private
+pub mod Spelt
+pub mod PrintedTexts

@@ -1,19 +1,15 @@
 -- What is appended when a text is printed, by its place in the line.
-use Rattle.std.specs.Prelude.{◌≡◌, ℕ, nat_lt, ◌==◌, ◌&&◌, not, Bool, true, false, if◌then◌else◌, List, [], ◌∷◌, ◌++◌, Option, Some, None, Result, OnOk}
-use Rattle.std.specs.Str.{chars}
+use Rattle.std.specs.Prelude.{◌≡◌, ℕ, nat_lt, ◌==◌, Bool, true, false, if◌then◌else◌, List, [], ◌∷◌, ◌++◌, Option, Some, None, Result, OnOk}
 use Rattle.properties_format.specs.Printing as format
 use Rattle.properties_format.specs.Text.{tab, line_feed, form_feed, space, backslash}
-use Rattle.properties_format.specs.Encoding.{Encoding}
+use Rattle.properties_format.specs.Encoding.{Encoding, windows_1252, utf_8}
 use Rattle.properties_format.specs.Valued.{printed_inside}
-use Rattle.properties_text.specs.Encoding.{output_of}
-use Rattle.properties_text.specs.declared.encoding.encode.OutputEncoding.{OutputEncoding}
-use Rattle.properties_text.specs.declared.encoding.encode.OutputEncoding.TheVariants.{Windows1252, Utf8}
 use Rattle.properties_text.specs.declared.print.Repertoire.{Repertoire}
+use Rattle.properties_text.specs.declared.print.Repertoire.TheVariants.{Windows1252, Utf8, Ascii}
 use Rattle.properties_text.specs.declared.print.Place.{Place}
-use Rattle.properties_text.specs.declared.print.Place.TheVariants.{KeyOrValue, Comment, Prefix}
+use Rattle.properties_text.specs.declared.print.Place.TheVariants.{Comment, Prefix}
 
 abbrev pub place_of : Place → format.Place
-place_of KeyOrValue = format.in_key_or_value
 place_of Comment = format.in_comment
 place_of Prefix = format.in_prefix
 
@@ -21,27 +17,37 @@ place_of Prefix = format.in_prefix
 abbrev pub AppendsOnOk : {A E : Type 0} → List ℕ → List ℕ → Result A E → List ℕ → Type 0
 AppendsOnOk old bytes result new = OnOk result (new ≡ old ++ bytes)
 
--- the repertoire of windows-1252, with ASCII-only output off
-abbrev pub all_of_windows_1252 : Repertoire
-all_of_windows_1252 = record { encoding = Windows1252; ascii_only = false }
+-- the encoding of a repertoire, and whether only ASCII is printed as it is: that is the same bytes in any encoding
+abbrev pub encoding_in : Repertoire → Encoding
+encoding_in Windows1252 = windows_1252
+encoding_in Utf8 = utf_8
+encoding_in Ascii = utf_8
 
-abbrev pub is_windows_1252 : OutputEncoding → Bool
-is_windows_1252 Windows1252 = true
-is_windows_1252 Utf8 = false
+abbrev pub only_in : Repertoire → Bool
+only_in Windows1252 = false
+only_in Utf8 = false
+only_in Ascii = true
 
--- whether a repertoire is that one
-abbrev pub is_all_of_windows_1252 : Repertoire → Bool
-is_all_of_windows_1252 r = is_windows_1252 r.encoding && not r.ascii_only
-
--- the bytes of a character, of a text and of a key, in a repertoire
+-- the bytes of a character and of a text outside keys and values
 abbrev pub character_bytes : Repertoire → Place → ℕ → List ℕ
-character_bytes r place c = format.encoded_text (output_of r.encoding) (format.printed_character (output_of r.encoding) r.ascii_only (place_of place) c)
+character_bytes r place c = format.encoded_text (encoding_in r) (format.printed_character (encoding_in r) (only_in r) (place_of place) c)
 
 abbrev pub text_bytes : Repertoire → Place → List ℕ → List ℕ
-text_bytes r place text = format.encoded_text (output_of r.encoding) (format.printed_characters (output_of r.encoding) r.ascii_only (place_of place) text)
+text_bytes r place text = format.encoded_text (encoding_in r) (format.printed_characters (encoding_in r) (only_in r) (place_of place) text)
+
+-- the bytes of a character and of a text in a key or a value, and of a key
+abbrev pub put_of : Repertoire → ℕ → List ℕ
+put_of r c = format.encoded_text (encoding_in r) (format.printed_character (encoding_in r) (only_in r) format.in_key_or_value c)
+
+abbrev pub puts_of : Repertoire → List ℕ → List ℕ
+puts_of r text = format.encoded_text (encoding_in r) (format.printed_characters (encoding_in r) (only_in r) format.in_key_or_value text)
 
 abbrev pub key_bytes : Repertoire → Bool → List ℕ → List ℕ
-key_bytes r first key = format.encoded_text (output_of r.encoding) (format.printed_key (output_of r.encoding) r.ascii_only first key)
+key_bytes r first key = format.encoded_text (encoding_in r) (format.printed_key (encoding_in r) (only_in r) first key)
+
+-- the bytes of a key whose first character is escaped
+abbrev pub escaped_key : Repertoire → List ℕ → List ℕ
+escaped_key r key = format.encoded_text (encoding_in r) (format.with_first_escaped (encoding_in r) (only_in r) key)
 
 -- the character held back inside a value that is set in place, or nothing if none is
 abbrev pub held_text : Encoding → Option ℕ → List ℕ
@@ -75,7 +81,3 @@ last_of b =
 abbrev pub with_backslashes : List ℕ → List ℕ
 with_backslashes [] = []
 with_backslashes (b ∷ bs) = (if format.is_special b then backslash ∷ b ∷ [] else b ∷ []) ++ with_backslashes bs
-
--- The text of these bytes, in a key or a value, can be printed byte by byte.
-abbrev pub PrintsByteByByte : Repertoire → List ℕ → Type 0
-PrintsByteByByte r bytes = text_bytes r KeyOrValue (chars bytes) ≡ printed_bytes bytes

@@ -9,21 +9,21 @@ ghost use Rattle.properties_text.specs.Encoding.{encoding_of};
 mod ascii;
 pub mod byte_order_mark;
 mod decode;
-mod encode;
 pub mod first_piece;
 mod latin_1;
+mod line;
 mod text_buffer;
 mod utf_16;
 mod utf_8;
 mod windows_1252;
 
-pub(crate) use ascii::{is_ascii, leading_ascii};
 pub use decode::as_text;
 pub(crate) use decode::put_character;
-pub use encode::OutputEncoding;
+pub use line::{LineEncoding, Spelt};
 use std::fmt;
 pub use text_buffer::TextBuffer;
-pub(crate) use windows_1252::{byte_of, has_byte};
+pub use utf_8::well_formed_length;
+pub(crate) use windows_1252::byte_of;
 
 /// The encodings of properties files, named as in the WHATWG Encoding Standard.
 ///

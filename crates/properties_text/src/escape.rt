@@ -1,25 +1,24 @@
 //! Resolving the escapes of a key, a value or a comment's text.
 
-ghost use Rattle.std.specs.Prelude.{◌≡◌, ◌≤◌, ◌<◌, ◌∷◌, ◌&&◌, ◌==◌, ℕ, List, not, length, ◌++◌, IfOk, OnOk, IfSome, Some, None, if◌then◌else◌};
-ghost use Rattle.std.specs.Char.{IsScalar};
+ghost use Rattle.std.specs.Prelude.{◌≡◌, ◌≤◌, ◌<◌, not, length, ◌++◌, get_or, true, IfOk, OnOk};
 ghost use Rattle.std.specs.Str.{chars};
 ghost use Rattle.std.specs.String.{string_bytes};
 ghost use Rattle.memchr.specs.Find.{IsFirstByte, is_byte};
 ghost use Rattle.properties_format.specs.Text.{backslash};
-ghost use Rattle.properties_format.specs.Escapes.{letter_u, is_hexadecimal, hexadecimal_value, are_hexadecimal, code_unit, is_high, is_low, pair_character};
 ghost use Rattle.properties_format.specs.Groups.{ending_backslashes};
 ghost use Rattle.properties_text.specs.declared.escape.UnescapeError.TheVariants.{Memory};
-ghost use Rattle.properties_text.specs.Escaping.{holds_backslash, is_borrowed_result, Unescapes, Appends, Resolves, IsUnit, ReadsUnit, four_of, StartsWithFour};
+ghost use Rattle.properties_text.specs.Spelt.{IsWell, Checks};
+ghost use Rattle.properties_text.specs.Escaping.{holds_backslash, is_borrowed_result, Unescapes, Appends, ResolvesFront};
 
+use crate::encoding::{LineEncoding, put_character};
 use byte_blocks::{Byte, find};
 use memchr::memchr;
 use std::alloc::{AllocError, Global};
 use std::borrow::CowStr;
-use units::{first_digits, put_units};
 
-mod units;
+mod read;
 
-pub(crate) use units::{escaped_byte, value_of};
+pub use read::read_escape;
 
 // Up to this many bytes, a backslash is searched for inline. In longer texts, the larger steps of `memchr` pay off.
 const SHORT: usize = 128;
@@ -92,23 +91,64 @@ fn push_resolved(text: &mut String, s: &str) -> Result<(), UnescapeError>
     let mut rest = s;
     while let Some(at) = find_next(rest.as_bytes()) {
         push_part(text, &rest[..at])?;
-        let after = &rest[at..];
-        let units = put_units(&mut run, after);
-        if units.end > 0 {
-            // SAFETY: the bytes written to the run are valid UTF-8.
-            let more = unsafe { str::from_utf8_unchecked(&run[..units.end]) };
-            text.push_str(more)?;
-            rest = units.rest;
-            continue;
-        }
-        let escape = match read_escape(&rest[at + 1..]) {
-            Ok(escape) => escape,
+        let escapes = match put_escapes(&mut run, &rest[at..]) {
+            Ok(escapes) => escapes,
             Err(malformed) => return Err(UnescapeError::Malformed(malformed)),
         };
-        text.push(escape.character)?;
-        rest = escape.rest();
+        // SAFETY: the bytes written to the run are valid UTF-8.
+        let more = unsafe { str::from_utf8_unchecked(&run[..escapes.end]) };
+        text.push_str(more)?;
+        rest = escapes.rest;
     }
     push_part(text, rest)?;
+    Ok(())
+}
+
+// The index after the characters that were written, and the text after their escapes.
+#[derive(Clone, Copy)]
+struct Escapes<'a> {
+    end: usize,
+    rest: &'a str,
+}
+
+// Resolves the escapes at the front and writes their characters to the run, as long as there is room.
+#[inline(always)]
+fn put_escapes<'a>(run: &mut [u8], text: &'a str) -> Result<Escapes<'a>, Malformed>
+    ensures same_room { length run.new ≡ length run.old }
+    ensures resolves { ResolvesFront text.now run.new result }
+    ensures shorter { IfOk result (λ escapes. 4 ≤ length run.old → get_or text.now 0 0 ≡ backslash
+        → length escapes.rest.now < length text.now) }
+{
+    let mut end = 0;
+    let mut rest = text;
+    while run.len() - end >= 4 && starts_with_backslash(rest) {
+        let escape = read_escape(LineEncoding::Utf8, rest.as_bytes())?;
+        end = put_character(run, end, escape.character);
+        rest = &rest[escape.length..];
+    }
+    Ok(Escapes { end, rest })
+}
+
+#[inline(always)]
+fn starts_with_backslash(text: &str) -> bool
+    ensures some { result ≡ true → 0 < length text.now }
+    ensures first { result ≡ true → get_or text.now 0 0 ≡ backslash }
+    ensures other { 0 < length text.now → get_or text.now 0 0 ≡ backslash → result ≡ true }
+{
+    !text.is_empty() && text.as_bytes()[0] == b'\\'
+}
+
+/// Returns whether the escapes of a well-formed text can be resolved, or else why the first malformed one can't.
+pub fn check_escapes(encoding: LineEncoding, text: &[u8]) -> Result<(), Malformed>
+    requires { IsWell encoding text.now }
+    ensures { Checks encoding text.now result }
+{
+    let mut rest = text;
+    while let Some(at) = find_next(rest) {
+        let escapes = &rest[at..];
+        let escape = read_escape(encoding, escapes)?;
+        rest = &escapes[escape.length..];
+    }
     Ok(())
 }
 
@@ -143,178 +183,6 @@ fn find_backslash(text: &[u8]) -> Option<usize>
         0..=SHORT => find::<Byte<b'\\'>>(text),
         _ => memchr(b'\\', text),
     }
-}
-
-// The character of an escape, and the text after it.
-#[derive(Clone, Copy)]
-struct Escape<'a> {
-    character: char,
-    rest: &'a str,
-}
-
-impl<'a> Escape<'a> {
-    fn rest(&self) -> &'a str
-        ensures { result.now ≡ self.now.rest.now }
-    {
-        self.rest
-    }
-}
-
-// Reads an escape, given the text after its backslash.
-fn read_escape(text: &str) -> Result<Escape<'_>, Malformed>
-    ensures meaning { Resolves (backslash ∷ chars text.now) result }
-    ensures scalar { IfOk result (λ escape. IsScalar escape.character) }
-    ensures shorter { IfOk result (λ escape. length escape.rest.now ≤ length text.now) }
-{
-    let mut characters = text.chars();
-    let character = match characters.next() {
-        None => '\0',
-        Some('t') => '\t',
-        Some('n') => '\n',
-        Some('f') => '\x0c',
-        Some('r') => '\r',
-        Some('u') => return read_unicode(characters.as_str()),
-        Some(other) => other,
-    };
-    Ok(Escape {
-        character,
-        rest: characters.as_str(),
-    })
-}
-
-// Reads an escape, given the text after its `\u`. If its digits are a high surrogate, the next escape must be the low
-// one; both make one character.
-fn read_unicode(text: &str) -> Result<Escape<'_>, Malformed>
-    ensures meaning { Resolves (backslash ∷ letter_u ∷ chars text.now) result }
-    ensures scalar { IfOk result (λ escape. IsScalar escape.character) }
-    ensures shorter { IfOk result (λ escape. length escape.rest.now ≤ length text.now) }
-{
-    let unit = read_unit(text)?;
-    match char::from_u32(unit.value) {
-        Some(character) => Ok(Escape {
-            character,
-            rest: unit.rest,
-        }),
-        None => read_low_surrogate(unit.value, unit.rest),
-    }
-}
-
-// Reads the other half of a surrogate whose escape was read. Kept out of line because surrogates are rare.
-#[inline(never)]
-fn read_low_surrogate(high: u32, rest: &str) -> Result<Escape<'_>, Malformed>
-    requires low { 0xd800 ≤ high }
-    requires high { high < 0xe000 }
-    ensures meaning { (text : List ℕ) → IsUnit text high (chars rest.now) → Resolves (backslash ∷ letter_u ∷ text) result }
-    ensures scalar { IfOk result (λ escape. IsScalar escape.character) }
-    ensures shorter { IfOk result (λ escape. length escape.rest.now ≤ length rest.now) }
-{
-    if let Some(text) = rest.strip_prefix("\\u") {
-        if let Ok(low) = read_unit(text) {
-            if let Some(character) = join_surrogates(high, low.value) {
-                return Ok(Escape {
-                    character,
-                    rest: low.rest,
-                });
-            }
-        }
-    }
-    Err(Malformed::InvalidCharacter)
-}
-
-// The character of a high and a low surrogate.
-fn join_surrogates(high: u32, low: u32) -> Option<char>
-    requires { 0xd800 ≤ high }
-    ensures scalar { IfSome result IsScalar }
-    ensures value { result ≡ (if is_high high && is_low low then Some (pair_character high low) else None) }
-{
-    if high >= 0xdc00 || low < 0xdc00 || low >= 0xe000 {
-        return None;
-    }
-    char::from_u32(0x1_0000 + (high - 0xd800) * 0x400 + (low - 0xdc00))
-}
-
-// The value of four hexadecimal digits, and the text after them.
-#[derive(Clone, Copy)]
-struct CodeUnit<'a> {
-    value: u32,
-    rest: &'a str,
-}
-
-#[inline(always)]
-fn read_unit(text: &str) -> Result<CodeUnit<'_>, Malformed>
-    ensures digits { ReadsUnit (chars text.now) result }
-    ensures shorter { IfOk result (λ unit. length unit.rest.now ≤ length text.now) }
-{
-    match first_digits(text) {
-        Some(unit) => Ok(unit),
-        None => read_characters(text),
-    }
-}
-
-// Reads four digits character by character, to find out what is wrong with them.
-#[inline(never)]
-fn read_characters(text: &str) -> Result<CodeUnit<'_>, Malformed>
-    ensures digits { ReadsUnit (chars text.now) result }
-    ensures shorter { IfOk result (λ unit. length unit.rest.now ≤ length text.now) }
-{
-    let Some(four) = first_four(text) else {
-        return Err(Malformed::NotEnoughDigits);
-    };
-    match four.value() {
-        Some(value) => Ok(CodeUnit {
-            value,
-            rest: four.rest,
-        }),
-        None => Err(Malformed::NotHex),
-    }
-}
-
-// The first four characters of a text, and the text after them.
-#[derive(Clone, Copy)]
-struct Four<'a> {
-    first: char,
-    second: char,
-    third: char,
-    fourth: char,
-    rest: &'a str,
-}
-
-fn first_four(text: &str) -> Option<Four<'_>>
-    ensures characters { StartsWithFour (chars text.now) result }
-    ensures shorter { IfSome result (λ four. length four.rest.now ≤ length text.now) }
-{
-    let mut characters = text.chars();
-    let first = characters.next()?;
-    let second = characters.next()?;
-    let third = characters.next()?;
-    let fourth = characters.next()?;
-    Some(Four {
-        first,
-        second,
-        third,
-        fourth,
-        rest: characters.as_str(),
-    })
-}
-
-impl Four<'_> {
-    // The value of the four characters, if all are hexadecimal digits.
-    fn value(&self) -> Option<u32>
-        ensures { result ≡ (if are_hexadecimal (four_of self.now) then Some (code_unit (four_of self.now)) else None) }
-    {
-        let first = hexadecimal_digit(self.first)?;
-        let second = hexadecimal_digit(self.second)?;
-        let third = hexadecimal_digit(self.third)?;
-        let fourth = hexadecimal_digit(self.fourth)?;
-        Some(((first * 16 + second) * 16 + third) * 16 + fourth)
-    }
-}
-
-fn hexadecimal_digit(character: char) -> Option<u32>
-    ensures small { IfSome result (λ value. value < 16) }
-    ensures value { result ≡ (if is_hexadecimal character then Some (hexadecimal_value character) else None) }
-{
-    character.to_digit(16)
 }
 
 /// Returns the number of backslashes at the end of a text.

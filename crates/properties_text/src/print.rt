@@ -1,158 +1,355 @@
 //! Printing texts: escaping and encoding them.
 
-ghost use Rattle.std.specs.Prelude.{◌≡◌, true, false, ◌++◌, ◌∷◌, ◌<◌, ◌||◌, not, nat_lt, [], is_some, unwrap_or, length, IfOk, OnErr};
+ghost use Rattle.std.specs.Prelude.{◌≡◌, ◌≤◌, ◌<◌, ◌++◌, ◌∷◌, true, false, [], ℕ, length, take, get_or, OnErr};
 ghost use Rattle.std.specs.Str.{chars};
 ghost use Rattle.properties_format.specs.Text.{backslash};
-ghost use Rattle.properties_format.specs.Encoding.{encoded};
-ghost use Rattle.properties_format.specs.Printing.{unicode_escape, literal, encoded_text, is_bom_like, with_first_escaped};
+ghost use Rattle.properties_format.specs.Encoding.{begins_like_bom};
+ghost use Rattle.properties_format.specs.Escapes.{means};
+ghost use Rattle.properties_format.specs.Computed.Escapes.{meaning_of};
+ghost use Rattle.properties_format.specs.Printing.{unicode_escape, literal, encoded_text};
 ghost use Rattle.properties_format.specs.Valued.{printed_inside, printed_first, printed_last, printed_rest, printed_value};
-ghost use Rattle.properties_text.specs.Encoding.{output_of};
-ghost use Rattle.properties_text.specs.declared.print.Place.TheVariants.{KeyOrValue};
-ghost use Rattle.properties_text.specs.Printing.{is_all_of_windows_1252, AppendsOnOk, character_bytes, text_bytes, key_bytes, printed_byte, held_text};
+ghost use Rattle.properties_text.specs.Encoding.{line_of};
+ghost use Rattle.properties_text.specs.Parsing.{IsSpan, bytes_in};
+ghost use Rattle.properties_text.specs.Spelt.{text_in, IsWell};
+ghost use Rattle.properties_text.specs.Printing.{encoding_in, only_in, AppendsOnOk, character_bytes, text_bytes, put_of, puts_of, key_bytes, escaped_key, held_text};
+ghost use Rattle.properties_text.specs.PrintedTexts.{is_copied, StopsIn, meaning_in, Prints, bytes_of, key_of, value_of, IsPair, PrintsPair};
 
 use crate::characters::{is_comment_sign, is_separator};
-use crate::encoding::{OutputEncoding, byte_of, has_byte, is_ascii, leading_ascii};
-use crate::line_buffer::make_room;
-use bytes::{LONGEST_BYTE, print_bytes, put_any};
+use crate::encoding::LineEncoding;
+use crate::encoding::byte_order_mark::begins_like_mark;
+use crate::escape::UnescapeError;
+use crate::line_buffer::{make_room, put_raw};
+use crate::parse::Span;
+use byte_blocks::{Byte, ByteClass, Controls, Either, PastAscii};
 use escapes::{LONGEST, put_escape};
 use std::alloc::AllocError;
+use text::{first_character, print_bytes, put_literal, put_printed};
 
 mod bytes;
 mod escapes;
-mod undecoded;
+mod text;
 
 pub use crate::line_buffer::LineBuffer;
-pub use undecoded::{UndecodedPair, print_undecoded_pair};
 
-/// What a text is in its line, which determines what is escaped besides the characters that the repertoire lacks.
+/// What a text outside keys and values is in its line, which determines what is escaped besides the characters that the
+/// repertoire lacks.
 #[derive(Clone, Copy)]
 pub enum Place {
-    /// Escapes blanks, separators, comment signs, backslashes and all characters below the space.
-    KeyOrValue,
     /// Escapes backslashes, CR and LF.
     Comment,
     /// Escapes only the characters that the repertoire lacks.
     Prefix,
 }
 
-/// Which characters are written unescaped: those that can be encoded, or only the ASCII ones.
-#[derive(Clone, Copy)]
-pub struct Repertoire {
-    /// The encoding of the line.
-    pub encoding: OutputEncoding,
-    /// Whether every character above U+007F is escaped.
-    pub ascii_only: bool,
+/// Which characters are printed as they are. The others are printed as escapes.
+#[derive(Clone, Copy, PartialEq, Eq)]
+pub enum Repertoire {
+    /// Those of windows-1252, in that encoding.
+    Windows1252,
+    /// All, in UTF-8.
+    Utf8,
+    /// Those of ASCII.
+    Ascii,
 }
 
-impl Repertoire {
-    // Whether the character isn't ruled out by ASCII-only output.
-    fn allows(self, character: char) -> bool
-        ensures { result ≡ (not self.ascii_only || nat_lt character 0x80) }
+impl From<LineEncoding> for Repertoire {
+    ghost from_gives = { λ from to. (encoding_in to ≡ line_of from) × (only_in to ≡ false) };
+
+    fn from(encoding: LineEncoding) -> Repertoire {
+        match encoding {
+            LineEncoding::Windows1252 => Repertoire::Windows1252,
+            LineEncoding::Utf8 => Repertoire::Utf8,
+        }
+    }
+}
+
+/// A pair to print.
+#[derive(Clone, Copy)]
+pub struct Pair<'a> {
+    encoding: LineEncoding,
+    // Whether a backslash begins an escape, as in a file. Otherwise it stands for itself.
+    escaped: bool,
+    key: Part<'a>,
+    value: Part<'a>,
+}
+
+// The bytes of a key or a value, and others after them, which aren't printed but may be read as part of a block.
+#[derive(Clone, Copy)]
+struct Part<'a> {
+    bytes: &'a [u8],
+    // The number of bytes in the text.
+    size: usize,
+}
+
+impl<'a> Pair<'a> {
+    /// A key and a value.
+    #[inline(always)]
+    pub fn literal(key: &'a str, value: &'a str) -> Pair<'a>
+        ensures well { IsPair result }
+        ensures key { key_of result ≡ means (chars key.now) }
+        ensures value { value_of result ≡ means (chars value.now) }
     {
-        !self.ascii_only || character.is_ascii()
+        Pair {
+            encoding: LineEncoding::Utf8,
+            escaped: false,
+            key: Part::of(key),
+            value: Part::of(value),
+        }
     }
 
-    /// Returns whether this is windows-1252 without ASCII-only output.
+    /// The key and the value at these positions in a line, as a file spells them. The line is well-formed.
     #[inline(always)]
-    pub fn is_all_of_windows_1252(self) -> bool
-        ensures { result ≡ is_all_of_windows_1252 self }
+    pub fn spelt(encoding: LineEncoding, line: &'a [u8], key: Span, value: Span) -> Pair<'a>
+        requires key_ordered { key.start ≤ key.end }
+        requires key_within { key.end ≤ length line.now }
+        requires value_ordered { value.start ≤ value.end }
+        requires value_within { value.end ≤ length line.now }
+        requires key { IsWell encoding (bytes_in line.now key) }
+        requires value { IsWell encoding (bytes_in line.now value) }
+        ensures well { IsPair result }
+        ensures key { key_of result ≡ meaning_of (text_in encoding (bytes_in line.now key)) }
+        ensures value { value_of result ≡ meaning_of (text_in encoding (bytes_in line.now value)) }
     {
-        matches!(self.encoding, OutputEncoding::Windows1252) && !self.ascii_only
+        Pair {
+            encoding,
+            escaped: true,
+            key: Part::at(line, key),
+            value: Part::at(line, value),
+        }
+    }
+}
+
+impl<'a> Part<'a> {
+    #[inline(always)]
+    fn of(text: &'a str) -> Part<'a>
+        ensures size { result.size ≡ length text.now }
+        ensures bytes { result.bytes.now ≡ text.now }
+    {
+        Part {
+            bytes: text.as_bytes(),
+            size: text.len(),
+        }
+    }
+
+    #[inline(always)]
+    fn at(line: &'a [u8], span: Span) -> Part<'a>
+        requires ordered { span.start ≤ span.end }
+        requires within { span.end ≤ length line.now }
+        ensures size { result.size ≤ length result.bytes.now }
+        ensures bytes { bytes_of result ≡ bytes_in line.now span }
+    {
+        Part {
+            bytes: &line[span.start..],
+            size: span.end - span.start,
+        }
+    }
+}
+
+// Where a run of bytes stops, by whether a backslash begins an escape, and by whether bytes past ASCII are copied.
+type Literal = Controls;
+
+type Escaped = Either<Controls, Byte<b'\\'>>;
+
+type LiteralAscii = Either<Controls, PastAscii>;
+
+type EscapedAscii = Either<PastAscii, Either<Controls, Byte<b'\\'>>>;
+
+// Whether bytes past ASCII are copied.
+#[inline(always)]
+fn is_copied(encoding: LineEncoding, repertoire: Repertoire) -> bool
+    ensures { result ≡ is_copied encoding repertoire }
+{
+    match (encoding, repertoire) {
+        (LineEncoding::Windows1252, Repertoire::Windows1252) => true,
+        (LineEncoding::Utf8, Repertoire::Utf8) => true,
+        _ => false,
+    }
+}
+
+/// Appends a pair, with `separator` and `ending` as they are.
+///
+/// If `first`, the key comes first in a file and is printed so that it isn't taken for a byte order mark. Fails with the
+/// first malformed escape, or if memory runs out; then nothing is appended.
+#[inline(always)]
+pub fn print_pair(
+    line: &mut LineBuffer,
+    repertoire: Repertoire,
+    first: bool,
+    pair: Pair<'_>,
+    separator: &str,
+    ending: &str,
+) -> Result<(), UnescapeError>
+    requires { IsPair pair }
+    ensures printed { PrintsPair repertoire first line.old pair.entry separator.now ending.now result line.new }
+    ensures unchanged { OnErr result (line.new ≡ line.old) }
+{
+    match (pair.escaped, is_copied(pair.encoding, repertoire)) {
+        (true, true) => { print_parts::<Escaped>(line, repertoire, first, pair, separator, ending) }
+        (true, false) => {
+            print_parts::<EscapedAscii>(line, repertoire, first, pair, separator, ending)
+        }
+        (false, true) => {
+            print_parts::<Literal>(line, repertoire, first, pair, separator, ending)
+        }
+        (false, false) => {
+            print_parts::<LiteralAscii>(line, repertoire, first, pair, separator, ending)
+        }
+    }
+}
+
+// Prints a pair whose runs stop at these bytes.
+#[inline(always)]
+fn print_parts<Stops: ByteClass>(
+    line: &mut LineBuffer,
+    repertoire: Repertoire,
+    first: bool,
+    pair: Pair<'_>,
+    separator: &str,
+    ending: &str,
+) -> Result<(), UnescapeError>
+    requires well { IsPair pair }
+    requires stops { StopsIn Stops.holds pair.encoding repertoire }
+    requires escaped { Stops.holds backslash ≡ pair.escaped }
+    ensures printed { PrintsPair repertoire first line.old pair.entry separator.now ending.now result line.new }
+    ensures unchanged { OnErr result (line.new ≡ line.old) }
+{
+    let Pair {
+        encoding,
+        escaped: _,
+        key,
+        value,
+    } = pair;
+    let out = &mut line.bytes;
+    let filled = line.filled;
+    let after_key = print_first::<Stops>(
+        out, filled, repertoire, first, encoding, key.bytes, key.size,
+    )?;
+    let after_separator = put_raw(out, after_key, separator.as_bytes())?;
+    let after_value = print_bytes::<Stops>(
+        out,
+        after_separator,
+        repertoire,
+        encoding,
+        value.bytes,
+        value.size,
+    )?;
+    line.filled = put_raw(out, after_value, ending.as_bytes())?;
+    Ok(())
+}
+
+// Puts a key after the first `at` bytes, and returns the index after it. If it is the first one, and would begin like a
+// byte order mark, its first character is escaped.
+#[inline(always)]
+fn print_first<Stops: ByteClass>(
+    out: &mut Vec<u8>,
+    at: usize,
+    repertoire: Repertoire,
+    first: bool,
+    encoding: LineEncoding,
+    bytes: &[u8],
+    size: usize,
+) -> Result<usize, UnescapeError>
+    requires size { size ≤ length bytes.now }
+    requires at { at ≤ length out.old.items }
+    requires stops { StopsIn Stops.holds encoding repertoire }
+    requires well { IsWell encoding (take size bytes.now) }
+    ensures printed { Prints (meaning_in encoding (Stops.holds backslash) (take size bytes.now)) (key_bytes repertoire first) out.old.items at out.new.items result }
+    ensures same { take at out.new.items ≡ take at out.old.items }
+    ensures longer { length out.old.items ≤ length out.new.items }
+{
+    let end = print_bytes::<Stops>(out, at, repertoire, encoding, bytes, size)?;
+    if first && begins_like_mark(&out[at..end]) {
+        return print_with_first_escaped::<Stops>(out, at, repertoire, encoding, bytes, size);
+    }
+    Ok(end)
+}
+
+// Puts a key with its first character escaped.
+#[inline(never)]
+fn print_with_first_escaped<Stops: ByteClass>(
+    out: &mut Vec<u8>,
+    at: usize,
+    repertoire: Repertoire,
+    encoding: LineEncoding,
+    bytes: &[u8],
+    size: usize,
+) -> Result<usize, UnescapeError>
+    requires size { size ≤ length bytes.now }
+    requires at { at ≤ length out.old.items }
+    requires stops { StopsIn Stops.holds encoding repertoire }
+    requires well { IsWell encoding (take size bytes.now) }
+    requires some { 0 < size }
+    ensures printed { Prints (meaning_in encoding (Stops.holds backslash) (take size bytes.now)) (escaped_key repertoire) out.old.items at out.new.items result }
+    ensures same { take at out.new.items ≡ take at out.old.items }
+    ensures longer { length out.old.items ≤ length out.new.items }
+{
+    let first = match first_character::<Stops>(encoding, &bytes[..size]) {
+        Ok(first) => first,
+        Err(malformed) => return Err(UnescapeError::Malformed(malformed)),
+    };
+    make_room(out, at, LONGEST)?;
+    let end = put_escape(out, at, first.character);
+    let rest = &bytes[first.length..];
+    print_bytes::<Stops>(out, end, repertoire, encoding, rest, size - first.length)
+}
+
+/// Appends a key, as [`print_pair`] does. Fails if memory runs out.
+pub fn print_key(
+    line: &mut LineBuffer,
+    repertoire: Repertoire,
+    first: bool,
+    key: &str,
+) -> Result<(), AllocError>
+    ensures appended { AppendsOnOk line.old (key_bytes repertoire first (chars key.now)) result line.new }
+    ensures unchanged { OnErr result (line.new ≡ line.old) }
+{
+    let encoding = LineEncoding::Utf8;
+    let (out, at) = (&mut line.bytes, line.filled);
+    let (bytes, size) = (key.as_bytes(), key.len());
+    let printed = if is_copied(encoding, repertoire) {
+        print_first::<Literal>(out, at, repertoire, first, encoding, bytes, size)
+    } else {
+        print_first::<LiteralAscii>(out, at, repertoire, first, encoding, bytes, size)
+    };
+    match printed {
+        Ok(end) => {
+            line.filled = end;
+            Ok(())
+        }
+        Err(_) => Err(AllocError),
+    }
+}
+
+/// Appends a pair of texts, as [`print_pair`] does. Fails if memory runs out.
+#[inline(always)]
+pub fn print_texts(
+    line: &mut LineBuffer,
+    repertoire: Repertoire,
+    first: bool,
+    key: &str,
+    value: &str,
+    separator: &str,
+    ending: &str,
+) -> Result<(), AllocError>
+    ensures appended { let value = puts_of repertoire (chars value.now) in
+        let bytes = key_bytes repertoire first (chars key.now) ++ (separator.now ++ (value ++ ending.now)) in
+        AppendsOnOk line.old bytes result line.new }
+    ensures unchanged { OnErr result (line.new ≡ line.old) }
+{
+    let pair = Pair::literal(key, value);
+    match print_pair(line, repertoire, first, pair, separator, ending) {
+        Ok(()) => Ok(()),
+        // No escape is malformed, since a backslash begins none.
+        Err(_) => Err(AllocError),
     }
 }
 
 /// Appends the bytes of a text, escaped as its place in the line requires. Fails if memory runs out.
 ///
 /// ```text
-/// print_text(&mut line, repertoire, Place::KeyOrValue, "a b")?; // appends `a\ b`
+/// print_text(&mut line, repertoire, Place::Comment, "a\n")?; // appends `a\n`, a backslash and a letter
 /// ```
 pub fn print_text(
-    line: &mut LineBuffer,
-    repertoire: Repertoire,
-    place: Place,
-    text: &str,
-) -> Result<(), AllocError>
-    ensures { AppendsOnOk line.old (text_bytes repertoire place (chars text.now)) result line.new }
-{
-    match place {
-        Place::KeyOrValue => print_key_or_value(line, repertoire, text),
-        _ => print_characters(line, repertoire, place, text),
-    }
-}
-
-// Prints a key or a value. In UTF-8 without ASCII-only output it works on bytes, since no character past ASCII is escaped.
-fn print_key_or_value(
-    line: &mut LineBuffer,
-    repertoire: Repertoire,
-    text: &str,
-) -> Result<(), AllocError>
-    ensures { AppendsOnOk line.old (text_bytes repertoire KeyOrValue (chars text.now)) result line.new }
-{
-    match repertoire {
-        Repertoire {
-            encoding: OutputEncoding::Utf8,
-            ascii_only: false,
-        } => print_bytes(line, text.as_bytes()),
-        _ => print_narrow(line, repertoire, text),
-    }
-}
-
-// Works on bytes if all are ASCII. Kept out of line so that the path for UTF-8 stays short.
-#[inline(never)]
-fn print_narrow(line: &mut LineBuffer, repertoire: Repertoire, text: &str) -> Result<(), AllocError>
-    ensures { AppendsOnOk line.old (text_bytes repertoire KeyOrValue (chars text.now)) result line.new }
-{
-    if is_ascii(text.as_bytes()) {
-        return print_bytes(line, text.as_bytes());
-    }
-    print_by_turns(line, repertoire, text)
-}
-
-// Prints by turns a run of ASCII characters and one character past ASCII.
-#[inline(never)]
-fn print_by_turns(
-    line: &mut LineBuffer,
-    repertoire: Repertoire,
-    text: &str,
-) -> Result<(), AllocError>
-    ensures { AppendsOnOk line.old (text_bytes repertoire KeyOrValue (chars text.now)) result line.new }
-{
-    let mut rest = text;
-    while !rest.is_empty() {
-        if rest.as_bytes()[0] < 0x80 {
-            let count = leading_ascii(rest.as_bytes());
-            print_bytes(line, &rest.as_bytes()[..count])?;
-            rest = &rest[count..];
-        } else {
-            rest = print_first(line, repertoire, rest)?;
-        }
-    }
-    Ok(())
-}
-
-// Prints the first character, if there is one, and returns the text after it.
-#[inline(always)]
-fn print_first<'a>(
-    line: &mut LineBuffer,
-    repertoire: Repertoire,
-    text: &'a str,
-) -> Result<&'a str, AllocError>
-    ensures printed { IfOk result (λ rest.
-        line.new ++ text_bytes repertoire KeyOrValue (chars rest.now)
-        ≡ line.old ++ text_bytes repertoire KeyOrValue (chars text.now)) }
-    ensures shorter { IfOk result (λ rest. 0 < length text.now → length rest.now < length text.now) }
-{
-    let mut characters = text.chars();
-    let Some(character) = characters.next() else {
-        return Ok(text);
-    };
-    print_in_key_or_value(line, repertoire, character)?;
-    Ok(characters.as_str())
-}
-
-// Prints a text character by character.
-#[inline(never)]
-fn print_characters(
     line: &mut LineBuffer,
     repertoire: Repertoire,
     place: Place,
@@ -164,23 +361,6 @@ fn print_characters(
         print_character(line, repertoire, place, character)?;
     }
     Ok(())
-}
-
-/// Appends the bytes of a key. If it is at the front of a file, as `first` says, and would begin like a byte order
-/// mark, its first character is escaped. Fails if memory runs out.
-#[inline(always)]
-pub fn print_key(
-    line: &mut LineBuffer,
-    repertoire: Repertoire,
-    first: bool,
-    key: &str,
-) -> Result<(), AllocError>
-    ensures { AppendsOnOk line.old (key_bytes repertoire first (chars key.now)) result line.new }
-{
-    if first && is_bom_like(repertoire, key) {
-        return print_with_first_escaped(line, repertoire, key);
-    }
-    print_text(line, repertoire, Place::KeyOrValue, key)
 }
 
 /// Appends the bytes of a value as people write it, after blanks only or after a separator.
@@ -199,8 +379,8 @@ pub fn print_value(
     after_blanks: bool,
     text: &str,
 ) -> Result<(), AllocError>
-    requires { repertoire.ascii_only ≡ false }
-    ensures { let e = output_of repertoire.encoding in
+    requires { only_in repertoire ≡ false }
+    ensures { let e = encoding_in repertoire in
         let value = printed_value e after_blanks (chars text.now) in
         AppendsOnOk line.old (encoded_text e value) result line.new }
 {
@@ -223,8 +403,8 @@ fn print_first_of_value(
     after_blanks: bool,
     first: char,
 ) -> Result<(), AllocError>
-    requires { repertoire.ascii_only ≡ false }
-    ensures { let e = output_of repertoire.encoding in
+    requires { only_in repertoire ≡ false }
+    ensures { let e = encoding_in repertoire in
         let text = printed_first e after_blanks first in
         AppendsOnOk line.old (encoded_text e text) result line.new }
 {
@@ -240,8 +420,8 @@ fn print_rest_of_value(
     repertoire: Repertoire,
     rest: &str,
 ) -> Result<(), AllocError>
-    requires { repertoire.ascii_only ≡ false }
-    ensures { let e = output_of repertoire.encoding in
+    requires { only_in repertoire ≡ false }
+    ensures { let e = encoding_in repertoire in
         let text = printed_rest e (chars rest.now) in
         AppendsOnOk line.old (encoded_text e text) result line.new }
 {
@@ -262,8 +442,8 @@ fn print_held(
     repertoire: Repertoire,
     held: Option<char>,
 ) -> Result<(), AllocError>
-    requires { repertoire.ascii_only ≡ false }
-    ensures { let e = output_of repertoire.encoding in
+    requires { only_in repertoire ≡ false }
+    ensures { let e = encoding_in repertoire in
         AppendsOnOk line.old (encoded_text e (held_text e held)) result line.new }
 {
     match held {
@@ -279,8 +459,8 @@ fn print_last_of_value(
     repertoire: Repertoire,
     last: char,
 ) -> Result<(), AllocError>
-    requires { repertoire.ascii_only ≡ false }
-    ensures { let e = output_of repertoire.encoding in
+    requires { only_in repertoire ≡ false }
+    ensures { let e = encoding_in repertoire in
         AppendsOnOk line.old (encoded_text e (printed_last e last)) result line.new }
 {
     if last == ' ' {
@@ -295,62 +475,14 @@ fn print_in_value(
     repertoire: Repertoire,
     character: char,
 ) -> Result<(), AllocError>
-    requires { repertoire.ascii_only ≡ false }
-    ensures { let e = output_of repertoire.encoding in
+    requires { only_in repertoire ≡ false }
+    ensures { let e = encoding_in repertoire in
         AppendsOnOk line.old (encoded_text e (printed_inside e character)) result line.new }
 {
     if character == ' ' || is_separator(character) || is_comment_sign(character) {
         return print_literal(line, repertoire, character);
     }
     print_in_key_or_value(line, repertoire, character)
-}
-
-/// Appends a text in UTF-8, without escapes. Fails if memory runs out, and then appends nothing.
-pub fn print_raw(line: &mut LineBuffer, text: &str) -> Result<(), AllocError>
-    ensures appended { AppendsOnOk line.old text.now result line.new }
-    ensures unchanged { OnErr result (line.new ≡ line.old) }
-{
-    match text.as_bytes() {
-        // A separator and a line ending are usually one byte.
-        [byte] => line.push(*byte),
-        bytes => line.extend(bytes),
-    }
-}
-
-// Whether a key begins like a byte order mark, tested on its first characters only.
-fn is_bom_like(repertoire: Repertoire, key: &str) -> bool
-    ensures { result ≡ is_bom_like (output_of repertoire.encoding) repertoire.ascii_only (chars key.now) }
-{
-    if repertoire.ascii_only {
-        return false;
-    }
-    match repertoire.encoding {
-        OutputEncoding::Windows1252 => {
-            key.starts_with("\u{ef}\u{bb}\u{bf}")
-                || key.starts_with("\u{fe}\u{ff}")
-                || key.starts_with("\u{ff}\u{fe}")
-        }
-        OutputEncoding::Utf8 => key.starts_with("\u{feff}"),
-    }
-}
-
-// Prints a key with its first character escaped.
-#[inline(never)]
-fn print_with_first_escaped(
-    line: &mut LineBuffer,
-    repertoire: Repertoire,
-    key: &str,
-) -> Result<(), AllocError>
-    ensures { let e = output_of repertoire.encoding in
-        let text = with_first_escaped e repertoire.ascii_only (chars key.now) in
-        AppendsOnOk line.old (encoded_text e text) result line.new }
-{
-    let mut characters = key.chars();
-    let Some(character) = characters.next() else {
-        return Ok(());
-    };
-    print_escape(line, character)?;
-    print_text(line, repertoire, Place::KeyOrValue, characters.as_str())
 }
 
 fn print_character(
@@ -362,7 +494,6 @@ fn print_character(
     ensures { AppendsOnOk line.old (character_bytes repertoire place character) result line.new }
 {
     match place {
-        Place::KeyOrValue => print_in_key_or_value(line, repertoire, character),
         Place::Comment => print_in_comment(line, repertoire, character),
         Place::Prefix => print_literal(line, repertoire, character),
     }
@@ -373,13 +504,11 @@ fn print_in_key_or_value(
     repertoire: Repertoire,
     character: char,
 ) -> Result<(), AllocError>
-    ensures { let bytes = character_bytes repertoire Place.KeyOrValue character in
-        AppendsOnOk line.old bytes result line.new }
+    ensures { AppendsOnOk line.old (put_of repertoire character) result line.new }
 {
-    if character.is_ascii() {
-        return print_byte(line, u32::from(character) as u8);
-    }
-    print_literal(line, repertoire, character)
+    make_room(&mut line.bytes, line.filled, LONGEST)?;
+    line.filled = put_printed(&mut line.bytes, line.filled, repertoire, character);
+    Ok(())
 }
 
 fn print_in_comment(
@@ -399,55 +528,17 @@ fn print_in_comment(
 }
 
 // Prints a character unescaped if that is allowed, otherwise as a `\u` escape.
-#[tactic(auto, using(crate::proofs::Printing::Characters::literal_known))]
 fn print_literal(
     line: &mut LineBuffer,
     repertoire: Repertoire,
     character: char,
 ) -> Result<(), AllocError>
-    ensures { let e = output_of repertoire.encoding in
-        let text = literal e repertoire.ascii_only character in
+    ensures { let e = encoding_in repertoire in
+        let text = literal e (only_in repertoire) character in
         AppendsOnOk line.old (encoded_text e text) result line.new }
 {
-    if repertoire.allows(character) && print_encoded(line, repertoire.encoding, character)? {
-        return Ok(());
-    }
-    print_escape(line, character)
-}
-
-// Prints a character unescaped if it can be encoded, and returns whether it can.
-fn print_encoded(
-    line: &mut LineBuffer,
-    encoding: OutputEncoding,
-    character: char,
-) -> Result<bool, AllocError>
-    ensures answer { IfOk result (λ done. done ≡ is_some (encoded (output_of encoding) character)) }
-    ensures appended { let bytes = unwrap_or (encoded (output_of encoding) character) [] in
-        AppendsOnOk line.old bytes result line.new }
-{
-    match encoding {
-        OutputEncoding::Windows1252 => {
-            if !has_byte(character) {
-                return Ok(false);
-            }
-            let Some(byte) = byte_of(character) else {
-                return Ok(false);
-            };
-            line.push(byte)?;
-        }
-        OutputEncoding::Utf8 => {
-            line.extend(character.encode_utf8(&mut [0; 4]).as_bytes())?;
-        }
-    }
-    Ok(true)
-}
-
-// Prints a byte of a key or a value.
-fn print_byte(line: &mut LineBuffer, byte: u8) -> Result<(), AllocError>
-    ensures { AppendsOnOk line.old (printed_byte byte) result line.new }
-{
-    make_room(&mut line.bytes, line.filled, LONGEST_BYTE)?;
-    line.filled = put_any(&mut line.bytes, line.filled, byte);
+    make_room(&mut line.bytes, line.filled, LONGEST)?;
+    line.filled = put_literal(&mut line.bytes, line.filled, repertoire, character);
     Ok(())
 }
 

@@ -94,7 +94,6 @@ fn write_pairs<R: CountedRead, W: CountedWrite>(
     lines: &mut PropertiesWriter<W>,
 ) -> Result<(), PropertiesError>
     requires reading { items.old.state ≡ start items.old.state.encoding }
-    requires error { items.old.error ≡ None }
     requires writing { let only = lines.old.settings.ascii_only in
         lines.old ≡ pair_writer items.old.state.encoding only lines.old.sink }
     ensures filters { let e = items.old.state.encoding in
@@ -106,14 +105,13 @@ fn write_pairs<R: CountedRead, W: CountedWrite>(
     ensures same_reader { IsSameReader R.CountedRead items.old.reader items.new.reader }
     ensures same_sink { IsSameSink W.CountedWrite lines.old.sink lines.new.sink }
 {
-    while items.copy_next(&mut *lines) {}
-    match items.take_error() {
-        None => lines.finish(),
-        Some(CopyError::Read(error)) => {
+    match lines.copy_pairs(items) {
+        Ok(()) => lines.finish(),
+        Err(CopyError::Read(error)) => {
             // The error of the reading is returned, whatever the flush returns.
             let _ = lines.flush();
             Err(error)
         }
-        Some(CopyError::Write(error)) => Err(error),
+        Err(CopyError::Write(error)) => Err(error),
     }
 }

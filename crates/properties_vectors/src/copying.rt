@@ -190,10 +190,10 @@ fn copy_next<R: CountedRead, W: CountedWrite>(
     items: &mut PropertiesIter<R>,
     writer: &mut PropertiesWriter<W>,
 ) -> Option<Result<(), CopyError>> {
-    if items.copy_next(writer) {
-        return Some(Ok(()));
+    match writer.copy_pairs(items) {
+        Ok(()) => None,
+        Err(error) => Some(Err(error)),
     }
-    Some(Err(items.take_error()?))
 }
 
 fn write_next<R: CountedRead, W: CountedWrite>(

@@ -1,20 +1,16 @@
 // Reads items one after another from a reader that is passed to each call.
 
-ghost use Rattle.std.specs.Prelude.{◌≡◌, ◌<◌, true, None, [], OnSome};
+ghost use Rattle.std.specs.Prelude.{◌≡◌, ◌<◌, None, [], OnSome};
 ghost use Rattle.std.specs.Str.{chars};
-ghost use Rattle.counted_io.specs.Streams.{IsSameReader, IsSameSink};
+ghost use Rattle.counted_io.specs.Streams.{IsSameReader};
 ghost use Rattle.properties_format.specs.ItemsToCome.{start};
 ghost use Rattle.properties_text.specs.Encoding.{encoding_of};
 ghost use Rattle.properties_lines.specs.LineReader.{lines_left};
 ghost use Rattle.properties_lines.specs.LineJoiner.{Joiner};
 ghost use Rattle.properties_items.specs.BorrowedItems.{borrowed_entry, found_entry, BorrowsPlain, IsFoundIn};
 ghost use Rattle.java_properties.specs.Private.GivenItems.{FindsItem, GivesItem, Owns};
-ghost use Rattle.java_properties.specs.Private.Engine.{writing};
-ghost use Rattle.java_properties.specs.Copying.{reading, CopiesNext};
 
-use crate::iter::copy::{CopyError, copy_content, copy_next};
-use crate::writer::engine::Engine;
-use counted_io::{CountedRead, CountedWrite};
+use counted_io::CountedRead;
 use properties_items::borrowed::{LineRef, into_line};
 use properties_items::error::{PropertiesError, make};
 use properties_items::found::{Found, cut_item, find_escaped, find_plain};
@@ -27,7 +23,7 @@ use std::marker::Model;
 /// The state between two items.
 #[derive(Drop)]
 pub struct ItemReader {
-    lines: LineJoiner,
+    pub(crate) lines: LineJoiner,
     alloc: Global,
 }
 
@@ -59,7 +55,7 @@ impl ItemReader {
         ensures same_reader { IsSameReader R.CountedRead reader.old reader.new }
         ensures nearer { OnSome result (lines_left self.new.state < lines_left self.old.state) }
     {
-        while let Some(number) = self.lines.next_line(reader) {
+        while let Some(number) = self.lines.next_text(reader) {
             let line = self.lines.line();
             if !self.lines.has_backslash() {
                 if let Some(item) = find_plain(number, line) {
@@ -87,57 +83,6 @@ impl ItemReader {
         ensures borrowed { BorrowsPlain (chars self.now.line) result.content }
     {
         cut_item(found, self.lines.line())
-    }
-
-    /// Advances to the next item, and writes it if it is a pair. Returns `false` at the end, and at an error, which
-    /// `error` keeps.
-    #[inline(always)]
-    pub fn copy_next<R: CountedRead, W: CountedWrite>(
-        &mut self,
-        reader: &mut R,
-        engine: &mut Engine,
-        sink: &mut W,
-        error: &mut Option<CopyError>,
-    ) -> bool
-        ensures copies { let old = reading self.old reader.old error.old in
-            let new = reading self.new reader.new error.new in
-            CopiesNext R.CountedRead W.CountedWrite
-            old (writing engine.old sink.old) result new (writing engine.new sink.new) }
-        ensures same_reader { IsSameReader R.CountedRead reader.old reader.new }
-        ensures same_sink { IsSameSink W.CountedWrite sink.old sink.new }
-        ensures nearer { result ≡ true → lines_left self.new.state < lines_left self.old.state }
-    {
-        if engine.copies_bytes() {
-            return copy_next(self.alloc, &mut self.lines, reader, engine, sink, error);
-        }
-        self.copy_decoded(reader, engine, sink, error)
-    }
-
-    // Copies the next item decoded. Where no bytes can be copied, this is faster than to look at them first.
-    #[inline(always)]
-    fn copy_decoded<R: CountedRead, W: CountedWrite>(
-        &mut self,
-        reader: &mut R,
-        engine: &mut Engine,
-        sink: &mut W,
-        error: &mut Option<CopyError>,
-    ) -> bool
-        ensures copies { let old = reading self.old reader.old error.old in
-            let new = reading self.new reader.new error.new in
-            CopiesNext R.CountedRead W.CountedWrite
-            old (writing engine.old sink.old) result new (writing engine.new sink.new) }
-        ensures same_reader { IsSameReader R.CountedRead reader.old reader.new }
-        ensures same_sink { IsSameSink W.CountedWrite sink.old sink.new }
-        ensures nearer { result ≡ true → lines_left self.new.state < lines_left self.old.state }
-    {
-        match self.advance(reader) {
-            None => false,
-            Some(Ok(found)) => copy_content(self.get(found).content(), engine, sink, error),
-            Some(Err(failure)) => {
-                *error = Some(CopyError::Read(failure));
-                false
-            }
-        }
     }
 
     /// Returns the next item with owned texts; an error; or `None` at the end.

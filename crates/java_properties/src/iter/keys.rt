@@ -41,7 +41,7 @@ pub fn key_lines<R: CountedRead>(
     let mut lines = LineJoiner::new(alloc, encoding);
     let mut keys = Vec::new(alloc);
     let mut firsts = BTreeMap::new(alloc);
-    while let Some(number) = lines.next_line(input) {
+    while let Some(number) = lines.next_text(input) {
         push_key(alloc, &mut keys, &mut firsts, number, lines.line())?;
     }
     if let Some(error) = lines.take_error() {

@@ -10,7 +10,7 @@ use counted_io::CountedRead;
 use properties_items::error::{PropertiesError, make};
 use properties_items::findings::MalformedEscape;
 use properties_items::found::find_escaped;
-use properties_lines::join::is_comment_line;
+use properties_lines::join::is_comment;
 use properties_lines::joiner::LineJoiner;
 use properties_text::encoding::Encoding;
 use properties_text::escape::UnescapeError;
@@ -37,7 +37,7 @@ pub fn malformed_escapes<R: CountedRead>(
 {
     let mut lines = LineJoiner::new(alloc, encoding);
     let mut escapes = Vec::new(alloc);
-    while let Some(number) = lines.next_line(input) {
+    while let Some(number) = lines.next_text(input) {
         push_malformed(alloc, &mut escapes, number, lines.line())?;
     }
     if let Some(error) = lines.take_error() {
@@ -64,7 +64,7 @@ fn push_malformed(
     escapes.push(MalformedEscape {
         line_number,
         kind: make::malformed_kind(malformed),
-        in_comment: is_comment_line(line),
+        in_comment: is_comment(line.as_bytes()),
     })?;
     Ok(())
 }

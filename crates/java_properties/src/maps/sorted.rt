@@ -14,7 +14,7 @@ use crate::maps::write_pairs;
 use counted_io::{CountedRead, CountedWrite};
 use properties_items::error::PropertiesError;
 use properties_items::line::LineContent;
-use properties_text::encoding::{Encoding, OutputEncoding};
+use properties_text::encoding::{Encoding, LineEncoding};
 use std::alloc::{AllocError, Global};
 use std::collections::BTreeMap;
 
@@ -90,7 +90,7 @@ pub fn write_sorted<W: CountedWrite>(
     ensures same_sink { IsSameSink W.CountedWrite writer.old writer.new }
 {
     let pairs = pairs_of(alloc, map)?;
-    write_pairs(alloc, writer, &pairs, OutputEncoding::from(encoding))
+    write_pairs(alloc, writer, &pairs, LineEncoding::from(encoding))
 }
 
 // Returns the entries of a map, in its order.

@@ -12,16 +12,14 @@ ghost use Rattle.properties_text.specs.Printing.{AppendsOnOk, is_all_of_windows_
 ghost use Rattle.java_properties.specs.PropertiesWriter.{call_of, WritesLine, Flushes};
 
 use super::settings::Settings;
-use crate::iter::copy::CopyError;
 use counted_io::{CountedWrite, send};
 use properties_items::error::{PropertiesError, make};
 use properties_items::line::ending_text;
-use properties_text::encoding::OutputEncoding;
+use properties_text::encoding::LineEncoding;
 use properties_text::escape::UnescapeError;
 use properties_text::parse::Span;
 use properties_text::print::{
-    LineBuffer, Place, Repertoire, UndecodedPair, print_key, print_raw, print_text,
-    print_undecoded_pair,
+    LineBuffer, Pair, Place, Repertoire, print_pair, print_text, print_texts,
 };
 use std::alloc::{AllocError, Global};
 use std::io;
@@ -35,17 +33,6 @@ pub enum Content<'a> {
     KVPair(&'a str, &'a str),
 }
 
-/// What became of a pair that wasn't decoded.
-#[derive(Clone, Copy)]
-pub enum Written {
-    /// It was written.
-    Line,
-    /// Its escapes can't be resolved, or memory ran out.
-    Unresolved(UnescapeError),
-    /// It couldn't be written, and the error is kept.
-    Failed,
-}
-
 /// The state of a writer between two lines. The sink is passed to each call.
 #[derive(Drop)]
 pub struct Engine {
@@ -55,14 +42,14 @@ pub struct Engine {
     lines: usize,
     // Whether a write failed.
     failed: bool,
-    encoding: OutputEncoding,
+    encoding: LineEncoding,
     /// The settings for the next line.
     pub settings: Settings,
 }
 
 impl Engine {
     /// Creates the state before the first line.
-    pub fn new(alloc: Global, encoding: OutputEncoding) -> Engine
+    pub fn new(alloc: Global, encoding: LineEncoding) -> Engine
         ensures encoding { result.encoding ≡ encoding }
         ensures settings { result.settings ≡ default_settings }
         ensures lines { result.lines ≡ 0 }
@@ -100,65 +87,10 @@ impl Engine {
         }
     }
 
-    /// Writes the line of a pair, and returns whether it did. `error` keeps the error of a write.
+    /// Returns the number of the next line, or `None` if an earlier write failed, if the line isn't accepted, or if there
+    /// are no more numbers. `refusal` says which.
     #[inline(always)]
-    pub fn write_pair<W: CountedWrite>(
-        &mut self,
-        sink: &mut W,
-        key: &str,
-        value: &str,
-        error: &mut Option<CopyError>,
-    ) -> bool
-        ensures writes { let old = writing self.old sink.old in
-            WritesPair W.CountedWrite old (pair (chars key.now) (chars value.now)) error.old result (writing self.new sink.new) error.new }
-        ensures same_sink { IsSameSink W.CountedWrite sink.old sink.new }
-    {
-        match self.write_line(sink, Content::KVPair(key, value)) {
-            Ok(()) => true,
-            Err(refused) => {
-                *error = Some(CopyError::Write(refused));
-                false
-            }
-        }
-    }
-
-    /// Writes the line of a pair of windows-1252 that isn't decoded, as `write_line` writes the pair that it means.
-    /// `error` keeps the error of a write.
-    #[inline(always)]
-    pub fn write_undecoded<W: CountedWrite>(
-        &mut self,
-        alloc: Global,
-        sink: &mut W,
-        pair: UndecodedPair<'_>,
-        error: &mut Option<CopyError>,
-    ) -> Written
-        requires { IsUndecodedPair pair }
-        ensures writes { let old = writing self.old sink.old in
-            WritesUndecoded W.CountedWrite old (undecoded_line pair.entry) error.old result (writing self.new sink.new) error.new }
-        ensures same_sink { IsSameSink W.CountedWrite sink.old sink.new }
-    {
-        // Built first: a malformed escape is reported before any error of the writing.
-        if let Err(unresolved) = self.build_undecoded(alloc, pair) {
-            return Written::Unresolved(unresolved);
-        }
-        let accepted = self.takes_span(pair.key);
-        let Some(number) = self.next_number(accepted) else {
-            self.keep_refusal(accepted, error);
-            return Written::Failed;
-        };
-        match self.send_line(sink, number) {
-            Ok(()) => Written::Line,
-            Err(fault) => {
-                keep_fault(number, fault, error);
-                Written::Failed
-            }
-        }
-    }
-
-    // Returns the number of the next line, or `None` if an earlier write failed, if the line isn't accepted, or if there
-    // are no more numbers. `refusal` says which.
-    #[inline(always)]
-    fn next_number(&self, accepted: bool) -> Option<usize>
+    pub fn next_number(&self, accepted: bool) -> Option<usize>
         ensures number { IfSome result (λ number. NumbersLine self.now accepted (Ok number)) }
         ensures none { result ≡ None → HasNoNumber self.now accepted }
     {
@@ -168,8 +100,8 @@ impl Engine {
         self.lines.checked_add(1)
     }
 
-    // Why the next line has no number.
-    fn refusal(&self, accepted: bool) -> PropertiesError
+    /// Why the next line has no number.
+    pub fn refusal(&self, accepted: bool) -> PropertiesError
         requires { HasNoNumber self.now accepted }
         ensures { NumbersLine self.now accepted (Err result) }
     {
@@ -182,18 +114,9 @@ impl Engine {
         make::too_many_lines()
     }
 
-    // Keeps why the next line has no number. Kept out of line because it is rare.
-    #[inline(never)]
-    fn keep_refusal(&self, accepted: bool, error: &mut Option<CopyError>)
-        requires { HasNoNumber self.now accepted }
-        ensures { KeepsRefusal self.now accepted error.new }
-    {
-        *error = Some(CopyError::Write(self.refusal(accepted)));
-    }
-
-    // Sends the line that was built, and counts it.
+    /// Sends the line that was built, and counts it.
     #[inline(always)]
-    fn send_line<W: CountedWrite>(
+    pub fn send_line<W: CountedWrite>(
         &mut self,
         sink: &mut W,
         number: usize,
@@ -236,43 +159,27 @@ impl Engine {
         }
     }
 
-    /// Returns whether bytes of windows-1252 can be copied into a line.
+    /// Returns whether a pair can be written whose key is spelt by this span.
     #[inline(always)]
-    pub fn copies_bytes(&self) -> bool
-        ensures { result ≡ is_all_of_windows_1252 (repertoire_of self.now) }
-    {
-        self.repertoire().is_all_of_windows_1252()
-    }
-
-    // Returns whether a pair can be written whose key is spelt by this span.
-    #[inline(always)]
-    fn takes_span(&self, key: Span) -> bool
+    pub fn takes_span(&self, key: Span) -> bool
         ensures { result ≡ takes_span self.now.settings key }
     {
         key.start != key.end || self.settings.takes_key("")
     }
 
-    // Builds the bytes of the line from a pair that isn't decoded.
+    /// Builds the line of a pair. Fails with the first malformed escape, or if memory runs out.
     #[inline(always)]
-    fn build_undecoded(
-        &mut self,
-        alloc: Global,
-        pair: UndecodedPair<'_>,
-    ) -> Result<(), UnescapeError>
-        requires { IsUndecodedPair pair }
-        ensures printed { BuildsUndecoded self.old (undecoded_line pair.entry) result self.new.line }
-        ensures same { self.new ≡ record self.old { line = self.new.line } }
+    pub fn build_pair(&mut self, pair: Pair<'_>) -> Result<(), UnescapeError>
     {
         let repertoire = self.repertoire();
         self.line.clear();
-        print_undecoded_pair(
-            alloc,
+        print_pair(
             &mut self.line,
             repertoire,
             self.lines == 0,
             pair,
-            self.settings.kv_separator().as_bytes(),
-            ending_text(self.settings.line_ending()).as_bytes(),
+            self.settings.kv_separator(),
+            ending_text(self.settings.line_ending()),
         )
     }
 
@@ -283,20 +190,23 @@ impl Engine {
             OnOk result (self.new.line ≡ bytes) }
         ensures same { self.new ≡ record self.old { line = self.new.line } }
     {
+        let repertoire = self.repertoire();
         self.line.clear();
-        self.print_content(content)?;
-        print_raw(&mut self.line, ending_text(self.settings.line_ending()))
-    }
-
-    #[inline(always)]
-    fn print_content(&mut self, content: Content<'_>) -> Result<(), AllocError>
-        ensures printed { let bytes = content_bytes self.old (entry_content content.entry) in
-            AppendsOnOk self.old.line bytes result self.new.line }
-        ensures same { self.new ≡ record self.old { line = self.new.line } }
-    {
         match content {
-            Content::Comment(text) => self.print_comment(text),
-            Content::KVPair(key, value) => self.print_pair(key, value),
+            Content::Comment(text) => {
+                self.print_comment(text)?;
+                self.line
+                    .extend(ending_text(self.settings.line_ending()).as_bytes())
+            }
+            Content::KVPair(key, value) => print_texts(
+                &mut self.line,
+                repertoire,
+                self.lines == 0,
+                key,
+                value,
+                self.settings.kv_separator(),
+                ending_text(self.settings.line_ending()),
+            ),
         }
     }
 
@@ -316,31 +226,12 @@ impl Engine {
     }
 
     #[inline(always)]
-    fn print_pair(&mut self, key: &str, value: &str) -> Result<(), AllocError>
-        ensures printed { let bytes = content_bytes self.old (pair (chars key.now) (chars value.now)) in
-            AppendsOnOk self.old.line bytes result self.new.line }
-        ensures same { self.new ≡ record self.old { line = self.new.line } }
-    {
-        let repertoire = self.repertoire();
-        print_key(&mut self.line, repertoire, self.lines == 0, key)?;
-        print_raw(&mut self.line, self.settings.kv_separator())?;
-        print_text(&mut self.line, repertoire, Place::KeyOrValue, value)
-    }
-
     fn repertoire(&self) -> Repertoire
         ensures { result ≡ repertoire_of self.now }
     {
-        Repertoire {
-            encoding: self.encoding,
-            ascii_only: self.settings.ascii_only(),
+        if self.settings.ascii_only() {
+            return Repertoire::Ascii;
         }
+        Repertoire::from(self.encoding)
     }
-}
-
-// Keeps why the line of this number wasn't sent. Kept out of line because it is rare.
-#[inline(never)]
-fn keep_fault(number: usize, fault: Option<io::Error>, error: &mut Option<CopyError>)
-    ensures { KeepsFault number fault error.new }
-{
-    *error = Some(CopyError::Write(make::write_fault(Some(number), fault)));
 }

@@ -1,7 +1,7 @@
 // The front of a pair: its bytes up to the end of its separator, or of its key if nothing separates key and value.
 
 ghost use Rattle.std.specs.Prelude.{◌≡◌, ◌≤◌, ◌+◌, ◌-◌, ◌<◌, if◌then◌else◌, length, take, IfOk};
-ghost use Rattle.std.specs.Str.{chars};
+ghost use Rattle.std.specs.Str.{chars, IsUtf8};
 ghost use Rattle.properties_format.specs.Groups.{is_open};
 ghost use Rattle.properties_format.specs.Computed.Valued.{added_by, after_ascii, ascii_count};
 ghost use Rattle.properties_text.specs.Encoding.{encoding_of};
@@ -50,7 +50,7 @@ pub fn front_size(
         let bytes = &pair[line.start..line.end];
         text.clear();
         text.push_decoded(encoding, bytes)?;
-        let added = added_by(is_first, text.as_str()).len();
+        let added = added_by(is_first, text.as_str().as_bytes()).len();
         if left <= added {
             return Ok(line.start + head_size(bytes, text.as_str(), added, left));
         }
@@ -62,7 +62,8 @@ pub fn front_size(
 }
 
 // Returns what a line adds to the logical line.
-fn added_by(is_first: bool, text: &str) -> &str
+fn added_by(is_first: bool, text: &[u8]) -> &[u8]
+    requires { IsUtf8 text.now }
     ensures { chars result.now ≡ added_by is_first (chars text.now) }
 {
     if is_first {
@@ -82,7 +83,7 @@ fn head_size(bytes: &[u8], text: &str, added: usize, left: usize) -> usize
         (take (length text.now - (if is_open (chars text.now) then 1 else 0) - added + left) text.now)) bytes.now }
     ensures within { result ≤ length bytes.now }
 {
-    let backslash = usize::from(is_open(text));
+    let backslash = usize::from(is_open(text.as_bytes()));
     if left == added {
         return bytes.len() - backslash;
     }

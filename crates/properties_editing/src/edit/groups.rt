@@ -8,7 +8,7 @@ ghost use Rattle.properties_lines.specs.LineSearch.{unit_size};
 ghost use Rattle.properties_editing.specs.Private.BodyGroups.{IsWithin, FindsLine, GivesGroup, JoinsGroup, IsFirstGroup, text_of, IsTextHeld};
 
 use properties_items::line::LineEnding;
-use properties_lines::logical::LogicalLine;
+use properties_lines::logical::{LogicalLine, is_line_in};
 use properties_lines::scanner::{RawLine, Scan, Scanner};
 use properties_text::encoding::Encoding;
 use std::alloc::{AllocError, Global};
@@ -94,12 +94,10 @@ impl GroupReader {
             return Ok(None);
         }
         let line = *self.scanner.line();
-        let is_open = self.line.begin(
-            self.scanner.encoding(),
-            line.is_ascii,
-            line.has_backslash,
-            &body[line.start..line.end],
-        )?;
+        let encoding = self.scanner.encoding();
+        let bytes = &body[line.start..line.end];
+        let is_line = line.is_ascii || is_line_in(encoding, bytes);
+        let is_open = self.line.begin(encoding, is_line, bytes)?;
         let group = Group {
             number: self.scanner.number(),
             start: line.start,
@@ -109,6 +107,7 @@ impl GroupReader {
             is_empty: line.start == line.end,
         };
         let joined = self.join(body, group)?;
+        self.line.make_text(&body[joined.start..joined.end])?;
         Ok(Some(joined))
     }
 
@@ -121,9 +120,9 @@ impl GroupReader {
         while joined.is_open && self.find_line(body)? {
             let line = *self.scanner.line();
             let bytes = &body[line.start..line.end];
-            let is_open = self
-                .line
-                .join(self.scanner.encoding(), line.is_ascii, bytes)?;
+            let encoding = self.scanner.encoding();
+            let is_line = line.is_ascii || is_line_in(encoding, bytes);
+            let is_open = self.line.join(encoding, is_line, bytes)?;
             joined = Group {
                 end: line.end,
                 ending: ending_of(&body[line.end..self.scanner.place()]),

@@ -29,7 +29,7 @@ use crate::edit::value::{are_blanks, repertoire_of};
 use properties_items::line::{LineEnding, ending_text};
 use properties_text::characters::is_blank;
 use properties_text::encoding::Encoding;
-use properties_text::print::{LineBuffer, print_key, print_raw, print_value};
+use properties_text::print::{LineBuffer, print_key, print_value};
 use std::alloc::{AllocError, Global};
 
 /// How a new pair is laid out.
@@ -257,11 +257,11 @@ pub fn with_new_pair(
 {
     let mut line = LineBuffer::new(alloc);
     let separation = closing_bytes(layout.closing, layout.ending);
-    print_raw(&mut line, separation)?;
+    line.extend(separation.as_bytes())?;
     let first = are_empty(&source[opened.start..], separation.as_bytes());
     let separator = layout.separator.as_str();
     print_new_pair(&mut line, opened.encoding, first, separator, key, value)?;
-    print_raw(&mut line, ending_text(layout.ending))?;
+    line.extend(ending_text(layout.ending).as_bytes())?;
     concatenated(alloc, source, line.as_slice(), b"")
 }
 
@@ -300,6 +300,6 @@ fn print_new_pair(
 {
     let repertoire = repertoire_of(encoding);
     print_key(line, repertoire, first, key)?;
-    print_raw(line, separator)?;
+    line.extend(separator.as_bytes())?;
     print_value(line, repertoire, are_blanks(separator), value)
 }

@@ -5,7 +5,6 @@ ghost use Rattle.std.specs.Str.{chars};
 ghost use Rattle.properties_format.specs.Text.{line_feed};
 ghost use Rattle.properties_format.specs.Writing.{is_empty};
 ghost use Rattle.properties_format.specs.Edited.{added_ending, pair_bytes};
-ghost use Rattle.properties_format.specs.Encoding.{begins_like_bom};
 ghost use Rattle.properties_editing.specs.Private.BodyKeys.{AreWithin, left_bytes, closing_bytes, spans_bytes};
 ghost use Rattle.properties_format.specs.Encoding.{output_encoding};
 ghost use Rattle.properties_text.specs.Encoding.{encoding_of};
@@ -15,8 +14,8 @@ use crate::edit::place::{BodySpan, Closing, closing_bytes, separation_after};
 use crate::edit::source::BodyStart;
 use crate::edit::value::repertoire_of;
 use properties_text::encoding::Encoding;
-use properties_text::encoding::byte_order_mark::{ByteOrderMark, byte_order_mark};
-use properties_text::print::{LineBuffer, Place, print_key, print_raw, print_text};
+use properties_text::encoding::byte_order_mark::begins_like_mark;
+use properties_text::print::{LineBuffer, print_texts};
 use std::alloc::{AllocError, Global};
 
 /// Returns the source with this pair replaced by a printed pair.
@@ -36,7 +35,7 @@ pub fn replaced(
         ++ (line ++ drop (opened.start + pair.end) source.now)) }
 {
     let mut line = LineBuffer::new(alloc);
-    print_pair(&mut line, opened.encoding, pair.start == 0, key, value)?;
+    print_new(&mut line, opened.encoding, pair.start == 0, key, value)?;
     let front = &source[..opened.start + pair.start];
     let back = &source[opened.start + pair.end..];
     concatenated(alloc, front, line.as_slice(), back)
@@ -62,8 +61,8 @@ pub fn appended(
     let separation = closing_bytes(closing, separation_after(source)).as_bytes();
     let first = are_empty(&source[opened.start..], separation);
     let mut line = LineBuffer::new(alloc);
-    print_pair(&mut line, opened.encoding, first, key, value)?;
-    print_raw(&mut line, "\n")?;
+    print_new(&mut line, opened.encoding, first, key, value)?;
+    line.extend(b"\n")?;
     concatenated(alloc, source, separation, line.as_slice())
 }
 
@@ -83,7 +82,7 @@ pub fn reduced_to(
     let mut bytes = Vec::with_capacity(alloc, size_with(opened.start, others))?;
     bytes.extend_from_slice(&source[..opened.start])?;
     push_spans(&mut bytes, body, others)?;
-    if opened.start == 0 && begins_like_bom(&bytes) {
+    if opened.start == 0 && begins_like_mark(&bytes) {
         // This is rare, so the bytes are moved.
         bytes.insert(0, b'\n')?;
     }
@@ -119,16 +118,6 @@ pub fn part(body: &[u8], span: BodySpan) -> &[u8]
     &body[span.start..span.end]
 }
 
-/// Returns whether the bytes begin like a byte order mark.
-pub fn begins_like_bom(bytes: &[u8]) -> bool
-    ensures { result ≡ begins_like_bom bytes.now }
-{
-    match byte_order_mark(bytes) {
-        ByteOrderMark::Present(_, _) => true,
-        ByteOrderMark::Absent | ByteOrderMark::Undecided => false,
-    }
-}
-
 /// Returns whether both slices are empty.
 pub fn are_empty(rest: &[u8], separation: &[u8]) -> bool
     ensures { result ≡ is_empty (rest.now ++ separation.now) }
@@ -138,7 +127,7 @@ pub fn are_empty(rest: &[u8], separation: &[u8]) -> bool
 
 // Appends a pair without a line ending. A pair that is `first` in a body is printed so that it isn't taken for a byte
 // order mark.
-fn print_pair(
+fn print_new(
     line: &mut LineBuffer,
     encoding: Encoding,
     first: bool,
@@ -148,10 +137,7 @@ fn print_pair(
     ensures { let e = output_encoding (encoding_of encoding) in
         AppendsOnOk line.old (pair_bytes e first (chars key.now) (chars value.now)) result line.new }
 {
-    let repertoire = repertoire_of(encoding);
-    print_key(line, repertoire, first, key)?;
-    print_raw(line, "=")?;
-    print_text(line, repertoire, Place::KeyOrValue, value)
+    print_texts(line, repertoire_of(encoding), first, key, value, "=", "")
 }
 
 /// Returns a pair as it is printed, without a line ending. A pair that is `first` in a body is printed so that it isn't
@@ -167,7 +153,7 @@ pub fn printed_pair(
         IfOk result (λ bytes. bytes.items ≡ pair_bytes e first (chars key.now) (chars value.now)) }
 {
     let mut line = LineBuffer::new(alloc);
-    print_pair(&mut line, encoding, first, key, value)?;
+    print_new(&mut line, encoding, first, key, value)?;
     concatenated(alloc, line.as_slice(), b"", b"")
 }
 

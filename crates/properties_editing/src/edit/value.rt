@@ -18,9 +18,9 @@ use crate::edit::place::BodySpan;
 use crate::edit::result::concatenated;
 use crate::edit::source::BodyStart;
 use properties_items::error::PropertiesError;
-use properties_text::encoding::{Encoding, OutputEncoding};
+use properties_text::encoding::{Encoding, LineEncoding};
 use properties_text::parse::leading_blanks;
-use properties_text::print::{LineBuffer, Repertoire, print_raw, print_value};
+use properties_text::print::{LineBuffer, Repertoire, print_value};
 use std::alloc::{AllocError, Global};
 
 /// How the bytes of a pair change when it gets another value.
@@ -96,7 +96,7 @@ fn print_value_after(
 {
     let repertoire = repertoire_of(encoding);
     if separator.is_empty() {
-        print_raw(line, "=")?;
+        line.extend(b"=")?;
         return print_value(line, repertoire, false, value);
     }
     print_value(line, repertoire, are_blanks(separator), value)
@@ -107,10 +107,7 @@ pub fn repertoire_of(encoding: Encoding) -> Repertoire
     ensures encoding { output_of result.encoding ≡ output_encoding (encoding_of encoding) }
     ensures all { result.ascii_only ≡ false }
 {
-    Repertoire {
-        encoding: OutputEncoding::from(encoding),
-        ascii_only: false,
-    }
+    Repertoire::from(LineEncoding::from(encoding))
 }
 
 /// Returns whether a text is blanks and nothing else.

@@ -1,35 +1,23 @@
 -- Texts printed byte by byte.
-use Rattle.std.proofs.Common.{◌≡◌, ℕ, ◌+◌, ◌-◌, ◌<◌, ◌≤◌, ◌==◌, Bool, true, false, nat_lt, List, [], ◌∷◌, ◌++◌, refl, sym, ap, ap₂, ◌∙◌, inl, inr, append_assoc, append-nil, arith, length, take, drop, get_or, lit<, le-ltb, lt-ltb, ltb-true, ne_eqb, eqb-true}
-use Rattle.std.specs.Prelude.{Option, Some, None, is_some, map, not, ◌&&◌, encode_utf8, encode_utf8_all, slice_index, unwrap_or}
-use Rattle.std.specs.Str.{chars, IsUtf8, IsAscii}
+use Rattle.std.proofs.Common.{◌≡◌, ℕ, ◌+◌, ◌<◌, ◌≤◌, ◌==◌, Bool, true, false, nat_lt, List, [], ◌∷◌, ◌++◌, refl, sym, ap, ◌∙◌, inl, inr, append_assoc, arith, lit<, le-ltb, lt-ltb, ltb-true, ne_eqb, eqb-true}
+use Rattle.std.specs.Prelude.{Option, Some, None, is_some, not, ◌&&◌, slice_index, unwrap_or}
 use Rattle.std.proofs.lemmas.Bool.{cases_Bool, cases_lt, cond-true, cond-false, agree_below_at, false_from_ne_true}
-use Rattle.std.specs.List.{All}
-use Rattle.std.proofs.lemmas.List.Elements.{All-head, All-tail}
-use Rattle.std.proofs.lemmas.Str.Ascii.{All-from_ascii}
-use Rattle.std.proofs.lemmas.Str.{encodes-chars, chars-append, chars-IsAscii, encode_ascii, IsUtf8-from_ascii}
-use Rattle.std.proofs.lemmas.List.{take_more, take_all, length-drop, length-take-le, take-append-le, take-append-drop}
-use Rattle.std.proofs.Math.Seq.{take-append-add}
-use borrow.Rule.Slice.PartMut.{put_mid, post_of}
 use Rattle.properties_format.specs.Text.{space, backslash}
 use Rattle.properties_format.specs.Windows1252.{windows_1252_byte, windows_1252_table, is_in_table, place_from}
-use Rattle.properties_format.specs.Encoding.{Encoding, windows_1252, utf_8, one_byte, encoded}
-use Rattle.properties_format.specs.Printing.{in_key_or_value, unit_escape, unicode_escape, may_be_unescaped, is_special, has_letter, letter_escape, printed_character, printed_characters, encoded_text}
-use Rattle.properties_format.proofs.Printing.Characters.{AreAscii, encoded_text-append, printed_characters-append, encoded_text-ascii, encoded-ascii, special-ascii, letter_escape-ascii}
-use Rattle.properties_format.proofs.Encodings.Utf8Characters.{encode-two, encode-three, encode-four}
-use Rattle.properties_text.specs.Encoding.{output_of}
-use Rattle.properties_text.specs.Printing.{printed_byte, printed_bytes, backslashes_before, last_of, character_bytes, text_bytes, PrintsByteByByte}
+use Rattle.properties_format.specs.Encoding.{Encoding, windows_1252, one_byte, encoded}
+use Rattle.properties_format.specs.Printing.{in_key_or_value, unit_escape, unicode_escape, may_be_unescaped, is_special, has_letter, letter_escape, printed_character, encoded_text}
+use Rattle.properties_format.proofs.Printing.Characters.{encoded_text-ascii, encoded-ascii, special-ascii, letter_escape-ascii}
+use Rattle.properties_text.specs.Printing.{printed_byte, printed_bytes, backslashes_before, last_of}
 use Rattle.properties_text.specs.declared.print.bytes.TheConstants.{BEFORE, LAST}
 use Rattle.properties_format.proofs.ReadBack.Comments.{literal-ascii}
-use Rattle.properties_text.specs.declared.print.Repertoire.{Repertoire}
-use Rattle.properties_text.specs.declared.encoding.encode.OutputEncoding.TheVariants.{Utf8}
-use Rattle.properties_text.specs.declared.print.Place.TheVariants.{KeyOrValue}
 use Rattle.properties_text.proofs.Printing.Characters.{encoded_escape}
 
 -- ---- bytes, one after another
 
 pub printed_bytes-append : (x y : List ℕ) → printed_bytes (x ++ y) ≡ printed_bytes x ++ printed_bytes y
 printed_bytes-append [] y = refl
-printed_bytes-append (b ∷ x) y = ap (λ v. printed_byte b ++ v) (printed_bytes-append x y) ∙ sym (append_assoc (printed_byte b) (printed_bytes x) (printed_bytes y))
+printed_bytes-append (b ∷ x) y = ap (λ v. printed_byte b ++ v) (printed_bytes-append x y) ∙ sym (append_assoc (printed_byte b) (printed_bytes x)
+    (printed_bytes y))
 
 -- ---- the tables
 
@@ -52,30 +40,6 @@ printed_byte-digits b h = elim (cases_Bool (is_special b)) [
   ]
 ]
 
--- One more byte is printed.
-pub printed_bytes-more : (bs : List ℕ) (i : ℕ) → i < length bs → printed_bytes (take (i + 1) bs) ≡ printed_bytes (take i bs) ++ printed_byte (get_or bs i 0)
-printed_bytes-more bs i h =
-    ap printed_bytes (take_more bs i 0 h)
-    ∙ printed_bytes-append (take i bs) (get_or bs i 0 ∷ [])
-    ∙ ap (λ v. printed_bytes (take i bs) ++ v) (append-nil (printed_byte (get_or bs i 0)))
-
--- What is printed for bytes, after what was printed before.
-pub printed-after : (bytes out printed_character : List ℕ) (filled room written : ℕ) → filled ≤ length bytes → written ≤ length out → take written out ≡ printed_character
-    → take (filled + written) (put_mid filled room bytes out) ≡ take filled bytes ++ printed_character
-printed-after bytes out printed_character filled room written h k e =
-    ap (λ n. take (n + written) (put_mid filled room bytes out)) (sym (length-take-le filled bytes h))
-    ∙ take-append-add (take filled bytes) (out ++ post_of filled room bytes) written
-    ∙ ap (λ v. take filled bytes ++ v) (take-append-le written out (post_of filled room bytes) k ∙ e)
-
--- The first bytes are printed, and the rest follows.
-pub printed-front : (line rest new whole : List ℕ) (size read : ℕ) → size ≡ length rest → new ≡ line ++ printed_bytes (take read rest)
-    → line ++ printed_bytes rest ≡ whole → new ++ printed_bytes (take (size - read) (drop read rest)) ≡ whole
-printed-front line rest new whole size read is_size printed held =
-    ap₂ (λ x y. x ++ printed_bytes y) printed (take_all (size - read) (drop read rest) (omega (arith, is_size, length-drop read rest)))
-    ∙ append_assoc line (printed_bytes (take read rest)) (printed_bytes (drop read rest))
-    ∙ ap (λ v. line ++ v) (sym (printed_bytes-append (take read rest) (drop read rest)) ∙ ap printed_bytes (take-append-drop read rest))
-    ∙ held
-
 -- ---- ASCII
 
 -- An ASCII character is printed as its byte is.
@@ -91,26 +55,7 @@ ascii-printed e only c h = elim (cases_Bool (is_special c)) [
   ]
 ]
 
--- A text of ASCII characters is printed as its bytes are.
-ascii-text : (e : Encoding) (only : Bool) (cs : List ℕ) → AreAscii cs → encoded_text e (printed_characters e only in_key_or_value cs) ≡ printed_bytes cs
-ascii-text e only [] h = refl
-ascii-text e only (c ∷ cs) h =
-    encoded_text-append e (printed_character e only in_key_or_value c) (printed_characters e only in_key_or_value cs)
-    ∙ ap₂ (λ x y. x ++ y) (ascii-printed e only c h.0) (ascii-text e only cs h.1)
-
-are-ascii : (bs : List ℕ) → All (λ b. b < 128) bs → AreAscii bs
-are-ascii [] h = tt
-are-ascii (b ∷ bs) h = (All-head (λ b. b < 128) b bs h, are-ascii bs (All-tail (λ b. b < 128) b bs h))
-
-pub bytewise-ascii : (r : Repertoire) (bs : List ℕ) → IsAscii bs → PrintsByteByByte r bs
-bytewise-ascii r bs h = rw (chars-IsAscii bs h) (ascii-text (output_of r.encoding) r.ascii_only bs (are-ascii bs (All-from_ascii bs h)))
-
 -- ---- UTF-8
-
--- all bytes are above ASCII
-abbrev ArePast : List ℕ → Type 0
-ArePast [] = Unit {0}
-ArePast (b ∷ bs) = (0x80 ≤ b) × ArePast bs
 
 pub past-special : (b : ℕ) → 0x80 ≤ b → is_special b ≡ false
 past-special b h = false_from_ne_true (is_special b) (λ t. absurd (omega (arith, special-ascii b t)))
@@ -122,39 +67,8 @@ pub past-control : (b : ℕ) → 0x80 ≤ b → nat_lt b space ≡ false
 past-control b h = le-ltb b space (omega arith)
 
 -- A byte above ASCII is copied.
-past-byte : (b : ℕ) → 0x80 ≤ b → printed_byte b ≡ b ∷ []
+pub past-byte : (b : ℕ) → 0x80 ≤ b → printed_byte b ≡ b ∷ []
 past-byte b h = rw (past-special b h, past-letter b h, past-control b h) refl
-
-past-bytes : (bs : List ℕ) → ArePast bs → printed_bytes bs ≡ bs
-past-bytes [] h = refl
-past-bytes (b ∷ bs) h = ap₂ (λ x y. x ++ y) (past-byte b h.0) (past-bytes bs h.1)
-
--- The bytes of a character above ASCII are above ASCII.
-encode-past : (c : ℕ) → 0x80 ≤ c → ArePast (encode_utf8 c)
-encode-past c h = elim (cases_lt c 0x800) [
-  | inl k ↦ rw (encode-two c h k) (omega arith, (omega arith, tt))
-  | inr k ↦ elim (cases_lt c 0x1_0000) [
-    | inl m ↦ rw (encode-three c k m) (omega arith, (omega arith, (omega arith, tt)))
-    | inr m ↦ rw (encode-four c m) (omega arith, (omega arith, (omega arith, (omega arith, tt))))
-  ]
-]
-
-utf_8-printed : (c : ℕ) → encoded_text utf_8 (printed_character utf_8 false in_key_or_value c) ≡ printed_bytes (encode_utf8 c)
-utf_8-printed c = elim (cases_lt c 0x80) [
-  | inl h ↦ ascii-printed utf_8 false c h ∙ sym (ap printed_bytes (encode_ascii c h) ∙ append-nil (printed_byte c))
-  | inr h ↦
-      rw (past-special c h, past-letter c h, past-control c h) (append-nil (encode_utf8 c) ∙ sym (past-bytes (encode_utf8 c) (encode-past c h)))
-]
-
-utf_8-text : (cs : List ℕ) → encoded_text utf_8 (printed_characters utf_8 false in_key_or_value cs) ≡ printed_bytes (encode_utf8_all cs)
-utf_8-text [] = refl
-utf_8-text (c ∷ cs) =
-    encoded_text-append utf_8 (printed_character utf_8 false in_key_or_value c) (printed_characters utf_8 false in_key_or_value cs)
-    ∙ ap₂ (λ x y. x ++ y) (utf_8-printed c) (utf_8-text cs)
-    ∙ sym (printed_bytes-append (encode_utf8 c) (encode_utf8_all cs))
-
-pub bytewise-utf_8 : (r : Repertoire) (bs : List ℕ) → r.encoding ≡ Utf8 → r.ascii_only ≡ false → IsUtf8 bs → PrintsByteByByte r bs
-bytewise-utf_8 r bs is off u = rw (is, off) (utf_8-text (chars bs) ∙ ap printed_bytes (encodes-chars bs u))
 
 -- ---- windows-1252
 
@@ -175,17 +89,19 @@ place-past n (x ∷ xs) c b h = elim (cases_Bool (x == c)) [
     le-before n b h = omega arith
 
 -- The windows-1252 byte of a character above ASCII is above ASCII.
-byte-past : (c b : ℕ) → 0x80 ≤ c → windows_1252_byte c ≡ Some b → 0x80 ≤ b
+pub byte-past : (c b : ℕ) → 0x80 ≤ c → windows_1252_byte c ≡ Some b → 0x80 ≤ b
 byte-past c b h e = elim (cases_Bool (nat_lt c 0x100 && not (is_in_table c))) [
   | inl k ↦ own c b h (sym (cond-true (nat_lt c 0x100 && not (is_in_table c)) (Some c) (place_from 0x80 windows_1252_table c) k) ∙ e)
-  | inr k ↦ place-past 0x80 windows_1252_table c b (sym (cond-false (nat_lt c 0x100 && not (is_in_table c)) (Some c) (place_from 0x80 windows_1252_table c) k) ∙ e)
+  | inr k ↦ place-past 0x80 windows_1252_table c b (sym (cond-false (nat_lt c 0x100 && not (is_in_table c)) (Some c) (place_from 0x80 windows_1252_table c) k)
+      ∙ e)
 ]
   where
     own : (c b : ℕ) → 0x80 ≤ c → Some c ≡ Some b → 0x80 ≤ b
     own c b h e = let same : c ≡ b = cc in omega arith
 
 -- A character that has a byte is printed as that byte is.
-pub byte-printed : (c b : ℕ) → windows_1252_byte c ≡ Some b → encoded_text windows_1252 (printed_character windows_1252 false in_key_or_value c) ≡ printed_byte b
+pub byte-printed : (c b : ℕ) → windows_1252_byte c ≡ Some b → encoded_text windows_1252 (printed_character windows_1252 false in_key_or_value
+    c) ≡ printed_byte b
 byte-printed c b e = elim (cases_lt c 0x80) [
   | inl h ↦
       let own : Some (b ∷ []) ≡ Some (c ∷ []) = sym (ap one_byte e) ∙ encoded-ascii windows_1252 c h in
@@ -196,19 +112,9 @@ byte-printed c b e = elim (cases_lt c 0x80) [
       rw (past-special c h, past-letter c h, past-control c h, known) (rw known (sym (past-byte b (byte-past c b h e))))
 ]
 
--- Characters that have bytes are printed as those bytes are.
-pub bytes-printed : (cs bs : List ℕ) → map windows_1252_byte cs ≡ map Some bs → encoded_text windows_1252 (printed_characters windows_1252 false in_key_or_value cs) ≡ printed_bytes bs
-bytes-printed [] [] h = refl
-bytes-printed [] (b ∷ bs) h = absurd (cc)
-bytes-printed (c ∷ cs) [] h = absurd (cc)
-bytes-printed (c ∷ cs) (b ∷ bs) h =
-    let first : windows_1252_byte c ≡ Some b = cc in
-    let more : map windows_1252_byte cs ≡ map Some bs = cc in
-    encoded_text-append windows_1252 (printed_character windows_1252 false in_key_or_value c) (printed_characters windows_1252 false in_key_or_value cs)
-    ∙ ap₂ (λ x y. x ++ y) (byte-printed c b first) (bytes-printed cs bs more)
-
 -- A character that windows-1252 lacks is escaped.
-pub lacked-printed : (c : ℕ) → 0x80 ≤ c → is_some (windows_1252_byte c) ≡ false → encoded_text windows_1252 (printed_character windows_1252 false in_key_or_value c) ≡ unicode_escape c
+pub lacked-printed : (c : ℕ) → 0x80 ≤ c → is_some (windows_1252_byte c) ≡ false → encoded_text windows_1252 (printed_character windows_1252 false
+    in_key_or_value c) ≡ unicode_escape c
 lacked-printed c h e =
     ap (encoded_text windows_1252) (
     cond-false (is_special c) _ _ (past-special c h)
@@ -221,35 +127,3 @@ lacked-printed c h e =
     some-byte : (o : Option ℕ) → is_some (one_byte o) ≡ is_some o
     some-byte None = refl
     some-byte (Some b) = refl
-
--- ---- texts, from their fronts
-
--- One character at the front is printed.
-pub one-more : (r : Repertoire) (line new whole rest : List ℕ) (c : ℕ) → line ++ text_bytes r KeyOrValue (c ∷ rest) ≡ whole
-    → new ≡ line ++ character_bytes r KeyOrValue c → new ++ text_bytes r KeyOrValue rest ≡ whole
-one-more r line new whole rest c held e =
-    let printed = printed_characters (output_of r.encoding) r.ascii_only in_key_or_value rest in
-    ap (λ v. v ++ text_bytes r KeyOrValue rest) e
-    ∙ append_assoc line (character_bytes r KeyOrValue c) (text_bytes r KeyOrValue rest)
-    ∙ ap (λ v. line ++ v) (sym (encoded_text-append (output_of r.encoding) (printed_character (output_of r.encoding) r.ascii_only in_key_or_value c) printed))
-    ∙ held
-
--- ASCII characters at the front are printed.
-pub run-more : (r : Repertoire) (line new whole text : List ℕ) (k : ℕ) → IsAscii (take k text)
-    → line ++ text_bytes r KeyOrValue (chars text) ≡ whole → new ≡ line ++ printed_bytes (take k text)
-    → new ++ text_bytes r KeyOrValue (chars (drop k text)) ≡ whole
-run-more r line new whole text k ascii held e =
-    let e' = output_of r.encoding in
-    let xs = take k text in
-    let ys = chars (drop k text) in
-    let split : chars text ≡ xs ++ ys =
-    ap chars (sym (take-append-drop k text)) ∙ chars-append xs (drop k text) (IsUtf8-from_ascii xs ascii) ∙ ap (λ v. v ++ ys) (chars-IsAscii xs ascii) in
-    let front : text_bytes r KeyOrValue xs ≡ printed_bytes xs = ap (text_bytes r KeyOrValue) (sym (chars-IsAscii xs ascii)) ∙ bytewise-ascii r xs ascii in
-    ap (λ v. v ++ text_bytes r KeyOrValue ys) (e ∙ ap (λ v. line ++ v) (sym front))
-    ∙ append_assoc line (text_bytes r KeyOrValue xs) (text_bytes r KeyOrValue ys)
-    ∙ ap (λ v. line ++ v) (
-    sym (encoded_text-append e' (printed_characters e' r.ascii_only in_key_or_value xs) (printed_characters e' r.ascii_only in_key_or_value ys))
-    ∙ ap (encoded_text e') (sym (printed_characters-append e' r.ascii_only in_key_or_value xs ys))
-    ∙ ap (text_bytes r KeyOrValue) (sym split)
-    )
-    ∙ held

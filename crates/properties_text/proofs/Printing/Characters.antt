@@ -1,50 +1,30 @@
 -- What is printed for a character and for a text.
-use Rattle.std.proofs.Common.{◌≡◌, ℕ, ◌≤◌, ◌||◌, not, Bool, true, false, nat_lt, List, [], ◌∷◌, ◌++◌, refl, sym, ap, ◌∙◌, append_assoc, append-nil, le-ltb}
-use Rattle.std.specs.Prelude.{Option, Some, None, is_some, unwrap_or, encode_utf8_all}
+use Rattle.std.proofs.Common.{◌≡◌, ℕ, ◌≤◌, Bool, nat_lt, List, [], ◌∷◌, ◌++◌, refl, sym, ap, ◌∙◌, append_assoc, append-nil, le-ltb}
+use Rattle.std.specs.Prelude.{encode_utf8_all}
 use Rattle.std.specs.Str.{chars, IsUtf8}
-use Rattle.std.proofs.lemmas.Bool.{cond-true, cond-false, and_from, and_left, and_right}
+use Rattle.std.proofs.lemmas.Bool.{cond-false}
 use Rattle.std.proofs.lemmas.Str.{encodes-chars, encode_ascii}
-use Rattle.properties_format.specs.Encoding.{Encoding, encoded}
-use Rattle.properties_format.specs.Printing.{Place, unit_escape, high_surrogate, low_surrogate, unicode_escape, may_be_unescaped, literal, printed_character, printed_characters, encoded_text}
+use Rattle.properties_format.specs.Encoding.{Encoding}
+use Rattle.properties_format.specs.Printing.{Place, unit_escape, high_surrogate, low_surrogate, unicode_escape, printed_character, printed_characters, encoded_text}
 use Rattle.properties_format.proofs.Printing.Characters.{encoded_text-append, printed_characters-append, AreAscii, encoded_text-ascii, unicode_escape-ascii}
 
 -- An escape encodes as itself.
 pub encoded_escape : (e : Encoding) (c : ℕ) → encoded_text e (unicode_escape c) ≡ unicode_escape c
 encoded_escape e c = encoded_text-ascii e (unicode_escape c) (unicode_escape-ascii c)
 
--- A character that may be written unescaped is.
-pub literal_known : (e : Encoding) (only : Bool) (c : ℕ) → (not only || nat_lt c 0x80) ≡ true → is_some (encoded e c) ≡ true → encoded_text e (literal e only c) ≡ unwrap_or (encoded e c) []
-literal_known e only c k h =
-    ap (encoded_text e) (cond-true (may_be_unescaped e only c) (c ∷ []) (unicode_escape c) (and_from (not only || nat_lt c 0x80) (is_some (encoded e c)) k h)) ∙ append-nil (unwrap_or (encoded e c) [])
-
-nothing : (o : Option (List ℕ)) → is_some o ≡ false → unwrap_or o [] ≡ []
-nothing None h = refl
-nothing (Some x) h = cc
-
--- A character that the encoding lacks is escaped; nothing was appended for it before.
-pub literal_lacked : (e : Encoding) (only : Bool) (c : ℕ) (before at : List ℕ) → is_some (encoded e c) ≡ false → at ≡ before ++ unwrap_or (encoded e c) []
-    → before ++ encoded_text e (literal e only c) ≡ at ++ unicode_escape c
-literal_lacked e only c before at h k =
-    ap (λ v. before ++ encoded_text e v) (cond-false (may_be_unescaped e only c) (c ∷ []) (unicode_escape c) (and_right (not only || nat_lt c 0x80) (is_some (encoded e c)) h))
-    ∙ ap (λ v. before ++ v) (encoded_escape e c)
-    ∙ ap (λ v. v ++ unicode_escape c) (sym (k ∙ ap (λ v. before ++ v) (nothing (encoded e c) h) ∙ append-nil before))
-
--- A character that ASCII-only output rules out is escaped.
-pub literal_kept : (e : Encoding) (only : Bool) (c : ℕ) → (not only || nat_lt c 0x80) ≡ false → encoded_text e (literal e only c) ≡ unicode_escape c
-literal_kept e only c k =
-    ap (encoded_text e) (cond-false (may_be_unescaped e only c) (c ∷ []) (unicode_escape c) (and_left (not only || nat_lt c 0x80) (is_some (encoded e c)) k)) ∙ encoded_escape e c
-
 -- Above U+FFFF, an escape is two.
 pub escape_wide : (c : ℕ) (before at : List ℕ) → 0x1_0000 ≤ c → at ≡ before ++ unit_escape (high_surrogate c)
     → before ++ unicode_escape c ≡ at ++ unit_escape (low_surrogate c)
 escape_wide c before at h k =
-    ap (λ v. before ++ v) (cond-false (nat_lt c 0x1_0000) (unit_escape c) (unit_escape (high_surrogate c) ++ unit_escape (low_surrogate c)) (le-ltb c 0x1_0000 h))
+    ap (λ v. before ++ v) (cond-false (nat_lt c 0x1_0000) (unit_escape c) (unit_escape (high_surrogate c) ++ unit_escape (low_surrogate c))
+    (le-ltb c 0x1_0000 h))
     ∙ sym (append_assoc before (unit_escape (high_surrogate c)) (unit_escape (low_surrogate c)))
     ∙ ap (λ v. v ++ unit_escape (low_surrogate c)) (sym k)
 
 -- One more character is printed.
 pub printed_more : (e : Encoding) (only : Bool) (place : Place) (before xs : List ℕ) (c : ℕ)
-    → (before ++ encoded_text e (printed_characters e only place xs)) ++ encoded_text e (printed_character e only place c) ≡ before ++ encoded_text e (printed_characters e only place (xs ++ c ∷ []))
+    → (before ++ encoded_text e (printed_characters e only place xs)) ++ encoded_text e (printed_character e only place c) ≡ before ++ encoded_text e
+    (printed_characters e only place (xs ++ c ∷ []))
 printed_more e only place before xs c =
     append_assoc before (encoded_text e (printed_characters e only place xs)) (encoded_text e (printed_character e only place c))
     ∙ ap (λ v. before ++ v) (
@@ -55,11 +35,13 @@ printed_more e only place before xs c =
 
 -- The escape of the first character, and the text after it.
 pub first_escaped_more : (e : Encoding) (only : Bool) (place : Place) (before cs : List ℕ) (c : ℕ)
-    → (before ++ unicode_escape c) ++ encoded_text e (printed_characters e only place cs) ≡ before ++ encoded_text e (unicode_escape c ++ printed_characters e only place cs)
+    → (before ++ unicode_escape c) ++ encoded_text e (printed_characters e only place cs) ≡ before ++ encoded_text e
+    (unicode_escape c ++ printed_characters e only place cs)
 first_escaped_more e only place before cs c =
     append_assoc before (unicode_escape c) (encoded_text e (printed_characters e only place cs))
     ∙ ap (λ v. before ++ v) (
-    ap (λ v. v ++ encoded_text e (printed_characters e only place cs)) (sym (encoded_escape e c)) ∙ sym (encoded_text-append e (unicode_escape c) (printed_characters e only place cs))
+    ap (λ v. v ++ encoded_text e (printed_characters e only place cs)) (sym (encoded_escape e c))
+    ∙ sym (encoded_text-append e (unicode_escape c) (printed_characters e only place cs))
     )
 
 -- ---- texts appended without escapes

@@ -24,13 +24,15 @@ inside_text e (c ∷ cs) = printed_inside e c ++ inside_text e cs
 -- One more character inside a value.
 inside-push : (e : Encoding) (xs : List ℕ) (c : ℕ) → inside_text e (xs ++ c ∷ []) ≡ inside_text e xs ++ printed_inside e c
 inside-push e [] c = append-nil (printed_inside e c)
-inside-push e (x ∷ xs) c = ap (λ v. printed_inside e x ++ v) (inside-push e xs c) ∙ sym (append_assoc (printed_inside e x) (inside_text e xs) (printed_inside e c))
+inside-push e (x ∷ xs) c = ap (λ v. printed_inside e x ++ v) (inside-push e xs c) ∙ sym (append_assoc (printed_inside e x) (inside_text e xs)
+    (printed_inside e c))
 
 -- The characters after the first, the last of which is printed as the last one.
 rest-push : (e : Encoding) (xs : List ℕ) (c : ℕ) → printed_rest e (xs ++ c ∷ []) ≡ inside_text e xs ++ printed_last e c
 rest-push e [] c = refl
 rest-push e (x ∷ []) c = ap (λ v. v ++ printed_last e c) (sym (append-nil (printed_inside e x)))
-rest-push e (x ∷ y ∷ xs) c = ap (λ v. printed_inside e x ++ v) (rest-push e (y ∷ xs) c) ∙ sym (append_assoc (printed_inside e x) (inside_text e (y ∷ xs)) (printed_last e c))
+rest-push e (x ∷ y ∷ xs) c = ap (λ v. printed_inside e x ++ v) (rest-push e (y ∷ xs) c) ∙ sym (append_assoc (printed_inside e x) (inside_text e (y ∷ xs))
+    (printed_last e c))
 
 -- Bytes appended to a line in two parts.
 parts-after : (e : Encoding) (before x y : List ℕ) → (before ++ encoded_text e x) ++ encoded_text e y ≡ before ++ encoded_text e (x ++ y)
@@ -42,9 +44,15 @@ HasHeld e before ys None line = (ys ≡ []) × (line ≡ before)
 HasHeld e before ys (Some c) line = (xs : List ℕ) × (ys ≡ xs ++ c ∷ []) × (line ≡ before ++ encoded_text e (inside_text e xs))
 
 -- One more character is held back, after the one before it was printed.
-pub held-more : (e : Encoding) (before ys line new : List ℕ) (held : Option ℕ) (c : ℕ) → HasHeld e before ys held line → new ≡ line ++ encoded_text e (held_text e held)
+pub held-more : (e : Encoding) (before ys line new : List ℕ) (held : Option ℕ) (c : ℕ) → HasHeld e before ys held line
+    → new ≡ line ++ encoded_text e (held_text e held)
     → HasHeld e before (ys ++ c ∷ []) (Some c) new
-held-more e before ys line new None c h s = (ys, refl, s ∙ append-nil line ∙ h.1 ∙ sym (ap (λ v. before ++ encoded_text e (inside_text e v)) h.0 ∙ append-nil before))
+held-more e before ys line new None c h s = (
+  ys,
+  refl,
+  s ∙ append-nil line ∙ h.1 ∙ sym (ap (λ v. before ++ encoded_text e (inside_text e v)) h.0 ∙ append-nil
+      before),
+)
 held-more e before ys line new (Some d) c h s = (
   ys,
   refl,
@@ -78,7 +86,8 @@ value-after e after_blanks before line new c cs h s t =
     t
     ∙ ap (λ v. v ++ encoded_text e (printed_rest e cs)) s
     ∙ parts-after e before (printed_first e after_blanks c) (printed_rest e cs)
-    ∙ ap (λ v. before ++ encoded_text e v) (sym (cond-false (is_empty cs && c == space) (unit_escape space) (printed_first e after_blanks c ++ printed_rest e cs) h))
+    ∙ ap (λ v. before ++ encoded_text e v) (sym (cond-false (is_empty cs && c == space) (unit_escape space)
+    (printed_first e after_blanks c ++ printed_rest e cs) h))
 
 -- A space at the end is printed as its escape.
 pub last_space : (e : Encoding) (c : ℕ) → c ≡ space → encoded_text e (printed_last e c) ≡ unicode_escape c

@@ -1,18 +1,14 @@
 -- Bytes printed sixteen at a time.
-use Rattle.std.proofs.Common.{◌≡◌, ℕ, ◌+◌, ◌<◌, ◌≤◌, false, cond, Bool, List, [], ◌∷◌, ◌++◌, refl, sym, ap, ap₂, ◌∙◌, arith, length, take, map, replicate, get_or, append_assoc}
+use Rattle.std.proofs.Common.{◌≡◌, ℕ, ◌≤◌, false, cond, Bool, List, [], ◌∷◌, ◌++◌, refl, sym, ap, ap₂, ◌∙◌, arith, length, take, map, replicate}
 use Rattle.std.specs.List.{All}
 use Rattle.std.proofs.lemmas.Bool.{le-ltb, ne_eqb}
-use Rattle.std.proofs.lemmas.List.{take-take, take-map}
+use Rattle.std.proofs.lemmas.List.{take-map}
 use Rattle.std.proofs.lemmas.List.Elements.{All-head, All-tail}
 use Rattle.std.proofs.lemmas.Simd.{splat_is_map}
 use Rattle.properties_format.specs.Text.{space, backslash}
 use Rattle.properties_format.specs.Printing.{is_special, has_letter}
 use Rattle.byte_blocks.specs.Moving.{spread}
 use Rattle.properties_text.specs.Printing.{printed_byte, printed_bytes, with_backslashes}
-use Rattle.byte_blocks.specs.Classes.{is_control}
-use Rattle.byte_blocks.specs.Marks.{clear_front}
-use Rattle.properties_text.proofs.Blocks.{no-controls}
-use Rattle.properties_text.proofs.Printing.Bytes.{printed_bytes-more}
 
 -- ---- backslashes
 
@@ -41,25 +37,3 @@ printed-plain b h = rw (no-letter b h, le-ltb b space h) refl
 pub spelt : (v : List ℕ) → All (λ b. space ≤ b) v → with_backslashes v ≡ printed_bytes v
 spelt [] h = refl
 spelt (b ∷ v) h = ap₂ (λ x y. x ++ y) (printed-plain b (All-head (λ b. space ≤ b) b v h)) (spelt v (All-tail (λ b. space ≤ b) b v h))
-
--- The bytes of a block before a control character are printed.
-pub block-printed : (start new bytes v : List ℕ) (marks : List Bool) (next plain : ℕ) → take (length bytes) (take 16 v) ≡ take 16 bytes → plain ≤ 16 → plain ≤ length bytes
-    → marks ≡ map is_control v → plain ≤ clear_front marks → take next new ≡ start ++ with_backslashes (take plain v)
-    → take next new ≡ start ++ printed_bytes (take plain bytes)
-block-printed start new bytes v marks next plain same le within are clear put =
-    let front : take plain v ≡ take plain bytes =
-    sym (take-take plain 16 v le)
-    ∙ sym (take-take plain (length bytes) (take 16 v) within)
-    ∙ ap (take plain) same
-    ∙ take-take plain 16 bytes le in
-    put ∙ ap (λ l. start ++ l) (spelt (take plain v) (no-controls v marks plain are clear) ∙ ap printed_bytes front)
-
--- One byte more is printed.
-pub byte-printed_after : (start middle new bytes : List ℕ) (between next at : ℕ) → at < length bytes → take between middle ≡ start ++ printed_bytes (take at bytes)
-    → take next new ≡ take between middle ++ printed_byte (get_or bytes at 0)
-    → take next new ≡ start ++ printed_bytes (take (at + 1) bytes)
-byte-printed_after start middle new bytes between next at inside before put =
-    put
-    ∙ ap (λ l. l ++ printed_byte (get_or bytes at 0)) before
-    ∙ append_assoc start (printed_bytes (take at bytes)) (printed_byte (get_or bytes at 0))
-    ∙ ap (λ l. start ++ l) (sym (printed_bytes-more bytes at inside))

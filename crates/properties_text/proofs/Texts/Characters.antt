@@ -1,5 +1,5 @@
 -- How the bytes of a character relate to it: an ASCII character is its own byte, and no other byte is ASCII.
-use Rattle.std.proofs.Common.{◌≡◌, ℕ, ◌<◌, ◌≤◌, ◌==◌, true, false, List, [], ◌∷◌, ◌++◌, length, drop, get_or, refl, ap, sym, ◌∙◌, inl, inr, arith}
+use Rattle.std.proofs.Common.{◌≡◌, ℕ, ◌<◌, ◌≤◌, ◌==◌, true, false, List, [], ◌∷◌, ◌++◌, refl, ap, sym, ◌∙◌, inl, inr, arith}
 use lib.Utf8.{encode, encodes, scalars, scalar}
 use Rattle.std.specs.Str.{IsUtf8, chars}
 use Rattle.std.proofs.lemmas.Str.{chars-encodes, chars_past_char, IsUtf8-past_char}
@@ -82,17 +82,3 @@ character_and bs rest c u e = record { characters = chars_past_char bs rest c u 
 
 pub first_ascii : (b : ℕ) (rest : List ℕ) → b < 128 → IsUtf8 (b ∷ rest) → IsCharacterAnd (b ∷ rest) b rest
 first_ascii b rest h u = character_and (b ∷ rest) rest b u (ap (λ v. v ++ rest) (sym (encode-one b h)))
-
--- Four ASCII bytes are four characters.
-pub four_ascii : (bs : List ℕ) → IsUtf8 bs → 4 ≤ length bs → get_or bs 0 0 < 128 → get_or bs 1 0 < 128 → get_or bs 2 0 < 128 → get_or bs 3 0 < 128
-    → chars bs ≡ get_or bs 0 0 ∷ get_or bs 1 0 ∷ get_or bs 2 0 ∷ get_or bs 3 0 ∷ chars (drop 4 bs)
-four_ascii [] u h k l m n = absurd (omega arith)
-four_ascii (a ∷ []) u h k l m n = absurd (omega arith)
-four_ascii (a ∷ b ∷ []) u h k l m n = absurd (omega arith)
-four_ascii (a ∷ b ∷ c ∷ []) u h k l m n = absurd (omega arith)
-four_ascii (a ∷ b ∷ c ∷ d ∷ rest) u h k l m n =
-    let one = first_ascii a (b ∷ c ∷ d ∷ rest) k u in
-    let two = first_ascii b (c ∷ d ∷ rest) l one.utf8 in
-    let three = first_ascii c (d ∷ rest) m two.utf8 in
-    let four = first_ascii d rest n three.utf8 in
-    one.characters ∙ ap (λ v. a ∷ v) (two.characters ∙ ap (λ v. b ∷ v) (three.characters ∙ ap (λ v. c ∷ v) four.characters))

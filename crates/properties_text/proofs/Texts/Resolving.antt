@@ -3,11 +3,10 @@ use Rattle.std.proofs.Common.{◌≡◌, ℕ, suc, ◌<◌, ◌+◌, ◌-◌, �
 use Rattle.std.specs.Prelude.{Option, Some, None, slice_range, ◌%◌}
 use Rattle.std.specs.Option.{is_some}
 use lib.Utf8.{encode, encodes}
-use Rattle.std.specs.Char.{IsScalar}
 use Rattle.std.specs.Str.{IsUtf8, IsCharBoundary, chars}
 use Rattle.std.proofs.lemmas.Bool.{cases_Bool, or_from, or_parts, eqb-true, false_from_ne_true}
 use Rattle.std.proofs.lemmas.List.{take-append-drop, drop_more, get_or-take, length-take-le}
-use Rattle.std.proofs.lemmas.Str.{encodes-chars, chars-append, chars-encodes, IsUtf8-take, IsUtf8-drop, IsCharBoundary-before_ascii, IsCharBoundary-after_ascii}
+use Rattle.std.proofs.lemmas.Str.{encodes-chars, chars-append, IsUtf8-take, IsUtf8-drop, IsCharBoundary-before_ascii}
 use Rattle.memchr.specs.Find.{IsFirstByte, is_byte}
 use Rattle.properties_format.specs.Text.{backslash}
 use Rattle.properties_format.specs.Escapes.{Malformed, Meaning, means, breaks, Means, Breaks, IsMeaning}
@@ -20,7 +19,7 @@ use Rattle.properties_format.proofs.Escapes.Unique.{text_in_front-means, text_in
 use Rattle.properties_text.specs.Escaping.{holds_backslash, malformed_in, IsRefused}
 use Rattle.properties_text.specs.declared.escape.UnescapeError.{UnescapeError}
 use Rattle.properties_text.specs.declared.escape.UnescapeError.TheVariants as error
-use Rattle.properties_text.proofs.Texts.Characters.{AreWide, IsEncoded, one, wide, encoded, wide-no_backslash, character_and}
+use Rattle.properties_text.proofs.Texts.Characters.{AreWide, IsEncoded, one, wide, encoded, wide-no_backslash}
 
 -- ---- where a backslash is
 
@@ -66,7 +65,7 @@ pub record IsFirstBackslash (bs : List ℕ) (at : ℕ) : Type 0 where
   pub there : drop at bs ≡ backslash ∷ drop (at + 1) bs
   pub byte : get_or bs at 0 ≡ backslash
 
-found_some : (bs : List ℕ) (at : ℕ) → IsFirstByte (is_byte backslash) bs (Some at) → IsFirstBackslash bs at
+pub found_some : (bs : List ℕ) (at : ℕ) → IsFirstByte (is_byte backslash) bs (Some at) → IsFirstBackslash bs at
 found_some bs at h =
     let inside : at < length bs = h.0.high in
     let is : get_or bs at 0 ≡ backslash = eqb-true (get_or bs at 0) backslash h.1 in
@@ -79,27 +78,22 @@ found_some bs at h =
       byte = is;
     }
 
-found_none : (bs : List ℕ) → IsFirstByte (is_byte backslash) bs None → holds_backslash bs ≡ false
+pub found_none : (bs : List ℕ) → IsFirstByte (is_byte backslash) bs None → holds_backslash bs ≡ false
 found_none bs h = nowhere bs (λ k l e. h k (omega arith) l e)
 
 -- A text up to its first backslash, and the text after that.
 pub record IsSplitAt (bs : List ℕ) (at : ℕ) : Type 0 where
   pub front_utf8 : IsUtf8 (take at bs)
   pub rest_utf8 : IsUtf8 (drop at bs)
-  pub after_utf8 : IsUtf8 (drop (at + 1) bs)
   pub boundary : IsCharBoundary bs at
-  pub boundary_after : IsCharBoundary bs (at + 1)
   pub holds : holds_backslash (chars bs) ≡ true
-  pub characters : chars (drop at bs) ≡ backslash ∷ chars (drop (at + 1) bs)
   pub meaning : meaning_of (chars bs) ≡ text_in_front (chars (take at bs)) (meaning_of (chars (drop at bs)))
 
 -- A search found one in the bytes of a text.
 pub split_at : (bytes bs : List ℕ) (at : ℕ) → IsUtf8 bs → bytes ≡ bs → IsFirstByte (is_byte backslash) bytes (Some at) → IsSplitAt bs at
-unfolding encode
 split_at bytes bs at u same h =
     let f : IsFirstBackslash bs at = found_some bs at (subst (λ v. IsFirstByte (is_byte backslash) v (Some at)) same h) in
     let here = IsCharBoundary-before_ascii bs at f.inside (omega (arith, f.byte)) in
-    let past = IsCharBoundary-after_ascii bs at u f.inside (omega (arith, f.byte)) in
     let front : IsUtf8 (take at bs) = IsUtf8-take bs at u here in
     let rest : IsUtf8 (drop at bs) = IsUtf8-drop bs at u here in
     let whole : bs ≡ take at bs ++ drop at bs = sym (take-append-drop at bs) in
@@ -107,12 +101,10 @@ split_at bytes bs at u same h =
     record {
       front_utf8 = front;
       rest_utf8 = rest;
-      after_utf8 = IsUtf8-drop bs (at + 1) u past;
       boundary = here;
-      boundary_after = past;
       holds = holds_backslash-text bs u ∙ ap holds_backslash (whole ∙ ap (λ v. take at bs ++ v) f.there) ∙ holds-append (take at bs) (drop (at + 1) bs);
-      characters = (character_and (drop at bs) (drop (at + 1) bs) backslash rest f.there).characters;
-      meaning = ap meaning_of (ap chars whole ∙ chars-append (take at bs) (drop at bs) front) ∙ meaning_of-plain_front (chars (take at bs)) (chars (drop at bs)) plain;
+      meaning = ap meaning_of (ap chars whole ∙ chars-append (take at bs) (drop at bs) front)
+          ∙ meaning_of-plain_front (chars (take at bs)) (chars (drop at bs)) plain;
     }
 
 -- A text without a backslash.
@@ -168,15 +160,6 @@ pushed_text text front more grown all u v e f =
     ∙ chars-append text (front ++ more) u
     ∙ ap (λ w. chars text ++ w) (chars-append front more v)
 
--- A text and a character were appended.
-pub pushed : (text front : List ℕ) (c : ℕ) (grown all : List ℕ) → IsUtf8 text → IsUtf8 front → IsScalar c → grown ≡ text ++ front → all ≡ grown ++ encode c
-    → chars all ≡ chars text ++ (chars front ++ c ∷ [])
-pushed text front c grown all u v s e f =
-    ap chars (f ∙ ap (λ w. w ++ encode c) e ∙ append_assoc text front (encode c))
-    ∙ chars-append text (front ++ encode c) u
-    ∙ ap (λ w. chars text ++ w) (chars-append front (encode c) v)
-    ∙ ap (λ w. chars text ++ (chars front ++ w)) (ap chars (sym (append-nil (encode c))) ∙ chars-encodes (c ∷ []) (rw s refl))
-
 -- The text is malformed if the rest of it is.
 pub broken : (text : List ℕ) (kind : Malformed) → meaning_of text ≡ breaks kind → Breaks text kind
 broken text kind e = subst (IsMeaning text) e (meaning_of-meets text)
@@ -202,12 +185,6 @@ resolved_many text before now rest front after to next cs r e f g = record {
       ∙ sym (text_in_front-append r.done (front ++ cs) (meaning_of to));
 }
 
--- Text without a backslash was appended, and one escape.
-pub resolved_more : (text before now rest front after to next : List ℕ) (c : ℕ) → IsResolvedTo text before now rest
-    → meaning_of rest ≡ text_in_front front (meaning_of after) → meaning_of after ≡ in_front c (meaning_of to) → next ≡ now ++ (front ++ c ∷ [])
-    → IsResolvedTo text before next to
-resolved_more text before now rest front after to next c r e f g = resolved_many text before now rest front after to next (c ∷ []) r e f g
-
 -- The rest of the text was appended.
 pub resolved_end : (text before now rest next : List ℕ) → IsResolvedTo text before now rest → meaning_of rest ≡ means rest → next ≡ now ++ rest
     → (meant : List ℕ) × (meaning_of text ≡ means meant) × (next ≡ before ++ meant)
@@ -226,7 +203,8 @@ resolved_broken text before now rest front after kind r e f = broken text kind (
 -- ---- the text before the first escape
 
 -- If the rest is refused with an error, so is the whole.
-pub refused_front : (text front rest : List ℕ) (e : UnescapeError) → meaning_of text ≡ text_in_front front (meaning_of rest) → IsRefused rest e → IsRefused text e
+pub refused_front : (text front rest : List ℕ) (e : UnescapeError) → meaning_of text ≡ text_in_front front (meaning_of rest) → IsRefused rest e
+    → IsRefused text e
 refused_front text front rest (error.Malformed malformed) m b =
     let kind = malformed_in malformed in
     broken text kind (m ∙ ap (text_in_front front) (sym (breaks-only rest kind b)) ∙ text_in_front-breaks front kind)

@@ -1,5 +1,7 @@
 //! The byte order mark at the front of an input.
 
+ghost use Rattle.std.specs.Prelude.{◌≡◌};
+ghost use Rattle.properties_format.specs.Encoding.{begins_like_bom};
 ghost use Rattle.properties_text.specs.Decoding.{FindsByteOrderMark};
 
 use super::Encoding;
@@ -26,4 +28,15 @@ pub fn byte_order_mark(bytes: &[u8]) -> ByteOrderMark
         [] | [0xef] | [0xef, 0xbb] | [0xfe] | [0xff] => ByteOrderMark::Undecided,
         _ => ByteOrderMark::Absent,
     }
+}
+
+/// Returns whether the bytes begin like a byte order mark.
+#[inline(never)]
+pub fn begins_like_mark(bytes: &[u8]) -> bool
+    ensures { result ≡ begins_like_bom bytes.now }
+{
+    matches!(
+        bytes,
+        [0xef, 0xbb, 0xbf, ..] | [0xfe, 0xff, ..] | [0xff, 0xfe, ..]
+    )
 }

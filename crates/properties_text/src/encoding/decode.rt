@@ -2,15 +2,18 @@
 
 ghost use Rattle.std.specs.Prelude.{◌↔◌, ◌⊎◌, IsSome, ◌≡◌, ◌≤◌, ◌<◌, ◌+◌, ◌*◌, ◌%◌, ◌++◌, ◌∷◌, [], length, take, IfSome};
 ghost use Rattle.std.specs.Char.{encode_utf8, IsScalar};
+ghost use Rattle.std.specs.List.{AllByRecursion};
 ghost use Rattle.std.specs.Str.{IsUtf8};
 ghost use Rattle.properties_text.specs.Encoding.{encoding_of};
-ghost use Rattle.properties_text.specs.Decoding.{IsText, DecodesFront};
+ghost use Rattle.properties_text.specs.Decoding.{IsText, DecodesFront, utf_16_of, lows_of, highs_of};
 ghost use Rattle.properties_text.specs.declared.encoding.Encoding.TheVariants.{WINDOWS_1252};
 
 use super::first_piece::first_piece;
 use super::latin_1::{put_16, tabled};
+use super::utf_16::ByteOrder;
 use super::windows_1252::text_of_byte;
 use super::{Encoding, utf_8, windows_1252};
+use byte_blocks::{Byte, ByteClass, Except};
 use std::simd::prelude::*;
 
 /// Returns the bytes as text if they are UTF-8 already in this encoding; otherwise `None`.
@@ -53,8 +56,8 @@ pub fn decode_run<'a>(
     match encoding {
         Encoding::WINDOWS_1252 => decode_windows_1252(run, start, bytes),
         Encoding::UTF_8 => decode_run_of(run, start, Encoding::UTF_8, bytes),
-        Encoding::UTF_16LE => decode_run_of(run, start, Encoding::UTF_16LE, bytes),
-        Encoding::UTF_16BE => decode_run_of(run, start, Encoding::UTF_16BE, bytes),
+        Encoding::UTF_16LE => decode_utf_16(run, start, ByteOrder::LowFirst, bytes),
+        Encoding::UTF_16BE => decode_utf_16(run, start, ByteOrder::HighFirst, bytes),
     }
 }
 
@@ -123,6 +126,79 @@ fn decode_each<'a>(run: &mut [u8], start: usize, bytes: &'a [u8], count: usize) 
         left -= 1;
     }
     Decoded { end: at, rest }
+}
+
+// Decodes sixteen units at a time as far as they are characters of Latin-1, and others one by one.
+#[inline(always)]
+fn decode_utf_16<'a>(run: &mut [u8], start: usize, order: ByteOrder, bytes: &'a [u8]) -> Decoded<'a>
+    requires room { start + 4 ≤ length run.old }
+    requires is_text { IsUtf8 (take start run.old) }
+    ensures front { DecodesFront (utf_16_of order) bytes.now run.old start run.new result }
+    ensures shorter { 0 < length bytes.now → length result.rest.now < length bytes.now }
+    ensures stops { length result.rest.now ≡ 0 ⊎ length run.new < result.end + 64 }
+{
+    let encoding = utf_16_of(order);
+    let mut at = start;
+    let mut rest = bytes;
+    while rest.len() >= 32 && run.len() - at >= 64 {
+        let units = split_units(
+            order,
+            u8x16::from_slice(rest),
+            u8x16::from_slice(&rest[16..]),
+        );
+        let kept = Except::<Byte<0>>::marks(units.highs).front();
+        at = put_16(run, at, units.lows, kept);
+        rest = &rest[2 * kept..];
+        if kept < 16 {
+            let next = first_piece(encoding, rest[0], &rest[1..]);
+            at = put_character(run, at, next.character);
+            rest = &rest[next.length..];
+        }
+    }
+    decode_run_of(run, at, encoding, rest)
+}
+
+#[inline(always)]
+fn utf_16_of(order: ByteOrder) -> Encoding
+    ensures { result ≡ utf_16_of order }
+{
+    match order {
+        ByteOrder::LowFirst => Encoding::UTF_16LE,
+        ByteOrder::HighFirst => Encoding::UTF_16BE,
+    }
+}
+
+// The low bytes of units, and their high bytes.
+#[derive(Clone, Copy)]
+struct Units {
+    lows: u8x16,
+    highs: u8x16,
+}
+
+#[inline(always)]
+fn split_units(order: ByteOrder, a: u8x16, b: u8x16) -> Units
+    ensures lows { result.lows ≡ lows_of order (a ++ b) }
+    ensures highs { result.highs ≡ highs_of order (a ++ b) }
+    ensures small { AllByRecursion (λ low. low < 0x100) result.lows }
+{
+    let evens = a.shuffle(
+        b,
+        [0, 2, 4, 6, 8, 10, 12, 14, 16, 18, 20, 22, 24, 26, 28, 30],
+    );
+    let odds = a.shuffle(
+        b,
+        [1, 3, 5, 7, 9, 11, 13, 15, 17, 19, 21, 23, 25, 27, 29, 31],
+    );
+    match order {
+        ByteOrder::LowFirst => Units {
+            lows: evens,
+            highs: odds,
+        },
+        ByteOrder::HighFirst => Units {
+            lows: odds,
+            highs: evens,
+        },
+    }
 }
 
 // Decodes any encoding from front to back.

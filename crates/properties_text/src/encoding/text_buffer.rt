@@ -60,6 +60,14 @@ impl TextBuffer {
         unsafe { str::from_utf8_unchecked(self.line.as_slice()) }
     }
 
+    /// Returns the bytes of the text.
+    #[inline(always)]
+    pub fn as_line(&self) -> &LineBuffer
+        ensures { result.now ≡ self.now }
+    {
+        &self.line
+    }
+
     /// Keeps the first `length` bytes of the text. They must end at the end of a character.
     pub fn truncate(&mut self, length: usize)
         requires { IsCharBoundary self.old length }
@@ -85,7 +93,9 @@ impl TextBuffer {
     pub fn push_decoded(&mut self, encoding: Encoding, bytes: &[u8]) -> Result<(), AllocError>
         ensures appended { OnOk result (chars self.new ≡ chars self.old ++ text_of encoding bytes.now) }
         ensures kept { OnErr result (KeepsText self.old (text_of encoding bytes.now) self.new) }
+        ensures utf8 { IsUtf8 self.new }
     {
+        let _line = &self.line;
         let mut rest = bytes;
         while !rest.is_empty() {
             let after = self.push_front(encoding, rest)?;
@@ -127,6 +137,7 @@ impl TextBuffer {
         ensures longer { length self.old ≤ length self.new }
         ensures left { IfOk result (λ rest. length rest.now ≤ length bytes.now) }
         ensures shorter { IfOk result (λ rest. 0 < length bytes.now → length rest.now < length bytes.now) }
+        ensures utf8 { IsUtf8 self.new }
     {
         make_room(&mut self.line.bytes, self.line.filled, RUN)?;
         let decoded = decode_run(&mut self.line.bytes, self.line.filled, encoding, bytes);

@@ -1,13 +1,16 @@
 // UTF-8: sequences of one to four bytes. The first byte determines the length.
 
-ghost use Rattle.std.specs.Prelude.{◌≡◌, ◌++◌, ◌+◌, ◌*◌, ◌%◌, ◌^◌, ◌<◌, ◌≤◌, ◌∷◌, map, length, Some, None, IsSome, IfSome, ◌↔◌, MatchOption};
+ghost use Rattle.std.specs.Prelude.{◌≡◌, ◌++◌, ◌+◌, ◌*◌, ◌%◌, ◌^◌, ◌<◌, ◌≤◌, ◌∷◌, map, length, take, Some, None, IsSome, IfSome, ◌↔◌, MatchOption};
 ghost use Rattle.std.specs.Str.{IsUtf8};
 ghost use Rattle.properties_format.specs.Utf8.{well_formed_rows, sequence_character, IsWellFormedText};
 ghost use Rattle.properties_format.specs.Computed.Utf8.{is_in, ranges_after, fitting};
 ghost use Rattle.properties_format.specs.Encoding.{utf_8};
-ghost use Rattle.properties_text.specs.Decoding.{IsFirstPiece, range_of};
+ghost use Rattle.properties_text.specs.Decoding.{IsFirstPiece, IsLongestText, range_of};
+ghost use Rattle.properties_text.specs.Spelt.{IsFirst, length_by_first};
+ghost use Rattle.properties_text.specs.declared.encoding.line.LineEncoding.TheVariants.{Utf8};
 
 use super::first_piece::FirstPiece;
+use super::line::Spelt;
 
 // A range of bytes, both ends included.
 #[derive(Clone, Copy)]
@@ -121,6 +124,7 @@ pub fn as_text(bytes: &[u8]) -> Option<&str>
 pub fn text_front(bytes: &[u8]) -> (&str, &[u8])
     ensures whole { bytes.now ≡ result.0.now ++ result.1.now }
     ensures text { IsUtf8 result.0.now }
+    ensures longest { IsLongestText bytes.now (length result.0.now) }
 {
     match str::from_utf8(bytes) {
         Ok(text) => (text, &[]),
@@ -128,5 +132,40 @@ pub fn text_front(bytes: &[u8]) -> (&str, &[u8])
             let (front, after) = bytes.split_at(error.valid_up_to());
             (unsafe { str::from_utf8_unchecked(front) }, after)
         }
+    }
+}
+
+/// Returns the length of the longest well-formed front.
+pub fn well_formed_length(bytes: &[u8]) -> usize
+    ensures { IsLongestText bytes.now result }
+{
+    text_front(bytes).0.len()
+}
+
+/// Returns the first character of a text that is well-formed and not empty.
+#[inline(always)]
+pub fn first_character(text: &[u8]) -> Spelt
+    requires some { 0 < length text.now }
+    requires well { IsUtf8 text.now }
+    ensures { IsFirst Utf8 text.now result }
+{
+    let length = length_by_first(text[0]);
+    let code = sequence_character(text[0], &text[1..length]);
+    Spelt {
+        character: char::from_u32(code).unwrap_or(char::REPLACEMENT_CHARACTER),
+        length,
+    }
+}
+
+// The number of bytes of a character with this first byte.
+#[inline(always)]
+fn length_by_first(first: u8) -> usize
+    ensures { result ≡ length_by_first first }
+{
+    match first {
+        0x00..=0x7f => 1,
+        0x80..=0xdf => 2,
+        0xe0..=0xef => 3,
+        _ => 4,
     }
 }

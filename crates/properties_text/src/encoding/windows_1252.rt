@@ -63,25 +63,15 @@ pub fn as_text(bytes: &[u8]) -> Option<&str>
     }
 }
 
-/// Returns whether a character has a byte. For the characters of most other scripts, comparing code points decides it,
-/// without a search in the table.
-#[inline(always)]
-pub fn has_byte(character: char) -> bool
-    ensures { result ≡ is_some (windows_1252_byte character) }
-{
-    match character {
-        '\u{2dd}'..='\u{2012}' | '\u{2123}'..=char::MAX => false,
-        _ => byte_of(character).is_some(),
-    }
-}
-
-/// Returns the byte of a character, or `None` if it has none.
+/// Returns the byte of a character, or `None` if it has none. For the characters of most other scripts, comparing code
+/// points decides it, without a search.
 #[inline(always)]
 pub fn byte_of(character: char) -> Option<u8>
     ensures { result ≡ windows_1252_byte character }
 {
     match character {
         '\0'..='\x7f' | '\u{a0}'..='\u{ff}' => u8::try_from(u32::from(character)).ok(),
+        '\u{2dd}'..='\u{2012}' | '\u{2123}'..=char::MAX => None,
         _ => high_byte_of(character),
     }
 }

@@ -1,22 +1,11 @@
-// Prints the bytes of a key or a value, with vectors and tables.
+// What the bytes of a key or a value are printed as, with vectors and tables.
 
-ghost use Rattle.std.specs.Prelude.{◌≡◌, ◌+◌, ◌*◌, ◌<◌, ◌≤◌, ◌++◌, length, take, IfOk};
-ghost use Rattle.properties_text.specs.Printing.{AppendsOnOk, printed_byte, printed_bytes, with_backslashes, backslashes_before, last_of};
+ghost use Rattle.std.specs.Prelude.{◌≡◌, ◌+◌, ◌*◌, ◌<◌, ◌≤◌, ◌++◌, length, take};
+ghost use Rattle.properties_text.specs.Printing.{printed_byte, with_backslashes, backslashes_before, last_of};
 
 use super::escapes::put_unit;
-use crate::line_buffer::{LineBuffer, make_room};
-use byte_blocks::{ByteClass, Controls, Specials, put_spread};
-use std::alloc::AllocError;
+use byte_blocks::{ByteClass, Specials, put_spread};
 use std::simd::prelude::*;
-
-// Fewer bytes than this are printed one by one. From eight on, two halves of eight make a block.
-const FEW: usize = 8;
-
-/// The most bytes that one byte is printed as: `\u` and four digits.
-pub const LONGEST_BYTE: usize = 6;
-
-// The room for a block: two bytes for each of its bytes, and an escape.
-const BLOCK_ROOM: usize = 32 + LONGEST_BYTE;
 
 // For each byte, the number of backslashes before the last byte that is printed for it, or 2 if a longer escape is
 // printed.
@@ -48,94 +37,10 @@ const LAST: [u8; 256] = [
     249, 250, 251, 252, 253, 254, 255,
 ];
 
-/// Prints bytes, and escapes those that have to be. Bytes above ASCII are copied.
-#[inline(never)]
-pub fn print_bytes(line: &mut LineBuffer, bytes: &[u8]) -> Result<(), AllocError>
-    ensures { AppendsOnOk line.old (printed_bytes bytes.now) result line.new }
-{
-    if bytes.len() < FEW {
-        return print_few(line, bytes);
-    }
-    print_blocks(line, bytes)
-}
-
-// Kept out of line so that the path for few bytes stays short.
-#[inline(never)]
-fn print_blocks(line: &mut LineBuffer, bytes: &[u8]) -> Result<(), AllocError>
-    ensures { AppendsOnOk line.old (printed_bytes bytes.now) result line.new }
-{
-    let mut rest = bytes;
-    while rest.len() >= FEW {
-        let read = print_block(line, rest)?;
-        rest = &rest[read..];
-    }
-    print_few(line, rest)
-}
-
-// Prints fewer than eight bytes, one by one.
+/// The first sixteen bytes, padded with zeros if there are fewer. Fewer are copied as two halves, which may overlap, since
+/// that takes no call.
 #[inline(always)]
-fn print_few(line: &mut LineBuffer, bytes: &[u8]) -> Result<(), AllocError>
-    requires { length bytes.now < 8 }
-    ensures { AppendsOnOk line.old (printed_bytes bytes.now) result line.new }
-{
-    if bytes.is_empty() {
-        return Ok(());
-    }
-    make_room(&mut line.bytes, line.filled, LONGEST_BYTE * FEW)?;
-    line.filled = put_few(&mut line.bytes, line.filled, bytes);
-    Ok(())
-}
-
-// Prints up to sixteen bytes, and returns how many.
-#[inline(always)]
-fn print_block(line: &mut LineBuffer, bytes: &[u8]) -> Result<usize, AllocError>
-    requires { 8 ≤ length bytes.now }
-    ensures some { IfOk result (λ read. 0 < read) }
-    ensures within { IfOk result (λ read. read ≤ length bytes.now) }
-    ensures printed { IfOk result (λ read. line.new ≡ line.old ++ printed_bytes (take read bytes.now)) }
-{
-    make_room(&mut line.bytes, line.filled, BLOCK_ROOM)?;
-    let block = put_block(&mut line.bytes, line.filled, bytes);
-    line.filled = block.end;
-    Ok(block.read)
-}
-
-// How many bytes of a text were printed, and the index after what was printed for them.
-#[derive(Clone, Copy)]
-struct Block {
-    read: usize,
-    end: usize,
-}
-
-// Prints up to sixteen bytes at index `at`, and stops after the first control character.
-#[inline(always)]
-fn put_block(out: &mut [u8], at: usize, bytes: &[u8]) -> Block
-    requires room { at + 38 ≤ length out.old }
-    requires half { 8 ≤ length bytes.now }
-    ensures same_room { length out.new ≡ length out.old }
-    ensures some { 0 < result.read }
-    ensures read { result.read ≤ length bytes.now }
-    ensures within { result.end ≤ length out.new }
-    ensures printed { take result.end out.new ≡ take at out.old ++ printed_bytes (take result.read bytes.now) }
-{
-    // The short block comes first, so that whole ones are left.
-    let count = (bytes.len() - 1) % 16 + 1;
-    let v = first_16(bytes);
-    let plain = Controls::marks(v).front_of(count);
-    let end = put_16(out, at, v, plain);
-    if plain == count {
-        return Block { read: plain, end };
-    }
-    Block {
-        read: plain + 1,
-        end: put_any(out, end, bytes[plain]),
-    }
-}
-
-// The first sixteen bytes, padded with zeros if there are fewer. Fewer are copied as two halves, which may overlap, since
-// that takes no call.
-#[inline(always)]
-fn first_16(bytes: &[u8]) -> u8x16
+pub fn first_16(bytes: &[u8]) -> u8x16
     requires { 8 ≤ length bytes.now }
     ensures { take (length bytes.now) (take 16 result) ≡ take 16 bytes.now }
 {
@@ -160,23 +65,6 @@ pub fn put_16(out: &mut [u8], at: usize, v: u8x16, kept: usize) -> usize
     ensures printed { take result out.new ≡ take at out.old ++ with_backslashes (take kept v) }
 {
     put_spread(out, at, v, u8x16::splat(b'\\'), Specials::marks(v), kept)
-}
-
-// Prints bytes at index `at` one by one, and returns the index after them.
-#[inline(always)]
-fn put_few(out: &mut [u8], at: usize, bytes: &[u8]) -> usize
-    requires { at + 6 * length bytes.now ≤ length out.old }
-    ensures length { length out.new ≡ length out.old }
-    ensures within { result ≤ length out.new }
-    ensures printed { take result out.new ≡ take at out.old ++ printed_bytes bytes.now }
-{
-    let mut end = at;
-    let mut read = 0;
-    while read < bytes.len() {
-        end = put_any(out, end, bytes[read]);
-        read += 1;
-    }
-    end
 }
 
 /// Prints a byte at index `at`, and returns the index after it.

@@ -1,41 +1,42 @@
-use Rattle.std.proofs.Common.{Bool, subst}
+use Rattle.std.proofs.Common.{◌≡◌, Bool, false, ◌∙◌, refl, sym, ap, subst}
 use Rattle.std.specs.Prelude.{Ok}
-use Rattle.std.specs.Str.{chars}
 use Rattle.std.specs.declared.alloc.AllocError.{AllocError}
 use Rattle.properties_text.specs.Encoding.{encoding_of}
-use Rattle.properties_lines.specs.LogicalLine.{Begins}
-use Rattle.properties_lines.proofs.LineJoiner.{reads-alone, reads-joined, reads-broken, reads-no_room, known-ascii, known-plain}
+use Rattle.properties_text.specs.Escaping.{holds_backslash}
+use Rattle.properties_lines.specs.LogicalLine.{Begins, bytes_with}
+use Rattle.properties_lines.proofs.LineJoiner.{reads-alone, reads-joined, reads-broken, reads-no_room, none-found}
 use Rattle.properties_lines.proofs.joiner.read_rest.Goals as goal
 
-pub begin-requires-clause-ascii : goal.begin-requires-clause-ascii
-begin-requires-clause-ascii g c =
-    known-ascii c.args.lines.now (encoding_of c.encoding.result) c.line.result.now c.is_ascii.result c.requires.flags c.encoding.ensures c.line.ensures c.is_ascii.ensures
-
-pub begin-requires-clause-backslash : goal.begin-requires-clause-backslash
-begin-requires-clause-backslash g c =
-    known-plain c.args.lines.now c.line.result.now c.has_backslash.result c.requires.flags c.line.ensures c.has_backslash.ensures
-
-pub returns-then-join_lines-clause-reads : goal.returns-then-join_lines-clause-reads
-returns-then-join_lines-clause-reads g c =
+pub returns-then-not-join_lines-clause-reads : goal.returns-then-not-join_lines-clause-reads
+returns-then-not-join_lines-clause-reads g c =
+    let tested = c.is_well_formed-is_line.ensures.same in
     let P : Bool → Type 0 = λ v. Begins {E = AllocError} (encoding_of c.encoding.result) c.line.result.now (Ok v) c.begin.new.self in
-    let opens = rw (c.encoding.ensures, c.line.ensures) at (subst P c.in-Ok-true.field-0-test c.in-Ok-true.ensures.begins) in
-    let joined = c.if-join_lines.ensures.joins in
+    let opens = rw (c.encoding.ensures, c.line.ensures, tested) at (subst P c.in-Ok-true.field-0-test c.in-Ok-true.ensures.begins) in
+    let joined = rw tested at c.if-not-join_lines.ensures.joins in
+    reads-broken c.args.lines.now c.join_lines.new.lines c.begin.new.self opens joined
+
+pub returns-else-not-join_lines-clause-reads : goal.returns-else-not-join_lines-clause-reads
+returns-else-not-join_lines-clause-reads g c =
+    let tested = c.is_well_formed-is_line.ensures.same in
+    let P : Bool → Type 0 = λ v. Begins {E = AllocError} (encoding_of c.encoding.result) c.line.result.now (Ok v) c.begin.new.self in
+    let opens = rw (c.encoding.ensures, c.line.ensures, tested) at (subst P c.in-Ok-true.field-0-test c.in-Ok-true.ensures.begins) in
+    let joined = rw tested at c.if-not-join_lines.ensures.joins in
+    let line = c.join_lines.new.line in
+    let bytes : c.bytes.result.now ≡ bytes_with line c.join_lines.new.lines.line = c.bytes.ensures ∙ ap (bytes_with line) c.line-in-Ok-true.ensures in
     rw c.number-number.ensures
-    (reads-joined c.args.lines.now c.join_lines.new.lines c.begin.new.self c.join_lines.new.line opens joined.0 joined.1 c.join_lines.ensures.kept)
-
-pub returns-else-join_lines-clause-reads : goal.returns-else-join_lines-clause-reads
-returns-else-join_lines-clause-reads g c =
-    let P : Bool → Type 0 = λ v. Begins {E = AllocError} (encoding_of c.encoding.result) c.line.result.now (Ok v) c.begin.new.self in
-    let opens = rw (c.encoding.ensures, c.line.ensures) at (subst P c.in-Ok-true.field-0-test c.in-Ok-true.ensures.begins) in
-    let none = reads-broken c.args.lines.now c.join_lines.new.lines (chars c.begin.new.self.text) opens.other opens.opens opens.closed c.if-join_lines.ensures.joins in
-    (none, λ borrowed. let kept = c.join_lines.ensures.kept in absurd (cc))
+    (reads-joined c.args.lines.now c.join_lines.new.lines c.begin.new.self line c.is_some.result opens joined.0 joined.1
+    (c.if-not-join_lines.ensures.place refl) (c.if-not-join_lines.ensures.well refl)
+    (λ k. subst (λ v. holds_backslash v ≡ false) bytes (none-found c.bytes.result.now c.memchr.result c.memchr.ensures (sym c.is_some.ensures ∙ k))))
 
 pub returns-in-Ok-false-clause-reads : goal.returns-in-Ok-false-clause-reads
 returns-in-Ok-false-clause-reads g c =
+    let tested = c.is_well_formed-is_line.ensures.same in
     let P : Bool → Type 0 = λ v. Begins {E = AllocError} (encoding_of c.encoding.result) c.line.result.now (Ok v) c.begin.new.self in
-    let begins = rw (c.encoding.ensures, c.line.ensures) at (subst P c.in-Ok-false.field-0-test c.in-Ok-false.ensures.begins) in
-    rw c.number-number.ensures (reads-alone c.args.lines.now c.begin.new.self begins.0 begins.1 c.requires.error)
+    let begins = rw (c.encoding.ensures, c.line.ensures, tested) at (subst P c.in-Ok-false.field-0-test c.in-Ok-false.ensures.begins) in
+    rw (c.number-number.ensures, tested)
+    (reads-alone c.args.lines.now c.begin.new.self c.args.has_backslash.now begins.0 begins.1 c.requires.flags c.requires.backslash c.requires.error)
 
 pub returns-in-Err-clause-reads : goal.returns-in-Err-clause-reads
 returns-in-Err-clause-reads g c =
-    (reads-no_room c.args.lines.now c.fail.new.self c.fail.ensures, λ borrowed. let kept = c.in-Err.ensures.lacks in absurd (cc))
+    let tested = c.is_well_formed-is_line.ensures.same in
+    reads-no_room c.args.lines.now c.fail.new.self (rw tested at c.fail.ensures)

@@ -1,66 +1,44 @@
-use Rattle.std.proofs.Common.{◌∷◌, ◌++◌, string_bytes, take, drop, sym, ap, ◌∙◌}
+use Rattle.std.proofs.Common.{◌++◌, string_bytes, take, drop, sym, ap, ◌∙◌}
 use Rattle.std.specs.Str.{chars}
 use Rattle.std.proofs.lemmas.Str.{IsUtf8-string_bytes, chars-append}
-use Rattle.properties_format.specs.Text.{backslash}
-use Rattle.properties_format.specs.Computed.Escapes.{in_front, meaning_of}
+use Rattle.properties_format.specs.Computed.Escapes.{meaning_of}
 use Rattle.properties_text.specs.Escaping.{malformed_in}
-use Rattle.properties_text.proofs.Texts.Resolving.{split_at, plain, slice-front, pushed, resolved_none, resolved_more, resolved_many, pushed_text, resolved_end, resolved_broken}
+use Rattle.properties_text.proofs.Texts.Resolving.{split_at, plain, slice-front, resolved_none, resolved_many, pushed_text, resolved_end, resolved_broken}
 use Rattle.properties_text.proofs.escape.push_resolved.Goals as goal
 
 pub loop-at-init : goal.loop-at-init
 loop-at-init c = record { utf8 = c.utf8.s; resolved = resolved_none (chars c.args.s.now) (chars (string_bytes c.args.text.now)) }
 
-pub range_from-after-requires : goal.range_from-after-requires
-range_from-after-requires c = λ _. (split_at c.as_bytes.result.now c.loop-at.rest.now c.in-Some.at c.loop-at.invariant.utf8 c.as_bytes.ensures.value c.in-Some.ensures).boundary
-
 pub range_from-requires : goal.range_from-requires
-range_from-requires c = λ _. (split_at c.as_bytes.result.now c.loop-at.rest.now c.in-Some.at c.loop-at.invariant.utf8 c.as_bytes.ensures.value c.in-Some.ensures).boundary_after
+range_from-requires c = λ _. (split_at c.as_bytes.result.now c.loop-at.rest.now c.in-Some.at c.loop-at.invariant.utf8 c.as_bytes.ensures.value c.in-Some.ensures).boundary
 
 pub returns-in-Err : goal.returns-in-Err
 returns-in-Err c =
     let rest = c.loop-at.rest.now in
     let at = c.in-Some.at in
     let s = split_at c.as_bytes.result.now rest at c.loop-at.invariant.utf8 c.as_bytes.ensures.value c.in-Some.ensures in
-    let kind = malformed_in c.in-Err.malformed in
-    resolved_broken (chars c.args.s.now) _ _ (chars rest) (chars (take at rest)) (chars (drop at rest)) kind c.loop-at.invariant.resolved s.meaning
-    (ap meaning_of (s.characters ∙ ap (λ v. backslash ∷ chars v) (sym c.range_from.ensures.value)) ∙ c.in-Err.ensures.meaning.1)
+    resolved_broken (chars c.args.s.now) _ _ (chars rest) (chars (take at rest)) (chars (drop at rest)) (malformed_in c.in-Err.malformed) c.loop-at.invariant.resolved s.meaning
+    (ap (λ v. meaning_of (chars v)) (sym c.range_from.ensures.value) ∙ c.in-Err.ensures.resolves)
+
+pub from_utf8_unchecked-more-requires : goal.from_utf8_unchecked-more-requires
+from_utf8_unchecked-more-requires c = c.in-Ok.ensures.resolves.is_text
 
 pub loop-at-preserved : goal.loop-at-preserved
 loop-at-preserved c =
     let rest = c.loop-at.rest.now in
     let at = c.in-Some.at in
+    let escapes = c.in-Ok.escapes in
     let s = split_at c.as_bytes.result.now rest at c.loop-at.invariant.utf8 c.as_bytes.ensures.value c.in-Some.ensures in
     let text = string_bytes c.loop-at.text in
     let grown = c.in_ok-push_part.ensures ∙ ap (λ v. text ++ v) (c.range.ensures.value ∙ slice-front rest at) in
+    let more = take escapes.end c.put_escapes.new.run in
     record {
-      utf8 = c.rest-rest.utf8;
-      resolved = resolved_more (chars c.args.s.now) _ _ (chars rest) (chars (take at rest)) (chars (drop at rest)) (chars c.rest-rest.result.now) _ c.in-Ok.escape.character
+      utf8 = c.in-Ok.ensures.resolves.rest_is_text;
+      resolved = resolved_many (chars c.args.s.now) _ _ (chars rest) (chars (take at rest)) (chars (drop at rest)) (chars escapes.rest.now) _ (chars more)
           c.loop-at.invariant.resolved s.meaning
-          (ap meaning_of (s.characters ∙ ap (λ v. backslash ∷ chars v) (sym c.range_from.ensures.value)) ∙ c.in-Ok.ensures.meaning
-          ∙ ap (λ v. in_front c.in-Ok.escape.character (meaning_of (chars v))) (sym c.rest-rest.ensures))
-          (pushed text (take at rest) c.in-Ok.escape.character _ _ (IsUtf8-string_bytes c.loop-at.text) s.front_utf8 c.in-Ok.ensures.scalar grown c.in_ok-push.ensures.bytes);
-    }
-
-pub from_utf8_unchecked-more-requires : goal.from_utf8_unchecked-more-requires
-from_utf8_unchecked-more-requires c = c.put_units-units.ensures.is_text
-
-pub loop-at-preserved-then-units-gt0 : goal.loop-at-preserved-then-units-gt0
-loop-at-preserved-then-units-gt0 c =
-    let rest = c.loop-at.rest.now in
-    let at = c.in-Some.at in
-    let units = c.put_units-units in
-    let s = split_at c.as_bytes.result.now rest at c.loop-at.invariant.utf8 c.as_bytes.ensures.value c.in-Some.ensures in
-    let text = string_bytes c.loop-at.text in
-    let grown = c.in_ok-push_part.ensures ∙ ap (λ v. text ++ v) (c.range.ensures.value ∙ slice-front rest at) in
-    let more = take units.result.end units.new.run in
-    record {
-      utf8 = units.ensures.rest_is_text;
-      resolved = resolved_many (chars c.args.s.now) _ _ (chars rest) (chars (take at rest)) (chars (drop at rest)) (chars units.result.rest.now) _ (chars more)
-          c.loop-at.invariant.resolved s.meaning
-          (ap (λ v. meaning_of (chars v)) (sym c.range_from-after.ensures.value) ∙ units.ensures.meaning)
+          (ap (λ v. meaning_of (chars v)) (sym c.range_from.ensures.value) ∙ c.in-Ok.ensures.resolves.meaning)
           (pushed_text text (take at rest) more _ _ (IsUtf8-string_bytes c.loop-at.text) s.front_utf8 grown
-          (c.in_ok-push_str.ensures.bytes ∙ ap (λ v. string_bytes c.push_part.new.text ++ v)
-          c.from_utf8_unchecked-more.ensures));
+          (c.in_ok-push_str.ensures.bytes ∙ ap (λ v. string_bytes c.push_part.new.text ++ v) c.from_utf8_unchecked-more.ensures));
     }
 
 pub returns : goal.returns

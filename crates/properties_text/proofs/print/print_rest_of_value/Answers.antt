@@ -5,18 +5,19 @@ use Rattle.std.proofs.lemmas.Iterator.Consumers.{YieldsList-end}
 use Rattle.std.proofs.lemmas.Result.{on_ok_weaker}
 use Rattle.properties_format.specs.Printing.{encoded_text}
 use Rattle.properties_format.specs.Valued.{printed_rest}
-use Rattle.properties_text.specs.Encoding.{output_of}
+use Rattle.properties_text.specs.Printing.{encoding_in}
 use Rattle.properties_text.proofs.Printing.Values.{held-more, held-last, held-none}
 use Rattle.properties_text.proofs.print.print_rest_of_value.Goals as goal
 
 pub loop-character-preserved : goal.loop-character-preserved
 loop-character-preserved c =
-    held-more (output_of c.args.repertoire.encoding) c.args.line.now c.loop-character.yielded c.loop-character.line c.print_held.new.line c.loop-character.held c.in-Some.character
+    held-more (encoding_in c.args.repertoire) c.args.line.now c.loop-character.yielded c.loop-character.line c.print_held.new.line c.loop-character.held
+    c.in-Some.character
     c.loop-character.invariant c.in_ok-print_held.ensures
 
 pub returns-in-Some-held : goal.returns-in-Some-held
 returns-in-Some-held c =
-    let e = output_of c.args.repertoire.encoding in
+    let e = encoding_in c.args.repertoire in
     let loop = c.loop-character in
     let yields = YieldsList-from_chars c.args.rest.now c.utf8.rest cc in
     let last = YieldsList-end yields loop.yielded _ loop.yielded_by _ _ c.in-None.is c.next.ensures.steps in
@@ -30,7 +31,7 @@ returns-in-Some-held c =
 
 pub returns-in-None-held : goal.returns-in-None-held
 returns-in-None-held c =
-    let e = output_of c.args.repertoire.encoding in
+    let e = encoding_in c.args.repertoire in
     let loop = c.loop-character in
     let yields = YieldsList-from_chars c.args.rest.now c.utf8.rest cc in
     let last = YieldsList-end yields loop.yielded _ loop.yielded_by _ _ c.in-None.is c.next.ensures.steps in

@@ -12,7 +12,7 @@ pub returns : goal.returns
 returns c =
     let e = output_encoding (encoding_of c.args.encoding) in
     let text = c.args.separator.now in
-    let key = rw (c.repertoire_of-repertoire.ensures.all, c.repertoire_of-repertoire.ensures.encoding) at c.in_ok-print_key.ensures in
+    let key = rw (c.repertoire_of-repertoire.ensures.all, c.repertoire_of-repertoire.ensures.encoding) at c.in_ok-print_key.ensures.appended in
     let value = rw c.repertoire_of-repertoire.ensures.encoding at c.print_value.ensures in
     let separator = separator-bytes e text (chars text) c.utf8.separator refl c.requires in
     on_ok_weaker c.print_value.result

@@ -9,6 +9,7 @@ pub loop-rest-preserved : goal.loop-rest-preserved
 loop-rest-preserved c = record {
   text = c.in_ok-rest.ensures.text ∙ c.in_ok-after.ensures.text ∙ c.loop-rest.invariant.text;
   longer = omega (arith, c.loop-rest.invariant.longer, c.push_front.ensures.longer, c.push_run.ensures.longer);
+  utf8 = c.push_run.ensures.utf8;
 }
 
 -- Nothing of the front was appended.

@@ -1,5 +1,5 @@
 use Rattle.std.proofs.Common.{◌≡◌, ◌≤◌, ◌++◌, length}
-use Rattle.std.specs.Str.{chars}
+use Rattle.std.specs.Str.{chars, IsUtf8}
 use Rattle.properties_text.specs.Decoding.{text_of}
 use Rattle.properties_text.proofs.encoding.text_buffer.TextBuffer.push_decoded.Given as goal
 
@@ -8,6 +8,7 @@ abbrev pub invariant-loop-rest : goal.invariant-loop-rest
 invariant-loop-rest l = record {
   text : chars l.self ++ text_of l.encoding l.rest ≡ chars l.fn.self ++ text_of l.encoding l.bytes;
   longer : length l.fn.self ≤ length l.self;
+  utf8 : IsUtf8 l.self;
 }
 
 abbrev pub decreases-loop-rest : goal.decreases-loop-rest

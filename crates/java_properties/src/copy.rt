@@ -1,0 +1,146 @@
+// Copies the pairs of a reader to a writer.
+
+ghost use Rattle.std.specs.Prelude.{◌≡◌};
+ghost use Rattle.counted_io.specs.Streams.{IsSameReader, IsSameSink};
+ghost use Rattle.java_properties.specs.Copying.{error_in, Copies};
+
+use properties_items::error::PropertiesError;
+use crate::iter::PropertiesIter;
+use crate::writer::PropertiesWriter;
+use crate::writer::engine::Engine;
+use counted_io::{CountedRead, CountedWrite};
+use properties_lines::joiner::LineJoiner;
+use properties_text::escape::{UnescapeError, check_escapes};
+use properties_text::parse::{ParsedSpans, parse_bytes};
+use properties_text::print::Pair;
+use std::error::Error;
+use std::fmt;
+
+/// Why [`copy_pairs`](PropertiesWriter::copy_pairs) stopped: reading failed, or writing did. Refused memory may be
+/// either.
+///
+/// It prints as the error in it.
+#[derive(Debug, Drop)]
+pub enum CopyError {
+    /// The error that `advance` would have returned.
+    Read(PropertiesError),
+    /// The error that `write` would have returned.
+    Write(PropertiesError),
+}
+
+impl From<CopyError> for PropertiesError {
+    ghost from_gives = { λ error e. e ≡ error_in error };
+
+    fn from(error: CopyError) -> PropertiesError {
+        match error {
+            CopyError::Read(error) | CopyError::Write(error) => error,
+        }
+    }
+}
+
+impl fmt::Display for CopyError {
+    ghost use Rattle.properties_items.specs.DisplayTexts.{error_display};
+
+    ghost output = { λ error. error_display (error_in error) };
+
+    fn fmt<W: fmt::Write>(&self, f: &mut fmt::Formatter<W>) -> fmt::Result {
+        match self {
+            CopyError::Read(error) | CopyError::Write(error) => write!(f, "{error}"),
+        }
+    }
+}
+
+impl Error for CopyError {}
+
+impl<W: CountedWrite> PropertiesWriter<W> {
+    /// Reads the items to their end and writes each pair, as [`advance`](PropertiesIter::advance),
+    /// [`get`](PropertiesIter::get) and [`write`](PropertiesWriter::write) would.
+    ///
+    /// After an error of the writing, a further call goes on with the next item.
+    ///
+    /// ```text
+    /// writer.copy_pairs(&mut items)?;
+    /// writer.finish()?;
+    /// ```
+    pub fn copy_pairs<R: CountedRead>(
+        &mut self,
+        items: &mut PropertiesIter<R>,
+    ) -> Result<(), CopyError>
+        ensures copies { Copies R.CountedRead W.CountedWrite items.old self.old result items.new self.new }
+        ensures same_reader { IsSameReader R.CountedRead items.old.reader items.new.reader }
+        ensures same_sink { IsSameSink W.CountedWrite self.old.sink self.new.sink }
+    {
+        let lines = &mut items.items.lines;
+        while let Some(number) = lines.next_line(&mut items.reader) {
+            match build_line(&mut self.engine, lines) {
+                Ok(Built::Nothing) => {}
+                Ok(Built::Line(line)) => {
+                    if let Err(fault) = self.engine.send_line(&mut self.sink, line) {
+                        let error = PropertiesError::write_fault(Some(line), fault);
+                        return Err(CopyError::Write(error));
+                    }
+                }
+                Ok(Built::Refused(accepted)) => {
+                    return Err(CopyError::Write(self.engine.refusal(accepted)));
+                }
+                Err(error) => {
+                    lines.end();
+                    return Err(CopyError::Read(PropertiesError::unresolved(number, error)));
+                }
+            }
+        }
+        match lines.take_error() {
+            None => Ok(()),
+            Some(error) => Err(CopyError::Read(PropertiesError::from(error))),
+        }
+    }
+}
+
+// What is to be written for a logical line.
+#[derive(Clone, Copy)]
+enum Built {
+    // Nothing, since it is blank or a comment.
+    Nothing,
+    // The line with this number, which was built.
+    Line(usize),
+    // A pair that the writer refuses, although it would accept it, or because it wouldn't.
+    Refused(bool),
+}
+
+// Builds what is to be written for the logical line that was joined last.
+#[inline(always)]
+fn build_line(engine: &mut Engine, lines: &LineJoiner) -> Result<Built, UnescapeError> {
+    let length = lines.length();
+    if length == 0 {
+        return Ok(Built::Nothing);
+    }
+    let bytes = lines.with_room();
+    match parse_bytes(&bytes[..length]) {
+        None => Ok(Built::Nothing),
+        Some(ParsedSpans::Comment(text)) => {
+            match check_escapes(lines.encoding(), &bytes[text.start..text.end]) {
+                Ok(()) => Ok(Built::Nothing),
+                Err(malformed) => Err(UnescapeError::Malformed(malformed)),
+            }
+        }
+        Some(ParsedSpans::KVPair(key, value)) => {
+            let pair = Pair::spelt(lines.encoding(), bytes, key, value);
+            match engine.build_pair(pair) {
+                // A malformed escape is reported before what the writer refuses, and that before refused memory.
+                Err(UnescapeError::Malformed(malformed)) => {
+                    Err(UnescapeError::Malformed(malformed))
+                }
+                built => {
+                    let accepted = engine.takes_span(key);
+                    let Some(line) = engine.next_number(accepted) else {
+                        return Ok(Built::Refused(accepted));
+                    };
+                    match built {
+                        Ok(()) => Ok(Built::Line(line)),
+                        Err(error) => Err(error),
+                    }
+                }
+            }
+        }
+    }
+}

@@ -1,0 +1,129 @@
+-- The first character of some bytes, in either encoding.
+use Rattle.std.proofs.Common.{◌≡◌, ℕ, ◌+◌, ◌-◌, ◌/◌, ◌<◌, ◌≤◌, List, [], ◌∷◌, ◌++◌, length, take, drop, get_or, refl, sym, ap, ap₂, ◌∙◌, subst, inl, inr, arith, lt-ltb, le-ltb}
+use Rattle.std.proofs.Math.Seq.{take-append_seam, drop-append_seam}
+use Rattle.std.specs.Prelude.{Option, Some, None, IsSome, unwrap_or}
+use Rattle.std.specs.Option.{SomeIff}
+use lib.Utf8.{encode, encodes, scalars, scalar}
+use Rattle.std.specs.Char.{IsScalar, InScalarRange}
+use Rattle.std.specs.Str.{IsUtf8, chars}
+use Rattle.std.proofs.lemmas.Bool.{cases_lt, and_parts}
+use Rattle.std.proofs.lemmas.Str.{encodes-chars}
+use Rattle.std.proofs.lemmas.List.{length-append}
+use Rattle.properties_format.specs.Text.{scalar as is_scalar}
+use Rattle.properties_format.specs.Utf8.{sequence_character}
+use Rattle.properties_format.specs.Windows1252.{windows_1252_character}
+use Rattle.properties_format.specs.Computed.Undecoded.{characters_of}
+use Rattle.properties_format.proofs.Encodings.Utf8Characters.{encode-one, encode-two, encode-three, encode-four, encode-is_sequence}
+use Rattle.properties_format.proofs.Encodings.WellFormed.{scalar-from_char}
+use Rattle.properties_format.proofs.Encodings.Windows1252.{windows_1252-ascii, windows_1252_character-ascii}
+use Rattle.properties_text.specs.Spelt.{text_in, IsWell, IsFirst, length_by_first}
+use Rattle.properties_text.specs.declared.encoding.line.LineEncoding.{LineEncoding}
+use Rattle.properties_text.specs.declared.encoding.line.LineEncoding.TheVariants.{Windows1252, Utf8}
+use Rattle.properties_text.specs.declared.encoding.line.Spelt.{Spelt}
+use Rattle.properties_text.proofs.Texts.Characters.{character_and, first_ascii}
+
+-- ---- UTF-8
+
+-- The first byte of a character says how many there are.
+length-of : (c : ℕ) (rest : List ℕ) → c < 0x11_0000 → length_by_first (get_or (encode c ++ rest) 0 0) ≡ length (encode c)
+length-of c rest s = elim (cases_lt c 0x80) [
+  | inl h ↦ rw (encode-one c h) (rw (lt-ltb c 0x80 h) refl)
+  | inr l ↦ elim (cases_lt c 0x800) [
+    | inl h ↦ rw (encode-two c l h) (rw (le-ltb (192 + c / 64) 0x80 (omega arith), lt-ltb (192 + c / 64) 0xe0 (omega arith)) refl)
+    | inr m ↦ elim (cases_lt c 0x1_0000) [
+      | inl h ↦ rw (encode-three c m h) (rw (le-ltb (224 + c / 4096) 0x80 (omega arith), le-ltb (224 + c / 4096) 0xe0 (omega arith), lt-ltb (224 + c / 4096) 0xf0 (omega arith)) refl)
+      | inr n ↦ rw (encode-four c n) (rw (le-ltb (240 + c / 262144) 0x80 (omega arith), le-ltb (240 + c / 262144) 0xe0 (omega arith), le-ltb (240 + c / 262144) 0xf0 (omega arith)) refl)
+    ]
+  ]
+]
+
+some-bytes : (c : ℕ) → 0 < length (encode c)
+some-bytes c = elim (cases_lt c 0x80) [
+  | inl h ↦ rw (encode-one c h) (omega arith)
+  | inr l ↦ elim (cases_lt c 0x800) [
+    | inl h ↦ rw (encode-two c l h) (omega arith)
+    | inr m ↦ elim (cases_lt c 0x1_0000) [
+      | inl h ↦ rw (encode-three c m h) (omega arith)
+      | inr n ↦ rw (encode-four c n) (omega arith)
+    ]
+  ]
+]
+
+-- The first byte and the others of a front.
+bytes-of : (xs rest : List ℕ) → 0 < length xs → get_or (xs ++ rest) 0 0 ∷ take (length xs - 1) (drop 1 (xs ++ rest)) ≡ xs
+bytes-of [] rest h = absurd (omega arith)
+bytes-of (x ∷ xs) rest h =
+    let e : length (x ∷ xs) - 1 ≡ length xs = omega arith in
+    ap (λ n. x ∷ take n (xs ++ rest)) e ∙ ap (λ v. x ∷ v) (take-append_seam xs rest)
+
+-- What is read of a character: its number of bytes, and its number.
+pub record IsSequence (bs : List ℕ) (n : ℕ) : Type 0 where
+  pub some : 0 < n
+  pub within : n ≤ length bs
+  pub scalar : IsScalar (sequence_character (get_or bs 0 0 ∷ take (n - 1) (drop 1 bs)))
+  pub characters : chars bs ≡ sequence_character (get_or bs 0 0 ∷ take (n - 1) (drop 1 bs)) ∷ chars (drop n bs)
+  pub well : IsUtf8 (drop n bs)
+
+below-all : (c : ℕ) → is_scalar c → c < 0x11_0000
+below-all c (inl h) = omega arith
+below-all c (inr h) = h.1
+
+begins : (bs rest : List ℕ) (c n : ℕ) → IsUtf8 bs → IsScalar c → bs ≡ encode c ++ rest → n ≡ length_by_first (get_or bs 0 0) → IsSequence bs n
+begins bs rest c n u s e is =
+    let below : c < 0x11_0000 = below-all c (scalar-from_char c s) in
+    let size : n ≡ length (encode c) = is ∙ ap (λ v. length_by_first (get_or v 0 0)) e ∙ length-of c rest below in
+    let code : sequence_character (get_or bs 0 0 ∷ take (n - 1) (drop 1 bs)) ≡ c =
+    ap₂ (λ v m. sequence_character (get_or v 0 0 ∷ take (m - 1) (drop 1 v))) e size
+    ∙ ap sequence_character (bytes-of (encode c) rest (some-bytes c))
+    ∙ sym (encode-is_sequence c (scalar-from_char c s)).1 in
+    let left : drop n bs ≡ rest = ap₂ drop size e ∙ drop-append_seam (encode c) rest in
+    let a = character_and bs rest c u e in
+    record {
+      some = omega (arith, size, some-bytes c);
+      within = omega (arith, size, ap length e, length-append (encode c) rest);
+      scalar = subst IsScalar (sym code) s;
+      characters = a.characters ∙ ap₂ (λ x v. x ∷ chars v) (sym code) (sym left);
+      well = subst IsUtf8 (sym left) a.utf8;
+    }
+
+-- The character of a number that is one.
+pub the-character : (o : Option ℕ) (code : ℕ) → SomeIff o (IsScalar code) code → IsSome o → unwrap_or o 0xfffd ≡ code
+the-character None code h some = absurd (cc)
+the-character (Some c) code h some = h.1
+
+pub in-range : (code : ℕ) → is_scalar code → InScalarRange code
+in-range code (inl h) = inl h
+in-range code (inr h) = inr (h.0, omega (arith, h.1))
+
+pub utf_8-first : (bs : List ℕ) (n : ℕ) → IsUtf8 bs → 0 < length bs → n ≡ length_by_first (get_or bs 0 0) → IsSequence bs n
+utf_8-first bs n ([], (h, w)) some is = absurd (omega (arith, some, ap length w))
+utf_8-first bs n ((c ∷ cs), (h, w)) some is =
+    begins bs (encodes cs) c n ((c ∷ cs), (h, w)) (and_parts (scalar c) (scalars cs) h).0 (sym w) is
+
+pub is-first : (bs : List ℕ) (spelt : Spelt) → IsSequence bs spelt.length
+    → spelt.character ≡ sequence_character (get_or bs 0 0 ∷ take (spelt.length - 1) (drop 1 bs)) → IsFirst Utf8 bs spelt
+is-first bs spelt h is = record {
+  some = h.some;
+  within = h.within;
+  scalar = subst IsScalar (sym is) h.scalar;
+  characters = h.characters ∙ ap (λ x. x ∷ chars (drop spelt.length bs)) (sym is);
+  well = h.well;
+}
+
+-- ---- ASCII, in either
+
+pub record IsAsciiAnd (e : LineEncoding) (b : ℕ) (rest : List ℕ) : Type 0 where
+  pub characters : text_in e (b ∷ rest) ≡ b ∷ text_in e rest
+  pub well : IsWell e rest
+
+pub ascii-first : (e : LineEncoding) (b : ℕ) (rest : List ℕ) → b < 128 → IsWell e (b ∷ rest) → IsAsciiAnd e b rest
+ascii-first Windows1252 b rest h w = record { characters = ap (λ x. x ∷ characters_of rest) (windows_1252_character-ascii b h); well = tt }
+ascii-first Utf8 b rest h w = let a = first_ascii b rest h w in record { characters = a.characters; well = a.utf8 }
+
+-- If the first character is ASCII, it is the first byte.
+pub ascii-back : (e : LineEncoding) (bs : List ℕ) (c : ℕ) (rest : List ℕ) → IsWell e bs → text_in e bs ≡ c ∷ rest → c < 128 → (more : List ℕ) × (bs ≡ c ∷ more)
+ascii-back Windows1252 [] c rest w e h = absurd (cc)
+ascii-back Windows1252 (b ∷ bs) c rest w e h =
+    let is : windows_1252_character b ≡ c = cc in
+    (bs, ap (λ x. x ∷ bs) (windows_1252-ascii b (omega (arith, is, h)) ∙ is))
+ascii-back Utf8 bs c rest w e h = (encodes rest, sym (encodes-chars bs w) ∙ ap encodes e ∙ ap (λ v. v ++ encodes rest) (encode-one c h))

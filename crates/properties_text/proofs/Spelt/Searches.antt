@@ -1,0 +1,104 @@
+-- Bytes up to their first backslash, in either encoding.
+use Rattle.std.proofs.Common.{◌≡◌, ℕ, ◌<◌, ◌==◌, true, false, List, [], ◌∷◌, ◌++◌, take, drop, length, get_or, refl, sym, ap, ◌∙◌, inl, inr, arith}
+use Rattle.std.specs.Prelude.{Some, None}
+use Rattle.std.proofs.lemmas.Bool.{cases_Bool, eqb-true, or_parts}
+use Rattle.std.proofs.lemmas.List.{take-append-drop, map-append}
+use Rattle.std.specs.Str.{chars}
+use Rattle.memchr.specs.Find.{IsFirstByte, is_byte}
+use Rattle.properties_format.specs.Text.{backslash}
+use Rattle.properties_format.specs.Escapes.{Malformed, means, breaks}
+use Rattle.properties_format.specs.Windows1252.{windows_1252_character}
+use Rattle.properties_format.specs.Writing.{HoldsNoBackslash}
+use Rattle.properties_format.specs.Computed.Escapes.{text_in_front, meaning_of}
+use Rattle.properties_format.specs.Computed.Undecoded.{characters_of}
+use Rattle.properties_format.proofs.Encodings.Windows1252.{windows_1252-ascii}
+use Rattle.properties_format.proofs.Escapes.Laws.{meaning_of-plain_front, meaning_of-plain}
+use Rattle.properties_format.proofs.Escapes.Unique.{text_in_front-means, text_in_front-breaks}
+use Rattle.properties_text.specs.Escaping.{holds_backslash}
+use Rattle.properties_text.specs.Spelt.{text_in, IsWell, IsRead}
+use Rattle.properties_text.specs.declared.encoding.line.LineEncoding.{LineEncoding}
+use Rattle.properties_text.specs.declared.encoding.line.LineEncoding.TheVariants.{Windows1252, Utf8}
+use Rattle.properties_text.specs.declared.encoding.line.Spelt.{Spelt}
+use Rattle.properties_text.proofs.Texts.Resolving.{found_some, found_none, split_at, plain, text_in_front-append}
+
+-- ---- windows-1252
+
+other-byte : (b : ℕ) → (b == backslash) ≡ false → (windows_1252_character b == backslash) ≡ false
+other-byte b h = elim (cases_Bool (windows_1252_character b == backslash)) [
+  | inl t ↦
+      let is : windows_1252_character b ≡ backslash = eqb-true (windows_1252_character b) backslash t in
+      let same : b ≡ backslash = windows_1252-ascii b (omega (arith, is)) ∙ is in
+      absurd (let no : true ≡ false = sym (ap (λ v. v == backslash) same) ∙ h in cc)
+  | inr f ↦ f
+]
+
+no-backslash : (bs : List ℕ) → holds_backslash bs ≡ false → HoldsNoBackslash (characters_of bs)
+no-backslash [] h = tt
+no-backslash (b ∷ bs) h = let p = or_parts (b == backslash) (holds_backslash bs) h in (other-byte b p.0, no-backslash bs p.1)
+
+-- ---- in either
+
+-- The first backslash is at this place, and the bytes before it mean what they are.
+pub record IsSplitIn (e : LineEncoding) (bs : List ℕ) (at : ℕ) : Type 0 where
+  pub inside : at < length bs
+  pub byte : get_or bs at 0 ≡ backslash
+  pub well : IsWell e (drop at bs)
+  pub front : List ℕ
+  pub meaning : meaning_of (text_in e bs) ≡ text_in_front front (meaning_of (text_in e (drop at bs)))
+
+pub split-in : (e : LineEncoding) (bs : List ℕ) (at : ℕ) → IsWell e bs → IsFirstByte (is_byte backslash) bs (Some at) → IsSplitIn e bs at
+split-in Windows1252 bs at w h =
+    let f = found_some bs at h in
+    record {
+      inside = f.inside;
+      byte = f.byte;
+      well = tt;
+      front = characters_of (take at bs);
+      meaning = ap meaning_of (ap characters_of (sym (take-append-drop at bs)) ∙ map-append windows_1252_character (take at bs) (drop at bs))
+          ∙ meaning_of-plain_front (characters_of (take at bs)) (characters_of (drop at bs)) (no-backslash (take at bs) f.plain);
+    }
+split-in Utf8 bs at w h =
+    let f = found_some bs at h in
+    let s = split_at bs bs at w refl h in
+    record { inside = f.inside; byte = f.byte; well = s.rest_utf8; front = chars (take at bs); meaning = s.meaning }
+
+-- Without one, bytes mean what they are.
+pub plain-in : (e : LineEncoding) (bs : List ℕ) → IsWell e bs → IsFirstByte (is_byte backslash) bs None → meaning_of (text_in e bs) ≡ means (text_in e bs)
+plain-in Windows1252 bs w h = meaning_of-plain (characters_of bs) (no-backslash bs (found_none bs h))
+plain-in Utf8 bs w h = (plain bs bs w refl h).meaning
+
+-- ---- escapes that were read one after another
+
+-- What was read of a text, and what is left.
+pub record IsReadTo (e : LineEncoding) (text rest : List ℕ) : Type 0 where
+  pub well : IsWell e rest
+  pub done : List ℕ
+  pub meaning : meaning_of (text_in e text) ≡ text_in_front done (meaning_of (text_in e rest))
+
+pub nothing-read : (e : LineEncoding) (text : List ℕ) → IsWell e text → IsReadTo e text text
+nothing-read e text w = record { well = w; done = []; meaning = refl }
+
+module _ (e : LineEncoding) (text rest : List ℕ) (at : ℕ) (held : IsReadTo e text rest) (s : IsSplitIn e rest at) where
+  pub one-read : (spelt : Spelt) → IsRead e (drop at rest) spelt → IsReadTo e text (drop spelt.length (drop at rest))
+  one-read spelt r =
+      let after = meaning_of (text_in e (drop spelt.length (drop at rest))) in
+      record {
+        well = r.well;
+        done = held.done ++ (s.front ++ spelt.character ∷ []);
+        meaning = held.meaning
+            ∙ ap (text_in_front held.done) (s.meaning ∙ ap (text_in_front s.front) r.meaning ∙ sym (text_in_front-append s.front (spelt.character ∷ []) after))
+            ∙ sym (text_in_front-append held.done (s.front ++ spelt.character ∷ []) after);
+      }
+
+  pub broken-read : (kind : Malformed) → meaning_of (text_in e (drop at rest)) ≡ breaks kind → meaning_of (text_in e text) ≡ breaks kind
+  broken-read kind b =
+      held.meaning
+      ∙ ap (text_in_front held.done) (s.meaning ∙ ap (text_in_front s.front) b ∙ text_in_front-breaks s.front kind)
+      ∙ text_in_front-breaks held.done kind
+
+pub all-read : (e : LineEncoding) (text rest : List ℕ) → IsReadTo e text rest → meaning_of (text_in e rest) ≡ means (text_in e rest)
+    → (meant : List ℕ) × (meaning_of (text_in e text) ≡ means meant)
+all-read e text rest held m = (
+  held.done ++ text_in e rest,
+  held.meaning ∙ ap (text_in_front held.done) m ∙ text_in_front-means held.done (text_in e rest),
+)

@@ -1,4 +1,0 @@
-pub mod Spellings
-pub mod Runs
-pub mod Unusual
-pub mod Pairs

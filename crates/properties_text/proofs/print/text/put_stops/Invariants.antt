@@ -1,0 +1,18 @@
+use Rattle.std.proofs.Common.{◌≡◌, ◌-◌, ◌≤◌, length, take}
+use Rattle.properties_format.specs.Text.{backslash}
+use Rattle.properties_text.specs.PrintedTexts.{ArePut, from_on}
+use Rattle.properties_text.proofs.print.text.put_stops.Given as goal
+
+abbrev pub invariant-loop-put : goal.invariant-loop-put
+invariant-loop-put g l = record {
+  same : length l.out ≡ length l.fn.out;
+  front : take l.at l.out ≡ take l.at l.fn.out;
+  room : l.at ≤ l.put.end;
+  onwards : l.from ≤ l.put.read;
+  start : l.put.read ≡ l.from → l.put.end ≡ l.at;
+  put : ArePut l.encoding l.repertoire (g.Stops.ByteClass.holds backslash) (from_on l.encoding l.repertoire (g.Stops.ByteClass.holds backslash) l.fn.out l.at
+      l.text l.from) l.text l.put l.out;
+}
+
+abbrev pub decreases-loop-put : goal.decreases-loop-put
+decreases-loop-put g l = length l.text - l.put.read

@@ -1,0 +1,184 @@
+-- What a text of a line is printed as, by the encoding of the line, what a backslash means in it, and what may be printed.
+use Rattle.std.specs.Prelude.{◌≡◌, ◌⊎◌, ◌≤◌, ◌<◌, ◌+◌, ◌*◌, ℕ, nat_le, nat_lt, ◌&&◌, Bool, not, true, false, if◌then◌else◌, List, [], ◌∷◌, ◌++◌, length, take, drop, Result, Ok, Err}
+use Rattle.properties_format.specs.Escapes as format_escapes
+use Rattle.properties_format.specs.Escapes.{Meaning, means, breaks}
+use Rattle.properties_format.specs.Computed.Escapes.{meaning_of, in_front, text_in_front}
+use Rattle.properties_text.specs.Escaping.{malformed_in}
+use Rattle.properties_text.specs.Spelt.{text_in, IsWell}
+use Rattle.properties_text.specs.Printing.{puts_of, key_bytes, printed_bytes}
+use Rattle.properties_text.specs.declared.encoding.line.Spelt.{Spelt}
+use Rattle.properties_text.specs.declared.escape.Malformed.{Malformed}
+use Rattle.std.specs.List.{All}
+use Rattle.properties_text.specs.declared.encoding.line.LineEncoding.{LineEncoding}
+use Rattle.properties_text.specs.declared.encoding.line.LineEncoding.TheVariants.{Windows1252, Utf8}
+use Rattle.properties_text.specs.declared.escape.UnescapeError.{UnescapeError}
+use Rattle.properties_text.specs.declared.escape.UnescapeError.TheVariants as error
+use Rattle.properties_text.specs.declared.print.Repertoire.{Repertoire}
+use Rattle.properties_text.specs.declared.print.Repertoire.TheVariants as repertoire
+use Rattle.properties_text.specs.declared.print.Pair.{Pair}
+use Rattle.properties_text.specs.declared.print.Part.{Part}
+use Rattle.properties_text.specs.declared.print.text.Put.{Put}
+
+-- ---- texts
+
+-- what a text means, in which a backslash begins an escape or stands for itself
+abbrev pub meaning_by : Bool → List ℕ → Meaning
+meaning_by true text = meaning_of text
+meaning_by false text = means text
+
+-- what the bytes of a text mean
+abbrev pub meaning_in : LineEncoding → Bool → List ℕ → Meaning
+meaning_in e escaped bytes = meaning_by escaped (text_in e bytes)
+
+abbrev pub printed_by : Repertoire → Meaning → Meaning
+printed_by t (means text) = means (puts_of t text)
+printed_by t (breaks kind) = breaks kind
+
+-- what the bytes of a text come to when they are printed
+abbrev pub printed_in : LineEncoding → Repertoire → Bool → List ℕ → Meaning
+printed_in e t escaped bytes = printed_by t (meaning_in e escaped bytes)
+
+-- ---- a text after some bytes that were copied, perhaps inside a character
+
+-- whether bytes past ASCII are copied
+abbrev pub is_copied : LineEncoding → Repertoire → Bool
+is_copied Windows1252 repertoire.Windows1252 = true
+is_copied Windows1252 repertoire.Utf8 = false
+is_copied Windows1252 repertoire.Ascii = false
+is_copied Utf8 repertoire.Windows1252 = false
+is_copied Utf8 repertoire.Utf8 = true
+is_copied Utf8 repertoire.Ascii = false
+
+-- a byte after the first of a character of UTF-8
+abbrev pub is_inside : ℕ → Bool
+is_inside b = nat_le 0x80 b && nat_lt b 0xc0
+
+-- the bytes of a character that began before, and those after it
+abbrev pub inside : List ℕ → List ℕ
+inside [] = []
+inside (b ∷ bs) = if is_inside b then b ∷ inside bs else []
+
+abbrev pub past : List ℕ → List ℕ
+past [] = []
+past (b ∷ bs) = if is_inside b then past bs else b ∷ bs
+
+abbrev pub inside_in : LineEncoding → Repertoire → List ℕ → List ℕ
+inside_in Utf8 repertoire.Utf8 bytes = inside bytes
+inside_in Utf8 repertoire.Windows1252 bytes = []
+inside_in Utf8 repertoire.Ascii bytes = []
+inside_in Windows1252 t bytes = []
+
+abbrev pub past_in : LineEncoding → Repertoire → List ℕ → List ℕ
+past_in Utf8 repertoire.Utf8 bytes = past bytes
+past_in Utf8 repertoire.Windows1252 bytes = bytes
+past_in Utf8 repertoire.Ascii bytes = bytes
+past_in Windows1252 t bytes = bytes
+
+-- what the rest of a text comes to, whose front was printed, perhaps up to inside a character
+abbrev pub rest_in : LineEncoding → Repertoire → Bool → List ℕ → Meaning
+rest_in e t escaped bytes = text_in_front (inside_in e t bytes) (printed_in e t escaped (past_in e t bytes))
+
+-- ---- what is put
+
+-- What stops a run: control characters; and bytes past ASCII, unless they are copied. A backslash, if it begins an escape.
+pub record StopsIn (holds : ℕ → Bool) (e : LineEncoding) (t : Repertoire) : Type 0 where
+  pub controls : (b : ℕ) → b < 0x20 → holds b ≡ true
+  pub past : (b : ℕ) → 0x80 ≤ b → holds b ≡ not (is_copied e t)
+
+-- So much of a text was read, and what it is printed as was put up to this place: the whole comes to that, and what the rest comes to.
+pub record ArePut (e : LineEncoding) (t : Repertoire) (escaped : Bool) (whole : Meaning) (text : List ℕ) (put : Put) (out : List ℕ) : Type 0 where
+  pub read : put.read ≤ length text
+  pub within : put.end ≤ length out
+  pub well : IsWell e (past_in e t (drop put.read text))
+  pub printed : whole ≡ text_in_front (take put.end out) (rest_in e t escaped (drop put.read text))
+
+-- The meaning is a text, and the bytes of that were put after what was put before.
+pub record IsPut (m : Meaning) (bytes : List ℕ → List ℕ) (old : List ℕ) (at : ℕ) (new : List ℕ) (end : ℕ) : Type 0 where
+  pub within : end ≤ length new
+  pub meant : List ℕ
+  pub meaning : m ≡ means meant
+  pub printed : take end new ≡ take at old ++ bytes meant
+
+-- The result of printing a text: its bytes were put; or it is malformed, and the error says how; or memory ran out.
+abbrev pub Prints : Meaning → (List ℕ → List ℕ) → List ℕ → ℕ → List ℕ → Result ℕ UnescapeError → Type 0
+Prints m bytes old at new (Ok end) = IsPut m bytes old at new end
+Prints m bytes old at new (Err (error.Malformed malformed)) = m ≡ breaks (malformed_in malformed)
+Prints m bytes old at new (Err error.Memory) = Unit {0}
+
+-- ---- reading
+
+-- The bytes begin with so many that are this character, or spell it.
+pub record IsReadBy (escaped : Bool) (e : LineEncoding) (bytes : List ℕ) (spelt : Spelt) : Type 0 where
+  pub some : 0 < spelt.length
+  pub within : spelt.length ≤ length bytes
+  pub meaning : meaning_in e escaped bytes ≡ in_front spelt.character (meaning_in e escaped (drop spelt.length bytes))
+  pub well : IsWell e (drop spelt.length bytes)
+
+-- The result of reading the first character of bytes.
+abbrev pub ReadsBy : Bool → LineEncoding → List ℕ → Result Spelt Malformed → Type 0
+ReadsBy escaped e bytes (Ok spelt) = IsReadBy escaped e bytes spelt
+ReadsBy escaped e bytes (Err malformed) = meaning_in e escaped bytes ≡ breaks (malformed_in malformed)
+
+-- what a text comes to from one place on, after what was put before another
+abbrev pub from_on : LineEncoding → Repertoire → Bool → List ℕ → ℕ → List ℕ → ℕ → Meaning
+from_on e t escaped old at text from = text_in_front (take at old) (rest_in e t escaped (drop from text))
+
+-- The result of going on: what was read and put; or how the rest is malformed; or memory ran out.
+abbrev pub PutsStops : LineEncoding → Repertoire → Bool → List ℕ → ℕ → List ℕ → ℕ → List ℕ → Result Put UnescapeError → Type 0
+PutsStops e t escaped old at text from new (Ok put) = ArePut e t escaped (from_on e t escaped old at text from) text put new
+PutsStops e t escaped old at text from new (Err (error.Malformed malformed)) = rest_in e t escaped (drop from text) ≡ breaks (malformed_in malformed)
+PutsStops e t escaped old at text from new (Err error.Memory) = Unit {0}
+
+-- The result of printing the rest of a text: all of it was read and put; or how it is malformed; or memory ran out.
+abbrev pub PrintsRest : LineEncoding → Repertoire → Bool → List ℕ → ℕ → List ℕ → ℕ → List ℕ → Result ℕ UnescapeError → Type 0
+PrintsRest e t escaped old at text from new (Ok end) =
+    ArePut e t escaped (from_on e t escaped old at text from) text record { read = length text; end = end } new
+PrintsRest e t escaped old at text from new (Err (error.Malformed malformed)) = rest_in e t escaped (drop from text) ≡ breaks (malformed_in malformed)
+PrintsRest e t escaped old at text from new (Err error.Memory) = Unit {0}
+
+-- Bytes were put one by one, none of which is a stop.
+pub record IsRunPut (holds : ℕ → Bool) (old : List ℕ) (at : ℕ) (text : List ℕ) (from : ℕ) (put : Put) (new : List ℕ) : Type 0 where
+  pub bytes : List ℕ
+  pub text_is : drop from text ≡ bytes ++ drop put.read text
+  pub read_is : put.read ≡ from + length bytes
+  pub read : put.read ≤ length text
+  pub few : put.end ≤ at + 2 * length bytes
+  pub clear : All (λ b. holds b ≡ false) bytes
+  pub printed : take put.end new ≡ take at old ++ printed_bytes bytes
+
+-- ---- pairs
+
+-- the bytes of a key or a value, and what it means
+abbrev pub bytes_of : Part → List ℕ
+bytes_of t = take t.size t.bytes.now
+
+abbrev pub key_of : Pair → Meaning
+key_of p = meaning_in p.encoding p.escaped (bytes_of p.key)
+
+abbrev pub value_of : Pair → Meaning
+value_of p = meaning_in p.encoding p.escaped (bytes_of p.value)
+
+-- The key and the value are well-formed.
+pub record IsPair (p : Pair) : Type 0 where
+  pub key_within : p.key.size ≤ length p.key.bytes.now
+  pub value_within : p.value.size ≤ length p.value.bytes.now
+  pub key : IsWell p.encoding (bytes_of p.key)
+  pub value : IsWell p.encoding (bytes_of p.value)
+
+-- The pair means a key and a value, and these were appended.
+pub record IsPairPrinted (r : Repertoire) (first : Bool) (old : List ℕ) (p : Pair) (separator ending new : List ℕ) : Type 0 where
+  pub key : List ℕ
+  pub value : List ℕ
+  pub key_means : key_of p ≡ means key
+  pub value_means : value_of p ≡ means value
+  pub printed : new ≡ old ++ (key_bytes r first key ++ (separator ++ (puts_of r value ++ ending)))
+
+-- The key is malformed; or the value is, and the key isn't.
+abbrev pub BreaksPair : Pair → format_escapes.Malformed → Type 0
+BreaksPair p kind = (key_of p ≡ breaks kind) ⊎ ((key : List ℕ) × (key_of p ≡ means key) × (value_of p ≡ breaks kind))
+
+-- The result of printing a pair, and the line after it.
+abbrev pub PrintsPair : Repertoire → Bool → List ℕ → Pair → List ℕ → List ℕ → Result Unit UnescapeError → List ℕ → Type 0
+PrintsPair r first old p separator ending (Ok done) new = IsPairPrinted r first old p separator ending new
+PrintsPair r first old p separator ending (Err (error.Malformed malformed)) new = BreaksPair p (malformed_in malformed)
+PrintsPair r first old p separator ending (Err error.Memory) new = Unit {0}

@@ -1,0 +1,365 @@
+// Prints a key or a value from its bytes: by turns a run of bytes that are copied or get a backslash, and a character at
+// which such a run stops.
+
+ghost use Rattle.std.specs.Prelude.{◌≡◌, ◌+◌, ◌-◌, ◌*◌, ◌<◌, ◌≤◌, ◌++◌, ℕ, Bool, true, false, length, take, drop, get_or, IfOk, IsOkUnless};
+ghost use Rattle.properties_text.specs.declared.escape.UnescapeError.TheVariants.{Memory};
+ghost use Rattle.properties_format.specs.Text.{backslash};
+ghost use Rattle.properties_text.specs.Spelt.{IsWell};
+ghost use Rattle.properties_format.specs.Printing.{literal, encoded_text};
+ghost use Rattle.properties_text.specs.Printing.{encoding_in, only_in, put_of, puts_of};
+ghost use Rattle.properties_text.specs.PrintedTexts.{past_in, ReadsBy, PutsStops, PrintsRest, IsRunPut, StopsIn, meaning_in, Prints};
+
+use super::Repertoire;
+use super::bytes::{first_16, put_16, put_any, put_byte};
+use super::escapes::{LONGEST, put_escape};
+use crate::encoding::{LineEncoding, Spelt, byte_of, put_character};
+use crate::escape::{Malformed, UnescapeError, read_escape};
+use crate::line_buffer::make_room;
+use byte_blocks::ByteClass;
+use std::alloc::AllocError;
+use std::simd::prelude::*;
+
+// The room beyond two bytes for each byte of a text: what a block may overwrite, or a character be printed as.
+const ROOM: usize = 32;
+
+// Up to where a text was read, and up to where its bytes were put.
+#[derive(Clone, Copy)]
+struct Put {
+    read: usize,
+    end: usize,
+}
+
+/// Puts what a character of a key or a value is printed as, and returns the index after it.
+#[inline(always)]
+pub fn put_printed(out: &mut [u8], at: usize, repertoire: Repertoire, character: char) -> usize
+    requires { at + 12 ≤ length out.old }
+    ensures same_room { length out.new ≡ length out.old }
+    ensures within { result ≤ at + 12 }
+    ensures put { take result out.new ≡ take at out.old ++ put_of repertoire character }
+{
+    if character.is_ascii() {
+        return put_any(out, at, u32::from(character) as u8);
+    }
+    put_past(out, at, repertoire, character)
+}
+
+// Puts a character past ASCII as it is, or as a `\u` escape if the repertoire lacks it, and returns the index after it.
+#[inline(always)]
+fn put_past(out: &mut [u8], at: usize, repertoire: Repertoire, character: char) -> usize
+    requires room { at + 12 ≤ length out.old }
+    requires past { 0x80 ≤ character }
+    ensures same_room { length out.new ≡ length out.old }
+    ensures within { result ≤ at + 12 }
+    ensures put { take result out.new ≡ take at out.old ++ put_of repertoire character }
+{
+    match repertoire {
+        Repertoire::Utf8 => put_character(out, at, character),
+        Repertoire::Windows1252 => match byte_of(character) {
+            Some(byte) => {
+                out[at] = byte;
+                at + 1
+            }
+            None => put_escape(out, at, character),
+        },
+        Repertoire::Ascii => put_escape(out, at, character),
+    }
+}
+
+/// Puts a character as it is, or as a `\u` escape if the repertoire lacks it, and returns the index after it.
+#[inline(always)]
+pub fn put_literal(out: &mut [u8], at: usize, repertoire: Repertoire, character: char) -> usize
+    requires { at + 12 ≤ length out.old }
+    ensures same_room { length out.new ≡ length out.old }
+    ensures within { result ≤ at + 12 }
+    ensures put { let e = encoding_in repertoire in
+        let text = literal e (only_in repertoire) character in
+        take result out.new ≡ take at out.old ++ encoded_text e text }
+{
+    if character.is_ascii() {
+        out[at] = u32::from(character) as u8;
+        return at + 1;
+    }
+    put_past(out, at, repertoire, character)
+}
+
+/// Returns the first character of a text, in which a backslash begins an escape if it is a stop.
+#[inline(always)]
+pub fn first_character<Stops: ByteClass>(
+    encoding: LineEncoding,
+    text: &[u8],
+) -> Result<Spelt, Malformed>
+    requires some { 0 < length text.now }
+    requires well { IsWell encoding text.now }
+    ensures { ReadsBy (Stops.holds backslash) encoding text.now result }
+{
+    if begins_escape::<Stops>(text) {
+        return read_escape(encoding, text);
+    }
+    Ok(encoding.first_character(text))
+}
+
+// Whether a text begins with a backslash, and that is a stop.
+#[inline(always)]
+fn begins_escape<Stops: ByteClass>(text: &[u8]) -> bool
+    requires { 0 < length text.now }
+    ensures yes { result ≡ true → get_or text.now 0 0 ≡ backslash }
+    ensures stop { result ≡ true → Stops.holds backslash ≡ true }
+    ensures no { result ≡ false → get_or text.now 0 0 ≡ backslash → Stops.holds backslash ≡ false }
+{
+    Stops::contains(b'\\') && text[0] == b'\\'
+}
+
+// Whether a text begins with a stop. Most are backslashes, which are tested again when they are read.
+#[inline(always)]
+fn begins_with_stop<Stops: ByteClass>(text: &[u8]) -> bool
+    requires { 0 < length text.now }
+    ensures { result ≡ Stops.holds (get_or text.now 0 0) }
+{
+    begins_escape::<Stops>(text) || Stops::contains(text[0])
+}
+
+// Puts the rest of a text, which begins with a stop. Kept out of line because most texts have no stops.
+#[inline(never)]
+fn print_rest<Stops: ByteClass>(
+    out: &mut Vec<u8>,
+    at: usize,
+    repertoire: Repertoire,
+    encoding: LineEncoding,
+    bytes: &[u8],
+    size: usize,
+    from: usize,
+) -> Result<usize, UnescapeError>
+    requires size { size ≤ length bytes.now }
+    requires from { from ≤ size }
+    requires at { at ≤ length out.old.items }
+    requires stops { StopsIn Stops.holds encoding repertoire }
+    requires well { IsWell encoding (past_in encoding repertoire (drop from (take size bytes.now))) }
+    requires begins { from < size → Stops.holds (get_or (take size bytes.now) from 0) ≡ true }
+    ensures printed { PrintsRest encoding repertoire (Stops.holds backslash) out.old.items at (take size bytes.now) from out.new.items result }
+    ensures same { take at out.new.items ≡ take at out.old.items }
+    ensures longer { length out.old.items ≤ length out.new.items }
+{
+    let mut put = Put {
+        read: from,
+        end: at,
+    };
+    while put.read < size {
+        put = print_stops::<Stops>(out, put.end, repertoire, encoding, &bytes[..size], put.read)?;
+        put = print_run::<Stops>(out, put.end, bytes, size, put.read)?;
+    }
+    Ok(put.end)
+}
+
+// Makes room for two bytes for each byte of a text of this length, and for what a block may overwrite.
+#[inline(always)]
+fn make_room_for(out: &mut Vec<u8>, at: usize, size: usize) -> Result<(), AllocError>
+    requires at { at ≤ length out.old.items }
+    requires size { size < 0x8000_0000_0000_0000 }
+    ensures room { IfOk result (λ done. at + (2 * size + 32) ≤ length out.new.items) }
+    ensures same { take at out.new.items ≡ take at out.old.items }
+    ensures longer { length out.old.items ≤ length out.new.items }
+{
+    if (out.len() - at) / 2 >= size + ROOM / 2 {
+        return Ok(());
+    }
+    make_room(out, at, (2 * size).saturating_add(ROOM))
+}
+
+// Makes room for a character, and puts the characters at which a run stops, from index `from` on.
+#[inline(always)]
+fn print_stops<Stops: ByteClass>(
+    out: &mut Vec<u8>,
+    at: usize,
+    repertoire: Repertoire,
+    encoding: LineEncoding,
+    text: &[u8],
+    from: usize,
+) -> Result<Put, UnescapeError>
+    requires from { from ≤ length text.now }
+    requires at { at ≤ length out.old.items }
+    requires stops { StopsIn Stops.holds encoding repertoire }
+    requires well { IsWell encoding (past_in encoding repertoire (drop from text.now)) }
+    ensures put { PutsStops encoding repertoire (Stops.holds backslash) out.old.items at text.now from out.new.items result }
+    ensures same { take at out.new.items ≡ take at out.old.items }
+    ensures longer { length out.old.items ≤ length out.new.items }
+    ensures after { IfOk result (λ put. at ≤ put.end) }
+    ensures onwards { IfOk result (λ put. from < length text.now → Stops.holds (get_or text.now from 0) ≡ true → from < put.read) }
+{
+    make_room(out, at, LONGEST)?;
+    put_stops::<Stops>(out, at, repertoire, encoding, text, from)
+}
+
+// Puts the characters at which a run stops, as long as there is room. A byte between two of them is put too, since often
+// a blank stands there.
+#[inline(always)]
+fn put_stops<Stops: ByteClass>(
+    out: &mut [u8],
+    at: usize,
+    repertoire: Repertoire,
+    encoding: LineEncoding,
+    text: &[u8],
+    from: usize,
+) -> Result<Put, UnescapeError>
+    requires from { from ≤ length text.now }
+    requires room { at + 12 ≤ length out.old }
+    requires stops { StopsIn Stops.holds encoding repertoire }
+    requires well { IsWell encoding (past_in encoding repertoire (drop from text.now)) }
+    ensures same_room { length out.new ≡ length out.old }
+    ensures put { PutsStops encoding repertoire (Stops.holds backslash) out.old at text.now from out.new result }
+    ensures same { take at out.new ≡ take at out.old }
+    ensures after { IfOk result (λ put. at ≤ put.end) }
+    ensures onwards { IfOk result (λ put. from < length text.now → Stops.holds (get_or text.now from 0) ≡ true → from < put.read) }
+{
+    let mut put = Put {
+        read: from,
+        end: at,
+    };
+    while put.read < text.len() && out.len() - put.end >= LONGEST {
+        let rest = &text[put.read..];
+        if begins_with_stop::<Stops>(rest) {
+            let first = match first_character::<Stops>(encoding, rest) {
+                Ok(first) => first,
+                Err(malformed) => return Err(UnescapeError::Malformed(malformed)),
+            };
+            let end = put_printed(out, put.end, repertoire, first.character);
+            put = Put {
+                read: put.read + first.length,
+                end,
+            };
+        } else if rest.len() > 1 && Stops::contains(rest[1]) {
+            let end = put_byte(out, put.end, rest[0]);
+            put = Put {
+                read: put.read + 1,
+                end,
+            };
+        } else {
+            break;
+        }
+    }
+    Ok(put)
+}
+
+// Fewer bytes than this are put one by one, since a block takes longer.
+const FEW: usize = 5;
+
+/// Puts what a text is printed as after the first `at` bytes, and returns the index after it. `Stops` are the bytes that
+/// are neither copied nor only get a backslash. Fails with the first malformed escape, or if memory runs out.
+#[inline(always)]
+pub fn print_bytes<Stops: ByteClass>(
+    out: &mut Vec<u8>,
+    at: usize,
+    repertoire: Repertoire,
+    encoding: LineEncoding,
+    bytes: &[u8],
+    size: usize,
+) -> Result<usize, UnescapeError>
+    requires size { size ≤ length bytes.now }
+    requires at { at ≤ length out.old.items }
+    requires stops { StopsIn Stops.holds encoding repertoire }
+    requires well { IsWell encoding (take size bytes.now) }
+    ensures printed { Prints (meaning_in encoding (Stops.holds backslash) (take size bytes.now)) (puts_of repertoire) out.old.items at out.new.items result }
+    ensures same { take at out.new.items ≡ take at out.old.items }
+    ensures longer { length out.old.items ≤ length out.new.items }
+{
+    let put = print_run::<Stops>(out, at, bytes, size, 0)?;
+    if put.read < size {
+        return print_rest::<Stops>(out, put.end, repertoire, encoding, bytes, size, put.read);
+    }
+    Ok(put.end)
+}
+
+// Makes room for a text from index `from` on, and puts it up to a stop.
+#[inline(always)]
+fn print_run<Stops: ByteClass>(
+    out: &mut Vec<u8>,
+    at: usize,
+    bytes: &[u8],
+    size: usize,
+    from: usize,
+) -> Result<Put, UnescapeError>
+    requires size { size ≤ length bytes.now }
+    requires from { from ≤ size }
+    requires at { at ≤ length out.old.items }
+    requires controls { (b : ℕ) → b < 0x20 → Stops.holds b ≡ true }
+    ensures run { IfOk result (λ put. IsRunPut Stops.holds out.old.items at (take size bytes.now) from put out.new.items) }
+    ensures within { IfOk result (λ put. put.end ≤ length out.new.items) }
+    ensures stops { IfOk result (λ put. put.read < size → Stops.holds (get_or (take size bytes.now) put.read 0) ≡ true) }
+    ensures refused { IsOkUnless result Memory }
+    ensures same { take at out.new.items ≡ take at out.old.items }
+    ensures longer { length out.old.items ≤ length out.new.items }
+{
+    make_room_for(out, at, size - from)?;
+    Ok(put_run::<Stops>(out, at, bytes, size, from))
+}
+
+// Puts the text from index `from` on, up to a stop.
+#[inline(always)]
+fn put_run<Stops: ByteClass>(
+    out: &mut [u8],
+    at: usize,
+    bytes: &[u8],
+    size: usize,
+    from: usize,
+) -> Put
+    requires size { size ≤ length bytes.now }
+    requires from { from ≤ size }
+    requires room { at + (2 * (size - from) + 32) ≤ length out.old }
+    requires controls { (b : ℕ) → b < 0x20 → Stops.holds b ≡ true }
+    ensures same_room { length out.new ≡ length out.old }
+    ensures run { IsRunPut Stops.holds out.old at (take size bytes.now) from result out.new }
+    ensures stops { result.read < size → Stops.holds (get_or (take size bytes.now) result.read 0) ≡ true }
+{
+    let mut put = Put {
+        read: from,
+        end: at,
+    };
+    if size - from >= FEW {
+        while put.read < size && bytes.len() - put.read >= 16 {
+            let v = u8x16::from_slice(&bytes[put.read..]);
+            let next = put_block::<Stops>(out, put, bytes, size, v);
+            if next.read < put.read + 16 {
+                return next;
+            }
+            put = next;
+        }
+        if size - put.read >= 8 {
+            let v = first_16(&bytes[put.read..]);
+            put = put_block::<Stops>(out, put, bytes, size, v);
+        }
+    }
+    while put.read < size && !Stops::contains(bytes[put.read]) {
+        let end = put_byte(out, put.end, bytes[put.read]);
+        put = Put {
+            read: put.read + 1,
+            end,
+        };
+    }
+    put
+}
+
+// Puts the bytes of a block up to a stop.
+#[inline(always)]
+fn put_block<Stops: ByteClass>(
+    out: &mut [u8],
+    so_far: Put,
+    bytes: &[u8],
+    size: usize,
+    v: u8x16,
+) -> Put
+    requires size { size ≤ length bytes.now }
+    requires from { so_far.read ≤ size }
+    requires room { so_far.end + 32 ≤ length out.old }
+    requires controls { (b : ℕ) → b < 0x20 → Stops.holds b ≡ true }
+    requires block { take (length bytes.now - so_far.read) (take 16 v) ≡ take 16 (drop so_far.read bytes.now) }
+    ensures same_room { length out.new ≡ length out.old }
+    ensures run { IsRunPut Stops.holds out.old so_far.end (take size bytes.now) so_far.read result out.new }
+    ensures stops { result.read < so_far.read + 16 → result.read < size
+        → Stops.holds (get_or (take size bytes.now) result.read 0) ≡ true }
+{
+    let kept = Stops::marks(v).front().min(size - so_far.read);
+    let end = put_16(out, so_far.end, v, kept);
+    Put {
+        read: so_far.read + kept,
+        end,
+    }
+}
