@@ -7,8 +7,8 @@ use Rattle.std.specs.Prelude.{◌⊎◌, Option, Some, None, map, string_bytes}
 use Rattle.std.specs.declared.string.String.{String}
 use Rattle.properties_format.specs.Encoding.{Encoding, windows_1252, utf_8, utf_16le, utf_16be}
 use Rattle.properties_format.specs.Names.{name_of}
-use Rattle.properties_tools.specs.Private.Propedit.Asked.{Choice, in_encoding, from_file, edits_file, with_default, with_zero, choice_words, words_of_choices}
-use Rattle.properties_tools.specs.Private.Propedit.Asked.{Kind, of_encoding, of_source, of_default, of_end, kind_of, AreDistinctOptions, Choices, no_choices, with_choice, all_choices}
+use Rattle.properties_tools.specs.Propedit.Asked.{Choice, in_encoding, from_file, edits_file, with_default, with_zero, choice_words, words_of_choices}
+use Rattle.properties_tools.specs.Propedit.Asked.{Kind, of_encoding, of_source, of_default, of_end, kind_of, AreDistinctOptions, Choices, no_choices, with_choice, all_choices}
 use Rattle.properties_tools.specs.Private.Propedit.AskedParts.{IsFree, IsNextChoice, IsWithChoice, HasChosen, AreChosen, AreChosenAfter}
 
 -- ---- words

@@ -3,8 +3,8 @@ use Rattle.std.proofs.Common.{◌≡◌, ◌≢◌, ◌<◌, ℕ, List, [], ◌�
 use Rattle.std.specs.Prelude.{Option, Some, None, codes, string_bytes}
 use Rattle.std.specs.declared.string.String.{String}
 use Rattle.properties_format.specs.Edits as format
-use Rattle.properties_tools.specs.Private.Propedit.Asked.{Edit, set, remove, in_characters, in_encoding, from_file, edits_file, with_default, with_zero, Choices, all_choices}
-use Rattle.properties_tools.specs.Private.Propedit.Asked.{Command, get, list, check, change, words_of, AreWordsOf, Suits, Request, help, version, work_request, AsksAfter, AsksSome, IsAsked, chosen_encoding}
+use Rattle.properties_tools.specs.Propedit.Asked.{Edit, set, remove, in_characters, in_encoding, from_file, edits_file, with_default, with_zero, Choices, all_choices}
+use Rattle.properties_tools.specs.Propedit.Asked.{Command, get, list, check, change, words_of, AreWordsOf, Suits, Request, help, version, work_request, AsksAfter, AsksSome, IsAsked, chosen_encoding}
 use Rattle.properties_tools.specs.Private.Propedit.AskedParts.{IsNextChoice, AreChosen, IsQuestion, IsCommand, AreCommand, IsWorkAsked, AsksSomeWork, IsAskedAfter, AsksSomeAfter, AreEdits, IsPlain}
 use Rattle.properties_tools.proofs.Choosing.{chosen-alone, letter}
 

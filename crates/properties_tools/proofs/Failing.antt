@@ -4,7 +4,7 @@ use Rattle.std.specs.Prelude.{Option, Some, None, codes}
 use Rattle.std.specs.Fmt.{decimal}
 use Rattle.properties_format.specs.Text.{line_feed}
 use Rattle.properties_tools.specs.Messages.{printed_line}
-use Rattle.properties_tools.specs.Private.Propedit.Failures.{number_of, place_of, message, IsReasonOf, IsMessageLine}
+use Rattle.properties_tools.specs.Propedit.Failures.{number_of, place_of, message, IsReasonOf, IsMessageLine}
 use Rattle.properties_tools.specs.declared.propedit.error.Failure.{Failure}
 
 -- a line without a number, as it is printed

@@ -23,7 +23,7 @@ use Rattle.properties_lines.specs.declared.scanner.Front.TheVariants.{Mark, Feed
 use Rattle.properties_lines.specs.declared.scanner.RawLine.{RawLine}
 use Rattle.properties_lines.specs.declared.scanner.Scanner.{Scanner}
 use Rattle.properties_lines.proofs.HeldLines.{body-next, body-after, body-lines_left}
-use Rattle.properties_tools.specs.Private.Propedit.Lines.{AreIllFormed, AreIllFormedIn, HasIllFormedIn, IsFound}
+use Rattle.properties_tools.specs.Propedit.Lines.{AreIllFormed, AreIllFormedIn, HasIllFormedIn, IsFound}
 use Rattle.properties_tools.proofs.FewLines.{few-held}
 
 -- ---- the numbers, computed

@@ -16,7 +16,7 @@ use Rattle.java_properties.specs.ReadLines.{StopsMalformed, StopsReading, entrie
 use Rattle.java_properties.proofs.TextMaps.Values.{value_at_text_sorted}
 use Rattle.properties_items.specs.declared.error.ErrorKind.TheVariants as kind
 use Rattle.properties_items.specs.declared.error.PropertiesError.{PropertiesError}
-use Rattle.properties_tools.specs.Private.Propedit.Sources.{IsSound}
+use Rattle.properties_tools.specs.Propedit.Sources.{IsSound}
 use Rattle.properties_tools.proofs.SliceReads.{slice_reader, slice-read, slice-whole, slice-faultless}
 use Rattle.properties_tools.proofs.Slices.{slice-numbered}
 use Rattle.properties_tools.proofs.Sound.{sound-unbroken}

@@ -15,7 +15,7 @@ use Rattle.properties_items.specs.declared.error.ErrorKind.TheVariants as kind
 use Rattle.properties_items.specs.declared.error.PropertiesError.{PropertiesError}
 use Rattle.properties_items.specs.declared.findings.KeyLine.{KeyLine}
 use Rattle.properties_items.specs.declared.findings.MalformedEscape.{MalformedEscape}
-use Rattle.properties_tools.specs.Private.Propedit.Sources.{FindsKeysIn, FindsMalformedIn}
+use Rattle.properties_tools.specs.Propedit.Sources.{FindsKeysIn, FindsMalformedIn}
 use Rattle.properties_tools.proofs.FewLines.{few-passed}
 use Rattle.properties_tools.proofs.SliceReads.{slice_reader, slice-read, slice-whole, slice-faultless}
 

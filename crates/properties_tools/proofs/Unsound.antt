@@ -6,8 +6,8 @@ use Rattle.properties_format.specs.MalformedEscapes as format
 use Rattle.properties_format.specs.MalformedEscapes.{AreMalformedEscapes}
 use Rattle.java_properties.specs.MalformedEscapes.{escape_record, escape_records}
 use Rattle.properties_items.specs.declared.findings.MalformedEscape.{MalformedEscape}
-use Rattle.properties_tools.specs.Private.Propedit.Lines.{AreIllFormedLines, HasIllFormed}
-use Rattle.properties_tools.specs.Private.Propedit.Sources.{HasMalformed, IsFirstMalformed}
+use Rattle.properties_tools.specs.Propedit.Lines.{AreIllFormedLines, HasIllFormed}
+use Rattle.properties_tools.specs.Propedit.Sources.{HasMalformed, IsFirstMalformed}
 
 -- a list without a first element is empty
 none-first : {X : Type 0} (xs : List X) → None ≡ slice_get xs 0 → xs ≡ []

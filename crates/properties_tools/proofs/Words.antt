@@ -8,7 +8,7 @@ use Rattle.std.proofs.lemmas.List.{length-append, length-map, map-append, take_r
 use Rattle.properties_format.specs.Edits as format
 use Rattle.java_properties.specs.Editing.{edit_in, edits_in}
 use Rattle.properties_editing.specs.declared.edit.Edit as editor
-use Rattle.properties_tools.specs.Private.Propedit.Asked.{Edit, set, remove, in_characters, edit_words, words_of, AreWordsOfEdits}
+use Rattle.properties_tools.specs.Propedit.Asked.{Edit, set, remove, in_characters, edit_words, words_of, AreWordsOfEdits}
 use Rattle.properties_tools.specs.Private.Propedit.AskedParts.{AreEdits, AreEditsOf, IsEditCount, IsNextEdit}
 
 -- ---- the first of some texts

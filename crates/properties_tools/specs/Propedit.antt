@@ -18,9 +18,9 @@ use Rattle.properties_format.specs.Encoding.{Encoding}
 use Rattle.properties_text.specs.Encoding.{encoding_of}
 use Rattle.java_properties.specs.WholeSources.{GivesWhole, ReadsSource, WritesSource}
 use Rattle.properties_items.specs.declared.error.PropertiesError.{PropertiesError}
-use Rattle.properties_tools.specs.Private.Propedit.Answers.{name_of, Answers as Gives}
-use Rattle.properties_tools.specs.Private.Propedit.Change.{Changes}
-use Rattle.properties_tools.specs.Private.Propedit.Failures.{standard_output, PrintsFailure}
+use Rattle.properties_tools.specs.Propedit.Answers.{name_of, Answers as Gives}
+use Rattle.properties_tools.specs.Propedit.Change.{Changes}
+use Rattle.properties_tools.specs.Propedit.Failures.{standard_output, PrintsFailure}
 use Rattle.properties_tools.specs.declared.propedit.answers.Answer.{Answer}
 use Rattle.properties_tools.specs.declared.propedit.asked.Work.{Work}
 use Rattle.properties_tools.specs.declared.propedit.error.Failure.{Failure}

@@ -16,7 +16,7 @@ ghost use Rattle.counted_io.specs.Streams.{IsSameReader, IsSameSink};
 ghost use Rattle.properties_text.specs.Encoding.{encoding_of};
 ghost use Rattle.java_properties.specs.Editing.{edits_in};
 ghost use Rattle.properties_tools.specs.Messages.{printed_line, HasPrintedLine};
-ghost use Rattle.properties_tools.specs.Private.Propedit.{memory_words, not_utf_8, Ends, Prints, Replaces, Runs, Shows};
+ghost use Rattle.properties_tools.specs.Propedit.{memory_words, not_utf_8, Ends, Prints, Replaces, Runs, Shows};
 
 use crate::messages::say;
 use crate::propedit::answers::{answer_to, name};

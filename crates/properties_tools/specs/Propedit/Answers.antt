@@ -6,11 +6,11 @@ use Rattle.properties_format.specs.Encoding.{Encoding}
 use Rattle.properties_text.specs.Encoding.{encoding_of}
 use Rattle.java_properties.specs.Editing.{edits_in}
 use Rattle.java_properties.specs.Maps.{characters}
-use Rattle.properties_tools.specs.Private.Propedit.Change.{Changes}
-use Rattle.properties_tools.specs.Private.Propedit.Check.{IsReport}
-use Rattle.properties_tools.specs.Private.Propedit.Failures.{LacksMemory}
-use Rattle.properties_tools.specs.Private.Propedit.Get.{Gets}
-use Rattle.properties_tools.specs.Private.Propedit.Listing.{Lists}
+use Rattle.properties_tools.specs.Propedit.Change.{Changes}
+use Rattle.properties_tools.specs.Propedit.Check.{IsReport}
+use Rattle.properties_tools.specs.Propedit.Failures.{LacksMemory}
+use Rattle.properties_tools.specs.Propedit.Get.{Gets}
+use Rattle.properties_tools.specs.Propedit.Listing.{Lists}
 use Rattle.properties_tools.specs.declared.propedit.answers.Answer.{Answer}
 use Rattle.properties_tools.specs.declared.propedit.asked.Command.{Command}
 use Rattle.properties_tools.specs.declared.propedit.asked.Command.TheVariants.{Get, Check, Change}

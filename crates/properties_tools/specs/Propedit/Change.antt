@@ -5,7 +5,7 @@ use Rattle.properties_format.specs.Edits.{Edit, IsEditAllResult}
 use Rattle.properties_format.specs.Encoding.{Encoding}
 use Rattle.java_properties.specs.Editing.{AreMade, IsRefusal}
 use Rattle.properties_items.specs.declared.error.PropertiesError.{PropertiesError}
-use Rattle.properties_tools.specs.Private.Propedit.Sources.{IsSound, IsUnsound}
+use Rattle.properties_tools.specs.Propedit.Sources.{IsSound, IsUnsound}
 use Rattle.properties_tools.specs.declared.propedit.error.Failure.{Failure}
 use Rattle.properties_tools.specs.declared.propedit.error.Failure.TheVariants.{Input}
 

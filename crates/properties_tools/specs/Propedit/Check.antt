@@ -12,8 +12,8 @@ use Rattle.java_properties.specs.MalformedEscapes.{escape_records}
 use Rattle.properties_items.specs.declared.error.ErrorKind.TheVariants as kind
 use Rattle.properties_items.specs.declared.error.PropertiesError.{PropertiesError}
 use Rattle.properties_items.specs.declared.findings.MalformedEscape.{MalformedEscape}
-use Rattle.properties_tools.specs.Private.Propedit.Failures.{escape_reason}
-use Rattle.properties_tools.specs.Private.Propedit.Lines.{AreIllFormedLines}
+use Rattle.properties_tools.specs.Propedit.Failures.{escape_reason}
+use Rattle.properties_tools.specs.Propedit.Lines.{AreIllFormedLines}
 
 -- ---- lines
 

@@ -3,7 +3,7 @@ use Rattle.std.specs.Prelude.{◌≡◌, ◌⊎◌, ℕ, Bool, true, false, List
 use Rattle.std.specs.Fmt.{◌++?◌}
 use Rattle.counted_io.specs.Streams.{Sink}
 use Rattle.properties_tools.specs.Messages.{printed_line, HasPrintedLine}
-use Rattle.properties_tools.specs.Private.Propedit.Failures.{message, PrintsFailure}
+use Rattle.properties_tools.specs.Propedit.Failures.{message, PrintsFailure}
 use Rattle.properties_tools.specs.declared.propedit.error.Failure.{Failure}
 use Rattle.properties_tools.specs.declared.propedit.in_place.Problem.{Problem}
 use Rattle.properties_tools.specs.declared.propedit.in_place.Problem.TheVariants as problem

@@ -4,8 +4,8 @@ ghost use Rattle.std.specs.Prelude.{◌≡◌, ◌++◌, OnOk};
 ghost use Rattle.std.specs.Str.{chars};
 ghost use Rattle.java_properties.specs.Editing.{edits_in};
 ghost use Rattle.properties_text.specs.Encoding.{encoding_of};
-ghost use Rattle.properties_tools.specs.Private.Propedit.Answers.{Answers, Checks, ChangesTo, name_of};
-ghost use Rattle.properties_tools.specs.Private.Propedit.Texts.{end_byte, ended};
+ghost use Rattle.properties_tools.specs.Propedit.Answers.{Answers, Checks, ChangesTo, name_of};
+ghost use Rattle.properties_tools.specs.Propedit.Texts.{end_byte, ended};
 
 use crate::propedit::asked::{Command, Source, TextEnd, Work};
 use crate::propedit::change::change;

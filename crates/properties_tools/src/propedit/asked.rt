@@ -6,7 +6,7 @@ mod edits;
 
 ghost use Rattle.std.specs.Prelude.{map, string_bytes, IfOk, OnErr};
 ghost use Rattle.std.specs.Option.{option_map};
-ghost use Rattle.properties_tools.specs.Private.Propedit.Asked.{request_of, work_of, AsksSome, IsAsked};
+ghost use Rattle.properties_tools.specs.Propedit.Asked.{request_of, work_of, AsksSome, IsAsked};
 ghost use Rattle.properties_tools.specs.Private.Propedit.AskedParts.{choices_of, AsksSomeAfter, AsksSomeWork, IsAskedAfter, IsWork, IsWorkAsked};
 
 use crate::propedit::asked::choices::{Choices, choices_in};

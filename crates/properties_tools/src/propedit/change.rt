@@ -2,7 +2,7 @@
 
 ghost use Rattle.properties_text.specs.Encoding.{encoding_of};
 ghost use Rattle.java_properties.specs.Editing.{edits_in};
-ghost use Rattle.properties_tools.specs.Private.Propedit.Change.{Changes};
+ghost use Rattle.properties_tools.specs.Propedit.Change.{Changes};
 
 use crate::propedit::error::Failure;
 use crate::propedit::source::refuse_unsound;

@@ -4,8 +4,8 @@ ghost use Rattle.std.specs.Prelude.{◌≡◌, ◌++◌, OnOk};
 ghost use Rattle.std.specs.String.{string_bytes};
 ghost use Rattle.java_properties.specs.KeyLines.{key_line_entry, key_line_entries};
 ghost use Rattle.properties_text.specs.Encoding.{encoding_of};
-ghost use Rattle.properties_tools.specs.Private.Propedit.Failures.{comment_words};
-ghost use Rattle.properties_tools.specs.Private.Propedit.Check.{escape_lines, ill_formed_lines, repeat_line, repeat_lines, Reports};
+ghost use Rattle.properties_tools.specs.Propedit.Failures.{comment_words};
+ghost use Rattle.properties_tools.specs.Propedit.Check.{escape_lines, ill_formed_lines, repeat_line, repeat_lines, Reports};
 
 use crate::propedit::lines::ill_formed_lines;
 use crate::propedit::source::{keys_in, malformed_in};

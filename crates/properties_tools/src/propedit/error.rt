@@ -2,7 +2,7 @@
 
 ghost use Rattle.std.specs.Prelude.{◌≡◌, IfOk, string_bytes};
 ghost use Rattle.counted_io.specs.Streams.{IsSameSink};
-ghost use Rattle.properties_tools.specs.Private.Propedit.Failures.{escape_reason, number_of, place_of, IsErrorReason, IsMessageLine, IsReasonOf, LacksMemory, PrintsFailure};
+ghost use Rattle.properties_tools.specs.Propedit.Failures.{escape_reason, number_of, place_of, IsErrorReason, IsMessageLine, IsReasonOf, LacksMemory, PrintsFailure};
 
 use crate::messages::say;
 use counted_io::CountedWrite;

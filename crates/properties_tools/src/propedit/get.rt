@@ -4,8 +4,8 @@ ghost use Rattle.std.specs.Prelude.{IfOk};
 ghost use Rattle.std.specs.Option.{option_map};
 ghost use Rattle.std.specs.Str.{chars};
 ghost use Rattle.properties_text.specs.Encoding.{encoding_of};
-ghost use Rattle.properties_tools.specs.Private.Propedit.Get.{Gets, LooksUp, Prints};
-ghost use Rattle.properties_tools.specs.Private.Propedit.Texts.{borrowed_characters};
+ghost use Rattle.properties_tools.specs.Propedit.Get.{Gets, LooksUp, Prints};
+ghost use Rattle.properties_tools.specs.Propedit.Texts.{borrowed_characters};
 
 use crate::propedit::answers::{Answer, push_ended};
 use crate::propedit::asked::TextEnd;

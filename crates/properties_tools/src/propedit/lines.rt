@@ -4,7 +4,7 @@ ghost use Rattle.std.specs.Prelude.{◌≡◌, [], ◌∷◌, ◌++◌, OnOk, if
 ghost use Rattle.std.specs.Str.{is_utf8};
 ghost use Rattle.properties_text.specs.Encoding.{encoding_of};
 ghost use Rattle.properties_lines.specs.Scanner.{bytes_of};
-ghost use Rattle.properties_tools.specs.Private.Propedit.Lines.{FindsIllFormed, FindsIllFormedIn, IsUtf8Body, IsFound};
+ghost use Rattle.properties_tools.specs.Propedit.Lines.{FindsIllFormed, FindsIllFormedIn, IsUtf8Body, IsFound};
 
 use java_properties::{Encoding, PropertiesError};
 use properties_lines::scanner::{RawLine, Scan, Scanner};

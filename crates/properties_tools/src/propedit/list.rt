@@ -4,7 +4,7 @@ ghost use Rattle.std.specs.Prelude.{◌≡◌, IfOk};
 ghost use Rattle.std.specs.Str.{chars};
 ghost use Rattle.java_properties.specs.KeyLines.{key_line_entry, key_line_entries};
 ghost use Rattle.properties_text.specs.Encoding.{encoding_of};
-ghost use Rattle.properties_tools.specs.Private.Propedit.Listing.{Lists, PrintsKeys, is_key_listed};
+ghost use Rattle.properties_tools.specs.Propedit.Listing.{Lists, PrintsKeys, is_key_listed};
 
 use crate::propedit::answers::{Answer, push_ended};
 use crate::propedit::asked::TextEnd;

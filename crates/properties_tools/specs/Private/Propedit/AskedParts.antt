@@ -17,9 +17,9 @@ use Rattle.properties_tools.specs.declared.propedit.asked.commands.Question as q
 use Rattle.properties_tools.specs.declared.propedit.asked.commands.Question.TheVariants as Asked
 use Rattle.properties_tools.specs.declared.propedit.asked.edits.BorrowedEdit.{BorrowedEdit}
 use Rattle.properties_tools.specs.declared.propedit.asked.edits.BorrowedEdit.TheVariants as Borrowed
-use Rattle.properties_tools.specs.Private.Propedit.Asked.{Source, standard_input, file, in_place, Choice, in_encoding, from_file, edits_file, with_default, with_zero, choice_words, words_of_choices}
-use Rattle.properties_tools.specs.Private.Propedit.Asked.{Kind, of_encoding, of_source, of_default, of_end, kind_of, AreDistinctOptions, Choices, with_choice, all_choices, Edit, set, remove}
-use Rattle.properties_tools.specs.Private.Propedit.Asked.{edit_words, words_of, AreWordsOfEdits, Command, get, list, check, change, AreWordsOf, Suits, Work, Request, work_request, AsksWork, AsksAfter}
+use Rattle.properties_tools.specs.Propedit.Asked.{Source, standard_input, file, in_place, Choice, in_encoding, from_file, edits_file, with_default, with_zero, choice_words, words_of_choices}
+use Rattle.properties_tools.specs.Propedit.Asked.{Kind, of_encoding, of_source, of_default, of_end, kind_of, AreDistinctOptions, Choices, with_choice, all_choices, Edit, set, remove}
+use Rattle.properties_tools.specs.Propedit.Asked.{edit_words, words_of, AreWordsOfEdits, Command, get, list, check, change, AreWordsOf, Suits, Work, Request, work_request, AsksWork, AsksAfter}
 
 -- the bytes of a text that is borrowed
 abbrev pub borrowed_bytes : {Z : Type 0} → Bor (String Z) → List ℕ

@@ -3,7 +3,7 @@
 ghost use Rattle.std.specs.Prelude.{◌↔◌, ◌≡◌, map, string_bytes, IfOk, IsTrue};
 ghost use Rattle.std.specs.Option.{option_map};
 ghost use Rattle.properties_text.specs.Encoding.{encoding_of};
-ghost use Rattle.properties_tools.specs.Private.Propedit.Asked.{chosen_encoding, in_encoding, no_choices, source_of, with_default, with_zero, IsInPlace};
+ghost use Rattle.properties_tools.specs.Propedit.Asked.{chosen_encoding, in_encoding, no_choices, source_of, with_default, with_zero, IsInPlace};
 ghost use Rattle.properties_tools.specs.Private.Propedit.AskedParts.{choice_of, choices_next, choices_of, next_of, source_choice, AreChosen, AreChosenAfter, IsChoiceWith, IsEncodingChoice, IsNextChoice, IsNextWithValue, IsPlain, IsWithChoice, IsWithSource};
 
 use crate::propedit::asked::{Source, TextEnd};

@@ -2,7 +2,7 @@
 
 ghost use Rattle.std.specs.Prelude.{◌∷◌, ◌≡◌, codes, map, string_bytes, IfOk, OnErr};
 ghost use Rattle.std.specs.Option.{option_map};
-ghost use Rattle.properties_tools.specs.Private.Propedit.Asked.{command_of, IsInPlace};
+ghost use Rattle.properties_tools.specs.Propedit.Asked.{command_of, IsInPlace};
 ghost use Rattle.properties_tools.specs.Private.Propedit.AskedParts.{borrowed_bytes, choices_of, question_command, AreCommand, IsCommand, IsQuestion};
 
 use crate::propedit::asked::choices::Choices;

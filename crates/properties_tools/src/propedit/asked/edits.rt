@@ -3,7 +3,7 @@
 ghost use Rattle.std.specs.Prelude.{◌≡◌, map, string_bytes, IfOk, OnErr};
 ghost use Rattle.std.specs.Option.{option_map};
 ghost use Rattle.java_properties.specs.Editing.{edit_in};
-ghost use Rattle.properties_tools.specs.Private.Propedit.Asked.{in_characters, vec_edits, AreWordsOfEdits};
+ghost use Rattle.properties_tools.specs.Propedit.Asked.{in_characters, vec_edits, AreWordsOfEdits};
 ghost use Rattle.properties_tools.specs.Private.Propedit.AskedParts.{borrowed_edit, edit_next, AreEdits, AreEditsOf, IsEditCount, IsNextEdit, IsSetNext};
 
 use java_properties::Edit;

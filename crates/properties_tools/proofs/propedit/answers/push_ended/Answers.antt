@@ -2,7 +2,7 @@ use Rattle.std.proofs.Common.{◌≡◌, ℕ, List, [], ◌∷◌, ◌++◌, ap,
 use Rattle.std.specs.Prelude.{encode_utf8_all}
 use Rattle.std.specs.Str.{chars, IsUtf8}
 use Rattle.std.proofs.lemmas.Str.{encodes-chars}
-use Rattle.properties_tools.specs.Private.Propedit.Texts.{end_byte, ended}
+use Rattle.properties_tools.specs.Propedit.Texts.{end_byte, ended}
 use Rattle.properties_tools.specs.declared.propedit.asked.TextEnd.{TextEnd}
 use Rattle.properties_tools.proofs.propedit.answers.push_ended.Goals as goal
 

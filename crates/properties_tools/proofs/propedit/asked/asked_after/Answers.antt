@@ -2,7 +2,7 @@ use Rattle.std.proofs.Common.{◌∷◌, map, drop, inl, inr, ap, ◌∙◌}
 use Rattle.std.specs.Prelude.{string_bytes}
 use Rattle.std.specs.Option.{option_map}
 use Rattle.std.proofs.lemmas.Result.{IfOk-weaker}
-use Rattle.properties_tools.specs.Private.Propedit.Asked.{request_of}
+use Rattle.properties_tools.specs.Propedit.Asked.{request_of}
 use Rattle.properties_tools.specs.Private.Propedit.AskedParts.{choices_of, IsAskedAfter, IsWorkAsked}
 use Rattle.properties_tools.proofs.Commands.{asked-dashes, asked-nothing, asked-others, asks-dashes, asks-others}
 use Rattle.properties_tools.proofs.Words.{first-word, follows-at-error, rest-words}

@@ -2,7 +2,7 @@ use Rattle.std.proofs.Common.{map}
 use Rattle.std.specs.Prelude.{string_bytes}
 use Rattle.std.specs.Option.{option_map}
 use Rattle.std.proofs.lemmas.Result.{IfOk-weaker}
-use Rattle.properties_tools.specs.Private.Propedit.Asked.{request_of, IsAsked}
+use Rattle.properties_tools.specs.Propedit.Asked.{request_of, IsAsked}
 use Rattle.properties_tools.specs.Private.Propedit.AskedParts.{choices_of, IsAskedAfter}
 use Rattle.properties_tools.proofs.Commands.{asked-twice, asked-whole, asks-whole}
 use Rattle.properties_tools.proofs.Words.{follows-at-error}

@@ -1,7 +1,7 @@
 use Rattle.std.proofs.Common.{map}
 use Rattle.std.specs.Prelude.{string_bytes}
 use Rattle.properties_text.proofs.TextFronts.{at-error}
-use Rattle.properties_tools.specs.Private.Propedit.Asked.{command_of}
+use Rattle.properties_tools.specs.Propedit.Asked.{command_of}
 use Rattle.properties_tools.specs.Private.Propedit.AskedParts.{choices_of}
 use Rattle.properties_tools.proofs.Commands.{work-of}
 use Rattle.properties_tools.proofs.propedit.asked.work_in.Goals as goal

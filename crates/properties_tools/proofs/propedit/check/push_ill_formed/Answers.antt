@@ -1,7 +1,7 @@
 use Rattle.std.proofs.Common.{List, ℕ, get_or, refl}
 use Rattle.std.specs.Prelude.{codes}
 use Rattle.std.proofs.Math.Seq.{drop-cons}
-use Rattle.properties_tools.specs.Private.Propedit.Check.{finding, ill_formed_lines}
+use Rattle.properties_tools.specs.Propedit.Check.{finding, ill_formed_lines}
 use Rattle.properties_tools.proofs.Reports.{line-added}
 use Rattle.properties_tools.proofs.propedit.check.push_ill_formed.Goals as goal
 

@@ -1,6 +1,6 @@
 use Rattle.std.proofs.Common.{◌≡◌, ◌++◌, drop}
 use Rattle.std.specs.Prelude.{string_bytes}
-use Rattle.properties_tools.specs.Private.Propedit.Check.{ill_formed_lines}
+use Rattle.properties_tools.specs.Propedit.Check.{ill_formed_lines}
 use Rattle.properties_tools.proofs.propedit.check.push_ill_formed.Given as goal
 
 abbrev pub invariant-loop-number : goal.invariant-loop-number

@@ -1,6 +1,6 @@
 use Rattle.std.proofs.Common.{◌≡◌, ◌++◌, drop}
 use Rattle.std.specs.Prelude.{string_bytes}
-use Rattle.properties_tools.specs.Private.Propedit.Check.{escape_lines}
+use Rattle.properties_tools.specs.Propedit.Check.{escape_lines}
 use Rattle.properties_tools.proofs.propedit.check.push_malformed.Given as goal
 
 abbrev pub invariant-loop-escape : goal.invariant-loop-escape

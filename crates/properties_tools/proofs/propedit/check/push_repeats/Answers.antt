@@ -1,7 +1,7 @@
 use Rattle.std.proofs.Common.{List, ℕ, ◌∷◌, drop, suc, refl, sym, ap, ◌∙◌}
 use Rattle.std.proofs.Math.Seq.{drop-cons}
 use Rattle.java_properties.specs.KeyLines.{key_line_entry, key_line_entries}
-use Rattle.properties_tools.specs.Private.Propedit.Check.{repeat_line, repeat_lines}
+use Rattle.properties_tools.specs.Propedit.Check.{repeat_line, repeat_lines}
 use Rattle.properties_tools.proofs.Reports.{line-added}
 use Rattle.properties_tools.proofs.propedit.check.push_repeats.Goals as goal
 

@@ -1,7 +1,7 @@
 use Rattle.std.proofs.Common.{◌≡◌, ◌++◌, drop}
 use Rattle.std.specs.Prelude.{string_bytes}
 use Rattle.java_properties.specs.KeyLines.{key_line_entries}
-use Rattle.properties_tools.specs.Private.Propedit.Check.{repeat_lines}
+use Rattle.properties_tools.specs.Propedit.Check.{repeat_lines}
 use Rattle.properties_tools.proofs.propedit.check.push_repeats.Given as goal
 
 abbrev pub invariant-loop-key : goal.invariant-loop-key

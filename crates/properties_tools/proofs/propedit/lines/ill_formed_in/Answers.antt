@@ -1,6 +1,6 @@
 use Rattle.std.proofs.Common.{ap, sym, subst, arith}
 use Rattle.properties_text.specs.Encoding.{encoding_of}
-use Rattle.properties_tools.specs.Private.Propedit.Lines.{IsFound}
+use Rattle.properties_tools.specs.Propedit.Lines.{IsFound}
 use Rattle.properties_tools.proofs.IllFormed.{found-none, found-line, found-next, found-fewer, found-numbered, found-all}
 use Rattle.properties_tools.proofs.propedit.lines.ill_formed_in.Goals as goal
 

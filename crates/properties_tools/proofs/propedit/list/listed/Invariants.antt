@@ -1,8 +1,8 @@
 use Rattle.std.proofs.Common.{◌≡◌, take}
 use Rattle.std.specs.Str.{chars}
 use Rattle.java_properties.specs.KeyLines.{key_line_entries}
-use Rattle.properties_tools.specs.Private.Propedit.Listing.{listed_keys}
-use Rattle.properties_tools.specs.Private.Propedit.Texts.{ended_all}
+use Rattle.properties_tools.specs.Propedit.Listing.{listed_keys}
+use Rattle.properties_tools.specs.Propedit.Texts.{ended_all}
 use Rattle.properties_tools.proofs.propedit.list.listed.Given as goal
 
 abbrev pub invariant-loop-key : goal.invariant-loop-key

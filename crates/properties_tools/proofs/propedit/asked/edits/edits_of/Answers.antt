@@ -1,6 +1,6 @@
 use Rattle.std.proofs.Common.{map}
 use Rattle.std.specs.Prelude.{string_bytes}
-use Rattle.properties_tools.specs.Private.Propedit.Asked.{vec_edits}
+use Rattle.properties_tools.specs.Propedit.Asked.{vec_edits}
 use Rattle.properties_tools.specs.Private.Propedit.AskedParts.{borrowed_edit}
 use Rattle.properties_tools.proofs.Words.{fewer-words, made-all, made-more, made-none}
 use Rattle.properties_tools.proofs.propedit.asked.edits.edits_of.Goals as goal
