@@ -332,6 +332,7 @@ module _ {R : Type 0} {reader : Reader R} where
 
 -- ---- what is known of a line
 
+-- a line holds no backslash if its flag says so
 pub known-plain : (f : Finder) (has_backslash : Bool) → HasRightLineFlags f → has_backslash ≡ f.has_backslash → has_backslash ≡ false
     → holds_backslash f.line ≡ false
 known-plain f has_backslash h told k = sym (h 0 0).backslash ∙ sym told ∙ k
@@ -537,11 +538,13 @@ module _ {R : Type 0} {reader : Reader R} where
 
 -- ---- the rest of a logical line
 
+-- the bytes of a borrowed line
 natural-bytes : (place : Place) (natural decoded joined : List ℕ) → is_natural place ≡ true → bytes_at place natural decoded joined ≡ natural
 natural-bytes Natural natural decoded joined h = refl
 natural-bytes Decoded natural decoded joined h = absurd (cc)
 natural-bytes Joined natural decoded joined h = absurd (cc)
 
+-- the bytes of a joined line
 joined-bytes : (place : Place) (natural decoded joined : List ℕ) → place ≡ Joined
     → (bytes_at place natural decoded joined ≡ joined) × (is_natural place ≡ false)
 joined-bytes place natural decoded joined h = rw h (refl, refl)

@@ -55,12 +55,14 @@ other-in utf_16le Utf8 bytes same h = refl
 other-in utf_16be Windows1252 bytes same h = absurd (cc)
 other-in utf_16be Utf8 bytes same h = refl
 
+-- A text in UTF-8 is a line of UTF-8.
 pub decoded-in : (to : LineEncoding) (bytes text : List ℕ) → to ≡ Utf8 → IsUtf8 bytes → chars bytes ≡ text → IsBytesOf to bytes text
 decoded-in Windows1252 bytes text same u h = absurd (cc)
 decoded-in Utf8 bytes text same u h = record { well = u; is = h }
 
 -- ---- joining
 
+-- What decides how a line is joined, and its parts.
 pub record JoinsAlike (e : LineEncoding) (d : List ℕ) : Type 0 where
   pub comment : is_comment_line (text_in e d) ≡ is_comment_line d
   pub opens : is_open (text_in e d) ≡ is_open d
@@ -69,6 +71,7 @@ pub record JoinsAlike (e : LineEncoding) (d : List ℕ) : Type 0 where
   pub adds : text_in e (addition d) ≡ addition (text_in e d)
   pub adds_well : IsWell e (addition d)
 
+-- They are the same in bytes and in text.
 pub joins-alike : (e : LineEncoding) (d : List ℕ) → IsWell e d → JoinsAlike e d
 joins-alike Windows1252 d w =
     record { comment = comments d; opens = opens d; closed = sym (closed d); closed_well = tt; adds = sym (added d); adds_well = tt }
@@ -85,15 +88,18 @@ joins-alike Utf8 d w =
       adds_well = added.utf8;
     }
 
+-- Bytes after bytes are text after text.
 text-append : (e : LineEncoding) (a b : List ℕ) → IsWell e a → text_in e (a ++ b) ≡ text_in e a ++ text_in e b
 text-append Windows1252 a b w = map-append windows_1252_character a b
 text-append Utf8 a b w = chars-append a b w
 
+-- They are well-formed.
 well-append : (e : LineEncoding) (a b : List ℕ) → IsWell e a → IsWell e b → IsWell e (a ++ b)
 well-append Windows1252 a b v w = tt
 well-append Utf8 a b v w = IsUtf8-append a b v w
 
 module _ (e : LineEncoding) (bytes text : List ℕ) (b : IsBytesOf e bytes text) where
+  -- A line is continued by its bytes as by its text.
   continued-alike : is_continued text ≡ is_continued bytes
   continued-alike =
       let a = joins-alike e bytes b.well in

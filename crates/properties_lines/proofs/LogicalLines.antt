@@ -25,6 +25,7 @@ backslash-bytes utf_8 = refl
 backslash-bytes utf_16le = refl
 backslash-bytes utf_16be = refl
 
+-- no piece is a backslash then
 unescaped-pieces : (e : Encoding) (d : List ℕ) (ps : List Piece) → IsPieces e d ps → holds_backslash d ≡ false → holds_backslash (characters ps) ≡ false
 unescaped-pieces e d [] h k = refl
 unescaped-pieces e d (p ∷ ps) (rest, same, is, others) k =
@@ -45,6 +46,7 @@ unescaped-decoded e d h = unescaped-pieces e d (pieces_of e d) (pieces_of-meets 
 
 -- ---- windows-1252 and UTF-8
 
+-- a byte of windows-1252 is a backslash exactly if its character is
 holds-bytes : (d : List ℕ) → holds_backslash (characters_of d) ≡ holds_backslash d
 holds-bytes [] = refl
 holds-bytes (b ∷ d) = ap₂ (λ x y. x || y) (same-backslash b) (holds-bytes d)

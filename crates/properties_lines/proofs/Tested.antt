@@ -26,6 +26,7 @@ use Rattle.properties_lines.proofs.ScannerFront.{release}
 
 -- ---- parts of well-formed bytes
 
+-- No bytes are well-formed.
 no-bytes : IsUtf8 []
 no-bytes = ([], (refl, refl))
 
@@ -33,22 +34,28 @@ no-bytes = ([], (refl, refl))
 before-ascii : (bs : List ℕ) (k : ℕ) → IsUtf8 bs → k < length bs → get_or bs k 0 < 128 → IsUtf8 (take k bs)
 before-ascii bs k u l a = IsUtf8-take bs k u (IsCharBoundary-before_ascii bs k l a)
 
+-- What follows it is well-formed.
 after-ascii : (bs : List ℕ) (k : ℕ) → IsUtf8 bs → k < length bs → get_or bs k 0 < 128 → IsUtf8 (drop (k + 1) bs)
 after-ascii bs k u l a = IsUtf8-drop bs (k + 1) u (IsCharBoundary-after_ascii bs k u l a)
 
+-- Nothing is between a place and one before it.
 between-none : (a w : ℕ) (bs : List ℕ) → w ≤ a → between a w bs ≡ []
 between-none a w bs h = ap (λ n. take n (drop a bs)) (let e : w - a ≡ 0 = omega arith in e)
 
+-- How many bytes are between two places.
 pub between-length : (a w : ℕ) (bs : List ℕ) → w ≤ length bs → length (between a w bs) ≡ w - a
 between-length a w bs h = length-take-le (w - a) (drop a bs) (omega (arith, length-drop a bs))
 
+-- One of them.
 between-at : (a w k : ℕ) (bs : List ℕ) → a ≤ k → k < w → get_or (between a w bs) (k - a) 0 ≡ get_or bs k 0
 between-at a w k bs l h =
     get_or-take (w - a) (drop a bs) (k - a) 0 (omega arith) ∙ get_or-drop a bs (k - a) 0 ∙ ap (λ n. get_or bs n 0) (let e : a + (k - a) ≡ k = omega arith in e)
 
+-- The first of them.
 between-take : (a m w : ℕ) (bs : List ℕ) → a ≤ m → m ≤ w → take (m - a) (between a w bs) ≡ between a m bs
 between-take a m w bs l h = take-take (m - a) (w - a) (drop a bs) (omega arith)
 
+-- The others.
 between-drop : (a m w : ℕ) (bs : List ℕ) → a ≤ m → m ≤ w → drop (m - a) (between a w bs) ≡ between m w bs
 between-drop a m w bs l h =
     let sum : w - a ≡ (m - a) + (w - m) = omega arith in
@@ -58,15 +65,18 @@ between-drop a m w bs l h =
 
 -- ---- a line and what follows it
 
+-- A line, what follows it up to a place, and well-formed bytes from its start on.
 pub record IsDivided (held : List ℕ) (start end next well_formed : ℕ) : Type 0 where
   pub line : end ≤ well_formed → IsUtf8 (between start end held)
   pub ahead : IsUtf8 (between next well_formed held)
 
 module _ (held : List ℕ) (start end next w : ℕ) (u : IsUtf8 (between start w held)) (within : w ≤ length held) (order : start ≤ end) (after : end ≤ next)
     (ascii : (k : ℕ) → end ≤ k → k < next → get_or held k 0 < 128) (ends : (end < next) ⊎ (end ≡ length held)) where
+  -- A byte of the ending is ASCII.
   byte-at : (k : ℕ) → end ≤ k → k < next → k < w → get_or (between start w held) (k - start) 0 < 128
   byte-at k l h i = let e = between-at start w k held (omega arith) i in let a = ascii k l h in omega (arith, e, a)
 
+  -- The line is well-formed.
   line-text : end ≤ w → IsUtf8 (between start end held)
   line-text l = elim (cases_lt end w) [
     | inl less ↦ elim ends [
@@ -78,6 +88,7 @@ module _ (held : List ℕ) (start end next w : ℕ) (u : IsUtf8 (between start w
     | inr most ↦ let same : w ≡ end = omega arith in subst (λ n. IsUtf8 (between start n held)) same u
   ]
 
+  -- So is what follows its ending.
   rest-text : IsUtf8 (between next w held)
   rest-text = elim (cases_lt next w) [
     | inl less ↦ elim ends [
@@ -92,6 +103,7 @@ module _ (held : List ℕ) (start end next w : ℕ) (u : IsUtf8 (between start w
     | inr most ↦ subst IsUtf8 (sym (between-none next w held most)) no-bytes
   ]
 
+  -- Both together.
   pub divided : IsDivided held start end next w
   divided = record { line = line-text; ahead = rest-text }
 
@@ -110,12 +122,14 @@ past-one held at w u within a = elim (cases_lt at w) [
 
 -- ---- the ending of a line
 
+-- An ending has a byte.
 some-bytes : (ending : Option text.LineEnding) → ending ≢ None → 0 < length (ending_bytes utf_8 ending)
 some-bytes None h = absurd (h refl)
 some-bytes (Some text.lf) h = omega arith
 some-bytes (Some text.cr) h = omega arith
 some-bytes (Some text.crlf) h = omega arith
 
+-- Its bytes are ASCII.
 small-bytes : (ending : Option text.LineEnding) (k : ℕ) → get_or (ending_bytes utf_8 ending) k 0 < 128
 small-bytes None k = omega arith
 small-bytes (Some text.lf) zero = omega arith
@@ -127,6 +141,7 @@ small-bytes (Some text.crlf) (suc zero) = omega arith
 small-bytes (Some text.crlf) (suc (suc k)) = omega arith
 
 module _ (e : Encoding) (is : e ≡ utf_8) (held : List ℕ) (line : RawLine) (next : ℕ) (cut : IsCutOff e held line next) where
+  -- The ending comes after the line.
   after-line : drop line.end held ≡ ending_bytes utf_8 cut.ending ++ drop next held
   after-line =
       let place : line.start + (line.end - line.start) ≡ line.end = omega (arith, cut.ordered.0) in
@@ -138,11 +153,13 @@ module _ (e : Encoding) (is : e ≡ utf_8) (held : List ℕ) (line : RawLine) (n
       ∙ drop-append_seam (bytes_of held line) (ending_bytes e cut.ending ++ drop next held)
       ∙ ap (λ v. ending_bytes v cut.ending ++ drop next held) is
 
+  -- How long it is.
   ending-size : length (ending_bytes utf_8 cut.ending) ≡ next - line.end
   ending-size =
       let all = ap length after-line in
       omega (arith, all, length-append (ending_bytes utf_8 cut.ending) (drop next held), length-drop line.end held, length-drop next held, cut.ordered.1, cut.ordered.2)
 
+  -- Its bytes are ASCII.
   pub ascii-after : (k : ℕ) → line.end ≤ k → k < next → get_or held k 0 < 128
   ascii-after k l h =
       let place : line.end + (k - line.end) ≡ k = omega arith in
@@ -153,9 +170,11 @@ module _ (e : Encoding) (is : e ≡ utf_8) (held : List ℕ) (line : RawLine) (n
       ∙ get_or_append_left (ending_bytes utf_8 cut.ending) (drop next held) 0 (k - line.end) (omega (arith, ending-size)) in
       omega (arith, at, small-bytes cut.ending (k - line.end))
 
+  -- An ending ends later than the line.
   pub some-ending : cut.ending ≢ None → line.end < next
   some-ending h = omega (arith, ending-size, some-bytes cut.ending h)
 
+  -- A line without one is the last.
   pub no-ending : cut.ending ≡ None → line.end ≡ length held
   no-ending h =
       let rest : drop next held ≡ [] = subst (λ v. EndsWhole e v (drop next held)) h cut.whole in
@@ -164,12 +183,15 @@ module _ (e : Encoding) (is : e ≡ utf_8) (held : List ℕ) (line : RawLine) (n
 
 -- ---- where the next line begins
 
+-- The place stays, or one ASCII byte is skipped.
 abbrev Moves : List ℕ → ℕ → ℕ → Type 0
 Moves held at to = (to ≡ at) ⊎ (to ≡ at + 1) × (get_or held at 0 < 128)
 
+-- Equal rests begin at one place.
 same-place : (held : List ℕ) (at to : ℕ) → at ≤ length held → to ≤ length held → drop at held ≡ drop to held → to ≡ at
 same-place held at to l h e = omega (arith, ap length e, length-drop at held, length-drop to held)
 
+-- An LF at the front is skipped.
 past-feed : (held : List ℕ) (at to : ℕ) → at ≤ length held → to ≤ length held → without_feed utf_8 (drop at held) ≡ drop to held → Moves held at to
 past-feed held at to l h e = elim (cases_Bool (begins_with_lf (drop at held))) [
   | inl t ↦
@@ -194,12 +216,14 @@ moves s held to e d is h l m =
       | inr f ↦ inl (same-place held s.at to l m (rw f at body))
     ]
 
+-- What follows is still well-formed.
 moved-text : (held : List ℕ) (at to w : ℕ) → IsUtf8 (between at w held) → w ≤ length held → Moves held at to → IsUtf8 (between to w held)
 moved-text held at to w u l (inl same) = subst (λ n. IsUtf8 (between n w held)) (sym same) u
 moved-text held at to w u l (inr more) = subst (λ n. IsUtf8 (between n w held)) (sym more.0) (past-one held at w u l more.1)
 
 -- ---- a line was found
 
+-- What is known after a line was found.
 found-text : (old new : Scanner) (held : List ℕ) (ended : Bool) (w : ℕ) → Fits old held → IsTested old held w → GivesLine old held ended new
     → encoding_of new.encoding ≡ utf_8
     → KnowsText new held w
@@ -226,6 +250,7 @@ found-text old new held ended w f t g is =
       around = inr (record { order = g.cut.ordered.1; within = g.cut.ordered.2; ascii = ascii; ends = ends });
     }
 
+-- The invariant after that.
 tested-line : (old new : Scanner) (held : List ℕ) (ended : Bool) (w : ℕ) → Fits old held → IsTested old held w → GivesLine old held ended new
     → IsTested new held w
 tested-line old new held ended w f t g = record {
@@ -239,6 +264,7 @@ tested-line old new held ended w f t g = record {
 
 -- ---- no line was found yet
 
+-- What is known after an LF was skipped.
 more-text : (s new : Scanner) (held : List ℕ) (w : ℕ) → KnowsText s held w → w ≤ length held → new.at ≤ length held → new.line ≡ s.line
     → new.is_done ≡ s.is_done → Moves held s.at new.at
     → KnowsText new held w
@@ -271,6 +297,7 @@ more-text s new held w t l m line done moved = record {
       ends = inl (omega (arith, a.order, more.0, end-is));
     }
 
+-- Before anything was tested, and before a line.
 empty-text : (s : Scanner) (held : List ℕ) (w : ℕ) → w ≡ 0 → s.line.start ≡ s.line.end → KnowsText s held w
 empty-text s held w none empty = record {
   ahead = subst IsUtf8 (sym (between-none s.at w held (omega (arith, none)))) no-bytes;
@@ -278,6 +305,7 @@ empty-text s held w none empty = record {
   around = inl empty;
 }
 
+-- The invariant where more bytes are asked for.
 tested-more : (old new : Scanner) (held : List ℕ) (w : ℕ) → Fits old held → IsTested old held w → AsksForMore old held new → IsTested new held w
 tested-more old new held w f t g = record {
   within = t.within;
@@ -300,6 +328,7 @@ tested-more old new held w f t g = record {
   ];
 }
 
+-- The invariant after any scan.
 pub tested-scan : (old new : Scanner) (held : List ℕ) (ended : Bool) (w : ℕ) (answer : Scan) → Fits old held → IsTested old held w
     → Scans old held ended answer new
     → IsTested new held w
@@ -310,6 +339,7 @@ tested-scan old new held ended w scan.TooMany f t g = subst (λ v. IsTested v he
 
 -- ---- the end, and reading on
 
+-- The reading ended.
 pub tested-ended : (s : Scanner) (held : List ℕ) (w : ℕ) → IsTested s held w → IsTested (record s { is_done = true }) held w
 tested-ended s held w t = record {
   within = t.within;
@@ -368,25 +398,31 @@ tested-filled s held all more w t l empty same = subst (λ v. IsTested s v w) (s
 
 module _ (s : Scanner) (held : List ℕ) (w most n : ℕ) (t : IsTested s held w) (d : is_decided s.front ≡ true) (e : encoding_of s.encoding ≡ utf_8) (some : s.line.start < s.line.end)
     (long : s.line.end ≤ length held) (within : most ≤ length held) (reaches : s.line.end ≤ most) (found : IsLongestText (between s.line.start most held) n) where
+  -- How many bytes are tested.
   size : length (between s.line.start most held) ≡ most - s.line.start
   size = between-length s.line.start most held within
 
+  -- The well-formed front ends within them.
   below : s.line.start + n ≤ most
   below = omega (arith, found.within, size)
 
+  -- It is well-formed.
   whole : IsUtf8 (between s.line.start (s.line.start + n) held)
   whole =
       let count : s.line.start + n - s.line.start ≡ n = omega arith in
       subst IsUtf8 (ap (λ m. take m (between s.line.start most held)) (sym count) ∙ between-take s.line.start (s.line.start + n) most held (omega arith) below) found.text
 
+  -- The line has a byte, so it is a line that was found.
   apart : IsApart s held
   apart = elim (t.text d e).around [ inl empty ↦ absurd (omega (arith, empty)) | inr a ↦ a ]
 
+  -- The line, and what follows its ending.
   parts : IsDivided held s.line.start s.line.end s.at (s.line.start + n)
   parts =
       let either : (s.line.end < s.at) ⊎ (s.line.end ≡ length held) = elim apart.ends [ inl x ↦ inl x | inr x ↦ inr x.0 ] in
       divided held s.line.start s.line.end s.at (s.line.start + n) whole (omega (arith, below)) (omega arith) apart.order apart.ascii either
 
+  -- The invariant after a test.
   pub tested-now : IsTested s held (s.line.start + n)
   tested-now = record {
     within = omega (arith, below);
@@ -395,9 +431,11 @@ module _ (s : Scanner) (held : List ℕ) (w most n : ℕ) (t : IsTested s held w
     text = λ x y. record { ahead = parts.ahead; line = parts.line; around = inr apart };
   }
 
+  -- A line within the front is well-formed.
   pub reached : s.line.end ≤ (s.line.start + n) → IsUtf8 (bytes_of held s.line)
   reached = parts.line
 
+  -- A line beyond it is not.
   pub not-reached : (s.line.start + n) < s.line.end → IsUtf8 (bytes_of held s.line) → ⊥
   not-reached less u =
       let line : IsUtf8 (take (s.line.end - s.line.start) (between s.line.start most held)) =
@@ -413,6 +451,7 @@ module _ (s : Scanner) (held : List ℕ) (w most n : ℕ) (t : IsTested s held w
 
 -- ---- a line that needs no test
 
+-- ASCII needs no decoding.
 pub ascii-line : (e : Encoding) (bytes : List ℕ) → unit_size e ≡ 1 → IsAscii bytes → IsLineIn e bytes
 ascii-line windows_1252 bytes h a = tt
 ascii-line utf_8 bytes h a = well_formed-from_IsUtf8 bytes (IsUtf8-from_ascii bytes a)
@@ -430,6 +469,7 @@ some-byte f flags e not = elim (cases_lt 0 (length f.line)) [
       absurd (let a : f.is_ascii ≡ true = ascii in cc)
 ]
 
+-- A line within what was tested before.
 pub known-text : (s : Scanner) (held : List ℕ) (w : ℕ) (e : Encoding) (b : Bool) → IsTested s held w → is_decided s.front ≡ true
     → encoding_of s.encoding ≡ utf_8 → e ≡ utf_8 → s.line.end ≤ w
     → (b ≡ false → w < s.line.end) → TellsLine e (bytes_of held s.line) b
@@ -439,26 +479,31 @@ known-text s held w e false t d is same l h = absurd (omega (arith, l, h refl))
 
 -- ---- the invariant of a reader
 
+-- At the end of the reading.
 pub kept-ended : (s new : Scanner) (held : List ℕ) (w : ℕ) → Fits s held → IsTested s held w → new ≡ record s { is_done = true }
     → Fits new held × (new.is_done ≡ true) × IsTested new held w
 kept-ended s new held w f t is = rw is (record { within = f.within; searched = f.searched; fresh = f.fresh; line = f.line }, refl, tested-ended s held w t)
 
+-- A scan leaves a scanner that fits.
 pub fits-scan : (old new : Scanner) (held : List ℕ) (ended : Bool) (answer : Scan) → Fits old held → Scans old held ended answer new → Fits new held
 fits-scan old new held ended scan.Line f g = g.fits
 fits-scan old new held ended scan.More f g = g.1.fits
 fits-scan old new held ended scan.End f g = subst (λ v. Fits v held) (sym g.1) f
 fits-scan old new held ended scan.TooMany f g = subst (λ v. Fits v held) (sym g.2) f
 
+-- An ended scan stays at its end.
 pub done-scan : (old new : Scanner) (held : List ℕ) (ended : Bool) (answer : Scan) → old.is_done ≡ true → Scans old held ended answer new → new.is_done ≡ true
 done-scan old new held ended scan.Line d g = let l = g.live in absurd (cc)
 done-scan old new held ended scan.More d g = let l = g.1.live in absurd (cc)
 done-scan old new held ended scan.End d g = ap (λ v. let x : Scanner = v in x.is_done) g.1 ∙ d
 done-scan old new held ended scan.TooMany d g = let l = g.0 in absurd (cc)
 
+-- At the start.
 pub tested-new : (s : Scanner) (held : List ℕ) → (s.line.start ≡ 0) × (s.line.end ≡ 0) → IsTested s held 0
 tested-new s held z =
     let empty : s.line.start ≡ s.line.end = omega (arith, z.0, z.1) in
     record { within = omega arith; known = λ h. absurd (omega (arith, h)); fresh = λ u. empty; text = λ d e. empty-text s held 0 refl empty }
 
+-- Without the bytes of the last line it is empty.
 pub released-empty : (s new : Scanner) (gone : ℕ) → new ≡ release s gone → new.line.start ≡ new.line.end
 released-empty s new gone is = rw is refl

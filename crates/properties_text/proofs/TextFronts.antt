@@ -37,13 +37,6 @@ text-decoded utf_8 d h = whole-front utf_8 d (characters-text d [] (IsUtf8-from_
 text-decoded utf_16le d h = absurd h
 text-decoded utf_16be d h = absurd h
 
--- Such text is UTF-8.
-pub text-utf8 : (e : Encoding) (d : List ℕ) → IsText e d → IsUtf8 d
-text-utf8 windows_1252 d h = IsUtf8-from_ascii d h
-text-utf8 utf_8 d h = IsUtf8-from_well_formed d h
-text-utf8 utf_16le d h = absurd h
-text-utf8 utf_16be d h = absurd h
-
 -- This holds if the result is an error.
 pub at-error : {X E : Type 0} {P : Type 0} (r : Result X E) → P → OnErr r P
 at-error (Ok x) h = tt

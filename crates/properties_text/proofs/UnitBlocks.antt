@@ -23,9 +23,11 @@ units_of order (a ∷ b ∷ bytes) = unit_of order a b ∷ units_of order bytes
 
 -- ---- their low bytes and their high bytes
 
+-- the indices of the first bytes of units
 abbrev even_places : List ℕ
 even_places = 0 ∷ 2 ∷ 4 ∷ 6 ∷ 8 ∷ 10 ∷ 12 ∷ 14 ∷ 16 ∷ 18 ∷ 20 ∷ 22 ∷ 24 ∷ 26 ∷ 28 ∷ 30 ∷ []
 
+-- the indices of their second bytes
 abbrev odd_places : List ℕ
 odd_places = 1 ∷ 3 ∷ 5 ∷ 7 ∷ 9 ∷ 11 ∷ 13 ∷ 15 ∷ 17 ∷ 19 ∷ 21 ∷ 23 ∷ 25 ∷ 27 ∷ 29 ∷ 31 ∷ []
 
@@ -33,6 +35,7 @@ odd_places = 1 ∷ 3 ∷ 5 ∷ 7 ∷ 9 ∷ 11 ∷ 13 ∷ 15 ∷ 17 ∷ 19 ∷ 21
 pub evens-picked : (v : List ℕ) → length v ≡ 32 → pick_l 0 v even_places ≡ evens v
 evens-picked v long = ap evens (pick_l_whole 0 v 32 long)
 
+-- And what those at odd indices pick.
 pub odds-picked : (v : List ℕ) → length v ≡ 32 → pick_l 0 v odd_places ≡ odds v
 odds-picked v long = ap odds (pick_l_whole 0 v 32 long)
 
@@ -55,6 +58,7 @@ low-units HighFirst (a ∷ b ∷ v) (suc n) h =
 abbrev pub is_some : ℕ → Bool
 is_some b = not (b == 0)
 
+-- A byte that is not marked is zero.
 zero-byte : (b : ℕ) → is_some b ≡ false → b < 1
 zero-byte b h = elim (cases_Bool (b == 0)) [
   | inl t ↦ let e = eqb-true b 0 t in omega (arith, e)
@@ -73,19 +77,23 @@ small-evens [] h = tt
 small-evens (a ∷ []) h = tt
 small-evens (a ∷ b ∷ v) h = (h.0.fits, small-evens v h.1.1)
 
+-- At odd indices.
 small-odds : (v : List ℕ) → Each1 (Fits w8) v → AllByRecursion (λ u. u < 0x100) (odds v)
 small-odds [] h = tt
 small-odds (a ∷ []) h = tt
 small-odds (a ∷ b ∷ v) h = (h.1.0.fits, small-odds v h.1.1)
 
+-- Lanes of two blocks are bytes.
 fits-append : (a b : List ℕ) → Each1 (Fits w8) a → Each1 (Fits w8) b → Each1 (Fits w8) (a ++ b)
 fits-append [] b h k = k
 fits-append (x ∷ a) b h k = (h.0, fits-append a b h.1 k)
 
+-- Of two blocks.
 pub small-lows : (order : ByteOrder) (a b : List ℕ) → Each1 (Fits w8) a → Each1 (Fits w8) b → AllByRecursion (λ u. u < 0x100) (lows_of order (a ++ b))
 small-lows LowFirst a b h k = small-evens (a ++ b) (fits-append a b h k)
 small-lows HighFirst a b h k = small-odds (a ++ b) (fits-append a b h k)
 
+-- So are the first of them.
 small-taken : (n : ℕ) (v : List ℕ) → AllByRecursion (λ u. u < 0x100) v → AllByRecursion (λ u. u < 0x100) (take n v)
 small-taken zero v h = tt
 small-taken (suc n) [] h = tt
@@ -93,6 +101,7 @@ small-taken (suc n) (u ∷ v) h = (h.0, small-taken n v h.1)
 
 -- ---- what the units encode
 
+-- A small number is not at or above a larger one.
 past : (u n : ℕ) → u < n → nat_le n u ≡ false
 past u n h = elim (cases_Bool (nat_le n u)) [ inl t ↦ absurd (omega (arith, h, leb-true n u t)) | inr f ↦ f ]
 
@@ -125,16 +134,19 @@ front-is order (suc n) (suc (suc w)) (a ∷ b ∷ bytes) le long h =
 module _ (order : ByteOrder) (lows highs : List ℕ) (marks : List Bool) (n w : ℕ) (bytes : List ℕ)
     (lows_are : lows ≡ lows_of order (take w bytes)) (highs_are : highs ≡ highs_of order (take w bytes)) (marked : marks ≡ map is_some highs)
     (few : n ≤ clear_front marks) (within : 2 * n ≤ w) (long : w ≤ length bytes) (small : AllByRecursion (λ u. u < 0x100) lows) where
+  -- The first units are their low bytes.
   first-same : take n (units_of order (take w bytes)) ≡ take n lows
   first-same =
       let zeros = first-zero highs n (fails-before is_some highs marks n marked few) in
       low-units order (take w bytes) n (subst (λ l. AllByRecursion (λ h. h < 1) (take n l)) highs_are zeros) ∙ ap (take n) (sym lows_are)
 
+  -- Their characters come first.
   first-text : text_of (utf_16_of order) bytes ≡ take n lows ++ text_of (utf_16_of order) (drop (2 * n) bytes)
   first-text =
       front-is order n w bytes within long (subst (AllByRecursion (λ u. u < 0x100)) (sym first-same) (small-taken n lows small))
       ∙ ap (λ v. v ++ text_of (utf_16_of order) (drop (2 * n) bytes)) first-same
 
+  -- They are appended.
   pub units-decoded : (old new all : List ℕ) → IsUtf8 old → all_scalars (take n lows) ≡ true → new ≡ old ++ encode_utf8_all (take n lows)
       → chars old ++ text_of (utf_16_of order) bytes ≡ all → IsUtf8 new × (chars new ++ text_of (utf_16_of order) (drop (2 * n) bytes) ≡ all)
   units-decoded old new all u scalars e joins =

@@ -6,6 +6,7 @@
 
 pub mod decode;
 pub mod decode_iter;
+mod join;
 pub mod logical;
 pub mod natural;
 pub mod parse;

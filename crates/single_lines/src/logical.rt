@@ -4,9 +4,9 @@ ghost use Rattle.std.specs.Prelude.{◌≡◌, true, false};
 ghost use Rattle.std.specs.Iterator.{count_unless, IsFinite};
 ghost use Rattle.single_lines.specs.Joining.{GivesLogicalLine, JoinsEach, MayGoOn, TakesAfter};
 
+use crate::join::{addition, is_comment_line, is_open};
 use crate::natural::NaturalLine;
 use properties_lines::error::LineError;
-use properties_lines::join::{addition, is_comment_line, is_open};
 
 /// A logical line, with the number of its first natural line.
 #[derive(Drop)]

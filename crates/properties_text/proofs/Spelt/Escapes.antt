@@ -27,14 +27,17 @@ use Rattle.properties_text.proofs.Spelt.First.{ascii-first, ascii-back}
 
 -- ---- a backslash, and bytes after it
 
+-- The bytes begin with so many that are these characters.
 pub record IsAfter (e : LineEncoding) (bs front : List ℕ) (n : ℕ) : Type 0 where
   pub characters : text_in e bs ≡ front ++ text_in e (drop n bs)
   pub well : IsWell e (drop n bs)
 
+-- One ASCII byte at the front.
 pub after-one : (e : LineEncoding) (bs : List ℕ) → IsWell e bs → 0 < length bs → get_or bs 0 0 < 128 → IsAfter e bs (get_or bs 0 0 ∷ []) 1
 after-one e [] w s h = absurd (omega arith)
 after-one e (b ∷ bs) w s h = let a = ascii-first e b bs h w in record { characters = a.characters; well = a.well }
 
+-- Two of them.
 pub after-two : (e : LineEncoding) (bs : List ℕ) → IsWell e bs → 2 ≤ length bs → get_or bs 0 0 < 128 → get_or bs 1 0 < 128
     → IsAfter e bs (get_or bs 0 0 ∷ get_or bs 1 0 ∷ []) 2
 after-two e [] w s h k = absurd (omega arith)
@@ -44,6 +47,7 @@ after-two e (b ∷ c ∷ bs) w s h k =
     let two = ascii-first e c bs k one.well in
     record { characters = one.characters ∙ ap (λ v. b ∷ v) two.characters; well = two.well }
 
+-- Four of them.
 pub after-four : (e : LineEncoding) (bs : List ℕ) → IsWell e bs → 4 ≤ length bs → get_or bs 0 0 < 128 → get_or bs 1 0 < 128 → get_or bs 2 0 < 128
     → get_or bs 3 0 < 128
     → IsAfter e bs (get_or bs 0 0 ∷ get_or bs 1 0 ∷ get_or bs 2 0 ∷ get_or bs 3 0 ∷ []) 4
@@ -67,6 +71,7 @@ after-u e bs w b =
     let a = after-two e bs w b.0 (omega (arith, b.1)) (omega (arith, b.2)) in
     record { characters = a.characters ∙ ap₂ (λ x y. x ∷ y ∷ text_in e (drop 2 bs)) b.1 b.2; well = a.well }
 
+-- A byte after the first ones.
 dropped : (bs : List ℕ) (i j : ℕ) → get_or (drop i bs) j 0 ≡ get_or bs (i + j) 0
 dropped bs i j = get_or-drop i bs j 0
 
@@ -118,6 +123,7 @@ digits-at (x ∷ y ∷ bs) more d e = (omega (arith, ap length e), ap (λ v. rec
 
 -- ---- what isn't an escape
 
+-- Without four digits in the bytes there are none in the characters.
 lacking : (e : LineEncoding) (bs : List ℕ) (d : Four) (rest : List ℕ) → IsWell e (drop 2 bs) → LacksDigits bs
     → text_in e (drop 2 bs) ≡ four_text d ++ rest → are_hexadecimal d ≡ true → ⊥
 lacking e bs d rest w l s h =
@@ -126,6 +132,7 @@ lacking e bs d rest w l s h =
     let all : are_hexadecimal (digits_in bs) ≡ true = ap are_hexadecimal at.1 ∙ h in
     elim l [ inl short ↦ omega (arith, at.0, short) | inr none ↦ absurd (cc) ]
 
+-- The first four characters of a text.
 four-of : (x : List ℕ) → 4 ≤ length x → (d : Four) × (rest : List ℕ) × (x ≡ four_text d ++ rest)
 four-of [] h = absurd (omega arith)
 four-of (a ∷ []) h = absurd (omega arith)
@@ -133,6 +140,7 @@ four-of (a ∷ b ∷ []) h = absurd (omega arith)
 four-of (a ∷ b ∷ c ∷ []) h = absurd (omega arith)
 four-of (a ∷ b ∷ c ∷ d ∷ rest) h = (record { first = a; second = b; third = c; fourth = d }, rest, refl)
 
+-- Why there are no four digits, by the characters.
 unread : (e : LineEncoding) (bs : List ℕ) (m : Malformed) → IsWell e (drop 2 bs) → LacksDigits bs → CountsFour e (drop 2 bs) m
     → IsUnread (text_in e (drop 2 bs)) m
 unread e bs NotEnoughDigits w l h = h
@@ -141,9 +149,11 @@ unread e bs NotHex w l h =
     record { four = f.0; rest = f.1; whole = f.2; not_hexadecimal = false_from_ne_true (are_hexadecimal f.0) (lacking e bs f.0 f.1 w l f.2) }
 unread e bs InvalidCharacter w l h = absurd h
 
+-- What is malformed after `\u` makes the whole malformed.
 from-u : (e : LineEncoding) (bs x : List ℕ) (m : Malformed) → text_in e bs ≡ backslash ∷ letter_u ∷ x → IsMalformedUnit x (malformed_in m) → Reads e bs (Err m)
 from-u e bs x m s h = subst (λ v. NoSpelling v × (meaning_of v ≡ breaks (malformed_in m))) (sym s) h
 
+-- No four digits follow `\u`.
 pub reads-none : (e : LineEncoding) (bs : List ℕ) (m : Malformed) → IsWell e bs → BeginsUnit bs → LacksDigits bs → CountsFour e (drop 2 bs) m
     → Reads e bs (Err m)
 reads-none e bs m w b l h =
@@ -164,6 +174,7 @@ no-low high (x ∷ y ∷ a ∷ b ∷ c ∷ d ∷ rest) h =
     h low rest (ap₂ (λ v w. v ∷ w ∷ a ∷ b ∷ c ∷ d ∷ rest) (eqb-true x backslash q.0) (eqb-true y letter_u q.1)) r.0 r.1))
 no-low high x h = refl
 
+-- A low escape in the characters is one in the bytes.
 low-back : (e : LineEncoding) (bs : List ℕ) (low : Four) (rest : List ℕ) → IsWell e bs → text_in e bs ≡ backslash ∷ letter_u ∷ four_text low ++ rest
     → are_hexadecimal low ≡ true
     → BeginsUnit bs × HasDigits bs (code_unit low) × (digits_in bs ≡ low)
@@ -182,6 +193,7 @@ low-back e bs low rest w s h =
       at.1,
     )
 
+-- A surrogate without its other half was read.
 pub reads-unpaired : (e : LineEncoding) (bs : List ℕ) (high : ℕ) → IsWell e bs → BeginsUnit bs → HasDigits bs high → OutOfScalarRange high
     → LacksLow high (drop 6 bs) → Reads e bs (Err InvalidCharacter)
 reads-unpaired e bs high w b h out none =
@@ -196,6 +208,7 @@ reads-unpaired e bs high w b h out none =
 
 -- ---- what is
 
+-- One `\u` escape was read.
 pub reads-unit : (e : LineEncoding) (bs : List ℕ) (value c : ℕ) → IsWell e bs → BeginsUnit bs → HasDigits bs value → InScalarRange value → c ≡ value
     → IsScalar c → IsRead e bs record { character = c; length = 6 }
 reads-unit e bs value c w b h in_range is s =
@@ -210,6 +223,7 @@ reads-unit e bs value c w b h in_range is s =
       well = u.1;
     }
 
+-- Two were read, which are surrogates.
 pub reads-pair : (e : LineEncoding) (bs : List ℕ) (high c : ℕ) → IsWell e bs → BeginsUnit bs → HasDigits bs high → HasLow high (drop 6 bs) c
     → IsScalar c → IsRead e bs record { character = c; length = 12 }
 reads-pair e bs high c w b h l s =
@@ -230,6 +244,7 @@ reads-pair e bs high c w b h l s =
       well = subst (IsWell e) twelve v.1;
     }
 
+-- A backslash before an ASCII character was read.
 pub reads-ascii : (e : LineEncoding) (bs : List ℕ) (c : ℕ) → IsWell e bs → 2 ≤ length bs → get_or bs 0 0 ≡ backslash → get_or bs 1 0 ≢ letter_u
     → get_or bs 1 0 < 128
     → c ≡ escaped_character (get_or bs 1 0) → IsScalar c → IsRead e bs record { character = c; length = 2 }
@@ -246,11 +261,13 @@ reads-ascii e bs c w some b other small is s =
       well = a.well;
     }
 
+-- No bytes are no characters.
 pub no-text : (e : LineEncoding) (bs : List ℕ) → length bs ≡ 0 → text_in e bs ≡ []
 no-text Windows1252 [] h = refl
 no-text Utf8 [] h = chars-nil
 no-text e (b ∷ bs) h = absurd (omega arith)
 
+-- A backslash at the end was read.
 pub reads-end : (e : LineEncoding) (bs : List ℕ) → IsWell e bs → length bs ≡ 1 → get_or bs 0 0 ≡ backslash → IsRead e bs record { character = 0; length = 1 }
 reads-end e bs w one b =
     let a = after-one e bs w (omega arith) (omega (arith, b)) in
@@ -263,6 +280,7 @@ reads-end e bs w one b =
       well = a.well;
     }
 
+-- A backslash before another character was read.
 pub reads-past : (e : LineEncoding) (bs : List ℕ) (first : Spelt) → IsWell e bs → 2 ≤ length bs → get_or bs 0 0 ≡ backslash → 0x80 ≤ get_or bs 1 0
     → IsFirst e (drop 1 bs) first
     → IsRead e bs record { character = first.character; length = 1 + first.length }

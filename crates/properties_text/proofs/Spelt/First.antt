@@ -37,6 +37,7 @@ length-of c rest s = elim (cases_lt c 0x80) [
   ]
 ]
 
+-- A character has a byte.
 some-bytes : (c : ℕ) → 0 < length (encode c)
 some-bytes c = elim (cases_lt c 0x80) [
   | inl h ↦ rw (encode-one c h) (omega arith)
@@ -64,10 +65,12 @@ pub record IsSequence (bs : List ℕ) (n : ℕ) : Type 0 where
   pub characters : chars bs ≡ sequence_character (get_or bs 0 0 ∷ take (n - 1) (drop 1 bs)) ∷ chars (drop n bs)
   pub well : IsUtf8 (drop n bs)
 
+-- No character is above 10FFFF.
 below-all : (c : ℕ) → is_scalar c → c < 0x11_0000
 below-all c (inl h) = omega arith
 below-all c (inr h) = h.1
 
+-- Bytes that begin with those of a character.
 begins : (bs rest : List ℕ) (c n : ℕ) → IsUtf8 bs → IsScalar c → bs ≡ encode c ++ rest → n ≡ length_by_first (get_or bs 0 0) → IsSequence bs n
 begins bs rest c n u s e is =
     let below : c < 0x11_0000 = below-all c (scalar-from_char c s) in
@@ -91,15 +94,18 @@ pub the-character : (o : Option ℕ) (code : ℕ) → SomeIff o (IsScalar code) 
 the-character None code h some = absurd (cc)
 the-character (Some c) code h some = h.1
 
+-- Which numbers are characters, as std says it.
 pub in-range : (code : ℕ) → is_scalar code → InScalarRange code
 in-range code (inl h) = inl h
 in-range code (inr h) = inr (h.0, omega (arith, h.1))
 
+-- The character that the first byte announces.
 pub utf_8-first : (bs : List ℕ) (n : ℕ) → IsUtf8 bs → 0 < length bs → n ≡ length_by_first (get_or bs 0 0) → IsSequence bs n
 utf_8-first bs n ([], (h, w)) some is = absurd (omega (arith, some, ap length w))
 utf_8-first bs n ((c ∷ cs), (h, w)) some is =
     begins bs (encodes cs) c n ((c ∷ cs), (h, w)) (and_parts (scalar c) (scalars cs) h).0 (sym w) is
 
+-- What was read is the first character.
 pub is-first : (bs : List ℕ) (spelt : Spelt) → IsSequence bs spelt.length
     → spelt.character ≡ sequence_character (get_or bs 0 0 ∷ take (spelt.length - 1) (drop 1 bs)) → IsFirst Utf8 bs spelt
 is-first bs spelt h is = record {
@@ -112,10 +118,12 @@ is-first bs spelt h is = record {
 
 -- ---- ASCII, in either
 
+-- The first byte is a character.
 pub record IsAsciiAnd (e : LineEncoding) (b : ℕ) (rest : List ℕ) : Type 0 where
   pub characters : text_in e (b ∷ rest) ≡ b ∷ text_in e rest
   pub well : IsWell e rest
 
+-- An ASCII byte is.
 pub ascii-first : (e : LineEncoding) (b : ℕ) (rest : List ℕ) → b < 128 → IsWell e (b ∷ rest) → IsAsciiAnd e b rest
 ascii-first Windows1252 b rest h w = record { characters = ap (λ x. x ∷ characters_of rest) (windows_1252_character-ascii b h); well = tt }
 ascii-first Utf8 b rest h w = let a = first_ascii b rest h w in record { characters = a.characters; well = a.utf8 }

@@ -23,6 +23,7 @@ use Rattle.properties_text.proofs.Texts.Resolving.{found_some, found_none, split
 
 -- ---- windows-1252
 
+-- A byte that is no backslash is no backslash as a character.
 other-byte : (b : ℕ) → (b == backslash) ≡ false → (windows_1252_character b == backslash) ≡ false
 other-byte b h = elim (cases_Bool (windows_1252_character b == backslash)) [
   | inl t ↦
@@ -32,6 +33,7 @@ other-byte b h = elim (cases_Bool (windows_1252_character b == backslash)) [
   | inr f ↦ f
 ]
 
+-- Bytes without one are a text without one.
 no-backslash : (bs : List ℕ) → holds_backslash bs ≡ false → HoldsNoBackslash (characters_of bs)
 no-backslash [] h = tt
 no-backslash (b ∷ bs) h = let p = or_parts (b == backslash) (holds_backslash bs) h in (other-byte b p.0, no-backslash bs p.1)
@@ -46,6 +48,7 @@ pub record IsSplitIn (e : LineEncoding) (bs : List ℕ) (at : ℕ) : Type 0 wher
   pub front : List ℕ
   pub meaning : meaning_of (text_in e bs) ≡ text_in_front front (meaning_of (text_in e (drop at bs)))
 
+-- A search found one.
 pub split-in : (e : LineEncoding) (bs : List ℕ) (at : ℕ) → IsWell e bs → IsFirstByte (is_byte backslash) bs (Some at) → IsSplitIn e bs at
 split-in Windows1252 bs at w h =
     let f = found_some bs at h in
@@ -75,10 +78,12 @@ pub record IsReadTo (e : LineEncoding) (text rest : List ℕ) : Type 0 where
   pub done : List ℕ
   pub meaning : meaning_of (text_in e text) ≡ text_in_front done (meaning_of (text_in e rest))
 
+-- At the start.
 pub nothing-read : (e : LineEncoding) (text : List ℕ) → IsWell e text → IsReadTo e text text
 nothing-read e text w = record { well = w; done = []; meaning = refl }
 
 module _ (e : LineEncoding) (text rest : List ℕ) (at : ℕ) (held : IsReadTo e text rest) (s : IsSplitIn e rest at) where
+  -- One escape was read.
   pub one-read : (spelt : Spelt) → IsRead e (drop at rest) spelt → IsReadTo e text (drop spelt.length (drop at rest))
   one-read spelt r =
       let after = meaning_of (text_in e (drop spelt.length (drop at rest))) in
@@ -90,12 +95,14 @@ module _ (e : LineEncoding) (text rest : List ℕ) (at : ℕ) (held : IsReadTo e
             ∙ sym (text_in_front-append held.done (s.front ++ spelt.character ∷ []) after);
       }
 
+  -- A malformed escape comes.
   pub broken-read : (kind : Malformed) → meaning_of (text_in e (drop at rest)) ≡ breaks kind → meaning_of (text_in e text) ≡ breaks kind
   broken-read kind b =
       held.meaning
       ∙ ap (text_in_front held.done) (s.meaning ∙ ap (text_in_front s.front) b ∙ text_in_front-breaks s.front kind)
       ∙ text_in_front-breaks held.done kind
 
+-- No escape is left.
 pub all-read : (e : LineEncoding) (text rest : List ℕ) → IsReadTo e text rest → meaning_of (text_in e rest) ≡ means (text_in e rest)
     → (meant : List ℕ) × (meaning_of (text_in e text) ≡ means meant)
 all-read e text rest held m = (

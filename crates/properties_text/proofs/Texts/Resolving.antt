@@ -139,9 +139,6 @@ none-ending (x ∷ xs) h =
     let p = or_parts (x == backslash) (holds_backslash xs) h in
     ending_backslashes-after [] x xs p.0 ∙ none-ending xs p.1
 
-pub plain-closed : (xs : List ℕ) → holds_backslash xs ≡ false → is_open xs ≡ false
-plain-closed xs h = ap (λ n. n % 2 == 1) (none-ending xs h)
-
 -- the beginning of a text, as a slice of it
 pub slice-front : (bs : List ℕ) (at : ℕ) → slice_range bs 0 at ≡ take at bs
 slice-front bs at = ap (λ n. take n bs) (let k : at - 0 ≡ at = omega arith in k)

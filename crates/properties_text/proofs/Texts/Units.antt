@@ -21,6 +21,7 @@ use Rattle.properties_text.proofs.Texts.Resolving.{text_in_front-append}
 pub digit-at : (b : ℕ) → b < 256 → get_or DIGITS b 0 ≡ digit_value b
 digit-at b h = eqb-true _ _ (agree_below_at (λ b. get_or DIGITS b 0 == digit_value b) (λ k. true) 256 b refl h)
 
+-- No entry is larger than that of a byte that is no digit.
 pub digit-small : (b : ℕ) → b < 256 → digit_value b ≤ 0x10000
 digit-small b h = leb-true (digit_value b) 0x10000 (agree_below_at (λ b. nat_le (digit_value b) 0x10000) (λ k. true) 256 b refl h)
 
@@ -31,9 +32,11 @@ digit-is b h = elim (cases_Bool (is_hexadecimal b)) [
   | inr f ↦ absurd (let none : digit_value b ≡ 0x10000 = cond-false (is_hexadecimal b) _ _ f in omega (arith, h, none))
 ]
 
+-- The value of a digit.
 digit-of : (b : ℕ) → is_hexadecimal b ≡ true → digit_value b ≡ hexadecimal_value b
 digit-of b t = cond-true (is_hexadecimal b) _ _ t
 
+-- A digit is ASCII.
 digit-ascii : (b : ℕ) → is_hexadecimal b ≡ true → b < 128
 digit-ascii b h = grind (arith, nat_tests)
 
