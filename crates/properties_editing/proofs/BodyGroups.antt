@@ -25,15 +25,17 @@ use Rattle.properties_format.proofs.Edited.Parts.{unended-kept}
 use Rattle.properties_text.specs.Encoding.{encoding_of}
 use Rattle.properties_lines.specs.LineSearch.{unit_size}
 use Rattle.properties_lines.specs.Private.HeldLines.{held_line, lines_left}
-use Rattle.properties_lines.specs.LogicalLine.{KeepsText, text_with, IsNotContinued, OpensJoin, Begins}
+use Rattle.properties_lines.specs.LogicalLine.{IsNotContinued, OpensJoin, Begins, AddsLine, HasText, IsUnfinished, IsTextOf, IsSound, TellsLine, unfinished_text, bytes_with}
 use Rattle.properties_lines.specs.Scanner as scanner
-use Rattle.properties_lines.specs.Scanner.{bytes_of, GivesLine}
+use Rattle.properties_lines.specs.Scanner.{bytes_of, GivesLine, HasRightFlags}
+use Rattle.properties_lines.specs.declared.scanner.RawLine.{RawLine}
 use Rattle.properties_lines.specs.declared.logical.LogicalLine.{LogicalLine}
 use Rattle.properties_lines.specs.declared.scanner.Scanner.{Scanner}
-use Rattle.properties_lines.proofs.LineJoiner.{kept-text, kept-utf8}
+use Rattle.properties_lines.proofs.Tested.{ascii-line}
+use Rattle.properties_text.specs.Spelt.{text_in, IsWell}
 use Rattle.properties_lines.proofs.HeldLines.{body-next, body-after, body-lines_left}
 use Rattle.properties_editing.specs.Private.BodyLines.{ending_in}
-use Rattle.properties_editing.specs.Private.BodyGroups.{IsWithin, groups_left, TakesLine, IsSpanOf, TakesGroup, groups_from, ReadsGroup}
+use Rattle.properties_editing.specs.Private.BodyGroups.{IsWithin, groups_left, IsBegun, TakesLine, IsSpanOf, TakesGroup, groups_from, ReadsGroup, bytes_at}
 use Rattle.properties_items.specs.declared.line.LineEnding.{LineEnding}
 use Rattle.properties_editing.specs.declared.edit.groups.Group.{Group}
 use Rattle.properties_editing.specs.declared.edit.groups.GroupReader.{GroupReader}
@@ -103,6 +105,10 @@ takes-line body old new w g =
       same = refl;
     }
 
+-- A line of ASCII alone needs no decoding.
+pub tells-line : (e : Encoding) (bytes : List ℕ) (line : RawLine) → HasRightFlags e bytes line → line.is_ascii ≡ true → TellsLine e bytes true
+tells-line e bytes line flags h = let ascii = flags.ascii.0 h in ascii-line e bytes ascii.0 ascii.1
+
 -- ---- a group of one line
 
 pub no-bytes : (bytes : List ℕ) → (length bytes == 0) ≡ is_empty bytes
@@ -168,6 +174,40 @@ not-left : (text : List ℕ) → IsNotContinued text → (not (is_comment_line t
 not-left text (inl h) = rw h refl
 not-left text (inr h) = elim (cases_Bool (is_comment_line text)) [ inl k ↦ rw k refl | inr k ↦ rw (k, h) refl ]
 
+-- The line that is unfinished has the text that was joined.
+unfinished-has : (e : Encoding) (l : LogicalLine) (natural text : List ℕ) → IsUnfinished e l → unfinished_text l ≡ text → HasText l natural text
+unfinished-has e l natural text u h = record { well = rw u.place u.well; is = rw u.place h }
+
+-- The line of a group that was read so far.
+pub group-begun : (E : Type 0) (body : List ℕ) (old found : GroupReader) (l : LogicalLine) (group : Group) (told : Bool) → TakesLine body old found
+    → Begins {E = E} (encoding_of found.scanner.encoding) (bytes_of body found.scanner.line) (Ok told) l → IsSound l
+    → group.start ≡ found.scanner.line.start → group.end ≡ found.scanner.line.end → group.is_open ≡ told
+    → IsBegun body (record found { line = l }) group
+group-begun E body old found l group told k begins sound starts ends opens =
+    let ordered = k.ordered in
+    let placed = k.placed in
+    let within = k.within.within_body.fits.within in
+    record {
+      within = record { bytes = k.within.bytes; within_body = k.within.within_body };
+      ordered = omega arith;
+      within_body = omega arith;
+      well = well-begun told begins (ap₂ (λ m n. take (m - n) (drop n body)) ends starts);
+      unfinished = λ h. open-begun told begins (sym opens ∙ h);
+      sound = sound;
+    }
+  where
+    bytes : List ℕ
+    bytes = bytes_of body found.scanner.line
+
+    well-begun : (told : Bool) → Begins {E = E} (encoding_of found.scanner.encoding) bytes (Ok told) l → bytes_at body group ≡ bytes
+        → IsWell l.encoding (bytes_with l (bytes_at body group))
+    well-begun true b same = rw b.unfinished.place b.unfinished.well
+    well-begun false b same = subst (λ v. IsWell l.encoding (bytes_with l v)) (sym same) b.1.well
+
+    open-begun : (told : Bool) → Begins {E = E} (encoding_of found.scanner.encoding) bytes (Ok told) l → told ≡ true → IsUnfinished (encoding_of found.scanner.encoding) l
+    open-begun true b h = b.unfinished
+    open-begun false b h = absurd (cc)
+
 -- The first line of a group was read.
 pub group-first : (E : Type 0) (body : List ℕ) (old found : GroupReader) (l : LogicalLine) (group : Group) (told : Bool) (k : TakesLine body old found)
     → Begins {E = E} (encoding_of found.scanner.encoding) (bytes_of body found.scanner.line) (Ok told) l
@@ -180,7 +220,7 @@ group-first E body old found l group false k begins number starts ends ending op
     let h : HeldLine = held_line e body found.scanner.line k.ending in
     let line : Line = record { number = 0; text = h.text } in
     let rest = lines_left body found.scanner in
-    let b = subst (λ v. IsNotContinued (decoded_line v bytes) × KeepsText v bytes l.is_kept l.text) k.encoding begins in
+    let b = subst (λ v. IsNotContinued (decoded_line v bytes) × HasText l bytes (decoded_line v bytes)) k.encoding begins in
     let alone = not-left h.text b.0 in
     let same : take (group.end - group.start) (drop group.start body) ≡ bytes = ap₂ (λ m n. take (m - n) (drop n body)) ends starts in
     let ordered = k.ordered in
@@ -197,8 +237,7 @@ group-first E body old found l group false k begins number starts ends ending op
       span = span-one body old found group k starts ends ending (opens ∙ sym alone) empty;
       encoding = k.encoding;
       opened = λ n. absurd (cc);
-      held_text = record { ordered = omega arith; within = omega arith; text = λ n. subst IsUtf8 (sym same) (kept-utf8 e bytes l.text l.is_kept b.1 n) };
-      text = ap (λ v. chars (text_with l v)) same ∙ kept-text e bytes l.text l.is_kept b.1 ∙ sym (joined-alone line alone);
+      text = subst (λ v. HasText l v (joined (line ∷ []))) (sym same) (subst (HasText l bytes) (sym (joined-alone line alone)) b.1);
     }
 group-first E body old found l group true k begins number starts ends ending opens empty =
     let e = encoding_of old.scanner.encoding in
@@ -206,10 +245,9 @@ group-first E body old found l group true k begins number starts ends ending ope
     let h : HeldLine = held_line e body found.scanner.line k.ending in
     let line : Line = record { number = 0; text = h.text } in
     let rest = lines_left body found.scanner in
-    let b = subst (λ v. OpensJoin (decoded_line v bytes) l) k.encoding begins in
+    let b = subst (λ v. OpensJoin v (decoded_line v bytes) l) k.encoding begins in
     let other = b.other in
     let open_text = b.opens in
-    let kept = b.kept in
     let leaves : closes [] line ≡ false = rw (other, open_text) refl in
     let left : (not (is_comment_line h.text) && is_open h.text) ≡ true = rw (other, open_text) refl in
     let ordered = k.ordered in
@@ -225,9 +263,8 @@ group-first E body old found l group true k begins number starts ends ending ope
       passed = k.passed;
       span = span-one body old found group k starts ends ending (opens ∙ sym left) empty;
       encoding = k.encoding;
-      opened = λ n. (other, kept);
-      held_text = record { ordered = omega arith; within = omega arith; text = λ n. absurd (cc) };
-      text = rw kept (b.closed ∙ sym (joined-one line other));
+      opened = λ n. other;
+      text = unfinished-has e l _ (joined (line ∷ [])) b.unfinished (b.closed ∙ sym (joined-one line other));
     }
 
 -- ---- a line more
@@ -240,12 +277,11 @@ from-more false g rest h first more is k =
     groups-close g h rest (rw (is, ← k) refl)
 
 -- A line is joined to a group that is open.
-pub group-more : (body : List ℕ) (before : GroupReader) (group : Group) (mid found : GroupReader) (l : LogicalLine) (stop : ℕ) (ending : Option LineEnding) (told : Bool)
-    → ReadsGroup body before group mid → group.is_open ≡ true → (k : TakesLine body mid found)
-    → let text = decoded_line (encoding_of found.scanner.encoding) (bytes_of body found.scanner.line) in
-    told ≡ is_open text → chars l.text ≡ chars found.line.text ++ addition text → l.is_kept ≡ found.line.is_kept → stop ≡ found.scanner.line.end → ending_in ending ≡ k.ending
+pub group-more : (E : Type 0) (body : List ℕ) (before : GroupReader) (group : Group) (mid found : GroupReader) (l : LogicalLine) (stop : ℕ) (ending : Option LineEnding) (told : Bool)
+    → ReadsGroup body before group mid → group.is_open ≡ true → (k : TakesLine body mid found) → IsUnfinished (encoding_of mid.scanner.encoding) mid.line
+    → AddsLine {E = E} (encoding_of found.scanner.encoding) (bytes_of body found.scanner.line) found.line (Ok told) l → stop ≡ found.scanner.line.end → ending_in ending ≡ k.ending
     → ReadsGroup body before (record group { end = stop; ending = ending; is_open = told; is_empty = false }) (record found { line = l })
-group-more body before group mid found l stop ending told j opened k tells added keeps stops ends =
+group-more E body before group mid found l stop ending told j opened k unfinished added stops ends =
     let e = encoding_of mid.scanner.encoding in
     let bytes = bytes_of body found.scanner.line in
     let h : HeldLine = held_line e body found.scanner.line k.ending in
@@ -262,16 +298,14 @@ group-more body before group mid found l stop ending told j opened k tells added
     let ordered = k.ordered in
     let placed = k.placed in
     let next = j.span.next in
-    let before_kept = (j.opened opened).1 in
-    let other = (j.opened opened).0 in
+    let other = j.opened opened in
     let same_line : found.line ≡ mid.line = ap (λ v. let w : GroupReader = v in w.line) k.same in
-    let kept : l.is_kept ≡ true = keeps ∙ ap (λ v. let w : LogicalLine = v in w.is_kept) same_line ∙ before_kept in
-    let before_text : chars mid.line.text ≡ joined (as_lines g) = rw before_kept at j.text in
-    let text : chars l.text ≡ joined (as_lines g) ++ addition h.text =
-    added
-    ∙ ap₂ (λ v w. let u : LogicalLine = v in chars u.text ++ addition (decoded_line w bytes)) same_line k.encoding
+    let before_text : unfinished_text mid.line ≡ joined (as_lines g) = rw unfinished.place at j.text.is in
+    let text : unfinished_text l ≡ joined (as_lines g) ++ addition h.text =
+    added.1
+    ∙ ap₂ (λ v w. let u : LogicalLine = v in unfinished_text u ++ addition (decoded_line w bytes)) same_line k.encoding
     ∙ ap (λ v. v ++ addition h.text) before_text in
-    let opens : told ≡ is_open h.text = tells ∙ ap (λ v. is_open (decoded_line v bytes)) k.encoding in
+    let opens : told ≡ is_open h.text = added.0 ∙ ap (λ v. is_open (decoded_line v bytes)) k.encoding in
     let pushed : length (j.first ∷ j.more ++ h ∷ []) ≡ length g + 1 = length-append g (h ∷ []) in
     let unended : length (unended_bytes (g ++ h ∷ [])) ≡ length (group_bytes g) + length bytes =
     ap length (unended-kept g h) ∙ length-append (group_bytes g) bytes in
@@ -296,10 +330,27 @@ group-more body before group mid found l stop ending told j opened k tells added
         empty = sym (is_empty_line-push j.first j.more h);
       };
       encoding = k.encoding ∙ j.encoding;
-      opened = λ n. (other, kept);
-      held_text = record { ordered = omega arith; within = omega arith; text = λ n. absurd (cc) };
-      text = rw kept (text
+      opened = λ n. other;
+      text = unfinished-has (encoding_of found.scanner.encoding) l _ _ added.2 (text
           ∙ sym (ap (λ v. joined (first ∷ v)) (as_lines-append j.more (h ∷ [])) ∙ joined-push first (as_lines j.more) line other));
+    }
+
+-- A group whose last line was joined is well-formed as before.
+pub more-begun : (body : List ℕ) (mid found : GroupReader) (l : LogicalLine) (group joined : Group) → IsBegun body mid group → TakesLine body mid found
+    → group.start ≤ mid.scanner.at → IsUnfinished (encoding_of found.scanner.encoding) l → IsSound l → joined.start ≡ group.start → joined.end ≡ found.scanner.line.end
+    → IsBegun body (record found { line = l }) joined
+more-begun body mid found l group joined b k before u sound starts ends =
+    let from = k.starts in
+    let ordered = k.ordered in
+    let placed = k.placed in
+    let within = k.within.within_body.fits.within in
+    record {
+      within = record { bytes = k.within.bytes; within_body = k.within.within_body };
+      ordered = omega arith;
+      within_body = omega arith;
+      well = rw u.place u.well;
+      unfinished = λ h. u;
+      sound = sound;
     }
 
 -- ---- a group that was read whole
@@ -310,10 +361,12 @@ ends-from false is_done g first more rest is h none = refl
 ends-from true is_done g first more rest is (inl h) none = absurd (cc)
 ends-from true is_done g first more rest is (inr h) none = rw (none h, is) refl
 
--- What was read is the next group.
-pub group-whole : (body : List ℕ) (before : GroupReader) (group : Group) (new : GroupReader) → ReadsGroup body before group new
-    → (group.is_open ≡ false ⊎ new.scanner.is_done ≡ true) → IsWithin body new → TakesGroup body before group new
-group-whole body before group new j ended w =
+-- What was read is the next group, once its line is a text.
+pub group-whole : (body : List ℕ) (before : GroupReader) (group : Group) (new : GroupReader) (line : LogicalLine) → ReadsGroup body before group new
+    → (group.is_open ≡ false ⊎ new.scanner.is_done ≡ true) → IsBegun body new group
+    → IsTextOf (text_in new.line.encoding (bytes_with new.line (bytes_at body group))) (bytes_with line (bytes_at body group))
+    → TakesGroup body before group (record new { line = line })
+group-whole body before group new line j ended begun made =
     let g = j.first ∷ j.more in
     let none : new.scanner.is_done ≡ true → lines_left body new.scanner ≡ [] = λ h. rw h refl in
     record {
@@ -325,8 +378,8 @@ group-whole body before group new j ended w =
       number = j.number;
       passed = j.passed;
       span = j.span;
-      within = w;
+      within = record { bytes = begun.within.bytes; within_body = begun.within.within_body };
       encoding = j.encoding;
-      held_text = j.held_text;
-      text = j.text;
+      held_text = record { ordered = begun.ordered; within = begun.within_body; text = made.utf8 };
+      text = made.characters ∙ j.text.is;
     }

@@ -109,16 +109,15 @@ set-edits {e} {source} {key} {value} {bytes} k v is =
 
 -- ---- the printed pair
 
--- it is appended part by part
-pub pair-appended : (e : Encoding) (first : Bool) (key value start keyed separated all : List ℕ)
-    → keyed ≡ start ++ encoded_text e (printed_key e false first key) → separated ≡ keyed ++ equals_sign ∷ []
-    → all ≡ separated ++ encoded_text e (printed_characters e false in_key_or_value value) → all ≡ start ++ pair_bytes e first key value
-pair-appended e first key value start keyed separated all h k m =
+-- its parts are appended
+pub pair-appended : (e : Encoding) (first : Bool) (key value start all : List ℕ)
+    → all ≡ start ++ (encoded_text e (printed_key e false first key) ++ (equals_sign ∷ encoded_text e (printed_characters e false in_key_or_value value) ++ []))
+    → all ≡ start ++ pair_bytes e first key value
+pair-appended e first key value start all h =
     let front = printed_key e false first key in
     let back = printed_characters e false in_key_or_value value in
-    m ∙ ap (λ v. v ++ encoded_text e back) (k ∙ ap (λ v. v ++ equals_sign ∷ []) h)
-    ∙ append_assoc (start ++ encoded_text e front) (equals_sign ∷ []) (encoded_text e back)
-    ∙ append_assoc start (encoded_text e front) (equals_sign ∷ encoded_text e back)
+    h
+    ∙ ap (λ v. start ++ (encoded_text e front ++ (equals_sign ∷ v))) (append-nil (encoded_text e back))
     ∙ ap (λ v. start ++ v) (sym (encoded_text-append e front (equals_sign ∷ back)
     ∙ ap (λ o. encoded_text e front ++ (unwrap_or o [] ++ encoded_text e back)) (encoded-ascii e equals_sign (lit< tt))))
 

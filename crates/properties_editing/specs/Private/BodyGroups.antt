@@ -13,7 +13,8 @@ use Rattle.properties_text.specs.Encoding.{encoding_of}
 use Rattle.properties_lines.specs.LineSearch.{unit_size}
 use Rattle.properties_lines.specs.Scanner.{HasRightFlags, bytes_of}
 use Rattle.properties_lines.specs.Private.HeldLines.{IsInBody, held_line, lines_left}
-use Rattle.properties_lines.specs.LogicalLine.{text_with}
+use Rattle.properties_text.specs.Spelt.{IsWell}
+use Rattle.properties_lines.specs.LogicalLine.{bytes_with, HasText, IsSound, IsUnfinished}
 use Rattle.properties_editing.specs.Private.BodyLines.{ending_in}
 use Rattle.properties_editing.specs.declared.edit.groups.Group.{Group}
 use Rattle.properties_editing.specs.declared.edit.groups.GroupReader.{GroupReader}
@@ -61,15 +62,18 @@ pub record IsSpanOf (held : List HeldLine) (group : Group) (after : ℕ) : Type 
   pub opens : group.is_open ≡ is_left_open held
   pub empty : group.is_empty ≡ is_empty_line held
 
--- the logical line of a group, in UTF-8
+-- the bytes from a group's first line to its last line, and those of its logical line
+abbrev pub bytes_at : List ℕ → Group → List ℕ
+bytes_at body group = take (group.end - group.start) (drop group.start body)
+
 abbrev pub text_of : List ℕ → GroupReader → Group → List ℕ
-text_of body s group = text_with s.line (take (group.end - group.start) (drop group.start body))
+text_of body s group = bytes_with s.line (bytes_at body group)
 
 -- That line is valid text.
 pub record IsTextHeld (body : List ℕ) (s : GroupReader) (group : Group) : Type 0 where
   pub ordered : group.start ≤ group.end
   pub within : group.end ≤ length body
-  pub text : s.line.is_kept ≡ false → IsUtf8 (take (group.end - group.start) (drop group.start body))
+  pub text : IsUtf8 (text_of body s group)
 
 -- The next group was returned.
 pub record TakesGroup (body : List ℕ) (old : GroupReader) (group : Group) (new : GroupReader) : Type 0 where
@@ -119,12 +123,18 @@ pub record ReadsGroup (body : List ℕ) (old : GroupReader) (group : Group) (new
   pub passed : new.scanner.passed ≡ old.scanner.passed + length (first ∷ more)
   pub span : IsSpanOf (first ∷ more) group new.scanner.at
   pub encoding : encoding_of new.scanner.encoding ≡ encoding_of old.scanner.encoding
-  pub opened : group.is_open ≡ true → (is_comment_line first.text ≡ false) × (new.line.is_kept ≡ true)
-  pub held_text : IsTextHeld body new group
-  pub text : chars (text_of body new group) ≡ joined (as_lines (first ∷ more))
+  pub opened : group.is_open ≡ true → is_comment_line first.text ≡ false
+  pub text : HasText new.line (bytes_at body group) (joined (as_lines (first ∷ more)))
 
--- The group was read further: to a line that isn't open, or to the last line.
+-- The line of a group that was read so far is well-formed. If it is open, lines may be joined to it.
+pub record IsBegun (body : List ℕ) (s : GroupReader) (group : Group) : Type 0 where
+  pub within : IsWithin body s
+  pub ordered : group.start ≤ group.end
+  pub within_body : group.end ≤ length body
+  pub well : IsWell s.line.encoding (text_of body s group)
+  pub unfinished : group.is_open ≡ true → IsUnfinished (encoding_of s.scanner.encoding) s.line
+  pub sound : IsSound s.line
+
+-- The group was read whole: to a line that isn't open, or to the last line.
 pub record JoinsGroup (body : List ℕ) (old : GroupReader) (group : Group) (joined : Group) (new : GroupReader) : Type 0 where
-  pub whole : (before : GroupReader) → ReadsGroup body before group old → ReadsGroup body before joined new
-  pub ended : joined.is_open ≡ false ⊎ new.scanner.is_done ≡ true
-  pub within : IsWithin body new
+  pub whole : (before : GroupReader) → ReadsGroup body before group old → TakesGroup body before joined new

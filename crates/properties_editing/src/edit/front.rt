@@ -64,7 +64,8 @@ pub fn front_size(
 // Returns what a line adds to the logical line.
 fn added_by(is_first: bool, text: &[u8]) -> &[u8]
     requires { IsUtf8 text.now }
-    ensures { chars result.now ≡ added_by is_first (chars text.now) }
+    ensures adds { chars result.now ≡ added_by is_first (chars text.now) }
+    ensures utf8 { IsUtf8 result.now }
 {
     if is_first {
         without_open_backslash(text)

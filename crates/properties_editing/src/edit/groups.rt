@@ -5,7 +5,9 @@ ghost use Rattle.properties_lines.specs.Private.HeldLines.{IsInBody};
 ghost use Rattle.properties_editing.specs.Private.BodyLines.{IsEndingOf};
 ghost use Rattle.properties_text.specs.Encoding.{encoding_of};
 ghost use Rattle.properties_lines.specs.LineSearch.{unit_size};
-ghost use Rattle.properties_editing.specs.Private.BodyGroups.{IsWithin, FindsLine, GivesGroup, JoinsGroup, IsFirstGroup, text_of, IsTextHeld};
+ghost use Rattle.properties_lines.specs.LogicalLine.{TellsLine};
+ghost use Rattle.properties_lines.specs.Scanner.{HasRightFlags};
+ghost use Rattle.properties_editing.specs.Private.BodyGroups.{IsWithin, FindsLine, GivesGroup, IsBegun, JoinsGroup, IsFirstGroup, text_of, IsTextHeld};
 
 use properties_items::line::LineEnding;
 use properties_lines::logical::{LogicalLine, is_line_in};
@@ -96,7 +98,7 @@ impl GroupReader {
         let line = *self.scanner.line();
         let encoding = self.scanner.encoding();
         let bytes = &body[line.start..line.end];
-        let is_line = line.is_ascii || is_line_in(encoding, bytes);
+        let is_line = is_line(encoding, line, bytes);
         let is_open = self.line.begin(encoding, is_line, bytes)?;
         let group = Group {
             number: self.scanner.number(),
@@ -107,13 +109,13 @@ impl GroupReader {
             is_empty: line.start == line.end,
         };
         let joined = self.join(body, group)?;
-        self.line.make_text(&body[joined.start..joined.end])?;
         Ok(Some(joined))
     }
 
-    // Joins the following lines to a group that is open, up to and including the first line that isn't open.
+    // Joins the following lines to a group that is open, up to and including the first line that isn't open, and decodes
+    // the logical line.
     fn join(&mut self, body: &[u8], group: Group) -> Result<Group, AllocError>
-        requires { IsWithin body.now self.old }
+        requires { IsBegun body.now self.old group }
         ensures { IfOk result (λ joined. JoinsGroup body.now self.old group joined self.new) }
     {
         let mut joined = group;
@@ -121,7 +123,7 @@ impl GroupReader {
             let line = *self.scanner.line();
             let bytes = &body[line.start..line.end];
             let encoding = self.scanner.encoding();
-            let is_line = line.is_ascii || is_line_in(encoding, bytes);
+            let is_line = is_line(encoding, line, bytes);
             let is_open = self.line.join(encoding, is_line, bytes)?;
             joined = Group {
                 end: line.end,
@@ -131,6 +133,7 @@ impl GroupReader {
                 ..joined
             };
         }
+        self.line.make_text(&body[joined.start..joined.end])?;
         Ok(joined)
     }
 
@@ -153,6 +156,14 @@ impl GroupReader {
             Scan::More | Scan::TooMany => Err(AllocError),
         }
     }
+}
+
+// Returns whether a line with these bytes is in windows-1252 or in well-formed UTF-8.
+fn is_line(encoding: Encoding, line: RawLine, bytes: &[u8]) -> bool
+    requires { HasRightFlags (encoding_of encoding) bytes.now line }
+    ensures { TellsLine (encoding_of encoding) bytes.now result }
+{
+    line.is_ascii || is_line_in(encoding, bytes)
 }
 
 // Returns the line ending that these bytes form.

@@ -23,12 +23,13 @@ use crate::edit::groups::{Group, GroupReader};
 use crate::edit::keys::pair_of;
 use crate::edit::new_pair::{layout_at, printed_new_pair};
 use crate::edit::place::{BodySpan, Closing, closing_after, closing_bytes, separation_after};
-use crate::edit::result::{are_empty, begins_like_bom, concatenated, printed_pair, replaced};
+use crate::edit::result::{are_empty, concatenated, printed_pair, replaced};
 use crate::edit::source::BodyStart;
 use crate::edit::value::new_value;
 use properties_items::error::PropertiesError;
 use properties_items::line::LineEnding;
 use properties_text::encoding::Encoding;
+use properties_text::encoding::byte_order_mark::begins_like_mark;
 use std::alloc::{AllocError, Global};
 use std::collections::BTreeMap;
 
@@ -290,7 +291,7 @@ fn guard_front(source: &mut Vec<u8>, start: usize, index: &mut Index)
     requires { vec_len source.old < vec_capacity source.old }
     ensures { GuardsFront (start == 0 && begins_like_bom source.old.items) source.old.items index.old source.new.items index.new }
 {
-    if start == 0 && begins_like_bom(source) {
+    if start == 0 && begins_like_mark(source) {
         put_lf_first(source, index);
     }
 }

@@ -6,8 +6,8 @@ ghost use Rattle.properties_format.specs.Text.{is_blanks};
 ghost use Rattle.properties_format.specs.Encoding.{output_encoding};
 ghost use Rattle.properties_format.specs.Printing.{encoded_text};
 ghost use Rattle.properties_format.specs.Valued.{value_text};
-ghost use Rattle.properties_text.specs.Encoding.{encoding_of, output_of};
-ghost use Rattle.properties_text.specs.Printing.{AppendsOnOk};
+ghost use Rattle.properties_text.specs.Encoding.{encoding_of};
+ghost use Rattle.properties_text.specs.Printing.{AppendsOnOk, encoding_in, only_in};
 ghost use Rattle.properties_lines.specs.LineSearch.{unit_size};
 ghost use Rattle.properties_editing.specs.Private.BodyValues.{GivesValue, IsPairAlone, Revalues};
 
@@ -104,8 +104,8 @@ fn print_value_after(
 
 /// Returns the characters that an edit prints as they are: all that the encoding has.
 pub fn repertoire_of(encoding: Encoding) -> Repertoire
-    ensures encoding { output_of result.encoding ≡ output_encoding (encoding_of encoding) }
-    ensures all { result.ascii_only ≡ false }
+    ensures encoding { encoding_in result ≡ output_encoding (encoding_of encoding) }
+    ensures all { only_in result ≡ false }
 {
     Repertoire::from(LineEncoding::from(encoding))
 }

@@ -1,4 +1,4 @@
-use Rattle.std.proofs.Common.{false, refl}
+use Rattle.std.proofs.Common.{◌++◌, ◌∙◌, ap, false, refl}
 use Rattle.std.specs.Str.{chars}
 use Rattle.std.proofs.lemmas.Result.{on_ok_weaker}
 use Rattle.properties_format.specs.Printing.{printed_key}
@@ -16,7 +16,7 @@ returns c =
     let value = rw c.repertoire_of-repertoire.ensures.encoding at c.print_value.ensures in
     let separator = separator-bytes e text (chars text) c.utf8.separator refl c.requires in
     on_ok_weaker c.print_value.result
-    (λ h. new_pair-unended e c.args.line.now c.print_key.new.line c.print_raw.new.line c.print_value.new.line
+    (λ h. new_pair-unended e c.args.line.now c.print_key.new.line c.extend.new.self c.print_value.new.line
     (chars text) text (printed_key e false c.args.first (chars c.args.key.now)) (chars c.args.value.now) c.are_blanks.result
-    key c.in_ok-print_raw.ensures.appended separator h c.are_blanks.ensures)
+    key (c.in_ok-extend.ensures.appended ∙ ap (λ v. c.print_key.new.line ++ v) c.as_bytes.ensures.value) separator h c.are_blanks.ensures)
     value

@@ -1,4 +1,4 @@
-use Rattle.std.proofs.Common.{◌∙◌, ap₂, ◌++◌, drop, refl}
+use Rattle.std.proofs.Common.{◌∙◌, ap, ap₂, ◌++◌, drop, refl}
 use Rattle.std.specs.Str.{chars}
 use Rattle.std.proofs.lemmas.Result.{IfOk-weaker}
 use Rattle.std.proofs.lemmas.List.{take_rest}
@@ -19,13 +19,13 @@ returns c =
     let layout = c.args.layout.now in
     let ending = line_ending_text (ending_of layout.ending) in
     let first = c.are_empty-first.ensures
-    ∙ ap₂ (λ v w. is_empty (v ++ w)) (take_rest source c.args.opened.start) (c.as_bytes.ensures.value ∙ c.closing_bytes-separation.ensures) in
+    ∙ ap₂ (λ v w. is_empty (v ++ w)) (take_rest source c.args.opened.start) (c.as_bytes-2.ensures.value ∙ c.closing_bytes-separation.ensures) in
     let printed = rw c.as_str-separator.ensures.value at c.in_ok-print_new_pair.ensures in
-    let ended = new_pair-ended e c.print_raw.new.line c.print_new_pair.new.line c.print_raw-2.new.line (characters layout.separator) (chars c.args.key.now) (chars c.args.value.now)
-    c.ending_text.result.now c.are_empty-first.result (ending_of layout.ending) printed c.in_ok-print_raw-2.ensures.appended
+    let ended = new_pair-ended e c.extend.new.self c.print_new_pair.new.line c.extend-2.new.self (characters layout.separator) (chars c.args.key.now) (chars c.args.value.now)
+    c.ending_text.result.now c.are_empty-first.result (ending_of layout.ending) printed (c.in_ok-extend-2.ensures.appended ∙ ap (λ v. c.print_new_pair.new.line ++ v) c.as_bytes-3.ensures.value)
     (ending-bytes c.ending_text.result.now (ending_of layout.ending) c.ending_text.utf8 c.ending_text.ensures) in
     IfOk-weaker c.concatenated.result _ _
-    (λ bytes h. new_pair-appended e source (drop c.args.opened.start source) (closing_bytes ending layout.closing) c.closing_bytes-separation.result.now c.new-line.result c.print_raw.new.line
-    c.print_raw-2.new.line bytes.items (chars c.args.key.now) (characters layout.separator) (chars c.args.value.now) ending c.are_empty-first.result
-    (h ∙ ap₂ (λ v w. source ++ (v ++ w)) c.as_slice.ensures refl) ended c.in_ok-print_raw.ensures.appended c.new-line.ensures c.closing_bytes-separation.ensures first)
+    (λ bytes h. new_pair-appended e source (drop c.args.opened.start source) (closing_bytes ending layout.closing) c.closing_bytes-separation.result.now c.new-line.result c.extend.new.self
+    c.extend-2.new.self bytes.items (chars c.args.key.now) (characters layout.separator) (chars c.args.value.now) ending c.are_empty-first.result
+    (h ∙ ap₂ (λ v w. source ++ (v ++ w)) c.as_slice.ensures refl) ended (c.in_ok-extend.ensures.appended ∙ ap (λ v. c.new-line.result ++ v) c.as_bytes.ensures.value) c.new-line.ensures c.closing_bytes-separation.ensures first)
     c.concatenated.ensures

@@ -12,8 +12,8 @@ returns-then-is_empty c =
     let e = output_encoding (encoding_of c.args.encoding) in
     let printed = rw c.repertoire_of-repertoire.ensures.encoding at c.print_value.ensures in
     on_ok_weaker c.print_value.result
-    (λ h. value-unseparated e c.args.line.now c.print_raw.new.line c.print_value.new.line (chars c.args.separator.now) (chars c.args.value.now)
-    (text-empty c.args.separator.now c.if-is_empty.ensures) c.in_ok-print_raw.ensures.appended h)
+    (λ h. value-unseparated e c.args.line.now c.extend.new.self c.print_value.new.line (chars c.args.separator.now) (chars c.args.value.now)
+    (text-empty c.args.separator.now c.if-is_empty.ensures) c.in_ok-extend.ensures.appended h)
     printed
 
 pub returns : goal.returns
