@@ -1,5 +1,5 @@
 -- The lines that an engine builds, from their parts.
-use Rattle.std.proofs.Common.{◌≡◌, ◌<◌, ◌==◌, ◌++◌, ◌+◌, ◌^◌, ℕ, Bool, true, List, [], refl, ap, sym, subst, ◌∙◌, append_assoc, inl, inr}
+use Rattle.std.proofs.Common.{◌≡◌, ◌<◌, ◌==◌, ◌++◌, ◌+◌, ◌^◌, ℕ, Bool, true, false, List, [], refl, ap, ap₂, sym, subst, ◌∙◌, append_assoc, inl, inr}
 use Rattle.std.specs.Prelude.{Some, Option, Result, Ok, Err}
 use Rattle.std.specs.declared.io.Error.{Error}
 use Rattle.counted_io.specs.Streams.{Sink, HasWritten, HasSentPart}
@@ -7,86 +7,108 @@ use Rattle.properties_format.specs.Text.{line_ending_text}
 use Rattle.properties_format.specs.Entries.{Content, comment, pair}
 use Rattle.properties_format.specs.Writing.{is_accepted}
 use Rattle.properties_format.specs.Printing.{encoded_text, printed_characters, printed_key, in_prefix, in_comment, in_key_or_value}
-use Rattle.properties_format.proofs.Printing.Characters.{printed-comment, printed-pair}
-use Rattle.properties_text.specs.Encoding.{output_of}
+use Rattle.properties_format.proofs.Printing.Characters.{encoded_text-ascii, printed-comment, printed-pair}
+use Rattle.properties_text.specs.Encoding.{line_of}
 use Rattle.properties_items.specs.Errors.{IsError, IsBareError, cause_of_write}
 use Rattle.java_properties.specs.PropertiesWriter.{Writing, call_of, TakesLine, HasWrittenLine, RefusesLine, FailsInLine}
 use Rattle.properties_items.specs.declared.error.ErrorKind.TheVariants.{Io}
 use Rattle.properties_items.specs.declared.error.PropertiesError.{PropertiesError}
-use Rattle.java_properties.specs.Private.Engine.{writing, NumbersLine, SendsLine, repertoire_of, line_bytes, content_bytes, BuildsUndecoded}
-use Rattle.properties_text.specs.Printing.{text_bytes, key_bytes}
-use Rattle.properties_text.specs.UndecodedTexts.{undecoded_line, PrintsPair}
+use Rattle.java_properties.specs.Private.Engine.{writing, NumbersLine, SendsLine, repertoire_in, repertoire_of, line_bytes, comment_bytes, BuildsPair}
+use Rattle.properties_format.specs.Encoding.{utf_8}
+use Rattle.properties_format.proofs.AsciiOnly.{printed_characters-ascii, printed_characters-same, printed_key-ascii, printed_key-same}
+use Rattle.properties_text.specs.Printing.{text_bytes, key_bytes, puts_of, place_of, encoding_in, only_in}
+use Rattle.properties_text.specs.PrintedTexts.{PrintsPair}
+use Rattle.properties_text.specs.declared.encoding.line.LineEncoding.{LineEncoding}
+use Rattle.properties_text.specs.declared.encoding.line.LineEncoding.TheVariants as line
+use Rattle.properties_text.specs.declared.escape.UnescapeError.TheVariants as error
+use Rattle.properties_text.specs.declared.print.Pair.{Pair}
+use Rattle.properties_text.specs.declared.print.Place.{Place}
+use Rattle.properties_text.specs.declared.print.Place.TheVariants as place
+use Rattle.properties_text.specs.declared.print.Repertoire.{Repertoire}
+use Rattle.properties_text.specs.declared.print.Repertoire.TheVariants as repertoire
 use Rattle.properties_text.specs.declared.escape.UnescapeError.{UnescapeError}
-use Rattle.properties_text.specs.declared.print.undecoded.UndecodedPair.{UndecodedPair}
-use Rattle.properties_text.specs.declared.print.Place.TheVariants.{KeyOrValue}
 use Rattle.java_properties.specs.declared.writer.engine.Engine.{Engine}
 
 -- the bytes of the line ending
 abbrev pub ending_bytes : Engine → List ℕ
-ending_bytes w = encoded_text (output_of w.encoding) (line_ending_text w.settings.line_ending)
+ending_bytes w = encoded_text (line_of w.encoding) (line_ending_text w.settings.line_ending)
 
--- a line is what it says, and then its line ending
-line-parts : (w : Engine) (line : Content) → content_bytes w line ++ ending_bytes w ≡ line_bytes w line
-line-parts w (comment text) =
-    let e = output_of w.encoding in
+-- ---- what a line can contain without escapes
+
+-- a repertoire that has all of an encoding
+pub repertoire-of : (to : Repertoire) (e : LineEncoding) → encoding_in to ≡ line_of e → only_in to ≡ false → to ≡ repertoire_in false e
+repertoire-of repertoire.Windows1252 line.Windows1252 same h = refl
+repertoire-of repertoire.Windows1252 line.Utf8 same h = absurd (cc)
+repertoire-of repertoire.Utf8 line.Windows1252 same h = absurd (cc)
+repertoire-of repertoire.Utf8 line.Utf8 same h = refl
+repertoire-of repertoire.Ascii e same h = absurd (cc)
+
+-- ASCII alone is the same bytes in each encoding
+text-alike : (only : Bool) (e : LineEncoding) (p : Place) (text : List ℕ)
+    → text_bytes (repertoire_in only e) p text ≡ encoded_text (line_of e) (printed_characters (line_of e) only (place_of p) text)
+text-alike false line.Windows1252 p text = refl
+text-alike false line.Utf8 p text = refl
+text-alike true e p text =
+    encoded_text-ascii utf_8 (printed_characters utf_8 true (place_of p) text) (printed_characters-ascii utf_8 (place_of p) text)
+    ∙ printed_characters-same utf_8 (line_of e) (place_of p) text
+    ∙ sym (encoded_text-ascii (line_of e) (printed_characters (line_of e) true (place_of p) text) (printed_characters-ascii (line_of e) (place_of p) text))
+
+value-alike : (only : Bool) (e : LineEncoding) (text : List ℕ)
+    → puts_of (repertoire_in only e) text ≡ encoded_text (line_of e) (printed_characters (line_of e) only in_key_or_value text)
+value-alike false line.Windows1252 text = refl
+value-alike false line.Utf8 text = refl
+value-alike true e text =
+    encoded_text-ascii utf_8 (printed_characters utf_8 true in_key_or_value text) (printed_characters-ascii utf_8 in_key_or_value text)
+    ∙ printed_characters-same utf_8 (line_of e) in_key_or_value text
+    ∙ sym (encoded_text-ascii (line_of e) (printed_characters (line_of e) true in_key_or_value text) (printed_characters-ascii (line_of e) in_key_or_value text))
+
+key-alike : (only : Bool) (e : LineEncoding) (first : Bool) (key : List ℕ)
+    → key_bytes (repertoire_in only e) first key ≡ encoded_text (line_of e) (printed_key (line_of e) only first key)
+key-alike false line.Windows1252 first key = refl
+key-alike false line.Utf8 first key = refl
+key-alike true e first key =
+    encoded_text-ascii utf_8 (printed_key utf_8 true first key) (printed_key-ascii utf_8 first key)
+    ∙ printed_key-same utf_8 (line_of e) first key
+    ∙ sym (encoded_text-ascii (line_of e) (printed_key (line_of e) true first key) (printed_key-ascii (line_of e) first key))
+
+-- ---- what is built in an empty buffer
+
+-- a comment, and then its line ending
+pub comment-built : (w : Engine) (text cleared printed all ending : List ℕ) → cleared ≡ [] → printed ≡ cleared ++ comment_bytes w text
+    → ending ≡ ending_bytes w → all ≡ printed ++ ending → all ≡ line_bytes w (comment text)
+comment-built w text cleared printed all ending h k m n =
+    let e = line_of w.encoding in
     let front = encoded_text e (printed_characters e w.settings.ascii_only in_prefix w.settings.comment_prefix) in
     let rest = encoded_text e (printed_characters e w.settings.ascii_only in_comment text) in
-    append_assoc front rest (ending_bytes w)
+    n ∙ ap₂ (λ u v. u ++ v) (k ∙ ap (λ v. v ++ comment_bytes w text) h) m
+    ∙ ap (λ v. v ++ ending_bytes w) (ap₂ (λ u v. u ++ v) (text-alike w.settings.ascii_only w.encoding place.Prefix w.settings.comment_prefix)
+    (text-alike w.settings.ascii_only w.encoding place.Comment text))
+    ∙ append_assoc front rest (ending_bytes w)
     ∙ sym (printed-comment e w.settings (w.lines == 0) text)
-line-parts w (pair key value) =
-    let e = output_of w.encoding in
+
+-- a key, a separator, a value and a line ending
+pub pair-built : (w : Engine) (key value cleared separator ending all : List ℕ) → cleared ≡ []
+    → separator ≡ encoded_text (line_of w.encoding) w.settings.kv_separator → ending ≡ ending_bytes w
+    → all ≡ cleared ++ (key_bytes (repertoire_of w) (w.lines == 0) key ++ (separator ++ (puts_of (repertoire_of w) value ++ ending)))
+    → all ≡ line_bytes w (pair key value)
+pair-built w key value cleared separator ending all h s m n =
+    let e = line_of w.encoding in
     let front = encoded_text e (printed_key e w.settings.ascii_only (w.lines == 0) key) in
-    let middle = encoded_text e w.settings.kv_separator in
-    let back = encoded_text e (printed_characters e w.settings.ascii_only in_key_or_value value) in
-    append_assoc front (middle ++ back) (ending_bytes w)
-    ∙ ap (λ v. front ++ v) (append_assoc middle back (ending_bytes w))
+    let back = puts_of (repertoire_of w) value in
+    n ∙ ap (λ v. v ++ (key_bytes (repertoire_of w) (w.lines == 0) key ++ (separator ++ (back ++ ending)))) h
+    ∙ ap (λ v. v ++ (separator ++ (back ++ ending))) (key-alike w.settings.ascii_only w.encoding (w.lines == 0) key)
+    ∙ ap (λ v. front ++ (v ++ (back ++ ending))) s
+    ∙ ap₂ (λ u v. front ++ (encoded_text e w.settings.kv_separator ++ (u ++ v))) (value-alike w.settings.ascii_only w.encoding value) m
     ∙ sym (printed-pair e w.settings (w.lines == 0) key value)
 
--- ---- what is put together in a buffer
-
--- a key, a separator and a value, after what stood there
-pub pair-printed : (w : Engine) (key value start keyed separated all separator : List ℕ)
-    → keyed ≡ start ++ key_bytes (repertoire_of w) (w.lines == 0) key
-    → separated ≡ keyed ++ separator
-    → separator ≡ encoded_text (output_of w.encoding) w.settings.kv_separator
-    → all ≡ separated ++ text_bytes (repertoire_of w) KeyOrValue value
-    → all ≡ start ++ content_bytes w (pair key value)
-pair-printed w key value start keyed separated all separator h k m n =
-    let front = key_bytes (repertoire_of w) (w.lines == 0) key in
-    let middle = encoded_text (output_of w.encoding) w.settings.kv_separator in
-    let back = text_bytes (repertoire_of w) KeyOrValue value in
-    n ∙ ap (λ v. v ++ back) (k ∙ ap (λ v. v ++ separator) h ∙ ap (λ v. (start ++ front) ++ v) m)
-    ∙ append_assoc (start ++ front) middle back
-    ∙ append_assoc start front (middle ++ back)
-
--- what a line says in an empty buffer, and then its line ending
-pub line-built : (w : Engine) (line : Content) (cleared printed all ending : List ℕ) → cleared ≡ []
-    → printed ≡ cleared ++ content_bytes w line → ending ≡ ending_bytes w → all ≡ printed ++ ending → all ≡ line_bytes w line
-line-built w line cleared printed all ending h k m n =
-    n ∙ ap (λ v. v ++ ending) (k ∙ ap (λ v. v ++ content_bytes w line) h) ∙ ap (λ v. content_bytes w line ++ v) m ∙ line-parts w line
-
--- ---- a pair that isn't decoded
-
--- what is printed in an empty buffer for a pair of bytes is the line of the pair that they mean
-pub undecoded-built : (w : Engine) (p : UndecodedPair) (cleared separator ending new : List ℕ) → cleared ≡ []
-    → separator ≡ encoded_text (output_of w.encoding) w.settings.kv_separator → ending ≡ ending_bytes w
-    → (result : Result Unit UnescapeError) → PrintsPair (repertoire_of w) (w.lines == 0) cleared p separator ending result new → BuildsUndecoded w (undecoded_line p) result new
-undecoded-built w p cleared separator ending new c s e (Err why) h = h
-undecoded-built w p cleared separator ending new c s e (Ok done) h =
-    let first = key_bytes (repertoire_of w) (w.lines == 0) h.key in
-    let middle = encoded_text (output_of w.encoding) w.settings.kv_separator in
-    let last = text_bytes (repertoire_of w) KeyOrValue h.value in (
-      h.key,
-      h.value,
-      h.meaning,
-      h.printed
-          ∙ ap (λ v. v ++ (first ++ (separator ++ (last ++ ending)))) c
-          ∙ ap (λ v. first ++ (v ++ (last ++ ending))) s
-          ∙ ap (λ v. first ++ (middle ++ (last ++ v))) e
-          ∙ ap (λ v. first ++ v) (sym (append_assoc middle last (ending_bytes w)))
-          ∙ sym (append_assoc first (middle ++ last) (ending_bytes w))
-          ∙ line-parts w (pair h.key h.value),
-    )
+-- the pair that a spelling means
+pub spelt-built : (w : Engine) (p : Pair) (cleared separator ending new : List ℕ) → cleared ≡ []
+    → separator ≡ encoded_text (line_of w.encoding) w.settings.kv_separator → ending ≡ ending_bytes w
+    → (result : Result Unit UnescapeError) → PrintsPair (repertoire_of w) (w.lines == 0) cleared p separator ending result new → BuildsPair w p result new
+spelt-built w p cleared separator ending new c s e (Ok done) h =
+    (h.key, h.value, h.key_means, h.value_means, pair-built w h.key h.value cleared separator ending new c s e h.printed)
+spelt-built w p cleared separator ending new c s e (Err (error.Malformed malformed)) h = h
+spelt-built w p cleared separator ending new c s e (Err error.Memory) h = tt
 
 -- ---- the number of a line
 

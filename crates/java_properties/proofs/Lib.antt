@@ -1,12 +1,10 @@
 pub mod Settings
 pub mod Engine
-pub mod UndecodedPairs
 pub mod Calls
 pub mod ReadBack
 pub mod AsciiOnly
 pub mod CallComparisons
 pub mod Items
-pub mod CopiedLines
 pub mod StatedItems
 pub mod Copying
 pub mod Readings

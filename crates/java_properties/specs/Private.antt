@@ -1,4 +1,3 @@
 pub mod Engine
 pub mod GivenItems
-pub mod CopiedLines
 pub mod LineByLine

@@ -4,7 +4,7 @@ ghost use Rattle.std.specs.Prelude.{◌≡◌};
 ghost use Rattle.counted_io.specs.Streams.{IsSameReader, IsSameSink};
 ghost use Rattle.java_properties.specs.Copying.{error_in, Copies};
 
-use properties_items::error::PropertiesError;
+use properties_items::error::{PropertiesError, make};
 use crate::iter::PropertiesIter;
 use crate::writer::PropertiesWriter;
 use crate::writer::engine::Engine;
@@ -76,7 +76,7 @@ impl<W: CountedWrite> PropertiesWriter<W> {
                 Ok(Built::Nothing) => {}
                 Ok(Built::Line(line)) => {
                     if let Err(fault) = self.engine.send_line(&mut self.sink, line) {
-                        let error = PropertiesError::write_fault(Some(line), fault);
+                        let error = make::write_fault(Some(line), fault);
                         return Err(CopyError::Write(error));
                     }
                 }
@@ -85,7 +85,7 @@ impl<W: CountedWrite> PropertiesWriter<W> {
                 }
                 Err(error) => {
                     lines.end();
-                    return Err(CopyError::Read(PropertiesError::unresolved(number, error)));
+                    return Err(CopyError::Read(make::unresolved(number, error)));
                 }
             }
         }
@@ -124,22 +124,11 @@ fn build_line(engine: &mut Engine, lines: &LineJoiner) -> Result<Built, Unescape
             }
         }
         Some(ParsedSpans::KVPair(key, value)) => {
-            let pair = Pair::spelt(lines.encoding(), bytes, key, value);
-            match engine.build_pair(pair) {
-                // A malformed escape is reported before what the writer refuses, and that before refused memory.
-                Err(UnescapeError::Malformed(malformed)) => {
-                    Err(UnescapeError::Malformed(malformed))
-                }
-                built => {
-                    let accepted = engine.takes_span(key);
-                    let Some(line) = engine.next_number(accepted) else {
-                        return Ok(Built::Refused(accepted));
-                    };
-                    match built {
-                        Ok(()) => Ok(Built::Line(line)),
-                        Err(error) => Err(error),
-                    }
-                }
+            engine.build_pair(Pair::spelt(lines.encoding(), bytes, key, value))?;
+            let accepted = engine.takes_span(key);
+            match engine.next_number(accepted) {
+                Some(line) => Ok(Built::Line(line)),
+                None => Ok(Built::Refused(accepted)),
             }
         }
     }

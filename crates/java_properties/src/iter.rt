@@ -108,7 +108,6 @@ impl<R: CountedRead> PropertiesIter<R> {
     pub fn advance(&mut self) -> Option<Result<Found, PropertiesError>>
         ensures gives { AdvanceGives R.CountedRead self.old result self.new }
         ensures nearer { OnSome result (lines_left self.new.state < lines_left self.old.state) }
-        ensures kept { self.new.error ≡ self.old.error }
     {
         self.items.advance(&mut self.reader)
     }

@@ -4,7 +4,7 @@ ghost use Rattle.std.specs.Prelude.{IfOk};
 ghost use Rattle.counted_io.specs.Streams.{IsSameReader, IsSameSink};
 ghost use Rattle.java_properties.specs.PropertiesIter.{format_content};
 ghost use Rattle.properties_format.specs.Encoding.{windows_1252};
-ghost use Rattle.properties_text.specs.Encoding.{output_of};
+ghost use Rattle.properties_text.specs.Encoding.{line_of};
 ghost use Rattle.java_properties.specs.Maps.{texts_of, InsertsIfPair, ReadsMap, AreInOrder, WritesPairs, WritesMap, MapReadsBack};
 
 mod sorted;
@@ -103,7 +103,7 @@ fn write_pairs<W: CountedWrite>(
     encoding: LineEncoding,
 ) -> Result<(), PropertiesError>
     ensures writes { let texts = texts_of pairs.now in
-        WritesPairs W.CountedWrite (output_of encoding) texts writer.old result writer.new }
+        WritesPairs W.CountedWrite (line_of encoding) texts writer.old result writer.new }
     ensures same_sink { IsSameSink W.CountedWrite writer.old writer.new }
 {
     let mut engine = Engine::new(alloc, encoding);

@@ -190,6 +190,7 @@ group-begun E body old found l group told k begins sound starts ends opens =
     record {
       within = record { bytes = k.within.bytes; within_body = k.within.within_body };
       ordered = omega arith;
+      placed = omega arith;
       within_body = omega arith;
       well = well-begun told begins (ap₂ (λ m n. take (m - n) (drop n body)) ends starts);
       unfinished = λ h. open-begun told begins (sym opens ∙ h);
@@ -337,9 +338,11 @@ group-more E body before group mid found l stop ending told j opened k unfinishe
 
 -- A group whose last line was joined is well-formed as before.
 pub more-begun : (body : List ℕ) (mid found : GroupReader) (l : LogicalLine) (group joined : Group) → IsBegun body mid group → TakesLine body mid found
-    → group.start ≤ mid.scanner.at → IsUnfinished (encoding_of found.scanner.encoding) l → IsSound l → joined.start ≡ group.start → joined.end ≡ found.scanner.line.end
+    → IsUnfinished (encoding_of found.scanner.encoding) l → IsSound l → joined.start ≡ group.start → joined.end ≡ found.scanner.line.end
     → IsBegun body (record found { line = l }) joined
-more-begun body mid found l group joined b k before u sound starts ends =
+more-begun body mid found l group joined b k u sound starts ends =
+    let before = b.ordered in
+    let behind = b.placed in
     let from = k.starts in
     let ordered = k.ordered in
     let placed = k.placed in
@@ -347,6 +350,7 @@ more-begun body mid found l group joined b k before u sound starts ends =
     record {
       within = record { bytes = k.within.bytes; within_body = k.within.within_body };
       ordered = omega arith;
+      placed = omega arith;
       within_body = omega arith;
       well = rw u.place u.well;
       unfinished = λ h. u;

@@ -11,18 +11,18 @@ use Rattle.properties_format.specs.Laws.{wrote_pairs, ArePairsReadBack}
 use Rattle.properties_format.proofs.Items.Unique.{items_of-only}
 use Rattle.properties_format.proofs.Laws.{equal-bytes, writing-anew}
 use Rattle.properties_format.proofs.ReadBack.Law.{items_of-wrote, IsItems-wrote}
-use Rattle.properties_text.specs.Encoding.{output_of}
+use Rattle.properties_text.specs.Encoding.{line_of}
 use Rattle.java_properties.specs.PropertiesWriter.{Writing}
 use Rattle.java_properties.specs.Calls.{HasMade, StopsAtCall, RunsCalls}
 use Rattle.java_properties.specs.ReadBack.{IsGoodWriter, IsCleanWriting, IsReadBack, IsReadBackBefore, ReadsBack, ArePairsWritten, IsWritingOf}
 use Rattle.properties_items.specs.declared.error.PropertiesError.{PropertiesError}
-use Rattle.properties_text.specs.declared.encoding.encode.OutputEncoding.{OutputEncoding}
-use Rattle.properties_text.specs.declared.encoding.encode.OutputEncoding.TheVariants.{Windows1252, Utf8}
+use Rattle.properties_text.specs.declared.encoding.line.LineEncoding.{LineEncoding}
+use Rattle.properties_text.specs.declared.encoding.line.LineEncoding.TheVariants.{Windows1252, Utf8}
 
 -- the encoding of a writer is one that is written
-pub output_of-own : (e : OutputEncoding) → output_encoding (output_of e) ≡ output_of e
-output_of-own Windows1252 = refl
-output_of-own Utf8 = refl
+pub line_of-own : (e : LineEncoding) → output_encoding (line_of e) ≡ line_of e
+line_of-own Windows1252 = refl
+line_of-own Utf8 = refl
 
 -- what holds of all calls holds of the first of them
 scalars-before : (xs ys : List Call) → AreOfScalars (xs ++ ys) → AreOfScalars xs

@@ -12,7 +12,7 @@ use Rattle.properties_format.specs.Encoding.{Encoding}
 use Rattle.properties_format.specs.Entries.{pair}
 use Rattle.properties_format.specs.Settings.{default_settings}
 use Rattle.properties_format.specs.Writing.{Call, pair_call, flush_call, is_accepted, settings_after}
-use Rattle.properties_text.specs.Encoding.{output_of}
+use Rattle.properties_text.specs.Encoding.{line_of}
 use Rattle.java_properties.specs.Private.Engine.{writing}
 use Rattle.properties_items.specs.Errors.{kind_of}
 use Rattle.java_properties.specs.PropertiesWriter.{Writing, new_writer, WritesLine, Flushes, HasWrittenLine, IsRefusedBy}
@@ -26,7 +26,7 @@ use Rattle.java_properties.proofs.Calls.Made.{made-none, made-more, pair-made}
 use Rattle.java_properties.proofs.Calls.Lists.{calls-cut, calls-take}
 
 -- a new engine is a new writer
-pub new-writing : {W : Type 0} {a : Encoding} (engine : Engine) (to : W) → output_of engine.encoding ≡ a → engine.settings ≡ default_settings
+pub new-writing : {W : Type 0} {a : Encoding} (engine : Engine) (to : W) → line_of engine.encoding ≡ a → engine.settings ≡ default_settings
     → engine.lines ≡ 0 → engine.failed ≡ false → new_writer a to ≡ writing engine to
 new-writing engine to h b c d = rw (h, b, c, d) refl
 

@@ -2,13 +2,12 @@
 
 ghost use Rattle.std.specs.Prelude.{◌≡◌, false, None, Ok, Err, OnOk, IfSome};
 ghost use Rattle.std.specs.Str.{chars};
-ghost use Rattle.properties_format.specs.Entries.{comment, pair};
 ghost use Rattle.properties_format.specs.Settings.{default_settings};
 ghost use Rattle.properties_format.specs.Writing.{is_accepted};
 ghost use Rattle.counted_io.specs.Streams.{IsSameSink};
-ghost use Rattle.properties_text.specs.UndecodedTexts.{undecoded_line, IsUndecodedPair};
-ghost use Rattle.java_properties.specs.Private.Engine.{entry_content, writing, repertoire_of, line_bytes, content_bytes, NumbersLine, HasNoNumber, KeepsRefusal, KeepsFault, SendsLine, takes_span, WritesPair, BuildsUndecoded, WritesUndecoded};
-ghost use Rattle.properties_text.specs.Printing.{AppendsOnOk, is_all_of_windows_1252};
+ghost use Rattle.properties_text.specs.PrintedTexts.{IsPair};
+ghost use Rattle.java_properties.specs.Private.Engine.{entry_content, writing, repertoire_of, line_bytes, comment_bytes, NumbersLine, HasNoNumber, SendsLine, takes_span, BuildsPair};
+ghost use Rattle.properties_text.specs.Printing.{AppendsOnOk};
 ghost use Rattle.java_properties.specs.PropertiesWriter.{call_of, WritesLine, Flushes};
 
 use super::settings::Settings;
@@ -170,6 +169,9 @@ impl Engine {
     /// Builds the line of a pair. Fails with the first malformed escape, or if memory runs out.
     #[inline(always)]
     pub fn build_pair(&mut self, pair: Pair<'_>) -> Result<(), UnescapeError>
+        requires { IsPair pair }
+        ensures printed { BuildsPair self.old pair.entry result self.new.line }
+        ensures same { self.new ≡ record self.old { line = self.new.line } }
     {
         let repertoire = self.repertoire();
         self.line.clear();
@@ -211,7 +213,7 @@ impl Engine {
     }
 
     fn print_comment(&mut self, text: &str) -> Result<(), AllocError>
-        ensures printed { let bytes = content_bytes self.old (comment (chars text.now)) in
+        ensures printed { let bytes = comment_bytes self.old (chars text.now) in
             AppendsOnOk self.old.line bytes result self.new.line }
         ensures same { self.new ≡ record self.old { line = self.new.line } }
     {

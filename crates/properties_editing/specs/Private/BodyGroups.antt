@@ -130,11 +130,12 @@ pub record ReadsGroup (body : List ℕ) (old : GroupReader) (group : Group) (new
 pub record IsBegun (body : List ℕ) (s : GroupReader) (group : Group) : Type 0 where
   pub within : IsWithin body s
   pub ordered : group.start ≤ group.end
+  pub placed : group.end ≤ s.scanner.at
   pub within_body : group.end ≤ length body
   pub well : IsWell s.line.encoding (text_of body s group)
   pub unfinished : group.is_open ≡ true → IsUnfinished (encoding_of s.scanner.encoding) s.line
   pub sound : IsSound s.line
 
 -- The group was read whole: to a line that isn't open, or to the last line.
-pub record JoinsGroup (body : List ℕ) (old : GroupReader) (group : Group) (joined : Group) (new : GroupReader) : Type 0 where
-  pub whole : (before : GroupReader) → ReadsGroup body before group old → TakesGroup body before joined new
+abbrev pub JoinsGroup : List ℕ → GroupReader → Group → Group → GroupReader → Type 0
+JoinsGroup body old group joined new = (before : GroupReader) → ReadsGroup body before group old → TakesGroup body before joined new

@@ -84,13 +84,20 @@ fn head_size(bytes: &[u8], text: &str, added: usize, left: usize) -> usize
         (take (length text.now - (if is_open (chars text.now) then 1 else 0) - added + left) text.now)) bytes.now }
     ensures within { result ≤ length bytes.now }
 {
-    let backslash = usize::from(is_open(text.as_bytes()));
+    let backslash = usize::from(ends_open(text));
     if left == added {
         return bytes.len() - backslash;
     }
     // The head ends in a separator, so in an ASCII character, which is one byte in each of these encodings.
     let head = text.len() - backslash - added + left;
     after_ascii(bytes, ascii_count(&text.as_bytes()[..head]))
+}
+
+// Returns whether a text ends in an odd number of backslashes.
+fn ends_open(text: &str) -> bool
+    ensures { result ≡ is_open (chars text.now) }
+{
+    is_open(text.as_bytes())
 }
 
 // Returns how many of these bytes are ASCII.

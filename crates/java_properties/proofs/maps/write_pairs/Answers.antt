@@ -1,7 +1,7 @@
 use Rattle.std.proofs.Common.{◌<◌, ◌≤◌, length, refl, ◌∙◌, subst, arith}
 use Rattle.std.proofs.lemmas.Result.{err_from_is_err_and}
 use Rattle.counted_io.specs.Streams.{sink}
-use Rattle.properties_text.specs.Encoding.{output_of}
+use Rattle.properties_text.specs.Encoding.{line_of}
 use Rattle.java_properties.specs.Private.Engine.{writing}
 use Rattle.java_properties.specs.PropertiesWriter.{Writing}
 use Rattle.java_properties.proofs.TextMaps.Writing.{HasMadeFirst, new-writing, first-none, first-more, first-all, stops-in-pair, writes}
@@ -10,7 +10,7 @@ use Rattle.java_properties.proofs.maps.write_pairs.Goals as goal
 pub loop-key-init : goal.loop-key-init
 loop-key-init g c =
     let s = sink g.W.Write g.W.CountedWrite in
-    let a = output_of c.args.encoding in
+    let a = line_of c.args.encoding in
     let from = c.args.writer.now in
     let items = c.args.pairs.now in
     let e = c.new-engine in
@@ -27,7 +27,7 @@ returns-in_err-write_line-clause-writes g c =
     let held = c.loop-key.invariant in
     let below : c.loop-key.key-index < length items = omega arith in
     let fails = rw c.in_err-write_line.was at c.write_line.ensures.writes in
-    rw (error.1, error.2) (stops-in-pair s (output_of c.args.encoding) c.args.writer.now items c.loop-key.key-index c.loop-key-item.result _ _
+    rw (error.1, error.2) (stops-in-pair s (line_of c.args.encoding) c.args.writer.now items c.loop-key.key-index c.loop-key-item.result _ _
     (writing c.loop-key.engine c.loop-key.writer) (writing c.write_line.new.self c.write_line.new.sink) below c.loop-key-item.is c.as_str.ensures.value
     c.as_str-in-loop-key.ensures.value held.made _ fails)
 
@@ -39,7 +39,7 @@ loop-key-preserved g c =
     let below : c.loop-key.key-index < length items = omega arith in
     let line = rw c.in_ok-write_line.was at c.write_line.ensures.writes in
     record {
-      made = first-more s (output_of c.args.encoding) c.args.writer.now items c.loop-key.key-index c.loop-key-item.result _ _ (writing c.loop-key.engine c.loop-key.writer)
+      made = first-more s (line_of c.args.encoding) c.args.writer.now items c.loop-key.key-index c.loop-key-item.result _ _ (writing c.loop-key.engine c.loop-key.writer)
           (writing c.write_line.new.self c.write_line.new.sink) below c.loop-key-item.is c.as_str.ensures.value c.as_str-in-loop-key.ensures.value held.made line;
       same_sink = c.write_line.ensures.same_sink ∙ held.same_sink;
     }
@@ -47,7 +47,7 @@ loop-key-preserved g c =
 pub returns-clause-writes : goal.returns-clause-writes
 returns-clause-writes g c =
     let s = sink g.W.Write g.W.CountedWrite in
-    let a = output_of c.args.encoding in
+    let a = line_of c.args.encoding in
     let items = c.args.pairs.now in
     let from = c.args.writer.now in
     let held = c.loop-key.invariant in

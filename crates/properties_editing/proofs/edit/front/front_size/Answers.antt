@@ -1,4 +1,4 @@
-use Rattle.std.proofs.Common.{ap, arith}
+use Rattle.std.proofs.Common.{◌∙◌, ap, arith}
 use Rattle.properties_text.specs.Encoding.{encoding_of}
 use Rattle.properties_editing.proofs.BodyValues.{IsTaken, taken, taken-sizes, walking-begins, walking-found, walking-on}
 use Rattle.properties_editing.proofs.BodyKeys.{editable-bytes}
@@ -9,9 +9,9 @@ use Rattle.properties_editing.proofs.edit.front.front_size.Goals.{After-as_str-t
 came : (c : After-as_str-then-left-added)
     → IsTaken (encoding_of c.args.encoding) c.args.pair.now c.find_line.new.self c.loop-text.is_first c.as_str-then-left-added.result.now c.added_by-added.result.now
 came c =
-    taken c.as_str-then-left-added.result.now c.as_str.result.now c.push_decoded.new.self c.clear.new.self c.added_by-added.result.now c.raw_line-line.result
-    c.as_str-then-left-added.utf8 c.added_by-added.utf8 c.as_str-then-left-added.ensures c.as_str.ensures c.clear.ensures c.raw_line-line.ensures
-    c.in_ok-push_decoded.ensures.appended c.added_by-added.ensures
+    taken c.as_str-then-left-added.result.now c.as_bytes.result.now c.push_decoded.new.self c.clear.new.self c.added_by-added.result.now c.raw_line-line.result
+    c.as_str-then-left-added.utf8 c.added_by-added.ensures.utf8 c.as_str-then-left-added.ensures (c.as_bytes.ensures.value ∙ c.as_str.ensures) c.clear.ensures c.raw_line-line.ensures
+    c.in_ok-push_decoded.ensures.appended c.added_by-added.ensures.adds
 
 pub loop-text-init : goal.loop-text-init
 loop-text-init c =
@@ -37,9 +37,9 @@ returns-then-left-added c =
 pub loop-text-preserved : goal.loop-text-preserved
 loop-text-preserved c =
     let t = taken {e = encoding_of c.args.encoding} {body = c.args.pair.now} {new = c.find_line.new.self} {first = c.loop-text.is_first}
-    c.as_str.result.now c.as_str.result.now c.push_decoded.new.self c.clear.new.self c.added_by-added.result.now c.raw_line-line.result
-    c.as_str.utf8 c.added_by-added.utf8 c.as_str.ensures c.as_str.ensures c.clear.ensures c.raw_line-line.ensures
-    c.in_ok-push_decoded.ensures.appended c.added_by-added.ensures in
+    c.as_str.result.now c.as_bytes.result.now c.push_decoded.new.self c.clear.new.self c.added_by-added.result.now c.raw_line-line.result
+    c.as_str.utf8 c.added_by-added.ensures.utf8 c.as_str.ensures (c.as_bytes.ensures.value ∙ c.as_str.ensures) c.clear.ensures c.raw_line-line.ensures
+    c.in_ok-push_decoded.ensures.appended c.added_by-added.ensures.adds in
     let takes = rw c.if-branch.true at c.in_ok-find_line.ensures in
     let more = c.if-left-added.false in
     walking-on c.as_str.result.now c.added_by-added.result.now c.loop-text.invariant takes t (omega arith)

@@ -1,4 +1,4 @@
-use Rattle.std.proofs.Common.{◌≤◌, length}
+use Rattle.std.proofs.Common.{length}
 use Rattle.properties_lines.specs.Private.HeldLines.{lines_left}
 use Rattle.properties_editing.specs.Private.BodyGroups.{IsBegun, ReadsGroup}
 use Rattle.properties_editing.specs.declared.edit.groups.GroupReader.{GroupReader}
@@ -8,7 +8,6 @@ abbrev pub invariant-loop-joined : goal.invariant-loop-joined
 invariant-loop-joined l = record {
   whole : (before : GroupReader) → ReadsGroup l.body before l.fn.group l.fn.self → ReadsGroup l.body before l.joined l.self;
   begun : IsBegun l.body l.self l.joined;
-  place : l.joined.start ≤ l.self.scanner.at;
 }
 
 abbrev pub decreases-loop-joined : goal.decreases-loop-joined
