@@ -22,10 +22,10 @@ loop-number-preserved g c =
     let next = c.in-Some.ensures.joins.0 in
     let pushed = rw c.line.ensures at c.in_ok-push_key.ensures.pushes in
     record {
-      found = keys-next c.in-Some.number c.next_line.new.self.at c.loop-number.invariant.found next pushed;
+      found = keys-next c.in-Some.number c.next_text.new.self.at c.loop-number.invariant.found next pushed;
       error = c.in-Some.ensures.joins.2;
       ordered = c.push_key.ensures.ordered;
-      same_reader = c.next_line.ensures.same_reader ∙ c.loop-number.invariant.same_reader;
+      same_reader = c.next_text.ensures.same_reader ∙ c.loop-number.invariant.same_reader;
     }
 
 pub returns-in_err-push_key-clause-finds : goal.returns-in_err-push_key-clause-finds
@@ -34,7 +34,7 @@ returns-in_err-push_key-clause-finds g c =
     let error = err_from_is_err_and c.from_residual.result c.from_residual.ensures.1 in
     let P : PropertiesError → Type 0 = λ v. IsBareError Memory v in
     rw error.1
-    (inr (keys-lost c.in-Some.number c.next_line.new.self.at c.loop-number.invariant.found next (subst P (sym error.2) c.in_err-push_key.ensures.pushes)))
+    (inr (keys-lost c.in-Some.number c.next_text.new.self.at c.loop-number.invariant.found next (subst P (sym error.2) c.in_err-push_key.ensures.pushes)))
 
 pub returns-in-Some-take_error-clause-finds : goal.returns-in-Some-take_error-clause-finds
 returns-in-Some-take_error-clause-finds g c =

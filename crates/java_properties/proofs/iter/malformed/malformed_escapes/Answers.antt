@@ -21,9 +21,9 @@ loop-number-preserved g c =
     let next = c.in-Some.ensures.joins.0 in
     let pushed = rw c.line.ensures at c.in_ok-push_malformed.ensures in
     record {
-      found = found-next c.in-Some.number c.next_line.new.self.at c.push_malformed.new.escapes.items c.loop-number.invariant.found next pushed;
+      found = found-next c.in-Some.number c.next_text.new.self.at c.push_malformed.new.escapes.items c.loop-number.invariant.found next pushed;
       error = c.in-Some.ensures.joins.2;
-      same_reader = c.next_line.ensures.same_reader ∙ c.loop-number.invariant.same_reader;
+      same_reader = c.next_text.ensures.same_reader ∙ c.loop-number.invariant.same_reader;
     }
 
 pub returns-in_err-push_malformed-clause-finds : goal.returns-in_err-push_malformed-clause-finds
@@ -32,7 +32,7 @@ returns-in_err-push_malformed-clause-finds g c =
     let error = err_from_is_err_and c.from_residual.result c.from_residual.ensures.1 in
     let P : PropertiesError → Type 0 = λ v. IsBareError Memory v in
     rw error.1
-    (inr (found-lost c.in-Some.number c.next_line.new.self.at c.loop-number.invariant.found next (subst P (sym error.2) c.in_err-push_malformed.ensures)))
+    (inr (found-lost c.in-Some.number c.next_text.new.self.at c.loop-number.invariant.found next (subst P (sym error.2) c.in_err-push_malformed.ensures)))
 
 pub returns-in-Some-take_error-clause-finds : goal.returns-in-Some-take_error-clause-finds
 returns-in-Some-take_error-clause-finds g c =

@@ -30,9 +30,9 @@ loop-number-init g c =
 
 -- an item that was found in the line is given,
 gives-found : (g : Over) (c : After-line-line g) (item : Found) → (item.line_number ≡ c.in-Some.number) × IsFoundIn c.line-line.result.now item
-    → FindsItem (reader g.R.Read g.R.CountedRead) c.args.self.now.state c.args.reader.now (Some (Ok item)) c.next_line.new.self.at c.next_line.new.reader
+    → FindsItem (reader g.R.Read g.R.CountedRead) c.args.self.now.state c.args.reader.now (Some (Ok item)) c.next_text.new.self.at c.next_text.new.reader
 gives-found g c item found =
-    let new = c.next_line.new.self.at in
+    let new = c.next_text.new.self.at in
     let P : List ℕ → Type 0 = λ v. (item.line_number ≡ c.in-Some.number) × IsFoundIn v item in
     let is = subst P c.line-line.ensures found in
     let line = numbered_line c.in-Some.number new in
@@ -43,10 +43,10 @@ gives-found g c item found =
 
 -- and a blank line is passed
 passes-blank : (g : Over) (c : After-line-line g) → outcome_of (chars c.line-line.result.now) ≡ ignored
-    → (bytes : List ℕ) × Passed (reader g.R.Read g.R.CountedRead) c.args.self.now.state c.args.reader.now bytes c.next_line.new.self.at.state c.next_line.new.reader
+    → (bytes : List ℕ) × Passed (reader g.R.Read g.R.CountedRead) c.args.self.now.state c.args.reader.now bytes c.next_text.new.self.at.state c.next_text.new.reader
 passes-blank g c none =
     let next = c.in-Some.ensures.joins.0 in
-    let new = c.next_line.new.self.at in
+    let new = c.next_text.new.self.at in
     let blank = ap (λ v. outcome_of (chars v)) (sym c.line-line.ensures) ∙ none in
     (c.loop-number.invariant.passed.0 ++ next.bytes, passed-blank (numbered_line c.in-Some.number new) new.state c.loop-number.invariant.passed.1 next blank)
 
@@ -61,7 +61,7 @@ loop-number-preserved-then-not-has_backslash g c =
       passed = passes-blank g (goal.at.loop-number-preserved-then-not-has_backslash g c).After-line-line none;
       left = omega (arith, c.loop-number.invariant.left, c.in-Some.ensures.nearer);
       error = c.in-Some.ensures.joins.2;
-      same_reader = c.next_line.ensures.same_reader ∙ c.loop-number.invariant.same_reader;
+      same_reader = c.next_text.ensures.same_reader ∙ c.loop-number.invariant.same_reader;
     }
 
 pub returns-in-Ok-Some-clause-finds : goal.returns-in-Ok-Some-clause-finds
@@ -73,7 +73,7 @@ loop-number-preserved g c = record {
   passed = passes-blank g (goal.at.loop-number-preserved g c).After-line-line (rw c.in-Ok-None.field-0-is at c.in-Ok-None.ensures);
   left = omega (arith, c.loop-number.invariant.left, c.in-Some.ensures.nearer);
   error = c.in-Some.ensures.joins.2;
-  same_reader = c.next_line.ensures.same_reader ∙ c.loop-number.invariant.same_reader;
+  same_reader = c.next_text.ensures.same_reader ∙ c.loop-number.invariant.same_reader;
 }
 
 pub returns-in-Err-clause-finds : goal.returns-in-Err-clause-finds
@@ -82,7 +82,7 @@ returns-in-Err-clause-finds g c =
     let Q : List ℕ → Type 0 = λ v. IsNoItem c.in-Some.number (chars v) c.unresolved.result in
     let none = subst Q c.line-line.ensures (c.in-Err.ensures c.in-Some.number c.unresolved.result c.unresolved.ensures) in
     let done = ap (λ v. let w : Joiner = v in w.state.is_done) c.end.ensures.state in
-    let k = passed-no_item (numbered_line c.in-Some.number c.next_line.new.self.at) c.next_line.new.self.at.state c.loop-number.invariant.passed.1 next none in
+    let k = passed-no_item (numbered_line c.in-Some.number c.next_text.new.self.at) c.next_text.new.self.at.state c.loop-number.invariant.passed.1 next none in
     (k.0, done, k.1)
 
 pub returns-clause-finds : goal.returns-clause-finds
@@ -98,4 +98,4 @@ returns-clause-nearer g c =
     let done = ap (λ v. let w : Joining = v in w.at.state.is_done) c.take_error.ensures.taken ∙ stop.1 in
     let left : lines_left c.take_error.new.self.at.state ≡ 0 = rw done refl in
     let all : lines_left c.loop-number.self-inside.lines.at.state ≡ 2 ^ 64 - c.loop-number.self-inside.lines.at.state.passed = rw stop.0 refl in
-    omega (arith, left, all, c.next_line.ensures.fits, c.loop-number.invariant.left)
+    omega (arith, left, all, c.next_text.ensures.fits, c.loop-number.invariant.left)
