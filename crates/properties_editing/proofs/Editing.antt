@@ -259,31 +259,6 @@ span-within {source} {e} {opened} {found} {key} pair h ok k is =
 
 -- ---- a byte order mark at the front
 
-pub begins-present : (b : List ℕ) (e : Encoding) (n : ℕ) → text.IsInForce b e n → begins_like_bom b ≡ true
-begins-present b e n h = elim (cases_Bool (begins_like_bom b)) [
-  | inl k ↦ k
-  | inr k ↦
-      let one = sym (byte_order_mark-none windows_1252 b k) ∙ h windows_1252 in
-      let two = sym (byte_order_mark-none utf_8 b k) ∙ h utf_8 in
-      let a : windows_1252 ≡ e = ap (λ v. let w : InForce = v in w.encoding) one in
-      let c : utf_8 ≡ e = ap (λ v. let w : InForce = v in w.encoding) two in
-      absurd (cc)
-]
-
-pub begins-none : (b : List ℕ) → text.IsUnmarked b → begins_like_bom b ≡ false
-begins-none b h =
-    let same : (byte_order_mark windows_1252 b).encoding ≡ windows_1252 = ap (λ v. let w : InForce = v in w.encoding) (h windows_1252) in
-    elim (cases_Bool (begins_with utf_8_bom b)) [
-      | inl k ↦ let is : (byte_order_mark windows_1252 b).encoding ≡ utf_8 = rw k refl in absurd (cc)
-      | inr k ↦ elim (cases_Bool (begins_with utf_16be_bom b)) [
-        | inl l ↦ let is : (byte_order_mark windows_1252 b).encoding ≡ utf_16be = rw (k, l) refl in absurd (cc)
-        | inr l ↦ elim (cases_Bool (begins_with utf_16le_bom b)) [
-          | inl m ↦ let is : (byte_order_mark windows_1252 b).encoding ≡ utf_16le = rw (k, l, m) refl in absurd (cc)
-          | inr m ↦ rw (k, l, m) refl
-        ]
-      ]
-    ]
-
 no_bom-begins : (b : List ℕ) → (length (bom_of b) == 0) ≡ not (begins_like_bom b)
 no_bom-begins b = elim (cases_Bool (begins_with utf_8_bom b)) [
   | inl k ↦ rw k refl
