@@ -11,23 +11,23 @@ ghost use Rattle.properties_editing.specs.Private.BodyIndex.{IsIndex, MakesEdit}
 ghost use Rattle.properties_editing.specs.Editing.{EditsAll, RemovesKey, SetsKey, SetsValue, edit_in, edits_in};
 
 mod document;
-mod front;
+mod layout;
 mod groups;
 mod index;
-mod kept;
-mod keys;
-mod new_pair;
-mod place;
-mod result;
+mod remove;
+mod pairs;
+mod append;
+mod find;
+mod replace;
 mod source;
 mod value;
 
 pub use crate::edit::document::Document;
 use crate::edit::index::{Index, put_pair, put_value, remove_pairs};
-use crate::edit::kept::spans_without_key;
-use crate::edit::new_pair::{layout_after, with_new_pair};
-use crate::edit::place::find_key;
-use crate::edit::result::{appended, reduced_to, replaced};
+use crate::edit::remove::spans_without_key;
+use crate::edit::append::{layout_after, with_new_pair};
+use crate::edit::find::find_key;
+use crate::edit::replace::{appended, reduced_to, replaced};
 use crate::edit::source::BodyStart;
 use crate::edit::value::with_value;
 use properties_items::error::PropertiesError;
