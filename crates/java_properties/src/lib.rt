@@ -27,7 +27,7 @@ mod writer;
 pub use edit::{
     Document, Edit, edit_all, read_source, remove_key, set_key, set_value, write_source,
 };
-pub use error::{Cause, ErrorKind, PropertiesError, Reason};
+pub use error::{At, Cause, ErrorKind, PropertiesError, Reason};
 pub use iter::{
     ContentRef, CopyError, Found, KeyLine, LineRef, MalformedEscape, PropertiesIter, Stopped,
     key_lines, malformed_escapes, read_lines,
