@@ -4,8 +4,8 @@ ghost use Rattle.std.specs.Prelude.{◌≡◌, Some, None};
 ghost use Rattle.std.specs.Str.{chars};
 ghost use Rattle.std.specs.String.{string_bytes};
 ghost use Rattle.properties_text.specs.Escaping.{malformed_in};
-ghost use Rattle.java_properties.specs.Errors.{kind_of, line_of, cause_of, cause_by, cause_of_write, IsError, IsBareError, IsMalformed, IsUnresolvedError, IsLineError, IsStreamError, RefusesText, malformed_kind, IsReason};
-ghost use Rattle.java_properties.specs.DisplayTexts.{description, cause_display, error_display, reason_display};
+ghost use Rattle.java_properties.specs.Errors.{kind_of, line_of, cause_of, cause_by, cause_of_write, IsError, IsBareError, IsMalformed, IsUnresolvedError, IsLineError, IsStreamError, RefusesText, malformed_kind, message_line, IsAt, IsReason};
+ghost use Rattle.java_properties.specs.DisplayTexts.{at_display, cause_display, description, error_display, reason_display};
 ghost use Rattle.java_properties.specs.declared.error.ErrorKind.TheVariants.{Io, BadCommentPrefix, BadKvSeparator, EmptyKey, TooManyLines, Failed, Memory, Unsupported};
 
 use properties_lines::error::LineError;
@@ -96,7 +96,7 @@ pub struct At<'a> {
 impl At<'_> {
     /// Returns the number of the line that the message names, if it names one.
     pub fn line_number(&self) -> Option<usize>
-        ensures { result ≡ line_at self.now }
+        ensures { result ≡ self.now.line_number }
     {
         self.line_number
     }
@@ -186,9 +186,9 @@ impl PropertiesError {
     fn line_in_message(&self) -> Option<usize>
         ensures { result ≡ message_line self.now }
     {
-        match (self.kind, self.line_number) {
-            (ErrorKind::Io, Some(1)) => None,
-            (_, line_number) => line_number,
+        match self.line_number {
+            Some(1) if self.kind == ErrorKind::Io => None,
+            line_number => line_number,
         }
     }
 

@@ -1,5 +1,9 @@
 // The labels of the encodings.
 
+ghost use Rattle.std.specs.Prelude.{◌↔◌, map, IsTrue};
+ghost use Rattle.properties_format.specs.Labels.{IsOneOf};
+ghost use Rattle.properties_text.specs.Labels.{borrowed_text};
+
 pub const WINDOWS_1252: &[&str] = &[
     "ansi_x3.4-1968",
     "ascii",
@@ -44,9 +48,15 @@ pub const UTF_16BE: &[&str] = &[
     "utf-16be",
 ];
 
-/// Whether the text is one of these labels, whatever its ASCII case is.
-pub fn is_one_of(text: &str, labels: &[&str]) -> bool {
-    labels
-        .iter()
-        .any(|label| label.eq_ignore_ascii_case(text))
+/// Whether the text is one of these labels, but for ASCII case.
+pub fn is_one_of(text: &str, labels: &[&str]) -> bool
+    ensures { IsTrue result ↔ IsOneOf (map borrowed_text labels.now) text.now }
+{
+    let [label, others @ ..] = labels else {
+        return false;
+    };
+    if label.eq_ignore_ascii_case(text) {
+        return true;
+    }
+    is_one_of(text, others)
 }

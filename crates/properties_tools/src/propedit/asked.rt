@@ -6,7 +6,7 @@ mod mistake;
 mod options;
 
 use crate::propedit::asked::command_line::command_line;
-use crate::propedit::asked::edits::{removed_first, set_first};
+use crate::propedit::asked::edits::edits_in;
 use crate::propedit::asked::mistake::Mistake;
 use crate::propedit::asked::options::{Options, options_in};
 use clap::{ArgMatches, Error};
@@ -105,7 +105,7 @@ pub enum TextEnd {
 pub fn asked_for(alloc: Global, words: &[String]) -> Result<Request, Error> {
     let mut command = command_line(alloc)?;
     let matches = command.try_get_matches_from_mut(words)?;
-    match requested(alloc, &matches) {
+    match requested(alloc, words, &matches) {
         Ok(request) => Ok(request),
         Err(mistake) => {
             let text = format!(in alloc; "{mistake}")?;
@@ -114,19 +114,37 @@ pub fn asked_for(alloc: Global, words: &[String]) -> Result<Request, Error> {
     }
 }
 
-// What the words ask for that were taken.
-fn requested<'a>(alloc: Global, matches: &ArgMatches<'a>) -> Result<Request, Mistake<'a>> {
-    let Some((command, words)) = matches.subcommand() else {
+// What words ask for that matched.
+fn requested<'a>(
+    alloc: Global,
+    words: &'a [String],
+    matches: &ArgMatches<'a>,
+) -> Result<Request, Mistake<'a>> {
+    let Some((command, rest)) = matches.subcommand() else {
         return Err(Mistake::NoCommand);
     };
     let options = options_in(command, matches)?;
     match command {
-        "get" => get(alloc, &options, words),
-        "list" => list(alloc, &options, words),
-        "check" => check(alloc, &options, words),
-        "set" => change(alloc, &options, set_first(alloc, words)?),
-        _ => change(alloc, &options, removed_first(alloc, words)?),
+        "get" => get(alloc, &options, rest),
+        "list" => list(alloc, &options, rest),
+        "check" => check(alloc, &options, rest),
+        _ => change(alloc, &options, edits_in(alloc, words_of_edits(words, rest))?),
     }
+}
+
+// The words from the first edit on. The parser drops the word `--` after the command, which is a word as any other here.
+fn words_of_edits<'a>(words: &'a [String], edits: &ArgMatches<'a>) -> &'a [String] {
+    let others = match edits.get_strs("WORD") {
+        Some(others) => others.len(),
+        None => 0,
+    };
+    let before = words.get(..words.len().saturating_sub(others)).unwrap_or(words);
+    let start = match before {
+        [first @ .., _, last] if last.as_str() == "--" => first.len(),
+        [first @ .., _] => first.len(),
+        [] => 0,
+    };
+    words.get(start..).unwrap_or(words)
 }
 
 fn get<'a>(

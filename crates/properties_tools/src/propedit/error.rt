@@ -2,7 +2,7 @@
 
 ghost use Rattle.std.specs.Prelude.{◌≡◌, IfOk, string_bytes};
 ghost use Rattle.counted_io.specs.Streams.{IsSameSink};
-ghost use Rattle.properties_tools.specs.Propedit.Failures.{escape_reason, number_of, place_of, IsErrorReason, IsMessageLine, IsReasonOf, LacksMemory, PrintsFailure};
+ghost use Rattle.properties_tools.specs.Propedit.Failures.{escape_reason, number_of, place_of, IsInputReason, IsIoFailure, IsMessageLine, IsReasonOf, LacksMemory, PrintsFailure};
 
 use crate::messages::say;
 use counted_io::CountedWrite;
@@ -144,7 +144,7 @@ fn reason_of_escape(alloc: Global, escape: &MalformedEscape) -> Result<String, A
 }
 
 fn reason_of_error(alloc: Global, error: &PropertiesError) -> Result<String, AllocError>
-    ensures { IfOk result (λ text. IsErrorReason error.now (string_bytes text)) }
+    ensures { IfOk result (λ text. IsInputReason error.now (string_bytes text)) }
 {
     if error.kind() == ErrorKind::Unsupported {
         return String::from_str(alloc, UTF_16);

@@ -2,7 +2,7 @@
 
 ghost use Rattle.std.specs.Prelude.{◌≡◌, ◌⊎◌, string_bytes, IfOk};
 ghost use Rattle.counted_io.specs.Streams.{IsSameSink};
-ghost use Rattle.properties_tools.specs.Propedit.InPlace.{problem_display, replace_display, IsProblemLine, SaysProblem, PrintsUnedited};
+ghost use Rattle.properties_tools.specs.Propedit.InPlace.{problem_display, replace_display, IsProblemLine, PrintsUnedited, SaysProblem};
 
 use crate::messages::say;
 use crate::propedit::asked::{FileEdits, Missing};

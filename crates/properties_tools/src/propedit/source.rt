@@ -1,7 +1,7 @@
 // What is in a source that is held whole.
 
 ghost use Rattle.properties_text.specs.Encoding.{encoding_of};
-ghost use Rattle.properties_tools.specs.Propedit.Sources.{FindsKeysIn, FindsMalformedIn, RefusesUnsound};
+ghost use Rattle.properties_tools.specs.Propedit.Sources.{FindsKeysIn, FindsMalformedIn, IsNotUtf8, RefusesUnsound};
 
 use crate::propedit::error::Failure;
 use crate::propedit::lines::ill_formed_lines;

@@ -18,6 +18,7 @@ pub fn command_line(alloc: Global) -> Result<Command<'static>, AllocError> {
         .after_help(STATUS)
         .version(VERSION)
         .no_binary_name(true)
+        .bin_name("propedit")?
         .subcommand_required(true)
         .disable_help_subcommand(true)
         .subcommand(get(alloc)?)?
@@ -112,18 +113,17 @@ fn check(alloc: Global) -> Result<Command<'static>, AllocError> {
 fn set(alloc: Global) -> Result<Command<'static>, AllocError> {
     Command::new(alloc, "set")
         .about("Sets a value and keeps the layout of its line; more edits may follow")
+        .override_usage("propedit [OPTIONS] set <KEY> <VALUE> [set <KEY> <VALUE> | remove <KEY>]...")
         .disable_help_flag(true)
-        .arg(word(alloc, "KEY").required(true))?
-        .arg(word(alloc, "VALUE").required(true))?
-        .arg(more_edits(alloc))
+        .arg(words(alloc))
 }
 
 fn remove(alloc: Global) -> Result<Command<'static>, AllocError> {
     Command::new(alloc, "remove")
         .about("Removes a key; more edits may follow")
+        .override_usage("propedit [OPTIONS] remove <KEY> [set <KEY> <VALUE> | remove <KEY>]...")
         .disable_help_flag(true)
-        .arg(word(alloc, "KEY").required(true))?
-        .arg(more_edits(alloc))
+        .arg(words(alloc))
 }
 
 // A word that may begin with a dash.
@@ -131,7 +131,7 @@ fn word(alloc: Global, id: &'static str) -> Arg<'static> {
     Arg::new(alloc, id).allow_hyphen_values(true)
 }
 
-// The words of further edits.
-fn more_edits(alloc: Global) -> Arg<'static> {
-    word(alloc, "EDIT").num_args(0..).trailing_var_arg(true)
+// All words that follow.
+fn words(alloc: Global) -> Arg<'static> {
+    word(alloc, "WORD").num_args(0..).trailing_var_arg(true)
 }

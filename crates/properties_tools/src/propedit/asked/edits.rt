@@ -1,82 +1,76 @@
-// The edits that words ask for.
+// The edits that words are.
+
+ghost use Rattle.std.specs.Prelude.{◌∷◌, ◌≡◌, codes, map, string_bytes, IfOk};
+ghost use Rattle.java_properties.specs.Editing.{edit_in};
+ghost use Rattle.properties_tools.specs.Propedit.Asked.{borrowed_edit, in_characters, GivesEdits, TakesEdit};
 
 use crate::propedit::asked::mistake::Mistake;
-use clap::ArgMatches;
 use java_properties::Edit;
 use std::alloc::{AllocError, Global};
 
-/// The edits of the words after `set`.
-pub fn set_first<'a>(alloc: Global, words: &ArgMatches<'a>) -> Result<Vec<Edit>, Mistake<'a>> {
-    let (Some(key), Some(value)) = (words.get_str("KEY"), words.get_str("VALUE")) else {
-        return Err(Mistake::NoValue);
-    };
-    edits(alloc, set_of(alloc, key, value)?, words.get_strs("EDIT"))
-}
-
-/// The edits of the words after `remove`.
-pub fn removed_first<'a>(alloc: Global, words: &ArgMatches<'a>) -> Result<Vec<Edit>, Mistake<'a>> {
-    let Some(key) = words.get_str("KEY") else {
-        return Err(Mistake::NoKey);
-    };
-    edits(alloc, removal_of(alloc, key)?, words.get_strs("EDIT"))
-}
-
-// An edit, and those that further words ask for.
-fn edits<'a>(
-    alloc: Global,
-    first: Edit,
-    words: Option<&[&'a str]>,
-) -> Result<Vec<Edit>, Mistake<'a>> {
+/// Returns the edits that the words are, in order. Where they are none, the mistake names the word.
+pub fn edits_in<'a>(alloc: Global, words: &'a [String]) -> Result<Vec<Edit>, Mistake<'a>>
+    ensures { GivesEdits (map string_bytes words.now) result }
+{
     let mut edits = Vec::new(alloc);
-    edits.push(first)?;
-    if let Some(words) = words {
-        push_edits(alloc, &mut edits, words)?;
+    let mut rest = words;
+    while !rest.is_empty() {
+        let (edit, others) = next_edit(rest)?;
+        edits.push(edit.into_edit()?)?;
+        rest = others;
     }
     Ok(edits)
 }
 
-fn push_edits<'a>(
-    alloc: Global,
-    edits: &mut Vec<Edit>,
-    words: &[&'a str],
-) -> Result<(), Mistake<'a>> {
-    let mut rest = words;
-    while let [word, others @ ..] = rest {
-        rest = push_edit(alloc, edits, word, others)?;
-    }
-    Ok(())
+// An edit whose texts are borrowed.
+#[derive(Clone, Copy)]
+enum BorrowedEdit<'a> {
+    Set(&'a String, &'a String),
+    Remove(&'a String),
 }
 
-// Appends the edit that this word begins, and returns the words after it.
-fn push_edit<'w, 'a>(
-    alloc: Global,
-    edits: &mut Vec<Edit>,
-    word: &'a str,
-    words: &'w [&'a str],
-) -> Result<&'w [&'a str], Mistake<'a>> {
-    match (word, words) {
-        ("set", [key, value, others @ ..]) => {
-            edits.push(set_of(alloc, key, value)?)?;
-            Ok(others)
+impl BorrowedEdit<'_> {
+    fn into_edit(self) -> Result<Edit, AllocError>
+        ensures { IfOk result (λ edit. edit_in edit ≡ in_characters (borrowed_edit self.entry)) }
+    {
+        match self {
+            BorrowedEdit::Set(key, value) => Ok(Edit::SetValue(key.clone()?, value.clone()?)),
+            BorrowedEdit::Remove(key) => Ok(Edit::Remove(key.clone()?)),
         }
-        ("set", [_]) => Err(Mistake::NoValue),
-        ("set", []) => Err(Mistake::NoKey),
-        ("remove", [key, others @ ..]) => {
-            edits.push(removal_of(alloc, key)?)?;
-            Ok(others)
-        }
-        ("remove", []) => Err(Mistake::NoKey),
-        _ => Err(Mistake::NoEdit(word)),
     }
 }
 
-fn set_of(alloc: Global, key: &str, value: &str) -> Result<Edit, AllocError> {
-    Ok(Edit::SetValue(
-        String::from_str(alloc, key)?,
-        String::from_str(alloc, value)?,
-    ))
+// The edit that the words begin with, and the words after it.
+fn next_edit<'a>(words: &'a [String]) -> Result<(BorrowedEdit<'a>, &'a [String]), Mistake<'a>>
+    ensures { TakesEdit (map string_bytes words.now) result }
+{
+    let [word, others @ ..] = words else {
+        return Err(Mistake::NoCommand);
+    };
+    match word.as_str() {
+        "set" => next_set(others),
+        "remove" => next_removal(others),
+        other => Err(Mistake::NoEdit(other)),
+    }
 }
 
-fn removal_of(alloc: Global, key: &str) -> Result<Edit, AllocError> {
-    Ok(Edit::Remove(String::from_str(alloc, key)?))
+// The setting of a key, whose words are the first of these, and the words after it.
+fn next_set<'a>(words: &'a [String]) -> Result<(BorrowedEdit<'a>, &'a [String]), Mistake<'a>>
+    ensures { TakesEdit (codes "set" ∷ map string_bytes words.now) result }
+{
+    match words {
+        [key, value, others @ ..] => Ok((BorrowedEdit::Set(key, value), others)),
+        [key] => Err(Mistake::NoValue(key.as_str())),
+        [] => Err(Mistake::NoKey("set")),
+    }
+}
+
+// The removal of a key, which is the first of these words, and the words after it.
+fn next_removal<'a>(words: &'a [String]) -> Result<(BorrowedEdit<'a>, &'a [String]), Mistake<'a>>
+    ensures { TakesEdit (codes "remove" ∷ map string_bytes words.now) result }
+{
+    match words {
+        [key, others @ ..] => Ok((BorrowedEdit::Remove(key), others)),
+        [] => Err(Mistake::NoKey("remove")),
+    }
 }

@@ -13,8 +13,10 @@ pub enum Mistake<'a> {
     NotWith(&'static str, &'a str),
     /// This word is no edit.
     NoEdit(&'a str),
-    NoKey,
-    NoValue,
+    /// This edit has no key.
+    NoKey(&'a str),
+    /// The setting of this key has no value.
+    NoValue(&'a str),
     NoCommand,
     /// Memory ran out.
     Memory,
@@ -26,7 +28,7 @@ impl Mistake<'_> {
             Mistake::NoEncoding(_) => ErrorKind::InvalidValue,
             Mistake::NotWith(_, _) => ErrorKind::ArgumentConflict,
             Mistake::NoEdit(_) => ErrorKind::InvalidSubcommand,
-            Mistake::NoKey | Mistake::NoValue => ErrorKind::MissingRequiredArgument,
+            Mistake::NoKey(_) | Mistake::NoValue(_) => ErrorKind::MissingRequiredArgument,
             Mistake::NoCommand => ErrorKind::MissingSubcommand,
             Mistake::Memory => ErrorKind::OutOfMemory,
         }
@@ -34,12 +36,22 @@ impl Mistake<'_> {
 }
 
 impl From<AllocError> for Mistake<'_> {
+    ghost use Rattle.std.specs.Prelude.{◌≡◌};
+    ghost use Rattle.properties_tools.specs.declared.propedit.asked.mistake.Mistake.TheVariants.{Memory};
+
+    ghost from_gives = { λ _ mistake. mistake ≡ Memory };
+
     fn from(_: AllocError) -> Self {
         Mistake::Memory
     }
 }
 
 impl<T: Drop> From<AllocFailed<T>> for Mistake<'_> {
+    ghost use Rattle.std.specs.Prelude.{◌≡◌};
+    ghost use Rattle.properties_tools.specs.declared.propedit.asked.mistake.Mistake.TheVariants.{Memory};
+
+    ghost from_gives = { λ _ mistake. mistake ≡ Memory };
+
     fn from(_: AllocFailed<T>) -> Self {
         Mistake::Memory
     }
@@ -55,10 +67,10 @@ impl fmt::Display for Mistake<'_> {
                 write!(f, "the argument '{option}' cannot be used with '{command}'")
             }
             Mistake::NoEdit(word) => {
-                write!(f, "unrecognized edit '{word}', where set or remove is to stand")
+                write!(f, "unrecognized edit '{word}': after an edit comes set or remove, and options come first")
             }
-            Mistake::NoKey => f.write_str("an edit has no <KEY>"),
-            Mistake::NoValue => f.write_str("a set has no <VALUE>"),
+            Mistake::NoKey(edit) => write!(f, "the edit '{edit}' lacks its <KEY>"),
+            Mistake::NoValue(key) => write!(f, "the edit 'set {key}' lacks its <VALUE>"),
             Mistake::NoCommand => f.write_str("no command"),
             Mistake::Memory => f.write_str("Out of memory."),
         }
