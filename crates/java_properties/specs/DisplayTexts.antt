@@ -66,7 +66,7 @@ numbered (Some number) = codes ":" ++ decimal number
 
 -- `NAME:LINE: REASON`, or `NAME: REASON` without a line
 abbrev pub at_display : At → Option (List ℕ)
-at_display at = Some (at.name.now ++ (numbered at.line_number ++ codes ": ")) ++? reason_display at.reason
+at_display at = Some (at.name.now ++ (numbered at.line ++ codes ": ")) ++? reason_display at.reason
 
 -- ---- lines and line endings
 

@@ -69,7 +69,7 @@ message_line e = line_of_kind e.kind e.line_number
 -- A message with this name, and the line and the reason of this error.
 pub record IsAt (e : PropertiesError) (name : List ℕ) (at : At) : Type 0 where
   pub its_name : at.name.now ≡ name
-  pub its_line : at.line_number ≡ message_line e
+  pub its_line : at.line ≡ message_line e
   pub its_reason : IsReason e at.reason
 
 -- An error with this kind, line and cause, and without a refused text.

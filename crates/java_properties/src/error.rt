@@ -89,16 +89,16 @@ pub enum Reason<'a> {
 #[derive(Clone, Copy, Debug)]
 pub struct At<'a> {
     name: &'a str,
-    line_number: Option<usize>,
+    line: Option<usize>,
     reason: Reason<'a>,
 }
 
 impl At<'_> {
     /// Returns the number of the line that the message names, if it names one.
     pub fn line_number(&self) -> Option<usize>
-        ensures { result ≡ self.now.line_number }
+        ensures { result ≡ self.now.line }
     {
-        self.line_number
+        self.line
     }
 }
 
@@ -178,7 +178,7 @@ impl PropertiesError {
     {
         At {
             name,
-            line_number: self.line_in_message(),
+            line: self.line_in_message(),
             reason: self.reason(),
         }
     }
@@ -423,7 +423,7 @@ impl fmt::Display for At<'_> {
     ghost output = { at_display };
 
     fn fmt<W: fmt::Write>(&self, f: &mut fmt::Formatter<W>) -> fmt::Result {
-        match self.line_number {
+        match self.line {
             Some(number) => write!(f, "{}:{number}: {}", self.name, self.reason),
             None => write!(f, "{}: {}", self.name, self.reason),
         }
