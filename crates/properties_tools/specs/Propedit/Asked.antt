@@ -41,7 +41,7 @@ pub record AreWordsOfEdits (words : List (List ℕ)) (edits : List format.Edit) 
   pub made : edits ≡ map in_characters asked
 
 -- What the words give: the edits that they ask for; or they ask for none, or memory ran out.
-abbrev pub GivesEdits : {Z : Type 0} → List (List ℕ) → Result (Vec (editor.Edit) Z) Mistake → Type 0
+abbrev pub GivesEdits : List (List ℕ) → Result (Vec editor.Edit) Mistake → Type 0
 GivesEdits words (Ok edits) = AreWordsOfEdits words (edits_in edits.items)
 GivesEdits words (Err mistake) = mistake ≢ Memory → (edits : List Edit) → words ≡ words_of edits → ⊥
 

@@ -12,7 +12,7 @@ const STATUS: &str = "Reads standard input and prints on standard output, unless
     Status: 0 done or found, 1 not found or check found something, 2 wrong arguments or an error.";
 
 /// The command that parses the words after the program's name.
-pub fn command_line(alloc: Global) -> Result<Command<'static>, AllocError> {
+pub fn command_line<'a>(alloc: Global) -> Result<Command<'a>, AllocError> {
     with_options(alloc, Command::new(alloc, "propedit"))?
         .about("Prints, checks and edits the keys of Java properties files")
         .after_help(STATUS)
@@ -28,7 +28,7 @@ pub fn command_line(alloc: Global) -> Result<Command<'static>, AllocError> {
         .subcommand(remove(alloc)?)
 }
 
-fn with_options(alloc: Global, command: Command<'static>) -> Result<Command<'static>, AllocError> {
+fn with_options<'a>(alloc: Global, command: Command<'a>) -> Result<Command<'a>, AllocError> {
     command
         .arg(file(alloc))?
         .arg(in_place(alloc)?)?
@@ -38,7 +38,7 @@ fn with_options(alloc: Global, command: Command<'static>) -> Result<Command<'sta
         .arg(null(alloc))
 }
 
-fn file(alloc: Global) -> Arg<'static> {
+fn file<'a>(alloc: Global) -> Arg<'a> {
     Arg::new(alloc, "file")
         .short('f')
         .long("file")
@@ -47,7 +47,7 @@ fn file(alloc: Global) -> Arg<'static> {
         .help("Reads FILE instead of standard input")
 }
 
-fn in_place(alloc: Global) -> Result<Arg<'static>, AllocError> {
+fn in_place<'a>(alloc: Global) -> Result<Arg<'a>, AllocError> {
     Arg::new(alloc, "in-place")
         .short('i')
         .long("in-place")
@@ -57,7 +57,7 @@ fn in_place(alloc: Global) -> Result<Arg<'static>, AllocError> {
         .conflicts_with("file")
 }
 
-fn create(alloc: Global) -> Result<Arg<'static>, AllocError> {
+fn create<'a>(alloc: Global) -> Result<Arg<'a>, AllocError> {
     Arg::new(alloc, "create")
         .long("create")
         .action(ArgAction::SetTrue)
@@ -65,7 +65,7 @@ fn create(alloc: Global) -> Result<Arg<'static>, AllocError> {
         .requires_arg("in-place")
 }
 
-fn encoding(alloc: Global) -> Arg<'static> {
+fn encoding<'a>(alloc: Global) -> Arg<'a> {
     Arg::new(alloc, "encoding")
         .short('e')
         .long("encoding")
@@ -73,7 +73,7 @@ fn encoding(alloc: Global) -> Arg<'static> {
         .help(ENCODINGS)
 }
 
-fn default(alloc: Global) -> Arg<'static> {
+fn default<'a>(alloc: Global) -> Arg<'a> {
     Arg::new(alloc, "default")
         .short('d')
         .long("default")
@@ -82,7 +82,7 @@ fn default(alloc: Global) -> Arg<'static> {
         .help("What get prints where there is no KEY, with status 0")
 }
 
-fn null(alloc: Global) -> Arg<'static> {
+fn null<'a>(alloc: Global) -> Arg<'a> {
     Arg::new(alloc, "null")
         .short('z')
         .long("null")
@@ -90,27 +90,27 @@ fn null(alloc: Global) -> Arg<'static> {
         .help("Ends each text of get and list with a zero byte, and not a line feed")
 }
 
-fn get(alloc: Global) -> Result<Command<'static>, AllocError> {
+fn get<'a>(alloc: Global) -> Result<Command<'a>, AllocError> {
     Command::new(alloc, "get")
         .about("Prints the value of a key")
         .disable_help_flag(true)
         .arg(word(alloc, "KEY").required(true))
 }
 
-fn list(alloc: Global) -> Result<Command<'static>, AllocError> {
+fn list<'a>(alloc: Global) -> Result<Command<'a>, AllocError> {
     Command::new(alloc, "list")
         .about("Prints the keys, or those that begin with PREFIX, each once, in the order of the file")
         .disable_help_flag(true)
         .arg(word(alloc, "PREFIX"))
 }
 
-fn check(alloc: Global) -> Result<Command<'static>, AllocError> {
+fn check<'a>(alloc: Global) -> Result<Command<'a>, AllocError> {
     Command::new(alloc, "check")
         .about("Prints what is wrong: lines that are not UTF-8, malformed escapes, repeated keys")
         .arg(Arg::new(alloc, "FILE").num_args(1..))
 }
 
-fn set(alloc: Global) -> Result<Command<'static>, AllocError> {
+fn set<'a>(alloc: Global) -> Result<Command<'a>, AllocError> {
     Command::new(alloc, "set")
         .about("Sets a value and keeps the layout of its line; more edits may follow")
         .override_usage("propedit [OPTIONS] set <KEY> <VALUE> [set <KEY> <VALUE> | remove <KEY>]...")
@@ -118,7 +118,7 @@ fn set(alloc: Global) -> Result<Command<'static>, AllocError> {
         .arg(words(alloc))
 }
 
-fn remove(alloc: Global) -> Result<Command<'static>, AllocError> {
+fn remove<'a>(alloc: Global) -> Result<Command<'a>, AllocError> {
     Command::new(alloc, "remove")
         .about("Removes a key; more edits may follow")
         .override_usage("propedit [OPTIONS] remove <KEY> [set <KEY> <VALUE> | remove <KEY>]...")
@@ -127,11 +127,11 @@ fn remove(alloc: Global) -> Result<Command<'static>, AllocError> {
 }
 
 // A word that may begin with a dash.
-fn word(alloc: Global, id: &'static str) -> Arg<'static> {
+fn word<'a>(alloc: Global, id: &'static str) -> Arg<'a> {
     Arg::new(alloc, id).allow_hyphen_values(true)
 }
 
 // All words that follow.
-fn words(alloc: Global) -> Arg<'static> {
+fn words<'a>(alloc: Global) -> Arg<'a> {
     word(alloc, "WORD").num_args(0..).trailing_var_arg(true)
 }
