@@ -2,13 +2,15 @@
 use Rattle.std.proofs.Common.{◌≡◌, ◌≢◌, ◌==◌, true, false, rules, ℕ, List, [], ◌∷◌, ◌++◌, length, map, ◌<◌}
 use Rattle.std.proofs.Common.{refl, ap, sym, ◌∙◌, arith, append_assoc, append-nil}
 use borrow.Author.Tests.{tests}
-use Rattle.std.specs.Prelude.{string_bytes}
+use Rattle.std.specs.Prelude.{Result, Ok, Err, IsErr, string_bytes}
+use Rattle.std.specs.Global.{Vec}
 use Rattle.std.specs.declared.string.String.{String}
 use Rattle.std.proofs.lemmas.List.{length-map, map-append}
 use Rattle.properties_format.specs.Edits as format
 use Rattle.java_properties.specs.Editing.{edit_in, edits_in}
 use Rattle.java_properties.specs.declared.edit.Edit as editor
-use Rattle.properties_tools.specs.Propedit.Asked.{Edit, set, remove, in_characters, edit_words, words_of, AreWordsOfEdits, BeginNoEdit}
+use Rattle.properties_tools.specs.Propedit.Asked.{Edit, set, remove, in_characters, edit_words, words_of, AreWordsOfEdits, BeginNoEdit, GivesEdits}
+use Rattle.properties_tools.specs.declared.propedit.asked.mistake.Mistake.{Mistake}
 
 -- the words of one edit more
 words-more : (edits : List Edit) (edit : Edit) → words_of (edits ++ (edit ∷ [])) ≡ words_of edits ++ edit_words edit
@@ -86,3 +88,8 @@ no-edits words edits texts h some none all is = left (rest-of h.done all (map st
       | [] ↦ some-words texts some
       | (edit ∷ others) ↦ none edit (words_of others)
     ] o.1
+
+-- An error says so.
+pub refused : (words : List (List ℕ)) (r : Result (Vec editor.Edit) Mistake) → IsErr r → ((all : List Edit) → words ≡ words_of all → ⊥) → GivesEdits words r
+refused words (Err mistake) failed none = λ other. none
+refused words (Ok edits) failed none = absurd (cc)
