@@ -18,9 +18,21 @@ const GET: &[Row] = &[
     (&["get", "c"], b"a=1", 1, b"", ""),
     (&["get", "-f"], b"-f=1", 0, b"1\n", ""),
     (&["get", "--", "--"], b"--=1", 0, b"1\n", ""),
-    (&["--default=x", "--null", "get", "b"], b"a=1", 0, b"x\0", ""),
+    (
+        &["--default=x", "--null", "get", "b"],
+        b"a=1",
+        0,
+        b"x\0",
+        "",
+    ),
     (&["-zdx", "get", "b"], b"a=1", 0, b"x\0", ""),
-    (&["-e", " Latin1\n", "get", "a"], b"a=\xe9", 0, b"\xc3\xa9\n", ""),
+    (
+        &["-e", " Latin1\n", "get", "a"],
+        b"a=\xe9",
+        0,
+        b"\xc3\xa9\n",
+        "",
+    ),
     (
         &["--encoding", "UTF-16", "--file", "-f", "get", "a"],
         b"a\0=\0\xe9\0",
@@ -62,9 +74,7 @@ const GET: &[Row] = &[
         "",
     ),
     (
-        &[
-            "-z", "-d", "n", "-e", "utf-16be", "-f", "x", "get", "a",
-        ],
+        &["-z", "-d", "n", "-e", "utf-16be", "-f", "x", "get", "a"],
         b"\0a\0=\01",
         0,
         b"1\0",
@@ -340,7 +350,13 @@ const FILES: &[Row] = &[
     (&["check", "x"], b"a=1", 3, b"", ""),
     (&["check", "x", "y", "x"], b"a=1", 3, b"", ""),
     (&["-i", "x", "remove", "a"], b"a=1", 3, b"", ""),
-    (&["--in-place=x", "--create", "set", "a", "2"], b"a=1", 3, b"", ""),
+    (
+        &["--in-place=x", "--create", "set", "a", "2"],
+        b"a=1",
+        3,
+        b"",
+        "",
+    ),
 ];
 
 #[test]
@@ -361,10 +377,16 @@ fn the_version_is_printed(rt: HostRuntime) -> Result<(), Fail> {
 }
 
 const OTHER_WORDS: &[Refusal] = &[
-    (&[], "error: 'propedit' requires a subcommand but one was not provided"),
+    (
+        &[],
+        "error: 'propedit' requires a subcommand but one was not provided",
+    ),
     (&["show", "a"], "error: unrecognized subcommand 'show'"),
     (&["--", "check"], "error: unexpected argument 'check' found"),
-    (&["get"], "error: the following required arguments were not provided:"),
+    (
+        &["get"],
+        "error: the following required arguments were not provided:",
+    ),
     (&["get", "a", "b"], "error: unexpected argument 'b' found"),
     (&["get", "a", "-z"], "error: unexpected argument '-z' found"),
     (&["list", "a", "b"], "error: unexpected argument 'b' found"),
@@ -372,22 +394,37 @@ const OTHER_WORDS: &[Refusal] = &[
     (&["set", "a"], "error: the edit 'set a' lacks its <VALUE>"),
     (&["set"], "error: the edit 'set' lacks its <KEY>"),
     (&["remove"], "error: the edit 'remove' lacks its <KEY>"),
-    (&["set", "a", "1", "remove"], "error: the edit 'remove' lacks its <KEY>"),
-    (&["set", "a", "1", "set", "b"], "error: the edit 'set b' lacks its <VALUE>"),
+    (
+        &["set", "a", "1", "remove"],
+        "error: the edit 'remove' lacks its <KEY>",
+    ),
+    (
+        &["set", "a", "1", "set", "b"],
+        "error: the edit 'set b' lacks its <VALUE>",
+    ),
     (
         &["set", "a", "1", "-i", "x"],
         "error: unrecognized edit '-i': after an edit comes set or remove, and options come first",
     ),
     // Options that there are not, or without their value.
     (&["-x", "check"], "error: unexpected argument '-x' found"),
-    (&["--fil", "x", "check"], "error: unexpected argument '--fil' found"),
+    (
+        &["--fil", "x", "check"],
+        "error: unexpected argument '--fil' found",
+    ),
     (
         &["-e", "latin-9", "check"],
         "error: invalid value 'latin-9' for '--encoding <NAME>': no encoding has this label",
     ),
-    (&["-f"], "error: a value is required for '--file <FILE>' but none was supplied"),
+    (
+        &["-f"],
+        "error: a value is required for '--file <FILE>' but none was supplied",
+    ),
     // Twice the same option.
-    (&["-z", "-z", "list"], "error: the argument '--null' cannot be used multiple times"),
+    (
+        &["-z", "-z", "list"],
+        "error: the argument '--null' cannot be used multiple times",
+    ),
     (
         &["-f", "x", "-i", "x", "set", "a", "1"],
         "error: the argument '--file <FILE>' cannot be used with '--in-place <FILE>'",
@@ -397,13 +434,34 @@ const OTHER_WORDS: &[Refusal] = &[
         &["-i", "x", "get", "a"],
         "error: the argument '--in-place <FILE>' cannot be used with 'get'",
     ),
-    (&["-i", "x", "list"], "error: the argument '--in-place <FILE>' cannot be used with 'list'"),
-    (&["-i", "x", "check"], "error: the argument '--in-place <FILE>' cannot be used with 'check'"),
-    (&["-f", "x", "check", "y"], "error: the argument '--file <FILE>' cannot be used with 'check'"),
-    (&["-d", "x", "list"], "error: the argument '--default <VALUE>' cannot be used with 'list'"),
-    (&["-d", "x", "set", "a", "1"], "error: the argument '--default <VALUE>' cannot be used with 'set'"),
-    (&["-z", "check"], "error: the argument '--null' cannot be used with 'check'"),
-    (&["-z", "remove", "a"], "error: the argument '--null' cannot be used with 'remove'"),
+    (
+        &["-i", "x", "list"],
+        "error: the argument '--in-place <FILE>' cannot be used with 'list'",
+    ),
+    (
+        &["-i", "x", "check"],
+        "error: the argument '--in-place <FILE>' cannot be used with 'check'",
+    ),
+    (
+        &["-f", "x", "check", "y"],
+        "error: the argument '--file <FILE>' cannot be used with 'check'",
+    ),
+    (
+        &["-d", "x", "list"],
+        "error: the argument '--default <VALUE>' cannot be used with 'list'",
+    ),
+    (
+        &["-d", "x", "set", "a", "1"],
+        "error: the argument '--default <VALUE>' cannot be used with 'set'",
+    ),
+    (
+        &["-z", "check"],
+        "error: the argument '--null' cannot be used with 'check'",
+    ),
+    (
+        &["-z", "remove", "a"],
+        "error: the argument '--null' cannot be used with 'remove'",
+    ),
     (
         &["--create", "set", "a", "1"],
         "error: the following required arguments were not provided:",

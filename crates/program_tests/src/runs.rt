@@ -108,18 +108,24 @@ pub fn check_words(
 pub type Refusal = (&'static [&'static str], &'static str);
 
 /// Compares runs of `propedit` with wrong arguments with the first lines that they are to print.
-pub fn check_refusals(
-    rt: &impl Abort,
-    alloc: Global,
-    rows: &[Refusal],
-) -> Result<(), AllocError> {
+pub fn check_refusals(rt: &impl Abort, alloc: Global, rows: &[Refusal]) -> Result<(), AllocError> {
     for (number, (words, line)) in (1usize..).zip(rows) {
         let words = owned(alloc, words)?;
         let mut input = reader(alloc, b"a=1", 1024, Tail::End)?;
         let mut output = sink(alloc, AMPLE);
         let mut errors = sink(alloc, AMPLE);
-        let status = edit(alloc, words.as_slice(), &mut input, &mut output, &mut errors)?;
-        let said = errors.bytes().split(|byte| *byte == b'\n').next().unwrap_or(b"");
+        let status = edit(
+            alloc,
+            words.as_slice(),
+            &mut input,
+            &mut output,
+            &mut errors,
+        )?;
+        let said = errors
+            .bytes()
+            .split(|byte| *byte == b'\n')
+            .next()
+            .unwrap_or(b"");
         let found = (status, Bytes(output.bytes()), Bytes(said));
         same(rt, number, found, (2, Bytes(b""), Bytes(line.as_bytes())));
     }

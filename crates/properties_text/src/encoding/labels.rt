@@ -43,10 +43,7 @@ pub const UTF_16LE: &[&str] = &[
     "utf-16le",
 ];
 
-pub const UTF_16BE: &[&str] = &[
-    "unicodefffe",
-    "utf-16be",
-];
+pub const UTF_16BE: &[&str] = &["unicodefffe", "utf-16be"];
 
 /// Whether the text is one of these labels, but for ASCII case.
 pub fn is_one_of(text: &str, labels: &[&str]) -> bool

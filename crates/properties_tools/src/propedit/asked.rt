@@ -128,7 +128,11 @@ fn requested<'a>(
         "get" => get(alloc, &options, rest),
         "list" => list(alloc, &options, rest),
         "check" => check(alloc, &options, rest),
-        _ => change(alloc, &options, edits_in(alloc, words_of_edits(words, rest))?),
+        _ => change(
+            alloc,
+            &options,
+            edits_in(alloc, words_of_edits(words, rest))?,
+        ),
     }
 }
 
@@ -138,7 +142,9 @@ fn words_of_edits<'a>(words: &'a [String], edits: &ArgMatches<'a>) -> &'a [Strin
         Some(others) => others.len(),
         None => 0,
     };
-    let before = words.get(..words.len().saturating_sub(others)).unwrap_or(words);
+    let before = words
+        .get(..words.len().saturating_sub(others))
+        .unwrap_or(words);
     let start = match before {
         [first @ .., _, last] if last.as_str() == "--" => first.len(),
         [first @ .., _] => first.len(),

@@ -157,11 +157,7 @@ fn push_lines(text: &mut String, name: &str, findings: &[Finding]) -> Result<(),
 fn push_line(text: &mut String, name: &str, finding: &Finding) -> Result<(), AllocError>
     ensures { OnOk result (string_bytes text.new ≡ string_bytes text.old ++ finding_line name.now finding.now) }
 {
-    write!(
-        text,
-        "{name}:{}: {}\n",
-        finding.line_number, finding.fault
-    )
+    write!(text, "{name}:{}: {}\n", finding.line_number, finding.fault)
 }
 
 impl fmt::Display for Fault {

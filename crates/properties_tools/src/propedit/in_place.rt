@@ -406,7 +406,10 @@ impl fmt::Display for Failed<'_> {
         let new = self.new;
         match self.problem {
             Problem::Held => {
-                write!(f, "{new} exists: another run is at work, or was killed; if none is, remove it")
+                write!(
+                    f,
+                    "{new} exists: another run is at work, or was killed; if none is, remove it"
+                )
             }
             Problem::Unmade(error) => write!(f, "cannot create {new}: {}", Fault(error)),
             Problem::Unwritten(error) => write!(f, "cannot write {new}: {}", Fault(error)),

@@ -8,7 +8,8 @@ const VERSION: &str = "1.6.0";
 const ENCODINGS: &str = "utf-8, windows-1252, utf-16le, utf-16be or another label; \
     a byte order mark overrules it [default: utf-8]";
 
-const STATUS: &str = "Reads standard input and prints on standard output, unless -f or -i says otherwise.\n\
+const STATUS: &str =
+    "Reads standard input and prints on standard output, unless -f or -i says otherwise.\n\
     Status: 0 done or found, 1 not found or check found something, 2 wrong arguments or an error.";
 
 /// The command that parses the words after the program's name.
@@ -99,7 +100,9 @@ fn get<'a>(alloc: Global) -> Result<Command<'a>, AllocError> {
 
 fn list<'a>(alloc: Global) -> Result<Command<'a>, AllocError> {
     Command::new(alloc, "list")
-        .about("Prints the keys, or those that begin with PREFIX, each once, in the order of the file")
+        .about(
+            "Prints the keys, or those that begin with PREFIX, each once, in the order of the file",
+        )
         .disable_help_flag(true)
         .arg(word(alloc, "PREFIX"))
 }
@@ -113,7 +116,9 @@ fn check<'a>(alloc: Global) -> Result<Command<'a>, AllocError> {
 fn set<'a>(alloc: Global) -> Result<Command<'a>, AllocError> {
     Command::new(alloc, "set")
         .about("Sets a value and keeps the layout of its line; more edits may follow")
-        .override_usage("propedit [OPTIONS] set <KEY> <VALUE> [set <KEY> <VALUE> | remove <KEY>]...")
+        .override_usage(
+            "propedit [OPTIONS] set <KEY> <VALUE> [set <KEY> <VALUE> | remove <KEY>]...",
+        )
         .disable_help_flag(true)
         .arg(words(alloc))
 }

@@ -61,13 +61,19 @@ impl fmt::Display for Mistake<'_> {
     fn fmt<W: fmt::Write>(&self, f: &mut fmt::Formatter<W>) -> fmt::Result {
         match self {
             Mistake::NoEncoding(label) => {
-                write!(f, "invalid value '{label}' for '--encoding <NAME>': no encoding has this label")
+                write!(
+                    f,
+                    "invalid value '{label}' for '--encoding <NAME>': no encoding has this label"
+                )
             }
             Mistake::NotWith(option, command) => {
                 write!(f, "the argument '{option}' cannot be used with '{command}'")
             }
             Mistake::NoEdit(word) => {
-                write!(f, "unrecognized edit '{word}': after an edit comes set or remove, and options come first")
+                write!(
+                    f,
+                    "unrecognized edit '{word}': after an edit comes set or remove, and options come first"
+                )
             }
             Mistake::NoKey(edit) => write!(f, "the edit '{edit}' lacks its <KEY>"),
             Mistake::NoValue(key) => write!(f, "the edit 'set {key}' lacks its <VALUE>"),
