@@ -1,3 +1,4 @@
+pub mod Labels
 pub mod Encoding
 pub mod Decoding
 pub mod Parsing

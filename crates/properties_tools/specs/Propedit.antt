@@ -32,10 +32,6 @@ use Rattle.properties_tools.specs.declared.propedit.error.Failure.TheVariants.{I
 abbrev pub not_utf_8 : List ℕ
 not_utf_8 = codes "propedit: an argument is not UTF-8"
 
--- what it prints where there is no memory for the arguments
-abbrev pub memory_words : List ℕ
-memory_words = codes "propedit: Out of memory."
-
 -- ---- how it ends
 
 -- The status is that of the result, and nothing is printed; or it is 2, and the message of the failure is printed.
