@@ -36,8 +36,8 @@ use Rattle.properties_editing.specs.Private.BodyGroups.{IsWithin, groups_left, t
 use Rattle.properties_items.specs.FoundItems.{IsNoItem}
 use Rattle.properties_editing.specs.declared.edit.groups.Group.{Group}
 use Rattle.properties_editing.specs.declared.edit.groups.GroupReader.{GroupReader}
-use Rattle.properties_editing.specs.declared.edit.place.BodySpan.{BodySpan}
-use Rattle.properties_editing.specs.declared.edit.place.KeyPlace as place
+use Rattle.properties_editing.specs.declared.edit.find.BodySpan.{BodySpan}
+use Rattle.properties_editing.specs.declared.edit.find.KeyPlace as place
 use Rattle.properties_items.specs.declared.error.PropertiesError.{PropertiesError}
 
 -- ---- the groups that were read

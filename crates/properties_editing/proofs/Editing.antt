@@ -40,8 +40,8 @@ use Rattle.properties_text.specs.Encoding.{encoding_of}
 use Rattle.properties_editing.specs.Private.BodyKeys.{IsErrorOfGroups, IsPlaceOf, IsPlace, IsKeyFound, AreOthersFound, left_bytes, closing_bytes}
 use Rattle.properties_editing.specs.Private.Sources.{IsInForce}
 use Rattle.properties_editing.proofs.BodyGroups.{front-of, no-bytes}
-use Rattle.properties_editing.specs.declared.edit.place.BodySpan.{BodySpan}
-use Rattle.properties_editing.specs.declared.edit.place.KeyPlace as place
+use Rattle.properties_editing.specs.declared.edit.find.BodySpan.{BodySpan}
+use Rattle.properties_editing.specs.declared.edit.find.KeyPlace as place
 use Rattle.properties_editing.specs.declared.edit.source.BodyStart.{BodyStart}
 use Rattle.properties_items.specs.declared.error.PropertiesError.{PropertiesError}
 

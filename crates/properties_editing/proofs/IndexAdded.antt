@@ -40,15 +40,15 @@ use Rattle.properties_editing.specs.Private.BodyKeys.{IsKeyFound, IsPlace, closi
 use Rattle.properties_editing.specs.Private.BodyValues.{IsLayoutAfter, unended_pair}
 use Rattle.properties_items.specs.Texts.{characters}
 use Rattle.properties_items.specs.LineEndings.{ending_of}
-use Rattle.properties_editing.specs.declared.edit.new_pair.Layout.{Layout}
+use Rattle.properties_editing.specs.declared.edit.append.Layout.{Layout}
 use Rattle.properties_editing.specs.declared.edit.source.BodyStart.{BodyStart}
 use Rattle.std.proofs.lemmas.Bool.{cond-true}
 use Rattle.properties_editing.proofs.Editing.{appended-result, set-edits}
 use Rattle.properties_editing.proofs.SetValues.{new_pair-result, value-edits}
 use Rattle.properties_editing.specs.declared.edit.index.Index.{Index}
-use Rattle.properties_editing.specs.declared.edit.place.BodySpan.{BodySpan}
-use Rattle.properties_editing.specs.declared.edit.place.Closing.{Closing}
-use Rattle.properties_editing.specs.declared.edit.place.Closing.TheVariants as closing
+use Rattle.properties_editing.specs.declared.edit.find.BodySpan.{BodySpan}
+use Rattle.properties_editing.specs.declared.edit.find.Closing.{Closing}
+use Rattle.properties_editing.specs.declared.edit.find.Closing.TheVariants as closing
 use Rattle.properties_editing.proofs.BodyKeys.{some-groups}
 use Rattle.properties_editing.proofs.IndexAppended.{appended-index, appended-sound}
 use Rattle.properties_editing.proofs.IndexFound.{found-place}

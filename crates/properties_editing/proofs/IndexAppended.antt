@@ -32,8 +32,8 @@ use Rattle.properties_editing.specs.Private.BodyKeys.{closing_of}
 use Rattle.properties_editing.specs.declared.edit.index.Index.{Index}
 use Rattle.properties_editing.specs.declared.edit.index.IndexedPair.{IndexedPair}
 use Rattle.properties_editing.specs.declared.edit.index.Shift.TheVariants as shift
-use Rattle.properties_editing.specs.declared.edit.place.BodySpan.{BodySpan}
-use Rattle.properties_editing.specs.declared.edit.place.Closing.TheVariants.{Nothing}
+use Rattle.properties_editing.specs.declared.edit.find.BodySpan.{BodySpan}
+use Rattle.properties_editing.specs.declared.edit.find.Closing.TheVariants.{Nothing}
 use Rattle.properties_editing.proofs.BodyKeys.{sound-append}
 use Rattle.properties_editing.proofs.IndexParsed.{listed-more, listed-same}
 use Rattle.properties_editing.proofs.IndexSpans.{IsShift, group-size, live-shifted, places-shifted, shift-all, shift-append, shift-some, size-around, span-is, spans-join, spans-skip}

@@ -21,8 +21,8 @@ use Rattle.properties_editing.specs.Private.BodyIndex.{FollowsPair, IsIndex, all
 use Rattle.properties_editing.specs.Private.BodyKeys.{closing_of}
 use Rattle.properties_editing.specs.declared.edit.index.Index.{Index}
 use Rattle.properties_editing.specs.declared.edit.index.Shift.TheVariants as shift
-use Rattle.properties_editing.specs.declared.edit.place.Closing.{Closing}
-use Rattle.properties_editing.specs.declared.edit.place.Closing.TheVariants.{OneEnding}
+use Rattle.properties_editing.specs.declared.edit.find.Closing.{Closing}
+use Rattle.properties_editing.specs.declared.edit.find.Closing.TheVariants.{OneEnding}
 use Rattle.properties_editing.proofs.IndexSpans.{IsShift, live-shifted, places-shifted, replaced-shift, size-around}
 use Rattle.properties_editing.proofs.IndexValues.{last-replaced}
 

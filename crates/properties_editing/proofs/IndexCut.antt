@@ -12,7 +12,7 @@ use Rattle.properties_format.specs.Computed.Parts.{unended_bytes}
 use Rattle.properties_format.proofs.Body.Groups.{groups_bytes-append}
 use Rattle.properties_editing.specs.Private.BodyIndex.{all_shifted, is_pair, live_spans, moved_span, moved_to, outcome, shifted, some_span, span_at, span_of, spans_where}
 use Rattle.properties_editing.specs.declared.edit.index.Shift.TheVariants as shift
-use Rattle.properties_editing.specs.declared.edit.place.BodySpan.{BodySpan}
+use Rattle.properties_editing.specs.declared.edit.find.BodySpan.{BodySpan}
 use Rattle.properties_editing.proofs.IndexFound.{spans-none}
 use Rattle.properties_editing.proofs.IndexParsed.{live-append}
 use Rattle.properties_editing.proofs.IndexSpans.{IsShift, group-size, live-changed, live-some, moved-high, moved-low, places-shifted, shift-all, shift-append, span-is, spans-join, spans-skip, spans-take}

@@ -24,7 +24,7 @@ use Rattle.properties_editing.specs.Private.BodyKeys.{closing_of}
 use Rattle.properties_editing.specs.Private.Sources.{IsInForce}
 use Rattle.properties_editing.specs.declared.edit.index.Index.{Index}
 use Rattle.properties_editing.specs.declared.edit.index.IndexedPair.{IndexedPair}
-use Rattle.properties_editing.specs.declared.edit.place.BodySpan.{BodySpan}
+use Rattle.properties_editing.specs.declared.edit.find.BodySpan.{BodySpan}
 use Rattle.properties_editing.specs.declared.edit.source.BodyStart.{BodyStart}
 use Rattle.properties_editing.proofs.BodyGroups.{front-of}
 use Rattle.properties_editing.proofs.IndexRemoved.{IsCutTo, IsCutWhole, cut-begin, cut-inside, cut-shorter, cut-step, cut-whole, held-rest, removed-guarded, removed-plain}

@@ -29,8 +29,8 @@ use Rattle.properties_editing.specs.Private.BodyKeys.{IsPlaceOf, IsKeyFound, clo
 use Rattle.properties_editing.specs.Private.BodyValues.{IsPairAlone, revalued_in}
 use Rattle.properties_editing.specs.Private.Sources.{IsInForce}
 use Rattle.properties_editing.specs.declared.edit.index.Index.{Index}
-use Rattle.properties_editing.specs.declared.edit.place.BodySpan.{BodySpan}
-use Rattle.properties_editing.specs.declared.edit.place.KeyPlace as place
+use Rattle.properties_editing.specs.declared.edit.find.BodySpan.{BodySpan}
+use Rattle.properties_editing.specs.declared.edit.find.KeyPlace as place
 use Rattle.properties_editing.specs.declared.edit.source.BodyStart.{BodyStart}
 use Rattle.properties_editing.proofs.Editing.{bom-front, place-split, replaced-result, result-made, set-edits}
 use Rattle.properties_editing.proofs.SetValues.{alone-value, value-edits, revalued-result, found-alone}

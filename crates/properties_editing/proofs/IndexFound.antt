@@ -22,7 +22,7 @@ use Rattle.properties_editing.specs.Private.BodyKeys.{IsPlace, IsPlaceOf}
 use Rattle.properties_editing.specs.Private.BodyValues.{IsLastPair}
 use Rattle.properties_editing.specs.declared.edit.index.Index.{Index}
 use Rattle.properties_editing.specs.declared.edit.index.IndexedPair.{IndexedPair}
-use Rattle.properties_editing.specs.declared.edit.place.BodySpan.{BodySpan}
+use Rattle.properties_editing.specs.declared.edit.find.BodySpan.{BodySpan}
 use Rattle.properties_editing.proofs.IndexSpans.{spans-join, spans-skip, spans-take}
 
 -- ---- the last of a list

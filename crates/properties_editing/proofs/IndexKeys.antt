@@ -33,7 +33,7 @@ use Rattle.properties_editing.specs.Documents.{characters_of}
 use Rattle.properties_items.specs.Texts.{characters}
 use Rattle.properties_editing.specs.declared.edit.index.Index.{Index}
 use Rattle.properties_editing.specs.declared.edit.index.IndexedPair.{IndexedPair}
-use Rattle.properties_editing.specs.declared.edit.place.BodySpan.{BodySpan}
+use Rattle.properties_editing.specs.declared.edit.find.BodySpan.{BodySpan}
 use Rattle.properties_editing.proofs.IndexMerged.{pair-bytes}
 use Rattle.properties_editing.proofs.IndexParsed.{some-inside}
 use Rattle.properties_editing.proofs.IndexSpans.{group-size}

@@ -25,7 +25,7 @@ use Rattle.properties_format.proofs.InTurn.Merged.{AreInTurn, after-lf, merged, 
 use Rattle.properties_editing.specs.Private.BodyIndex.{IsListed, all_shifted, is_pair, last_value, outcome, places_of, shifted, some_span, span_of, spans_where, stored_at, value_by}
 use Rattle.properties_editing.specs.declared.edit.index.IndexedPair.{IndexedPair}
 use Rattle.properties_editing.specs.declared.edit.index.Shift.TheVariants as shift
-use Rattle.properties_editing.specs.declared.edit.place.BodySpan.{BodySpan}
+use Rattle.properties_editing.specs.declared.edit.find.BodySpan.{BodySpan}
 use Rattle.properties_editing.proofs.IndexSpans.{IsShift, live-shifted, moved-behind, places-shifted, spans-skip}
 
 -- ---- an LF alone

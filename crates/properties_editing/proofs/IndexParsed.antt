@@ -32,7 +32,7 @@ use Rattle.properties_editing.specs.declared.edit.groups.Group.{Group}
 use Rattle.properties_editing.specs.declared.edit.groups.GroupReader.{GroupReader}
 use Rattle.properties_editing.specs.declared.edit.index.Index.{Index}
 use Rattle.properties_editing.specs.declared.edit.index.IndexedPair.{IndexedPair}
-use Rattle.properties_editing.specs.declared.edit.place.BodySpan.{BodySpan}
+use Rattle.properties_editing.specs.declared.edit.find.BodySpan.{BodySpan}
 use Rattle.properties_editing.proofs.BodyKeys.{HasRead, read-none, read-more, read-all}
 use Rattle.properties_editing.proofs.IndexSpans.{spans-join}
 use Rattle.properties_editing.proofs.IndexValues.{last-more, last-same}

@@ -39,10 +39,10 @@ use Rattle.properties_editing.specs.Private.Sources.{IsInForce}
 use Rattle.properties_editing.specs.declared.edit.index.Index.{Index}
 use Rattle.properties_editing.specs.declared.edit.index.IndexedPair.{IndexedPair}
 use Rattle.properties_editing.specs.declared.edit.index.Shift.TheVariants as shift
-use Rattle.properties_editing.specs.declared.edit.place.BodySpan.{BodySpan}
+use Rattle.properties_editing.specs.declared.edit.find.BodySpan.{BodySpan}
 use Rattle.properties_editing.specs.declared.edit.source.BodyStart.{BodyStart}
-use Rattle.properties_editing.specs.declared.edit.place.Closing.{Closing}
-use Rattle.properties_editing.specs.declared.edit.place.Closing.TheVariants.{Nothing}
+use Rattle.properties_editing.specs.declared.edit.find.Closing.{Closing}
+use Rattle.properties_editing.specs.declared.edit.find.Closing.TheVariants.{Nothing}
 use Rattle.properties_editing.proofs.BodyGroups.{front-of}
 use Rattle.properties_editing.proofs.BodyKeys.{sound-append}
 use Rattle.properties_editing.proofs.Editing.{removed-bytes, removed-edits, unmarked}

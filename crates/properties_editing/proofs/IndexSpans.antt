@@ -12,7 +12,7 @@ use Rattle.properties_format.proofs.InTurn.Lines.{bytes-unended}
 use Rattle.properties_editing.specs.Private.BodyIndex.{all_shifted, lengthened_span, live_spans, moved_span, moved_to, outcome, shifted, some_span, span_at, span_of, spans_where}
 use Rattle.properties_editing.specs.declared.edit.index.Shift.{Shift}
 use Rattle.properties_editing.specs.declared.edit.index.Shift.TheVariants as shift
-use Rattle.properties_editing.specs.declared.edit.place.BodySpan.{BodySpan}
+use Rattle.properties_editing.specs.declared.edit.find.BodySpan.{BodySpan}
 
 -- ---- sizes
 

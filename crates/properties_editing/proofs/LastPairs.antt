@@ -57,7 +57,7 @@ use Rattle.properties_text.specs.declared.parse.Span.{Span}
 use Rattle.properties_editing.specs.Private.BodyGroups.{IsWithin, groups_left, text_of, TakesGroup}
 use Rattle.properties_editing.specs.declared.edit.groups.Group.{Group}
 use Rattle.properties_editing.specs.declared.edit.groups.GroupReader.{GroupReader}
-use Rattle.properties_editing.specs.declared.edit.place.BodySpan.{BodySpan}
+use Rattle.properties_editing.specs.declared.edit.find.BodySpan.{BodySpan}
 
 -- ---- the last pair
 

@@ -30,11 +30,11 @@ use Rattle.properties_editing.specs.Editing.{HasValueSet}
 use Rattle.properties_items.specs.Texts.{characters}
 use Rattle.properties_items.specs.LineEndings.{ending_of}
 use Rattle.properties_editing.specs.Private.Sources.{IsInForce}
-use Rattle.properties_editing.specs.declared.edit.new_pair.Layout.{Layout}
-use Rattle.properties_editing.specs.declared.edit.place.BodySpan.{BodySpan}
-use Rattle.properties_editing.specs.declared.edit.place.Closing.{Closing}
-use Rattle.properties_editing.specs.declared.edit.place.Closing.TheVariants as closing
-use Rattle.properties_editing.specs.declared.edit.place.KeyPlace as place
+use Rattle.properties_editing.specs.declared.edit.append.Layout.{Layout}
+use Rattle.properties_editing.specs.declared.edit.find.BodySpan.{BodySpan}
+use Rattle.properties_editing.specs.declared.edit.find.Closing.{Closing}
+use Rattle.properties_editing.specs.declared.edit.find.Closing.TheVariants as closing
+use Rattle.properties_editing.specs.declared.edit.find.KeyPlace as place
 use Rattle.properties_editing.specs.declared.edit.source.BodyStart.{BodyStart}
 use Rattle.properties_editing.proofs.Editing.{bom-front, result-made}
 use Rattle.properties_editing.proofs.LastPairs.{IsPartAt, part-at, part-group}

@@ -16,10 +16,10 @@ use Rattle.properties_items.specs.BorrowedItems.{IsFoundIn}
 use Rattle.properties_items.specs.FoundItems.{IsNoItem}
 use Rattle.properties_items.specs.Errors.{IsBareError, IsMalformed}
 use Rattle.properties_editing.specs.declared.edit.groups.Group.{Group}
-use Rattle.properties_editing.specs.declared.edit.place.Closing.{Closing}
-use Rattle.properties_editing.specs.declared.edit.place.Closing.TheVariants as closing
-use Rattle.properties_editing.specs.declared.edit.place.KeyPlace as place
-use Rattle.properties_editing.specs.declared.edit.place.BodySpan.{BodySpan}
+use Rattle.properties_editing.specs.declared.edit.find.Closing.{Closing}
+use Rattle.properties_editing.specs.declared.edit.find.Closing.TheVariants as closing
+use Rattle.properties_editing.specs.declared.edit.find.KeyPlace as place
+use Rattle.properties_editing.specs.declared.edit.find.BodySpan.{BodySpan}
 use Rattle.properties_items.specs.declared.error.ErrorKind.TheVariants as kind
 use Rattle.properties_items.specs.declared.error.PropertiesError.{PropertiesError}
 use Rattle.properties_items.specs.declared.found.Found.{Found}

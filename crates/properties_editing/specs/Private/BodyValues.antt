@@ -29,9 +29,9 @@ use Rattle.properties_editing.specs.Private.BodyLines.{ending_in}
 use Rattle.properties_items.specs.FoundItems.{IsNoItem}
 use Rattle.properties_items.specs.Errors.{IsBareError}
 use Rattle.properties_items.specs.declared.line.LineEnding.{LineEnding}
-use Rattle.properties_editing.specs.declared.edit.new_pair.Layout.{Layout}
-use Rattle.properties_editing.specs.declared.edit.place.BodySpan.{BodySpan}
-use Rattle.properties_editing.specs.declared.edit.place.Closing.{Closing}
+use Rattle.properties_editing.specs.declared.edit.append.Layout.{Layout}
+use Rattle.properties_editing.specs.declared.edit.find.BodySpan.{BodySpan}
+use Rattle.properties_editing.specs.declared.edit.find.Closing.{Closing}
 use Rattle.properties_editing.specs.declared.edit.value.NewValue.{NewValue}
 use Rattle.properties_items.specs.declared.error.ErrorKind.TheVariants as kind
 use Rattle.properties_items.specs.declared.error.PropertiesError.{PropertiesError}

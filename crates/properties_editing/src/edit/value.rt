@@ -11,11 +11,11 @@ ghost use Rattle.properties_text.specs.Printing.{AppendsOnOk};
 ghost use Rattle.properties_lines.specs.LineSearch.{unit_size};
 ghost use Rattle.properties_editing.specs.Private.BodyValues.{GivesValue, IsPairAlone, Revalues};
 
-use crate::edit::front::{between, front_size};
+use crate::edit::find::BodySpan;
 use crate::edit::groups::first_group;
-use crate::edit::keys::has_value;
-use crate::edit::place::BodySpan;
-use crate::edit::result::concatenated;
+use crate::edit::layout::{between, front_size};
+use crate::edit::pairs::has_value;
+use crate::edit::replace::concatenated;
 use crate::edit::source::BodyStart;
 use properties_items::error::PropertiesError;
 use properties_text::encoding::{Encoding, OutputEncoding};

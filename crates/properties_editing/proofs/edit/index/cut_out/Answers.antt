@@ -4,7 +4,7 @@ use Rattle.std.specs.List.{copy_within}
 use Rattle.std.proofs.lemmas.List.{places, take_rest, with_items_is}
 use Rattle.properties_editing.specs.Private.BodyIndex.{all_shifted, ending_size}
 use Rattle.properties_editing.specs.declared.edit.index.Shift.TheVariants as shift
-use Rattle.properties_editing.specs.declared.edit.place.Closing.TheVariants as closing
+use Rattle.properties_editing.specs.declared.edit.find.Closing.TheVariants as closing
 use Rattle.properties_editing.proofs.IndexCutOut.{cut-bytes, ending-fits}
 use Rattle.properties_editing.proofs.edit.index.cut_out.Goals as goal
 

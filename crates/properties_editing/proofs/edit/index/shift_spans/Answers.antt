@@ -5,7 +5,7 @@ use Rattle.std.proofs.lemmas.Bool.{cases_lt}
 use Rattle.std.proofs.lemmas.List.{get_or-set_same, get_or-set_other, get_or_default, length-set}
 use Rattle.properties_editing.specs.Private.BodyIndex.{all_shifted, shifted, span_at}
 use Rattle.properties_editing.specs.declared.edit.index.Shift.{Shift}
-use Rattle.properties_editing.specs.declared.edit.place.BodySpan.{BodySpan}
+use Rattle.properties_editing.specs.declared.edit.find.BodySpan.{BodySpan}
 use Rattle.properties_editing.proofs.edit.index.shift_spans.Goals as goal
 
 pub loop-place-init : goal.loop-place-init

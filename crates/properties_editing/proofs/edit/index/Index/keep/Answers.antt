@@ -8,7 +8,7 @@ use Rattle.properties_text.proofs.TextFronts.{at-error}
 use Rattle.properties_editing.specs.Private.BodyIndex.{places_of, stored_at}
 use Rattle.properties_items.specs.Texts.{characters}
 use Rattle.properties_editing.specs.declared.edit.index.IndexedPair.{IndexedPair}
-use Rattle.properties_editing.specs.declared.edit.place.BodySpan.{BodySpan}
+use Rattle.properties_editing.specs.declared.edit.find.BodySpan.{BodySpan}
 use Rattle.properties_editing.proofs.IndexParsed.{none-removed, put-after}
 use Rattle.properties_items.proofs.TextMaps.Values.{at_chars-sorted, at_chars-updated}
 use Rattle.properties_editing.proofs.edit.index.Index.keep.Goals as goal

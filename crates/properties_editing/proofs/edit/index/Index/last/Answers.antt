@@ -3,7 +3,7 @@ use Rattle.std.specs.Prelude.{Option, Some, None, get_or}
 use Rattle.std.proofs.Math.Seq.{take-suc}
 use Rattle.std.proofs.lemmas.List.{get_or_default, take_all}
 use Rattle.properties_editing.specs.Private.BodyIndex.{last_live, span_or}
-use Rattle.properties_editing.specs.declared.edit.place.BodySpan.{BodySpan}
+use Rattle.properties_editing.specs.declared.edit.find.BodySpan.{BodySpan}
 use Rattle.properties_editing.proofs.edit.index.Index.last.Goals as goal
 
 last-push : (xs : List (Option BodySpan)) (s : Option BodySpan) → last_live (xs ++ s ∷ []) ≡ span_or s (last_live xs)

@@ -6,7 +6,7 @@ use Rattle.properties_lines.specs.LineSearch.{unit_size}
 use Rattle.properties_editing.specs.Private.BodyGroups.{IsWithin}
 use Rattle.properties_items.specs.FoundItems.{pair_characters}
 use Rattle.properties_editing.specs.declared.edit.index.Index.{Index}
-use Rattle.properties_editing.specs.declared.edit.place.Closing.TheVariants.{Nothing}
+use Rattle.properties_editing.specs.declared.edit.find.Closing.TheVariants.{Nothing}
 use Rattle.properties_editing.proofs.BodyKeys.{read-fault}
 use Rattle.properties_editing.proofs.IndexParsed.{HasIndexed, indexed-none, indexed-more}
 use Rattle.properties_editing.proofs.edit.index.Index.parse.Goals as goal

@@ -1,0 +1,22 @@
+use Rattle.std.proofs.Common.{false, refl}
+use Rattle.std.specs.Str.{chars}
+use Rattle.std.proofs.lemmas.Result.{on_ok_weaker}
+use Rattle.properties_format.specs.Printing.{printed_key}
+use Rattle.properties_format.specs.Encoding.{output_encoding}
+use Rattle.properties_text.specs.Encoding.{encoding_of}
+use Rattle.properties_items.proofs.RawTexts.{separator-bytes}
+use Rattle.properties_editing.proofs.NewPairs.{new_pair-unended}
+use Rattle.properties_editing.proofs.edit.append.print_new_pair.Goals as goal
+
+pub returns : goal.returns
+returns c =
+    let e = output_encoding (encoding_of c.args.encoding) in
+    let text = c.args.separator.now in
+    let key = rw (c.repertoire_of-repertoire.ensures.all, c.repertoire_of-repertoire.ensures.encoding) at c.in_ok-print_key.ensures in
+    let value = rw c.repertoire_of-repertoire.ensures.encoding at c.print_value.ensures in
+    let separator = separator-bytes e text (chars text) c.utf8.separator refl c.requires in
+    on_ok_weaker c.print_value.result
+    (λ h. new_pair-unended e c.args.line.now c.print_key.new.line c.print_raw.new.line c.print_value.new.line
+    (chars text) text (printed_key e false c.args.first (chars c.args.key.now)) (chars c.args.value.now) c.are_blanks.result
+    key c.in_ok-print_raw.ensures.appended separator h c.are_blanks.ensures)
+    value

@@ -1,0 +1,192 @@
+// The bytes of an edited source.
+
+ghost use Rattle.std.specs.Prelude.{◌≡◌, ◌==◌, ◌≤◌, ◌+◌, ◌-◌, ◌++◌, [], ◌∷◌, take, drop, length, IfOk, OnOk};
+ghost use Rattle.std.specs.Str.{chars};
+ghost use Rattle.properties_format.specs.Text.{line_feed};
+ghost use Rattle.properties_format.specs.Writing.{is_empty};
+ghost use Rattle.properties_format.specs.Edited.{added_ending, pair_bytes};
+ghost use Rattle.properties_format.specs.Encoding.{begins_like_bom};
+ghost use Rattle.properties_editing.specs.Private.BodyKeys.{AreWithin, left_bytes, closing_bytes, spans_bytes};
+ghost use Rattle.properties_format.specs.Encoding.{output_encoding};
+ghost use Rattle.properties_text.specs.Encoding.{encoding_of};
+ghost use Rattle.properties_text.specs.Printing.{AppendsOnOk};
+
+use crate::edit::find::{BodySpan, Closing, closing_bytes, separation_after};
+use crate::edit::source::BodyStart;
+use crate::edit::value::repertoire_of;
+use properties_text::encoding::Encoding;
+use properties_text::encoding::byte_order_mark::{ByteOrderMark, byte_order_mark};
+use properties_text::print::{LineBuffer, Place, print_key, print_raw, print_text};
+use std::alloc::{AllocError, Global};
+
+/// Returns the source with this pair replaced by a printed pair.
+pub fn replaced(
+    alloc: Global,
+    source: &[u8],
+    opened: BodyStart,
+    pair: BodySpan,
+    key: &str,
+    value: &str,
+) -> Result<Vec<u8>, AllocError>
+    requires ordered { pair.start ≤ pair.end }
+    requires within { opened.start + pair.end ≤ length source.now }
+    ensures { let e = output_encoding (encoding_of opened.encoding) in
+        let line = pair_bytes e (pair.start == 0) (chars key.now) (chars value.now) in
+        IfOk result (λ bytes. bytes.items ≡ take (opened.start + pair.start) source.now
+        ++ (line ++ drop (opened.start + pair.end) source.now)) }
+{
+    let mut line = LineBuffer::new(alloc);
+    print_pair(&mut line, opened.encoding, pair.start == 0, key, value)?;
+    let front = &source[..opened.start + pair.start];
+    let back = &source[opened.start + pair.end..];
+    concatenated(alloc, front, line.as_slice(), back)
+}
+
+/// Returns the source with a printed pair and a line feed appended. `closing` says what separates the pair from the
+/// bytes before it.
+pub fn appended(
+    alloc: Global,
+    source: &[u8],
+    opened: BodyStart,
+    closing: Closing,
+    key: &str,
+    value: &str,
+) -> Result<Vec<u8>, AllocError>
+    requires { opened.start ≤ length source.now }
+    ensures { let e = output_encoding (encoding_of opened.encoding) in
+        let separation = closing_bytes (added_ending source.now) closing in
+        let first = is_empty (drop opened.start source.now ++ separation) in
+        let line = pair_bytes e first (chars key.now) (chars value.now) in
+        IfOk result (λ bytes. bytes.items ≡ source.now ++ (separation ++ (line ++ line_feed ∷ []))) }
+{
+    let separation = closing_bytes(closing, separation_after(source)).as_bytes();
+    let first = are_empty(&source[opened.start..], separation);
+    let mut line = LineBuffer::new(alloc);
+    print_pair(&mut line, opened.encoding, first, key, value)?;
+    print_raw(&mut line, "\n")?;
+    concatenated(alloc, source, separation, line.as_slice())
+}
+
+/// Returns the source with only these parts of its body. An LF comes before them if they would begin like a byte order
+/// mark and the source doesn't begin with one.
+pub fn reduced_to(
+    alloc: Global,
+    source: &[u8],
+    opened: BodyStart,
+    others: &[BodySpan],
+) -> Result<Vec<u8>, AllocError>
+    requires within { opened.start ≤ length source.now }
+    requires parts { AreWithin (drop opened.start source.now) others.now }
+    ensures { IfOk result (λ bytes. bytes.items ≡ left_bytes source.now opened.start others.now) }
+{
+    let body = &source[opened.start..];
+    let mut bytes = Vec::with_capacity(alloc, size_with(opened.start, others))?;
+    bytes.extend_from_slice(&source[..opened.start])?;
+    push_spans(&mut bytes, body, others)?;
+    if opened.start == 0 && begins_like_bom(&bytes) {
+        // This is rare, so the bytes are moved.
+        bytes.insert(0, b'\n')?;
+    }
+    Ok(bytes)
+}
+
+// Returns an upper bound on the size of a byte order mark of this size, an LF and these parts.
+fn size_with(mark: usize, spans: &[BodySpan]) -> usize {
+    let mut size = mark.saturating_add(1);
+    for span in spans {
+        size = size.saturating_add(span.end.saturating_sub(span.start));
+    }
+    size
+}
+
+// Appends these parts of a body.
+fn push_spans(bytes: &mut Vec<u8>, body: &[u8], spans: &[BodySpan]) -> Result<(), AllocError>
+    requires { AreWithin body.now spans.now }
+    ensures { OnOk result (bytes.new.items ≡ bytes.old.items ++ spans_bytes body.now spans.now) }
+{
+    for span in spans {
+        bytes.extend_from_slice(part(body, *span))?;
+    }
+    Ok(())
+}
+
+/// Returns a part of a body.
+pub fn part(body: &[u8], span: BodySpan) -> &[u8]
+    requires ordered { span.start ≤ span.end }
+    requires within { span.end ≤ length body.now }
+    ensures { result.now ≡ take (span.end - span.start) (drop span.start body.now) }
+{
+    &body[span.start..span.end]
+}
+
+/// Returns whether the bytes begin like a byte order mark.
+pub fn begins_like_bom(bytes: &[u8]) -> bool
+    ensures { result ≡ begins_like_bom bytes.now }
+{
+    match byte_order_mark(bytes) {
+        ByteOrderMark::Present(_, _) => true,
+        ByteOrderMark::Absent | ByteOrderMark::Undecided => false,
+    }
+}
+
+/// Returns whether both slices are empty.
+pub fn are_empty(rest: &[u8], separation: &[u8]) -> bool
+    ensures { result ≡ is_empty (rest.now ++ separation.now) }
+{
+    rest.is_empty() && separation.is_empty()
+}
+
+// Appends a pair without a line ending. A pair that is `first` in a body is printed so that it isn't taken for a byte
+// order mark.
+fn print_pair(
+    line: &mut LineBuffer,
+    encoding: Encoding,
+    first: bool,
+    key: &str,
+    value: &str,
+) -> Result<(), AllocError>
+    ensures { let e = output_encoding (encoding_of encoding) in
+        AppendsOnOk line.old (pair_bytes e first (chars key.now) (chars value.now)) result line.new }
+{
+    let repertoire = repertoire_of(encoding);
+    print_key(line, repertoire, first, key)?;
+    print_raw(line, "=")?;
+    print_text(line, repertoire, Place::KeyOrValue, value)
+}
+
+/// Returns a pair as it is printed, without a line ending. A pair that is `first` in a body is printed so that it isn't
+/// taken for a byte order mark.
+pub fn printed_pair(
+    alloc: Global,
+    encoding: Encoding,
+    first: bool,
+    key: &str,
+    value: &str,
+) -> Result<Vec<u8>, AllocError>
+    ensures { let e = output_encoding (encoding_of encoding) in
+        IfOk result (λ bytes. bytes.items ≡ pair_bytes e first (chars key.now) (chars value.now)) }
+{
+    let mut line = LineBuffer::new(alloc);
+    print_pair(&mut line, encoding, first, key, value)?;
+    concatenated(alloc, line.as_slice(), b"", b"")
+}
+
+/// Concatenates three slices. Their memory is allocated before the first of them is copied.
+pub fn concatenated(
+    alloc: Global,
+    front: &[u8],
+    middle: &[u8],
+    back: &[u8],
+) -> Result<Vec<u8>, AllocError>
+    ensures { IfOk result (λ bytes. bytes.items ≡ front.now ++ (middle.now ++ back.now)) }
+{
+    let size = front
+        .len()
+        .saturating_add(middle.len())
+        .saturating_add(back.len());
+    let mut bytes = Vec::with_capacity(alloc, size)?;
+    bytes.extend_from_slice(front)?;
+    bytes.extend_from_slice(middle)?;
+    bytes.extend_from_slice(back)?;
+    Ok(bytes)
+}
