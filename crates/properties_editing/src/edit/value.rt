@@ -6,7 +6,7 @@ ghost use Rattle.properties_format.specs.Text.{is_blanks};
 ghost use Rattle.properties_format.specs.Encoding.{output_encoding};
 ghost use Rattle.properties_format.specs.Printing.{encoded_text};
 ghost use Rattle.properties_format.specs.Valued.{value_text};
-ghost use Rattle.properties_text.specs.Encoding.{encoding_of, output_of};
+ghost use Rattle.properties_text.specs.Encoding.{encoding_of};
 ghost use Rattle.properties_text.specs.Printing.{AppendsOnOk};
 ghost use Rattle.properties_lines.specs.LineSearch.{unit_size};
 ghost use Rattle.properties_editing.specs.Private.BodyValues.{GivesValue, IsPairAlone, Revalues};
@@ -15,12 +15,12 @@ use crate::edit::find::BodySpan;
 use crate::edit::groups::first_group;
 use crate::edit::layout::{between, front_size};
 use crate::edit::pairs::has_value;
-use crate::edit::replace::concatenated;
+use crate::edit::replace::{concatenated, repertoire_of};
 use crate::edit::source::BodyStart;
 use properties_items::error::PropertiesError;
-use properties_text::encoding::{Encoding, OutputEncoding};
+use properties_text::encoding::Encoding;
 use properties_text::parse::leading_blanks;
-use properties_text::print::{LineBuffer, Repertoire, print_raw, print_value};
+use properties_text::print::{LineBuffer, print_raw, print_value};
 use std::alloc::{AllocError, Global};
 
 /// How the bytes of a pair change when it gets another value.
@@ -100,17 +100,6 @@ fn print_value_after(
         return print_value(line, repertoire, false, value);
     }
     print_value(line, repertoire, are_blanks(separator), value)
-}
-
-/// Returns the characters that an edit prints as they are: all that the encoding has.
-pub fn repertoire_of(encoding: Encoding) -> Repertoire
-    ensures encoding { output_of result.encoding ≡ output_encoding (encoding_of encoding) }
-    ensures all { result.ascii_only ≡ false }
-{
-    Repertoire {
-        encoding: OutputEncoding::from(encoding),
-        ascii_only: false,
-    }
 }
 
 /// Returns whether a text is blanks and nothing else.
