@@ -1,4 +1,3 @@
-pub mod Labels
 pub mod Encoding
 pub mod Decoding
 pub mod Parsing

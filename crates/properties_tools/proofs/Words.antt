@@ -9,7 +9,7 @@ use Rattle.std.proofs.lemmas.List.{length-map, map-append}
 use Rattle.properties_format.specs.Edits as format
 use Rattle.java_properties.specs.Editing.{edit_in, edits_in}
 use Rattle.properties_editing.specs.declared.edit.Edit as editor
-use Rattle.properties_tools.specs.Propedit.Asked.{Edit, set, remove, in_characters, edit_words, words_of, AreWordsOfEdits, BeginNoEdit, GivesEdits}
+use Rattle.properties_tools.specs.Private.Propedit.Asked.{Edit, set, remove, in_characters, edit_words, words_of, AreWordsOfEdits, BeginNoEdit, GivesEdits}
 use Rattle.properties_tools.specs.declared.propedit.asked.mistake.Mistake.{Mistake}
 
 -- the words of one edit more

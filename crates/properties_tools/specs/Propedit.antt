@@ -1,6 +1,5 @@
 -- What `propedit` does, over any streams.
 pub mod Answers
-pub mod Asked
 pub mod Change
 pub mod Check
 pub mod Failures

@@ -2,7 +2,7 @@
 
 ghost use Rattle.std.specs.Prelude.{◌↔◌, map, IsTrue};
 ghost use Rattle.properties_format.specs.Labels.{IsOneOf};
-ghost use Rattle.properties_text.specs.Labels.{borrowed_text};
+ghost use Rattle.properties_text.specs.Private.Labels.{borrowed_text};
 
 pub const WINDOWS_1252: &[&str] = &[
     "ansi_x3.4-1968",

@@ -1,7 +1,7 @@
 use Rattle.std.proofs.Common.{map, sym, ◌∙◌}
 use Rattle.std.specs.Prelude.{string_bytes}
 use Rattle.java_properties.specs.Editing.{edits_in}
-use Rattle.properties_tools.specs.Propedit.Asked.{borrowed_edit}
+use Rattle.properties_tools.specs.Private.Propedit.Asked.{borrowed_edit}
 use Rattle.properties_tools.proofs.Words.{made-more, no-edits, refused}
 use Rattle.properties_tools.proofs.propedit.asked.edits.edits_in.Goals as goal
 
