@@ -45,12 +45,14 @@ gives() {
     count=$((count + 1))
 }
 
-# The arguments are wrong: the usage is printed on standard error.
+# The arguments after the first are wrong, which the first line on standard error says in these words.
 is_refused() {
+    local words=$1
+    shift
     run "$@"
     [ "$status" = 2 ] || fail "status $status, not 2"
     [ ! -s ../output ] || fail "standard output: $(cat -A ../output)"
-    cmp -s ../usage ../errors || fail "standard error: $(cat -A ../errors)"
+    [ "$(head -n 1 ../errors)" = "error: $words" ] || fail "standard error: $(cat -A ../errors)"
     count=$((count + 1))
 }
 
@@ -77,8 +79,9 @@ leaves_nothing() {
 run --help
 gives 0 "$(cat ../output)\n" ''
 cp ../output ../usage
-for words in 'usage: propedit' '-f FILE' '-i FILE' '-e NAME' '-d VALUE' '-z' '-h, --help' '--version' '-- ' \
-    'utf-8 (the default)' 'standard input' 'standard output' 'Status: 0'; do
+for words in 'Usage: propedit [OPTIONS] <COMMAND>' '  get  ' '  list  ' '  check  ' '  set  ' '  remove  ' \
+    '-f, --file <FILE>' '-i, --in-place <FILE>' '--create' '-e, --encoding <NAME>' '-d, --default <VALUE>' \
+    '-z, --null' '-h, --help' '-V, --version' '[default: utf-8]' 'standard input' 'Status: 0'; do
     grep -qF -- "$words" ../usage || fail "the usage lacks: $words"
     count=$((count + 1))
 done
@@ -86,10 +89,42 @@ run -h
 gives 0 "$(cat ../usage)\n" ''
 run --version
 gives 0 'propedit 1.6.0\n' ''
+run -V
+gives 0 'propedit 1.6.0\n' ''
 run -f nowhere --help get
 gives 0 "$(cat ../usage)\n" ''
-run --version --help --no-such-option
-gives 0 'propedit 1.6.0\n' ''
+run check --help
+[ "$status" = 0 ] && grep -qF 'Usage: propedit check [FILE]...' ../output || fail 'no help of check'
+
+# Each option, short and long.
+
+given 'a = 1\n\xe9 = 2\n'
+for option in '-f app.properties' '-fapp.properties' '--file app.properties' '--file=app.properties'; do
+    run -e windows-1252 $option get a
+    gives 0 '1\n' ''
+done
+for option in '-e latin1' '-elatin1' '--encoding ISO-8859-1' '--encoding=Windows-1252'; do
+    run $option get é
+    gives 0 '2\n' ''
+done
+run -e ' Latin1 ' get a
+gives 0 '1\n' ''
+for option in '-d 3' '-d3' '--default 3' '--default=3'; do
+    run -e l1 $option get absent
+    gives 0 '3\n' ''
+done
+for option in -z --null; do
+    run -e l1 $option get a
+    gives 0 '1\0' ''
+done
+run -ze l1 get a
+gives 0 '1\0' ''
+for option in '-i app.properties' '-iapp.properties' '--in-place app.properties' '--in-place=app.properties'; do
+    given 'a = 1\n'
+    run $option set a 2
+    gives 0 '' ''
+    holds app.properties 'a = 2\n'
+done
 
 # get
 
@@ -123,12 +158,10 @@ gives 0 '8080\n' ''
 given '-d = 1\nget = 2\n-- = 3\n'
 run get -d
 gives 0 '1\n' ''
-run -- get -d
-gives 0 '1\n' ''
-run -f app.properties -- get get
-gives 0 '2\n' ''
-run get --
+run get -- --
 gives 0 '3\n' ''
+run -f app.properties get get
+gives 0 '2\n' ''
 run get --help
 gives 1 '' ''
 
@@ -168,11 +201,11 @@ run -f app.properties check
 gives 0 '' ''
 given 'a = 1\n# C:\\users\nb = \\u12\na = 2\nc = \xff\n\xfe = d\n\\u0061 = 3\n'
 run check
-gives 1 'standard input:5: not UTF-8
-standard input:6: not UTF-8
-standard input:2: Malformed \\uxxxx encoding: not hex. (in a comment)
+gives 1 'standard input:2: Malformed \\uxxxx encoding: not hex. (in a comment)
 standard input:3: Malformed \\uxxxx encoding: not enough digits.
 standard input:4: repeats the key of line 1
+standard input:5: not UTF-8
+standard input:6: not UTF-8
 standard input:7: repeats the key of line 1
 ' ''
 run -f app.properties -e windows-1252 check
@@ -181,6 +214,20 @@ app.properties:3: Malformed \\uxxxx encoding: not enough digits.
 app.properties:4: repeats the key of line 1
 app.properties:7: repeats the key of line 1
 ' ''
+given '\xe9=1\n\xe8=1\n'
+run -f app.properties check
+gives 1 'app.properties:1: not UTF-8\napp.properties:2: not UTF-8\n' ''
+printf 'a=1\na=2\n' >one.properties
+printf 'b=1\n' >two.properties
+run check one.properties two.properties app.properties
+gives 1 'one.properties:2: repeats the key of line 1\napp.properties:1: not UTF-8\napp.properties:2: not UTF-8\n' ''
+run check two.properties two.properties two.properties
+gives 0 '' ''
+run -e latin1 check app.properties one.properties
+gives 1 'one.properties:2: repeats the key of line 1\n' ''
+run check one.properties nowhere two.properties
+gives 2 'one.properties:2: repeats the key of line 1\n' 'propedit: nowhere: No such file or directory (os error 2)\n'
+rm one.properties two.properties
 
 # set and remove
 
@@ -201,8 +248,18 @@ holds app.properties '# ports\r\nport : 80\r\n\r\n  host = a\r\n! end'
 given 'a = 1\n'
 run set -f -i
 gives 0 'a = 1\n-f = -i\n' ''
-run -- remove a
+run remove a
 gives 0 '' ''
+run set --file --help set -- -- remove --file
+gives 0 'a = 1\n-- = --\n' ''
+run set -- 1
+gives 0 'a = 1\n-- = 1\n' ''
+run set a --
+gives 0 'a = --\n' ''
+given '-- = 1\n'
+run remove --
+gives 0 '' ''
+given 'a = 1\n'
 run set set remove remove get
 gives 0 'a = 1\nset = remove\n' ''
 
@@ -271,12 +328,12 @@ gives 0 'a\n' ''
 run -e utf-16le check
 gives 0 '' ''
 run -e utf-16le set a 1
-gives 2 '' "propedit: standard input: Encoding can't be edited.\n"
+gives 2 '' 'propedit: standard input: UTF-16 can be read but not edited; convert it first\n'
 given '\0a\0=\0\xe9'
 run -e utf-16be get a
 gives 0 'é\n' ''
 run -e utf-16be -f app.properties remove a
-gives 2 '' "propedit: app.properties: Encoding can't be edited.\n"
+gives 2 '' 'propedit: app.properties: UTF-16 can be read but not edited; convert it first\n'
 given '\xff\xfea\0=\0\xe9\0'
 run get a
 gives 0 'é\n' ''
@@ -304,7 +361,7 @@ run -e windows-1252 check
 gives 0 '' ''
 given '\xef\xbb\xbfa=\xe9'
 run -e windows-1252 get a
-gives 2 '' 'propedit: standard input:1: not UTF-8; -e windows-1252 reads it\n'
+gives 2 '' 'propedit: standard input:1: not UTF-8, though a byte order mark says so\n'
 
 # Malformed escapes
 
@@ -325,56 +382,55 @@ given 'a = \\uz\nb = \xff\n'
 run get a
 gives 2 '' 'propedit: standard input:2: not UTF-8; -e windows-1252 reads it\n'
 
-# Wrong arguments
+# Wrong arguments: the message names the word.
 
 given 'a = 1\n'
-is_refused
-is_refused --
-is_refused -f
-is_refused -f app.properties
-is_refused -e
-is_refused -e utf-8
-is_refused -d 1
-is_refused -i
-is_refused -z
-is_refused get
-is_refused get a b
-is_refused list a b
-is_refused check a
-is_refused set
-is_refused set a
-is_refused remove
-is_refused set a 1 get a
-is_refused get a set a 1
-is_refused set a 1 remove
-is_refused find a
-is_refused put a 2
-is_refused GET a
-is_refused utf-8 get a
-is_refused -e latin-1 get a
-is_refused -e UTF-8 get a
-is_refused -x get a
-is_refused --file app.properties get a
-is_refused -zz list
-is_refused -z -z list
-is_refused -e utf-8 -e utf-8 get a
-is_refused -d 1 -d 2 get a
-is_refused -f app.properties -f app.properties get a
-is_refused -i app.properties -i app.properties set a 1
-is_refused -f app.properties -i app.properties set a 1
-is_refused -i app.properties -f app.properties set a 1
-is_refused -i app.properties get a
-is_refused -i app.properties list
-is_refused -i app.properties check
-is_refused -d 1 list
-is_refused -d 1 check
-is_refused -d 1 set a 1
-is_refused -z check
-is_refused -z set a 1
-is_refused -- -- get a
-is_refused -- -z get a
-is_refused -x --help
-is_refused -z -z --help
+is_refused "'propedit' requires a subcommand but one was not provided"
+is_refused "'propedit' requires a subcommand but one was not provided" --
+is_refused "'propedit' requires a subcommand but one was not provided" -f app.properties
+is_refused "a value is required for '--file <FILE>' but none was supplied" -f
+is_refused "a value is required for '--encoding <NAME>' but none was supplied" -e
+is_refused "a value is required for '--in-place <FILE>' but none was supplied" -i
+is_refused 'the following required arguments were not provided:' get
+is_refused "unexpected argument 'b' found" get a b
+is_refused "unexpected argument 'b' found" list a b
+is_refused "unexpected argument '-q' found" -f app.properties check -q
+is_refused "the edit 'set' lacks its <KEY>" set
+is_refused "the edit 'set a' lacks its <VALUE>" set a
+is_refused "the edit 'set a=1' lacks its <VALUE>" -i app.properties set a=1
+is_refused "the edit 'remove' lacks its <KEY>" remove
+is_refused "the edit 'remove' lacks its <KEY>" set a 1 remove
+is_refused "the edit 'set b' lacks its <VALUE>" set a 1 set b
+edit='after an edit comes set or remove, and options come first'
+is_refused "unrecognized edit 'get': $edit" set a 1 get a
+is_refused "unrecognized edit 'b': $edit" -i app.properties set a 1 b 2
+is_refused "unrecognized edit '-i': $edit" set a 1 -i app.properties
+is_refused "unrecognized subcommand 'gett'" gett a
+is_refused "unrecognized subcommand 'GET'" GET a
+is_refused "unrecognized subcommand 'app.properties'" app.properties get a
+is_refused "unrecognized subcommand 'utf-8'" utf-8 get a
+is_refused "unexpected argument 'get' found" -- get a
+is_refused "invalid value 'latin-9' for '--encoding <NAME>': no encoding has this label" -e latin-9 get a
+is_refused "unexpected argument '-x' found" -x get a
+is_refused "unexpected argument '--fil' found" --fil app.properties get a
+is_refused "the argument '--null' cannot be used multiple times" -zz list
+is_refused "the argument '--null' cannot be used multiple times" -z --null list
+is_refused "the argument '--encoding <NAME>' cannot be used multiple times" -e utf-8 -e utf-8 get a
+is_refused "the argument '--default <VALUE>' cannot be used multiple times" -d 1 -d 2 get a
+is_refused "the argument '--file <FILE>' cannot be used multiple times" -f app.properties -f app.properties get a
+is_refused "the argument '--in-place <FILE>' cannot be used multiple times" -i a -i a set a 1
+is_refused "the argument '--file <FILE>' cannot be used with '--in-place <FILE>'" -f a -i a set a 1
+is_refused "the argument '--in-place <FILE>' cannot be used with '--file <FILE>'" -i a -f a set a 1
+is_refused "the argument '--in-place <FILE>' cannot be used with 'get'" -i app.properties get a
+is_refused "the argument '--in-place <FILE>' cannot be used with 'list'" -i app.properties list
+is_refused "the argument '--in-place <FILE>' cannot be used with 'check'" -i app.properties check
+is_refused "the argument '--file <FILE>' cannot be used with 'check'" -f app.properties check app.properties
+is_refused "the argument '--default <VALUE>' cannot be used with 'list'" -d 1 list
+is_refused "the argument '--default <VALUE>' cannot be used with 'check'" -d 1 check
+is_refused "the argument '--default <VALUE>' cannot be used with 'set'" -d 1 set a 1
+is_refused "the argument '--null' cannot be used with 'check'" -z check
+is_refused "the argument '--null' cannot be used with 'remove'" -z remove a
+is_refused 'the following required arguments were not provided:' --create set a 1
 holds app.properties 'a = 1\n'
 run get $'\xff'
 gives 2 '' 'propedit: an argument is not UTF-8\n'
@@ -386,7 +442,13 @@ gives 2 '' 'propedit: nowhere: No such file or directory (os error 2)\n'
 run -f app.properties/a get a
 gives 2 '' 'propedit: app.properties/a: Not a directory (os error 20)\n'
 run -f . get a
-gives 2 '' 'propedit: .:1: Is a directory (os error 21)\n'
+gives 2 '' 'propedit: .: Is a directory (os error 21)\n'
+run -f '' get a
+gives 2 '' 'propedit: : No such file or directory (os error 2)\n'
+command='propedit get a <&-'
+../propedit get a <&- >../output 2>../errors
+status=$?
+gives 2 '' 'propedit: standard input: Bad file descriptor (os error 9)\n'
 for line in 'get a' list 'set a 2' --help --version; do
     command="propedit $line >/dev/full"
     ../propedit $line <../input >/dev/full 2>../errors
@@ -396,7 +458,7 @@ for line in 'get a' list 'set a 2' check; do
     command="propedit $line <."
     ../propedit $line <. >../output 2>../errors
     status=$?
-    gives 2 '' 'propedit: standard input:1: Is a directory (os error 21)\n'
+    gives 2 '' 'propedit: standard input: Is a directory (os error 21)\n'
 done
 command='propedit list | head -c 1'
 seq -f 'key%.0f = 1' 200000 | ../propedit list 2>../errors | head -c 1 >../output
@@ -419,7 +481,7 @@ run -i app.properties set port 8080 remove host
 gives 0 '' ''
 holds app.properties '# ports\nport = 8080\n'
 leaves_nothing
-run -e windows-1252 -i app.properties -- set -i ó
+run -e windows-1252 -i app.properties set -i ó
 gives 0 '' ''
 holds app.properties '# ports\nport = 8080\n-i = \xf3\n'
 for mode in 600 640 664 4755; do
@@ -460,7 +522,7 @@ gives 2 '' 'propedit: app.properties:2: Malformed \\uxxxx encoding: not enough d
 holds app.properties 'a=1\n# \\user\n'
 given 'a\0=\0'
 run -e utf-16le -i app.properties set a 2
-gives 2 '' "propedit: app.properties: Encoding can't be edited.\n"
+gives 2 '' 'propedit: app.properties: UTF-16 can be read but not edited; convert it first\n'
 holds app.properties 'a\0=\0'
 leaves_nothing
 
@@ -479,6 +541,25 @@ ln -s nowhere links/broken
 run -i links/broken set a 2
 gives 2 '' 'propedit: links/broken: No such file or directory (os error 2)\n'
 [ ! -e links/nowhere ] || fail 'the target of a link was made'
+
+# A missing file is made where it is asked for.
+rm -f app.properties
+run -i app.properties --create remove a
+gives 0 '' ''
+[ ! -e app.properties ] || fail 'a file was made where nothing changes'
+(umask 027; ../propedit --create -i app.properties set a 1 set b 2)
+command='propedit --create -i app.properties set a 1 set b 2'
+holds app.properties 'a=1\nb=2\n'
+is "$(stat -c %a app.properties)" 640
+run --create -i app.properties set a 2
+gives 0 '' ''
+holds app.properties 'a=2\nb=2\n'
+run --create -i links/broken set a 2
+gives 2 '' 'propedit: links/broken: No such file or directory (os error 2)\n'
+[ ! -e links/nowhere ] || fail 'the target of a link was made'
+run --create -i nowhere/app.properties set a 2
+gives 2 '' 'propedit: nowhere/app.properties: cannot create nowhere/app.properties.propedit: No such file or directory (os error 2)\n'
+leaves_nothing
 
 # Another name of the file keeps the old bytes.
 given 'a = 1\n'
@@ -505,16 +586,17 @@ gives 2 '' 'propedit: pipe: not a regular file\n'
 # A temporary file of another run is not written over.
 given 'a = 1\n'
 echo left >app.properties.propedit
+held='app.properties.propedit exists: another run is at work, or was killed; if none is, remove it'
 run -i app.properties set a 2
-gives 2 '' 'propedit: app.properties: cannot create app.properties.propedit: File exists (os error 17)\n'
+gives 2 '' "propedit: app.properties: $held\n"
 holds app.properties 'a = 1\n'
 holds app.properties.propedit 'left\n'
 run -i app.properties set b 2
-gives 2 '' 'propedit: app.properties: cannot create app.properties.propedit: File exists (os error 17)\n'
+gives 2 '' "propedit: app.properties: $held\n"
 rm app.properties.propedit
 ln -s ../elsewhere app.properties.propedit
 run -i app.properties set a 2
-gives 2 '' 'propedit: app.properties: cannot create app.properties.propedit: File exists (os error 17)\n'
+gives 2 '' "propedit: app.properties: $held\n"
 [ ! -e ../elsewhere ] || fail 'a link was followed'
 rm app.properties.propedit
 
@@ -567,6 +649,9 @@ if [ "$(id -u)" = 0 ] && setpriv --reuid=65534 --regid=65534 --clear-groups true
     holds open/app.properties 'a = 1\n'
     leaves_nothing
     chown 65534:12345 open/app.properties
+    as_user -i open/app.properties set a 2
+    gives 2 '' 'propedit: open/app.properties: cannot keep the group: Operation not permitted (os error 1)\n'
+    holds open/app.properties 'a = 1\n'
     chmod 4755 open/app.properties
     run -i open/app.properties set a 2
     gives 0 '' ''

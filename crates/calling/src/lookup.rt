@@ -37,7 +37,7 @@ pub fn lookup<R: CountedRead>(
 }
 
 // What a map has at a key: the lemma says that `get`, which looks for bytes, finds what the map has at their characters.
-#[tactic(auto, using(java_properties::proofs::TextMaps::Values::value_at_text))]
+#[tactic(auto, using(properties_items::proofs::TextMaps::Values::value_at_text))]
 fn value_of<'a>(map: &'a HashMap<String, String>, key: &str) -> Option<&'a String>
     ensures { option_map borrowed_characters result ≡ value_at map.now.entries (chars key.now) }
 {
@@ -66,7 +66,7 @@ pub fn lookup_sorted<R: CountedRead>(
 }
 
 // As `value_of`, in a sorted map: the lemma is another one.
-#[tactic(auto, using(java_properties::proofs::TextMaps::Values::value_at_text_sorted))]
+#[tactic(auto, using(properties_items::proofs::TextMaps::Values::value_at_text_sorted))]
 fn value_of_sorted<'a>(map: &'a BTreeMap<String, String>, key: &str) -> Option<&'a String>
     ensures { option_map borrowed_characters result ≡ value_at map.now.entries (chars key.now) }
 {

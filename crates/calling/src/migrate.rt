@@ -8,7 +8,7 @@ use std::alloc::{AllocError, Global};
 pub fn migrate(alloc: Global, file: &[u8]) -> Result<Vec<u8>, PropertiesError> {
     let mut document = Document::parse(alloc, file, Encoding::UTF_8)?;
     rename(alloc, &mut document, "server.port", "port")?;
-    document.remove("debug")?;
+    document.remove("debug");
     if !document.contains_key("retries") {
         document.put("retries", "3")?;
     }
@@ -23,7 +23,7 @@ fn rename(alloc: Global, document: &mut Document, from: &str, to: &str) -> Resul
     // `put` changes the document, which the value borrows from.
     let value = String::from_str(alloc, value)?;
     document.put(to, value.as_str())?;
-    document.remove(from)?;
+    document.remove(from);
     Ok(())
 }
 

@@ -28,7 +28,7 @@ pub use iter::{PropertiesIter, Stopped, key_lines, malformed_escapes, read_lines
 pub use maps::{read, read_sorted, write, write_sorted};
 pub use properties_editing::{Document, Edit, edit_all, remove_key, set_key, set_value};
 pub use properties_items::borrowed::{ContentRef, LineRef};
-pub use properties_items::error::{Cause, ErrorKind, PropertiesError, Reason};
+pub use properties_items::error::{At, Cause, ErrorKind, PropertiesError, Reason};
 pub use properties_items::findings::{KeyLine, MalformedEscape};
 pub use properties_items::found::Found;
 pub use properties_items::line::{Line, LineContent, LineEnding};

@@ -3,7 +3,7 @@
 use crate::same::{Bytes, same};
 use crate::streams::{AMPLE, owned, sink};
 use counted_io::CountedWrite;
-use properties_tools::propedit::asked::{Command, Request, Source, asked_for};
+use properties_tools::propedit::asked::{Missing, Request, asked_for};
 use properties_tools::propedit::in_place::{Original, edit_file};
 use std::fs::{self, File, Permissions};
 use std::io::{self, Read, Write};
@@ -85,7 +85,7 @@ const KEPT: &str = "kept.properties";
 fn check_kept(abort: &impl Abort, rt: &HostRuntime, row: usize, mode: u32) -> Result<(), Fail> {
     make(rt, KEPT, b"port = 80\n")?;
     set_mode(rt, KEPT, mode)?;
-    let original = Original::read(rt, rt.alloc(), KEPT)?;
+    let original = Original::read(rt, rt.alloc(), KEPT, Missing::Refuse)?;
     same(abort, row, Bytes(original.bytes()), Bytes(b"port = 80\n"));
     let outcome = replace(rt, original, KEPT, b"port=8080\n")?;
     check_outcome(abort, row, &outcome, "", b"port=8080\n", mode);
@@ -113,7 +113,7 @@ fn check_changed(
 ) -> Result<(), Fail> {
     make(rt, CHANGED, b"a=1")?;
     set_mode(rt, CHANGED, 0o644)?;
-    let original = Original::read(rt, rt.alloc(), CHANGED)?;
+    let original = Original::read(rt, rt.alloc(), CHANGED, Missing::Refuse)?;
     File::create(rt, CHANGED)?.write_all(bytes)?;
     set_mode(rt, CHANGED, mode)?;
     let outcome = replace(rt, original, CHANGED, b"a=2")?;
@@ -142,7 +142,7 @@ fn check_link(abort: &impl Abort, rt: &HostRuntime, path: &str, link: &str) -> R
     set_mode(rt, path, 0o644)?;
     let _ = fs::remove_file(rt, link);
     symlink(rt, path, link)?;
-    let original = Original::read(rt, rt.alloc(), link)?;
+    let original = Original::read(rt, rt.alloc(), link, Missing::Refuse)?;
     let outcome = replace(rt, original, path, b"a=2")?;
     check_outcome(abort, 1, &outcome, "", b"a=2", 0o644);
     let is_link = fs::symlink_metadata(rt, link)?.is_symlink();
@@ -162,7 +162,7 @@ fn the_target_of_a_link_is_replaced(rt: HostRuntime) -> Result<(), Fail> {
 fn regular_files_alone_are_read(rt: HostRuntime) {
     let paths = ["no such file", "no such folder/a", ".", "/dev/null"];
     for (number, path) in (1usize..).zip(paths.as_slice()) {
-        let is_refused = Original::read(&rt, rt.alloc(), path).is_err();
+        let is_refused = Original::read(&rt, rt.alloc(), path, Missing::Refuse).is_err();
         same(&rt, number, is_refused, true);
     }
 }
@@ -216,27 +216,30 @@ const EDITS: &[Row] = &[
         "propedit: no such file: No such file or directory (os error 2)\n",
         b"a=1",
     ),
+    // A missing file that is to be made is not made where nothing changes.
+    (
+        &["-i", "no such file", "--create", "remove", "a"],
+        b"a=1",
+        0,
+        "",
+        b"a=1",
+    ),
 ];
 
 const HELD: Row = (
     &["-i", EDITED, "set", "a", "3"],
     b"a=1",
     2,
-    "propedit: edited.properties: cannot create edited.properties.propedit: \
-     File exists (os error 17)\n",
+    "propedit: edited.properties: edited.properties.propedit exists: another run is at work, \
+     or was killed; if none is, remove it\n",
     b"a=1",
 );
 
 // Edits the file that the words name, and returns the status.
 fn edit<E: CountedWrite>(rt: &HostRuntime, words: &[&str], errors: &mut E) -> Result<u8, Fail> {
     let alloc = rt.alloc();
-    let Some(Request::Work(work)) = asked_for(alloc, owned(alloc, words)?.as_slice())? else {
-        return Err(Fail::from("no command"));
-    };
-    match (&work.source, &work.command) {
-        (Source::InPlace(path), Command::Change(edits)) => {
-            Ok(edit_file(rt, alloc, path.as_str(), work.encoding, edits, errors))
-        }
+    match asked_for(alloc, owned(alloc, words)?.as_slice()) {
+        Ok(Request::EditFile(file)) => Ok(edit_file(rt, alloc, &file, errors)),
         _ => Err(Fail::from("no edits in place")),
     }
 }
@@ -262,9 +265,28 @@ fn files_are_edited_whole_or_not_at_all(rt: HostRuntime) -> Result<(), Fail> {
     }
     let other = "edited.properties.propedit";
     make(&rt, other, b"of another")?;
-    check_edit(&rt, &rt, 6, HELD)?;
+    check_edit(&rt, &rt, 7, HELD)?;
     let now = content(&rt, other)?;
-    same(&rt, 6, Bytes(now.as_slice()), Bytes(b"of another"));
+    same(&rt, 7, Bytes(now.as_slice()), Bytes(b"of another"));
     fs::remove_file(&rt, other)?;
+    Ok(())
+}
+
+const MADE: &str = "made.properties";
+
+// A missing file is made where it is asked for, and where it is there it is edited.
+#[test]
+fn a_missing_file_is_made(rt: HostRuntime) -> Result<(), Fail> {
+    let _ = fs::remove_file(&rt, MADE);
+    for (number, wanted) in (1usize..).zip([b"a=1\n".as_slice(), b"a=2\n"].as_slice()) {
+        let value = if number == 1 { "1" } else { "2" };
+        let mut errors = sink(rt.alloc(), AMPLE);
+        let words = ["-i", MADE, "--create", "set", "a", value];
+        let status = edit(&rt, words.as_slice(), &mut errors)?;
+        let now = content(&rt, MADE)?;
+        let found = (status, Bytes(errors.bytes()), Bytes(now.as_slice()));
+        same(&rt, number, found, (0, Bytes(b""), Bytes(wanted)));
+    }
+    fs::remove_file(&rt, MADE)?;
     Ok(())
 }

@@ -1,11 +1,10 @@
 // Runs of the program `propedit`.
 
-use crate::runs::{Program, Row, SOUND, Streams, check_run, check_runs, check_words};
+use crate::runs::{Program, Refusal, Row, SOUND, Streams, check_refusals, check_run, check_runs};
 use crate::same::{Bytes, same};
 use crate::streams::{AMPLE, OTHER, Plan, sink};
 use counted_io::{SinkFault, Tail};
 use java_properties::PropertiesError;
-use properties_tools::propedit::asked::{USAGE, VERSION};
 use properties_tools::propedit::error::Failure;
 use properties_tools::propedit::{exit_status, lack_memory, refuse_bytes};
 use std::io::{self, ErrorKind};
@@ -18,7 +17,29 @@ const GET: &[Row] = &[
     (&["get", "a"], b"a=1\nb=2\na = 3", 0, b"3\n", ""),
     (&["get", "c"], b"a=1", 1, b"", ""),
     (&["get", "-f"], b"-f=1", 0, b"1\n", ""),
-    (&["--", "get", "a"], b"a=1", 0, b"1\n", ""),
+    (&["get", "--", "--"], b"--=1", 0, b"1\n", ""),
+    (
+        &["--default=x", "--null", "get", "b"],
+        b"a=1",
+        0,
+        b"x\0",
+        "",
+    ),
+    (&["-zdx", "get", "b"], b"a=1", 0, b"x\0", ""),
+    (
+        &["-e", " Latin1\n", "get", "a"],
+        b"a=\xe9",
+        0,
+        b"\xc3\xa9\n",
+        "",
+    ),
+    (
+        &["--encoding", "UTF-16", "--file", "-f", "get", "a"],
+        b"a\0=\0\xe9\0",
+        0,
+        b"\xc3\xa9\n",
+        "",
+    ),
     (&["-d", "none", "get", "b"], b"a=1", 0, b"none\n", ""),
     (&["-d", "-z", "get", "b"], b"a=1", 0, b"-z\n", ""),
     (&["-z", "get", "a"], b"a=1", 0, b"1\0", ""),
@@ -53,9 +74,7 @@ const GET: &[Row] = &[
         "",
     ),
     (
-        &[
-            "-z", "-d", "n", "-e", "utf-16be", "-f", "x", "--", "get", "a",
-        ],
+        &["-z", "-d", "n", "-e", "utf-16be", "-f", "x", "get", "a"],
         b"\0a\0=\01",
         0,
         b"1\0",
@@ -112,27 +131,34 @@ const CHECK: &[Row] = &[
           standard input:3: Malformed \\uxxxx encoding: not enough digits.\n",
         "",
     ),
-    // All three kinds of findings, one kind after another.
+    // All three kinds of findings, in the order of the lines.
     (
         &["-f", "x", "check"],
         b"# C:\\users\na=1\na=\xe9\nb=\\u12\nc=2\na=4",
         1,
-        b"x:3: not UTF-8\n\
-          x:1: Malformed \\uxxxx encoding: not hex. (in a comment)\n\
-          x:4: Malformed \\uxxxx encoding: not enough digits.\n\
+        b"x:1: Malformed \\uxxxx encoding: not hex. (in a comment)\n\
+          x:3: not UTF-8\n\
           x:3: repeats the key of line 2\n\
+          x:4: Malformed \\uxxxx encoding: not enough digits.\n\
           x:6: repeats the key of line 2\n",
         "",
     ),
-    // A byte order mark overrules the option. Two keys are U+FFFD.
+    // U+FFFD itself is a character as any other where all lines are UTF-8.
+    (
+        &["check"],
+        b"\xef\xbf\xbd=1\n\xef\xbf\xbd=2",
+        1,
+        b"standard input:2: repeats the key of line 1\n",
+        "",
+    ),
+    // A byte order mark overrules the option. Two keys are U+FFFD, and may be different bytes.
     (
         &["-e", "windows-1252", "check"],
         b"\xef\xbb\xbfa=1\r\nb=caf\xe9\rc=\xc3\xa9\n\xc3\n\xa9",
         1,
         b"standard input:2: not UTF-8\n\
           standard input:4: not UTF-8\n\
-          standard input:5: not UTF-8\n\
-          standard input:5: repeats the key of line 4\n",
+          standard input:5: not UTF-8\n",
         "",
     ),
     (&["check"], b"\xff\xfe\xe9\x00", 0, b"", ""),
@@ -230,6 +256,14 @@ const REFUSED: &[Row] = &[
         b"",
         "propedit: standard input:1: not UTF-8; -e windows-1252 reads it\n",
     ),
+    // No option reads it where a byte order mark says UTF-8.
+    (
+        &["-e", "windows-1252", "get", "b"],
+        b"\xef\xbb\xbfa=\xe9\nb=1",
+        2,
+        b"",
+        "propedit: standard input:1: not UTF-8, though a byte order mark says so\n",
+    ),
     // Lines that aren't UTF-8 are refused before malformed escapes.
     (
         &["list"],
@@ -283,7 +317,7 @@ const REFUSED: &[Row] = &[
         "propedit: app.properties:1: Malformed \\uxxxx encoding: not enough digits.\n",
     ),
     (
-        &["-i", "x", "remove", "c"],
+        &["-f", "x", "remove", "c"],
         b"# C:\\users",
         2,
         b"",
@@ -294,14 +328,14 @@ const REFUSED: &[Row] = &[
         b"\xfe\xff\0a",
         2,
         b"",
-        "propedit: standard input: Encoding can't be edited.\n",
+        "propedit: standard input: UTF-16 can be read but not edited; convert it first\n",
     ),
     (
         &["-e", "utf-16le", "set", "a", "1"],
         b"a\0",
         2,
         b"",
-        "propedit: standard input: Encoding can't be edited.\n",
+        "propedit: standard input: UTF-16 can be read but not edited; convert it first\n",
     ),
 ];
 
@@ -311,71 +345,132 @@ fn sources_that_are_not_sound_are_refused(rt: HostRuntime) -> Result<(), Fail> {
     Ok(())
 }
 
-const HELP: &[&[&str]] = &[
-    &["-h"],
-    &["--help", "nonsense"],
-    &["-z", "-e", "utf-8", "--help", "--version"],
+// What was asked for is checked or edited by `main`, which opens the files.
+const FILES: &[Row] = &[
+    (&["check", "x"], b"a=1", 3, b"", ""),
+    (&["check", "x", "y", "x"], b"a=1", 3, b"", ""),
+    (&["-i", "x", "remove", "a"], b"a=1", 3, b"", ""),
+    (
+        &["--in-place=x", "--create", "set", "a", "2"],
+        b"a=1",
+        3,
+        b"",
+        "",
+    ),
 ];
 
-const THE_VERSION: &[&[&str]] = &[&["--version"], &["-i", "x", "--version", "-h"]];
-
 #[test]
-fn help_and_the_version_are_printed(rt: HostRuntime) -> Result<(), Fail> {
-    let alloc = rt.alloc();
-    check_words(&rt, alloc, Program::Propedit, HELP, (0, USAGE, ""))?;
-    check_words(&rt, alloc, Program::Propedit, THE_VERSION, (0, VERSION, ""))?;
+fn files_are_asked_for(rt: HostRuntime) -> Result<(), Fail> {
+    check_runs(&rt, rt.alloc(), Program::Propedit, FILES)?;
     Ok(())
 }
 
-const OTHER_WORDS: &[&[&str]] = &[
-    &[],
-    &["--"],
-    &["--", "--help"],
-    &["--", "--", "check"],
-    &["show", "a"],
-    &["get"],
-    &["get", "a", "b"],
-    &["get", "a", "set", "a", "1"],
-    &["list", "a", "b"],
-    &["check", "a"],
-    &["set", "a"],
-    &["set", "a", "1", "check"],
-    &["remove"],
-    // Options that there are not, without their value, or after the command.
-    &["-x", "check"],
-    &["-zf", "x", "list"],
-    &["-e", "latin1", "check"],
-    &["-e"],
-    &["-f"],
-    &["-f", "x"],
-    &["check", "-e", "utf-8"],
-    // Twice the same option.
-    &["-z", "-z", "--help"],
-    &["-z", "-z", "get", "a"],
-    &["-d", "x", "-d", "x", "get", "a"],
-    &["-e", "utf-8", "-e", "utf-8", "check"],
-    &["-f", "x", "-f", "x", "check"],
-    &["-f", "x", "-i", "x", "set", "a", "1"],
-    &["-i", "x", "-f", "x", "set", "a", "1"],
-    // Options that the command doesn't have.
-    &["-i", "x", "get", "a"],
-    &["-i", "x", "list"],
-    &["-i", "x", "check"],
-    &["-d", "x", "list"],
-    &["-d", "x", "check"],
-    &["-z", "check"],
-    &["-z", "set", "a", "1"],
+const THE_VERSION: &[Row] = &[
+    (&["--version"], b"", 0, b"propedit 1.6.0\n", ""),
+    (&["-i", "x", "-V"], b"", 0, b"propedit 1.6.0\n", ""),
 ];
 
 #[test]
-fn other_words_print_the_usage(rt: HostRuntime) -> Result<(), Fail> {
-    check_words(
-        &rt,
-        rt.alloc(),
-        Program::Propedit,
-        OTHER_WORDS,
-        (2, "", USAGE),
-    )?;
+fn the_version_is_printed(rt: HostRuntime) -> Result<(), Fail> {
+    check_runs(&rt, rt.alloc(), Program::Propedit, THE_VERSION)?;
+    Ok(())
+}
+
+const OTHER_WORDS: &[Refusal] = &[
+    (
+        &[],
+        "error: 'propedit' requires a subcommand but one was not provided",
+    ),
+    (&["show", "a"], "error: unrecognized subcommand 'show'"),
+    (&["--", "check"], "error: unexpected argument 'check' found"),
+    (
+        &["get"],
+        "error: the following required arguments were not provided:",
+    ),
+    (&["get", "a", "b"], "error: unexpected argument 'b' found"),
+    (&["get", "a", "-z"], "error: unexpected argument '-z' found"),
+    (&["list", "a", "b"], "error: unexpected argument 'b' found"),
+    (&["check", "-q"], "error: unexpected argument '-q' found"),
+    (&["set", "a"], "error: the edit 'set a' lacks its <VALUE>"),
+    (&["set"], "error: the edit 'set' lacks its <KEY>"),
+    (&["remove"], "error: the edit 'remove' lacks its <KEY>"),
+    (
+        &["set", "a", "1", "remove"],
+        "error: the edit 'remove' lacks its <KEY>",
+    ),
+    (
+        &["set", "a", "1", "set", "b"],
+        "error: the edit 'set b' lacks its <VALUE>",
+    ),
+    (
+        &["set", "a", "1", "-i", "x"],
+        "error: unrecognized edit '-i': after an edit comes set or remove, and options come first",
+    ),
+    // Options that there are not, or without their value.
+    (&["-x", "check"], "error: unexpected argument '-x' found"),
+    (
+        &["--fil", "x", "check"],
+        "error: unexpected argument '--fil' found",
+    ),
+    (
+        &["-e", "latin-9", "check"],
+        "error: invalid value 'latin-9' for '--encoding <NAME>': no encoding has this label",
+    ),
+    (
+        &["-f"],
+        "error: a value is required for '--file <FILE>' but none was supplied",
+    ),
+    // Twice the same option.
+    (
+        &["-z", "-z", "list"],
+        "error: the argument '--null' cannot be used multiple times",
+    ),
+    (
+        &["-f", "x", "-i", "x", "set", "a", "1"],
+        "error: the argument '--file <FILE>' cannot be used with '--in-place <FILE>'",
+    ),
+    // Options that the command doesn't have.
+    (
+        &["-i", "x", "get", "a"],
+        "error: the argument '--in-place <FILE>' cannot be used with 'get'",
+    ),
+    (
+        &["-i", "x", "list"],
+        "error: the argument '--in-place <FILE>' cannot be used with 'list'",
+    ),
+    (
+        &["-i", "x", "check"],
+        "error: the argument '--in-place <FILE>' cannot be used with 'check'",
+    ),
+    (
+        &["-f", "x", "check", "y"],
+        "error: the argument '--file <FILE>' cannot be used with 'check'",
+    ),
+    (
+        &["-d", "x", "list"],
+        "error: the argument '--default <VALUE>' cannot be used with 'list'",
+    ),
+    (
+        &["-d", "x", "set", "a", "1"],
+        "error: the argument '--default <VALUE>' cannot be used with 'set'",
+    ),
+    (
+        &["-z", "check"],
+        "error: the argument '--null' cannot be used with 'check'",
+    ),
+    (
+        &["-z", "remove", "a"],
+        "error: the argument '--null' cannot be used with 'remove'",
+    ),
+    (
+        &["--create", "set", "a", "1"],
+        "error: the following required arguments were not provided:",
+    ),
+];
+
+#[test]
+fn other_words_are_named(rt: HostRuntime) -> Result<(), Fail> {
+    check_refusals(&rt, rt.alloc(), OTHER_WORDS)?;
     Ok(())
 }
 

@@ -3,7 +3,7 @@
 use crate::same::{Bytes, same};
 use crate::streams::{AMPLE, Plan, owned, reader, sink};
 use counted_io::{CountedRead, CountedWrite, Tail};
-use properties_tools::propedit::asked::{Request, USAGE, VERSION, asked_for};
+use properties_tools::propedit::asked::{Request, asked_for};
 use properties_tools::{propedit, propfilter};
 use std::alloc::{AllocError, Global};
 use std::process::Abort;
@@ -16,7 +16,7 @@ pub enum Program {
 
 impl Program {
     /// Runs it as its `main` does, but of a source that is a file the input has the bytes, and no
-    /// file is edited.
+    /// files are checked or edited.
     pub fn run<R: CountedRead, W: CountedWrite, E: CountedWrite>(
         self,
         alloc: Global,
@@ -39,13 +39,15 @@ fn edit<R: CountedRead, W: CountedWrite, E: CountedWrite>(
     output: &mut W,
     errors: &mut E,
 ) -> Result<u8, AllocError> {
-    match asked_for(alloc, words)? {
-        Some(Request::Help) => Ok(propedit::show(alloc, USAGE, output, errors)),
-        Some(Request::Version) => Ok(propedit::show(alloc, VERSION, output, errors)),
-        Some(Request::Work(work)) => Ok(propedit::run(alloc, &work, input, output, errors)),
-        None => Ok(propedit::refuse(errors)),
+    match asked_for(alloc, words) {
+        Ok(Request::Work(work)) => Ok(propedit::run(alloc, &work, input, output, errors)),
+        Ok(_) => Ok(FILES),
+        Err(error) => Ok(propedit::explain(alloc, &error, output, errors)),
     }
 }
+
+// What stands for the status where files are to be checked or edited.
+const FILES: u8 = 3;
 
 /// The arguments, the input, the status, the output, and what is printed on standard error.
 pub type Row = (
@@ -98,6 +100,34 @@ pub fn check_words(
     for (number, words) in (1usize..).zip(words) {
         let row = (*words, b"a=1".as_slice(), status, output.as_bytes(), errors);
         check_run(rt, alloc, number, program, SOUND, row)?;
+    }
+    Ok(())
+}
+
+/// Arguments that are refused, and the first line that says why.
+pub type Refusal = (&'static [&'static str], &'static str);
+
+/// Compares runs of `propedit` with wrong arguments with the first lines that they are to print.
+pub fn check_refusals(rt: &impl Abort, alloc: Global, rows: &[Refusal]) -> Result<(), AllocError> {
+    for (number, (words, line)) in (1usize..).zip(rows) {
+        let words = owned(alloc, words)?;
+        let mut input = reader(alloc, b"a=1", 1024, Tail::End)?;
+        let mut output = sink(alloc, AMPLE);
+        let mut errors = sink(alloc, AMPLE);
+        let status = edit(
+            alloc,
+            words.as_slice(),
+            &mut input,
+            &mut output,
+            &mut errors,
+        )?;
+        let said = errors
+            .bytes()
+            .split(|byte| *byte == b'\n')
+            .next()
+            .unwrap_or(b"");
+        let found = (status, Bytes(output.bytes()), Bytes(said));
+        same(rt, number, found, (2, Bytes(b""), Bytes(line.as_bytes())));
     }
     Ok(())
 }

@@ -2,14 +2,11 @@
 #![tactic(auto)]
 
 use counted_io::{Counted, CountedWrite};
-use java_properties::PropertiesError;
 use properties_tools::arguments::words;
-use properties_tools::propedit::asked::{
-    Command, Request, Source, USAGE, VERSION, Work, asked_for,
-};
+use properties_tools::propedit::asked::{CheckedFiles, Command, Request, Source, Work, asked_for};
 use properties_tools::propedit::error::Failure;
 use properties_tools::propedit::in_place::edit_file;
-use properties_tools::propedit::{exit_status, lack_memory, refuse, refuse_bytes, run, show};
+use properties_tools::propedit::{exit_status, explain, lack_memory, refuse_bytes, run};
 use std::alloc::Global;
 use std::env;
 use std::fs::File;
@@ -35,11 +32,11 @@ fn status<E: CountedWrite>(rt: &HostRuntime, errors: &mut E) -> io::Result<u8> {
         return Ok(refuse_bytes(errors));
     };
     let mut output = Counted::new(BufWriter::with_capacity(alloc, BLOCK, rt.stdout())?);
-    match asked_for(alloc, words.as_slice())? {
-        Some(Request::Help) => Ok(show(alloc, USAGE, &mut output, errors)),
-        Some(Request::Version) => Ok(show(alloc, VERSION, &mut output, errors)),
-        Some(Request::Work(work)) => Ok(do_work(rt, alloc, &work, &mut output, errors)),
-        None => Ok(refuse(errors)),
+    match asked_for(alloc, words.as_slice()) {
+        Ok(Request::Work(work)) => Ok(do_work(rt, alloc, &work, &mut output, errors)),
+        Ok(Request::CheckFiles(files)) => Ok(check_files(rt, alloc, files, &mut output, errors)),
+        Ok(Request::EditFile(file)) => Ok(edit_file(rt, alloc, &file, errors)),
+        Err(error) => Ok(explain(alloc, &error, &mut output, errors)),
     }
 }
 
@@ -51,19 +48,35 @@ fn do_work<W: CountedWrite, E: CountedWrite>(
     output: &mut W,
     errors: &mut E,
 ) -> u8 {
-    match (&work.source, &work.command) {
-        (Source::StandardInput, _) => {
-            run(alloc, work, &mut Counted::new(rt.stdin()), output, errors)
-        }
-        (Source::InPlace(path), Command::Change(edits)) => {
-            edit_file(rt, alloc, path.as_str(), work.encoding, edits, errors)
-        }
-        (Source::File(path) | Source::InPlace(path), _) => match File::open(rt, path.as_str()) {
+    match &work.source {
+        Source::StandardInput => run(alloc, work, &mut Counted::new(rt.stdin()), output, errors),
+        Source::File(path) => match File::open(rt, path.as_str()) {
             Ok(file) => run(alloc, work, &mut Counted::new(file), output, errors),
-            Err(error) => {
-                let failure = Failure::from(PropertiesError::from(error));
-                exit_status(alloc, errors, path.as_str(), Err(failure))
-            }
+            Err(error) => exit_status(alloc, errors, path.as_str(), Err(Failure::from(error))),
         },
     }
+}
+
+// Checks each file, also after one that can't be read, and returns the highest status.
+fn check_files<W: CountedWrite, E: CountedWrite>(
+    rt: &HostRuntime,
+    alloc: Global,
+    files: CheckedFiles,
+    output: &mut W,
+    errors: &mut E,
+) -> u8 {
+    let encoding = files.encoding;
+    let mut highest = 0;
+    for path in files.paths {
+        let work = Work {
+            encoding,
+            source: Source::File(path),
+            command: Command::Check,
+        };
+        let status = do_work(rt, alloc, &work, output, errors);
+        if status > highest {
+            highest = status;
+        }
+    }
+    highest
 }

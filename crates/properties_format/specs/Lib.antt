@@ -5,6 +5,7 @@ pub mod Utf8
 pub mod Surrogates
 pub mod Utf16
 pub mod Encoding
+pub mod Labels
 pub mod Names
 pub mod Lines
 pub mod Cut

@@ -1,5 +1,5 @@
 -- How errors, lines and line endings are printed. Nothing is specified if a text that is printed in quotes isn't ASCII.
-use Rattle.std.specs.Prelude.{ℕ, List, [], Option, None, Some, codes, string_bytes}
+use Rattle.std.specs.Prelude.{ℕ, List, [], ◌++◌, Option, None, Some, codes, string_bytes}
 use Rattle.std.specs.Option.{option_map}
 use Rattle.std.specs.Fmt.{◌++?◌, decimal, debug_str}
 use Rattle.properties_items.specs.declared.line.LineContent.{LineContent}
@@ -7,6 +7,7 @@ use Rattle.properties_items.specs.declared.line.LineContent.TheVariants.{Comment
 use Rattle.properties_items.specs.declared.line.Line.{Line}
 use Rattle.properties_items.specs.declared.line.LineEnding.{LineEnding}
 use Rattle.properties_items.specs.declared.line.LineEnding.TheVariants.{CR, LF, CRLF}
+use Rattle.properties_items.specs.declared.error.At.{At}
 use Rattle.properties_items.specs.declared.error.ErrorKind.{ErrorKind}
 use Rattle.properties_items.specs.declared.error.ErrorKind.TheVariants as kind
 use Rattle.properties_items.specs.declared.error.Cause.{Cause}
@@ -57,6 +58,15 @@ abbrev pub reason_display : Reason → Option (List ℕ)
 reason_display (reason.Io error) = None
 reason_display (reason.Refused kind text) = Some (description kind) ++? Some (codes ": ") ++? debug_str text.now
 reason_display (reason.Kind kind) = Some (description kind)
+
+-- `:LINE`, or nothing without a line
+abbrev pub numbered : Option ℕ → List ℕ
+numbered None = []
+numbered (Some number) = codes ":" ++ decimal number
+
+-- `NAME:LINE: REASON`, or `NAME: REASON` without a line
+abbrev pub at_display : At → Option (List ℕ)
+at_display at = Some (at.name.now ++ (numbered at.line ++ codes ": ")) ++? reason_display at.reason
 
 -- ---- lines and line endings
 

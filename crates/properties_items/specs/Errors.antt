@@ -1,5 +1,5 @@
 -- Errors as contracts see them.
-use Rattle.std.specs.Prelude.{◌≡◌, ◌⊎◌, ℕ, List, Option, Some, None}
+use Rattle.std.specs.Prelude.{◌≡◌, ◌⊎◌, ℕ, Bool, true, false, ◌==◌, ◌&&◌, if◌then◌else◌, List, Option, Some, None}
 use Rattle.std.specs.Option.{option_map}
 use Rattle.std.specs.Str.{chars}
 use Rattle.std.specs.String.{string_bytes}
@@ -9,6 +9,7 @@ use Rattle.properties_text.specs.declared.escape.UnescapeError.{UnescapeError}
 use Rattle.properties_text.specs.declared.escape.UnescapeError.TheVariants as unescape
 use Rattle.properties_lines.specs.declared.error.LineError.{LineError}
 use Rattle.properties_lines.specs.declared.error.LineError.TheVariants as why
+use Rattle.properties_items.specs.declared.error.At.{At}
 use Rattle.properties_items.specs.declared.error.ErrorKind.{ErrorKind}
 use Rattle.properties_items.specs.declared.error.Cause.{Cause}
 use Rattle.properties_items.specs.declared.error.ErrorKind.TheVariants as kind
@@ -42,6 +43,34 @@ abbrev pub IsReason : PropertiesError → Reason → Type 0
 IsReason e (reason.Io error) = cause_of e ≡ cause.Io error.now
 IsReason e (reason.Refused kind text) = (kind ≡ kind_of e) × (refused_of e ≡ Some (chars text.now)) × NoStreamError e
 IsReason e (reason.Kind kind) = (kind ≡ kind_of e) × (refused_of e ≡ None) × NoStreamError e
+
+abbrev pub is_io : ErrorKind → Bool
+is_io kind.Io = true
+is_io kind.NotEnoughDigits = false
+is_io kind.NotHex = false
+is_io kind.InvalidCharacter = false
+is_io kind.BadCommentPrefix = false
+is_io kind.BadKvSeparator = false
+is_io kind.EmptyKey = false
+is_io kind.TooManyLines = false
+is_io kind.Failed = false
+is_io kind.Memory = false
+is_io kind.Unsupported = false
+
+-- the line of an error of this kind in messages
+abbrev pub line_of_kind : ErrorKind → Option ℕ → Option ℕ
+line_of_kind kind None = None
+line_of_kind kind (Some line) = if is_io kind && (line == 1) then None else Some line
+
+-- the line that a message about an error names: that of the error, but none where a stream failed in its first line, as a folder does
+abbrev pub message_line : PropertiesError → Option ℕ
+message_line e = line_of_kind e.kind e.line_number
+
+-- A message with this name, and the line and the reason of this error.
+pub record IsAt (e : PropertiesError) (name : List ℕ) (at : At) : Type 0 where
+  pub its_name : at.name.now ≡ name
+  pub its_line : at.line ≡ message_line e
+  pub its_reason : IsReason e at.reason
 
 -- An error with this kind, line and cause, and without a refused text.
 pub record IsError (kind : ErrorKind) (line : Option ℕ) (cause : Cause) (error : PropertiesError) : Type 0 where

@@ -3,8 +3,8 @@
 ghost use Rattle.std.specs.Prelude.{◌≡◌, Some, None};
 ghost use Rattle.std.specs.Str.{chars};
 ghost use Rattle.std.specs.String.{string_bytes};
-ghost use Rattle.properties_items.specs.Errors.{kind_of, line_of, cause_of, IsError, IsBareError, IsLineError, IsStreamError, RefusesText, IsReason};
-ghost use Rattle.properties_items.specs.DisplayTexts.{description, cause_display, error_display, reason_display};
+ghost use Rattle.properties_items.specs.Errors.{kind_of, line_of, cause_of, IsError, IsBareError, IsLineError, IsStreamError, RefusesText, IsReason, message_line, IsAt};
+ghost use Rattle.properties_items.specs.DisplayTexts.{at_display, description, cause_display, error_display, reason_display};
 ghost use Rattle.properties_items.specs.declared.error.ErrorKind.TheVariants.{Io, Memory};
 
 pub mod make;
@@ -83,6 +83,25 @@ pub enum Reason<'a> {
     Kind(ErrorKind),
 }
 
+/// A message about a file or a stream: its name, the line if one is known, and the reason of an error.
+///
+/// [`PropertiesError::at`] makes it. It prints as `NAME:LINE: REASON`, or as `NAME: REASON` without a line.
+#[derive(Clone, Copy, Debug)]
+pub struct At<'a> {
+    name: &'a str,
+    line: Option<usize>,
+    reason: Reason<'a>,
+}
+
+impl At<'_> {
+    /// Returns the number of the line that the message names, if it names one.
+    pub fn line_number(&self) -> Option<usize>
+        ensures { result ≡ self.now.line }
+    {
+        self.line
+    }
+}
+
 /// Why a call failed, and in which line.
 ///
 /// It prints as the kind in words, the refused text if there is one, and the line number, as in
@@ -125,13 +144,11 @@ impl PropertiesError {
     }
 
     /// Returns why the call failed, without a line number, for messages that name the line themselves.
+    /// [`at`](PropertiesError::at) names it.
     ///
     /// ```text
-    /// match error.line_number() {
-    ///     Some(number) => println!(rt; "{path}:{number}: {}", error.reason())?,
-    ///     None => println!(rt; "{path}: {}", error.reason())?,
-    /// }
-    /// // As `my.properties:3: Malformed \uxxxx encoding: not hex.`, or `my.properties: entity not found`.
+    /// println!(rt; "line {}: {}", number, error.reason())?;
+    /// // As `line 3: Malformed \uxxxx encoding: not hex.`, or `line 3: entity not found`.
     /// ```
     pub fn reason(&self) -> Reason<'_>
         ensures { IsReason self.now result }
@@ -142,6 +159,36 @@ impl PropertiesError {
                 Some(text) => Reason::Refused(self.kind, text.as_str()),
                 None => Reason::Kind(self.kind),
             },
+        }
+    }
+
+    /// Returns a value that prints as a message about the file or the stream with this name: `NAME:LINE: REASON`, or
+    /// `NAME: REASON` if no line is known.
+    ///
+    /// A stream that fails in its first line counts as of no line: it may be a folder, or not open at all.
+    ///
+    /// ```text
+    /// if let Err(error) = read(alloc, &mut input, Encoding::UTF_8) {
+    ///     println!(rt; "{}", error.at("my.properties"))?;
+    ///     // As `my.properties:3: Malformed \uxxxx encoding: not hex.`, or `my.properties: Is a directory`.
+    /// }
+    /// ```
+    pub fn at<'a>(&'a self, name: &'a str) -> At<'a>
+        ensures { IsAt self.now name.now result }
+    {
+        At {
+            name,
+            line: self.line_in_message(),
+            reason: self.reason(),
+        }
+    }
+
+    fn line_in_message(&self) -> Option<usize>
+        ensures { result ≡ message_line self.now }
+    {
+        match self.line_number {
+            Some(1) if self.kind == ErrorKind::Io => None,
+            line_number => line_number,
         }
     }
 
@@ -265,6 +312,17 @@ impl fmt::Display for Reason<'_> {
             Reason::Io(error) => write!(f, "{error}"),
             Reason::Refused(kind, text) => write!(f, "{kind}: {text:?}"),
             Reason::Kind(kind) => write!(f, "{kind}"),
+        }
+    }
+}
+
+impl fmt::Display for At<'_> {
+    ghost output = { at_display };
+
+    fn fmt<W: fmt::Write>(&self, f: &mut fmt::Formatter<W>) -> fmt::Result {
+        match self.line {
+            Some(number) => write!(f, "{}:{number}: {}", self.name, self.reason),
+            None => write!(f, "{}: {}", self.name, self.reason),
         }
     }
 }

@@ -1,6 +1,6 @@
 //! Finds natural lines among bytes that the caller holds. It reads nothing, allocates nothing and can't fail.
 
-ghost use Rattle.std.specs.Prelude.{List, ℕ, ◌≡◌, ◌↔◌, ◌+◌, ◌-◌, ◌<◌, ◌≤◌, ◌^◌, true, false, [], length, take, drop, get_or, IfOk};
+ghost use Rattle.std.specs.Prelude.{List, ℕ, ◌≡◌, ◌↔◌, ◌+◌, ◌-◌, ◌<◌, ◌≤◌, ◌^◌, true, false, [], length, take, drop, get_or, IfErr, IfOk};
 ghost use Rattle.std.specs.Str.{IsAscii};
 ghost use Rattle.properties_format.specs.Text.{backslash, is_line_end};
 ghost use Rattle.properties_format.specs.Cut.{units};
@@ -412,7 +412,7 @@ impl Scanner {
 }
 
 // Finds the first byte of the class, sixteen bytes at a time. Returns how many bytes come before it and whether they
-// are ASCII; or, as an error, a number of bytes at the front among which there is none.
+// are ASCII; or, as an error, a number of bytes at the front among which there is none. Fewer than sixteen are left then.
 #[inline(always)]
 fn search_blocks<C: ByteClass>(
     bytes: &[u8],
@@ -422,6 +422,7 @@ fn search_blocks<C: ByteClass>(
     requires { IsBefore C.holds bytes.now from is_ascii_before }
     ensures finds { FindsByte C.holds bytes.now result }
     ensures on { IfOk result (λ end. from ≤ end.0) }
+    ensures few { IfErr result (λ end. length bytes.now < end + 16) }
 {
     let mut at = from;
     let mut is_ascii = is_ascii_before;

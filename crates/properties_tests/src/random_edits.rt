@@ -84,12 +84,28 @@ fn check_document(
     same(rt, document.source(), wanted);
     let opened = Document::parse(alloc, wanted, Encoding::WINDOWS_1252)?;
     for key in KEYS {
-        same(rt, document.get(key), opened.get(key));
+        check_value(rt, document.get(key), opened.get(key));
     }
     let keys = document.keys(alloc)?;
     let others = opened.keys(alloc)?;
-    same(rt, keys.as_slice(), others.as_slice());
+    check_keys(rt, &keys, &others);
     Ok(())
+}
+
+fn check_value(rt: &impl Abort, found: Option<&str>, wanted: Option<&str>) {
+    let is_same = match (found, wanted) {
+        (Some(value), Some(other)) => value == other,
+        (None, None) => true,
+        (Some(_), None) | (None, Some(_)) => false,
+    };
+    same(rt, is_same, true);
+}
+
+fn check_keys(rt: &impl Abort, found: &[&str], wanted: &[&str]) {
+    same(rt, found.len(), wanted.len());
+    for (key, other) in found.iter().zip(wanted) {
+        check_value(rt, Some(*key), Some(*other));
+    }
 }
 
 // Numbers that look random, and what they choose.

@@ -1,1 +1,2 @@
 pub mod Latin1
+pub mod Labels

@@ -3,6 +3,7 @@
 ghost use Rattle.std.specs.Prelude.{◌≡◌};
 ghost use Rattle.std.specs.Option.{option_map};
 ghost use Rattle.properties_format.specs.Encoding.{output_encoding};
+ghost use Rattle.properties_format.specs.Labels.{IsLabelled};
 ghost use Rattle.properties_format.specs.Names.{name_of, IsNamed};
 ghost use Rattle.properties_text.specs.Encoding.{encoding_of};
 
@@ -10,6 +11,7 @@ mod ascii;
 pub mod byte_order_mark;
 mod decode;
 pub mod first_piece;
+mod labels;
 mod latin_1;
 mod line;
 mod text_buffer;
@@ -59,8 +61,8 @@ impl Encoding {
     /// Returns the encoding with this name: `windows-1252`, `utf-8`, `utf-16le` or `utf-16be`. Returns `None` for any
     /// other text.
     ///
-    /// Names are in lower case, and other spellings such as `UTF-8` aren't accepted. The standard's labels ignore case
-    /// and include blanks and more spellings; a program that accepts labels has to look them up first.
+    /// Names are in lower case, and other spellings such as `UTF-8` aren't accepted;
+    /// [`for_label`](Encoding::for_label) takes these.
     ///
     /// ```text
     /// Encoding::from_name("utf-16le"); // Some(Encoding::UTF_16LE)
@@ -75,6 +77,34 @@ impl Encoding {
             "utf-16le" => Some(Encoding::UTF_16LE),
             "utf-16be" => Some(Encoding::UTF_16BE),
             _ => None,
+        }
+    }
+
+    /// Returns the encoding that this label means in the WHATWG Encoding Standard, or `None` if it means none of these
+    /// four.
+    ///
+    /// ASCII case doesn't count, nor does ASCII whitespace at the ends. In the standard, the labels of ISO 8859-1 and of
+    /// ASCII mean windows-1252.
+    ///
+    /// ```text
+    /// Encoding::for_label(" UTF8\n"); // Some(Encoding::UTF_8)
+    /// Encoding::for_label("latin1"); // Some(Encoding::WINDOWS_1252)
+    /// Encoding::for_label("latin2"); // None
+    /// ```
+    pub fn for_label(label: &str) -> Option<Encoding>
+        ensures { IsLabelled label.now (option_map encoding_of result) }
+    {
+        let label = label.trim_ascii();
+        if labels::is_one_of(label, labels::WINDOWS_1252) {
+            Some(Encoding::WINDOWS_1252)
+        } else if labels::is_one_of(label, labels::UTF_8) {
+            Some(Encoding::UTF_8)
+        } else if labels::is_one_of(label, labels::UTF_16LE) {
+            Some(Encoding::UTF_16LE)
+        } else if labels::is_one_of(label, labels::UTF_16BE) {
+            Some(Encoding::UTF_16BE)
+        } else {
+            None
         }
     }
 

@@ -1,7 +1,5 @@
 pub mod AsciiOnly
 pub mod Asking
-pub mod Choosing
-pub mod Commands
 pub mod Failing
 pub mod FewLines
 pub mod FilterErrors

@@ -1,6 +1,5 @@
 -- What `propedit` does, over any streams.
 pub mod Answers
-pub mod Asked
 pub mod Change
 pub mod Check
 pub mod Failures
@@ -31,10 +30,6 @@ use Rattle.properties_tools.specs.declared.propedit.error.Failure.TheVariants.{I
 -- what it prints where an argument isn't UTF-8
 abbrev pub not_utf_8 : List ℕ
 not_utf_8 = codes "propedit: an argument is not UTF-8"
-
--- what it prints where there is no memory for the arguments
-abbrev pub memory_words : List ℕ
-memory_words = codes "propedit: Out of memory."
 
 -- ---- how it ends
 

@@ -16,20 +16,21 @@ ghost use Rattle.counted_io.specs.Streams.{IsSameReader, IsSameSink};
 ghost use Rattle.properties_text.specs.Encoding.{encoding_of};
 ghost use Rattle.java_properties.specs.Editing.{edits_in};
 ghost use Rattle.properties_tools.specs.Messages.{printed_line, HasPrintedLine};
-ghost use Rattle.properties_tools.specs.Propedit.{memory_words, not_utf_8, Ends, Prints, Replaces, Runs, Shows};
+ghost use Rattle.properties_tools.specs.Propedit.{not_utf_8, Ends, Prints, Replaces, Runs, Shows};
+ghost use Rattle.properties_tools.specs.Propedit.Failures.{memory_words};
 
 use crate::messages::say;
 use crate::propedit::answers::{answer_to, name};
-use crate::propedit::asked::{USAGE, Work};
+use crate::propedit::asked::Work;
 use crate::propedit::change::change;
-use crate::propedit::error::{Failure, STANDARD_OUTPUT, say_failure};
+use crate::propedit::error::{Failure, NO_MEMORY, STANDARD_OUTPUT, say_failure};
+use clap::Error;
+use clap::error::ErrorKind;
 use counted_io::{CountedRead, CountedWrite};
 use java_properties::{Edit, Encoding, read_source, write_source};
 use std::alloc::Global;
 
 const NOT_UTF_8: &str = "propedit: an argument is not UTF-8\n";
-
-const NO_MEMORY: &str = "propedit: Out of memory.\n";
 
 // The exit status of wrong arguments and of failures.
 const FAILED: u8 = 2;
@@ -155,18 +156,46 @@ pub fn show<W: CountedWrite, E: CountedWrite>(
     exit_status(alloc, errors, STANDARD_OUTPUT, printed)
 }
 
-/// Prints the usage on `errors`, and returns the exit status of wrong arguments, 2. What can't be printed is dropped.
+/// Prints what the parser of the arguments has to say, and returns the exit status: help and the version on `output`, and
+/// a mistake in the arguments on `errors`, with status 2. What can't be printed on `errors` is dropped.
+///
+/// ```text
+/// if let Err(error) = asked_for(alloc, &words) {
+///     return explain(alloc, &error, &mut output, &mut errors);
+/// }
+/// ```
+pub fn explain<W: CountedWrite, E: CountedWrite>(
+    alloc: Global,
+    error: &Error,
+    output: &mut W,
+    errors: &mut E,
+) -> u8
+    ensures same_sink { IsSameSink W.CountedWrite output.old output.new }
+    ensures same_error_sink { IsSameSink E.CountedWrite errors.old errors.new }
+{
+    if error.kind() == ErrorKind::OutOfMemory {
+        return lack_memory(errors);
+    }
+    match format!(in alloc; "{error}") {
+        Ok(text) if error.use_stderr() => refuse(errors, text.as_str()),
+        Ok(text) => show(alloc, text.as_str(), output, errors),
+        Err(_) => lack_memory(errors),
+    }
+}
+
+/// Prints on `errors` what is wrong with the arguments, and returns the exit status of wrong arguments, 2. What can't be
+/// printed is dropped.
 ///
 /// ```text
 /// let mut errors = Counted::new(Vec::new(alloc));
-/// propedit::refuse(&mut errors); // 2, and the usage is printed
+/// propedit::refuse(&mut errors, "error: unrecognized subcommand 'gett'\n"); // 2, and this is printed
 /// ```
-pub fn refuse<E: CountedWrite>(errors: &mut E) -> u8
+pub fn refuse<E: CountedWrite>(errors: &mut E, text: &str) -> u8
     ensures status { result ≡ 2 }
-    ensures says { HasPrintedLine E.CountedWrite errors.old USAGE.now errors.new }
+    ensures says { HasPrintedLine E.CountedWrite errors.old text.now errors.new }
     ensures same_sink { IsSameSink E.CountedWrite errors.old errors.new }
 {
-    say(errors, USAGE);
+    say(errors, text);
     FAILED
 }
 

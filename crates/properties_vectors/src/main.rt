@@ -21,6 +21,7 @@
 
 mod copying;
 mod editing;
+mod labels;
 mod notation;
 mod outcome;
 mod reading;

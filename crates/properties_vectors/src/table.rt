@@ -2,6 +2,7 @@
 
 use crate::copying::check_copying;
 use crate::editing::check_edit;
+use crate::labels::check_label;
 use crate::notation::{Clause, Halt, clauses};
 use crate::outcome::Outcome;
 use crate::reading::{Pace, Reading, check_compared, check_printed, check_reading};
@@ -28,6 +29,7 @@ enum Kind {
     WritePrint,
     WriteMap,
     Edit,
+    Label,
 }
 
 // What a heading says of the rows below it.
@@ -126,6 +128,7 @@ fn kind_of(word: &str) -> Option<Kind> {
         "write-print" => Some(Kind::WritePrint),
         "write-map" => Some(Kind::WriteMap),
         "edit" => Some(Kind::Edit),
+        "label" => Some(Kind::Label),
         _ => None,
     }
 }
@@ -183,6 +186,7 @@ fn outcome_of(
         Kind::WritePrint => check_printing(alloc, encoding, clauses, &mut outcome)?,
         Kind::WriteMap => check_maps(alloc, encoding, clauses, &mut outcome)?,
         Kind::Edit => check_edit(alloc, encoding, clauses, &mut outcome)?,
+        Kind::Label => check_label(alloc, encoding, clauses, &mut outcome)?,
     }
     Ok(outcome)
 }

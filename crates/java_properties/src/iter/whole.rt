@@ -1,5 +1,6 @@
 // Reads all items of an input.
 
+ghost use Rattle.std.specs.Prelude.{◌≡◌};
 ghost use Rattle.counted_io.specs.Streams.{IsSameReader};
 ghost use Rattle.java_properties.specs.ReadLines.{ReadsLines};
 ghost use Rattle.properties_text.specs.Encoding.{encoding_of};
@@ -20,6 +21,14 @@ pub struct Stopped {
     pub lines: Vec<Line>,
     /// The error.
     pub error: PropertiesError,
+}
+
+impl From<Stopped> for PropertiesError {
+    ghost from_gives = { λ stopped error. error ≡ stopped.error };
+
+    fn from(stopped: Stopped) -> PropertiesError {
+        stopped.error
+    }
 }
 
 /// Reads an input to its end and returns all its items: each comment and each pair, with its line number.

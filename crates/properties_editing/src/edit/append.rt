@@ -20,12 +20,12 @@ ghost use Rattle.properties_items.specs.LineEndings.{ending_of};
 ghost use Rattle.properties_editing.specs.Private.BodyKeys.{closing_bytes};
 ghost use Rattle.properties_editing.specs.Private.BodyValues.{FindsLastPair, IsEndingWithin, IsLastEnding, IsGroupAlone, IsLayoutAfter, unended_pair};
 
-use crate::edit::layout::between;
-use crate::edit::groups::{GroupReader, first_group};
 use crate::edit::find::{BodySpan, Closing, closing_bytes, ends_in_cr};
-use crate::edit::replace::{are_empty, concatenated, part};
+use crate::edit::groups::{GroupReader, first_group};
+use crate::edit::layout::between;
+use crate::edit::replace::{are_empty, concatenated, part, repertoire_of};
 use crate::edit::source::BodyStart;
-use crate::edit::value::{are_blanks, repertoire_of};
+use crate::edit::value::are_blanks;
 use properties_items::line::{LineEnding, ending_text};
 use properties_text::characters::is_blank;
 use properties_text::encoding::Encoding;

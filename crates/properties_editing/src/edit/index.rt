@@ -19,10 +19,10 @@ ghost use Rattle.properties_editing.specs.Private.BodyIndex.{AddsGroup, CutsOut,
 ghost use Rattle.properties_items.specs.FoundItems.{pair_characters};
 ghost use Rattle.properties_editing.specs.Private.BodyKeys.{IsPlaceOf};
 
-use crate::edit::groups::{Group, GroupReader};
-use crate::edit::pairs::pair_of;
 use crate::edit::append::{layout_at, printed_new_pair};
 use crate::edit::find::{BodySpan, Closing, closing_after, closing_bytes, separation_after};
+use crate::edit::groups::{Group, GroupReader};
+use crate::edit::pairs::pair_of;
 use crate::edit::replace::{are_empty, concatenated, printed_pair, replaced};
 use crate::edit::source::BodyStart;
 use crate::edit::value::new_value;

@@ -1,6 +1,6 @@
 // The bytes of an edited source.
 
-ghost use Rattle.std.specs.Prelude.{◌≡◌, ◌==◌, ◌≤◌, ◌+◌, ◌-◌, ◌++◌, [], ◌∷◌, take, drop, length, IfOk, OnOk};
+ghost use Rattle.std.specs.Prelude.{◌≡◌, ◌==◌, ◌≤◌, ◌+◌, ◌-◌, ◌++◌, [], ◌∷◌, take, drop, length, false, IfOk, OnOk};
 ghost use Rattle.std.specs.Str.{chars};
 ghost use Rattle.properties_format.specs.Text.{line_feed};
 ghost use Rattle.properties_format.specs.Writing.{is_empty};
@@ -8,14 +8,13 @@ ghost use Rattle.properties_format.specs.Edited.{added_ending, pair_bytes};
 ghost use Rattle.properties_editing.specs.Private.BodyKeys.{AreWithin, left_bytes, closing_bytes, spans_bytes};
 ghost use Rattle.properties_format.specs.Encoding.{output_encoding};
 ghost use Rattle.properties_text.specs.Encoding.{encoding_of};
-ghost use Rattle.properties_text.specs.Printing.{AppendsOnOk};
+ghost use Rattle.properties_text.specs.Printing.{AppendsOnOk, encoding_in, only_in};
 
 use crate::edit::find::{BodySpan, Closing, closing_bytes, separation_after};
 use crate::edit::source::BodyStart;
-use crate::edit::value::repertoire_of;
-use properties_text::encoding::Encoding;
 use properties_text::encoding::byte_order_mark::begins_like_mark;
-use properties_text::print::{LineBuffer, print_texts};
+use properties_text::encoding::{Encoding, LineEncoding};
+use properties_text::print::{LineBuffer, Repertoire, print_texts};
 use std::alloc::{AllocError, Global};
 
 /// Returns the source with this pair replaced by a printed pair.
@@ -175,4 +174,12 @@ pub fn concatenated(
     bytes.extend_from_slice(middle)?;
     bytes.extend_from_slice(back)?;
     Ok(bytes)
+}
+
+/// Returns the characters that an edit prints as they are: all that the encoding has.
+pub fn repertoire_of(encoding: Encoding) -> Repertoire
+    ensures encoding { encoding_in result ≡ output_encoding (encoding_of encoding) }
+    ensures all { only_in result ≡ false }
+{
+    Repertoire::from(LineEncoding::from(encoding))
 }

@@ -7,20 +7,20 @@ ghost use Rattle.properties_format.specs.Encoding.{output_encoding};
 ghost use Rattle.properties_format.specs.Printing.{encoded_text};
 ghost use Rattle.properties_format.specs.Valued.{value_text};
 ghost use Rattle.properties_text.specs.Encoding.{encoding_of};
-ghost use Rattle.properties_text.specs.Printing.{AppendsOnOk, encoding_in, only_in};
+ghost use Rattle.properties_text.specs.Printing.{AppendsOnOk};
 ghost use Rattle.properties_lines.specs.LineSearch.{unit_size};
 ghost use Rattle.properties_editing.specs.Private.BodyValues.{GivesValue, IsPairAlone, Revalues};
 
-use crate::edit::layout::{between, front_size};
-use crate::edit::groups::first_group;
-use crate::edit::pairs::has_value;
 use crate::edit::find::BodySpan;
-use crate::edit::replace::concatenated;
+use crate::edit::groups::first_group;
+use crate::edit::layout::{between, front_size};
+use crate::edit::pairs::has_value;
+use crate::edit::replace::{concatenated, repertoire_of};
 use crate::edit::source::BodyStart;
 use properties_items::error::PropertiesError;
-use properties_text::encoding::{Encoding, LineEncoding};
+use properties_text::encoding::Encoding;
 use properties_text::parse::leading_blanks;
-use properties_text::print::{LineBuffer, Repertoire, print_value};
+use properties_text::print::{LineBuffer, print_value};
 use std::alloc::{AllocError, Global};
 
 /// How the bytes of a pair change when it gets another value.
@@ -100,14 +100,6 @@ fn print_value_after(
         return print_value(line, repertoire, false, value);
     }
     print_value(line, repertoire, are_blanks(separator), value)
-}
-
-/// Returns the characters that an edit prints as they are: all that the encoding has.
-pub fn repertoire_of(encoding: Encoding) -> Repertoire
-    ensures encoding { encoding_in result ≡ output_encoding (encoding_of encoding) }
-    ensures all { only_in result ≡ false }
-{
-    Repertoire::from(LineEncoding::from(encoding))
 }
 
 /// Returns whether a text is blanks and nothing else.

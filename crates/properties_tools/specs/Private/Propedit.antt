@@ -1,1 +1,1 @@
-pub mod AskedParts
+pub mod Asked

@@ -16,7 +16,7 @@ use Rattle.properties_tools.specs.declared.propedit.asked.Command.{Command}
 use Rattle.properties_tools.specs.declared.propedit.asked.Command.TheVariants.{Get, Check, Change}
 use Rattle.properties_tools.specs.declared.propedit.asked.Command.TheVariants as command
 use Rattle.properties_tools.specs.declared.propedit.asked.Source.{Source}
-use Rattle.properties_tools.specs.declared.propedit.asked.Source.TheVariants.{StandardInput, File, InPlace}
+use Rattle.properties_tools.specs.declared.propedit.asked.Source.TheVariants.{StandardInput, File}
 use Rattle.properties_tools.specs.declared.propedit.asked.Work.{Work}
 use Rattle.properties_tools.specs.declared.propedit.error.Failure.{Failure}
 
@@ -24,7 +24,6 @@ use Rattle.properties_tools.specs.declared.propedit.error.Failure.{Failure}
 abbrev pub name_of : Source → List ℕ
 name_of StandardInput = codes "standard input"
 name_of (File path) = string_bytes path
-name_of (InPlace path) = string_bytes path
 
 -- The status of a report: 0 where it is empty.
 abbrev pub report_status : List ℕ → ℕ

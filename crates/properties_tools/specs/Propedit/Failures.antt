@@ -1,22 +1,35 @@
 -- Why `propedit` fails, and what it prints of a failure.
-use Rattle.std.specs.Prelude.{◌≡◌, ◌⊎◌, ℕ, true, false, Bool, List, [], ◌++◌, Option, Some, None, IfSome, codes}
+use Rattle.std.specs.Prelude.{◌≡◌, ◌≢◌, ◌⊎◌, ℕ, true, false, Bool, List, [], ◌++◌, Option, Some, None, IfSome, codes}
 use Rattle.std.specs.Fmt.{decimal}
+use Rattle.std.specs.IoError.{error_kind}
+use Rattle.std.specs.declared.io.Error.{Error}
+use Rattle.std.specs.declared.io.ErrorKind.TheVariants.{OutOfMemory}
 use Rattle.counted_io.specs.Streams.{Sink}
 use Rattle.java_properties.specs.DisplayTexts.{description, reason_display}
-use Rattle.java_properties.specs.Errors.{line_of, IsBareError, IsReason}
+use Rattle.java_properties.specs.Errors.{kind_of, message_line, IsBareError, IsReason, IsStreamError}
 use Rattle.properties_items.specs.declared.error.ErrorKind.TheVariants as kind
 use Rattle.properties_items.specs.declared.error.PropertiesError.{PropertiesError}
 use Rattle.properties_items.specs.declared.error.Reason.{Reason}
 use Rattle.properties_items.specs.declared.findings.MalformedEscape.{MalformedEscape}
 use Rattle.properties_tools.specs.Messages.{printed_line, HasPrintedLine}
 use Rattle.properties_tools.specs.declared.propedit.error.Failure.{Failure}
-use Rattle.properties_tools.specs.declared.propedit.error.Failure.TheVariants.{NotUtf8, Malformed, Input, Output}
+use Rattle.properties_tools.specs.declared.propedit.error.Failure.TheVariants.{NotUtf8, NotUtf8ByMark, Malformed, Input, Output}
+
+-- what is printed where memory runs out before a message, or for it
+abbrev pub memory_words : List ℕ
+memory_words = codes "propedit: Out of memory."
 
 -- memory ran out
 pub record LacksMemory (failure : Failure) : Type 0 where
   pub error : PropertiesError
   pub is : failure ≡ Input error
   pub memory : IsBareError kind.Memory error
+
+-- A file can't be opened or read for this reason: memory ran out, or the system says why.
+abbrev pub IsIoFailure : Error → Failure → Type 0
+IsIoFailure source failure =
+    ((error_kind source ≡ OutOfMemory) × LacksMemory failure)
+    ⊎ ((error_kind source ≢ OutOfMemory) × ((error : PropertiesError) × (failure ≡ Input error) × IsStreamError None source error))
 
 -- ---- its reason
 
@@ -35,21 +48,29 @@ comment_words false = []
 abbrev pub escape_reason : MalformedEscape → List ℕ
 escape_reason escape = description escape.kind ++ comment_words escape.in_comment
 
+-- The words are the reason of an error, or say of UTF-16 what can be done, where a source in it was to be edited.
+abbrev pub IsInputReason : PropertiesError → List ℕ → Type 0
+IsInputReason error words =
+    ((kind_of error ≡ kind.Unsupported) × (words ≡ codes "UTF-16 can be read but not edited; convert it first"))
+    ⊎ ((kind_of error ≢ kind.Unsupported) × IsErrorReason error words)
+
 -- The words are the reason of a failure.
 abbrev pub IsReasonOf : Failure → List ℕ → Type 0
 IsReasonOf (NotUtf8 number) words = words ≡ codes "not UTF-8; -e windows-1252 reads it"
+IsReasonOf (NotUtf8ByMark number) words = words ≡ codes "not UTF-8, though a byte order mark says so"
 IsReasonOf (Malformed escape) words = words ≡ escape_reason escape
-IsReasonOf (Input error) words = IsErrorReason error words
-IsReasonOf (Output error) words = IsErrorReason error words
+IsReasonOf (Input error) words = IsInputReason error words
+IsReasonOf (Output error) words = IsInputReason error words
 
 -- ---- its place
 
 -- the number of its line, where it is of one
 abbrev pub number_of : Failure → Option ℕ
 number_of (NotUtf8 number) = Some number
+number_of (NotUtf8ByMark number) = Some number
 number_of (Malformed escape) = Some escape.line_number
-number_of (Input error) = line_of error
-number_of (Output error) = line_of error
+number_of (Input error) = message_line error
+number_of (Output error) = message_line error
 
 abbrev pub standard_output : List ℕ
 standard_output = codes "standard output"
@@ -57,6 +78,7 @@ standard_output = codes "standard output"
 -- what it is a failure of: the source of this name, or the output
 abbrev pub place_of : List ℕ → Failure → List ℕ
 place_of name (NotUtf8 number) = name
+place_of name (NotUtf8ByMark number) = name
 place_of name (Malformed escape) = name
 place_of name (Input error) = name
 place_of name (Output error) = standard_output
@@ -88,6 +110,10 @@ pub record PrintsMessage {W : Type 0} (sink : Sink W) (old : W) (name : List ℕ
   pub is_message : IsMessage name failure text
   pub says : HasPrintedLine sink old (printed_line text) new
 
--- The message of a failure is printed as a line, if there is memory for the line.
+-- That memory ran out was printed as a line, as far as the sink took it.
+abbrev pub SaysMemory : {W : Type 0} → Sink W → W → W → Type 0
+SaysMemory sink old new = HasPrintedLine sink old (printed_line memory_words) new
+
+-- The message of a failure is printed as a line, or that there is no memory for it.
 abbrev pub PrintsFailure : {W : Type 0} → Sink W → W → List ℕ → Failure → W → Type 0
-PrintsFailure sink old name failure new = PrintsMessage sink old name failure new ⊎ (new ≡ old)
+PrintsFailure sink old name failure new = PrintsMessage sink old name failure new ⊎ SaysMemory sink old new

@@ -3,7 +3,7 @@ use Rattle.std.specs.Prelude.{◌≡◌, ◌⊎◌, ℕ, Bool, true, false, List
 use Rattle.std.specs.Fmt.{◌++?◌}
 use Rattle.counted_io.specs.Streams.{Sink}
 use Rattle.properties_tools.specs.Messages.{printed_line, HasPrintedLine}
-use Rattle.properties_tools.specs.Propedit.Failures.{message, PrintsFailure}
+use Rattle.properties_tools.specs.Propedit.Failures.{message, PrintsFailure, SaysMemory}
 use Rattle.properties_tools.specs.declared.propedit.error.Failure.{Failure}
 use Rattle.properties_tools.specs.declared.propedit.in_place.Problem.{Problem}
 use Rattle.properties_tools.specs.declared.propedit.in_place.Problem.TheVariants as problem
@@ -13,10 +13,12 @@ use Rattle.properties_tools.specs.declared.propedit.in_place.ReplaceError.{Repla
 
 -- What failed, where the new file has this name. Nothing is specified about an error of the system.
 abbrev pub problem_display : List ℕ → Problem → Option (List ℕ)
+problem_display new problem.Held = Some (new ++ codes " exists: another run is at work, or was killed; if none is, remove it")
 problem_display new (problem.Unmade error) = None
 problem_display new (problem.Unwritten error) = None
 problem_display new (problem.Owner error) = None
-problem_display new (problem.Permissions error) = None
+problem_display new (problem.Group error) = None
+problem_display new (problem.Mode error) = None
 problem_display new (problem.Unreadable error) = None
 problem_display new problem.Changed = Some (codes "changed while it was edited")
 problem_display new problem.Taken = Some (new ++ codes " was removed or replaced")
@@ -45,10 +47,10 @@ pub record PrintsProblem {W : Type 0} (sink : Sink W) (old : W) (path : List ℕ
   pub is_line : IsProblemLine path error line
   pub says : HasPrintedLine sink old line new
 
--- Why a file is not replaced is printed as a line, if there is memory for the line.
-abbrev pub PrintsProblemIfMemory : {W : Type 0} → Sink W → W → List ℕ → ReplaceError → W → Type 0
-PrintsProblemIfMemory sink old path error new = PrintsProblem sink old path error new ⊎ (new ≡ old)
+-- Why a file is not replaced is printed as a line, or that there is no memory for it.
+abbrev pub SaysProblem : {W : Type 0} → Sink W → W → List ℕ → ReplaceError → W → Type 0
+SaysProblem sink old path error new = PrintsProblem sink old path error new ⊎ SaysMemory sink old new
 
--- Why a file is not edited is printed as a line, if there is memory for the line: it is not read, its edits fail, or it is not replaced.
+-- Why a file is not edited is printed as a line, or that there is no memory for it: it is not read, its edits fail, or it is not replaced.
 abbrev pub PrintsUnedited : {W : Type 0} → Sink W → W → List ℕ → W → Type 0
-PrintsUnedited sink old path new = ((failure : Failure) × PrintsFailure sink old path failure new) ⊎ ((error : ReplaceError) × PrintsProblemIfMemory sink old path error new)
+PrintsUnedited sink old path new = ((failure : Failure) × PrintsFailure sink old path failure new) ⊎ ((error : ReplaceError) × SaysProblem sink old path error new)

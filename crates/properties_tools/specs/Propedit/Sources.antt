@@ -1,6 +1,7 @@
 -- What is found in a source that is held whole, and when it is refused.
-use Rattle.std.specs.Prelude.{◌≡◌, ℕ, List, [], ◌∷◌, Result, Ok, Err}
+use Rattle.std.specs.Prelude.{◌≡◌, ◌⊎◌, ℕ, nat_eq, Bool, true, false, List, [], ◌∷◌, Result, Ok, Err}
 use Rattle.std.specs.Global.{Vec}
+use Rattle.std.specs.List.{starts_with}
 use Rattle.properties_format.specs.Encoding.{Encoding}
 use Rattle.properties_format.specs.MalformedEscapes as format
 use Rattle.properties_format.specs.MalformedEscapes.{AreMalformedEscapes}
@@ -13,7 +14,7 @@ use Rattle.properties_items.specs.declared.findings.KeyLine.{KeyLine}
 use Rattle.properties_items.specs.declared.findings.MalformedEscape.{MalformedEscape}
 use Rattle.properties_tools.specs.Propedit.Lines.{AreIllFormedLines}
 use Rattle.properties_tools.specs.declared.propedit.error.Failure.{Failure}
-use Rattle.properties_tools.specs.declared.propedit.error.Failure.TheVariants.{NotUtf8, Malformed, Input, Output}
+use Rattle.properties_tools.specs.declared.propedit.error.Failure.TheVariants.{NotUtf8, NotUtf8ByMark, Malformed, Input, Output}
 
 -- These are the malformed escapes of a source, and the only ones.
 pub record HasMalformed (e : Encoding) (source : List ℕ) (found : List MalformedEscape) : Type 0 where
@@ -52,10 +53,21 @@ pub record IsFirstMalformed (e : Encoding) (source : List ℕ) (found : Malforme
   pub are : AreMalformedEscapes e source (escape ∷ others)
   pub is : found ≡ escape_record escape
 
+-- whether a source begins with the byte order mark of UTF-8
+abbrev pub starts_with_mark : List ℕ → Bool
+starts_with_mark source = starts_with nat_eq source (239 ∷ 187 ∷ 191 ∷ [])
+
+-- the failure of a line that is not UTF-8
+abbrev pub IsNotUtf8 : List ℕ → ℕ → Failure → Type 0
+IsNotUtf8 source number failure =
+    ((starts_with_mark source ≡ false) × (failure ≡ NotUtf8 number))
+    ⊎ ((starts_with_mark source ≡ true) × (failure ≡ NotUtf8ByMark number))
+
 -- Why a source is refused, or not even looked through: its first ill-formed line; where there is none, its first malformed
 -- escape; or memory ran out.
 abbrev pub IsUnsound : Encoding → List ℕ → Failure → Type 0
-IsUnsound e source (NotUtf8 number) = (others : List ℕ) × AreIllFormedLines e source (number ∷ others)
+IsUnsound e source (NotUtf8 number) = (others : List ℕ) × AreIllFormedLines e source (number ∷ others) × (starts_with_mark source ≡ false)
+IsUnsound e source (NotUtf8ByMark number) = (others : List ℕ) × AreIllFormedLines e source (number ∷ others) × (starts_with_mark source ≡ true)
 IsUnsound e source (Malformed escape) = IsFirstMalformed e source escape
 IsUnsound e source (Input error) = IsBareError kind.Memory error
 IsUnsound e source (Output error) = ⊥

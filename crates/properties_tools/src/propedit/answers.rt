@@ -36,7 +36,6 @@ pub fn name(source: &Source) -> &str
     match source {
         Source::StandardInput => "standard input",
         Source::File(path) => path.as_str(),
-        Source::InPlace(path) => path.as_str(),
     }
 }
 

@@ -1,57 +1,27 @@
 // What the arguments of `propedit` ask for.
 
-mod choices;
-mod commands;
+mod command_line;
 mod edits;
+mod mistake;
+mod options;
 
-ghost use Rattle.std.specs.Prelude.{map, string_bytes, IfOk, OnErr};
-ghost use Rattle.std.specs.Option.{option_map};
-ghost use Rattle.properties_tools.specs.Propedit.Asked.{request_of, work_of, AsksSome, IsAsked};
-ghost use Rattle.properties_tools.specs.Private.Propedit.AskedParts.{choices_of, AsksSomeAfter, AsksSomeWork, IsAskedAfter, IsWork, IsWorkAsked};
-
-use crate::propedit::asked::choices::{Choices, choices_in};
-use crate::propedit::asked::commands::command_in;
+use crate::propedit::asked::command_line::command_line;
+use crate::propedit::asked::edits::edits_in;
+use crate::propedit::asked::mistake::Mistake;
+use crate::propedit::asked::options::{Options, options_in};
+use clap::{ArgMatches, Error};
 use java_properties::{Edit, Encoding};
 use std::alloc::{AllocError, Global};
-
-/// What `--help` prints, and what wrong arguments print on standard error.
-pub const USAGE: &str = "usage: propedit [OPTION ..] get KEY
-       propedit [OPTION ..] list [PREFIX]
-       propedit [OPTION ..] check
-       propedit [OPTION ..] (set KEY VALUE | remove KEY) ..
-
-  get     prints the value of KEY
-  list    prints the keys, or those that begin with PREFIX, each once, in the order of the file
-  check   prints each line that is not UTF-8, the first malformed escape of each line, and each repeated key
-  set, remove
-          print the file with these edits, made in order; set changes a value and keeps the layout of its line,
-          and other lines stay as they are
-
-  -f FILE        reads FILE instead of standard input
-  -i FILE        edits FILE in place (set and remove)
-  -e NAME        utf-8 (the default), windows-1252, utf-16le or utf-16be; a byte order mark overrules it
-  -d VALUE       what get prints where FILE has no KEY, with status 0
-  -z             get and list end each text with a zero byte instead of a line feed
-  -h, --help     prints this
-  --version      prints the version
-  --             ends the options
-
-Reads standard input and prints on standard output, unless -f or -i says otherwise.
-Status: 0 done or found, 1 not found or check found something, 2 wrong arguments or an error.
-";
-
-/// What `--version` prints.
-pub const VERSION: &str = "propedit 1.6.0\n";
 
 /// What the arguments ask for.
 #[derive(Drop)]
 pub enum Request {
-    /// The usage.
-    Help,
-    /// The version.
-    Version,
-    /// A command over a source.
+    /// A command whose answer is printed.
     Work(Work),
+    /// A check of each of these files.
+    CheckFiles(CheckedFiles),
+    /// Edits of a file in place.
+    EditFile(FileEdits),
 }
 
 /// A command, and what it is done to.
@@ -63,14 +33,42 @@ pub struct Work {
     pub command: Command,
 }
 
+/// Files that are checked one after another.
+#[derive(Drop)]
+pub struct CheckedFiles {
+    /// The encoding of each. A byte order mark overrules it.
+    pub encoding: Encoding,
+    /// Their names. There is one at least.
+    pub paths: Vec<String>,
+}
+
+/// A file that is edited in place.
+#[derive(Drop)]
+pub struct FileEdits {
+    pub path: String,
+    /// The encoding of the file. A byte order mark overrules it.
+    pub encoding: Encoding,
+    /// The edits, in order.
+    pub edits: Vec<Edit>,
+    /// What is done where there is no such file.
+    pub missing: Missing,
+}
+
+/// What is done where a file that is to be edited is missing.
+#[derive(Clone, Copy, Debug, PartialEq, Eq)]
+pub enum Missing {
+    /// It is an error.
+    Refuse,
+    /// The file is taken as empty, and made.
+    Create,
+}
+
 /// Where the bytes come from.
 #[derive(Drop)]
 pub enum Source {
     StandardInput,
     /// The file of this name.
     File(String),
-    /// The file of this name, which takes the result. Only edits have it.
-    InPlace(String),
 }
 
 /// What is to be done.
@@ -93,78 +91,141 @@ pub enum TextEnd {
     Zero,
 }
 
-/// What the words after the program's name ask for, or `None` where they are wrong. Memory is needed for a command alone.
+/// What the words after the program's name ask for.
+///
+/// The error is a mistake in the words, a lack of memory, or that help or the version is asked for; its text is for the
+/// user.
 ///
 /// ```text
-/// let Some(request) = asked_for(alloc, &words)? else {
-///     return Ok(propedit::refuse(&mut errors));
-/// };
+/// match asked_for(alloc, &words) {
+///     Ok(request) => answer(&request),
+///     Err(error) => propedit::explain(alloc, &error, &mut output, &mut errors),
+/// }
 /// ```
-pub fn asked_for(alloc: Global, words: &[String]) -> Result<Option<Request>, AllocError>
-    ensures asks { let names = map string_bytes words.now in
-        IfOk result (λ request. IsAsked names (option_map request_of request)) }
-    ensures lacks { OnErr result (AsksSome (map string_bytes words.now)) }
-{
-    match choices_in(words) {
-        Some((choices, rest)) => asked_after(alloc, &choices, rest),
-        None => Ok(None),
+pub fn asked_for(alloc: Global, words: &[String]) -> Result<Request, Error> {
+    let mut command = command_line(alloc)?;
+    let matches = command.try_get_matches_from_mut(words)?;
+    match requested(alloc, words, &matches) {
+        Ok(request) => Ok(request),
+        Err(mistake) => {
+            let text = format!(in alloc; "{mistake}")?;
+            Err(command.error(mistake.kind(), text.as_str())?)
+        }
     }
 }
 
-// What the words after the options ask for.
-fn asked_after(
+// What words ask for that matched.
+fn requested<'a>(
     alloc: Global,
-    choices: &Choices<'_>,
-    words: &[String],
-) -> Result<Option<Request>, AllocError>
-    ensures asks { let names = map string_bytes words.now in
-        IfOk result (λ request. IsAskedAfter (choices_of choices.now) names (option_map request_of request)) }
-    ensures lacks { OnErr result (AsksSomeAfter (choices_of choices.now) (map string_bytes words.now)) }
-{
-    let [word, others @ ..] = words else {
-        return Ok(None);
+    words: &'a [String],
+    matches: &ArgMatches<'a>,
+) -> Result<Request, Mistake<'a>> {
+    let Some((command, rest)) = matches.subcommand() else {
+        return Err(Mistake::NoCommand);
     };
-    match word.as_str() {
-        "-h" | "--help" => Ok(Some(Request::Help)),
-        "--version" => Ok(Some(Request::Version)),
-        "--" => work_asked(alloc, choices, others),
-        _ => work_asked(alloc, choices, words),
+    let options = options_in(command, matches)?;
+    match command {
+        "get" => get(alloc, &options, rest),
+        "list" => list(alloc, &options, rest),
+        "check" => check(alloc, &options, rest),
+        _ => change(
+            alloc,
+            &options,
+            edits_in(alloc, words_of_edits(words, rest))?,
+        ),
     }
 }
 
-fn work_asked(
-    alloc: Global,
-    choices: &Choices<'_>,
-    words: &[String],
-) -> Result<Option<Request>, AllocError>
-    ensures asks { let names = map string_bytes words.now in
-        IfOk result (λ request. IsWorkAsked (choices_of choices.now) names (option_map request_of request)) }
-    ensures lacks { OnErr result (AsksSomeWork (choices_of choices.now) (map string_bytes words.now)) }
-{
-    match work_in(alloc, choices, words)? {
-        Some(work) => Ok(Some(Request::Work(work))),
-        None => Ok(None),
-    }
-}
-
-// The command that the words are, with what it is done to.
-fn work_in(
-    alloc: Global,
-    choices: &Choices<'_>,
-    words: &[String],
-) -> Result<Option<Work>, AllocError>
-    ensures asks { let names = map string_bytes words.now in
-        IfOk result (λ work. IsWork (choices_of choices.now) names (option_map work_of work)) }
-    ensures lacks { OnErr result (AsksSomeWork (choices_of choices.now) (map string_bytes words.now)) }
-{
-    let Some(command) = command_in(alloc, choices, words)? else {
-        return Ok(None);
+// The words from the first edit on. The parser drops the word `--` after the command, which is a word as any other here.
+fn words_of_edits<'a>(words: &'a [String], edits: &ArgMatches<'a>) -> &'a [String] {
+    let others = match edits.get_strs("WORD") {
+        Some(others) => others.len(),
+        None => 0,
     };
-    let source = choices.source.into_source()?;
-    let encoding = choices.encoding_or_default();
-    Ok(Some(Work {
-        encoding,
-        source,
-        command,
+    let before = words
+        .get(..words.len().saturating_sub(others))
+        .unwrap_or(words);
+    let start = match before {
+        [first @ .., _, last] if last.as_str() == "--" => first.len(),
+        [first @ .., _] => first.len(),
+        [] => 0,
+    };
+    words.get(start..).unwrap_or(words)
+}
+
+fn get<'a>(
+    alloc: Global,
+    options: &Options<'a>,
+    words: &ArgMatches<'a>,
+) -> Result<Request, Mistake<'a>> {
+    options.refuse_in_place()?;
+    let key = owned(alloc, words.get_str("KEY"))?;
+    let default = match options.default {
+        Some(value) => Some(String::from_str(alloc, value)?),
+        None => None,
+    };
+    options.work(alloc, Command::Get(key, default, options.end))
+}
+
+fn list<'a>(
+    alloc: Global,
+    options: &Options<'a>,
+    words: &ArgMatches<'a>,
+) -> Result<Request, Mistake<'a>> {
+    options.refuse_in_place()?;
+    options.refuse_default()?;
+    let prefix = owned(alloc, words.get_str("PREFIX"))?;
+    options.work(alloc, Command::List(prefix, options.end))
+}
+
+fn check<'a>(
+    alloc: Global,
+    options: &Options<'a>,
+    words: &ArgMatches<'a>,
+) -> Result<Request, Mistake<'a>> {
+    options.refuse_in_place()?;
+    options.refuse_default()?;
+    options.refuse_zero()?;
+    let Some(names) = words.get_strs("FILE") else {
+        return options.work(alloc, Command::Check);
+    };
+    options.refuse_file()?;
+    Ok(Request::CheckFiles(CheckedFiles {
+        encoding: options.encoding,
+        paths: paths(alloc, names)?,
     }))
+}
+
+fn change<'a>(
+    alloc: Global,
+    options: &Options<'a>,
+    edits: Vec<Edit>,
+) -> Result<Request, Mistake<'a>> {
+    options.refuse_default()?;
+    options.refuse_zero()?;
+    let Some(path) = options.in_place else {
+        return options.work(alloc, Command::Change(edits));
+    };
+    Ok(Request::EditFile(FileEdits {
+        path: String::from_str(alloc, path)?,
+        encoding: options.encoding,
+        edits,
+        missing: options.missing,
+    }))
+}
+
+fn paths(alloc: Global, names: &[&str]) -> Result<Vec<String>, AllocError> {
+    let mut paths = Vec::new(alloc);
+    for name in names {
+        paths.push(String::from_str(alloc, name)?)?;
+    }
+    Ok(paths)
+}
+
+// A copy of a word, or the empty text.
+fn owned(alloc: Global, word: Option<&str>) -> Result<String, AllocError> {
+    match word {
+        Some(word) => String::from_str(alloc, word),
+        None => Ok(String::new(alloc)),
+    }
 }

@@ -2,23 +2,33 @@
 
 ghost use Rattle.std.specs.Prelude.{◌≡◌, IfOk, string_bytes};
 ghost use Rattle.counted_io.specs.Streams.{IsSameSink};
-ghost use Rattle.properties_tools.specs.Propedit.Failures.{escape_reason, number_of, place_of, IsErrorReason, IsMessageLine, IsReasonOf, LacksMemory, PrintsFailure};
+ghost use Rattle.properties_tools.specs.Propedit.Failures.{escape_reason, number_of, place_of, IsInputReason, IsIoFailure, IsMessageLine, IsReasonOf, LacksMemory, PrintsFailure};
 
 use crate::messages::say;
 use counted_io::CountedWrite;
-use java_properties::{MalformedEscape, PropertiesError};
+use java_properties::{ErrorKind, MalformedEscape, PropertiesError};
 use std::alloc::{AllocError, Global};
+use std::io;
 
 /// What messages name where the result can't be written.
 pub const STANDARD_OUTPUT: &str = "standard output";
 
+/// What is printed where there is no memory for a message.
+pub(crate) const NO_MEMORY: &str = "propedit: Out of memory.\n";
+
 const NOT_UTF_8: &str = "not UTF-8; -e windows-1252 reads it";
+
+const NOT_UTF_8_BY_MARK: &str = "not UTF-8, though a byte order mark says so";
+
+const UTF_16: &str = "UTF-16 can be read but not edited; convert it first";
 
 /// Why a command fails.
 #[derive(Debug, Drop)]
 pub enum Failure {
-    /// The line of this number is not UTF-8, which is in force.
+    /// The line of this number is not UTF-8, which is in force without a byte order mark.
     NotUtf8(usize),
+    /// The line of this number is not UTF-8, of which the source has the byte order mark.
+    NotUtf8ByMark(usize),
     /// The source has this malformed escape.
     Malformed(MalformedEscape),
     /// The source can't be read or edited, or memory ran out.
@@ -34,6 +44,17 @@ impl From<PropertiesError> for Failure {
 
     fn from(error: PropertiesError) -> Failure {
         Failure::Input(error)
+    }
+}
+
+impl From<io::Error> for Failure {
+    ghost from_gives = { IsIoFailure };
+
+    fn from(error: io::Error) -> Failure {
+        if error.kind() == io::ErrorKind::OutOfMemory {
+            return Failure::from(AllocError);
+        }
+        Failure::Input(PropertiesError::from(error))
     }
 }
 
@@ -61,9 +82,9 @@ impl Failure {
         ensures { result ≡ number_of self.now }
     {
         match self {
-            Failure::NotUtf8(number) => Some(*number),
+            Failure::NotUtf8(number) | Failure::NotUtf8ByMark(number) => Some(*number),
             Failure::Malformed(escape) => Some(escape.line_number),
-            Failure::Input(error) | Failure::Output(error) => error.line_number(),
+            Failure::Input(error) | Failure::Output(error) => error.at("").line_number(),
         }
     }
 
@@ -72,6 +93,7 @@ impl Failure {
     {
         match self {
             Failure::NotUtf8(_) => String::from_str(alloc, NOT_UTF_8),
+            Failure::NotUtf8ByMark(_) => String::from_str(alloc, NOT_UTF_8_BY_MARK),
             Failure::Malformed(escape) => reason_of_escape(alloc, escape),
             Failure::Input(error) | Failure::Output(error) => reason_of_error(alloc, error),
         }
@@ -79,7 +101,7 @@ impl Failure {
 }
 
 /// Prints a failure on `errors` as the line `propedit: NAME:LINE: REASON`, or `propedit: NAME: REASON` where it is of no
-/// line, if there is memory for the line, and flushes it. What can't be printed is dropped.
+/// line, and flushes it. Where there is no memory for that line it says so instead. What can't be printed is dropped.
 ///
 /// The name is that of the source; `standard output` replaces it where the result can't be written. The reason is in
 /// words, or the stream's own error.
@@ -93,8 +115,9 @@ pub fn say_failure<E: CountedWrite>(alloc: Global, errors: &mut E, name: &str, f
     ensures says { PrintsFailure E.CountedWrite errors.old name.now failure.now errors.new }
     ensures same_sink { IsSameSink E.CountedWrite errors.old errors.new }
 {
-    if let Ok(line) = message(alloc, name, failure) {
-        say(errors, line.as_str());
+    match message(alloc, name, failure) {
+        Ok(line) => say(errors, line.as_str()),
+        Err(_) => say(errors, NO_MEMORY),
     }
 }
 
@@ -121,8 +144,11 @@ fn reason_of_escape(alloc: Global, escape: &MalformedEscape) -> Result<String, A
 }
 
 fn reason_of_error(alloc: Global, error: &PropertiesError) -> Result<String, AllocError>
-    ensures { IfOk result (λ text. IsErrorReason error.now (string_bytes text)) }
+    ensures { IfOk result (λ text. IsInputReason error.now (string_bytes text)) }
 {
+    if error.kind() == ErrorKind::Unsupported {
+        return String::from_str(alloc, UTF_16);
+    }
     let reason = error.reason();
     format!(in alloc; "{reason}")
 }

@@ -2,13 +2,13 @@
 
 ghost use Rattle.std.specs.Prelude.{◌≡◌, ◌⊎◌, string_bytes, IfOk};
 ghost use Rattle.counted_io.specs.Streams.{IsSameSink};
-ghost use Rattle.properties_tools.specs.Propedit.InPlace.{problem_display, replace_display, IsProblemLine, PrintsProblemIfMemory, PrintsUnedited};
+ghost use Rattle.properties_tools.specs.Propedit.InPlace.{problem_display, replace_display, IsProblemLine, PrintsUnedited, SaysProblem};
 
 use crate::messages::say;
-use crate::propedit::error::Failure;
+use crate::propedit::asked::{FileEdits, Missing};
+use crate::propedit::error::{Failure, NO_MEMORY};
 use crate::propedit::{exit_status, replacement};
 use counted_io::CountedWrite;
-use java_properties::{Edit, Encoding, PropertiesError};
 use std::alloc::{AllocError, Global};
 use std::error::Error;
 use std::fmt;
@@ -19,27 +19,26 @@ use std::os::unix::io::AsFd;
 
 /// Edits a file in place, and returns the exit status: 0, or 2 after an error, which is printed on `errors` as a line.
 ///
-/// The file is replaced whole, or stays as it is. Nothing is written where the edits change nothing. What can't be printed
-/// is dropped.
+/// The file is replaced whole, or stays as it is. Nothing is written where the edits change nothing. A file that is missing
+/// and to be made is taken as empty. What can't be printed is dropped.
 ///
 /// ```text
-/// let edits = vec![in alloc; Edit::Remove(port)]?;
-/// edit_file(&rt, alloc, "app.properties", Encoding::UTF_8, &edits, &mut errors); // 0
+/// // Where the request is to remove a key of a file:
+/// edit_file(&rt, alloc, &file, &mut errors); // 0
 /// ```
 pub fn edit_file<E: CountedWrite>(
     rt: &HostRuntime,
     alloc: Global,
-    path: &str,
-    encoding: Encoding,
-    edits: &[Edit],
+    file: &FileEdits,
     errors: &mut E,
 ) -> u8
     ensures status { (result ≡ 0) ⊎ (result ≡ 2) }
     ensures quiet { result ≡ 0 → errors.new ≡ errors.old }
-    ensures says { result ≡ 2 → PrintsUnedited E.CountedWrite errors.old path.now errors.new }
+    ensures says { result ≡ 2 → PrintsUnedited E.CountedWrite errors.old (string_bytes file.now.path) errors.new }
     ensures same_sink { IsSameSink E.CountedWrite errors.old errors.new }
 {
-    match replace_edited(rt, alloc, path, encoding, edits) {
+    let path = file.path.as_str();
+    match replace_edited(rt, alloc, file) {
         Ok(()) => 0,
         Err(EditError::Unedited(failure)) => exit_status(alloc, errors, path, Err(failure)),
         Err(EditError::Unreplaced(error)) => fail_to_replace(alloc, errors, path, &error),
@@ -53,21 +52,12 @@ enum EditError {
     Unreplaced(ReplaceError),
 }
 
-fn replace_edited(
-    rt: &HostRuntime,
-    alloc: Global,
-    path: &str,
-    encoding: Encoding,
-    edits: &[Edit],
-) -> Result<(), EditError> {
-    let original = match Original::read(rt, alloc, path) {
+fn replace_edited(rt: &HostRuntime, alloc: Global, file: &FileEdits) -> Result<(), EditError> {
+    let original = match Original::read(rt, alloc, file.path.as_str(), file.missing) {
         Ok(original) => original,
-        Err(error) => {
-            let failure = Failure::from(PropertiesError::from(error));
-            return Err(EditError::Unedited(failure));
-        }
+        Err(error) => return Err(EditError::Unedited(Failure::from(error))),
     };
-    match replacement(alloc, original.bytes(), encoding, edits) {
+    match replacement(alloc, original.bytes(), file.encoding, &file.edits) {
         Ok(Some(bytes)) => match original.replace(rt, alloc, bytes.as_slice()) {
             Ok(()) => Ok(()),
             Err(error) => Err(EditError::Unreplaced(error)),
@@ -77,7 +67,7 @@ fn replace_edited(
     }
 }
 
-// Prints why a file is not replaced, if there is memory for the line, and returns the exit status of failures.
+// Prints why a file is not replaced, or that memory ran out, and returns the exit status of failures.
 fn fail_to_replace<E: CountedWrite>(
     alloc: Global,
     errors: &mut E,
@@ -85,11 +75,12 @@ fn fail_to_replace<E: CountedWrite>(
     error: &ReplaceError,
 ) -> u8
     ensures status { result ≡ 2 }
-    ensures says { PrintsProblemIfMemory E.CountedWrite errors.old path.now error.now errors.new }
+    ensures says { SaysProblem E.CountedWrite errors.old path.now error.now errors.new }
     ensures same_sink { IsSameSink E.CountedWrite errors.old errors.new }
 {
-    if let Ok(line) = problem_line(alloc, path, error) {
-        say(errors, line.as_str());
+    match problem_line(alloc, path, error) {
+        Ok(line) => say(errors, line.as_str()),
+        Err(_) => say(errors, NO_MEMORY),
     }
     2
 }
@@ -105,7 +96,7 @@ fn problem_line(alloc: Global, path: &str, error: &ReplaceError) -> Result<Strin
 /// A file that was read, and whose bytes can be replaced.
 ///
 /// ```text
-/// let original = Original::read(&rt, alloc, "app.properties")?;
+/// let original = Original::read(&rt, alloc, "app.properties", Missing::Refuse)?;
 /// let edited = set_key(alloc, original.bytes(), Encoding::UTF_8, "port", "8080")?;
 /// original.replace(&rt, alloc, edited.as_slice())?;
 /// ```
@@ -114,7 +105,8 @@ pub struct Original {
     path: String,
     // The name of the file that is to take its place.
     temporary: String,
-    seen: Seen,
+    // Nothing where there was no file.
+    seen: Option<Seen>,
 }
 
 // A file as it was read.
@@ -125,11 +117,23 @@ struct Seen {
 }
 
 impl Original {
-    /// Reads a regular file. Of a symbolic link it is the target.
-    pub fn read(rt: &HostRuntime, alloc: Global, path: &str) -> io::Result<Original> {
+    /// Reads a regular file. Of a symbolic link it is the target. A missing file that is to be made has no bytes.
+    pub fn read(
+        rt: &HostRuntime,
+        alloc: Global,
+        path: &str,
+        missing: Missing,
+    ) -> io::Result<Original> {
+        if missing == Missing::Create && is_missing(rt, path)? {
+            return Original::of(alloc, String::from_str(alloc, path)?, None);
+        }
         let path = resolve(rt, alloc, path)?;
-        let temporary = format!(in alloc; "{path}.propedit")?;
         let seen = look_at(rt, alloc, path.as_str())?;
+        Original::of(alloc, path, Some(seen))
+    }
+
+    fn of(alloc: Global, path: String, seen: Option<Seen>) -> io::Result<Original> {
+        let temporary = format!(in alloc; "{path}.propedit")?;
         Ok(Original {
             path,
             temporary,
@@ -139,10 +143,13 @@ impl Original {
 
     /// What was read.
     pub fn bytes(&self) -> &[u8] {
-        self.seen.bytes.as_slice()
+        match &self.seen {
+            Some(seen) => seen.bytes.as_slice(),
+            None => &[],
+        }
     }
 
-    /// Replaces the file by these bytes, whole or not at all. Its owner and its permissions stay.
+    /// Replaces the file by these bytes, whole or not at all. Its owner, its group and its mode stay.
     ///
     /// They go to a new file beside it, named as it is with `.propedit` after it, which then takes its name. Whoever opens
     /// the file has the old bytes or the new ones, and never a part.
@@ -152,21 +159,29 @@ impl Original {
         alloc: Global,
         bytes: &[u8],
     ) -> Result<(), ReplaceError> {
-        let file = match create(rt, self.temporary.as_str()) {
+        let file = match create(rt, self.temporary.as_str(), self.first_mode()) {
             Ok(file) => file,
-            Err(error) => return Err(self.unmade(error, false)),
+            Err(error) if error.kind() == ErrorKind::AlreadyExists => {
+                return Err(self.undone(Problem::Held, false));
+            }
+            Err(error) => return Err(self.undone(Problem::Unmade(error), false)),
         };
         let made = match file.metadata() {
             Ok(made) => made,
             Err(error) => {
                 // Without its metadata, only its name tells which file it is.
                 let is_left = fs::remove_file(rt, self.temporary.as_str()).is_err();
-                return Err(self.unmade(error, is_left));
+                return Err(self.undone(Problem::Unmade(error), is_left));
             }
         };
         match self.put_in_place(rt, alloc, file, &made, bytes) {
             Ok(()) => Ok(()),
-            Err(problem) => Err(self.undone(rt, &made, problem)),
+            Err(problem) => {
+                // Removes the new file, unless someone else has removed or replaced it.
+                let is_left = self.is_made(rt, &made)
+                    && fs::remove_file(rt, self.temporary.as_str()).is_err();
+                Err(self.undone(problem, is_left))
+            }
         }
     }
 
@@ -179,13 +194,7 @@ impl Original {
         bytes: &[u8],
     ) -> Result<(), Problem> {
         self.fill(file, made, bytes)?;
-        let now = match look_at(rt, alloc, self.path.as_str()) {
-            Ok(now) => now,
-            Err(error) => return Err(Problem::Unreadable(error)),
-        };
-        if !is_unchanged(&self.seen, &now) {
-            return Err(Problem::Changed);
-        }
+        self.check_unchanged(rt, alloc)?;
         if !self.is_made(rt, made) {
             return Err(Problem::Taken);
         }
@@ -195,17 +204,22 @@ impl Original {
         }
     }
 
+    // A new file has the mode that the system gives it. Until another one has the mode of the old file, nobody else may
+    // read it.
+    fn first_mode(&self) -> u32 {
+        match self.seen {
+            Some(_) => 0o600,
+            None => 0o666,
+        }
+    }
+
     // Makes a new file what the old one is to be, on the disk.
     fn fill(&self, mut file: File, made: &Metadata, bytes: &[u8]) -> Result<(), Problem> {
         if let Err(error) = file.write_all(bytes) {
             return Err(Problem::Unwritten(error));
         }
-        if let Err(error) = self.keep_owner(&file, made) {
-            return Err(Problem::Owner(error));
-        }
-        // After the owner, since a change of owner takes some permissions away.
-        if let Err(error) = self.keep_permissions(&file) {
-            return Err(Problem::Permissions(error));
+        if let Some(seen) = &self.seen {
+            keep_attributes(&file, made, &seen.metadata)?;
         }
         match file.sync_all() {
             Ok(()) => Ok(()),
@@ -213,22 +227,22 @@ impl Original {
         }
     }
 
-    // Through the open file, since someone else may have put a link where it was made.
-    fn keep_owner(&self, file: &File, made: &Metadata) -> io::Result<()> {
-        let (owner, group) = (self.seen.metadata.uid(), self.seen.metadata.gid());
-        if made.uid() == owner && made.gid() == group {
+    // Whether the old file is still as it was read, or still missing.
+    fn check_unchanged(&self, rt: &HostRuntime, alloc: Global) -> Result<(), Problem> {
+        let is_same = match &self.seen {
+            Some(seen) => match look_at(rt, alloc, self.path.as_str()) {
+                Ok(now) => is_unchanged(seen, &now),
+                Err(error) => return Err(Problem::Unreadable(error)),
+            },
+            None => match is_missing(rt, self.path.as_str()) {
+                Ok(is_missing) => is_missing,
+                Err(error) => return Err(Problem::Unreadable(error)),
+            },
+        };
+        if is_same {
             return Ok(());
         }
-        fchown(file.as_fd(), Some(owner), Some(group))
-    }
-
-    fn keep_permissions(&self, file: &File) -> io::Result<()> {
-        file.set_permissions(self.seen.metadata.permissions())?;
-        // The system may leave a permission out and report no error.
-        if file.metadata()?.mode() == self.seen.metadata.mode() {
-            return Ok(());
-        }
-        Err(io::Error::from(ErrorKind::PermissionDenied))
+        Err(Problem::Changed)
     }
 
     // Whether the file of the new name is still the one that was made.
@@ -239,23 +253,50 @@ impl Original {
         }
     }
 
-    fn unmade(self, error: io::Error, is_left: bool) -> ReplaceError {
-        ReplaceError {
-            problem: Problem::Unmade(error),
-            temporary: self.temporary,
-            is_left,
-        }
-    }
-
-    // Removes the new file, unless someone else has removed or replaced it.
-    fn undone(self, rt: &HostRuntime, made: &Metadata, problem: Problem) -> ReplaceError {
-        let is_left = self.is_made(rt, made)
-            && fs::remove_file(rt, self.temporary.as_str()).is_err();
+    fn undone(self, problem: Problem, is_left: bool) -> ReplaceError {
         ReplaceError {
             problem,
             temporary: self.temporary,
             is_left,
         }
+    }
+}
+
+// Gives a new file the owner, the group and the mode of the old one, through the open file, since someone else may have
+// put a link where it was made.
+fn keep_attributes(file: &File, made: &Metadata, old: &Metadata) -> Result<(), Problem> {
+    if made.uid() != old.uid() {
+        if let Err(error) = fchown(file.as_fd(), Some(old.uid()), None) {
+            return Err(Problem::Owner(error));
+        }
+    }
+    if made.gid() != old.gid() {
+        if let Err(error) = fchown(file.as_fd(), None, Some(old.gid())) {
+            return Err(Problem::Group(error));
+        }
+    }
+    // After these, since a change of owner takes some permissions away.
+    match keep_mode(file, old) {
+        Ok(()) => Ok(()),
+        Err(error) => Err(Problem::Mode(error)),
+    }
+}
+
+fn keep_mode(file: &File, old: &Metadata) -> io::Result<()> {
+    file.set_permissions(old.permissions())?;
+    // The system may leave a permission out and report no error.
+    if file.metadata()?.mode() == old.mode() {
+        return Ok(());
+    }
+    Err(io::Error::from(ErrorKind::PermissionDenied))
+}
+
+// Whether nothing has this name, not even a link whose target is missing.
+fn is_missing(rt: &HostRuntime, path: &str) -> io::Result<bool> {
+    match fs::symlink_metadata(rt, path) {
+        Ok(_) => Ok(false),
+        Err(error) if error.kind() == ErrorKind::NotFound => Ok(true),
+        Err(error) => Err(error),
     }
 }
 
@@ -299,12 +340,12 @@ fn is_same_file(one: &Metadata, other: &Metadata) -> bool {
     one.dev() == other.dev() && one.ino() == other.ino()
 }
 
-// A new file that nobody else may read until it has the permissions of the old one.
-fn create(rt: &HostRuntime, path: &str) -> io::Result<File> {
+// A new file, where nothing has this name.
+fn create(rt: &HostRuntime, path: &str, mode: u32) -> io::Result<File> {
     OpenOptions::new()
         .write(true)
         .create_new(true)
-        .mode(0o600)
+        .mode(mode)
         .open(rt, path)
 }
 
@@ -321,10 +362,12 @@ pub struct ReplaceError {
 // What failed.
 #[derive(Debug, Drop)]
 enum Problem {
+    Held,
     Unmade(io::Error),
     Unwritten(io::Error),
     Owner(io::Error),
-    Permissions(io::Error),
+    Group(io::Error),
+    Mode(io::Error),
     Unreadable(io::Error),
     Changed,
     Taken,
@@ -362,14 +405,34 @@ impl fmt::Display for Failed<'_> {
     fn fmt<W: fmt::Write>(&self, f: &mut fmt::Formatter<W>) -> fmt::Result {
         let new = self.new;
         match self.problem {
-            Problem::Unmade(error) => write!(f, "cannot create {new}: {error}"),
-            Problem::Unwritten(error) => write!(f, "cannot write {new}: {error}"),
-            Problem::Owner(error) => write!(f, "cannot keep the owner: {error}"),
-            Problem::Permissions(error) => write!(f, "cannot keep the permissions: {error}"),
-            Problem::Unreadable(error) => write!(f, "cannot be read again: {error}"),
-            Problem::Changed => write!(f, "changed while it was edited"),
+            Problem::Held => {
+                write!(
+                    f,
+                    "{new} exists: another run is at work, or was killed; if none is, remove it"
+                )
+            }
+            Problem::Unmade(error) => write!(f, "cannot create {new}: {}", Fault(error)),
+            Problem::Unwritten(error) => write!(f, "cannot write {new}: {}", Fault(error)),
+            Problem::Owner(error) => write!(f, "cannot keep the owner: {}", Fault(error)),
+            Problem::Group(error) => write!(f, "cannot keep the group: {}", Fault(error)),
+            Problem::Mode(error) => write!(f, "cannot keep the mode: {}", Fault(error)),
+            Problem::Unreadable(error) => write!(f, "cannot be read again: {}", Fault(error)),
+            Problem::Changed => f.write_str("changed while it was edited"),
             Problem::Taken => write!(f, "{new} was removed or replaced"),
-            Problem::Unrenamed(error) => write!(f, "cannot rename {new}: {error}"),
+            Problem::Unrenamed(error) => write!(f, "cannot rename {new}: {}", Fault(error)),
         }
+    }
+}
+
+// An error of the system, in whose words a lack of memory is as everywhere.
+#[derive(Clone, Copy)]
+struct Fault<'a>(&'a io::Error);
+
+impl fmt::Display for Fault<'_> {
+    fn fmt<W: fmt::Write>(&self, f: &mut fmt::Formatter<W>) -> fmt::Result {
+        if self.0.kind() == ErrorKind::OutOfMemory {
+            return f.write_str("Out of memory.");
+        }
+        write!(f, "{}", self.0)
     }
 }

@@ -1,7 +1,7 @@
 // What is in a source that is held whole.
 
 ghost use Rattle.properties_text.specs.Encoding.{encoding_of};
-ghost use Rattle.properties_tools.specs.Propedit.Sources.{FindsKeysIn, FindsMalformedIn, RefusesUnsound};
+ghost use Rattle.properties_tools.specs.Propedit.Sources.{FindsKeysIn, FindsMalformedIn, IsNotUtf8, RefusesUnsound};
 
 use crate::propedit::error::Failure;
 use crate::propedit::lines::ill_formed_lines;
@@ -17,12 +17,23 @@ pub fn refuse_unsound(alloc: Global, source: &[u8], encoding: Encoding) -> Resul
 {
     let numbers = ill_formed_lines(alloc, source, encoding)?;
     if let Some(number) = numbers.first() {
-        return Err(Failure::NotUtf8(*number));
+        return Err(not_utf_8(source, *number));
     }
     let escapes = malformed_in(alloc, source, encoding)?;
     match escapes.first() {
         Some(escape) => Err(Failure::Malformed(*escape)),
         None => Ok(()),
+    }
+}
+
+// The line of this number is not UTF-8.
+fn not_utf_8(source: &[u8], number: usize) -> Failure
+    ensures { IsNotUtf8 source.now number result }
+{
+    if source.starts_with(b"\xef\xbb\xbf") {
+        Failure::NotUtf8ByMark(number)
+    } else {
+        Failure::NotUtf8(number)
     }
 }
 

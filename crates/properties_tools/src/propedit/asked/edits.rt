@@ -1,50 +1,21 @@
 // The edits that words are.
 
-ghost use Rattle.std.specs.Prelude.{◌≡◌, map, string_bytes, IfOk, OnErr};
-ghost use Rattle.std.specs.Option.{option_map};
+ghost use Rattle.std.specs.Prelude.{◌∷◌, ◌≡◌, codes, map, string_bytes, IfOk};
 ghost use Rattle.java_properties.specs.Editing.{edit_in};
-ghost use Rattle.properties_tools.specs.Propedit.Asked.{in_characters, vec_edits, AreWordsOfEdits};
-ghost use Rattle.properties_tools.specs.Private.Propedit.AskedParts.{borrowed_edit, edit_next, AreEdits, AreEditsOf, IsEditCount, IsNextEdit, IsSetNext};
+ghost use Rattle.properties_tools.specs.Private.Propedit.Asked.{borrowed_edit, in_characters, GivesEdits, TakesEdit};
 
+use crate::propedit::asked::mistake::Mistake;
 use java_properties::Edit;
 use std::alloc::{AllocError, Global};
 
-/// Returns the edits that the words are, in order. It returns `None` where they are no edits. It fails only if they are
-/// edits and memory runs out.
-pub fn edits_in(alloc: Global, words: &[String]) -> Result<Option<Vec<Edit>>, AllocError>
-    ensures finds { let names = map string_bytes words.now in
-        IfOk result (λ edits. AreEditsOf names (option_map vec_edits edits)) }
-    ensures lacks { OnErr result (AreEdits (map string_bytes words.now)) }
+/// Returns the edits that the words are, in order. Where they are none, the mistake names the word.
+pub fn edits_in<'a>(alloc: Global, words: &'a [String]) -> Result<Vec<Edit>, Mistake<'a>>
+    ensures { GivesEdits (map string_bytes words.now) result }
 {
-    match edit_count(words) {
-        Some(count) => Ok(Some(edits_of(alloc, words, count)?)),
-        None => Ok(None),
-    }
-}
-
-// Returns how many edits the words form, or `None` if they form none.
-fn edit_count(words: &[String]) -> Option<usize>
-    ensures { IsEditCount (map string_bytes words.now) result }
-{
-    let mut count = 0;
+    let mut edits = Vec::new(alloc);
     let mut rest = words;
     while !rest.is_empty() {
-        let (_, others) = next_edit(rest)?;
-        rest = others;
-        count += 1;
-    }
-    Some(count)
-}
-
-// The edits that the words are, so many of them.
-fn edits_of(alloc: Global, words: &[String], count: usize) -> Result<Vec<Edit>, AllocError>
-    requires { AreEdits (map string_bytes words.now) }
-    ensures { let names = map string_bytes words.now in
-        IfOk result (λ edits. AreWordsOfEdits names (vec_edits edits)) }
-{
-    let mut edits = Vec::with_capacity(alloc, count)?;
-    let mut rest = words;
-    while let Some((edit, others)) = next_edit(rest) {
+        let (edit, others) = next_edit(rest)?;
         edits.push(edit.into_edit()?)?;
         rest = others;
     }
@@ -70,26 +41,36 @@ impl BorrowedEdit<'_> {
 }
 
 // The edit that the words begin with, and the words after it.
-fn next_edit(words: &[String]) -> Option<(BorrowedEdit<'_>, &[String])>
-    ensures { IsNextEdit (map string_bytes words.now) (option_map edit_next result) }
+fn next_edit<'a>(words: &'a [String]) -> Result<(BorrowedEdit<'a>, &'a [String]), Mistake<'a>>
+    ensures { TakesEdit (map string_bytes words.now) result }
 {
-    let [word, key, others @ ..] = words else {
-        return None;
+    let [word, others @ ..] = words else {
+        return Err(Mistake::NoCommand);
     };
     match word.as_str() {
-        "set" => next_set(key, others),
-        "remove" => Some((BorrowedEdit::Remove(key), others)),
-        _ => None,
+        "set" => next_set(others),
+        "remove" => next_removal(others),
+        other => Err(Mistake::NoEdit(other)),
     }
 }
 
-// The setting of a key, whose value is the first of these words, and the words after it.
-fn next_set<'a>(key: &'a String, words: &'a [String]) -> Option<(BorrowedEdit<'a>, &'a [String])>
-    ensures { let names = map string_bytes words.now in
-        IsSetNext (string_bytes key.now) names (option_map edit_next result) }
+// The setting of a key, whose words are the first of these, and the words after it.
+fn next_set<'a>(words: &'a [String]) -> Result<(BorrowedEdit<'a>, &'a [String]), Mistake<'a>>
+    ensures { TakesEdit (codes "set" ∷ map string_bytes words.now) result }
 {
-    let [value, others @ ..] = words else {
-        return None;
-    };
-    Some((BorrowedEdit::Set(key, value), others))
+    match words {
+        [key, value, others @ ..] => Ok((BorrowedEdit::Set(key, value), others)),
+        [key] => Err(Mistake::NoValue(key.as_str())),
+        [] => Err(Mistake::NoKey("set")),
+    }
+}
+
+// The removal of a key, which is the first of these words, and the words after it.
+fn next_removal<'a>(words: &'a [String]) -> Result<(BorrowedEdit<'a>, &'a [String]), Mistake<'a>>
+    ensures { TakesEdit (codes "remove" ∷ map string_bytes words.now) result }
+{
+    match words {
+        [key, others @ ..] => Ok((BorrowedEdit::Remove(key), others)),
+        [] => Err(Mistake::NoKey("remove")),
+    }
 }

@@ -1,7 +1,6 @@
-use Rattle.std.proofs.Common.{◌≡◌, ◌++◌, drop}
-use Rattle.std.specs.Prelude.{string_bytes}
-use Rattle.properties_tools.specs.Propedit.Check.{escape_lines}
+use Rattle.std.proofs.Common.{◌≡◌, ◌++◌, drop, map}
+use Rattle.properties_tools.specs.Propedit.Check.{escape_finding}
 use Rattle.properties_tools.proofs.propedit.check.push_malformed.Given as goal
 
 abbrev pub invariant-loop-escape : goal.invariant-loop-escape
-invariant-loop-escape l = string_bytes l.text ++ escape_lines l.name (drop l.escape-index l.escapes) ≡ string_bytes l.fn.text ++ escape_lines l.name l.escapes
+invariant-loop-escape l = l.findings.items ++ map escape_finding (drop l.escape-index l.escapes) ≡ l.fn.findings.items ++ map escape_finding l.escapes

@@ -1,0 +1,100 @@
+// The options before a command.
+
+use crate::propedit::asked::mistake::Mistake;
+use crate::propedit::asked::{Command, Missing, Request, Source, TextEnd, Work};
+use clap::ArgMatches;
+use java_properties::Encoding;
+use std::alloc::Global;
+
+/// What the options choose for a command.
+#[derive(Clone, Copy)]
+pub struct Options<'a> {
+    pub command: &'a str,
+    pub file: Option<&'a str>,
+    pub in_place: Option<&'a str>,
+    pub missing: Missing,
+    pub encoding: Encoding,
+    pub default: Option<&'a str>,
+    pub end: TextEnd,
+}
+
+/// The options that were given before the command of this name.
+pub fn options_in<'a>(
+    command: &'a str,
+    matches: &ArgMatches<'a>,
+) -> Result<Options<'a>, Mistake<'a>> {
+    Ok(Options {
+        command,
+        file: matches.get_str("file"),
+        in_place: matches.get_str("in-place"),
+        missing: missing(matches),
+        encoding: encoding(matches)?,
+        default: matches.get_str("default"),
+        end: end(matches),
+    })
+}
+
+fn missing(matches: &ArgMatches<'_>) -> Missing {
+    if matches.get_flag("create") {
+        Missing::Create
+    } else {
+        Missing::Refuse
+    }
+}
+
+// The encoding of this label, or UTF-8 where none is given.
+fn encoding<'a>(matches: &ArgMatches<'a>) -> Result<Encoding, Mistake<'a>> {
+    match matches.get_str("encoding") {
+        Some(label) => match Encoding::for_label(label) {
+            Some(encoding) => Ok(encoding),
+            None => Err(Mistake::NoEncoding(label)),
+        },
+        None => Ok(Encoding::UTF_8),
+    }
+}
+
+fn end(matches: &ArgMatches<'_>) -> TextEnd {
+    if matches.get_flag("null") {
+        TextEnd::Zero
+    } else {
+        TextEnd::LineFeed
+    }
+}
+
+impl<'a> Options<'a> {
+    pub fn refuse_in_place(&self) -> Result<(), Mistake<'a>> {
+        self.refuse(self.in_place.is_some(), "--in-place <FILE>")
+    }
+
+    pub fn refuse_file(&self) -> Result<(), Mistake<'a>> {
+        self.refuse(self.file.is_some(), "--file <FILE>")
+    }
+
+    pub fn refuse_default(&self) -> Result<(), Mistake<'a>> {
+        self.refuse(self.default.is_some(), "--default <VALUE>")
+    }
+
+    pub fn refuse_zero(&self) -> Result<(), Mistake<'a>> {
+        self.refuse(self.end == TextEnd::Zero, "--null")
+    }
+
+    fn refuse(&self, is_given: bool, option: &'static str) -> Result<(), Mistake<'a>> {
+        if is_given {
+            return Err(Mistake::NotWith(option, self.command));
+        }
+        Ok(())
+    }
+
+    /// The request for a command over the source that the options name.
+    pub fn work(&self, alloc: Global, command: Command) -> Result<Request, Mistake<'a>> {
+        let source = match self.file {
+            Some(path) => Source::File(String::from_str(alloc, path)?),
+            None => Source::StandardInput,
+        };
+        Ok(Request::Work(Work {
+            encoding: self.encoding,
+            source,
+            command,
+        }))
+    }
+}
