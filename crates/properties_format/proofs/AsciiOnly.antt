@@ -51,7 +51,7 @@ printed-ascii e place c = printed-either e true place c AreAscii (λ x h. h) (λ
 -- ---- texts
 
 -- A text is printed the same in every encoding.
-printed_characters-same : (e f : Encoding) (place : Place) (x : List ℕ) → printed_characters e true place x ≡ printed_characters f true place x
+pub printed_characters-same : (e f : Encoding) (place : Place) (x : List ℕ) → printed_characters e true place x ≡ printed_characters f true place x
 printed_characters-same e f place [] = refl
 printed_characters-same e f place (c ∷ x) = ap₂ (λ v w. v ++ w) (printed-same e f place c) (printed_characters-same e f place x)
 
@@ -75,11 +75,11 @@ printed_key-on e true key = ap (λ b. cond b (with_first_escaped e true key) (pr
 printed_key-on e false key = refl
 
 -- A key is printed the same in every encoding.
-printed_key-same : (e f : Encoding) (first : Bool) (key : List ℕ) → printed_key e true first key ≡ printed_key f true first key
+pub printed_key-same : (e f : Encoding) (first : Bool) (key : List ℕ) → printed_key e true first key ≡ printed_key f true first key
 printed_key-same e f first key = printed_key-on e first key ∙ printed_characters-same e f in_key_or_value key ∙ sym (printed_key-on f first key)
 
 -- A key is printed in ASCII.
-printed_key-ascii : (e : Encoding) (first : Bool) (key : List ℕ) → AreAscii (printed_key e true first key)
+pub printed_key-ascii : (e : Encoding) (first : Bool) (key : List ℕ) → AreAscii (printed_key e true first key)
 printed_key-ascii e first key = subst AreAscii (sym (printed_key-on e first key)) (printed_characters-ascii e in_key_or_value key)
 
 -- ---- lines

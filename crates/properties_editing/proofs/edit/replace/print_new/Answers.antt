@@ -3,11 +3,7 @@ use Rattle.std.proofs.lemmas.Result.{on_ok_weaker}
 use Rattle.properties_format.specs.Encoding.{output_encoding}
 use Rattle.properties_text.specs.Encoding.{encoding_of}
 use Rattle.properties_editing.proofs.Editing.{pair-appended}
-<<<<<<<< HEAD:crates/properties_editing/proofs/edit/replace/print_new/Answers.antt
 use Rattle.properties_editing.proofs.edit.replace.print_new.Goals as goal
-========
-use Rattle.properties_editing.proofs.edit.replace.print_pair.Goals as goal
->>>>>>>> ed:crates/properties_editing/proofs/edit/replace/print_pair/Answers.antt
 
 pub returns : goal.returns
 returns c =
