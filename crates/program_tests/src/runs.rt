@@ -121,15 +121,27 @@ pub fn check_refusals(rt: &impl Abort, alloc: Global, rows: &[Refusal]) -> Resul
             &mut output,
             &mut errors,
         )?;
-        let said = errors
-            .bytes()
-            .split(|byte| *byte == b'\n')
-            .next()
-            .unwrap_or(b"");
-        let found = (status, Bytes(output.bytes()), Bytes(said));
-        same(rt, number, found, (2, Bytes(b""), Bytes(line.as_bytes())));
+        let found = (status, output.bytes(), errors.bytes());
+        same_refusal(rt, number, found, line);
     }
     Ok(())
+}
+
+/// Compares what a refused run gave with the status of a usage error, no output, and the line that
+/// says why.
+fn same_refusal<'a>(
+    rt: &impl Abort,
+    number: usize,
+    found: (u8, &'a [u8], &'a [u8]),
+    line: &'a str,
+) {
+    let (status, output, errors) = found;
+    let said = errors
+        .split(|byte| *byte == b'\n')
+        .next()
+        .unwrap_or(b"");
+    let found = (status, Bytes(output), Bytes(said));
+    same(rt, number, found, (2, Bytes(b""), Bytes(line.as_bytes())));
 }
 
 /// Compares a run of a program with the row of this number.
