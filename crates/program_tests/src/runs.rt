@@ -3,7 +3,8 @@
 use crate::same::{Bytes, same};
 use crate::streams::{AMPLE, Plan, owned, reader, sink};
 use counted_io::{CountedRead, CountedWrite, Tail};
-use properties_tools::propedit::asked::{Request, asked_for};
+use propedit_arguments::{asked_for, explain};
+use properties_tools::propedit::asked::Request;
 use properties_tools::{propedit, propfilter};
 use std::alloc::{AllocError, Global};
 use std::process::Abort;
@@ -42,7 +43,7 @@ fn edit<R: CountedRead, W: CountedWrite, E: CountedWrite>(
     match asked_for(alloc, words) {
         Ok(Request::Work(work)) => Ok(propedit::run(alloc, &work, input, output, errors)),
         Ok(_) => Ok(FILES),
-        Err(error) => Ok(propedit::explain(alloc, &error, output, errors)),
+        Err(error) => Ok(explain(alloc, &error, output, errors)),
     }
 }
 
@@ -136,10 +137,7 @@ fn same_refusal<'a>(
     line: &'a str,
 ) {
     let (status, output, errors) = found;
-    let said = errors
-        .split(|byte| *byte == b'\n')
-        .next()
-        .unwrap_or(b"");
+    let said = errors.split(|byte| *byte == b'\n').next().unwrap_or(b"");
     let found = (status, Bytes(output), Bytes(said));
     same(rt, number, found, (2, Bytes(b""), Bytes(line.as_bytes())));
 }

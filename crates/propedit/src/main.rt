@@ -2,11 +2,12 @@
 #![tactic(auto)]
 
 use counted_io::{Counted, CountedWrite};
+use propedit_arguments::{asked_for, explain};
 use properties_tools::arguments::words;
-use properties_tools::propedit::asked::{CheckedFiles, Command, Request, Source, Work, asked_for};
+use properties_tools::propedit::asked::{CheckedFiles, Command, Request, Source, Work};
 use properties_tools::propedit::error::Failure;
 use properties_tools::propedit::in_place::edit_file;
-use properties_tools::propedit::{exit_status, explain, lack_memory, refuse_bytes, run};
+use properties_tools::propedit::{exit_status, lack_memory, refuse_bytes, run};
 use std::alloc::Global;
 use std::env;
 use std::fs::File;

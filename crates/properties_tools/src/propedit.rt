@@ -24,8 +24,6 @@ use crate::propedit::answers::{answer_to, name};
 use crate::propedit::asked::Work;
 use crate::propedit::change::change;
 use crate::propedit::error::{Failure, NO_MEMORY, STANDARD_OUTPUT, say_failure};
-use clap::Error;
-use clap::error::ErrorKind;
 use counted_io::{CountedRead, CountedWrite};
 use java_properties::{Edit, Encoding, read_source, write_source};
 use std::alloc::Global;
@@ -136,7 +134,7 @@ pub fn exit_status<E: CountedWrite>(
 ///
 /// ```text
 /// let mut output = Counted::new(Vec::new(alloc));
-/// propedit::show(alloc, VERSION, &mut output, &mut errors); // 0, and the output holds the version
+/// propedit::show(alloc, "propedit 1.6.0\n", &mut output, &mut errors); // 0, and the output holds the text
 /// ```
 pub fn show<W: CountedWrite, E: CountedWrite>(
     alloc: Global,
@@ -154,33 +152,6 @@ pub fn show<W: CountedWrite, E: CountedWrite>(
         Err(error) => Err(Failure::Output(error)),
     };
     exit_status(alloc, errors, STANDARD_OUTPUT, printed)
-}
-
-/// Prints what the parser of the arguments has to say, and returns the exit status: help and the version on `output`, and
-/// a mistake in the arguments on `errors`, with status 2. What can't be printed on `errors` is dropped.
-///
-/// ```text
-/// if let Err(error) = asked_for(alloc, &words) {
-///     return explain(alloc, &error, &mut output, &mut errors);
-/// }
-/// ```
-pub fn explain<W: CountedWrite, E: CountedWrite>(
-    alloc: Global,
-    error: &Error,
-    output: &mut W,
-    errors: &mut E,
-) -> u8
-    ensures same_sink { IsSameSink W.CountedWrite output.old output.new }
-    ensures same_error_sink { IsSameSink E.CountedWrite errors.old errors.new }
-{
-    if error.kind() == ErrorKind::OutOfMemory {
-        return lack_memory(errors);
-    }
-    match format!(in alloc; "{error}") {
-        Ok(text) if error.use_stderr() => refuse(errors, text.as_str()),
-        Ok(text) => show(alloc, text.as_str(), output, errors),
-        Err(_) => lack_memory(errors),
-    }
 }
 
 /// Prints on `errors` what is wrong with the arguments, and returns the exit status of wrong arguments, 2. What can't be

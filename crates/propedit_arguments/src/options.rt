@@ -1,9 +1,9 @@
 // The options before a command.
 
-use crate::propedit::asked::mistake::Mistake;
-use crate::propedit::asked::{Command, Missing, Request, Source, TextEnd, Work};
+use crate::mistake::Mistake;
 use clap::ArgMatches;
 use java_properties::Encoding;
+use properties_tools::propedit::asked::{Command, Missing, Request, Source, TextEnd, Work};
 use std::alloc::Global;
 
 /// What the options choose for a command.

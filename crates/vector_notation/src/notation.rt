@@ -4,6 +4,7 @@
 // `\x22`, and a bar `\x7c`.
 
 use std::alloc::{AllocError, AllocFailed, Global};
+use std::str;
 
 /// What kept a row from being run.
 #[derive(Clone, Copy, Debug, PartialEq, Eq)]
@@ -181,4 +182,14 @@ pub fn quoted(alloc: Global, bytes: &[u8]) -> Result<String, AllocError> {
     }
     text.push('"')?;
     Ok(text)
+}
+
+/// The text that these bytes are.
+pub fn text(bytes: &Vec<u8>) -> Result<&str, Halt> {
+    str::from_utf8(bytes.as_slice()).or(Err(Halt::Unreadable))
+}
+
+/// The text that these bytes are, as a string of its own.
+pub fn owned(alloc: Global, bytes: &Vec<u8>) -> Result<String, Halt> {
+    Ok(String::from_str(alloc, text(bytes)?)?)
 }

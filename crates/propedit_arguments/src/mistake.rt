@@ -37,7 +37,7 @@ impl Mistake<'_> {
 
 impl From<AllocError> for Mistake<'_> {
     ghost use Rattle.std.specs.Prelude.{◌≡◌};
-    ghost use Rattle.properties_tools.specs.declared.propedit.asked.mistake.Mistake.TheVariants.{Memory};
+    ghost use Rattle.propedit_arguments.specs.declared.mistake.Mistake.TheVariants.{Memory};
 
     ghost from_gives = { λ _ mistake. mistake ≡ Memory };
 
@@ -48,7 +48,7 @@ impl From<AllocError> for Mistake<'_> {
 
 impl<T: Drop> From<AllocFailed<T>> for Mistake<'_> {
     ghost use Rattle.std.specs.Prelude.{◌≡◌};
-    ghost use Rattle.properties_tools.specs.declared.propedit.asked.mistake.Mistake.TheVariants.{Memory};
+    ghost use Rattle.propedit_arguments.specs.declared.mistake.Mistake.TheVariants.{Memory};
 
     ghost from_gives = { λ _ mistake. mistake ≡ Memory };
 

@@ -5,6 +5,9 @@ use counted_io::{ScriptedReader, Tail};
 use std::alloc::{AllocError, Global};
 use std::io;
 
+/// The sizes of the pieces that each input comes in.
+pub const SIZES: [usize; 4] = [1, 2, 3, 1000];
+
 /// Pieces of an input, and what comes after them.
 #[derive(Drop)]
 pub struct Script {

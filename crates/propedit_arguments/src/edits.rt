@@ -2,9 +2,9 @@
 
 ghost use Rattle.std.specs.Prelude.{◌∷◌, ◌≡◌, codes, map, string_bytes, IfOk};
 ghost use Rattle.java_properties.specs.Editing.{edit_in};
-ghost use Rattle.properties_tools.specs.Private.Propedit.Asked.{borrowed_edit, in_characters, GivesEdits, TakesEdit};
+ghost use Rattle.propedit_arguments.specs.Private.Edits.{borrowed_edit, in_characters, GivesEdits, TakesEdit};
 
-use crate::propedit::asked::mistake::Mistake;
+use crate::mistake::Mistake;
 use java_properties::Edit;
 use std::alloc::{AllocError, Global};
 
