@@ -26,7 +26,7 @@ fn main(rt: HostRuntime) -> ExitCode {
     ExitCode::from(status)
 }
 
-// Does what the arguments ask for. It fails only where there is no memory for them.
+// Does what the arguments ask for. Fails only if there is no memory for them.
 fn status<E: CountedWrite>(rt: &HostRuntime, errors: &mut E) -> io::Result<u8> {
     let alloc = rt.alloc();
     let Some(words) = words(alloc, env::args(rt))? else {

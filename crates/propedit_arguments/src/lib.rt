@@ -1,6 +1,7 @@
 //! What the arguments of `propedit` ask for, parsed by `clap`.
 //!
-//! [`asked_for`] makes a request of the words after the program's name, and [`explain`] prints why words ask for nothing:
+//! [`asked_for`] makes a request of the words after the program's name, and [`explain`] prints why words ask for
+//! nothing:
 //!
 //! ```text
 //! match asked_for(alloc, &words) {

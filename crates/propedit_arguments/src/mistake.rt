@@ -9,7 +9,7 @@ use std::fmt;
 pub enum Mistake<'a> {
     /// No encoding has this label.
     NoEncoding(&'a str),
-    /// This option is none of this command.
+    /// This command doesn't have this option.
     NotWith(&'static str, &'a str),
     /// This word is no edit.
     NoEdit(&'a str),

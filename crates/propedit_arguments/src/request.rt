@@ -14,10 +14,9 @@ use properties_tools::propedit::asked::{CheckedFiles, Command, FileEdits, Reques
 use properties_tools::propedit::{lack_memory, refuse, show};
 use std::alloc::{AllocError, Global};
 
-/// What the words after the program's name ask for.
+/// Returns what the words after the program's name ask for.
 ///
-/// The error is a mistake in the words, a lack of memory, or that help or the version is asked for; its text is for the
-/// user.
+/// The error is a mistake in the words, a lack of memory, or a request for help or the version; `explain` prints it.
 ///
 /// ```text
 /// match asked_for(alloc, &words) {
@@ -37,8 +36,8 @@ pub fn asked_for(alloc: Global, words: &[String]) -> Result<Request, Error> {
     }
 }
 
-/// Prints what the parser of the arguments has to say, and returns the exit status: help and the version on `output`, and
-/// a mistake in the arguments on `errors`, with status 2. What can't be printed on `errors` is dropped.
+/// Prints what the parser of the arguments has to say, and returns the exit status: help and the version on `output`,
+/// and a mistake in the arguments on `errors`, with status 2. What can't be printed on `errors` is dropped.
 ///
 /// ```text
 /// if let Err(error) = asked_for(alloc, &words) {
@@ -64,7 +63,7 @@ pub fn explain<W: CountedWrite, E: CountedWrite>(
     }
 }
 
-// What words ask for that matched.
+// Returns what words ask for that the command line allows.
 fn requested<'a>(
     alloc: Global,
     words: &'a [String],
@@ -86,7 +85,8 @@ fn requested<'a>(
     }
 }
 
-// The words from the first edit on. The parser drops the word `--` after the command, which is a word as any other here.
+// Returns the words from the first edit on. The parser drops a `--` after the command, which here is a word like any
+// other.
 fn words_of_edits<'a>(words: &'a [String], edits: &ArgMatches<'a>) -> &'a [String] {
     let others = match edits.get_strs("WORD") {
         Some(others) => others.len(),
@@ -172,7 +172,7 @@ fn paths(alloc: Global, names: &[&str]) -> Result<Vec<String>, AllocError> {
     Ok(paths)
 }
 
-// A copy of a word, or the empty text.
+// Returns a copy of a word, or the empty text if there is none.
 fn owned(alloc: Global, word: Option<&str>) -> Result<String, AllocError> {
     match word {
         Some(word) => String::from_str(alloc, word),

@@ -35,8 +35,8 @@ const FAILED: u8 = 2;
 
 /// Reads the source to its end, prints what the command gives for it, and returns the exit status.
 ///
-/// The status is that of the answer, or 2 where something fails; why is then printed on `errors` as a line. Where the
-/// source can't be read, or the command refuses it, nothing is printed on `output`. Nothing is written to the source.
+/// The status is that of the answer, or 2 if anything fails; a line on `errors` then says why. If the source can't be
+/// read, or the command refuses it, nothing is printed on `output`. Nothing is written to the source.
 ///
 /// ```text
 /// let mut input: &[u8] = b"# the front door\nport = 80\n";
@@ -82,9 +82,9 @@ fn print_answer<R: CountedRead, W: CountedWrite>(
     }
 }
 
-/// The bytes of a source after edits, or `None` where they are its own bytes.
+/// Returns the bytes of a source after edits, or `None` if they are its own bytes.
 ///
-/// For a file that is edited in place: where nothing changes, nothing has to be written.
+/// For a file that is edited in place: if nothing changes, nothing has to be written.
 ///
 /// ```text
 /// let edits = vec![in alloc; Edit::Remove(port)]?;
@@ -105,7 +105,7 @@ pub fn replacement(
     Ok(Some(bytes))
 }
 
-/// The exit status of a result: the one that it has, or 2 for a failure, which is printed on `errors` as a line under the
+/// Returns the exit status of a result: its own, or 2 for a failure, which is printed on `errors` as a line under the
 /// name of the source. What can't be printed is dropped.
 ///
 /// ```text
@@ -129,7 +129,7 @@ pub fn exit_status<E: CountedWrite>(
     }
 }
 
-/// Prints a text, as the usage or the version, and returns the exit status: 0, or 2 where it can't be printed, and then a
+/// Prints a text, as the usage or the version, and returns the exit status: 0, or 2 if it can't be printed, and then a
 /// line on `errors` says why.
 ///
 /// ```text
@@ -154,8 +154,8 @@ pub fn show<W: CountedWrite, E: CountedWrite>(
     exit_status(alloc, errors, STANDARD_OUTPUT, printed)
 }
 
-/// Prints on `errors` what is wrong with the arguments, and returns the exit status of wrong arguments, 2. What can't be
-/// printed is dropped.
+/// Prints on `errors` what is wrong with the arguments, and returns the exit status of wrong arguments, 2. What can't
+/// be printed is dropped.
 ///
 /// ```text
 /// let mut errors = Counted::new(Vec::new(alloc));

@@ -66,8 +66,8 @@ impl Task {
     }
 }
 
-/// A text alone is read whole and in pieces, and at a thorough pace up to a fault after each of its bytes. A text with a
-/// fault after it is read whole and byte by byte. Other texts are read piece by piece as they are.
+/// A text alone is read whole and in pieces, and at a thorough pace up to a fault after each of its bytes. A text with
+/// a fault after it is read whole and byte by byte. Other texts are read piece by piece as they are.
 pub fn check_reading(
     alloc: Global,
     reading: Reading,

@@ -39,11 +39,11 @@ pub struct FileEdits {
     pub encoding: Encoding,
     /// The edits, in order.
     pub edits: Vec<Edit>,
-    /// What is done where there is no such file.
+    /// What is done if there is no such file.
     pub missing: Missing,
 }
 
-/// What is done where a file that is to be edited is missing.
+/// What is done if a file that is to be edited is missing.
 #[derive(Clone, Copy, Debug, PartialEq, Eq)]
 pub enum Missing {
     /// It is an error.
@@ -63,7 +63,7 @@ pub enum Source {
 /// What is to be done.
 #[derive(Drop)]
 pub enum Command {
-    /// Print the value of this key, or this default where no pair has the key.
+    /// Print the value of this key, or this default if no pair has the key.
     Get(String, Option<String>, TextEnd),
     /// Print the keys that begin with this prefix, each once, in the order of the file.
     List(String, TextEnd),
