@@ -17,12 +17,13 @@ sys.dont_write_bytecode = True
 from wrap import WIDTH, wrapped
 
 TOP = pathlib.Path(__file__).resolve().parent.parent
-FOR_CALLERS = ["java_properties", "counted_io", "properties_tools"]
+FOR_CALLERS = ["java_properties", "counted_io", "properties_tools", "propedit_arguments"]
 INNER = ["properties_items", "properties_editing", "properties_text", "properties_lines", "byte_blocks", "single_lines"]
 ABOUT = {
     "java_properties": "The library. The functions of the module `laws` do nothing when they run; their contracts are laws.",
     "counted_io": "Readers and writers that count their I/O errors. `Counted` makes one of any reader or writer.",
     "properties_tools": "What the programs `propfilter` and `propedit` do, over any streams.",
+    "propedit_arguments": "What the arguments of `propedit` ask for, and what is printed if they ask for nothing.",
     "properties_items": "What reader, writer and editor share. `java_properties` hands on the types that its callers need.",
     "properties_editing": "The editor. `java_properties` hands all of it on but for its laws, which its own `laws` hands on.",
     "properties_text": "Calls for a single line, in the modules `encoding`, `escape`, `parse` and others.",

@@ -9,8 +9,8 @@ import re
 
 TOP = pathlib.Path(__file__).resolve().parent.parent
 CRATES = [
-    "byte_blocks", "counted_io", "java_properties", "properties_editing", "properties_items", "properties_text", "properties_tools",
-    "single_lines",
+    "byte_blocks", "counted_io", "java_properties", "propedit_arguments", "properties_editing", "properties_items",
+    "properties_text", "properties_tools", "single_lines",
 ]
 
 HEAD = """// Examples of doc comments, each as a test.
@@ -27,11 +27,12 @@ use java_properties::{
 use properties_text::encoding::{OutputEncoding, TextBuffer};
 use properties_text::escape::unescape;
 use properties_text::print::{LineBuffer, Place, Repertoire, UndecodedPair, print_undecoded_pair, print_text, print_value};
+use propedit_arguments::{asked_for, explain};
 use properties_tools::arguments::words;
 use properties_tools::filter::{filter, filter_ascii};
 use properties_tools::messages::{say, say_error};
 use properties_tools::propedit::answers::{answer_to, name};
-use properties_tools::propedit::asked::{Command, Source, TextEnd, VERSION, Work, asked_for};
+use properties_tools::propedit::asked::{Command, Request, Source, TextEnd, Work};
 use properties_tools::propedit::error::{Failure, say_failure};
 use properties_tools::propedit::in_place::{Original, edit_file};
 use properties_tools::propedit::lines::ill_formed_lines;

@@ -21,7 +21,7 @@ import os, re, sys
 
 FORMAT = 'properties_format'
 # Crates that promise nothing: examples, tests and tables.
-NO_PROMISES = ('calling', 'properties_tests', 'program_tests', 'properties_vectors')
+NO_PROMISES = ('calling', 'properties_tests', 'program_tests', 'properties_vectors', 'vector_notation')
 # The crates whose contracts callers read, with what these hand on from others.
 READ = ('java_properties', 'properties_tools')
 HEADING = '### What public pages take from the others'

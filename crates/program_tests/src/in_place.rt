@@ -3,7 +3,8 @@
 use crate::same::{Bytes, same};
 use crate::streams::{AMPLE, owned, sink};
 use counted_io::CountedWrite;
-use properties_tools::propedit::asked::{Missing, Request, asked_for};
+use propedit_arguments::asked_for;
+use properties_tools::propedit::asked::{Missing, Request};
 use properties_tools::propedit::in_place::{Original, edit_file};
 use std::fs::{self, File, Permissions};
 use std::io::{self, Read, Write};

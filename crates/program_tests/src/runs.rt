@@ -3,7 +3,8 @@
 use crate::same::{Bytes, same};
 use crate::streams::{AMPLE, Plan, owned, reader, sink};
 use counted_io::{CountedRead, CountedWrite, Tail};
-use properties_tools::propedit::asked::{Request, asked_for};
+use propedit_arguments::{asked_for, explain};
+use properties_tools::propedit::asked::Request;
 use properties_tools::{propedit, propfilter};
 use std::alloc::{AllocError, Global};
 use std::process::Abort;
@@ -42,7 +43,7 @@ fn edit<R: CountedRead, W: CountedWrite, E: CountedWrite>(
     match asked_for(alloc, words) {
         Ok(Request::Work(work)) => Ok(propedit::run(alloc, &work, input, output, errors)),
         Ok(_) => Ok(FILES),
-        Err(error) => Ok(propedit::explain(alloc, &error, output, errors)),
+        Err(error) => Ok(explain(alloc, &error, output, errors)),
     }
 }
 
@@ -121,15 +122,24 @@ pub fn check_refusals(rt: &impl Abort, alloc: Global, rows: &[Refusal]) -> Resul
             &mut output,
             &mut errors,
         )?;
-        let said = errors
-            .bytes()
-            .split(|byte| *byte == b'\n')
-            .next()
-            .unwrap_or(b"");
-        let found = (status, Bytes(output.bytes()), Bytes(said));
-        same(rt, number, found, (2, Bytes(b""), Bytes(line.as_bytes())));
+        let found = (status, output.bytes(), errors.bytes());
+        same_refusal(rt, number, found, line);
     }
     Ok(())
+}
+
+/// Compares what a refused run gave with the status of a usage error, no output, and the line that
+/// says why.
+fn same_refusal<'a>(
+    rt: &impl Abort,
+    number: usize,
+    found: (u8, &'a [u8], &'a [u8]),
+    line: &'a str,
+) {
+    let (status, output, errors) = found;
+    let said = errors.split(|byte| *byte == b'\n').next().unwrap_or(b"");
+    let found = (status, Bytes(output), Bytes(said));
+    same(rt, number, found, (2, Bytes(b""), Bytes(line.as_bytes())));
 }
 
 /// Compares a run of a program with the row of this number.

@@ -2,11 +2,12 @@
 #![tactic(auto)]
 
 use counted_io::{Counted, CountedWrite};
+use propedit_arguments::{asked_for, explain};
 use properties_tools::arguments::words;
-use properties_tools::propedit::asked::{CheckedFiles, Command, Request, Source, Work, asked_for};
+use properties_tools::propedit::asked::{CheckedFiles, Command, Request, Source, Work};
 use properties_tools::propedit::error::Failure;
 use properties_tools::propedit::in_place::edit_file;
-use properties_tools::propedit::{exit_status, explain, lack_memory, refuse_bytes, run};
+use properties_tools::propedit::{exit_status, lack_memory, refuse_bytes, run};
 use std::alloc::Global;
 use std::env;
 use std::fs::File;
@@ -25,7 +26,7 @@ fn main(rt: HostRuntime) -> ExitCode {
     ExitCode::from(status)
 }
 
-// Does what the arguments ask for. It fails only where there is no memory for them.
+// Does what the arguments ask for. Fails only if there is no memory for them.
 fn status<E: CountedWrite>(rt: &HostRuntime, errors: &mut E) -> io::Result<u8> {
     let alloc = rt.alloc();
     let Some(words) = words(alloc, env::args(rt))? else {

@@ -17,4 +17,3 @@ pub mod Slices
 pub mod Sound
 pub mod Taking
 pub mod Unsound
-pub mod Words

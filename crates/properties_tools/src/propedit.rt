@@ -24,8 +24,6 @@ use crate::propedit::answers::{answer_to, name};
 use crate::propedit::asked::Work;
 use crate::propedit::change::change;
 use crate::propedit::error::{Failure, NO_MEMORY, STANDARD_OUTPUT, say_failure};
-use clap::Error;
-use clap::error::ErrorKind;
 use counted_io::{CountedRead, CountedWrite};
 use java_properties::{Edit, Encoding, read_source, write_source};
 use std::alloc::Global;
@@ -37,8 +35,8 @@ const FAILED: u8 = 2;
 
 /// Reads the source to its end, prints what the command gives for it, and returns the exit status.
 ///
-/// The status is that of the answer, or 2 where something fails; why is then printed on `errors` as a line. Where the
-/// source can't be read, or the command refuses it, nothing is printed on `output`. Nothing is written to the source.
+/// The status is that of the answer, or 2 if anything fails; a line on `errors` then says why. If the source can't be
+/// read, or the command refuses it, nothing is printed on `output`. Nothing is written to the source.
 ///
 /// ```text
 /// let mut input: &[u8] = b"# the front door\nport = 80\n";
@@ -84,9 +82,9 @@ fn print_answer<R: CountedRead, W: CountedWrite>(
     }
 }
 
-/// The bytes of a source after edits, or `None` where they are its own bytes.
+/// Returns the bytes of a source after edits, or `None` if they are its own bytes.
 ///
-/// For a file that is edited in place: where nothing changes, nothing has to be written.
+/// For a file that is edited in place: if nothing changes, nothing has to be written.
 ///
 /// ```text
 /// let edits = vec![in alloc; Edit::Remove(port)]?;
@@ -107,7 +105,7 @@ pub fn replacement(
     Ok(Some(bytes))
 }
 
-/// The exit status of a result: the one that it has, or 2 for a failure, which is printed on `errors` as a line under the
+/// Returns the exit status of a result: its own, or 2 for a failure, which is printed on `errors` as a line under the
 /// name of the source. What can't be printed is dropped.
 ///
 /// ```text
@@ -131,12 +129,12 @@ pub fn exit_status<E: CountedWrite>(
     }
 }
 
-/// Prints a text, as the usage or the version, and returns the exit status: 0, or 2 where it can't be printed, and then a
+/// Prints a text, as the usage or the version, and returns the exit status: 0, or 2 if it can't be printed, and then a
 /// line on `errors` says why.
 ///
 /// ```text
 /// let mut output = Counted::new(Vec::new(alloc));
-/// propedit::show(alloc, VERSION, &mut output, &mut errors); // 0, and the output holds the version
+/// propedit::show(alloc, "propedit 1.6.0\n", &mut output, &mut errors); // 0, and the output holds the text
 /// ```
 pub fn show<W: CountedWrite, E: CountedWrite>(
     alloc: Global,
@@ -156,35 +154,8 @@ pub fn show<W: CountedWrite, E: CountedWrite>(
     exit_status(alloc, errors, STANDARD_OUTPUT, printed)
 }
 
-/// Prints what the parser of the arguments has to say, and returns the exit status: help and the version on `output`, and
-/// a mistake in the arguments on `errors`, with status 2. What can't be printed on `errors` is dropped.
-///
-/// ```text
-/// if let Err(error) = asked_for(alloc, &words) {
-///     return explain(alloc, &error, &mut output, &mut errors);
-/// }
-/// ```
-pub fn explain<W: CountedWrite, E: CountedWrite>(
-    alloc: Global,
-    error: &Error,
-    output: &mut W,
-    errors: &mut E,
-) -> u8
-    ensures same_sink { IsSameSink W.CountedWrite output.old output.new }
-    ensures same_error_sink { IsSameSink E.CountedWrite errors.old errors.new }
-{
-    if error.kind() == ErrorKind::OutOfMemory {
-        return lack_memory(errors);
-    }
-    match format!(in alloc; "{error}") {
-        Ok(text) if error.use_stderr() => refuse(errors, text.as_str()),
-        Ok(text) => show(alloc, text.as_str(), output, errors),
-        Err(_) => lack_memory(errors),
-    }
-}
-
-/// Prints on `errors` what is wrong with the arguments, and returns the exit status of wrong arguments, 2. What can't be
-/// printed is dropped.
+/// Prints on `errors` what is wrong with the arguments, and returns the exit status of wrong arguments, 2. What can't
+/// be printed is dropped.
 ///
 /// ```text
 /// let mut errors = Counted::new(Vec::new(alloc));

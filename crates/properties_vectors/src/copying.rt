@@ -1,13 +1,14 @@
 // Pairs that are copied, by `copy_next` and by the calls that it replaces.
 
-use crate::notation::{Clause, Halt, quoted};
-use crate::outcome::Outcome;
-use crate::reading::{SIZES, Script};
-use crate::shown::{compare, error_text};
-use crate::writing::{FAULTS, ROOMY, Sink, call, front_sink, writer_to};
+use crate::writing::{call, writer_to};
 use counted_io::{CountedRead, CountedWrite, Tail};
 use java_properties::{ContentRef, CopyError, Encoding, PropertiesIter, PropertiesWriter};
 use std::alloc::{AllocError, Global};
+use vector_notation::notation::{Clause, Halt, quoted};
+use vector_notation::outcome::Outcome;
+use vector_notation::script::{SIZES, Script};
+use vector_notation::shown::{compare, error_text};
+use vector_notation::sinks::{FAULTS, ROOMY, Sink, front_sink};
 
 // What pairs are copied to: a writer in this encoding, to this sink, after these calls.
 #[derive(Clone, Copy)]

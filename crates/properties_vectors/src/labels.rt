@@ -1,9 +1,9 @@
 // Labels of encodings.
 
-use crate::notation::{Clause, Halt};
-use crate::outcome::Outcome;
 use java_properties::Encoding;
 use std::alloc::Global;
+use vector_notation::notation::{Clause, Halt};
+use vector_notation::outcome::Outcome;
 
 /// Whether a text is a label of the encoding.
 pub fn check_label(

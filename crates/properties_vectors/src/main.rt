@@ -21,11 +21,9 @@
 
 mod copying;
 mod editing;
+mod items;
 mod labels;
-mod notation;
-mod outcome;
 mod reading;
-mod shown;
 mod table;
 mod writing;
 

@@ -2,41 +2,25 @@
 
 mod before_fault;
 mod compared;
-mod items;
 mod printed;
-mod script;
 mod ways;
 
 use crate::copying::check_into_both_encodings;
-use crate::notation::{Clause, Halt};
-use crate::outcome::Outcome;
+use crate::items::{Kind, Reading, joined, whole_items};
 use before_fault::items_before_fault;
 pub use compared::check_compared;
 use counted_io::Tail;
-use items::{Kind, joined};
 use java_properties::Encoding;
 pub use printed::check_printed;
-pub use script::Script;
-use std::alloc::{AllocError, Global};
+use std::alloc::Global;
 use std::{io, slice};
-use ways::{Way, read_by, whole_items};
-
-// The sizes of the pieces that each input comes in.
-pub const SIZES: [usize; 4] = [1, 2, 3, 1000];
+use vector_notation::notation::{Clause, Halt};
+use vector_notation::outcome::Outcome;
+use vector_notation::script::{SIZES, Script};
+use ways::{Way, read_by};
 
 // The fault that comes after each byte of an input.
 const FAULT: io::ErrorKind = io::ErrorKind::TimedOut;
-
-/// What is made of an input.
-#[derive(Clone, Copy)]
-pub enum Reading {
-    /// Items with the numbers of their lines.
-    Items,
-    /// The pairs that are handed over, one after another.
-    Pairs,
-    /// The last value of each key, or an error alone.
-    Map,
-}
 
 /// In how many ways an input is read.
 #[derive(Clone, Copy)]
@@ -82,8 +66,8 @@ impl Task {
     }
 }
 
-/// A text alone is read whole and in pieces, and at a thorough pace up to a fault after each of its bytes. A text with a
-/// fault after it is read whole and byte by byte. Other texts are read piece by piece as they are.
+/// A text alone is read whole and in pieces, and at a thorough pace up to a fault after each of its bytes. A text with
+/// a fault after it is read whole and byte by byte. Other texts are read piece by piece as they are.
 pub fn check_reading(
     alloc: Global,
     reading: Reading,
@@ -104,14 +88,6 @@ pub fn check_reading(
         ([bytes], fault) => check_front(task, bytes.as_slice(), fault, outcome),
         _ => check_script(task, &script, outcome),
     }
-}
-
-/// The items that are read of these bytes, each after a semicolon.
-pub fn items_after(alloc: Global, encoding: Encoding, bytes: &[u8]) -> Result<String, AllocError> {
-    let mut input = bytes;
-    let items = whole_items(alloc, encoding, &mut input)?;
-    let items = joined(alloc, Reading::Items, items.as_slice())?;
-    format!(in alloc; "; {items}")
 }
 
 fn check_bytes(task: Task, bytes: &[u8], outcome: &mut Outcome) -> Result<(), Halt> {

@@ -21,11 +21,11 @@ use std::alloc::{AllocError, Global};
 pub struct Answer {
     /// What it prints: texts in UTF-8, or the bytes of an edited source.
     pub text: Vec<u8>,
-    /// 0, or 1 where nothing is found that was asked for, or a check finds something.
+    /// 0, or 1 if nothing is found that was asked for, or a check finds something.
     pub status: u8,
 }
 
-/// The name of a source in messages: its path, or `standard input`.
+/// Returns the name of a source in messages: its path, or `standard input`.
 ///
 /// ```text
 /// assert_eq!(rt; name(&Source::StandardInput), "standard input");
@@ -39,11 +39,11 @@ pub fn name(source: &Source) -> &str
     }
 }
 
-/// The answer of a command to a source. Its status is 1 where no pair has the key and there is no default, where no key
-/// is listed, or where the check finds something.
+/// Returns what a command gives for a source. The status is 1 if no pair has the key and there is no default, if no key
+/// is listed, or if the check finds something.
 ///
 /// ```text
-/// // Where the work is to get the key `port`:
+/// // If the work is to get the key `port`:
 /// let answer = answer_to(alloc, &work, b"port = 80\n")?;
 /// // The text is `80` and a line feed, and the status is 0.
 /// ```
@@ -64,7 +64,7 @@ pub fn answer_to(alloc: Global, work: &Work, source: &[u8]) -> Result<Answer, Fa
     }
 }
 
-// What is wrong in a source. The status is 1 where something is.
+// Returns what is wrong in a source. The status is 1 if anything is.
 fn check(alloc: Global, name: &str, source: &[u8], encoding: Encoding) -> Result<Answer, Failure>
     ensures { Checks name.now (encoding_of encoding) source.now result }
 {
@@ -73,7 +73,7 @@ fn check(alloc: Global, name: &str, source: &[u8], encoding: Encoding) -> Result
     Ok(Answer { text, status })
 }
 
-// A source after edits.
+// Returns a source after edits.
 fn changed(
     alloc: Global,
     source: &[u8],

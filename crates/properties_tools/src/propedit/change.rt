@@ -9,15 +9,15 @@ use crate::propedit::source::refuse_unsound;
 use java_properties::{Edit, Encoding, edit_all};
 use std::alloc::Global;
 
-/// The bytes of a source after edits, made in order.
+/// Returns the bytes of a source after edits, which are made in order.
 ///
-/// A source that is not UTF-8 though that is in force, or that has a malformed escape, is refused, and then one in an
-/// encoding that is not edited.
+/// It refuses a source that is not UTF-8 though that is in force, or that has a malformed escape, and then one in
+/// UTF-16.
 ///
 /// ```text
 /// let edits = vec![in alloc; Edit::SetValue(port, value)]?;
 /// let bytes = change(alloc, b"# the front door\nport = 80\n", Encoding::UTF_8, &edits)?;
-/// // Where the value is `8080`: `# the front door`, a line feed, `port = 8080` and a line feed.
+/// // If the value is `8080`: `# the front door`, a line feed, `port = 8080` and a line feed.
 /// ```
 pub fn change(
     alloc: Global,

@@ -30,11 +30,11 @@ enum Fault {
     Repeats(usize),
 }
 
-/// What is wrong in a source, one finding a line, in the order of the lines: those that are not UTF-8 where that is in
-/// force, the malformed escapes, and the pairs that repeat a key. It is empty where nothing is wrong. It fails only if
-/// memory runs out.
+/// Returns what is wrong in a source, a line for each finding, in the order of the source's lines: lines that are not
+/// UTF-8 though that is in force, malformed escapes, and pairs that repeat a key. The text is empty if nothing is
+/// wrong. Fails only if memory runs out.
 ///
-/// Where a line is not UTF-8, a key with U+FFFD repeats no other, since that character may stand for any bytes.
+/// If a line is not UTF-8, a key with U+FFFD repeats no other, since that character may stand for any bytes.
 ///
 /// ```text
 /// let text = report(alloc, "my.properties", b"# C:\\users\na=1\na=\xe9", Encoding::UTF_8)?;
@@ -137,7 +137,7 @@ fn may_stand_for_bytes(key: &str) -> bool
     false
 }
 
-// Puts the findings in the order of their lines, and leaves those of one line in theirs.
+// Sorts the findings by line. Those of one line keep their order.
 fn sort(findings: &mut Vec<Finding>) -> Result<(), AllocError>
     ensures { OnOk result (ArrangesByLine findings.old.items findings.new.items) }
 {

@@ -10,10 +10,10 @@ use java_properties::{ErrorKind, MalformedEscape, PropertiesError};
 use std::alloc::{AllocError, Global};
 use std::io;
 
-/// What messages name where the result can't be written.
+/// What messages name if the result can't be written.
 pub const STANDARD_OUTPUT: &str = "standard output";
 
-/// What is printed where there is no memory for a message.
+/// What is printed if there is no memory for a message.
 pub(crate) const NO_MEMORY: &str = "propedit: Out of memory.\n";
 
 const NOT_UTF_8: &str = "not UTF-8; -e windows-1252 reads it";
@@ -67,7 +67,7 @@ impl From<AllocError> for Failure {
 }
 
 impl Failure {
-    // What a message names: the source of this name, or standard output.
+    // Returns what a message names: the source of this name, or standard output.
     fn place<'a>(&self, name: &'a str) -> &'a str
         ensures { result.now ≡ place_of name.now self.now }
     {
@@ -77,7 +77,7 @@ impl Failure {
         }
     }
 
-    // The number of its line, where it is of one.
+    // Returns the number of its line, if it has one.
     fn line_number(&self) -> Option<usize>
         ensures { result ≡ number_of self.now }
     {
@@ -100,11 +100,11 @@ impl Failure {
     }
 }
 
-/// Prints a failure on `errors` as the line `propedit: NAME:LINE: REASON`, or `propedit: NAME: REASON` where it is of no
-/// line, and flushes it. Where there is no memory for that line it says so instead. What can't be printed is dropped.
+/// Prints a failure on `errors` as the line `propedit: NAME:LINE: REASON`, or `propedit: NAME: REASON` if it has no
+/// line, and flushes it. If memory runs out for that text, the line says so instead. What can't be printed is dropped.
 ///
-/// The name is that of the source; `standard output` replaces it where the result can't be written. The reason is in
-/// words, or the stream's own error.
+/// The name is that of the source, or `standard output` if the result can't be written. The reason is in words, or the
+/// stream's own error.
 ///
 /// ```text
 /// let mut errors = Counted::new(Vec::new(alloc));
@@ -121,7 +121,7 @@ pub fn say_failure<E: CountedWrite>(alloc: Global, errors: &mut E, name: &str, f
     }
 }
 
-// The line that is printed.
+// Returns the line to print.
 fn message(alloc: Global, name: &str, failure: &Failure) -> Result<String, AllocError>
     ensures { IfOk result (λ line. IsMessageLine name.now failure.now (string_bytes line)) }
 {

@@ -14,10 +14,10 @@ use crate::propedit::source::refuse_unsound;
 use java_properties::{Encoding, PropertiesError, read_sorted};
 use std::alloc::{AllocError, Global};
 
-/// The last value of a key, or the default where no pair has the key, and the byte that ends it. Where there is neither,
-/// the text is empty, and the status is 1.
+/// Returns the last value of a key, or the default if no pair has the key, and the byte that ends it. If there is
+/// neither, the text is empty and the status is 1.
 ///
-/// A source that is not UTF-8 though that is in force, or that has a malformed escape, is refused.
+/// It refuses a source that is not UTF-8 though that is in force, or that has a malformed escape.
 ///
 /// ```text
 /// let answer = get(alloc, b"b = 1\nb = 2", Encoding::UTF_8, "b", None, TextEnd::LineFeed)?;
@@ -42,7 +42,7 @@ pub fn get(
     Ok(answer)
 }
 
-// The last value of a key, where a pair has it.
+// Returns the last value of a key, if a pair has it.
 fn look_up(
     alloc: Global,
     source: &[u8],
@@ -56,7 +56,7 @@ fn look_up(
     Ok(map.remove(key))
 }
 
-// A text with the byte that ends it, or nothing and the status 1.
+// Returns a text with the byte that ends it, or no text and the status 1.
 fn answer_of(alloc: Global, text: Option<&str>, end: TextEnd) -> Result<Answer, AllocError>
     ensures { IfOk result (Prints end (option_map borrowed_characters text.entry)) }
 {

@@ -19,11 +19,11 @@ use std::os::unix::io::AsFd;
 
 /// Edits a file in place, and returns the exit status: 0, or 2 after an error, which is printed on `errors` as a line.
 ///
-/// The file is replaced whole, or stays as it is. Nothing is written where the edits change nothing. A file that is missing
-/// and to be made is taken as empty. What can't be printed is dropped.
+/// The file is replaced whole, or stays as it is. Nothing is written if the edits change nothing. A missing file that
+/// may be created counts as empty. What can't be printed is dropped.
 ///
 /// ```text
-/// // Where the request is to remove a key of a file:
+/// // If the request is to remove a key of a file:
 /// edit_file(&rt, alloc, &file, &mut errors); // 0
 /// ```
 pub fn edit_file<E: CountedWrite>(
@@ -85,7 +85,7 @@ fn fail_to_replace<E: CountedWrite>(
     2
 }
 
-// The line that is printed then.
+// Returns the line to print.
 fn problem_line(alloc: Global, path: &str, error: &ReplaceError) -> Result<String, AllocError>
     ensures { IfOk result (λ line. IsProblemLine path.now error.now (string_bytes line)) }
 {
@@ -105,7 +105,7 @@ pub struct Original {
     path: String,
     // The name of the file that is to take its place.
     temporary: String,
-    // Nothing where there was no file.
+    // `None` if there was no file.
     seen: Option<Seen>,
 }
 
@@ -117,7 +117,7 @@ struct Seen {
 }
 
 impl Original {
-    /// Reads a regular file. Of a symbolic link it is the target. A missing file that is to be made has no bytes.
+    /// Reads a regular file, or the target of a symbolic link. A missing file that may be created has no bytes.
     pub fn read(
         rt: &HostRuntime,
         alloc: Global,
@@ -141,7 +141,7 @@ impl Original {
         })
     }
 
-    /// What was read.
+    /// Returns the bytes that were read.
     pub fn bytes(&self) -> &[u8] {
         match &self.seen {
             Some(seen) => seen.bytes.as_slice(),
@@ -151,8 +151,8 @@ impl Original {
 
     /// Replaces the file by these bytes, whole or not at all. Its owner, its group and its mode stay.
     ///
-    /// They go to a new file beside it, named as it is with `.propedit` after it, which then takes its name. Whoever opens
-    /// the file has the old bytes or the new ones, and never a part.
+    /// They go to a new file beside it, named as it is with `.propedit` after it, which then takes its name. Whoever
+    /// opens the file has the old bytes or the new ones, and never a part.
     pub fn replace(
         self,
         rt: &HostRuntime,
@@ -204,8 +204,8 @@ impl Original {
         }
     }
 
-    // A new file has the mode that the system gives it. Until another one has the mode of the old file, nobody else may
-    // read it.
+    // Returns the mode to create the file with. A new file gets the mode that the system gives it. One that replaces a
+    // file may be read by nobody else until it has that file's mode.
     fn first_mode(&self) -> u32 {
         match self.seen {
             Some(_) => 0o600,
@@ -213,7 +213,7 @@ impl Original {
         }
     }
 
-    // Makes a new file what the old one is to be, on the disk.
+    // Writes the new file to the disk, with the attributes of the old one.
     fn fill(&self, mut file: File, made: &Metadata, bytes: &[u8]) -> Result<(), Problem> {
         if let Err(error) = file.write_all(bytes) {
             return Err(Problem::Unwritten(error));
@@ -227,7 +227,7 @@ impl Original {
         }
     }
 
-    // Whether the old file is still as it was read, or still missing.
+    // Fails unless the old file is still as it was read, or still missing.
     fn check_unchanged(&self, rt: &HostRuntime, alloc: Global) -> Result<(), Problem> {
         let is_same = match &self.seen {
             Some(seen) => match look_at(rt, alloc, self.path.as_str()) {
@@ -245,7 +245,7 @@ impl Original {
         Err(Problem::Changed)
     }
 
-    // Whether the file of the new name is still the one that was made.
+    // Returns whether the file of the new name is still the one that was made.
     fn is_made(&self, rt: &HostRuntime, made: &Metadata) -> bool {
         match fs::symlink_metadata(rt, self.temporary.as_str()) {
             Ok(now) => is_same_file(&now, made),
@@ -291,7 +291,7 @@ fn keep_mode(file: &File, old: &Metadata) -> io::Result<()> {
     Err(io::Error::from(ErrorKind::PermissionDenied))
 }
 
-// Whether nothing has this name, not even a link whose target is missing.
+// Returns whether nothing has this name, not even a link whose target is missing.
 fn is_missing(rt: &HostRuntime, path: &str) -> io::Result<bool> {
     match fs::symlink_metadata(rt, path) {
         Ok(_) => Ok(false),
@@ -300,7 +300,7 @@ fn is_missing(rt: &HostRuntime, path: &str) -> io::Result<bool> {
     }
 }
 
-// The path of the target, where it is a symbolic link.
+// Returns the path of the target if it is a symbolic link, and the path itself otherwise.
 fn resolve(rt: &HostRuntime, alloc: Global, path: &str) -> io::Result<String> {
     if fs::symlink_metadata(rt, path)?.is_symlink() {
         return Ok(fs::canonicalize(rt, path)?.into_string());
@@ -340,7 +340,7 @@ fn is_same_file(one: &Metadata, other: &Metadata) -> bool {
     one.dev() == other.dev() && one.ino() == other.ino()
 }
 
-// A new file, where nothing has this name.
+// Creates a file. Fails if anything has this name.
 fn create(rt: &HostRuntime, path: &str, mode: u32) -> io::Result<File> {
     OpenOptions::new()
         .write(true)
@@ -351,7 +351,7 @@ fn create(rt: &HostRuntime, path: &str, mode: u32) -> io::Result<File> {
 
 /// Why a file was not replaced.
 ///
-/// It prints what failed, the error of the system, and the name of the new file where it couldn't be removed.
+/// It prints what failed, the error of the system, and the name of the new file if it couldn't be removed.
 #[derive(Debug, Drop)]
 pub struct ReplaceError {
     problem: Problem,

@@ -11,8 +11,8 @@ use properties_lines::scanner::{RawLine, Scan, Scanner};
 use properties_text::encoding::byte_order_mark::{ByteOrderMark, byte_order_mark};
 use std::alloc::{AllocError, Global};
 
-/// The numbers of the natural lines that are not well-formed UTF-8, in order. There is none where another encoding is in
-/// force. It fails only if memory runs out.
+/// Returns the numbers of the natural lines that are not well-formed UTF-8, in order, and none if another encoding is
+/// in force. Fails only if memory runs out.
 ///
 /// ```text
 /// let numbers = ill_formed_lines(alloc, b"a=1\nb=caf\xe9\n", Encoding::UTF_8)?; // line 2
@@ -30,7 +30,7 @@ pub fn ill_formed_lines(
     }
 }
 
-// The bytes after a byte order mark, where UTF-8 is in force.
+// Returns the bytes after a byte order mark, if UTF-8 is in force.
 fn utf_8_body(source: &[u8], encoding: Encoding) -> Option<&[u8]>
     ensures { IsUtf8Body (encoding_of encoding) source.now result }
 {
@@ -44,7 +44,7 @@ fn utf_8_body(source: &[u8], encoding: Encoding) -> Option<&[u8]>
     }
 }
 
-// The numbers of the lines of a body in UTF-8 that are not well-formed.
+// Returns the numbers of the lines of a body in UTF-8 that are not well-formed.
 fn ill_formed_in(alloc: Global, body: &[u8]) -> Result<Vec<usize>, PropertiesError>
     ensures { FindsIllFormedIn body.now result }
 {
@@ -56,7 +56,7 @@ fn ill_formed_in(alloc: Global, body: &[u8]) -> Result<Vec<usize>, PropertiesErr
                 push_if_ill_formed(&mut numbers, body, scanner.number(), scanner.line())?;
             }
             Scan::End => return Ok(numbers),
-            // No slice has so many lines.
+            // No slice has that many lines.
             Scan::TooMany => unreachable!(),
             Scan::More => unreachable!(),
         }

@@ -13,10 +13,10 @@ use crate::propedit::source::{keys_in, refuse_unsound};
 use java_properties::{Encoding, KeyLine};
 use std::alloc::{AllocError, Global};
 
-/// The keys that begin with a prefix, each once and with the byte that ends it, in the order of their first pairs. Where
-/// there is none, the status is 1.
+/// Returns the keys that begin with a prefix, each once and with the byte that ends it, in the order of their first
+/// pairs. If there is none, the status is 1.
 ///
-/// A source that is not UTF-8 though that is in force, or that has a malformed escape, is refused.
+/// It refuses a source that is not UTF-8 though that is in force, or that has a malformed escape.
 ///
 /// ```text
 /// let answer = list(alloc, b"b = 1\na = 2\nb = 3", Encoding::UTF_8, "", TextEnd::LineFeed)?;
@@ -36,14 +36,14 @@ pub fn list(
     Ok(listed(alloc, &keys, prefix, end)?)
 }
 
-// Whether no pair before has the key, and it begins with the prefix.
+// Returns whether no pair before has the key, and the key begins with the prefix.
 fn is_listed(key: &KeyLine, prefix: &str) -> bool
     ensures { result ≡ is_key_listed (chars prefix.now) (key_line_entry key.now) }
 {
     key.first == key.line_number && key.key.as_str().starts_with(prefix)
 }
 
-// Those of the keys that are listed, and the status.
+// Returns the keys that are listed, and the status.
 fn listed(alloc: Global, keys: &[KeyLine], prefix: &str, end: TextEnd) -> Result<Answer, AllocError>
     ensures { IfOk result (PrintsKeys end (chars prefix.now) (key_line_entries keys.now)) }
 {

@@ -10,8 +10,8 @@ use java_properties::{
 };
 use std::alloc::Global;
 
-/// Refuses a source that has a line that is not UTF-8 where that is in force, or else a malformed escape. The failure has
-/// the first of them.
+/// Refuses a source that has a line that is not UTF-8 though that is in force, or else a malformed escape. The failure
+/// has the first of them.
 pub fn refuse_unsound(alloc: Global, source: &[u8], encoding: Encoding) -> Result<(), Failure>
     ensures { RefusesUnsound (encoding_of encoding) source.now result }
 {
@@ -26,7 +26,7 @@ pub fn refuse_unsound(alloc: Global, source: &[u8], encoding: Encoding) -> Resul
     }
 }
 
-// The line of this number is not UTF-8.
+// Returns the failure of a line that is not UTF-8.
 fn not_utf_8(source: &[u8], number: usize) -> Failure
     ensures { IsNotUtf8 source.now number result }
 {
@@ -37,7 +37,7 @@ fn not_utf_8(source: &[u8], number: usize) -> Failure
     }
 }
 
-/// The first malformed escape of each logical line that has one, in order. It fails only if memory runs out.
+/// Returns the first malformed escape of each logical line that has one, in order. Fails only if memory runs out.
 pub fn malformed_in(
     alloc: Global,
     source: &[u8],
@@ -49,8 +49,8 @@ pub fn malformed_in(
     malformed_escapes(alloc, &mut input, encoding)
 }
 
-/// The key of each pair, in order, with its line and the line of the first pair with it. A pair with a malformed escape
-/// is left out. It fails only if memory runs out.
+/// Returns the key of each pair, in order, with its line and the line of the first pair with it. A pair with a
+/// malformed escape is left out. Fails only if memory runs out.
 pub fn keys_in(
     alloc: Global,
     source: &[u8],

@@ -1,12 +1,11 @@
 // Documents that stay open while they are changed.
 
-use crate::notation::{Clause, Halt, quoted};
-use crate::outcome::Outcome;
-use crate::reading::items_after;
-use crate::shown::{compare, error_text, reading_of};
-use crate::writing::text;
+use crate::items::items_after;
 use java_properties::{Document, Encoding, LineContent, read_lines, read_sorted};
 use std::alloc::{AllocError, Global};
+use vector_notation::notation::{Clause, Halt, quoted, text};
+use vector_notation::outcome::Outcome;
+use vector_notation::shown::{compare, error_text, reading_of};
 
 /// The document is its source, and then what its changes make of it. Returns what is seen of it besides its bytes: the
 /// values that are asked for, and what is read of the bytes.

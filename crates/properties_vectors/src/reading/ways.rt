@@ -1,13 +1,11 @@
 // The ways to read an input.
 
-use super::items::Item;
-use crate::notation::Halt;
+use crate::items::{Item, whole_items};
 use counted_io::CountedRead;
-use java_properties::{
-    Encoding, Line, PropertiesError, PropertiesIter, Stopped, read, read_lines, read_sorted,
-};
+use java_properties::{Encoding, Line, PropertiesError, PropertiesIter, read, read_sorted};
 use std::alloc::{AllocError, Global};
 use std::collections::BTreeMap;
+use vector_notation::notation::Halt;
 
 /// How an input is read.
 #[derive(Clone, Copy, Debug)]
@@ -36,30 +34,6 @@ pub fn read_by<R: CountedRead>(
         _ => return read_by_iterator(alloc, encoding, input, way),
     };
     Ok((items, input))
-}
-
-/// The items that `read_lines` gives, and its error.
-pub fn whole_items<R: CountedRead>(
-    alloc: Global,
-    encoding: Encoding,
-    input: &mut R,
-) -> Result<Vec<Item>, AllocError> {
-    match read_lines(alloc, input, encoding) {
-        Ok(lines) => items_of(alloc, lines.as_slice()),
-        Err(Stopped { lines, error }) => {
-            let mut items = items_of(alloc, lines.as_slice())?;
-            items.push(Item::of_error(alloc, &error)?)?;
-            Ok(items)
-        }
-    }
-}
-
-fn items_of(alloc: Global, lines: &[Line]) -> Result<Vec<Item>, AllocError> {
-    let mut items = Vec::new(alloc);
-    for line in lines {
-        items.push(Item::of_line(alloc, line)?)?;
-    }
-    Ok(items)
 }
 
 // The pairs of a map from `read`, sorted, or its error.

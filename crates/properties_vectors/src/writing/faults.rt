@@ -1,14 +1,14 @@
 // Sinks that take little and fail at each of the writes that calls make.
 
 use super::lists::{check_lists, copied};
-use super::sinks::{Cut, FAULTS, Sink, cut_at, fault_text};
 use super::{Words, Written, shown_calls, write};
-use crate::notation::{Clause, Halt};
-use crate::outcome::Outcome;
-use crate::shown::reading_of;
 use counted_io::SinkFault;
 use java_properties::Encoding;
 use std::alloc::{AllocError, Global};
+use vector_notation::notation::{Clause, Halt};
+use vector_notation::outcome::Outcome;
+use vector_notation::shown::reading_of;
+use vector_notation::sinks::{Cut, FAULTS, Sink, cut_at, fault_text};
 
 /// The line in which a write fails is named, and after it no call touches the sink.
 pub fn check_faults(

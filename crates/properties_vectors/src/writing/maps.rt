@@ -1,14 +1,14 @@
 // Maps that are written whole, each pair a clause.
 
-use super::sinks::{FAULTS, ROOMY, Sink, cut_at, fault_text, front_sink};
-use super::{owned, shown_calls};
-use crate::notation::{Clause, Halt};
-use crate::outcome::Outcome;
-use crate::shown::{compare, error_text};
+use super::shown_calls;
 use counted_io::ScriptedSink;
 use java_properties::{Encoding, read, read_sorted, write, write_sorted};
 use std::alloc::{AllocError, Global};
 use std::collections::{BTreeMap, HashMap};
+use vector_notation::notation::{Clause, Halt, owned};
+use vector_notation::outcome::Outcome;
+use vector_notation::shown::{compare, error_text};
+use vector_notation::sinks::{FAULTS, ROOMY, Sink, cut_at, fault_text, front_sink};
 
 // How a map is written.
 #[derive(Clone, Copy, Debug, PartialEq, Eq)]

@@ -20,7 +20,7 @@ pub struct Sink {
     flush_fault: Option<io::ErrorKind>,
 }
 
-/// It takes all.
+/// A sink that takes everything.
 pub const ROOMY: Sink = Sink {
     most: usize::MAX,
     fault: None,
@@ -28,7 +28,7 @@ pub const ROOMY: Sink = Sink {
 };
 
 impl Sink {
-    /// A sink whose write of this number fails.
+    /// Returns a sink whose write of this number fails.
     pub fn failing(most: usize, fail_at: usize, how: SinkFault) -> Sink {
         Sink {
             most,
@@ -37,7 +37,7 @@ impl Sink {
         }
     }
 
-    /// A new sink of this kind.
+    /// Opens a sink of this kind.
     pub fn open(self, alloc: Global) -> ScriptedSink {
         let (fail_at, how) = match self.fault {
             Some((fail_at, how)) => (Some(fail_at), how),
@@ -49,8 +49,8 @@ impl Sink {
     }
 }
 
-/// The sink that a row begins with, as `sink 3 fault 2 Other`, `sink 1 fault 1 nothing` or `sink 2 flush Other`, where
-/// it begins with one, and the clauses after it.
+/// Returns the sink that a row begins with, if it begins with one, and the clauses after it. A sink is written as
+/// `sink 3 fault 2 Other`, `sink 1 fault 1 nothing` or `sink 2 flush Other`.
 pub fn front_sink(alloc: Global, clauses: &[Clause]) -> Result<(Option<Sink>, &[Clause]), Halt> {
     let [first, rest @ ..] = clauses else {
         return Err(Halt::Unreadable);
@@ -102,7 +102,7 @@ pub struct Cut {
     pub taken: usize,
 }
 
-/// Where the write of this number fails, of sends that end here and go out in pieces of `most` bytes at most.
+/// Returns where the write of this number fails, of sends that end here and go out in pieces of `most` bytes at most.
 pub fn cut_at(ends: &[usize], most: usize, fail_at: usize) -> Option<Cut> {
     let mut before = fail_at.saturating_sub(1);
     let mut taken = 0;
@@ -120,7 +120,7 @@ pub fn cut_at(ends: &[usize], most: usize, fail_at: usize) -> Option<Cut> {
     None
 }
 
-/// What is reported for a write that fails so in the line with this number.
+/// Returns what is reported for a write that fails so in the line with this number.
 pub fn fault_text(alloc: Global, line: usize, how: SinkFault) -> Result<String, Halt> {
     Ok(match how {
         SinkFault::Fault(kind) => format!(in alloc; "Io in line {line} by {kind:?}")?,

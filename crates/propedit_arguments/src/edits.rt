@@ -2,13 +2,13 @@
 
 ghost use Rattle.std.specs.Prelude.{◌∷◌, ◌≡◌, codes, map, string_bytes, IfOk};
 ghost use Rattle.java_properties.specs.Editing.{edit_in};
-ghost use Rattle.properties_tools.specs.Private.Propedit.Asked.{borrowed_edit, in_characters, GivesEdits, TakesEdit};
+ghost use Rattle.propedit_arguments.specs.Private.Edits.{borrowed_edit, in_characters, GivesEdits, TakesEdit};
 
-use crate::propedit::asked::mistake::Mistake;
+use crate::mistake::Mistake;
 use java_properties::Edit;
 use std::alloc::{AllocError, Global};
 
-/// Returns the edits that the words are, in order. Where they are none, the mistake names the word.
+/// Returns the edits that the words are, in order. If they are no edits, the mistake names the wrong word.
 pub fn edits_in<'a>(alloc: Global, words: &'a [String]) -> Result<Vec<Edit>, Mistake<'a>>
     ensures { GivesEdits (map string_bytes words.now) result }
 {
@@ -40,7 +40,7 @@ impl BorrowedEdit<'_> {
     }
 }
 
-// The edit that the words begin with, and the words after it.
+// Returns the edit that the words begin with, and the words after it.
 fn next_edit<'a>(words: &'a [String]) -> Result<(BorrowedEdit<'a>, &'a [String]), Mistake<'a>>
     ensures { TakesEdit (map string_bytes words.now) result }
 {
@@ -54,7 +54,7 @@ fn next_edit<'a>(words: &'a [String]) -> Result<(BorrowedEdit<'a>, &'a [String])
     }
 }
 
-// The setting of a key, whose words are the first of these, and the words after it.
+// Returns the setting of a key, whose words are the first of these, and the words after it.
 fn next_set<'a>(words: &'a [String]) -> Result<(BorrowedEdit<'a>, &'a [String]), Mistake<'a>>
     ensures { TakesEdit (codes "set" ∷ map string_bytes words.now) result }
 {
@@ -65,7 +65,7 @@ fn next_set<'a>(words: &'a [String]) -> Result<(BorrowedEdit<'a>, &'a [String]),
     }
 }
 
-// The removal of a key, which is the first of these words, and the words after it.
+// Returns the removal of a key, which is the first of these words, and the words after it.
 fn next_removal<'a>(words: &'a [String]) -> Result<(BorrowedEdit<'a>, &'a [String]), Mistake<'a>>
     ensures { TakesEdit (codes "remove" ∷ map string_bytes words.now) result }
 {

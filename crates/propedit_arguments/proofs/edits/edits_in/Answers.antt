@@ -1,9 +1,9 @@
 use Rattle.std.proofs.Common.{map, sym, ◌∙◌}
 use Rattle.std.specs.Prelude.{string_bytes}
 use Rattle.java_properties.specs.Editing.{edits_in}
-use Rattle.properties_tools.specs.Private.Propedit.Asked.{borrowed_edit}
-use Rattle.properties_tools.proofs.Words.{made-more, no-edits, refused}
-use Rattle.properties_tools.proofs.propedit.asked.edits.edits_in.Goals as goal
+use Rattle.propedit_arguments.specs.Private.Edits.{borrowed_edit}
+use Rattle.propedit_arguments.proofs.Words.{made-more, no-edits, refused}
+use Rattle.propedit_arguments.proofs.edits.edits_in.Goals as goal
 
 pub returns-in_err-edit : goal.returns-in_err-edit
 returns-in_err-edit c =

@@ -4,7 +4,7 @@ use crate::outcome::Outcome;
 use java_properties::{Cause, Encoding, PropertiesError};
 use std::alloc::{AllocError, Global};
 
-/// Keeps what came in this way, where it isn't what is wanted.
+/// Keeps what came in this way, if it isn't what is wanted.
 pub fn compare(
     alloc: Global,
     outcome: &mut Outcome,
@@ -17,7 +17,7 @@ pub fn compare(
     Ok(())
 }
 
-/// All that an error says, as `Io in line 2 by StorageFull`.
+/// Returns all that an error says, as `Io in line 2 by StorageFull`.
 pub fn error_text(alloc: Global, error: &PropertiesError) -> Result<String, AllocError> {
     let mut text = format!(in alloc; "{:?}", error.kind())?;
     if let Some(number) = error.line_number() {
@@ -31,7 +31,7 @@ pub fn error_text(alloc: Global, error: &PropertiesError) -> Result<String, Allo
     Ok(text)
 }
 
-/// The encoding in which a clause, as `read utf-8`, has bytes read.
+/// Returns the encoding in which a clause, as `read utf-8`, has bytes read.
 pub fn reading_of(word: &str) -> Option<Encoding> {
     Encoding::from_name(word.strip_prefix("read ")?)
 }

@@ -5,6 +5,9 @@ use counted_io::{ScriptedReader, Tail};
 use std::alloc::{AllocError, Global};
 use std::io;
 
+/// The sizes of the pieces that each input comes in.
+pub const SIZES: [usize; 4] = [1, 2, 3, 1000];
+
 /// Pieces of an input, and what comes after them.
 #[derive(Drop)]
 pub struct Script {
@@ -13,7 +16,8 @@ pub struct Script {
 }
 
 impl Script {
-    /// Each clause is a text, which a number before it repeats. The last one may be `fault` with its kind.
+    /// Reads a script. Each clause is a text, which a number before it repeats. The last one may be `fault` with its
+    /// kind.
     pub fn new(alloc: Global, clauses: &[Clause]) -> Result<Script, Halt> {
         let mut pieces = Vec::new(alloc);
         let mut tail = Tail::End;
@@ -31,7 +35,7 @@ impl Script {
         Ok(Script { pieces, tail })
     }
 
-    /// These bytes in pieces of this size.
+    /// Returns the script of these bytes in pieces of this size.
     pub fn of_bytes(
         alloc: Global,
         bytes: &[u8],
@@ -45,7 +49,7 @@ impl Script {
         Ok(Script { pieces, tail })
     }
 
-    /// A reader that does as the script says.
+    /// Returns a reader that does what the script says.
     pub fn reader(&self, alloc: Global) -> Result<ScriptedReader, AllocError> {
         let mut pieces = Vec::new(alloc);
         for piece in self.pieces.as_slice() {

@@ -9,7 +9,7 @@ use std::fmt;
 pub enum Mistake<'a> {
     /// No encoding has this label.
     NoEncoding(&'a str),
-    /// This option is none of this command.
+    /// This command doesn't have this option.
     NotWith(&'static str, &'a str),
     /// This word is no edit.
     NoEdit(&'a str),
@@ -37,7 +37,7 @@ impl Mistake<'_> {
 
 impl From<AllocError> for Mistake<'_> {
     ghost use Rattle.std.specs.Prelude.{◌≡◌};
-    ghost use Rattle.properties_tools.specs.declared.propedit.asked.mistake.Mistake.TheVariants.{Memory};
+    ghost use Rattle.propedit_arguments.specs.declared.mistake.Mistake.TheVariants.{Memory};
 
     ghost from_gives = { λ _ mistake. mistake ≡ Memory };
 
@@ -48,7 +48,7 @@ impl From<AllocError> for Mistake<'_> {
 
 impl<T: Drop> From<AllocFailed<T>> for Mistake<'_> {
     ghost use Rattle.std.specs.Prelude.{◌≡◌};
-    ghost use Rattle.properties_tools.specs.declared.propedit.asked.mistake.Mistake.TheVariants.{Memory};
+    ghost use Rattle.propedit_arguments.specs.declared.mistake.Mistake.TheVariants.{Memory};
 
     ghost from_gives = { λ _ mistake. mistake ≡ Memory };
 

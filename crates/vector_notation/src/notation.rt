@@ -1,9 +1,11 @@
-// The left side of a row: clauses, which `;` separates, each a word and texts in quotes, of which either may be missing.
+// The left side of a row: clauses, which `;` separates, each a word and texts in quotes, of which either may be
+// missing.
 //
 // Texts have `\n`, `\r`, `\t`, `\f`, `\0`, `\\`, `\xHH` for a byte and `\u{..}` for a character. A quote in a text is
 // `\x22`, and a bar `\x7c`.
 
 use std::alloc::{AllocError, AllocFailed, Global};
+use std::str;
 
 /// What kept a row from being run.
 #[derive(Clone, Copy, Debug, PartialEq, Eq)]
@@ -48,7 +50,7 @@ impl Clause {
     }
 }
 
-/// The clauses of the left side of a row, which `;` separates.
+/// Returns the clauses of the left side of a row, which `;` separates.
 pub fn clauses(alloc: Global, side: &str) -> Result<Vec<Clause>, Halt> {
     let mut clauses = Vec::new(alloc);
     let mut clause = Clause::new(alloc);
@@ -153,8 +155,7 @@ fn push_character(alloc: Global, bytes: &mut Vec<u8>, character: char) -> Result
     bytes.extend_from_slice(text.as_bytes())
 }
 
-/// The text in quotes, as a right side has it. Where it begins with a thousand equal characters or more, these are
-/// counted.
+/// Returns the text in quotes, as a right side has it. A thousand equal characters or more at its front are counted.
 pub fn shown(alloc: Global, text: &str) -> Result<String, AllocError> {
     if let Some(first) = text.chars().next() {
         let rest = text.trim_start_matches(first);
@@ -166,7 +167,7 @@ pub fn shown(alloc: Global, text: &str) -> Result<String, AllocError> {
     format!(in alloc; "{text:?}")
 }
 
-/// The bytes in quotes, as a right side has them.
+/// Returns the bytes in quotes, as a right side has them.
 pub fn quoted(alloc: Global, bytes: &[u8]) -> Result<String, AllocError> {
     let mut text = String::from_str(alloc, "\"")?;
     for byte in bytes {
@@ -181,4 +182,14 @@ pub fn quoted(alloc: Global, bytes: &[u8]) -> Result<String, AllocError> {
     }
     text.push('"')?;
     Ok(text)
+}
+
+/// Returns the text that these bytes are.
+pub fn text(bytes: &Vec<u8>) -> Result<&str, Halt> {
+    str::from_utf8(bytes.as_slice()).or(Err(Halt::Unreadable))
+}
+
+/// Returns the text that these bytes are, as a string of its own.
+pub fn owned(alloc: Global, bytes: &Vec<u8>) -> Result<String, Halt> {
+    Ok(String::from_str(alloc, text(bytes)?)?)
 }

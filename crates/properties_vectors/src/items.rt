@@ -1,11 +1,24 @@
 // Items and errors, as a right side has them.
 
-use super::Reading;
-use crate::notation::shown;
-use crate::shown::error_text;
-use java_properties::{ErrorKind, Line, LineContent, PropertiesError};
+use counted_io::CountedRead;
+use java_properties::{
+    Encoding, ErrorKind, Line, LineContent, PropertiesError, Stopped, read_lines,
+};
 use std::alloc::{AllocError, Global};
 use std::io;
+use vector_notation::notation::shown;
+use vector_notation::shown::error_text;
+
+/// What is made of an input.
+#[derive(Clone, Copy)]
+pub enum Reading {
+    /// Items with the numbers of their lines.
+    Items,
+    /// The pairs that are handed over, one after another.
+    Pairs,
+    /// The last value of each key, or an error alone.
+    Map,
+}
 
 /// What an item is.
 #[derive(Clone, Copy, Debug, PartialEq, Eq)]
@@ -111,4 +124,36 @@ pub fn joined(alloc: Global, reading: Reading, items: &[Item]) -> Result<String,
         all.push_str("nothing")?;
     }
     Ok(all)
+}
+
+/// The items that `read_lines` gives, and its error.
+pub fn whole_items<R: CountedRead>(
+    alloc: Global,
+    encoding: Encoding,
+    input: &mut R,
+) -> Result<Vec<Item>, AllocError> {
+    match read_lines(alloc, input, encoding) {
+        Ok(lines) => items_of(alloc, lines.as_slice()),
+        Err(Stopped { lines, error }) => {
+            let mut items = items_of(alloc, lines.as_slice())?;
+            items.push(Item::of_error(alloc, &error)?)?;
+            Ok(items)
+        }
+    }
+}
+
+fn items_of(alloc: Global, lines: &[Line]) -> Result<Vec<Item>, AllocError> {
+    let mut items = Vec::new(alloc);
+    for line in lines {
+        items.push(Item::of_line(alloc, line)?)?;
+    }
+    Ok(items)
+}
+
+/// The items that are read of these bytes, each after a semicolon.
+pub fn items_after(alloc: Global, encoding: Encoding, bytes: &[u8]) -> Result<String, AllocError> {
+    let mut input = bytes;
+    let items = whole_items(alloc, encoding, &mut input)?;
+    let items = joined(alloc, Reading::Items, items.as_slice())?;
+    format!(in alloc; "; {items}")
 }

@@ -12,7 +12,7 @@ const STATUS: &str =
     "Reads standard input and prints on standard output, unless -f or -i says otherwise.\n\
     Status: 0 done or found, 1 not found or check found something, 2 wrong arguments or an error.";
 
-/// The command that parses the words after the program's name.
+/// Returns the command that parses the words after the program's name.
 pub fn command_line<'a>(alloc: Global) -> Result<Command<'a>, AllocError> {
     with_options(alloc, Command::new(alloc, "propedit"))?
         .about("Prints, checks and edits the keys of Java properties files")
@@ -131,12 +131,12 @@ fn remove<'a>(alloc: Global) -> Result<Command<'a>, AllocError> {
         .arg(words(alloc))
 }
 
-// A word that may begin with a dash.
+// Returns the argument for a word that may begin with a dash.
 fn word<'a>(alloc: Global, id: &'static str) -> Arg<'a> {
     Arg::new(alloc, id).allow_hyphen_values(true)
 }
 
-// All words that follow.
+// Returns the argument for all words that follow.
 fn words<'a>(alloc: Global) -> Arg<'a> {
     word(alloc, "WORD").num_args(0..).trailing_var_arg(true)
 }

@@ -9,8 +9,8 @@ use Rattle.std.proofs.lemmas.List.{length-map, map-append}
 use Rattle.properties_format.specs.Edits as format
 use Rattle.java_properties.specs.Editing.{edit_in, edits_in}
 use Rattle.properties_editing.specs.declared.edit.Edit as editor
-use Rattle.properties_tools.specs.Private.Propedit.Asked.{Edit, set, remove, in_characters, edit_words, words_of, AreWordsOfEdits, BeginNoEdit, GivesEdits}
-use Rattle.properties_tools.specs.declared.propedit.asked.mistake.Mistake.{Mistake}
+use Rattle.propedit_arguments.specs.Private.Edits.{Edit, set, remove, in_characters, edit_words, words_of, AreWordsOfEdits, BeginNoEdit, GivesEdits}
+use Rattle.propedit_arguments.specs.declared.mistake.Mistake.{Mistake}
 
 -- the words of one edit more
 words-more : (edits : List Edit) (edit : Edit) → words_of (edits ++ (edit ∷ [])) ≡ words_of edits ++ edit_words edit

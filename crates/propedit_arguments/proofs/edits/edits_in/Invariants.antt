@@ -1,8 +1,8 @@
 use Rattle.std.proofs.Common.{map, length}
 use Rattle.std.specs.Prelude.{string_bytes}
 use Rattle.java_properties.specs.Editing.{edits_in}
-use Rattle.properties_tools.proofs.Words.{HasMade}
-use Rattle.properties_tools.proofs.propedit.asked.edits.edits_in.Given as goal
+use Rattle.propedit_arguments.proofs.Words.{HasMade}
+use Rattle.propedit_arguments.proofs.edits.edits_in.Given as goal
 
 abbrev pub invariant-loop-rest : goal.invariant-loop-rest
 invariant-loop-rest l = HasMade (map string_bytes l.words) (edits_in l.edits.items) (map string_bytes l.rest)

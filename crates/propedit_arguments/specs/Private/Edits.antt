@@ -7,10 +7,10 @@ use Rattle.std.specs.declared.string.String.{String}
 use Rattle.properties_format.specs.Edits as format
 use Rattle.java_properties.specs.Editing.{edits_in}
 use Rattle.properties_editing.specs.declared.edit.Edit as editor
-use Rattle.properties_tools.specs.declared.propedit.asked.edits.BorrowedEdit.{BorrowedEdit}
-use Rattle.properties_tools.specs.declared.propedit.asked.edits.BorrowedEdit.TheVariants as Borrowed
-use Rattle.properties_tools.specs.declared.propedit.asked.mistake.Mistake.{Mistake}
-use Rattle.properties_tools.specs.declared.propedit.asked.mistake.Mistake.TheVariants.{Memory}
+use Rattle.propedit_arguments.specs.declared.edits.BorrowedEdit.{BorrowedEdit}
+use Rattle.propedit_arguments.specs.declared.edits.BorrowedEdit.TheVariants as Borrowed
+use Rattle.propedit_arguments.specs.declared.mistake.Mistake.{Mistake}
+use Rattle.propedit_arguments.specs.declared.mistake.Mistake.TheVariants.{Memory}
 
 -- Words and texts are their UTF-8.
 

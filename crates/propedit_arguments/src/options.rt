@@ -1,9 +1,9 @@
 // The options before a command.
 
-use crate::propedit::asked::mistake::Mistake;
-use crate::propedit::asked::{Command, Missing, Request, Source, TextEnd, Work};
+use crate::mistake::Mistake;
 use clap::ArgMatches;
 use java_properties::Encoding;
+use properties_tools::propedit::asked::{Command, Missing, Request, Source, TextEnd, Work};
 use std::alloc::Global;
 
 /// What the options choose for a command.
@@ -18,7 +18,7 @@ pub struct Options<'a> {
     pub end: TextEnd,
 }
 
-/// The options that were given before the command of this name.
+/// Returns the options before the command of this name.
 pub fn options_in<'a>(
     command: &'a str,
     matches: &ArgMatches<'a>,
@@ -42,7 +42,7 @@ fn missing(matches: &ArgMatches<'_>) -> Missing {
     }
 }
 
-// The encoding of this label, or UTF-8 where none is given.
+// Returns the encoding whose label is given, or UTF-8 if none is.
 fn encoding<'a>(matches: &ArgMatches<'a>) -> Result<Encoding, Mistake<'a>> {
     match matches.get_str("encoding") {
         Some(label) => match Encoding::for_label(label) {
@@ -85,7 +85,7 @@ impl<'a> Options<'a> {
         Ok(())
     }
 
-    /// The request for a command over the source that the options name.
+    /// Returns the request for a command over the source that the options name.
     pub fn work(&self, alloc: Global, command: Command) -> Result<Request, Mistake<'a>> {
         let source = match self.file {
             Some(path) => Source::File(String::from_str(alloc, path)?),
