@@ -23,8 +23,9 @@ use Rattle.properties_items.specs.contracts.line.LineContentHash.TheImpl.Laws as
 use Rattle.properties_items.specs.contracts.line.LineContentClone.TheImpl as content_clone
 use Rattle.properties_items.specs.contracts.line.LineClone.TheImpl as line_clone
 use Rattle.properties_items.specs.contracts.line.LineEndingPartialEq.TheImpl as ending_eq
+use Rattle.properties_items.specs.contracts.line.LineEndingOrd.TheImpl as ending_cmp
 use Rattle.properties_items.specs.contracts.line.LineEndingHash.TheImpl as ending_hash
-use Rattle.properties_items.specs.Line.{number_of, content_of, IsSameContent, IsSameLine, content_order, line_order}
+use Rattle.properties_items.specs.Line.{number_of, content_of, IsSameContent, IsSameLine, content_order, ending_place, line_order}
 
 -- ---- which comes first
 
@@ -46,6 +47,18 @@ content-cmp (KVPair k v) (KVPair l w) =
 -- `cmp` of two lines
 pub line-cmp : (x y : Line) → (line_cmp.ghosts).cmp x y ≡ line_order x y
 line-cmp x y = ap (ordering_then (nat_cmp (number_of x) (number_of y))) (content-cmp (content_of x) (content_of y))
+
+-- `cmp` of two line endings
+pub ending-cmp : (x y : LineEnding) → (ending_cmp.ghosts).cmp x y ≡ nat_cmp (ending_place x) (ending_place y)
+ending-cmp CR CR = refl
+ending-cmp CR LF = refl
+ending-cmp CR CRLF = refl
+ending-cmp LF CR = refl
+ending-cmp LF LF = refl
+ending-cmp LF CRLF = refl
+ending-cmp CRLF CR = refl
+ending-cmp CRLF LF = refl
+ending-cmp CRLF CRLF = refl
 
 -- ---- which are equal
 

@@ -7,6 +7,8 @@ use Rattle.std.specs.Cmp.Lexicographic.{slice_cmp}
 use Rattle.properties_items.specs.declared.line.LineContent.{LineContent}
 use Rattle.properties_items.specs.declared.line.LineContent.TheVariants.{Comment, KVPair}
 use Rattle.properties_items.specs.declared.line.Line.{Line}
+use Rattle.properties_items.specs.declared.line.LineEnding.{LineEnding}
+use Rattle.properties_items.specs.declared.line.LineEnding.TheVariants.{CR, LF, CRLF}
 
 -- the number of the line that the item begins in
 abbrev pub number_of : Line → ℕ
@@ -39,3 +41,9 @@ content_order = then_cmp (on rank nat_cmp) (on texts (slice_cmp (slice_cmp nat_c
 -- Lines are ordered by number, then by content.
 abbrev pub line_order : Line → Line → Ordering
 line_order = then_cmp (on number_of nat_cmp) (on content_of content_order)
+
+-- Line endings are ordered as they stand here.
+abbrev pub ending_place : LineEnding → ℕ
+ending_place CR = 0
+ending_place LF = 1
+ending_place CRLF = 2

@@ -11,7 +11,7 @@ use std::borrow::CowStr;
 /// The content of a borrowed line: a comment or a pair.
 ///
 /// A text without escapes is borrowed from the line that was read. A text with escapes is owned.
-#[derive(Drop)]
+#[derive(Debug, Drop)]
 pub enum ContentRef<'a> {
     /// The text of a comment, without the comment sign and without the blanks around the text.
     Comment(CowStr<'a>),
@@ -31,7 +31,7 @@ pub enum ContentRef<'a> {
 ///     }
 /// }
 /// ```
-#[derive(Drop)]
+#[derive(Debug, Drop)]
 pub struct LineRef<'a> {
     line_number: usize,
     content: ContentRef<'a>,

@@ -23,7 +23,7 @@ use std::{fmt, io};
 ///     println!(rt; "{}: {}", escape.line_number, escape.kind)?;
 /// }
 /// ```
-#[derive(Clone, Copy, Debug, PartialEq, Eq)]
+#[derive(Clone, Copy, Debug, PartialEq, Eq, PartialOrd, Ord, Hash)]
 pub enum ErrorKind {
     /// A read, a write or a flush failed.
     Io,

@@ -11,7 +11,7 @@ use crate::error::ErrorKind;
 ///     }
 /// }
 /// ```
-#[derive(Clone, Debug, PartialEq, Eq, Drop)]
+#[derive(Clone, Debug, PartialEq, Eq, PartialOrd, Ord, Hash, Drop)]
 pub struct KeyLine {
     /// The number of the pair's first natural line. Lines are numbered from 1.
     pub line_number: usize,
@@ -29,7 +29,7 @@ pub struct KeyLine {
 ///     println!(rt; "{name}:{}: {}", escape.line_number, escape.kind)?;
 /// }
 /// ```
-#[derive(Clone, Copy, Debug, PartialEq, Eq)]
+#[derive(Clone, Copy, Debug, PartialEq, Eq, PartialOrd, Ord, Hash)]
 pub struct MalformedEscape {
     /// The number of the logical line's first natural line. Lines are numbered from 1.
     pub line_number: usize,

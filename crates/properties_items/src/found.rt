@@ -25,19 +25,19 @@ use std::borrow::CowStr;
 ///
 /// It borrows nothing. It holds the positions of the texts in the line that the iterator keeps, and the texts whose
 /// escapes had to be resolved.
-#[derive(Drop)]
+#[derive(Debug, Drop)]
 pub struct Found {
     line_number: usize,
     content: FoundContent,
 }
 
-#[derive(Drop)]
+#[derive(Debug, Drop)]
 enum FoundContent {
     Comment(FoundText),
     KVPair(FoundText, FoundText),
 }
 
-#[derive(Drop)]
+#[derive(Debug, Drop)]
 struct FoundText {
     span: Span,
     // The text with its escapes resolved, if its slice of the line contains a backslash.

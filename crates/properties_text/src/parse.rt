@@ -12,7 +12,7 @@ use crate::characters::{is_blank, is_comment_sign, is_separator};
 use byte_blocks::{Blanks, Controls, Either, Except, Specials, find_in_block};
 
 /// The position of a part of a line, in bytes from the start of the line.
-#[derive(Clone, Copy)]
+#[derive(Clone, Copy, Debug)]
 pub struct Span {
     /// The index of its first byte.
     pub start: usize,
