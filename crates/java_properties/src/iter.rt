@@ -133,16 +133,17 @@ impl<R: CountedRead> PropertiesIter<R> {
     pub fn into_inner(self) -> R
         ensures { result ≡ self.reader }
     {
-        let PropertiesIter {
-            reader,
-            items: _,
-        } = self;
+        let PropertiesIter { reader, items: _ } = self;
         reader
     }
 }
 
 impl<R: CountedRead> Iterator for PropertiesIter<R> {
     type Item = Result<Line, PropertiesError>;
+
+    ghost next_gives = { λ old answer new. NextGives R.CountedRead old answer new };
+
+    ghost remaining = { λ it. at_most (lines_left it.state) };
 
     fn next(&mut self) -> Option<Result<Line, PropertiesError>> {
         self.items.next_item(&mut self.reader)
