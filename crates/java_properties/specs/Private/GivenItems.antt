@@ -24,6 +24,10 @@ use Rattle.properties_items.specs.declared.line.Line.{Line}
 unfoldable pub in_utf_8 : List ℕ → List ℕ
 in_utf_8 bytes = if is_utf8 bytes then bytes else []
 
+-- a joiner with its line as a text
+abbrev pub as_text : Joiner → Joiner
+as_text joiner = record { state = joiner.state; line = in_utf_8 joiner.line }
+
 -- The bytes that were read give this entry first, whatever comes after them, and then what the new state gives; or it
 -- is the last entry, and the input ended.
 pub data Gives (old : ReaderState) (bytes : List ℕ) (entry : Entry) (new : ReaderState) : Type 0 where

@@ -8,7 +8,7 @@ use Rattle.counted_io.specs.Streams.{reader}
 use Rattle.properties_lines.specs.LineReader.{lines_left}
 use Rattle.properties_lines.specs.LineJoiner.{Joiner, Joining, numbered_line}
 use Rattle.properties_items.specs.BorrowedItems.{found_content, IsFoundIn}
-use Rattle.java_properties.specs.Private.GivenItems.{in_utf_8, FindsItem}
+use Rattle.java_properties.specs.Private.GivenItems.{as_text, FindsItem}
 use Rattle.properties_items.specs.FoundItems.{IsNoItem}
 use Rattle.properties_items.specs.declared.found.Found.{Found}
 use Rattle.java_properties.proofs.Items.{kept-utf8, Passed, passed-start, passed-error, passed-no_item, gives-item, passed-blank, stopped}
@@ -28,13 +28,9 @@ loop-number-init g c =
       same_reader = refl;
     }
 
--- the line as the reader keeps it
-abbrev kept_line : Joiner → Joiner
-kept_line at = record { state = at.state; line = in_utf_8 at.line }
-
 -- an item that was found in the line is given,
 gives-found : (g : Over) (c : After-line-line g) (item : Found) → (item.line_number ≡ c.in-Some.number) × IsFoundIn c.line-line.result.now item
-    → FindsItem (reader g.R.Read g.R.CountedRead) c.args.self.now.state c.args.reader.now (Some (Ok item)) (kept_line c.next_text.new.self.at) c.next_text.new.reader
+    → FindsItem (reader g.R.Read g.R.CountedRead) c.args.self.now.state c.args.reader.now (Some (Ok item)) (as_text c.next_text.new.self.at) c.next_text.new.reader
 gives-found g c item found =
     let new = c.next_text.new.self.at in
     let kept : List ℕ → Joiner = λ v. record { state = new.state; line = v } in
