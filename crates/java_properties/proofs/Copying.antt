@@ -98,16 +98,16 @@ module _ {R W : Type 0} {reader : Reader R} {sink : Sink W} {old : Reading R} {w
   module _ {to : R} {so_far : Writing W} (before lines : Joining) (next : R) (h : IsCopiedTo reader sink old writer before.at.state to so_far)
       (quiet : before.error ≡ None) (joins : JoinsNoLine reader before to lines next) where
     -- no more lines come
-    pub copied-all : lines.error ≡ None → Copies reader sink old writer (Ok tt) (record { reader = next; state = lines.at.state; line = lines.at.line }) so_far
-    copied-all none =
+    pub copied-all : (bytes : List ℕ) → lines.error ≡ None → Copies reader sink old writer (Ok tt) (record { reader = next; state = lines.at.state; line = bytes }) so_far
+    copied-all bytes none =
         let end = ended joins none in
         let state = ap (λ (l : Joining). l.at.state) end.1 in
         h.along _ _ _ (Copies.ends refl (record { gives = state-none (passed-none h.passed end.0 state end.2); same = refl }))
 
     -- or the next one couldn't be read
-    pub copied-error : (why : LineError) (error : PropertiesError) → lines.error ≡ Some why → IsLineError why error
-        → Copies reader sink old writer (Err (Read error)) (record { reader = next; state = lines.at.state; line = lines.at.line }) so_far
-    copied-error why error kept says =
+    pub copied-error : (bytes : List ℕ) (why : LineError) (error : PropertiesError) → lines.error ≡ Some why → IsLineError why error
+        → Copies reader sink old writer (Err (Read error)) (record { reader = next; state = lines.at.state; line = bytes }) so_far
+    copied-error bytes why error kept says =
         let stop = stopped joins quiet kept in
         let p = passed-error h.passed stop.0 (record { why = why; last = lines.at.state; joins = stop.2; is = says }) in
         h.along _ _ _ (Copies.stops_reading error refl (record { live = p.0; done = stop.1; why = state-error (inr p.1); same = refl }))

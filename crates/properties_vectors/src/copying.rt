@@ -161,7 +161,7 @@ fn copy_all<R: CountedRead, W: CountedWrite>(
     let mut errors = String::new(alloc);
     for _ in 0..u64::MAX {
         let came = match way {
-            CopyWay::CopyPairs => copy_rest(&mut *items, &mut *writer),
+            CopyWay::CopyPairs => copy_pairs(&mut *items, &mut *writer),
             CopyWay::AdvanceAndWrite => write_next(&mut *items, &mut *writer),
         };
         match came {
@@ -186,8 +186,7 @@ fn error_shown(alloc: Global, error: &CopyError) -> Result<String, AllocError> {
     }
 }
 
-// Returns `None` if all items were copied.
-fn copy_rest<R: CountedRead, W: CountedWrite>(
+fn copy_pairs<R: CountedRead, W: CountedWrite>(
     items: &mut PropertiesIter<R>,
     writer: &mut PropertiesWriter<W>,
 ) -> Option<Result<(), CopyError>> {
@@ -197,7 +196,6 @@ fn copy_rest<R: CountedRead, W: CountedWrite>(
     }
 }
 
-// Returns `None` if no item comes.
 fn write_next<R: CountedRead, W: CountedWrite>(
     items: &mut PropertiesIter<R>,
     writer: &mut PropertiesWriter<W>,

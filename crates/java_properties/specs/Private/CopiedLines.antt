@@ -11,13 +11,14 @@ use Rattle.properties_lines.specs.LineJoiner.{Joiner}
 use Rattle.java_properties.specs.Copying.{HasScalars}
 use Rattle.java_properties.specs.PropertiesIter.{Reading}
 use Rattle.java_properties.specs.Private.Engine.{line_bytes, NumbersLine, HasNoNumber}
+use Rattle.java_properties.specs.Private.GivenItems.{in_utf_8}
 use Rattle.java_properties.specs.declared.copy.Built.{Built}
 use Rattle.java_properties.specs.declared.copy.Built.TheVariants.{Nothing, Line, Refused}
 use Rattle.java_properties.specs.declared.writer.engine.Engine.{Engine}
 
 -- the iterator that a joiner and a reader form
 abbrev pub reading : {R : Type 0} → Joiner → R → Reading R
-reading joiner reader = record { reader = reader; state = joiner.state; line = joiner.line }
+reading joiner reader = record { reader = reader; state = joiner.state; line = in_utf_8 joiner.line }
 
 -- A line of this text is a pair. The engine built its line, and accepts it or doesn't.
 pub record HasBuilt (text : List ℕ) (accepted : Bool) (w : Engine) : Type 0 where
