@@ -1,6 +1,7 @@
 -- How items are copied one after another.
-use Rattle.std.proofs.Common.{◌≡◌, ℕ, List, [], ◌++◌, refl, sym, ap, ◌∙◌, subst, inl, inr}
-use Rattle.std.specs.Prelude.{◌⊎◌, true, None, Some, Result, Ok, Err}
+use Rattle.std.proofs.Common.{◌≡◌, ◌<◌, ◌^◌, ℕ, List, [], ◌++◌, refl, ap, inl, inr}
+use Rattle.std.specs.Prelude.{Bool, true, Option, None, Some, Result, Ok, Err}
+use Rattle.std.specs.declared.io.Error as io
 use Rattle.counted_io.specs.Streams.{Reader, Sink}
 use Rattle.properties_format.specs.Entries.{comment, pair}
 use Rattle.properties_format.specs.Items.{given}
@@ -9,17 +10,47 @@ use Rattle.properties_format.specs.Lines.{Line}
 use Rattle.properties_format.specs.Computed.Items.{outcome_of}
 use Rattle.properties_lines.specs.LineJoiner.{Joining, JoinsLine, JoinsNoLine}
 use Rattle.properties_lines.specs.declared.error.LineError.{LineError}
-use Rattle.properties_items.specs.Errors.{IsLineError}
+use Rattle.properties_items.specs.Errors.{IsError, IsLineError, cause_of_write}
 use Rattle.properties_items.specs.FoundItems.{IsNoItem}
+use Rattle.properties_items.specs.declared.error.ErrorKind.TheVariants.{Io}
 use Rattle.properties_items.specs.declared.error.PropertiesError.{PropertiesError}
 use Rattle.java_properties.specs.Copying.{Copies, CopiesItem, HasScalars}
-use Rattle.java_properties.specs.Private.CopiedLines.{IsNoPair}
+use Rattle.java_properties.specs.Private.CopiedLines.{HasBuilt, IsNoPair}
+use Rattle.java_properties.specs.Private.Engine.{writing, NumbersLine, SendsLine}
 use Rattle.java_properties.specs.PropertiesIter.{Reading}
 use Rattle.java_properties.specs.PropertiesWriter.{Writing, WritesLine}
 use Rattle.java_properties.specs.declared.copy.CopyError.{CopyError}
 use Rattle.java_properties.specs.declared.copy.CopyError.TheVariants.{Read, Write}
+use Rattle.java_properties.specs.declared.writer.engine.Engine.{Engine}
+use Rattle.java_properties.proofs.Engine.{numbered, unnumbered, sent-line, unsent-line}
 use Rattle.java_properties.proofs.Items.{Passed, passed-start, passed-blank, passed-no_item, passed-error, passed-none, gives-item, stopped, ended}
 use Rattle.java_properties.proofs.StatedItems.{state-entry, state-none, state-error}
+
+-- ---- the line of a pair
+
+-- what is built changes nothing that callers see
+pub built-same : {W : Type 0} (old new : Engine) (from : W) → new ≡ record old { line = new.line } → writing new from ≡ writing old from
+built-same old new from h = ap (λ (w : Engine). writing w from) h
+
+module _ {W : Type 0} {sink : Sink W} (w : Engine) (from : W) (text : List ℕ) (accepted : Bool) (h : HasBuilt text accepted w) where
+  -- the line that was built was sent
+  pub built-sent : (number : ℕ) (after : Writing W) → number < 2 ^ 64 → NumbersLine w accepted (Ok number) → SendsLine sink (writing w from) w.line number (Ok tt) after
+      → WritesLine sink (writing w from) (pair h.key h.value) (Ok tt) after
+  built-sent number after small n sends =
+      sent-line w w from (pair h.key h.value) number after (numbered w from (pair h.key h.value) accepted number small h.accepts n) n.2 refl h.built sends
+
+  -- or it couldn't be sent
+  pub built-unsent : (number : ℕ) (cause : Option io.Error) (error : PropertiesError) (after : Writing W) → number < 2 ^ 64 → NumbersLine w accepted (Ok number)
+      → SendsLine sink (writing w from) w.line number (Err cause) after → IsError Io (Some number) (cause_of_write cause) error
+      → WritesLine sink (writing w from) (pair h.key h.value) (Err error) after
+  built-unsent number cause error after small n sends is =
+      inr (unsent-line w w from (pair h.key h.value) number after (numbered w from (pair h.key h.value) accepted number small h.accepts n) n.2 refl h.built cause error sends is)
+
+  -- or it has no number
+  pub built-refused : (error : PropertiesError) → NumbersLine w accepted (Err error) → WritesLine sink (writing w from) (pair h.key h.value) (Err error) (writing w from)
+  built-refused error n = inl (unnumbered w from (pair h.key h.value) accepted error h.accepts n)
+
+-- ---- item after item
 
 -- Items were copied so far. What is copied from here on, after some blank lines, is copied from the start.
 pub record IsCopiedTo {R W : Type 0} (reader : Reader R) (sink : Sink W) (old : Reading R) (writer : Writing W) (state : ReaderState) (to : R) (so_far : Writing W) : Type 0 where
