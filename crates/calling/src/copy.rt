@@ -1,7 +1,9 @@
-// A converter that copies pairs.
+// A converter that copies pairs: all of them, or some at a time.
 
 use counted_io::{CountedRead, CountedWrite};
-use java_properties::{CopyError, Encoding, PropertiesError, PropertiesIter, PropertiesWriter};
+use java_properties::{
+    ContentRef, CopyError, Encoding, PropertiesError, PropertiesIter, PropertiesWriter,
+};
 use std::alloc::Global;
 
 /// Copies the pairs of an input in one encoding to an output in another, without the comments. The pairs before an
@@ -24,6 +26,29 @@ pub fn copy_pairs<R: CountedRead, W: CountedWrite>(
         }
         Err(CopyError::Write(error)) => Err(error),
     }
+}
+
+/// Copies at most so many pairs and returns how many. A further call goes on after them.
+pub fn copy_some<R: CountedRead, W: CountedWrite>(
+    items: &mut PropertiesIter<R>,
+    writer: &mut PropertiesWriter<W>,
+    most: usize,
+) -> Result<usize, PropertiesError> {
+    let mut copied = 0;
+    for _ in 0..u64::MAX {
+        if copied >= most {
+            break;
+        }
+        let Some(found) = items.advance() else {
+            break;
+        };
+        let line = items.get(found?);
+        if let ContentRef::KVPair(key, value) = line.content() {
+            writer.write(key.as_str(), value.as_str())?;
+            copied += 1;
+        }
+    }
+    Ok(copied)
 }
 
 #[cfg(test)]
@@ -76,6 +101,21 @@ mod tests {
             same(&rt, failure_of(&answer), failure);
             same(&rt, output.into_inner().as_slice(), wanted);
         }
+    }
+
+    #[test]
+    fn copies_some_pairs_at_a_time(rt: HostRuntime) {
+        let alloc = rt.alloc();
+        let input: &[u8] = b"a=1\n# between\nb=2\nc=3";
+        let mut items = PropertiesIter::new(alloc, input).expect(&rt, "an iterator");
+        let output = Counted::new(Vec::new(alloc));
+        let mut writer = PropertiesWriter::new(alloc, output).expect(&rt, "a writer");
+        for wanted in [2, 1, 0] {
+            let copied = copy_some(&mut items, &mut writer, 2).expect(&rt, "a count");
+            same(&rt, copied, wanted);
+        }
+        let wanted: &[u8] = b"a=1\nb=2\nc=3\n";
+        same(&rt, writer.into_inner().into_inner().as_slice(), wanted);
     }
 
     fn failure_of(answer: &Result<(), PropertiesError>) -> Option<Failure> {

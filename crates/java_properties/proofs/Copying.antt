@@ -1,111 +1,144 @@
--- What comes of lines that are copied one after another.
-use Rattle.std.proofs.Common.{◌≡◌, ℕ, List, ◌++◌, sym, ap, ◌∙◌, subst, inl, inr}
-use Rattle.std.specs.Prelude.{◌⊎◌, Bool, true, false, Option, None}
+-- How items are copied one after another.
+use Rattle.std.proofs.Common.{◌≡◌, ◌<◌, ◌^◌, ℕ, List, [], ◌++◌, refl, ap, inl, inr}
+use Rattle.std.specs.Prelude.{Bool, true, Option, None, Some, Result, Ok, Err}
+use Rattle.std.specs.declared.io.Error as io
 use Rattle.counted_io.specs.Streams.{Reader, Sink}
-use Rattle.properties_format.specs.Entries.{Content, item}
+use Rattle.properties_format.specs.Entries.{comment, pair}
+use Rattle.properties_format.specs.Items.{given}
 use Rattle.properties_format.specs.ItemsToCome.{ReaderState}
 use Rattle.properties_format.specs.Lines.{Line}
-use Rattle.properties_lines.specs.LineJoiner.{Joining, Joins, JoinsLine}
-use Rattle.java_properties.specs.Private.CopiedLines.{KeepsError, CopiesContent, CopiesLine}
-use Rattle.java_properties.specs.Copying.{reading, CopiesNext, CopiesItem, CopiesNone, FailsToRead, FailsToWrite}
-use Rattle.java_properties.specs.Private.GivenItems as given
-use Rattle.java_properties.specs.PropertiesIter.{Reading, GivesEntry}
-use Rattle.java_properties.specs.PropertiesWriter.{Writing}
-use Rattle.java_properties.specs.declared.iter.copy.Copied.{Copied}
-use Rattle.java_properties.specs.declared.iter.copy.Copied.TheVariants.{Item, Nothing, Failed}
-use Rattle.java_properties.specs.declared.iter.copy.CopyError.{CopyError}
-use Rattle.java_properties.proofs.Items.{Passed, passed-blank, passed-no_item, passed-error, passed-none, gives-item, stopped, ended}
+use Rattle.properties_format.specs.Computed.Items.{outcome_of}
+use Rattle.properties_lines.specs.LineJoiner.{Joining, JoinsLine, JoinsNoLine}
+use Rattle.properties_lines.specs.declared.error.LineError.{LineError}
+use Rattle.properties_items.specs.Errors.{IsError, IsLineError, cause_of_write}
+use Rattle.properties_items.specs.FoundItems.{IsNoItem}
+use Rattle.properties_items.specs.declared.error.ErrorKind.TheVariants.{Io}
+use Rattle.properties_items.specs.declared.error.PropertiesError.{PropertiesError}
+use Rattle.java_properties.specs.Copying.{Copies, CopiesItem, HasScalars}
+use Rattle.java_properties.specs.Private.CopiedLines.{HasBuilt, IsNoPair}
+use Rattle.java_properties.specs.Private.Engine.{writing, NumbersLine, SendsLine}
+use Rattle.java_properties.specs.PropertiesIter.{Reading}
+use Rattle.java_properties.specs.PropertiesWriter.{Writing, WritesLine}
+use Rattle.java_properties.specs.declared.copy.CopyError.{CopyError}
+use Rattle.java_properties.specs.declared.copy.CopyError.TheVariants.{Read, Write}
+use Rattle.java_properties.specs.declared.writer.engine.Engine.{Engine}
+use Rattle.java_properties.proofs.Engine.{numbered, unnumbered, sent-line, unsent-line}
+use Rattle.java_properties.proofs.Items.{Passed, passed-start, passed-blank, passed-no_item, passed-error, passed-none, gives-item, stopped, ended}
 use Rattle.java_properties.proofs.StatedItems.{state-entry, state-none, state-error}
 
--- A logical line came, and this is what became of it.
-abbrev pub CameLine : {R W : Type 0} → Reader R → Sink W → ReaderState → R → Joining → R → Writing W → Option CopyError → Copied → Joining → Writing W → Option CopyError → Type 0
-CameLine reader sink state to lines next writer kept copied new written error =
-    (line : Line) × JoinsLine reader state to line lines.at.state next × CopiesLine sink line.number line.text lines writer kept copied new written error
+-- ---- the line of a pair
 
-module _ {R W : Type 0} {reader : Reader R} {sink : Sink W} {old : Reading R} {start : Writing W} {r : List ℕ} {state : ReaderState} {to : R}
-    (lines new : Joining) (next : R) (writer written : Writing W) (kept error : Option CopyError) (passed : Passed reader old.state old.reader r state to)
-    (same_writer : writer ≡ start) (same_error : kept ≡ old.error) where
-  -- an item came
-  pub copied-item : CameLine reader sink state to lines next writer kept Item new written error → CopiesItem reader sink old start (reading new.at next error) written
-  copied-item (line, joins, (content, outcome, same, (scalars, writes, is))) =
-      subst (λ v. CopiesItem reader sink old v (reading new.at next error) written) same_writer (record {
-        number = line.number;
-        content = content;
-        gives =
-            subst (λ (l : Joining). GivesEntry reader old.state old.reader (item line.number content) l.at.state next) (sym same)
-            (state-entry (gives-item line lines.at.state content passed joins outcome));
-        scalars = scalars;
-        writes = writes;
-        kept = is ∙ same_error;
-      })
+-- what is built changes nothing that callers see
+pub built-same : {W : Type 0} (old new : Engine) (from : W) → new ≡ record old { line = new.line } → writing new from ≡ writing old from
+built-same old new from h = ap (λ (w : Engine). writing w from) h
 
-  -- a line came that couldn't be copied
-  pub copied-failed : CameLine reader sink state to lines next writer kept Failed new written error
-      → CopiesNone reader old start (reading new.at next error) written
-      ⊎ (FailsToRead reader old start (reading new.at next error) written ⊎ FailsToWrite reader sink old start (reading new.at next error) written)
-  copied-failed (line, joins, inl (e, none, same, (done, quiet, is))) =
-      let k = passed-no_item line lines.at.state passed joins none in
-      inr (inl (record { error = e; live = k.0; done = done; why = state-error k.1; same = same ∙ same_writer; kept = is }))
-  copied-failed (line, joins, inr (content, outcome, same, (key, value, e, pair, scalars, writes, is))) =
-      inr (inr (subst (λ v. FailsToWrite reader sink old v (reading new.at next error) written) same_writer (record {
-        error = e;
-        number = line.number;
-        key = key;
-        value = value;
-        gives =
-            subst (λ v. GivesEntry reader old.state old.reader (item line.number v) new.at.state next) pair
-            (subst (λ (l : Joining). GivesEntry reader old.state old.reader (item line.number content) l.at.state next) (sym same)
-            (state-entry (gives-item line lines.at.state content passed joins outcome)));
-        scalars = scalars;
-        writes = writes;
-        kept = is;
-      })))
+module _ {W : Type 0} {sink : Sink W} (w : Engine) (from : W) (text : List ℕ) (accepted : Bool) (h : HasBuilt text accepted w) where
+  -- the line that was built was sent
+  pub built-sent : (number : ℕ) (after : Writing W) → number < 2 ^ 64 → NumbersLine w accepted (Ok number) → SendsLine sink (writing w from) w.line number (Ok tt) after
+      → WritesLine sink (writing w from) (pair h.key h.value) (Ok tt) after
+  built-sent number after small n sends =
+      sent-line w w from (pair h.key h.value) number after (numbered w from (pair h.key h.value) accepted number small h.accepts n) n.2 refl h.built sends
 
--- an item was found, and this is what became of its content
-pub copied-found : {R W : Type 0} (reader : Reader R) (sink : Sink W) (old new : Reading R) (writer written : Writing W) (number : ℕ) (content : Content) (wrote : Bool)
-    → given.GivesEntry reader old.state old.reader (item number content) new.state new.reader
-    → CopiesContent sink content writer old.error wrote written new.error → CopiesNext reader sink old writer wrote new written
-copied-found reader sink old new writer written number content true gives h =
-    record { number = number; content = content; gives = state-entry gives; scalars = h.0; writes = h.1; kept = h.2 }
-copied-found reader sink old new writer written number content false gives (key, value, e, pair, scalars, writes, is) = inr (inr (record {
-  error = e;
-  number = number;
-  key = key;
-  value = value;
-  gives = subst (λ v. GivesEntry reader old.state old.reader (item number v) new.state new.reader) pair (state-entry gives);
-  scalars = scalars;
-  writes = writes;
-  kept = is;
-}))
+  -- or it couldn't be sent
+  pub built-unsent : (number : ℕ) (cause : Option io.Error) (error : PropertiesError) (after : Writing W) → number < 2 ^ 64 → NumbersLine w accepted (Ok number)
+      → SendsLine sink (writing w from) w.line number (Err cause) after → IsError Io (Some number) (cause_of_write cause) error
+      → WritesLine sink (writing w from) (pair h.key h.value) (Err error) after
+  built-unsent number cause error after small n sends is =
+      inr (unsent-line w w from (pair h.key h.value) number after (numbered w from (pair h.key h.value) accepted number small h.accepts n) n.2 refl h.built cause error sends is)
 
--- a blank line came
-pub copied-nothing : {R W : Type 0} {reader : Reader R} (sink : Sink W) (old : Reading R) (start : Writing W) {r : List ℕ} {state : ReaderState} {to : R}
-    (lines new : Joining) (next : R) (writer written : Writing W) (kept error : Option CopyError) → Passed reader old.state old.reader r state to
-    → writer ≡ start → kept ≡ old.error → CameLine reader sink state to lines next writer kept Nothing new written error
-    → ((bytes : List ℕ) × Passed reader old.state old.reader bytes new.at.state next) × (new ≡ lines) × (written ≡ start) × (error ≡ old.error)
-copied-nothing {reader = reader} sink old start {r} lines new next writer written kept error passed same_writer same_error (line, joins, (outcome, same, wrote, is)) = (
-  (
-    r ++ joins.bytes,
-    subst (λ (l : Joining). Passed reader old.state old.reader (r ++ joins.bytes) l.at.state next) (sym same)
-        (passed-blank line lines.at.state passed joins outcome),
-  ),
-  same,
-  wrote ∙ same_writer,
-  is ∙ same_error,
-)
+  -- or it has no number
+  pub built-refused : (error : PropertiesError) → NumbersLine w accepted (Err error) → WritesLine sink (writing w from) (pair h.key h.value) (Err error) (writing w from)
+  built-refused error n = inl (unnumbered w from (pair h.key h.value) accepted error h.accepts n)
 
--- no line came
-pub copied-none : {R W : Type 0} {reader : Reader R} {sink : Sink W} {old : Reading R} {start : Writing W} {r : List ℕ} {to : R}
-    (before lines new : Joining) (next : R) (writer : Writing W) (kept error : Option CopyError) → Passed reader old.state old.reader r before.at.state to
-    → writer ≡ start → kept ≡ old.error → before.error ≡ None → Joins reader before to None lines next → KeepsError lines kept new error
-    → CopiesNone reader old start (reading new.at next error) writer
-    ⊎ (FailsToRead reader old start (reading new.at next error) writer ⊎ FailsToWrite reader sink old start (reading new.at next error) writer)
-copied-none before lines new next writer kept error passed same_writer same_error none joins (taken, inl (quiet, is)) =
-    let end = ended joins quiet in
-    let state = ap (λ (l : Joining). l.at.state) taken ∙ ap (λ (l : Joining). l.at.state) end.1 in
-    inl (record { gives = state-none (passed-none passed end.0 state end.2); same = same_writer; kept = is ∙ same_error })
-copied-none before lines new next writer kept error passed same_writer same_error none joins (taken, inr (why, e, failed, says, is)) =
-    let stop = stopped joins none failed in
-    let p = passed-error passed stop.0 (record { why = why; last = lines.at.state; joins = stop.2; is = says }) in
-    let done = ap (λ (l : Joining). l.at.state.is_done) taken ∙ stop.1 in
-    inr (inl (record { error = e; live = p.0; done = done; why = state-error (inr p.1); same = same_writer; kept = is }))
+-- ---- item after item
+
+-- Items were copied so far. What is copied from here on, after some blank lines, is copied from the start.
+pub record IsCopiedTo {R W : Type 0} (reader : Reader R) (sink : Sink W) (old : Reading R) (writer : Writing W) (state : ReaderState) (to : R) (so_far : Writing W) : Type 0 where
+  pub between : Reading R
+  pub bytes : List ℕ
+  pub passed : Passed reader between.state between.reader bytes state to
+  pub along : (result : Result Unit CopyError) (new : Reading R) (written : Writing W) → Copies reader sink between so_far result new written
+      → Copies reader sink old writer result new written
+
+module _ {R W : Type 0} {reader : Reader R} {sink : Sink W} {old : Reading R} {writer : Writing W} where
+  pub copied-start : IsCopiedTo reader sink old writer old.state old.reader writer
+  copied-start = record { between = old; bytes = []; passed = passed-start old.state old.reader; along = λ result new written h. h }
+
+  -- an item was copied
+  copied-item : {state : ReaderState} {to : R} {so_far : Writing W} (h : IsCopiedTo reader sink old writer state to so_far) (new : ReaderState) (next : R) (after : Writing W)
+      → CopiesItem reader sink h.between so_far (record { reader = next; state = new; line = [] }) after → IsCopiedTo reader sink old writer new next after
+  copied-item h new next after item =
+      let between : Reading R = record { reader = next; state = new; line = [] } in
+      record {
+        between = between;
+        bytes = [];
+        passed = passed-start new next;
+        along = λ result last written more. h.along result last written (Copies.goes_on between after item more);
+      }
+
+  module _ {state : ReaderState} {to : R} {so_far : Writing W} (h : IsCopiedTo reader sink old writer state to so_far) (line : Line) (new : ReaderState) (next : R)
+      (joins : JoinsLine reader state to line new next) where
+    -- a line came that is no pair
+    pub copied-no_pair : IsNoPair line.text → IsCopiedTo reader sink old writer new next so_far
+    copied-no_pair (inl blank) = record {
+      between = h.between;
+      bytes = h.bytes ++ joins.bytes;
+      passed = passed-blank line new h.passed joins blank;
+      along = h.along;
+    }
+    copied-no_pair (inr (raw, is)) = copied-item h new next so_far (record {
+      number = line.number;
+      content = comment raw;
+      gives = state-entry (gives-item line new (comment raw) h.passed joins is);
+      scalars = tt;
+      writes = (refl, refl);
+    })
+
+    -- a pair came and was written
+    pub copied-pair : (key value : List ℕ) (after : Writing W) → outcome_of line.text ≡ given (pair key value) → HasScalars (pair key value)
+        → WritesLine sink so_far (pair key value) (Ok tt) after → IsCopiedTo reader sink old writer new next after
+    copied-pair key value after is scalars writes = copied-item h new next after (record {
+      number = line.number;
+      content = pair key value;
+      gives = state-entry (gives-item line new (pair key value) h.passed joins is);
+      scalars = scalars;
+      writes = writes;
+    })
+
+    -- or it couldn't be written
+    pub copied-unwritten : (key value bytes : List ℕ) (error : PropertiesError) (after : Writing W) → outcome_of line.text ≡ given (pair key value)
+        → HasScalars (pair key value) → WritesLine sink so_far (pair key value) (Err error) after
+        → Copies reader sink old writer (Err (Write error)) (record { reader = next; state = new; line = bytes }) after
+    copied-unwritten key value bytes error after is scalars writes =
+        h.along _ _ _ (Copies.stops_writing error refl (record {
+          number = line.number;
+          key = key;
+          value = value;
+          gives = state-entry (gives-item line new (pair key value) h.passed joins is);
+          scalars = scalars;
+          writes = writes;
+        }))
+
+    -- a line came whose escapes can't be resolved, or there was no memory
+    pub copied-unread : (bytes : List ℕ) (error : PropertiesError) (last : ReaderState) → last.is_done ≡ true → IsNoItem line.number line.text error
+        → Copies reader sink old writer (Err (Read error)) (record { reader = next; state = last; line = bytes }) so_far
+    copied-unread bytes error last done none =
+        let k = passed-no_item line new h.passed joins none in
+        h.along _ _ _ (Copies.stops_reading error refl (record { live = k.0; done = done; why = state-error k.1; same = refl }))
+
+  module _ {to : R} {so_far : Writing W} (before lines : Joining) (next : R) (h : IsCopiedTo reader sink old writer before.at.state to so_far)
+      (quiet : before.error ≡ None) (joins : JoinsNoLine reader before to lines next) where
+    -- no more lines come
+    pub copied-all : (bytes : List ℕ) → lines.error ≡ None → Copies reader sink old writer (Ok tt) (record { reader = next; state = lines.at.state; line = bytes }) so_far
+    copied-all bytes none =
+        let end = ended joins none in
+        let state = ap (λ (l : Joining). l.at.state) end.1 in
+        h.along _ _ _ (Copies.ends refl (record { gives = state-none (passed-none h.passed end.0 state end.2); same = refl }))
+
+    -- or the next one couldn't be read
+    pub copied-error : (bytes : List ℕ) (why : LineError) (error : PropertiesError) → lines.error ≡ Some why → IsLineError why error
+        → Copies reader sink old writer (Err (Read error)) (record { reader = next; state = lines.at.state; line = bytes }) so_far
+    copied-error bytes why error kept says =
+        let stop = stopped joins quiet kept in
+        let p = passed-error h.passed stop.0 (record { why = why; last = lines.at.state; joins = stop.2; is = says }) in
+        h.along _ _ _ (Copies.stops_reading error refl (record { live = p.0; done = stop.1; why = state-error (inr p.1); same = refl }))

@@ -1,6 +1,10 @@
 -- How items come of logical lines.
-use Rattle.std.proofs.Common.{◌≡◌, ℕ, true, false, List, [], ◌++◌, refl, sym, ap, ap₂, subst, ◌∙◌, inl, inr, append_assoc}
+use Rattle.std.proofs.Common.{◌≡◌, ℕ, true, false, List, [], ◌∷◌, ◌++◌, refl, sym, ap, ap₂, subst, ◌∙◌, inl, inr, append_assoc}
 use Rattle.std.specs.Prelude.{◌⊎◌, Some, None, Result, Ok, Err}
+use Rattle.std.specs.Str.{chars, IsUtf8, is_utf8}
+use Rattle.std.proofs.lemmas.Str.{IsUtf8-from_is_utf8, is_utf8-from_IsUtf8, chars-nil}
+use Rattle.properties_format.specs.Split.{IsSplit}
+use Rattle.properties_text.specs.Parsing.{in_characters, spanned}
 use Rattle.std.proofs.lemmas.Bool.{cases_Bool}
 use Rattle.properties_format.specs.Entries.{Content, Entry, item, malformed}
 use Rattle.properties_format.specs.Items.{ignored, given}
@@ -12,19 +16,50 @@ use Rattle.properties_format.specs.ItemsToCome.{ReaderState}
 use Rattle.properties_format.specs.Computed.ItemsToCome.{items_to_come}
 use Rattle.properties_format.proofs.ItemsToCome.Unique.{items_to_come-done}
 use Rattle.properties_items.specs.Errors.{IsBareError}
-use Rattle.properties_items.specs.BorrowedItems.{found_entry}
+use Rattle.properties_items.specs.BorrowedItems.{found_entry, spans_of, IsFoundIn}
+use Rattle.properties_items.specs.declared.found.FoundContent.{FoundContent}
+use Rattle.properties_items.specs.declared.found.FoundContent.TheVariants as found
 use Rattle.properties_lines.specs.LineReader.{PassesSome}
 use Rattle.properties_lines.proofs.LineJoiner.{some-start, some-on, all-on}
 use Rattle.properties_lines.specs.LineJoiner.{IsLazyItems, Joins, JoinsError, JoinsLine, Comes, Joiner, Joining}
 use Rattle.properties_lines.specs.declared.error.LineError.{LineError}
 use Rattle.properties_lines.specs.declared.error.LineError.TheVariants as why
-use Rattle.java_properties.specs.Private.GivenItems.{GivesItem, Owns, Gives, BreaksOff, GivesEntry, GivesNone, GivesMalformed, GivesError}
+use Rattle.java_properties.specs.Private.GivenItems.{in_utf_8, GivesItem, Owns, Gives, BreaksOff, GivesEntry, GivesNone, GivesMalformed, GivesError}
 use Rattle.properties_items.specs.FoundItems.{IsNoItem}
 use Rattle.properties_items.specs.declared.error.ErrorKind.TheVariants.{Memory}
 use Rattle.properties_items.specs.declared.found.Found.{Found}
 use Rattle.properties_items.specs.declared.error.PropertiesError.{PropertiesError}
 use Rattle.properties_items.specs.declared.line.Line as line
 use Rattle.java_properties.specs.PropertiesIter.{entry_of}
+
+-- ---- the line that was read last
+
+-- a line in UTF-8 is kept
+pub kept-utf8 : (bytes : List ℕ) → IsUtf8 bytes → in_utf_8 bytes ≡ bytes
+unfolding in_utf_8
+kept-utf8 bytes u = rw (is_utf8-from_IsUtf8 bytes u) refl
+
+-- and one that isn't is dropped
+kept-none : (bytes : List ℕ) → is_utf8 bytes ≡ false → in_utf_8 bytes ≡ []
+unfolding in_utf_8
+kept-none bytes k = rw k refl
+
+-- Nothing comes after something in an empty text.
+none-last : (xs ys : List ℕ) → [] ≡ xs ++ ys → ys ≡ []
+none-last [] ys h = sym h
+none-last (x ∷ xs) ys h = absurd (cc)
+
+-- An empty line has no item.
+none-in-nil : (bytes : List ℕ) (content : FoundContent) → chars bytes ≡ [] → IsSplit (chars bytes) (in_characters (spanned bytes (Some (spans_of content)))) → ⊥
+none-in-nil bytes (found.Comment text) none h = let last = none-last h.indent (h.sign ∷ h.rest) (sym none ∙ h.whole) in absurd (cc)
+none-in-nil bytes (found.KVPair key value) none h = h.not_empty (none-last h.indent _ (sym none ∙ h.whole))
+
+-- Where an item was found, the line is in UTF-8.
+pub found-utf8 : (bytes : List ℕ) (found : Found) → IsFoundIn (in_utf_8 bytes) found → IsUtf8 bytes
+found-utf8 bytes found h = elim (cases_Bool (is_utf8 bytes)) [
+  | inl k ↦ IsUtf8-from_is_utf8 bytes k
+  | inr k ↦ absurd (none-in-nil (in_utf_8 bytes) found.content (ap chars (kept-none bytes k) ∙ chars-nil) h.slices)
+]
 
 -- ---- item after item
 

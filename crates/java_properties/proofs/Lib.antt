@@ -6,6 +6,7 @@ pub mod AsciiOnly
 pub mod CallComparisons
 pub mod Items
 pub mod StatedItems
+pub mod CopiedLines
 pub mod Copying
 pub mod Readings
 pub mod MalformedEscapes

@@ -54,9 +54,12 @@ pub record FailsToWrite {R W : Type 0} (reader : Reader R) (sink : Sink W) (old 
   pub writes : WritesLine sink writer (pair key value) (Err error) written
 
 -- Items were copied in turn. Then no more came; or reading the next one failed; or writing it did.
-pub data Copies {R W : Type 0} (reader : Reader R) (sink : Sink W) (old : Reading R) (writer : Writing W) (result : Result Unit CopyError) (new : Reading R) (written : Writing W) : Type 0 where
-  goes_on : (between : Reading R) (so_far : Writing W) → CopiesItem reader sink old writer between so_far → Copies reader sink between so_far result new written
-      → Copies reader sink old writer result new written
-  ends : result ≡ Ok tt → CopiesNone reader old writer new written → Copies reader sink old writer result new written
-  stops_reading : (error : PropertiesError) → result ≡ Err (Read error) → FailsToRead reader old writer error new written → Copies reader sink old writer result new written
-  stops_writing : (error : PropertiesError) → result ≡ Err (Write error) → FailsToWrite reader sink old writer error new written → Copies reader sink old writer result new written
+pub data Copies {R W : Type 0} (reader : Reader R) (sink : Sink W) : Reading R → Writing W → Result Unit CopyError → Reading R → Writing W → Type 0 where
+  goes_on : {old : Reading R} {writer : Writing W} {result : Result Unit CopyError} {new : Reading R} {written : Writing W} (between : Reading R) (so_far : Writing W)
+      → CopiesItem reader sink old writer between so_far → Copies reader sink between so_far result new written → Copies reader sink old writer result new written
+  ends : {old : Reading R} {writer : Writing W} {result : Result Unit CopyError} {new : Reading R} {written : Writing W}
+      → result ≡ Ok tt → CopiesNone reader old writer new written → Copies reader sink old writer result new written
+  stops_reading : {old : Reading R} {writer : Writing W} {result : Result Unit CopyError} {new : Reading R} {written : Writing W} (error : PropertiesError)
+      → result ≡ Err (Read error) → FailsToRead reader old writer error new written → Copies reader sink old writer result new written
+  stops_writing : {old : Reading R} {writer : Writing W} {result : Result Unit CopyError} {new : Reading R} {written : Writing W} (error : PropertiesError)
+      → result ≡ Err (Write error) → FailsToWrite reader sink old writer error new written → Copies reader sink old writer result new written

@@ -1,3 +1,4 @@
+pub mod CopiedLines
 pub mod Engine
 pub mod GivenItems
 pub mod LineByLine

@@ -18,7 +18,7 @@ use Rattle.properties_items.specs.declared.line.Line.{Line}
 use Rattle.properties_items.specs.declared.line.LineContent.{LineContent}
 use Rattle.properties_items.specs.declared.line.LineContent.TheVariants.{Comment, KVPair}
 
--- an iterator: its reader, its state, and the bytes of the logical line that it read last
+-- an iterator: its reader, its state, and the logical line that it read last, in UTF-8
 pub record Reading (R : Type 0) : Type 0 where
   pub reader : R
   pub state : ReaderState

@@ -1,14 +1,18 @@
 // Copies the pairs of a reader to a writer.
 
-ghost use Rattle.std.specs.Prelude.{◌≡◌};
+ghost use Rattle.std.specs.Prelude.{◌≡◌, None, All};
 ghost use Rattle.counted_io.specs.Streams.{IsSameReader, IsSameSink};
+ghost use Rattle.properties_format.specs.Text.{byte};
+ghost use Rattle.properties_text.specs.Spelt.{text_in, IsWell};
 ghost use Rattle.java_properties.specs.Copying.{error_in, Copies};
+ghost use Rattle.java_properties.specs.Private.CopiedLines.{reading, BuildsLine};
+ghost use Rattle.java_properties.specs.Private.Engine.{writing};
 
-use properties_items::error::{PropertiesError, make};
 use crate::iter::PropertiesIter;
 use crate::writer::PropertiesWriter;
 use crate::writer::engine::Engine;
 use counted_io::{CountedRead, CountedWrite};
+use properties_items::error::{PropertiesError, make};
 use properties_lines::joiner::LineJoiner;
 use properties_text::escape::{UnescapeError, check_escapes};
 use properties_text::parse::{ParsedSpans, parse_bytes};
@@ -70,29 +74,52 @@ impl<W: CountedWrite> PropertiesWriter<W> {
         ensures same_reader { IsSameReader R.CountedRead items.old.reader items.new.reader }
         ensures same_sink { IsSameSink W.CountedWrite self.old.sink self.new.sink }
     {
-        let lines = &mut items.items.lines;
-        while let Some(number) = lines.next_line(&mut items.reader) {
-            match build_line(&mut self.engine, lines) {
-                Ok(Built::Nothing) => {}
-                Ok(Built::Line(line)) => {
-                    if let Err(fault) = self.engine.send_line(&mut self.sink, line) {
-                        let error = make::write_fault(Some(line), fault);
-                        return Err(CopyError::Write(error));
-                    }
-                }
-                Ok(Built::Refused(accepted)) => {
-                    return Err(CopyError::Write(self.engine.refusal(accepted)));
-                }
-                Err(error) => {
-                    lines.end();
-                    return Err(CopyError::Read(make::unresolved(number, error)));
+        copy_lines(
+            &mut items.items.lines,
+            &mut items.reader,
+            &mut self.engine,
+            &mut self.sink,
+        )
+    }
+}
+
+// Copies the pairs of all lines that are to come.
+#[inline(always)]
+fn copy_lines<R: CountedRead, W: CountedWrite>(
+    lines: &mut LineJoiner,
+    reader: &mut R,
+    engine: &mut Engine,
+    sink: &mut W,
+) -> Result<(), CopyError>
+    requires { lines.old.error ≡ None }
+    ensures copies { let start = reading lines.old.at reader.old in
+        Copies R.CountedRead W.CountedWrite start (writing engine.old sink.old) result
+        (reading lines.new.at reader.new) (writing engine.new sink.new) }
+    ensures error { lines.new.error ≡ None }
+    ensures same_reader { IsSameReader R.CountedRead reader.old reader.new }
+    ensures same_sink { IsSameSink W.CountedWrite sink.old sink.new }
+{
+    while let Some(number) = lines.next_line(reader) {
+        match build_line(engine, lines) {
+            Ok(Built::Nothing) => {}
+            Ok(Built::Line(line)) => {
+                if let Err(fault) = engine.send_line(sink, line) {
+                    let error = make::write_fault(Some(line), fault);
+                    return Err(CopyError::Write(error));
                 }
             }
+            Ok(Built::Refused(accepted)) => {
+                return Err(CopyError::Write(engine.refusal(accepted)));
+            }
+            Err(error) => {
+                lines.end();
+                return Err(CopyError::Read(make::unresolved(number, error)));
+            }
         }
-        match lines.take_error() {
-            None => Ok(()),
-            Some(error) => Err(CopyError::Read(PropertiesError::from(error))),
-        }
+    }
+    match lines.take_error() {
+        None => Ok(()),
+        Some(error) => Err(CopyError::Read(PropertiesError::from(error))),
     }
 }
 
@@ -109,12 +136,17 @@ enum Built {
 
 // Builds what is to be written for the logical line that was joined last.
 #[inline(always)]
-fn build_line(engine: &mut Engine, lines: &LineJoiner) -> Result<Built, UnescapeError> {
+fn build_line(engine: &mut Engine, lines: &LineJoiner) -> Result<Built, UnescapeError>
+    requires { IsWell lines.now.encoding lines.now.at.line }
+    ensures builds { BuildsLine (text_in lines.now.encoding lines.now.at.line) result engine.new }
+    ensures same { engine.new ≡ record engine.old { line = engine.new.line } }
+{
     let length = lines.length();
     if length == 0 {
         return Ok(Built::Nothing);
     }
     let bytes = lines.with_room();
+    tell_they_are_bytes(bytes);
     match parse_bytes(&bytes[..length]) {
         None => Ok(Built::Nothing),
         Some(ParsedSpans::Comment(text)) => {
@@ -132,4 +164,12 @@ fn build_line(engine: &mut Engine, lines: &LineJoiner) -> Result<Built, Unescape
             }
         }
     }
+}
+
+// Gives a proof the fact that these are bytes. It does nothing at run time.
+#[inline(always)]
+fn tell_they_are_bytes(bytes: &[u8])
+    ensures { All byte bytes.now }
+{
+    let _ = bytes.first();
 }

@@ -3,7 +3,6 @@
 ghost use Rattle.std.specs.Prelude.{◌≡◌, ◌<◌, [], IsOkAnd, OnSome};
 ghost use Rattle.std.specs.Str.{chars};
 ghost use Rattle.std.specs.Iterator.{at_most};
-ghost use Rattle.counted_io.specs.Streams.{IsSameReader};
 ghost use Rattle.properties_format.specs.Encoding.{windows_1252};
 ghost use Rattle.properties_format.specs.ItemsToCome.{start};
 ghost use Rattle.properties_text.specs.Encoding.{encoding_of};
@@ -133,16 +132,17 @@ impl<R: CountedRead> PropertiesIter<R> {
     pub fn into_inner(self) -> R
         ensures { result ≡ self.reader }
     {
-        let PropertiesIter {
-            reader,
-            items: _,
-        } = self;
+        let PropertiesIter { reader, items: _ } = self;
         reader
     }
 }
 
 impl<R: CountedRead> Iterator for PropertiesIter<R> {
     type Item = Result<Line, PropertiesError>;
+
+    ghost next_gives = { λ old answer new. NextGives R.CountedRead old answer new };
+
+    ghost remaining = { λ it. at_most (lines_left it.state) };
 
     fn next(&mut self) -> Option<Result<Line, PropertiesError>> {
         self.items.next_item(&mut self.reader)

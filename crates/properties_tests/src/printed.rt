@@ -252,6 +252,5 @@ fn error_of_copying(rt: &impl Abort, alloc: Global) -> CopyError {
     let output = Counted::new(Vec::new(alloc));
     let mut writer = PropertiesWriter::new(alloc, output).expect(rt, "a writer");
     writer.set_kv_separator(" ").expect(rt, "a separator");
-    let _ = items.copy_next(&mut writer);
-    items.take_error().expect(rt, "an error")
+    error_of(rt, writer.copy_pairs(&mut items))
 }

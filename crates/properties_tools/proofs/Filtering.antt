@@ -16,7 +16,10 @@ use Rattle.java_properties.specs.PropertiesWriter.{Writing, Flushes, HasFlushedS
 use Rattle.java_properties.specs.ReadLines.{BeginsItems}
 use Rattle.properties_items.specs.declared.error.PropertiesError.{PropertiesError}
 use Rattle.java_properties.proofs.Readings.{Comes, Collected, collected-start, collected-next, collected-none, collected-malformed, collected-error}
-use Rattle.java_properties.specs.Copying.{HasScalars, WritesIfPair}
+use Rattle.java_properties.specs.Copying.{HasScalars, WritesIfPair, Copies}
+use Rattle.java_properties.specs.declared.copy.CopyError.{CopyError}
+use Rattle.java_properties.specs.declared.copy.CopyError.TheVariants.{Read, Write}
+use Rattle.java_properties.proofs.StatedItems.{compute-entry, compute-none, compute-error}
 use Rattle.properties_tools.specs.Filter.{pair_writer, HasFiltered, StopsInWriting, Filters}
 use Rattle.properties_tools.proofs.Pairs.{HasWrittenPairs, pairs-none, pairs-comment, pairs-more, pairs-live, pairs-fail, pairs-refused, pairs-flushed, pairs-flush, pairs-flush-failed}
 
@@ -101,7 +104,7 @@ module _ {R W : Type 0} {reader : Reader R} {sink : Sink W} {e : Encoding} {only
 
 module _ {R W : Type 0} {reader : Reader R} {sink : Sink W} {e : Encoding} {only : Bool} {input : R} {output : W} {it : Reading R} {w : Writing W} {after : ReaderState} {to : R} where
   -- A pair came, and was not written.
-  pub stops-writing : {error : PropertiesError} (new : Writing W) (number : ℕ) (content : Content) → HasPassed reader sink e only input output it w
+  stops-writing : {error : PropertiesError} (new : Writing W) (number : ℕ) (content : Content) → HasPassed reader sink e only input output it w
       → GivesEntry reader it.state it.reader (item number content) after to → WritesIfPair sink w content (Err error) new
       → Filters reader sink e only input output (Err error) to new.sink
   stops-writing {error = error} new number content h n k = (h.items, record { scalars = h.scalars; stops = inr (inl (by-content content (begins came.comes) k)) })
@@ -149,3 +152,27 @@ module _ {R W : Type 0} {reader : Reader R} {sink : Sink W} {e : Encoding} {only
       → Filters reader sink e only input output result to new.sink
   returns new (Ok done) h n f = filtered h n f
   returns new (Err error) h n f = stops-flush new h n f
+
+-- ---- items that are copied
+
+-- Copying has stopped: no more items came; or reading the next one failed; or writing it did.
+abbrev pub Stops : {R W : Type 0} → Reader R → Sink W → Encoding → Bool → R → W → Result Unit CopyError → Reading R → Writing W → Type 0
+Stops {R} reader sink e only input output (Ok done) new written =
+    (it : Reading R) × HasPassed reader sink e only input output it written × GivesNone reader it.state it.reader new.state new.reader
+Stops {R} reader sink e only input output (Err (Read error)) new written =
+    (it : Reading R) × HasPassed reader sink e only input output it written × (it.state.is_done ≡ false)
+    × (GivesMalformed reader it.state it.reader error new.reader ⊎ GivesError reader it.state it.reader error new.reader)
+Stops reader sink e only input output (Err (Write error)) new written = Filters reader sink e only input output (Err error) new.reader written.sink
+
+module _ {R W : Type 0} {reader : Reader R} {sink : Sink W} {e : Encoding} {only : Bool} {input : R} {output : W} where
+  -- Items were copied in turn, up to where copying stopped.
+  pub copied : (it : Reading R) (w : Writing W) (result : Result Unit CopyError) (new : Reading R) (written : Writing W) → HasPassed reader sink e only input output it w
+      → Copies reader sink it w result new written → Stops reader sink e only input output result new written
+  copied it w result new written h (Copies.goes_on between so_far item rest) =
+      copied between so_far result new written (passed-more so_far item.number item.content h (compute-entry item.gives) item.writes item.scalars) rest
+  copied it w result new written h (Copies.ends is none) =
+      rw is (it, (subst (λ v. HasPassed reader sink e only input output it v) (sym none.same) h, compute-none none.gives))
+  copied it w result new written h (Copies.stops_reading error is failed) =
+      rw is (it, (subst (λ v. HasPassed reader sink e only input output it v) (sym failed.same) h, (failed.live, compute-error failed.why)))
+  copied it w result new written h (Copies.stops_writing error is failed) =
+      rw is (stops-writing written failed.number (pair failed.key failed.value) h (compute-entry failed.gives) failed.writes)

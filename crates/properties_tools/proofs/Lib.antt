@@ -6,7 +6,6 @@ pub mod FilterErrors
 pub mod Filtering
 pub mod IllFormed
 pub mod Borrowed
-pub mod CopiedPairs
 pub mod Looked
 pub mod Pairs
 pub mod Prefixes

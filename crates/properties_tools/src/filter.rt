@@ -1,6 +1,6 @@
 // Copies the pairs of a reader to a sink.
 
-ghost use Rattle.std.specs.Prelude.{◌≡◌, true, false, None};
+ghost use Rattle.std.specs.Prelude.{◌≡◌, true, false};
 ghost use Rattle.counted_io.specs.Streams.{IsSameReader, IsSameSink};
 ghost use Rattle.properties_format.specs.ItemsToCome.{start};
 ghost use Rattle.properties_text.specs.Encoding.{encoding_of};

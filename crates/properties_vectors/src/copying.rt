@@ -1,4 +1,4 @@
-// Pairs that are copied, by `copy_next` and by the calls that it replaces.
+// Pairs that are copied, by `copy_pairs` and by the calls that it replaces.
 
 use crate::writing::{call, writer_to};
 use counted_io::{CountedRead, CountedWrite, Tail};
@@ -18,10 +18,10 @@ struct Target<'a> {
     calls: &'a [Clause],
 }
 
-// How the next item is copied.
+// How pairs are copied: all up to an error by one call, or one after another.
 #[derive(Clone, Copy)]
 enum CopyWay {
-    CopyNext,
+    CopyPairs,
     AdvanceAndWrite,
 }
 
@@ -104,7 +104,7 @@ fn copy_in_both_ways(
     target: Target<'_>,
     outcome: &mut Outcome,
 ) -> Result<Copied, Halt> {
-    let by_copying = copied_by(alloc, encoding, script, target, CopyWay::CopyNext)?;
+    let by_copying = copied_by(alloc, encoding, script, target, CopyWay::CopyPairs)?;
     let by_writing = copied_by(alloc, encoding, script, target, CopyWay::AdvanceAndWrite)?;
     let came = shown(alloc, &by_copying)?;
     let wanted = shown(alloc, &by_writing)?;
@@ -162,7 +162,7 @@ fn copy_all<R: CountedRead, W: CountedWrite>(
     let mut errors = String::new(alloc);
     for _ in 0..u64::MAX {
         let came = match way {
-            CopyWay::CopyNext => copy_next(&mut *items, &mut *writer),
+            CopyWay::CopyPairs => copy_pairs(&mut *items, &mut *writer),
             CopyWay::AdvanceAndWrite => write_next(&mut *items, &mut *writer),
         };
         match came {
@@ -187,7 +187,7 @@ fn error_shown(alloc: Global, error: &CopyError) -> Result<String, AllocError> {
     }
 }
 
-fn copy_next<R: CountedRead, W: CountedWrite>(
+fn copy_pairs<R: CountedRead, W: CountedWrite>(
     items: &mut PropertiesIter<R>,
     writer: &mut PropertiesWriter<W>,
 ) -> Option<Result<(), CopyError>> {

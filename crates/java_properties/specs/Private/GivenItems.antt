@@ -1,6 +1,7 @@
 -- What the item reader returns, in terms of the items to come as they are computed. Page PropertiesIter states the same
 -- in terms of divisions.
-use Rattle.std.specs.Prelude.{◌≡◌, ◌⊎◌, ℕ, Bool, true, false, List, [], ◌∷◌, ◌++◌, Option, Some, None, Result, Ok, Err}
+use Rattle.std.specs.Prelude.{◌≡◌, ◌⊎◌, ℕ, Bool, true, false, if◌then◌else◌, List, [], ◌∷◌, ◌++◌, Option, Some, None, Result, Ok, Err}
+use Rattle.std.specs.Str.{is_utf8}
 use Rattle.counted_io.specs.Streams.{Reader, HasRead}
 use Rattle.properties_format.specs.Lines.{InputEnd, end}
 use Rattle.properties_format.specs.Entries.{Entry, malformed}
@@ -18,6 +19,14 @@ use Rattle.properties_items.specs.declared.error.ErrorKind.TheVariants as kind
 use Rattle.properties_items.specs.declared.error.PropertiesError.{PropertiesError}
 use Rattle.properties_items.specs.declared.found.Found.{Found}
 use Rattle.properties_items.specs.declared.line.Line.{Line}
+
+-- the bytes of a line that is in UTF-8, and none of one that isn't
+unfoldable pub in_utf_8 : List ℕ → List ℕ
+in_utf_8 bytes = if is_utf8 bytes then bytes else []
+
+-- a joiner with its line as a text
+abbrev pub as_text : Joiner → Joiner
+as_text joiner = record { state = joiner.state; line = in_utf_8 joiner.line }
 
 -- The bytes that were read give this entry first, whatever comes after them, and then what the new state gives; or it
 -- is the last entry, and the input ended.

@@ -8,7 +8,7 @@ ghost use Rattle.properties_text.specs.Encoding.{encoding_of};
 ghost use Rattle.properties_lines.specs.LineReader.{lines_left};
 ghost use Rattle.properties_lines.specs.LineJoiner.{Joiner};
 ghost use Rattle.properties_items.specs.BorrowedItems.{borrowed_entry, found_entry, BorrowsPlain, IsFoundIn};
-ghost use Rattle.java_properties.specs.Private.GivenItems.{FindsItem, GivesItem, Owns};
+ghost use Rattle.java_properties.specs.Private.GivenItems.{as_text, FindsItem, GivesItem, Owns};
 
 use counted_io::CountedRead;
 use properties_items::borrowed::{LineRef, into_line};
@@ -30,7 +30,7 @@ pub struct ItemReader {
 impl Model for ItemReader {
     ghost Value = { Joiner };
 
-    ghost view = { λ s. s.lines.at };
+    ghost view = { λ s. as_text s.lines.at };
 
     ghost invariant = { λ s. s.lines.error ≡ None };
 }

@@ -10,6 +10,6 @@ returns-clause-gives g c =
     let r = reader g.R.Read g.R.CountedRead in
     let old = c.args.self.now in
     let joiner = c.advance.new.self in
-    let new : Reading _ = record { reader = c.advance.new.reader; state = joiner.state; line = joiner.line; error = c.self.inside.error } in
+    let new : Reading _ = record { reader = c.advance.new.reader; state = joiner.state; line = joiner.line } in
     let finds : FindsItem r old.state old.reader c.advance.result joiner c.advance.new.reader = search rules in
     (state-advance r old new c.advance.result finds, search rules)

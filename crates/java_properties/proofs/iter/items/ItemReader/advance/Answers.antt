@@ -8,10 +8,10 @@ use Rattle.counted_io.specs.Streams.{reader}
 use Rattle.properties_lines.specs.LineReader.{lines_left}
 use Rattle.properties_lines.specs.LineJoiner.{Joiner, Joining, numbered_line}
 use Rattle.properties_items.specs.BorrowedItems.{found_content, IsFoundIn}
-use Rattle.java_properties.specs.Private.GivenItems.{FindsItem}
+use Rattle.java_properties.specs.Private.GivenItems.{as_text, FindsItem}
 use Rattle.properties_items.specs.FoundItems.{IsNoItem}
 use Rattle.properties_items.specs.declared.found.Found.{Found}
-use Rattle.java_properties.proofs.Items.{Passed, passed-start, passed-error, passed-no_item, gives-item, passed-blank, stopped}
+use Rattle.java_properties.proofs.Items.{kept-utf8, Passed, passed-start, passed-error, passed-no_item, gives-item, passed-blank, stopped}
 use Rattle.properties_items.proofs.FoundItems.{found-item, plain-blank}
 use Rattle.java_properties.proofs.iter.items.ItemReader.advance.Given.{Over}
 use Rattle.java_properties.proofs.iter.items.ItemReader.advance.Goals as goal
@@ -30,13 +30,16 @@ loop-number-init g c =
 
 -- an item that was found in the line is given,
 gives-found : (g : Over) (c : After-line-line g) (item : Found) → (item.line_number ≡ c.in-Some.number) × IsFoundIn c.line-line.result.now item
-    → FindsItem (reader g.R.Read g.R.CountedRead) c.args.self.now.state c.args.reader.now (Some (Ok item)) c.next_text.new.self.at c.next_text.new.reader
+    → FindsItem (reader g.R.Read g.R.CountedRead) c.args.self.now.state c.args.reader.now (Some (Ok item)) (as_text c.next_text.new.self.at) c.next_text.new.reader
 gives-found g c item found =
     let new = c.next_text.new.self.at in
+    let kept : List ℕ → Joiner = λ v. record { state = new.state; line = v } in
+    let Q : List ℕ → Type 0 = λ v. FindsItem (reader g.R.Read g.R.CountedRead) c.args.self.now.state c.args.reader.now (Some (Ok item)) (kept v) c.next_text.new.reader in
     let P : List ℕ → Type 0 = λ v. (item.line_number ≡ c.in-Some.number) × IsFoundIn v item in
     let is = subst P c.line-line.ensures found in
     let line = numbered_line c.in-Some.number new in
-    let content = found_content new.line item.content in (
+    let content = found_content new.line item.content in
+    subst Q (sym (kept-utf8 new.line c.in-Some.ensures.text)) (
       rw is.0 (gives-item line new.state content c.loop-number.invariant.passed.1 c.in-Some.ensures.joins.0 (found-item new.line item is.1)),
       is.1,
     )
@@ -81,7 +84,7 @@ returns-in-Err-clause-finds g c =
     let next = c.in-Some.ensures.joins.0 in
     let Q : List ℕ → Type 0 = λ v. IsNoItem c.in-Some.number (chars v) c.unresolved.result in
     let none = subst Q c.line-line.ensures (c.in-Err.ensures c.in-Some.number c.unresolved.result c.unresolved.ensures) in
-    let done = ap (λ v. let w : Joiner = v in w.state.is_done) c.end.ensures.state in
+    let done = ap (λ v. let w : Joining = v in w.at.state.is_done) c.end.ensures in
     let k = passed-no_item (numbered_line c.in-Some.number c.next_text.new.self.at) c.next_text.new.self.at.state c.loop-number.invariant.passed.1 next none in
     (k.0, done, k.1)
 

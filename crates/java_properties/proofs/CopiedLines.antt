@@ -1,0 +1,210 @@
+-- How the line of a pair is built from the bytes of a logical line, in either encoding.
+use Rattle.std.proofs.Common.{◌≡◌, ◌≤◌, ◌==◌, ◌-◌, ◌+◌, ℕ, zero, suc, List, [], ◌∷◌, ◌++◌, length, map, take, drop, refl, sym, ap, ap₂, ◌∙◌, subst, inl, inr, arith, eqb-true}
+use Rattle.std.specs.Prelude.{Bool, Option, Some, All, Result, Ok, Err}
+use Rattle.std.specs.Str.{IsUtf8, chars}
+use Rattle.std.proofs.lemmas.Bool.{cases_Bool, eq-eqb}
+use Rattle.std.proofs.lemmas.List.{length-append, length-take-le, length-drop, take-take, drop-take}
+use Rattle.std.proofs.lemmas.List.Elements.{All-nil, All-cons, All-head, All-tail}
+use Rattle.std.proofs.lemmas.Str.{IsUtf8-between, encodes-chars}
+use Rattle.properties_format.specs.Text.{byte, scalar}
+use Rattle.properties_format.specs.Encoding.{windows_1252}
+use Rattle.properties_format.specs.Entries.{Content, pair}
+use Rattle.properties_format.specs.Escapes as escapes
+use Rattle.properties_format.specs.Escapes.{Meaning, Means, means, breaks, IsMeaning, Spelling, spelling_character, spellings_before}
+use Rattle.properties_format.specs.Items.{MeansPair, IsOutcome, ignored, given, broken}
+use Rattle.properties_format.specs.Settings.{Settings}
+use Rattle.properties_format.specs.Split as split
+use Rattle.properties_format.specs.Split.{Logical, IsSplit}
+use Rattle.properties_format.specs.Writing.{is_accepted, pair_call}
+use Rattle.properties_format.specs.Computed.Escapes.{meaning_of}
+use Rattle.properties_format.specs.Computed.Items.{outcome_of, split_outcome, comment_outcome, pair_outcome}
+use Rattle.properties_format.specs.Computed.Split.{split_of}
+use Rattle.properties_format.specs.Computed.Undecoded.{characters_of, in_text}
+use Rattle.properties_format.proofs.Encodings.Characters.{pieces_of-scalar}
+use Rattle.properties_format.proofs.Escapes.Scalars.{means-scalars, rest-scalars}
+use Rattle.properties_format.proofs.Escapes.Unique.{meaning_of-empty, meaning_of-meets, means-only}
+use Rattle.properties_format.proofs.Items.Unique.{outcome_of-meets}
+use Rattle.properties_format.proofs.Split.Unique.{split_of-only}
+use Rattle.properties_format.proofs.Undecoded.{decodes, splits}
+use Rattle.properties_text.specs.Escaping.{malformed_in}
+use Rattle.properties_text.specs.Parsing.{bytes_in, spanned, in_characters, IsSpan, IsCommentAt, IsPairAt, AreFoundInText}
+use Rattle.properties_text.specs.Spelt.{text_in, IsWell, Checks}
+use Rattle.properties_text.proofs.Spelt.Escapes.{no-text}
+use Rattle.properties_text.specs.declared.encoding.line.LineEncoding.{LineEncoding}
+use Rattle.properties_text.specs.declared.encoding.line.LineEncoding.TheVariants.{Windows1252, Utf8}
+use Rattle.properties_text.specs.declared.escape.Malformed.{Malformed}
+use Rattle.properties_text.specs.declared.parse.ParsedSpans.{ParsedSpans}
+use Rattle.properties_text.specs.declared.parse.Span.{Span}
+use Rattle.properties_items.proofs.Scalars.{chars-scalars}
+use Rattle.java_properties.specs.Copying.{HasScalars}
+use Rattle.java_properties.specs.Private.Engine.{takes_span}
+
+-- ---- the parts of a line
+
+-- what a line is, with its parts as texts
+abbrev pub texts_in : LineEncoding → Logical → Logical
+texts_in e split.blank = split.blank
+texts_in e (split.comment text) = split.comment (text_in e text)
+texts_in e (split.pair key value) = split.pair (text_in e key) (text_in e value)
+
+in-windows : (what : Logical) → in_text what ≡ texts_in Windows1252 what
+in-windows split.blank = refl
+in-windows (split.comment text) = refl
+in-windows (split.pair key value) = refl
+
+in-utf8 : (what : Logical) → in_characters what ≡ texts_in Utf8 what
+in-utf8 split.blank = refl
+in-utf8 (split.comment text) = refl
+in-utf8 (split.pair key value) = refl
+
+-- the text of a line is split where its bytes are
+pub split-in : (e : LineEncoding) (line : List ℕ) (parts : Option ParsedSpans) → IsWell e line → IsSplit line (spanned line parts) → (IsUtf8 line → AreFoundInText line parts)
+    → split_of (text_in e line) ≡ texts_in e (spanned line parts)
+split-in Windows1252 line parts w h t =
+    splits line ∙ ap in_text (sym (split_of-only line (spanned line parts) h)) ∙ in-windows (spanned line parts)
+split-in Utf8 line parts w h t = sym (split_of-only (chars line) (in_characters (spanned line parts)) (t w).meets) ∙ in-utf8 (spanned line parts)
+
+-- a part is well-formed
+pub well-in : (e : LineEncoding) (line : List ℕ) (span : Span) → IsWell e line → (IsUtf8 line → IsSpan line span) → IsWell e (bytes_in line span)
+well-in Windows1252 line span w s = tt
+well-in Utf8 line span w s = let k = s w in IsUtf8-between line span.start span.end w k.ordered k.starts_whole k.ends_whole
+
+-- The part lies within a line of this length.
+pub record IsWithin (n : ℕ) (span : Span) : Type 0 where
+  pub ordered : span.start ≤ span.end
+  pub within : span.end ≤ n
+
+pub comment-within : (line : List ℕ) (text : Span) → IsCommentAt line text → IsWithin (length line) text
+comment-within line text h =
+    let d = h.division in
+    let raw = bytes_in line text in
+    let whole = ap length d.whole ∙ length-append d.indent (d.sign ∷ d.rest) in
+    let rest = ap length d.trimmed.whole ∙ length-append d.trimmed.before (raw ++ d.trimmed.after) in
+    let end = length-append raw d.trimmed.after in
+    record { ordered = omega (arith, h.end); within = omega (arith, h.start, h.end, whole, rest, end) }
+
+-- The parts of a pair lie within its line.
+pub record AreWithin (n : ℕ) (key value : Span) : Type 0 where
+  pub key : IsWithin n key
+  pub value : IsWithin n value
+
+pub pair-within : (line : List ℕ) (key value : Span) → IsPairAt line key value → AreWithin (length line) key value
+pair-within line key value h =
+    let d = h.division in
+    let k = bytes_in line key in
+    let v = bytes_in line value in
+    let whole = ap length d.whole ∙ length-append d.indent (k ++ (d.between ++ v)) in
+    let rest = length-append k (d.between ++ v) in
+    let end = length-append d.between v in
+    record {
+      key = record { ordered = omega (arith, h.key_end); within = omega (arith, h.key_start, h.key_end, whole, rest) };
+      value = record {
+        ordered = omega (arith, h.key_start, h.key_end, h.value_start, h.value_end, whole, rest, end);
+        within = omega (arith, h.value_end);
+      };
+    }
+
+-- a part of a line at the front of bytes
+pub front-part : (bytes line : List ℕ) (n : ℕ) (span : Span) → take n bytes ≡ line → IsWithin n span → bytes_in bytes span ≡ bytes_in line span
+front-part bytes line n span front h =
+    let more : span.start + (n - span.start) ≡ n = omega (arith, h.ordered, h.within) in
+    let fits : span.end - span.start ≤ n - span.start = omega (arith, h.ordered, h.within) in
+    let cut = drop-take span.start (n - span.start) bytes in
+    sym (
+    ap (λ v. take (span.end - span.start) (drop span.start v)) (sym front)
+    ∙ ap (λ k. take (span.end - span.start) (drop span.start (take k bytes))) (sym more)
+    ∙ ap (take (span.end - span.start)) cut
+    ∙ take-take (span.end - span.start) (n - span.start) (drop span.start bytes) fits)
+
+-- ---- scalar values
+
+all-left : (x y : List ℕ) → All scalar (x ++ y) → All scalar x
+all-left [] y h = All-nil scalar
+all-left (c ∷ x) y h = All-cons scalar c x (All-head scalar c (x ++ y) h) (all-left x y (All-tail scalar c (x ++ y) h))
+
+-- a line at the front of bytes
+pub front-bytes : (bytes line : List ℕ) (n : ℕ) → All byte bytes → take n bytes ≡ line → All byte line
+front-bytes bytes line n h e = subst (All byte) e (take-bytes bytes n h)
+  where
+    take-bytes : (bytes : List ℕ) (n : ℕ) → All byte bytes → All byte (take n bytes)
+    take-bytes bytes zero h = All-nil byte
+    take-bytes [] (suc n) h = All-nil byte
+    take-bytes (b ∷ bytes) (suc n) h = All-cons byte b (take n bytes) (All-head byte b bytes h) (take-bytes bytes n (All-tail byte b bytes h))
+
+-- the text of a line is of scalar values
+pub text-scalars : (e : LineEncoding) (line : List ℕ) → IsWell e line → All byte line → All scalar (text_in e line)
+text-scalars Windows1252 line w h = subst (All scalar) (decodes line) (pieces_of-scalar windows_1252 line h)
+text-scalars Utf8 line w h = chars-scalars line w
+
+-- the texts of a pair in a text of scalar values
+pub pair-scalars : (text key value : List ℕ) → All scalar text → outcome_of text ≡ given (pair key value) → HasScalars (pair key value)
+pair-scalars text key value all o =
+    let m : MeansPair text key value = subst (IsOutcome text) o (outcome_of-meets text) in
+    let s = m.split in
+    let keyed = rest-scalars s.indent (m.raw_key ++ (s.between ++ m.raw_value)) (subst (All scalar) s.whole all) in
+    let between = rest-scalars m.raw_key (s.between ++ m.raw_value) keyed in (
+      means-scalars m.raw_key key m.key_means (all-left m.raw_key (s.between ++ m.raw_value) keyed),
+      means-scalars m.raw_value value m.value_means (rest-scalars s.between m.raw_value between),
+    )
+
+-- ---- an empty key
+
+-- only an empty text means an empty text
+means-none : (text : List ℕ) → Means text [] → text ≡ []
+means-none text m = m.whole ∙ by-spellings m.spellings m.characters
+  where
+    by-spellings : (ps : List Spelling) → [] ≡ map spelling_character ps → spellings_before ps [] ≡ []
+    by-spellings [] e = refl
+    by-spellings (p ∷ ps) e = absurd (cc)
+
+-- only no bytes are an empty text
+no-bytes : (e : LineEncoding) (bs : List ℕ) → IsWell e bs → text_in e bs ≡ [] → length bs ≡ 0
+no-bytes Windows1252 [] w h = refl
+no-bytes Windows1252 (b ∷ bs) w h = absurd (cc)
+no-bytes Utf8 [] w h = refl
+no-bytes Utf8 (b ∷ bs) w h = absurd (let e = sym (encodes-chars (b ∷ bs) w) ∙ ap encodes h in cc)
+
+-- an empty text means only an empty text
+none-means : (text : List ℕ) (c : ℕ) (key : List ℕ) → text ≡ [] → meaning_of text ≡ means (c ∷ key) → ⊥
+none-means text c key e m = let k : means (c ∷ key) ≡ means [] = sym m ∙ ap meaning_of e ∙ meaning_of-empty in absurd (cc)
+
+-- a pair is accepted if its span is taken
+pub span-accepts : (s : Settings) (e : LineEncoding) (line : List ℕ) (span : Span) (key value : List ℕ) → IsWithin (length line) span → IsWell e (bytes_in line span)
+    → meaning_of (text_in e (bytes_in line span)) ≡ means key → takes_span s span ≡ is_accepted s (pair_call key value)
+span-accepts s e line span [] value h w m =
+    let raw = bytes_in line span in
+    let none = means-none (text_in e raw) (subst (IsMeaning (text_in e raw)) m (meaning_of-meets (text_in e raw))) in
+    let size = no-bytes e raw w none in
+    let left = length-drop span.start line in
+    let all = length-take-le (span.end - span.start) (drop span.start line) (omega (arith, left, h.ordered, h.within)) in
+    let empty : span.start ≡ span.end = omega (arith, all, size, h.ordered) in
+    rw (eq-eqb span.start span.end empty) refl
+span-accepts s e line span (c ∷ key) value h w m = elim (cases_Bool (span.start == span.end)) [
+  | inl k ↦
+      let same = eqb-true span.start span.end k in
+      let none : span.end - span.start ≡ 0 = omega (arith, same) in
+      let size : length (bytes_in line span) ≡ 0 = ap (λ n. length (take n (drop span.start line))) none in
+      absurd (none-means (text_in e (bytes_in line span)) c key (no-text e (bytes_in line span) size) m)
+  | inr k ↦ rw k refl
+]
+
+-- ---- what a line is
+
+-- a comment whose escapes can be resolved, and one whose escapes can't
+pub comment-is : (e : LineEncoding) (text raw : List ℕ) → split_of text ≡ split.comment (text_in e raw) → (c : Checks e raw (Ok tt)) → outcome_of text ≡ comment_outcome (means c.0)
+comment-is e text raw h c = ap split_outcome h ∙ ap comment_outcome c.1
+
+pub comment-breaks : (e : LineEncoding) (text raw : List ℕ) (kind : Malformed) → split_of text ≡ split.comment (text_in e raw) → Checks e raw (Err kind)
+    → outcome_of text ≡ broken (malformed_in kind)
+comment-breaks e text raw kind h c = ap split_outcome h ∙ ap comment_outcome c
+
+-- a pair whose escapes can be resolved, and one whose escapes can't
+module _ (text raw_key raw_value : List ℕ) (h : split_of text ≡ split.pair raw_key raw_value) where
+  pub pair-is : (key value : List ℕ) → meaning_of raw_key ≡ means key → meaning_of raw_value ≡ means value → outcome_of text ≡ given (pair key value)
+  pair-is key value k v = ap split_outcome h ∙ ap₂ pair_outcome k v
+
+  pub key-breaks : (kind : escapes.Malformed) → meaning_of raw_key ≡ breaks kind → outcome_of text ≡ broken kind
+  key-breaks kind k = ap split_outcome h ∙ ap (λ v. pair_outcome v (meaning_of raw_value)) k
+
+  pub value-breaks : (key : List ℕ) (kind : escapes.Malformed) → meaning_of raw_key ≡ means key → meaning_of raw_value ≡ breaks kind → outcome_of text ≡ broken kind
+  value-breaks key kind k v = ap split_outcome h ∙ ap₂ pair_outcome k v
