@@ -18,6 +18,7 @@ mod into;
 pub(crate) mod items;
 mod keys;
 mod malformed;
+mod value;
 mod whole;
 
 pub use crate::iter::copy::CopyError;
@@ -34,6 +35,7 @@ use properties_text::encoding::Encoding;
 use std::alloc::Global;
 use std::marker::Model;
 use std::mem;
+pub use value::value_of;
 pub use whole::{Stopped, read_lines};
 
 /// The comments and pairs of a file, in order, each with its line number.

@@ -22,7 +22,9 @@ mod maps;
 mod streams;
 mod writer;
 
-pub use iter::{CopyError, PropertiesIter, Stopped, key_lines, malformed_escapes, read_lines};
+pub use iter::{
+    CopyError, PropertiesIter, Stopped, key_lines, malformed_escapes, read_lines, value_of,
+};
 pub use maps::{read, read_sorted, write, write_sorted};
 pub use properties_editing::{Document, Edit, edit_all, remove_key, set_key, set_value};
 pub use properties_items::borrowed::{ContentRef, LineRef};
