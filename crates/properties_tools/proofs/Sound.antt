@@ -1,4 +1,4 @@
--- A source without malformed escapes has items alone.
+-- The items of a source without malformed escapes.
 use Rattle.std.proofs.Common.{◌≡◌, ℕ, List, [], ◌∷◌, ◌++◌, refl, ap, sym, ◌∙◌}
 use Rattle.properties_format.specs.Encoding.{Encoding, IsDecoded}
 use Rattle.properties_format.specs.Entries.{Entry, AreItems}
