@@ -1,6 +1,7 @@
 // The value of a key in a source.
 
-ghost use Rattle.std.specs.Prelude.{◌≡◌, IfOk};
+ghost use Rattle.std.specs.Prelude.{◌≡◌, bytes_eq, IfOk};
+ghost use Rattle.std.specs.Cow.{cow_str_bytes};
 ghost use Rattle.std.specs.Option.{option_map};
 ghost use Rattle.std.specs.Str.{chars};
 ghost use Rattle.properties_text.specs.Encoding.{encoding_of};
@@ -11,10 +12,11 @@ ghost use Rattle.java_properties.specs.Private.SoughtValues.{SeeksValue, value_a
 
 use crate::iter::items::ItemReader;
 use counted_io::CountedRead;
-use properties_items::borrowed::ContentRef;
+use properties_items::borrowed::{ContentRef, LineRef};
 use properties_items::error::PropertiesError;
 use properties_text::encoding::Encoding;
 use std::alloc::{AllocError, Global};
+use std::borrow::CowStr;
 
 /// Reads a source and returns the value of a key: that of the last pair with the key, or `None` if no pair has it.
 ///
@@ -52,7 +54,7 @@ fn last_value<R: CountedRead>(
     let mut value = None;
     while let Some(item) = items.advance(input) {
         let found = item?;
-        value = later_value(alloc, value, items.get(found).content(), key)?;
+        value = later_value(alloc, value, items.get(found), key)?;
     }
     Ok(value)
 }
@@ -61,20 +63,27 @@ fn last_value<R: CountedRead>(
 fn later_value(
     alloc: Global,
     earlier: Option<String>,
-    content: &ContentRef<'_>,
+    line: LineRef<'_>,
     key: &str,
 ) -> Result<Option<String>, AllocError>
     ensures { IfOk result (λ value. let before = option_map characters earlier in
-        option_map characters value ≡ value_after (chars key.now) (borrowed_content content.now) before) }
+        option_map characters value ≡ value_after (chars key.now) (borrowed_content line.entry.content) before) }
 {
-    match content {
+    match line.content() {
         ContentRef::Comment(_) => Ok(earlier),
         ContentRef::KVPair(name, value) => {
-            if name.as_str() != key {
+            if !is_text(name, key) {
                 return Ok(earlier);
             }
             drop(earlier);
             Ok(Some(String::from_str(alloc, value.as_str())?))
         }
     }
+}
+
+// Returns whether a borrowed text equals `text`.
+fn is_text(found: &CowStr<'_>, text: &str) -> bool
+    ensures { result ≡ bytes_eq (chars (cow_str_bytes found.now)) (chars text.now) }
+{
+    found.as_str() == text
 }

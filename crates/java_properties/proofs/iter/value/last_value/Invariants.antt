@@ -9,7 +9,7 @@ use Rattle.java_properties.proofs.iter.value.last_value.Given as goal
 
 abbrev pub invariant-loop-item : goal.invariant-loop-item
 invariant-loop-item g l =
-    HasSought (reader g.R.Read g.R.CountedRead) (encoding_of l.fn.encoding) l.fn.input (chars l.fn.key.now) (option_map characters l.value) l.items.state l.input
+    HasSought (reader g.R.Read g.R.CountedRead) (encoding_of l.fn.encoding) l.fn.input (chars l.fn.key) (option_map characters l.value) l.items.state l.input
 
 abbrev pub decreases-loop-item : goal.decreases-loop-item
 decreases-loop-item g l = lines_left l.items.state
