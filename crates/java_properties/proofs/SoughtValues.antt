@@ -21,7 +21,7 @@ use Rattle.properties_items.specs.declared.error.ErrorKind.TheVariants as kind
 use Rattle.properties_items.specs.declared.error.PropertiesError.{PropertiesError}
 use Rattle.java_properties.specs.Maps.{ReadsValue}
 use Rattle.java_properties.specs.ReadLines.{StopsMalformed}
-use Rattle.java_properties.specs.Values.{IsFirstError, TellsValue}
+use Rattle.java_properties.specs.Values.{TellsValue}
 use Rattle.java_properties.specs.Private.GivenItems.{GivesEntry, GivesNone, GivesMalformed, GivesError}
 use Rattle.java_properties.specs.Private.SoughtValues.{value_after, StopsSeeking, SeeksValue}
 use Rattle.java_properties.proofs.Readings.{Collected, collected-start, collected-next, collected-none, collected-lost, collected-malformed, collected-error}
