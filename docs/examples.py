@@ -22,7 +22,7 @@ use counted_io::{Counted, CountedRead, CountedWrite, ScriptedReader, ScriptedSin
 use java_properties::{
     Call, Cause, ContentRef, Document, Edit, Encoding, LineContent, LineEnding, PropertiesError, PropertiesIter,
     PropertiesWriter, edit_all, key_lines, laws, malformed_escapes, read, read_lines, read_sorted, read_source, remove_key, run_calls,
-    set_key, set_value, write, write_sorted, write_source,
+    set_key, set_value, value_of, write, write_sorted, write_source,
 };
 use properties_text::encoding::{OutputEncoding, TextBuffer};
 use properties_text::escape::unescape;

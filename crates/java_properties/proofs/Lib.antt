@@ -14,3 +14,6 @@ pub mod KeyLines
 pub mod ReadInto
 pub mod TextMaps
 pub mod WholeSources
+pub mod FewLines
+pub mod SliceReads
+pub mod SoughtValues

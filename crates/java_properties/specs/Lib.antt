@@ -21,4 +21,5 @@ pub mod KeyLines
 pub mod ReadInto
 pub mod Maps
 pub mod WholeSources
+pub mod Values
 pub mod Private

@@ -15,6 +15,7 @@ mod into;
 pub(crate) mod items;
 mod keys;
 mod malformed;
+mod value;
 mod whole;
 
 use crate::iter::items::ItemReader;
@@ -28,6 +29,7 @@ use properties_items::line::Line;
 use properties_text::encoding::Encoding;
 use std::alloc::Global;
 use std::marker::Model;
+pub use value::value_of;
 pub use whole::{Stopped, read_lines};
 
 /// The comments and pairs of a file, in order, each with its line number.

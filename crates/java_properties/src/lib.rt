@@ -24,7 +24,7 @@ mod streams;
 mod writer;
 
 pub use copy::CopyError;
-pub use iter::{PropertiesIter, Stopped, key_lines, malformed_escapes, read_lines};
+pub use iter::{PropertiesIter, Stopped, key_lines, malformed_escapes, read_lines, value_of};
 pub use maps::{read, read_sorted, write, write_sorted};
 pub use properties_editing::{Document, Edit, edit_all, remove_key, set_key, set_value};
 pub use properties_items::borrowed::{ContentRef, LineRef};

@@ -6,7 +6,7 @@ ghost use Rattle.std.specs.Prelude.{◌<◌};
 
 use crate::same::same;
 use java_properties::{
-    Document, Edit, Encoding, PropertiesError, edit_all, remove_key, set_key, set_value,
+    Document, Edit, Encoding, PropertiesError, edit_all, remove_key, set_key, set_value, value_of,
 };
 use std::alloc::{AllocError, Global};
 use std::process::Abort;
@@ -49,7 +49,7 @@ fn check_edits(
     }
     let listed = edit_all(alloc, source, Encoding::WINDOWS_1252, &edits)?;
     same(rt, listed.as_slice(), wanted.as_slice());
-    Ok(())
+    check_source(rt, alloc, &document, KEYS[numbers.below(7)])
 }
 
 fn change(document: &mut Document, edit: &Edit) -> Result<(), AllocError> {
@@ -89,6 +89,18 @@ fn check_document(
     let keys = document.keys(alloc)?;
     let others = opened.keys(alloc)?;
     check_keys(rt, &keys, &others);
+    Ok(())
+}
+
+// What a document says of a key, its bytes say too.
+fn check_source(
+    rt: &impl Abort,
+    alloc: Global,
+    document: &Document,
+    key: &str,
+) -> Result<(), Fail> {
+    let value = value_of(alloc, document.source(), Encoding::WINDOWS_1252, key)?;
+    check_value(rt, value.as_deref(), document.get(key));
     Ok(())
 }
 

@@ -3,4 +3,5 @@
 mod borrowed;
 mod keys;
 mod lazy;
+mod lookups;
 mod malformed;

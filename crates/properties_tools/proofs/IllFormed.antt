@@ -24,7 +24,7 @@ use Rattle.properties_lines.specs.declared.scanner.RawLine.{RawLine}
 use Rattle.properties_lines.specs.declared.scanner.Scanner.{Scanner}
 use Rattle.properties_lines.proofs.HeldLines.{body-next, body-after, body-lines_left}
 use Rattle.properties_tools.specs.Propedit.Lines.{AreIllFormed, AreIllFormedIn, HasIllFormedIn, IsFound}
-use Rattle.properties_tools.proofs.FewLines.{few-held}
+use Rattle.java_properties.proofs.FewLines.{few-held}
 
 -- ---- the numbers, computed
 

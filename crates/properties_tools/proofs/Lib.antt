@@ -1,7 +1,6 @@
 pub mod AsciiOnly
 pub mod Asking
 pub mod Failing
-pub mod FewLines
 pub mod FilterErrors
 pub mod Filtering
 pub mod IllFormed
@@ -12,7 +11,6 @@ pub mod Prefixes
 pub mod Reports
 pub mod Settled
 pub mod Shown
-pub mod SliceReads
 pub mod Slices
 pub mod Sound
 pub mod Taking

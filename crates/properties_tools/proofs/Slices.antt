@@ -4,30 +4,18 @@ use Rattle.std.specs.Prelude.{◌⊎◌, Result, Ok, Err}
 use Rattle.std.specs.Borrow.{Bor}
 use Rattle.std.specs.Global.{Vec}
 use Rattle.properties_format.specs.Encoding.{Encoding}
-use Rattle.properties_format.specs.ItemsToCome.{start}
 use Rattle.properties_format.specs.MalformedEscapes.{AreMalformedEscapes}
-use Rattle.counted_io.specs.Streams.{HasRead}
 use Rattle.java_properties.specs.Errors.{IsBareError}
 use Rattle.java_properties.specs.KeyLines.{AreKeyLines, FindsKeys, key_line_entries}
 use Rattle.java_properties.specs.MalformedEscapes.{FailsToFind, FindsMalformed, StopsFinding}
-use Rattle.java_properties.specs.PropertiesIter.{PassesAll}
 use Rattle.properties_items.specs.declared.error.ErrorKind.TheVariants as kind
 use Rattle.properties_items.specs.declared.error.PropertiesError.{PropertiesError}
 use Rattle.properties_items.specs.declared.findings.KeyLine.{KeyLine}
 use Rattle.properties_items.specs.declared.findings.MalformedEscape.{MalformedEscape}
+use Rattle.java_properties.proofs.SliceReads.{slice_reader, slice-whole, slice-faultless, slice-numbered}
 use Rattle.properties_tools.specs.Propedit.Sources.{FindsKeysIn, FindsMalformedIn}
-use Rattle.properties_tools.proofs.FewLines.{few-passed}
-use Rattle.properties_tools.proofs.SliceReads.{slice_reader, slice-read, slice-whole, slice-faultless}
 
--- It has a number for each of its lines.
-pub slice-numbered : (e : Encoding) (from to : Bor (List ℕ)) (bytes : List ℕ) → length from.now + 1 < 2 ^ 64 → HasRead slice_reader from bytes to → PassesAll (start e) bytes → ⊥
-slice-numbered e from to bytes small read passes =
-    let many = few-passed e bytes passes in
-    let whole : length from.now ≡ length (bytes ++ to.now) = ap length (slice-read read) in
-    let parts = length-append bytes to.now in
-    omega arith
-
--- So an error can only be for want of memory.
+-- It has a number for each of its lines, so an error can only be for want of memory.
 slice-error : (e : Encoding) (from to : Bor (List ℕ)) (error : PropertiesError) → length from.now + 1 < 2 ^ 64
     → FailsToFind slice_reader e from error to ⊎ StopsFinding slice_reader e from error to → IsBareError kind.Memory error
 slice-error e from to error small (inl h) = absurd (slice-faultless h.failed)

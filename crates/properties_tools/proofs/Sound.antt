@@ -1,8 +1,7 @@
--- A source without malformed escapes has no malformed entry.
+-- The items of a source without malformed escapes.
 use Rattle.std.proofs.Common.{◌≡◌, ℕ, List, [], ◌∷◌, ◌++◌, refl, ap, sym, ◌∙◌}
 use Rattle.properties_format.specs.Encoding.{Encoding, IsDecoded}
-use Rattle.properties_format.specs.Entries.{Entry, item, malformed, read_fault, AreItems}
-use Rattle.properties_format.specs.Escapes.{Malformed}
+use Rattle.properties_format.specs.Entries.{Entry, AreItems}
 use Rattle.properties_format.specs.Groups.{IsGroups, joined, first_number}
 use Rattle.properties_format.specs.Items.{Outcome, ignored, given, broken, IsFollowed, AreEntries, IsItems}
 use Rattle.properties_format.specs.Lines.{end, Line, Lines, IsLines, line_ends, numbered_lines}
@@ -30,12 +29,6 @@ groups-items n (g ∷ gs) escapes entries none (outcome, rest, is, same, others)
     let one : o ≡ outcome = outcome_of-only (joined g) o is_too ∙ sym (outcome_of-only (joined g) outcome is) in
     followed-items (first_number g) (joined g) outcome rest (AreEntries n end gs) entries (none ∙ same) (λ e es k. groups-items n gs rest es e others k) (rw one at followed)
 
-no-malformed : (before : List Entry) (how : Malformed) (number : ℕ) → AreItems (before ++ (malformed how number ∷ [])) → ⊥
-no-malformed [] how number h = h
-no-malformed (item n content ∷ before) how number h = no-malformed before how number h
-no-malformed (malformed kind n ∷ before) how number h = h
-no-malformed (read_fault n ∷ before) how number h = h
-
 module _ (e : Encoding) (source : List ℕ) where
   -- the groups of a source are those that are computed
   groups-are : (text : List ℕ) (lines : Lines) (groups : List (List Line)) → IsDecoded e source text → IsLines text lines → IsGroups (numbered_lines lines end) end groups
@@ -51,7 +44,3 @@ module _ (e : Encoding) (source : List ℕ) where
       let same : k.groups ≡ h.groups =
       groups-are k.text k.lines k.groups k.decoded k.divided k.grouped ∙ sym (groups-are h.text h.lines h.groups h.decoded h.divided h.grouped) in
       groups-items (line_ends k.lines) h.groups [] entries refl h.are_escapes (rw same at k.are_entries)
-
-  -- So none of them is malformed.
-  pub sound-unbroken : (before : List Entry) (how : Malformed) (number : ℕ) → AreMalformedEscapes e source [] → IsItems e source end (before ++ (malformed how number ∷ [])) → ⊥
-  sound-unbroken before how number h k = no-malformed before how number (sound-items (before ++ (malformed how number ∷ [])) h k)

@@ -11,7 +11,7 @@ use crate::propedit::answers::{Answer, push_ended};
 use crate::propedit::asked::TextEnd;
 use crate::propedit::error::Failure;
 use crate::propedit::source::refuse_unsound;
-use java_properties::{Encoding, PropertiesError, read_sorted};
+use java_properties::{Encoding, PropertiesError, value_of};
 use std::alloc::{AllocError, Global};
 
 /// Returns the last value of a key, or the default if no pair has the key, and the byte that ends it. If there is
@@ -51,9 +51,7 @@ fn look_up(
 ) -> Result<Option<String>, PropertiesError>
     ensures { LooksUp (encoding_of encoding) source.now (chars key.now) result }
 {
-    let mut input = source;
-    let mut map = read_sorted(alloc, &mut input, encoding)?;
-    Ok(map.remove(key))
+    value_of(alloc, source, encoding, key)
 }
 
 // Returns a text with the byte that ends it, or no text and the status 1.

@@ -1,10 +1,14 @@
 -- What was read of a slice.
-use Rattle.std.proofs.Common.{◌≡◌, ℕ, List, [], ◌++◌, ap, sym, ◌∙◌, length, arith}
+use Rattle.std.proofs.Common.{◌≡◌, ℕ, ◌+◌, ◌^◌, ◌<◌, List, [], ◌++◌, ap, sym, ◌∙◌, length, length-append, arith}
 use Rattle.std.specs.Prelude.{Some, ◌==◌, true}
 use Rattle.std.specs.Borrow.{Bor}
 use Rattle.std.specs.declared.io.Error.{Error}
 use Rattle.std.proofs.lemmas.List.{nil_from_length, append-nil}
 use Rattle.counted_io.specs.Streams.{Reader, HasRead, HasFailed}
+use Rattle.properties_format.specs.Encoding.{Encoding}
+use Rattle.properties_format.specs.ItemsToCome.{start}
+use Rattle.java_properties.specs.PropertiesIter.{PassesAll}
+use Rattle.java_properties.proofs.FewLines.{few-passed}
 
 -- what is known of a slice as a reader
 abbrev pub slice_reader : Reader (Bor (List ℕ))
@@ -30,3 +34,11 @@ module _ {from to : Bor (List ℕ)} {bytes : List ℕ} where
   -- No read of a slice fails.
   pub slice-faultless : {error : Error} → HasFailed slice_reader from bytes error to → ⊥
   slice-faultless h = cc (h.risen)
+
+-- It has a number for each of its lines.
+pub slice-numbered : (e : Encoding) (from to : Bor (List ℕ)) (bytes : List ℕ) → length from.now + 1 < 2 ^ 64 → HasRead slice_reader from bytes to → PassesAll (start e) bytes → ⊥
+slice-numbered e from to bytes small read passes =
+    let many = few-passed e bytes passes in
+    let whole : length from.now ≡ length (bytes ++ to.now) = ap length (slice-read read) in
+    let parts = length-append bytes to.now in
+    omega arith

@@ -1,0 +1,133 @@
+-- The value of a key that is sought, item after item.
+use Rattle.std.proofs.Common.{◌≡◌, ℕ, ◌+◌, ◌^◌, ◌<◌, false, List, [], ◌∷◌, ◌++◌, length, refl, sym, ◌∙◌, inl, inr, subst}
+use Rattle.std.specs.Prelude.{◌⊎◌, if◌then◌else◌, Option, None, Result, Ok, Err, bytes_eq}
+use Rattle.std.specs.Borrow.{Bor}
+use Rattle.std.specs.Option.{option_map}
+use Rattle.std.specs.declared.string.String.{String}
+use Rattle.counted_io.specs.Streams.{Reader}
+use Rattle.properties_format.specs.Edited.{IsFirstMalformed}
+use Rattle.properties_format.specs.Encoding.{Encoding}
+use Rattle.properties_format.specs.Entries.{Content, comment, pair, Entry, item, malformed, read_fault, AreItems}
+use Rattle.properties_format.specs.Escapes.{Malformed}
+use Rattle.properties_format.specs.Items.{IsItems}
+use Rattle.properties_format.specs.ItemsToCome.{ReaderState, start}
+use Rattle.properties_format.specs.Lines.{end}
+use Rattle.properties_format.specs.Maps.{HasValue, IsValue}
+use Rattle.properties_format.specs.Computed.Maps.{value_in}
+use Rattle.properties_format.proofs.Maps.{map-comment, map-meets, map-pair, value_in-only}
+use Rattle.properties_items.specs.Errors.{IsBareError}
+use Rattle.properties_items.specs.Texts.{characters}
+use Rattle.properties_items.specs.declared.error.ErrorKind.TheVariants as kind
+use Rattle.properties_items.specs.declared.error.PropertiesError.{PropertiesError}
+use Rattle.java_properties.specs.Maps.{ReadsValue}
+use Rattle.java_properties.specs.ReadLines.{StopsMalformed}
+use Rattle.java_properties.specs.Values.{TellsValue}
+use Rattle.java_properties.specs.Private.GivenItems.{GivesEntry, GivesNone, GivesMalformed, GivesError}
+use Rattle.java_properties.specs.Private.SoughtValues.{value_after, StopsSeeking, SeeksValue}
+use Rattle.java_properties.proofs.Readings.{Collected, collected-start, collected-next, collected-none, collected-lost, collected-malformed, collected-error}
+use Rattle.java_properties.proofs.SliceReads.{slice_reader, slice-read, slice-whole, slice-faultless, slice-numbered}
+
+-- ---- one item more
+
+items-added : (entries : List Entry) (number : ℕ) (content : Content) → AreItems entries → AreItems (entries ++ item number content ∷ [])
+items-added [] number content h = tt
+items-added (item n c ∷ entries) number content h = items-added entries number content h
+items-added (malformed kind n ∷ entries) number content h = absurd h
+items-added (read_fault n ∷ entries) number content h = absurd h
+
+-- the value of a key after one item more
+value-added : (entries : List Entry) (number : ℕ) (content : Content) (key : List ℕ) (value : Option (List ℕ)) → IsValue entries key value
+    → IsValue (entries ++ item number content ∷ []) key (value_after key content value)
+value-added entries number content key value h =
+    subst (λ v. IsValue (entries ++ item number content ∷ []) key (value_after key content v)) (sym (value_in-only entries key value h)) (by-content content)
+  where
+    by-content : (c : Content) → IsValue (entries ++ item number c ∷ []) key (value_after key c (value_in entries key))
+    by-content (comment text) = map-comment entries number text (value_in entries) (map-meets entries) key
+    by-content (pair name text) =
+        map-pair entries number name text (value_in entries) (λ k. if bytes_eq name k then Option.Some text else value_in entries k) (map-meets entries) (λ k. refl) key
+
+-- ---- the reading
+
+-- These items came so far, and this is the value of the key in them.
+pub record HasSought {R : Type 0} (reader : Reader R) (e : Encoding) (from : R) (key : List ℕ) (value : Option (List ℕ)) (state : ReaderState) (to : R) : Type 0 where
+  pub entries : List Entry
+  pub bytes : List ℕ
+  pub collected : Collected reader e from bytes entries state to
+  pub are_items : AreItems entries
+  pub is : IsValue entries key value
+
+module _ {R : Type 0} {reader : Reader R} {e : Encoding} {key : List ℕ} where
+  -- before the first item
+  pub sought-none : (from : R) (state : ReaderState) → state ≡ start e → HasSought reader e from key None state from
+  sought-none from state is = rw is (record { entries = []; bytes = []; collected = collected-start e from; are_items = tt; is = tt })
+
+  -- an item came
+  pub sought-more : {from to next : R} {value : Option (List ℕ)} {s t : ReaderState} (number : ℕ) (content : Content) (later : Option (List ℕ)) → HasSought reader e from key value s to
+      → GivesEntry reader s to (item number content) t next → later ≡ value_after key content value → HasSought reader e from key later t next
+  sought-more {value = value} number content later h g is = rw is (record {
+    entries = h.entries ++ item number content ∷ [];
+    bytes = h.bytes ++ g.bytes;
+    collected = collected-next h.collected g;
+    are_items = items-added h.entries number content h.are_items;
+    is = value-added h.entries number content key value h.is;
+  })
+
+  -- an item came for which there was no memory
+  pub sought-lost : {from to next : R} {value : Option (List ℕ)} {s t : ReaderState} {entry : Entry} {error : PropertiesError} → HasSought reader e from key value s to
+      → GivesEntry reader s to entry t next → IsBareError kind.Memory error → StopsSeeking reader e from error next
+  sought-lost h g is = record { entries = h.entries; are_items = h.are_items; stops = inr (inr (collected-lost h.collected g is)) }
+
+  -- an error came
+  pub sought-error : {from to next : R} {value : Option (List ℕ)} {s : ReaderState} {error : PropertiesError} → HasSought reader e from key value s to
+      → s.is_done ≡ false → GivesMalformed reader s to error next ⊎ GivesError reader s to error next → StopsSeeking reader e from error next
+  sought-error h live k = record {
+    entries = h.entries;
+    are_items = h.are_items;
+    stops = elim k [ inl m ↦ inl (collected-malformed h.collected live m) | inr j ↦ inr (collected-error h.collected live j) ];
+  }
+
+  -- no item comes any more
+  pub sought-all : {from to next : R} {value : Option (List ℕ)} {s t : ReaderState} → HasSought reader e from key value s to → GivesNone reader s to t next
+      → ReadsValue reader e from key value next
+  sought-all h n =
+      let whole = collected-none h.collected n in
+      record {
+        items = h.entries;
+        reads = whole;
+        has_value = record { entries = h.entries; items = whole.reading.items; whole = h.are_items; is = h.is };
+      }
+
+-- ---- a slice
+
+first-malformed : (entries : List Entry) (how : Malformed) (number : ℕ) → AreItems entries → IsFirstMalformed how number (entries ++ (malformed how number ∷ []))
+first-malformed [] how number h = (refl, refl)
+first-malformed (item n content ∷ entries) how number h = first-malformed entries how number h
+first-malformed (malformed kind n ∷ entries) how number h = absurd h
+first-malformed (read_fault n ∷ entries) how number h = absurd h
+
+module _ (e : Encoding) (from to : Bor (List ℕ)) where
+  -- the items of a slice whose reading stops at a malformed escape
+  stopped-items : (entries : List Entry) (error : PropertiesError) (h : StopsMalformed slice_reader e from entries error to)
+      → IsItems e from.now end (entries ++ malformed h.how h.number ∷ [])
+  stopped-items entries error h =
+      elim h.reading [
+        | inl k ↦ rw (slice-read h.read) (k to.now end).items
+        | inr k ↦ rw (← slice-whole h.read k.0) k.1.items
+      ]
+
+  -- What a slice says of a key: it fails only at a malformed escape, or if memory runs out.
+  pub slice-tells : {Z : Type 0} (key : List ℕ) (result : Result (Option (String Z)) PropertiesError) → length from.now + 1 < 2 ^ 64
+      → SeeksValue slice_reader e key from result to → TellsValue e from.now key result
+  slice-tells key (Ok value) small h = subst (λ v. HasValue e v key (option_map characters value)) (slice-whole h.reads.read h.reads.ended) h.has_value
+  slice-tells key (Err error) small h = elim h.stops [
+    | inl k ↦ inl (record {
+      how = k.how;
+      number = k.number;
+      first = (h.entries ++ malformed k.how k.number ∷ [], stopped-items h.entries error k, first-malformed h.entries k.how k.number h.are_items);
+      is = k.is;
+    })
+    | inr j ↦ elim j [
+      | inl k ↦ absurd (slice-faultless k.failed)
+      | inr k ↦ elim k.is [ inl is ↦ absurd (slice-numbered e from to k.bytes small k.read is.1) | inr is ↦ inr is ]
+    ]
+  ]
