@@ -5,12 +5,10 @@ use Rattle.std.proofs.Math.Seq.{drop-append_seam}
 use Rattle.std.proofs.lemmas.List.{length-take-le, drop-drop, take_rest, take_more, map-append}
 use Rattle.std.proofs.lemmas.Result.{err_from_is_err_and}
 use Rattle.std.proofs.lemmas.Bool.{cases_Bool, cond-true}
-use Rattle.properties_format.proofs.Encodings.ByteOrderMarks.{byte_order_mark-none}
-use Rattle.properties_text.specs.Decoding as text
 use Rattle.properties_format.specs.Text.{scalar, line_feed, equals_sign}
 use Rattle.properties_format.specs.Printing.{in_key_or_value, printed_key, printed_characters, encoded_text}
 use Rattle.properties_format.proofs.Printing.Characters.{encoded-ascii, encoded_text-append}
-use Rattle.properties_format.specs.Encoding.{Encoding, windows_1252, utf_8, utf_16le, utf_16be, InForce, byte_order_mark, begins_with, begins_like_bom, utf_8_bom, utf_16be_bom, utf_16le_bom, output_encoding}
+use Rattle.properties_format.specs.Encoding.{Encoding, InForce, byte_order_mark, begins_with, begins_like_bom, utf_8_bom, utf_16be_bom, utf_16le_bom, output_encoding}
 use Rattle.properties_format.specs.Lines.{end}
 use Rattle.properties_format.specs.Writing.{is_empty}
 use Rattle.properties_format.specs.Body.{ending_bytes, groups_bytes, last_ending}
@@ -268,18 +266,11 @@ no_bom-begins b = elim (cases_Bool (begins_with utf_8_bom b)) [
   ]
 ]
 
--- a source starts with its body where it begins with no byte order mark,
+-- a source starts with its body where it begins with no byte order mark
 pub unmarked : {source : List ℕ} {e : Encoding} {opened : BodyStart} → IsInForce source e opened → (opened.start == 0) ≡ not (begins_like_bom source)
 unmarked {source} {e} {opened} h =
     let size : length (bom_of source) ≡ opened.start = ap length (bom-front h) ∙ length-take-le opened.start source h.within in
     ap (λ n. n == 0) (sym size) ∙ no_bom-begins source
-
--- and doesn't where it begins with one
-marked : {source : List ℕ} {e : Encoding} {opened : BodyStart} → IsInForce source e opened → not (opened.start == 0) ≡ begins_like_bom source
-marked {source} {e} {opened} h = ap not (unmarked h) ∙ again (begins_like_bom source)
-  where
-    again : (b : Bool) → not (not b) ≡ b
-    again b = elim (cases_Bool b) [ inl k ↦ rw k refl | inr k ↦ rw k refl ]
 
 -- ---- a key is removed
 

@@ -1,20 +1,11 @@
 -- Edits made one after another, each to the bytes that the one before it gave.
-use Rattle.std.proofs.Common.{◌≡◌, ℕ, List, [], ◌∷◌, ◌++◌, refl, sym, ◌∙◌, subst, inl, inr}
-use Rattle.std.specs.Prelude.{Result, Ok, Err, true, false, ◌⊎◌}
-use Rattle.std.specs.Global.{Vec}
-use Rattle.properties_format.specs.Encoding.{Encoding, byte_order_mark}
-use Rattle.properties_format.specs.Lines.{end}
-use Rattle.properties_format.specs.Escapes.{Malformed}
-use Rattle.properties_format.specs.Entries.{Entry, item, malformed, read_fault, AreItems}
-use Rattle.properties_format.specs.Edited.{edited, is_editable, IsEditResult, IsFirstMalformed}
-use Rattle.properties_format.specs.Edits.{Edit, put, remove, set_value, IsEdited, AreEdited, AreScalarEdits, IsEditAllResult}
-use Rattle.properties_format.proofs.Items.Unique.{items_of-only}
+use Rattle.std.proofs.Common.{ℕ, List, [], ◌∷◌, ◌++◌, refl, sym, ◌∙◌, subst}
+use Rattle.properties_format.specs.Encoding.{Encoding}
+use Rattle.properties_format.specs.Edited.{edited, IsEditResult}
+use Rattle.properties_format.specs.Edits.{Edit, IsEdited, AreEdited, AreScalarEdits, IsEditAllResult}
 use Rattle.properties_format.proofs.Edits.Results.{edit_all_result-only}
-use Rattle.properties_format.proofs.Edits.Contents.{edits-contents, edit_all-reads}
-use Rattle.properties_format.proofs.Changed.Read.{readable}
-use Rattle.properties_format.proofs.Changed.Laws.{IsReadable}
-use Rattle.properties_editing.specs.Editing.{AreMade, IsRefusal}
-use Rattle.properties_items.specs.declared.error.PropertiesError.{PropertiesError}
+use Rattle.properties_format.proofs.Edits.Contents.{edit_all-reads}
+use Rattle.properties_editing.specs.Editing.{AreMade}
 
 -- One more edit is made.
 edited-more : (e : Encoding) (source : List ℕ) (edits : List Edit) (edit : Edit) (middle result : List ℕ) → AreEdited e source edits middle → IsEdited e middle edit result

@@ -1,22 +1,22 @@
 -- The index of a body to which a pair with a new key was added.
-use Rattle.std.proofs.Common.{◌≡◌, ◌≢◌, ◌<◌, ◌≤◌, ℕ, ◌+◌, Bool, true, false, List, [], ◌∷◌, ◌++◌, Option, Some, None, All, take, drop, ◌-◌, ◌^◌, length, length-drop, refl, ap, ap₂, sym, ◌∙◌, inl, inr, append_assoc, length-append, subst, arith}
-use Rattle.std.specs.Prelude.{Result, Ok, Err, unwrap_or, if◌then◌else◌}
-use Rattle.properties_format.specs.Text.{LineEnding, lf, cr, scalar, carriage_return, line_ending_text}
+use Rattle.std.proofs.Common.{◌≡◌, ◌≢◌, ◌<◌, ◌≤◌, ℕ, ◌+◌, Bool, true, false, List, [], ◌∷◌, ◌++◌, None, All, take, drop, ◌-◌, ◌^◌, length, length-drop, refl, ap, ap₂, sym, ◌∙◌, inl, inr, append_assoc, length-append, subst, arith}
+use Rattle.std.specs.Prelude.{Result, Ok, Err, if◌then◌else◌}
+use Rattle.properties_format.specs.Text.{LineEnding, lf, cr, scalar, line_ending_text}
 use Rattle.properties_format.specs.Encoding.{Encoding}
-use Rattle.properties_format.specs.Lines.{Ended, HoldsNoLineEnd, BeginsWithNoLoneLf}
+use Rattle.properties_format.specs.Lines.{HoldsNoLineEnd}
 use Rattle.properties_format.specs.Computed.Lines.{ends_in_cr}
 use Rattle.properties_format.specs.Computed.Cut.{decoded_line}
 use Rattle.properties_format.specs.Groups.{IsWhole, joined}
 use Rattle.properties_format.specs.Entries.{pair}
 use Rattle.properties_format.specs.Items.{given}
-use Rattle.properties_format.specs.Body.{HeldLine, as_lines, held_in, group_bytes, groups_bytes}
+use Rattle.properties_format.specs.Body.{held_in, groups_bytes}
 use Rattle.properties_format.specs.Edited.{is_editable, final_group, is_empty_line, is_left_open, pair_bytes}
 use Rattle.properties_format.specs.Valued.{ending_among, separation_by}
 use Rattle.properties_format.specs.Computed.Items.{outcome_of}
-use Rattle.properties_format.specs.Computed.Body.{held_of, held_groups_of}
+use Rattle.properties_format.specs.Computed.Body.{held_groups_of}
 use Rattle.properties_format.specs.Computed.Edited.{AreSound}
 use Rattle.properties_format.specs.Computed.Valued.{last_between, separator_by}
-use Rattle.properties_format.proofs.Body.Groups.{groups-bytes, held-body, held_groups_of-meets}
+use Rattle.properties_format.proofs.Body.Groups.{held-body, held_groups_of-meets}
 use Rattle.properties_format.proofs.Edited.AppendedPair.{appended_groups, appended-held}
 use Rattle.properties_format.proofs.Edited.Closed.{IsSeam, closed-by, opened_by, put-seam, value-seam}
 use Rattle.properties_format.proofs.Edited.Contents.{ends-right}
@@ -24,8 +24,7 @@ use Rattle.properties_format.proofs.Edited.Pair.{pair_text, pair-decoded, pair-w
 use Rattle.properties_format.proofs.Edited.Steps.{final_group-push}
 use Rattle.properties_format.proofs.Items.Unique.{outcome_of-only}
 use Rattle.properties_format.proofs.Edited.Parts.{pair-some}
-use Rattle.properties_format.proofs.Valued.Added.{ending-held}
-use Rattle.properties_format.proofs.Valued.Lined.{AreLined, groups-lined, last_by}
+use Rattle.properties_format.proofs.Valued.Lined.{groups-lined}
 use Rattle.properties_format.proofs.Valued.Made.{new_separator-meets}
 use Rattle.properties_format.proofs.Valued.Separators.{new_separator-fit, added-pair, added_bytes}
 use Rattle.std.proofs.Math.Seq.{drop-append_seam}
@@ -46,7 +45,6 @@ use Rattle.std.proofs.lemmas.Bool.{cond-true}
 use Rattle.properties_editing.proofs.Editing.{appended-result, set-edits}
 use Rattle.properties_editing.proofs.SetValues.{new_pair-result, value-edits}
 use Rattle.properties_editing.specs.declared.edit.index.Index.{Index}
-use Rattle.properties_editing.specs.declared.edit.find.BodySpan.{BodySpan}
 use Rattle.properties_editing.specs.declared.edit.find.Closing.{Closing}
 use Rattle.properties_editing.specs.declared.edit.find.Closing.TheVariants as closing
 use Rattle.properties_editing.proofs.BodyKeys.{some-groups}

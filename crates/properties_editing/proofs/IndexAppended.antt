@@ -1,6 +1,6 @@
 -- A pair that is appended after closed groups, and the index then.
-use Rattle.std.proofs.Common.{◌≡◌, ◌≢◌, ◌<◌, ◌≤◌, ◌==◌, ℕ, ◌+◌, ◌-◌, ◌^◌, Bool, true, false, List, [], ◌∷◌, ◌++◌, Option, Some, None, length, refl, ap, ap₂, sym, ◌∙◌, inl, inr, append_assoc, append-nil, length-append, subst, arith}
-use Rattle.std.specs.Prelude.{◌⊎◌, map, min, if◌then◌else◌, option_and_then}
+use Rattle.std.proofs.Common.{◌≡◌, ◌≢◌, ◌<◌, ◌==◌, ℕ, ◌+◌, ◌-◌, ◌^◌, Bool, true, false, List, [], ◌∷◌, ◌++◌, Option, Some, None, length, refl, ap, sym, ◌∙◌, inl, inr, append_assoc, append-nil, length-append, subst, arith}
+use Rattle.std.specs.Prelude.{map, min, if◌then◌else◌, option_and_then}
 use Rattle.std.specs.BTreeMap.{IsOrdered}
 use Rattle.std.specs.String.{string_cmp}
 use Rattle.std.specs.declared.string.String.{String}
@@ -9,16 +9,15 @@ use Rattle.std.proofs.lemmas.Bool.Decides.{nat_tests}
 use Rattle.std.proofs.lemmas.List.{map-append, length-map}
 use Rattle.properties_format.specs.Text.{LineEnding, line_ending_text}
 use Rattle.properties_format.specs.Encoding.{Encoding}
-use Rattle.properties_format.specs.Lines.{Ended, HoldsNoLineEnd}
+use Rattle.properties_format.specs.Lines.{HoldsNoLineEnd}
 use Rattle.properties_format.specs.Computed.Cut.{decoded_line}
 use Rattle.properties_format.specs.Groups.{IsWhole, joined}
 use Rattle.properties_format.specs.Entries.{pair}
 use Rattle.properties_format.specs.Items.{Outcome, ignored, given}
-use Rattle.properties_format.specs.Body.{HeldLine, AreGroupsOf, as_lines, group_bytes, groups_bytes, ending_bytes, last_ending}
-use Rattle.properties_format.specs.Valued.{separation_by}
+use Rattle.properties_format.specs.Body.{HeldLine, groups_bytes, ending_bytes}
 use Rattle.properties_format.specs.Edited.{final_group, is_editable, is_empty_line, is_left_open}
 use Rattle.properties_format.specs.Computed.Items.{outcome_of}
-use Rattle.properties_format.specs.Computed.Body.{held_groups_of, is_pair_with}
+use Rattle.properties_format.specs.Computed.Body.{is_pair_with}
 use Rattle.properties_format.specs.Computed.Edited.{IsSound, AreSound}
 use Rattle.properties_format.specs.Computed.Maps.{first_value}
 use Rattle.properties_format.specs.Computed.Parts.{unended_bytes}
@@ -26,14 +25,13 @@ use Rattle.properties_format.proofs.Edited.AppendedPair as appended
 use Rattle.properties_format.proofs.Edited.Closed.{AreClosedBy, IsLeft, opened_by}
 use Rattle.properties_format.proofs.Edited.Steps.{final_group-push}
 use Rattle.properties_format.proofs.Valued.Added.{empty_line, outcomes-empty}
-use Rattle.properties_editing.specs.Private.BodyIndex.{GrowsIndex, IsIndex, IsListed, all_shifted, is_pair, last_value, live_spans, outcome, places_of, shifted, some_span, span_at, span_of, spans_where, stored_at, stored_value, value_by}
+use Rattle.properties_editing.specs.Private.BodyIndex.{GrowsIndex, IsIndex, IsListed, all_shifted, is_pair, last_value, outcome, places_of, shifted, some_span, span_of, spans_where, stored_at, value_by}
 use Rattle.properties_items.specs.FoundItems.{outcome_pair}
 use Rattle.properties_editing.specs.Private.BodyKeys.{closing_of}
 use Rattle.properties_editing.specs.declared.edit.index.Index.{Index}
 use Rattle.properties_editing.specs.declared.edit.index.IndexedPair.{IndexedPair}
 use Rattle.properties_editing.specs.declared.edit.index.Shift.TheVariants as shift
 use Rattle.properties_editing.specs.declared.edit.find.BodySpan.{BodySpan}
-use Rattle.properties_editing.specs.declared.edit.find.Closing.TheVariants.{Nothing}
 use Rattle.properties_editing.proofs.BodyKeys.{sound-append}
 use Rattle.properties_editing.proofs.IndexParsed.{listed-more, listed-same}
 use Rattle.properties_editing.proofs.IndexSpans.{IsShift, group-size, live-shifted, places-shifted, shift-all, shift-append, shift-some, size-around, span-is, spans-join, spans-skip}

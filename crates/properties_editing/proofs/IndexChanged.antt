@@ -1,5 +1,5 @@
 -- The index of a body in which the last pair with a key gets another value.
-use Rattle.std.proofs.Common.{◌≡◌, ◌≢◌, ◌<◌, ◌≤◌, ℕ, ◌+◌, ◌^◌, ◌==◌, Bool, true, false, List, [], ◌∷◌, ◌++◌, Option, Some, None, length, refl, ap, ap₂, sym, ◌∙◌, subst, inl, inr, length-append, arith}
+use Rattle.std.proofs.Common.{◌≡◌, ◌<◌, ℕ, ◌+◌, ◌^◌, ◌==◌, Bool, true, false, List, [], ◌∷◌, ◌++◌, Some, None, length, refl, ap, ap₂, sym, ◌∙◌, subst, inl, inr, arith}
 use Rattle.std.specs.Prelude.{◌⊎◌, bytes_eq, if◌then◌else◌, map}
 use Rattle.std.specs.Option.{option_map}
 use Rattle.std.proofs.lemmas.Bool.{cond-true, cond-false}
@@ -9,15 +9,14 @@ use Rattle.properties_format.specs.Encoding.{Encoding}
 use Rattle.properties_format.specs.Groups.{EndsClosed, IsWhole}
 use Rattle.properties_format.specs.Entries.{pair}
 use Rattle.properties_format.specs.Items.{Outcome, given}
-use Rattle.properties_format.specs.Body.{HeldLine, AreGroupsOf, NoneHasKey, as_lines, ending_bytes, groups_bytes, last_ending}
-use Rattle.properties_format.specs.Edited.{final_group, is_editable, is_empty_line, is_last_open, is_left_open}
+use Rattle.properties_format.specs.Body.{HeldLine, NoneHasKey, as_lines, ending_bytes, groups_bytes, last_ending}
+use Rattle.properties_format.specs.Edited.{final_group, is_empty_line, is_last_open, is_left_open}
 use Rattle.properties_format.specs.Computed.Body.{is_pair_with}
 use Rattle.properties_format.specs.Computed.Edited.{IsSound, AreSound}
 use Rattle.properties_format.specs.Computed.Parts.{unended_bytes}
-use Rattle.properties_format.specs.Writing.{is_empty}
 use Rattle.properties_format.proofs.InTurn.Lines.{ending-of}
-use Rattle.properties_format.proofs.InTurn.Merged.{AreInTurn, in-turn}
-use Rattle.properties_editing.specs.Private.BodyIndex.{FollowsPair, IsIndex, all_shifted, is_pair, last_value, live_spans, outcome, places_of, shifted, span_at, spans_where, stored_at, stored_value}
+use Rattle.properties_format.proofs.InTurn.Merged.{AreInTurn}
+use Rattle.properties_editing.specs.Private.BodyIndex.{FollowsPair, IsIndex, is_pair, live_spans, outcome, places_of, shifted, span_at, spans_where, stored_at}
 use Rattle.properties_editing.specs.Private.BodyKeys.{closing_of}
 use Rattle.properties_editing.specs.declared.edit.index.Index.{Index}
 use Rattle.properties_editing.specs.declared.edit.index.Shift.TheVariants as shift

@@ -1,16 +1,15 @@
 -- What is listed of groups when one of them is cut out.
-use Rattle.std.proofs.Common.{◌≡◌, ◌≢◌, ◌<◌, ◌≤◌, ◌==◌, ℕ, zero, suc, ◌+◌, ◌-◌, ◌^◌, Bool, true, false, List, [], ◌∷◌, ◌++◌, Option, Some, None, length, refl, ap, ap₂, sym, ◌∙◌, subst, inl, inr, append-nil, append_assoc, length-append, arith}
-use Rattle.std.specs.Prelude.{◌⊎◌, map, min, if◌then◌else◌, option_and_then}
-use Rattle.std.specs.declared.string.String.{String}
-use Rattle.std.proofs.lemmas.Bool.{cases_Bool, cond-true, cond-false}
+use Rattle.std.proofs.Common.{◌≡◌, ◌≢◌, ◌<◌, ◌≤◌, ◌==◌, ℕ, ◌+◌, ◌^◌, Bool, true, false, List, [], ◌∷◌, ◌++◌, Option, Some, None, length, refl, ap, ap₂, sym, ◌∙◌, length-append, arith}
+use Rattle.std.specs.Prelude.{map}
+use Rattle.std.proofs.lemmas.Bool.{cond-true, cond-false}
 use Rattle.std.proofs.lemmas.Bool.Decides.{nat_tests}
 use Rattle.std.proofs.lemmas.List.{map-append}
-use Rattle.properties_format.specs.Items.{Outcome, ignored}
+use Rattle.properties_format.specs.Items.{Outcome}
 use Rattle.properties_format.specs.Body.{HeldLine, NoneHasKey, group_bytes, groups_bytes}
 use Rattle.properties_format.specs.Computed.Body.{has_key, is_pair_with}
 use Rattle.properties_format.specs.Computed.Parts.{unended_bytes}
 use Rattle.properties_format.proofs.Body.Groups.{groups_bytes-append}
-use Rattle.properties_editing.specs.Private.BodyIndex.{all_shifted, is_pair, live_spans, moved_span, moved_to, outcome, shifted, some_span, span_at, span_of, spans_where}
+use Rattle.properties_editing.specs.Private.BodyIndex.{all_shifted, live_spans, moved_span, moved_to, outcome, shifted, some_span, span_at, span_of, spans_where}
 use Rattle.properties_editing.specs.declared.edit.index.Shift.TheVariants as shift
 use Rattle.properties_editing.specs.declared.edit.find.BodySpan.{BodySpan}
 use Rattle.properties_editing.proofs.IndexFound.{spans-none}

@@ -1,12 +1,11 @@
 -- What is cut out of a source, and how a removal goes on from the first pair to the last.
-use Rattle.std.proofs.Common.{◌≡◌, ◌≢◌, ◌<◌, ◌≤◌, ◌==◌, ℕ, suc, ◌+◌, ◌-◌, ◌^◌, Bool, true, false, List, [], ◌∷◌, ◌++◌, Option, Some, None, take, drop, length, refl, ap, ap₂, sym, ◌∙◌, subst, inl, inr, append_assoc, length-append, length-drop, arith}
+use Rattle.std.proofs.Common.{◌≡◌, ◌≢◌, ◌<◌, ◌≤◌, ◌==◌, ℕ, suc, ◌+◌, ◌-◌, ◌^◌, Bool, true, false, List, [], ◌∷◌, ◌++◌, Some, None, take, drop, length, refl, ap, sym, ◌∙◌, subst, inl, inr, append_assoc, length-append, length-drop, arith}
 use Rattle.std.specs.Prelude.{◌&&◌, bytes_eq, get_or, map, if◌then◌else◌}
 use Rattle.std.specs.BTreeMap.{IsOrdered}
 use Rattle.std.specs.Map.{update}
 use Rattle.std.specs.String.{string_cmp}
 use Rattle.std.specs.List.{copy_within}
 use Rattle.std.proofs.Math.ListN.{drop_of_length-le}
-use Rattle.std.proofs.Math.Seq.{drop-append_seam}
 use Rattle.std.proofs.lemmas.Bool.{cases_Bool}
 use Rattle.std.proofs.lemmas.Bool.Decides.{nat_tests}
 use Rattle.std.proofs.lemmas.List.{drop_more, length-take-le, take-append-drop}
@@ -24,7 +23,6 @@ use Rattle.properties_editing.specs.Private.BodyKeys.{closing_of}
 use Rattle.properties_editing.specs.Private.Sources.{IsInForce}
 use Rattle.properties_editing.specs.declared.edit.index.Index.{Index}
 use Rattle.properties_editing.specs.declared.edit.index.IndexedPair.{IndexedPair}
-use Rattle.properties_editing.specs.declared.edit.find.BodySpan.{BodySpan}
 use Rattle.properties_editing.specs.declared.edit.source.BodyStart.{BodyStart}
 use Rattle.properties_editing.proofs.BodyGroups.{front-of}
 use Rattle.properties_editing.proofs.IndexRemoved.{IsCutTo, IsCutWhole, cut-begin, cut-inside, cut-shorter, cut-step, cut-whole, held-rest, removed-guarded, removed-plain}

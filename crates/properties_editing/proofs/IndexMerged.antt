@@ -1,14 +1,14 @@
 -- What is listed of groups in turn is listed of the groups of their bytes, where a CR and an LF alone after it are one line
 -- ending.
-use Rattle.std.proofs.Common.{◌≡◌, ◌<◌, ◌≤◌, ℕ, ◌+◌, ◌^◌, Bool, true, false, List, [], ◌∷◌, ◌++◌, Option, Some, None, length, refl, ap, ap₂, sym, ◌∙◌, subst, inl, inr, length-append, arith}
+use Rattle.std.proofs.Common.{◌≡◌, ◌<◌, ℕ, ◌+◌, ◌^◌, Bool, true, false, List, [], ◌∷◌, Option, Some, None, length, refl, ap, ap₂, sym, ◌∙◌, subst, inl, inr, length-append, arith}
 use Rattle.std.specs.Prelude.{map}
 use Rattle.std.specs.declared.string.String.{String}
 use Rattle.std.proofs.lemmas.Bool.{cases_Bool}
-use Rattle.properties_format.specs.Text.{LineEnding, lf, crlf}
+use Rattle.properties_format.specs.Text.{LineEnding, crlf}
 use Rattle.properties_format.specs.Encoding.{Encoding}
 use Rattle.properties_format.specs.Groups.{joined}
 use Rattle.properties_format.specs.Items.{Outcome, ignored}
-use Rattle.properties_format.specs.Body.{HeldLine, as_lines, group_bytes, groups_bytes}
+use Rattle.properties_format.specs.Body.{HeldLine, group_bytes, groups_bytes}
 use Rattle.properties_format.specs.Edited.{is_editable}
 use Rattle.properties_format.specs.Computed.Body.{has_key, held_groups_of, is_pair_with}
 use Rattle.properties_format.specs.Computed.Cut.{decoded_line}

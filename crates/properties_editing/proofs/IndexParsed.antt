@@ -1,6 +1,6 @@
 -- How the pairs of a body are stored, group by group.
 use Rattle.std.proofs.Common.{◌≡◌, ◌<◌, ℕ, zero, suc, ◌+◌, Bool, true, false, List, [], ◌∷◌, ◌++◌, length, refl, ap, ap₂, sym, ◌∙◌, subst, inl, inr, append-nil, arith}
-use Rattle.std.specs.Prelude.{◌⊎◌, Option, Some, None, bytes_eq, cond, get_or, map, if◌then◌else◌}
+use Rattle.std.specs.Prelude.{Option, Some, None, bytes_eq, cond, map, if◌then◌else◌}
 use Rattle.std.specs.Map.{update}
 use Rattle.std.specs.declared.string.String.{String}
 use Rattle.std.specs.Option.{option_map, option_map_or}
@@ -12,19 +12,18 @@ use Rattle.std.proofs.lemmas.Bool.{cases_Bool, cond-true, cond-false}
 use Rattle.std.proofs.lemmas.List.{map-append}
 use Rattle.std.proofs.lemmas.Slice.Eq.{bytes_eq-Decides}
 use Rattle.properties_format.specs.Encoding.{Encoding}
-use Rattle.properties_format.specs.Groups.{joined}
 use Rattle.properties_format.specs.Entries.{comment, pair}
 use Rattle.properties_format.specs.Items.{Outcome, ignored, given, broken}
-use Rattle.properties_format.specs.Body.{HeldLine, as_lines, groups_bytes}
+use Rattle.properties_format.specs.Body.{HeldLine, groups_bytes}
 use Rattle.properties_format.specs.Edited.{final_group, is_empty_line, is_left_open}
-use Rattle.properties_format.specs.Computed.Body.{held_groups_of, is_pair_with}
-use Rattle.properties_format.specs.Computed.Edited.{IsSound, AreSound}
+use Rattle.properties_format.specs.Computed.Body.{is_pair_with}
+use Rattle.properties_format.specs.Computed.Edited.{IsSound}
 use Rattle.properties_format.specs.Computed.Items.{outcome_of}
 use Rattle.properties_format.specs.Computed.Parts.{unended_bytes}
 use Rattle.properties_format.proofs.Edited.Steps.{final_group-push}
 use Rattle.properties_text.specs.Encoding.{encoding_of}
 use Rattle.properties_editing.specs.Private.BodyGroups.{IsWithin, TakesGroup, text_of}
-use Rattle.properties_editing.specs.Private.BodyIndex.{AddsGroup, AddsPair, IsIndex, IsListed, KeepsNothing, KeepsPair, is_pair, last_value, live_spans, outcome, places_of, some_span, span_at, span_of, spans_where, stored_at, stored_value}
+use Rattle.properties_editing.specs.Private.BodyIndex.{AddsGroup, AddsPair, IsIndex, IsListed, KeepsNothing, is_pair, last_value, live_spans, outcome, places_of, some_span, span_at, span_of, spans_where, stored_at, stored_value}
 use Rattle.properties_items.specs.FoundItems.{outcome_pair}
 use Rattle.properties_editing.specs.Private.BodyKeys.{closing_of}
 use Rattle.properties_items.specs.Texts.{characters}
@@ -33,7 +32,7 @@ use Rattle.properties_editing.specs.declared.edit.groups.GroupReader.{GroupReade
 use Rattle.properties_editing.specs.declared.edit.index.Index.{Index}
 use Rattle.properties_editing.specs.declared.edit.index.IndexedPair.{IndexedPair}
 use Rattle.properties_editing.specs.declared.edit.find.BodySpan.{BodySpan}
-use Rattle.properties_editing.proofs.BodyKeys.{HasRead, read-none, read-more, read-all}
+use Rattle.properties_editing.proofs.BodyKeys.{HasRead, read-none, read-more}
 use Rattle.properties_editing.proofs.IndexSpans.{spans-join}
 use Rattle.properties_editing.proofs.IndexValues.{last-more, last-same}
 
@@ -269,9 +268,3 @@ indexed-more {e} {body} {s} {t} {group} old new told h k sound is adds =
           (sym (is ∙ ap (λ v. outcome_pair (outcome_of v)) k.text)) adds.pair (k.starts ∙ h.read.placed) k.span.unended
           (closing-after h.groups k.held group new adds.closing k.span.empty k.span.opens);
     }
-
-pub indexed-all : {e : Encoding} {body : List ℕ} {s : GroupReader} {index : Index} → HasIndexed e body s index → s.scanner.is_done ≡ true
-    → AreSound (held_groups_of e body) × IsIndex (held_groups_of e body) index
-indexed-all {e} {body} {s} {index} h done =
-    let all = read-all h.read done in
-    (subst AreSound (sym all) h.read.sound, subst (λ v. IsIndex v index) (sym all) h.is_index)

@@ -1,5 +1,5 @@
 -- The groups of a body from which the pairs with a key are cut out, one after the other, and what is listed of them.
-use Rattle.std.proofs.Common.{◌≡◌, ◌≢◌, ◌<◌, ◌≤◌, ◌==◌, ℕ, ◌+◌, ◌-◌, ◌^◌, Bool, true, false, List, [], ◌∷◌, ◌++◌, Option, Some, None, take, drop, length, refl, ap, ap₂, sym, ◌∙◌, subst, inl, inr, append-nil, append_assoc, length-append, arith}
+use Rattle.std.proofs.Common.{◌≡◌, ◌≢◌, ◌<◌, ◌==◌, ℕ, ◌+◌, ◌^◌, Bool, true, false, List, [], ◌∷◌, ◌++◌, Option, Some, None, take, drop, length, refl, ap, ap₂, sym, ◌∙◌, subst, inl, inr, append-nil, append_assoc, length-append, arith}
 use Rattle.std.specs.Prelude.{◌⊎◌, ◌&&◌, not, bytes_eq, map, if◌then◌else◌}
 use Rattle.std.specs.BTreeMap.{IsOrdered}
 use Rattle.std.specs.Map.{update}
@@ -8,9 +8,9 @@ use Rattle.std.specs.String.{string_cmp}
 use Rattle.std.proofs.Math.Seq.{drop-append_seam}
 use Rattle.std.proofs.lemmas.Bool.{cases_Bool, cond-true, cond-false}
 use Rattle.std.proofs.lemmas.Bool.Decides.{nat_tests}
-use Rattle.std.proofs.lemmas.List.{drop-drop, length-take-le, map-append, take-append-drop}
+use Rattle.std.proofs.lemmas.List.{drop-drop, length-take-le, take-append-drop}
 use Rattle.std.proofs.lemmas.Slice.Eq.{bytes_eq-Decides}
-use Rattle.properties_format.specs.Text.{LineEnding, lf, cr, crlf, line_ending_text, line_feed}
+use Rattle.properties_format.specs.Text.{LineEnding, lf, cr, crlf, line_feed}
 use Rattle.properties_format.specs.Encoding.{Encoding, begins_like_bom}
 use Rattle.properties_format.specs.Entries as content
 use Rattle.properties_format.specs.Items.{Outcome, given, ignored}
@@ -31,7 +31,7 @@ use Rattle.properties_format.proofs.InTurn.Merged.{AreInTurn, IsEndedGroup, afte
 use Rattle.properties_format.proofs.Edited.Parts.{empty_group, empty-lines, empty-whole}
 use Rattle.properties_format.proofs.InTurn.Unmerged.{AreUnmerged, merged-unmerged}
 use Rattle.properties_text.specs.Encoding.{encoding_of}
-use Rattle.properties_editing.specs.Private.BodyIndex.{ArePairsRemoved, CutsOut, IsCutOut, IsInSource, IsIndex, IsListed, KeepsNothing, all_shifted, ending_size, is_pair, last_value, live_spans, outcome, places_of, shifted, span_at, span_of, spans_where, stored_at, stored_value, value_by}
+use Rattle.properties_editing.specs.Private.BodyIndex.{ArePairsRemoved, CutsOut, IsCutOut, IsInSource, IsIndex, IsListed, KeepsNothing, all_shifted, ending_size, is_pair, last_value, live_spans, outcome, places_of, shifted, span_at, span_of, spans_where, stored_at, stored_value}
 use Rattle.properties_items.specs.FoundItems.{outcome_pair}
 use Rattle.properties_editing.specs.Private.BodyKeys.{closing_of}
 use Rattle.properties_items.specs.Texts.{characters}

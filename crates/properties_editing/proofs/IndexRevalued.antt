@@ -1,19 +1,19 @@
 -- A body in which a pair gets another value: its groups are those of the body with one replaced.
-use Rattle.std.proofs.Common.{◌≡◌, ◌≢◌, ◌<◌, ◌≤◌, ℕ, ◌+◌, true, false, List, [], ◌∷◌, ◌++◌, Option, Some, None, refl, ap, ap₂, sym, ◌∙◌, append_assoc, subst, length, length-append, arith}
+use Rattle.std.proofs.Common.{◌≡◌, ◌≢◌, ◌<◌, ℕ, ◌+◌, true, false, List, [], ◌∷◌, ◌++◌, refl, ap, sym, ◌∙◌, append_assoc, subst, length, length-append, arith}
 use Rattle.std.specs.Prelude.{All}
-use Rattle.properties_format.specs.Text.{scalar, LineEnding}
+use Rattle.properties_format.specs.Text.{scalar}
 use Rattle.properties_format.specs.Encoding.{Encoding}
 use Rattle.properties_format.specs.Split.{AreBlanks}
 use Rattle.properties_format.specs.Computed.Cut.{decoded_line}
 use Rattle.properties_format.specs.Printing.{encoded_text}
-use Rattle.properties_format.specs.Body.{HeldLine, as_lines, HasKey, NoneHasKey, AreGroupsOf, group_bytes, groups_bytes, ending_bytes, last_ending}
+use Rattle.properties_format.specs.Body.{HeldLine, as_lines, AreGroupsOf, group_bytes, groups_bytes, ending_bytes, last_ending}
 use Rattle.properties_format.specs.Groups.{IsWhole}
 use Rattle.properties_format.specs.Edited.{is_editable, is_empty_line}
 use Rattle.properties_format.specs.Valued.{HasPair, IsFrontOf, value_text}
 use Rattle.properties_format.specs.Computed.Body.{held_groups_of}
-use Rattle.properties_format.specs.Computed.Edited.{KeyPlace, last_place}
+use Rattle.properties_format.specs.Computed.Edited.{KeyPlace}
 use Rattle.properties_format.specs.Computed.Parts.{unended_bytes}
-use Rattle.properties_format.specs.Computed.Valued.{front_of, between_of, has_value, revalued_at}
+use Rattle.properties_format.specs.Computed.Valued.{front_of, between_of, revalued_at}
 use Rattle.properties_format.proofs.Cut.Byline.{decoded_line-only}
 use Rattle.properties_format.proofs.Body.Decoded.{decoded-nil}
 use Rattle.properties_format.proofs.Body.Groups.{IsLastFit, AreFit, held_groups_of-meets, held_groups_of-only}

@@ -1,6 +1,6 @@
 -- The parts of groups, and what changes of a body do to them.
-use Rattle.std.proofs.Common.{◌≡◌, ◌≢◌, ◌<◌, ◌≤◌, ℕ, zero, suc, ◌+◌, ◌-◌, ◌^◌, Bool, true, false, List, [], ◌∷◌, ◌++◌, Option, Some, None, refl, ap, ap₂, sym, ◌∙◌, inl, inr, append_assoc, append-nil, length, length-append, arith}
-use Rattle.std.specs.Prelude.{map, min, ◌==◌, nat_lt, if◌then◌else◌, get_or, option_and_then}
+use Rattle.std.proofs.Common.{◌≡◌, ◌<◌, ◌≤◌, ℕ, zero, suc, ◌+◌, ◌-◌, ◌^◌, Bool, true, false, List, [], ◌∷◌, ◌++◌, Option, Some, None, refl, ap, ap₂, sym, ◌∙◌, inl, inr, length, length-append, arith}
+use Rattle.std.specs.Prelude.{map, min, ◌==◌, nat_lt, if◌then◌else◌, option_and_then}
 use Rattle.std.proofs.lemmas.Bool.{cases_Bool, cond-true, cond-false}
 use Rattle.std.proofs.lemmas.Bool.Decides.{nat_tests}
 use Rattle.std.proofs.lemmas.List.{map-append}
@@ -9,8 +9,7 @@ use Rattle.properties_format.specs.Body.{HeldLine, group_bytes, groups_bytes, en
 use Rattle.properties_format.specs.Computed.Parts.{unended_bytes}
 use Rattle.properties_format.proofs.Body.Groups.{groups_bytes-append}
 use Rattle.properties_format.proofs.InTurn.Lines.{bytes-unended}
-use Rattle.properties_editing.specs.Private.BodyIndex.{all_shifted, lengthened_span, live_spans, moved_span, moved_to, outcome, shifted, some_span, span_at, span_of, spans_where}
-use Rattle.properties_editing.specs.declared.edit.index.Shift.{Shift}
+use Rattle.properties_editing.specs.Private.BodyIndex.{all_shifted, lengthened_span, live_spans, moved_to, outcome, shifted, some_span, span_at, span_of, spans_where}
 use Rattle.properties_editing.specs.declared.edit.index.Shift.TheVariants as shift
 use Rattle.properties_editing.specs.declared.edit.find.BodySpan.{BodySpan}
 

@@ -1,6 +1,6 @@
 -- What an index has stored after the value of a key was written.
-use Rattle.std.proofs.Common.{◌≡◌, ◌++◌, ◌∷◌, [], ℕ, Bool, true, false, List, refl, ap, ap₂, sym, ◌∙◌, inl, inr}
-use Rattle.std.specs.Prelude.{Option, Some, None, bytes_eq, string_bytes, if◌then◌else◌}
+use Rattle.std.proofs.Common.{◌≡◌, ◌++◌, ◌∷◌, [], ℕ, true, List, ap, ap₂, sym, ◌∙◌, inl, inr}
+use Rattle.std.specs.Prelude.{Some, None, bytes_eq, string_bytes, if◌then◌else◌}
 use Rattle.std.specs.Map.{update}
 use Rattle.std.specs.Option.{is_some, option_map, IsSome}
 use Rattle.std.specs.Str.{chars, IsUtf8}

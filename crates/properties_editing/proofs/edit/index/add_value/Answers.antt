@@ -1,4 +1,4 @@
-use Rattle.std.proofs.Common.{◌≡◌, ◌-◌, ◌++◌, drop, take, length, ap, ap₂, sym, subst, ◌∙◌, arith}
+use Rattle.std.proofs.Common.{◌-◌, ◌++◌, drop, take, length, ap, ap₂, sym, subst, ◌∙◌, arith}
 use Rattle.std.specs.Str.{chars}
 use Rattle.std.proofs.lemmas.List.{take_rest}
 use Rattle.properties_format.specs.Text.{line_ending_text}
@@ -6,7 +6,6 @@ use Rattle.properties_format.specs.Encoding.{output_encoding}
 use Rattle.properties_format.specs.Writing.{is_empty}
 use Rattle.properties_text.specs.Encoding.{encoding_of}
 use Rattle.properties_editing.specs.Private.BodyValues.{IsLastPair, unended_pair}
-use Rattle.properties_items.specs.Texts.{characters}
 use Rattle.properties_items.specs.LineEndings.{ending_of}
 use Rattle.properties_editing.proofs.BodyKeys.{editable-bytes}
 use Rattle.properties_items.proofs.Scalars.{chars-scalars}

@@ -1,4 +1,4 @@
-use Rattle.std.proofs.Common.{◌≡◌, ◌==◌, ◌<◌, ◌≤◌, ◌+◌, ◌-◌, ◌++◌, length, take, drop, refl, ap, ap₂, sym, ◌∙◌, length-drop, arith, rules}
+use Rattle.std.proofs.Common.{◌≡◌, ◌==◌, ◌+◌, ◌-◌, ◌++◌, length, take, drop, refl, ap, ap₂, ◌∙◌, length-drop, arith, rules}
 use Rattle.std.specs.Prelude.{if◌then◌else◌}
 use Rattle.std.specs.List.{copy_within}
 use Rattle.std.proofs.lemmas.List.{places, take_rest, with_items_is}

@@ -1,4 +1,4 @@
-use Rattle.std.proofs.Common.{◌≡◌, ◌^◌, sym, ◌∙◌, ap, arith}
+use Rattle.std.proofs.Common.{◌≡◌, sym, ◌∙◌, ap, arith}
 use Rattle.properties_editing.specs.Private.BodyIndex.{all_shifted}
 use Rattle.properties_editing.specs.declared.edit.index.Shift.TheVariants as shift
 use Rattle.properties_editing.proofs.IndexSpans.{none-longer}

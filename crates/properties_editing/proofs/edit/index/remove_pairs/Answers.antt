@@ -1,11 +1,6 @@
-use Rattle.std.proofs.Common.{◌≡◌, ◌==◌, ◌<◌, ◌≤◌, ◌^◌, ◌++◌, ◌∷◌, [], true, false, refl, sym, ap, ap₂, ◌∙◌, subst, inl, take, drop, length, arith}
-use Rattle.std.specs.Prelude.{◌&&◌, None, Some}
-use Rattle.std.proofs.lemmas.Bool.Decides.{nat_tests}
+use Rattle.std.proofs.Common.{◌≡◌, ◌++◌, ◌∷◌, [], refl, sym, ◌∙◌, subst, inl, arith}
+use Rattle.std.specs.Prelude.{None, Some}
 use Rattle.std.specs.Str.{chars}
-use Rattle.properties_format.specs.Encoding.{begins_like_bom}
-use Rattle.properties_format.specs.Computed.Body.{held_groups_of}
-use Rattle.properties_format.specs.Computed.Edited.{without}
-use Rattle.properties_text.specs.Encoding.{encoding_of}
 use Rattle.properties_editing.specs.Private.BodyIndex.{KeepsNothing, stored_at}
 use Rattle.properties_editing.specs.declared.edit.index.Index.{Index}
 use Rattle.properties_editing.proofs.IndexCutOut.{IsGoing, going-inside, going-on, last-cut, last-inside, last-shorter, removal-begins, removal-ends}

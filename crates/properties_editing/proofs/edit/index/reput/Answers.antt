@@ -1,10 +1,7 @@
-use Rattle.std.proofs.Common.{◌≡◌, ◌==◌, ◌<◌, ◌≤◌, ◌+◌, ◌-◌, ◌^◌, drop, take, length, ◌∙◌, ap, refl, sym, subst, arith}
+use Rattle.std.proofs.Common.{◌==◌, ◌+◌, ◌-◌, length, ◌∙◌, ap, refl, sym, subst, arith}
 use Rattle.std.specs.Str.{chars}
 use Rattle.std.proofs.lemmas.Result.{err_from_is_err_and}
-use Rattle.properties_format.specs.Computed.Body.{held_groups_of}
-use Rattle.properties_text.specs.Encoding.{encoding_of}
-use Rattle.properties_editing.specs.Private.BodyIndex.{FollowsPair, IsPairPut}
-use Rattle.properties_items.specs.Texts.{characters}
+use Rattle.properties_editing.specs.Private.BodyIndex.{FollowsPair}
 use Rattle.properties_items.proofs.Scalars.{chars-scalars}
 use Rattle.properties_editing.proofs.IndexEdits.{keeps-nothing, pair-within, put-size, reput-index}
 use Rattle.properties_editing.proofs.edit.index.reput.Goals as goal

@@ -1,6 +1,5 @@
 use Rattle.std.proofs.Common.{refl, sym, ◌∙◌}
 use Rattle.properties_items.proofs.TextMaps.Values.{at_chars-sorted}
-use Rattle.properties_editing.proofs.IndexFound.{found-place}
 use Rattle.properties_editing.proofs.edit.index.Index.find.Goals as goal
 
 pub returns-in_err-get : goal.returns-in_err-get

@@ -1,7 +1,5 @@
-use Rattle.std.proofs.Common.{◌≡◌, ◌++◌, ◌∷◌, [], ℕ, List, Bool, true, false, length, refl, ap, ap₂, sym, inr, ◌∙◌, arith}
-use Rattle.std.specs.Prelude.{Option, Some, None, bytes_eq, cond, string_bytes}
-use Rattle.std.specs.Map.{update}
-use Rattle.std.specs.Str.{chars}
+use Rattle.std.proofs.Common.{◌≡◌, ◌++◌, ◌∷◌, [], ℕ, List, length, refl, ap, ap₂, sym, inr, ◌∙◌}
+use Rattle.std.specs.Prelude.{Option, Some, None, string_bytes}
 use Rattle.std.proofs.Math.ListN.{set}
 use Rattle.std.proofs.lemmas.Str.{IsUtf8-string_bytes}
 use Rattle.properties_text.proofs.TextFronts.{at-error}
