@@ -97,8 +97,8 @@ comment-within line text h =
 
 -- The parts of a pair lie within its line.
 pub record AreWithin (n : ℕ) (key value : Span) : Type 0 where
-  pub key : IsWithin n key
-  pub value : IsWithin n value
+  pub key_within : IsWithin n key
+  pub value_within : IsWithin n value
 
 pub pair-within : (line : List ℕ) (key value : Span) → IsPairAt line key value → AreWithin (length line) key value
 pair-within line key value h =
@@ -109,8 +109,8 @@ pair-within line key value h =
     let rest = length-append k (d.between ++ v) in
     let end = length-append d.between v in
     record {
-      key = record { ordered = omega (arith, h.key_end); within = omega (arith, h.key_start, h.key_end, whole, rest) };
-      value = record {
+      key_within = record { ordered = omega (arith, h.key_end); within = omega (arith, h.key_start, h.key_end, whole, rest) };
+      value_within = record {
         ordered = omega (arith, h.key_start, h.key_end, h.value_start, h.value_end, whole, rest, end);
         within = omega (arith, h.value_end);
       };
@@ -268,10 +268,10 @@ module _ (e : LineEncoding) (line bytes : List ℕ) (text : Span) (f : AreFound 
 
 module _ (e : LineEncoding) (line bytes : List ℕ) (key value : Span) (f : AreFound e line bytes (Some (spans.KVPair key value))) where
   same-key : bytes_in bytes key ≡ bytes_in line key
-  same-key = front-part bytes line (length line) key f.front (pair-within line key value f.places).key
+  same-key = front-part bytes line (length line) key f.front (pair-within line key value f.places).key_within
 
   same-value : bytes_in bytes value ≡ bytes_in line value
-  same-value = front-part bytes line (length line) value f.front (pair-within line key value f.places).value
+  same-value = front-part bytes line (length line) value f.front (pair-within line key value f.places).value_within
 
   pub key-well : IsWell e (bytes_in bytes key)
   key-well = subst (IsWell e) (sym same-key) (well-in e line key f.well (λ u. (f.spans u).0))
@@ -299,7 +299,7 @@ module _ (e : LineEncoding) (line bytes : List ℕ) (key value : Span) (f : AreF
           value = b.1;
           outcome = o;
           scalars = pair-scalars text b.0 b.1 scalars o;
-          accepts = takes ∙ span-accepts w.settings e line key b.0 b.1 (pair-within line key value f.places).key well (key-means ∙ b.2);
+          accepts = takes ∙ span-accepts w.settings e line key b.0 b.1 (pair-within line key value f.places).key_within well (key-means ∙ b.2);
           built = b.4 ∙ sym (ap (λ (x : Engine). line_bytes x (pair b.0 b.1)) same);
         }
 

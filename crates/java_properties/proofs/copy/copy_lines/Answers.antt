@@ -1,4 +1,4 @@
-use Rattle.std.proofs.Common.{◌≡◌, arith, refl, sym, ap, ◌∙◌, subst}
+use Rattle.std.proofs.Common.{◌≡◌, refl, sym, ap, ◌∙◌, subst}
 use Rattle.std.specs.Prelude.{true, Ok, Err}
 use Rattle.counted_io.specs.Streams.{reader, sink}
 use Rattle.properties_lines.specs.LineJoiner.{Joining, numbered_bytes}
@@ -40,7 +40,7 @@ loop-number-preserved g c =
     let h = copied-same (sym (built-same c.loop-number.engine w c.loop-number.sink c.build_line.ensures.same)) c.loop-number.invariant.copied in
     let built = rw c.in-Ok-Line.field-0-is at c.in-Ok-Line.ensures.builds in
     let after = writing c.send_line.new.self c.send_line.new.sink in
-    let writes = built-sent w c.loop-number.sink line.text true built.0 c.in-Ok-Line.line after (omega arith) built.1 c.in_default-send_line.ensures.sends in
+    let writes = built-sent w c.loop-number.sink line.text true built.0 c.in-Ok-Line.line after c.send_line.ensures.fits built.1 c.in_default-send_line.ensures.sends in
     record {
       copied = copied-pair h line new.at.state next advances.joins built.0.key built.0.value after built.0.outcome built.0.scalars writes;
       error = advances.error;
@@ -60,7 +60,7 @@ returns-in-Err-send_line-clause-copies g c =
     let after = writing c.send_line.new.self c.send_line.new.sink in
     let error = c.write_fault-error.result in
     let writes =
-    built-unsent w c.loop-number.sink line.text true built.0 c.in-Ok-Line.line c.in-Err-send_line.fault error after (omega arith) built.1
+    built-unsent w c.loop-number.sink line.text true built.0 c.in-Ok-Line.line c.in-Err-send_line.fault error after c.send_line.ensures.fits built.1
     c.in-Err-send_line.ensures.sends c.write_fault-error.ensures in
     copied-unwritten h line new.at.state next advances.joins built.0.key built.0.value (in_utf_8 new.at.line) error after built.0.outcome built.0.scalars writes
 
