@@ -1,6 +1,7 @@
 -- How the line of a pair is built from the bytes of a logical line, in either encoding.
 use Rattle.std.proofs.Common.{◌≡◌, ◌≤◌, ◌==◌, ◌-◌, ◌+◌, ℕ, zero, suc, List, [], ◌∷◌, ◌++◌, length, map, take, drop, refl, sym, ap, ap₂, ◌∙◌, subst, inl, inr, arith, eqb-true}
-use Rattle.std.specs.Prelude.{Bool, Option, Some, All, Result, Ok, Err}
+use lib.Utf8.{encodes}
+use Rattle.std.specs.Prelude.{Bool, Option, Some, None, All, Ok, Err}
 use Rattle.std.specs.Str.{IsUtf8, chars}
 use Rattle.std.proofs.lemmas.Bool.{cases_Bool, eq-eqb}
 use Rattle.std.proofs.lemmas.List.{length-append, length-take-le, length-drop, take-take, drop-take}
@@ -8,9 +9,9 @@ use Rattle.std.proofs.lemmas.List.Elements.{All-nil, All-cons, All-head, All-tai
 use Rattle.std.proofs.lemmas.Str.{IsUtf8-between, encodes-chars}
 use Rattle.properties_format.specs.Text.{byte, scalar}
 use Rattle.properties_format.specs.Encoding.{windows_1252}
-use Rattle.properties_format.specs.Entries.{Content, pair}
+use Rattle.properties_format.specs.Entries.{pair}
 use Rattle.properties_format.specs.Escapes as escapes
-use Rattle.properties_format.specs.Escapes.{Meaning, Means, means, breaks, IsMeaning, Spelling, spelling_character, spellings_before}
+use Rattle.properties_format.specs.Escapes.{Means, means, breaks, IsMeaning, Spelling, spelling_character, spellings_before}
 use Rattle.properties_format.specs.Items.{MeansPair, IsOutcome, ignored, given, broken}
 use Rattle.properties_format.specs.Settings.{Settings}
 use Rattle.properties_format.specs.Split as split
@@ -27,17 +28,28 @@ use Rattle.properties_format.proofs.Items.Unique.{outcome_of-meets}
 use Rattle.properties_format.proofs.Split.Unique.{split_of-only}
 use Rattle.properties_format.proofs.Undecoded.{decodes, splits}
 use Rattle.properties_text.specs.Escaping.{malformed_in}
-use Rattle.properties_text.specs.Parsing.{bytes_in, spanned, in_characters, IsSpan, IsCommentAt, IsPairAt, AreFoundInText}
+use Rattle.properties_text.specs.Parsing.{bytes_in, spanned, in_characters, IsSpan, AreSpans, IsCommentAt, IsPairAt, AreInPlace, AreFoundInText}
 use Rattle.properties_text.specs.Spelt.{text_in, IsWell, Checks}
 use Rattle.properties_text.proofs.Spelt.Escapes.{no-text}
 use Rattle.properties_text.specs.declared.encoding.line.LineEncoding.{LineEncoding}
 use Rattle.properties_text.specs.declared.encoding.line.LineEncoding.TheVariants.{Windows1252, Utf8}
 use Rattle.properties_text.specs.declared.escape.Malformed.{Malformed}
+use Rattle.properties_text.specs.declared.escape.UnescapeError.{UnescapeError}
+use Rattle.properties_text.specs.declared.escape.UnescapeError.TheVariants as error
 use Rattle.properties_text.specs.declared.parse.ParsedSpans.{ParsedSpans}
+use Rattle.properties_text.specs.declared.parse.ParsedSpans.TheVariants as spans
 use Rattle.properties_text.specs.declared.parse.Span.{Span}
+use Rattle.properties_text.specs.PrintedTexts.{key_of, value_of}
+use Rattle.properties_text.specs.declared.print.Pair.{Pair}
+use Rattle.properties_items.specs.Errors.{IsUnresolvedError}
+use Rattle.properties_items.specs.FoundItems.{IsNoItem}
+use Rattle.properties_items.specs.declared.error.PropertiesError.{PropertiesError}
+use Rattle.properties_items.proofs.FoundItems.{blank-item}
 use Rattle.properties_items.proofs.Scalars.{chars-scalars}
 use Rattle.java_properties.specs.Copying.{HasScalars}
-use Rattle.java_properties.specs.Private.Engine.{takes_span}
+use Rattle.java_properties.specs.Private.CopiedLines.{HasBuilt, IsNoPair, BuildsLine}
+use Rattle.java_properties.specs.Private.Engine.{line_bytes, takes_span, BuildsPair}
+use Rattle.java_properties.specs.declared.writer.engine.Engine.{Engine}
 
 -- ---- the parts of a line
 
@@ -85,8 +97,8 @@ comment-within line text h =
 
 -- The parts of a pair lie within its line.
 pub record AreWithin (n : ℕ) (key value : Span) : Type 0 where
-  pub key : IsWithin n key
-  pub value : IsWithin n value
+  pub key_within : IsWithin n key
+  pub value_within : IsWithin n value
 
 pub pair-within : (line : List ℕ) (key value : Span) → IsPairAt line key value → AreWithin (length line) key value
 pair-within line key value h =
@@ -97,8 +109,8 @@ pair-within line key value h =
     let rest = length-append k (d.between ++ v) in
     let end = length-append d.between v in
     record {
-      key = record { ordered = omega (arith, h.key_end); within = omega (arith, h.key_start, h.key_end, whole, rest) };
-      value = record {
+      key_within = record { ordered = omega (arith, h.key_end); within = omega (arith, h.key_start, h.key_end, whole, rest) };
+      value_within = record {
         ordered = omega (arith, h.key_start, h.key_end, h.value_start, h.value_end, whole, rest, end);
         within = omega (arith, h.value_end);
       };
@@ -208,3 +220,99 @@ module _ (text raw_key raw_value : List ℕ) (h : split_of text ≡ split.pair r
 
   pub value-breaks : (key : List ℕ) (kind : escapes.Malformed) → meaning_of raw_key ≡ means key → meaning_of raw_value ≡ breaks kind → outcome_of text ≡ broken kind
   value-breaks key kind k v = ap split_outcome h ∙ ap₂ pair_outcome k v
+
+-- ---- what is built
+
+-- an empty line is blank
+pub empty-is : (e : LineEncoding) (line : List ℕ) → length line ≡ 0 → IsNoPair (text_in e line)
+empty-is e line h = inl (ap outcome_of (no-text e line h) ∙ blank-item [] tt)
+
+-- The parts were found in a line at the front of bytes.
+pub record AreFound (e : LineEncoding) (line bytes : List ℕ) (parts : Option ParsedSpans) : Type 0 where
+  pub well : IsWell e line
+  pub front : take (length line) bytes ≡ line
+  pub split : split_of (text_in e line) ≡ texts_in e (spanned line parts)
+  pub places : AreInPlace line parts
+  pub spans : IsUtf8 line → AreSpans line parts
+
+pub found-in : (e : LineEncoding) (line bytes slice : List ℕ) (parts : Option ParsedSpans) → IsWell e line → take (length line) bytes ≡ line → slice ≡ line
+    → IsSplit slice (spanned slice parts) → AreInPlace slice parts → (IsUtf8 slice → AreFoundInText slice parts) → AreFound e line bytes parts
+found-in e line bytes slice parts w front is h places t =
+    let text = subst (λ v. IsUtf8 v → AreFoundInText v parts) is t in
+    record {
+      well = w;
+      front = front;
+      split = split-in e line parts w (subst (λ v. IsSplit v (spanned v parts)) is h) text;
+      places = subst (λ v. AreInPlace v parts) is places;
+      spans = λ u. (text u).spans;
+    }
+
+-- no line is there
+pub blank-is : (e : LineEncoding) (line bytes : List ℕ) → AreFound e line bytes None → IsNoPair (text_in e line)
+blank-is e line bytes f = inl (ap split_outcome f.split)
+
+module _ (e : LineEncoding) (line bytes : List ℕ) (text : Span) (f : AreFound e line bytes (Some (spans.Comment text))) where
+  same-comment : bytes_in bytes text ≡ bytes_in line text
+  same-comment = front-part bytes line (length line) text f.front (comment-within line text f.places)
+
+  pub comment-well : IsWell e (bytes_in bytes text)
+  comment-well = subst (IsWell e) (sym same-comment) (well-in e line text f.well f.spans)
+
+  pub comment-read : Checks e (bytes_in bytes text) (Ok tt) → IsNoPair (text_in e line)
+  comment-read c =
+      let k = subst (λ v. Checks e v (Ok tt)) same-comment c in
+      inr (k.0, comment-is e (text_in e line) (bytes_in line text) f.split k)
+
+  pub comment-unread : (kind : Malformed) → Checks e (bytes_in bytes text) (Err kind) → outcome_of (text_in e line) ≡ broken (malformed_in kind)
+  comment-unread kind c = comment-breaks e (text_in e line) (bytes_in line text) kind f.split (subst (λ v. Checks e v (Err kind)) same-comment c)
+
+module _ (e : LineEncoding) (line bytes : List ℕ) (key value : Span) (f : AreFound e line bytes (Some (spans.KVPair key value))) where
+  same-key : bytes_in bytes key ≡ bytes_in line key
+  same-key = front-part bytes line (length line) key f.front (pair-within line key value f.places).key_within
+
+  same-value : bytes_in bytes value ≡ bytes_in line value
+  same-value = front-part bytes line (length line) value f.front (pair-within line key value f.places).value_within
+
+  pub key-well : IsWell e (bytes_in bytes key)
+  key-well = subst (IsWell e) (sym same-key) (well-in e line key f.well (λ u. (f.spans u).0))
+
+  pub value-well : IsWell e (bytes_in bytes value)
+  value-well = subst (IsWell e) (sym same-value) (well-in e line value f.well (λ u. (f.spans u).1))
+
+  module _ (old w : Engine) (p : Pair) (k : key_of p ≡ meaning_of (text_in e (bytes_in bytes key))) (v : value_of p ≡ meaning_of (text_in e (bytes_in bytes value))) where
+    key-means : meaning_of (text_in e (bytes_in line key)) ≡ key_of p
+    key-means = sym (k ∙ ap (λ x. meaning_of (text_in e x)) same-key)
+
+    value-means : meaning_of (text_in e (bytes_in line value)) ≡ value_of p
+    value-means = sym (v ∙ ap (λ x. meaning_of (text_in e x)) same-value)
+
+    -- the line of a pair was built
+    pub pair-built : (accepted : Bool) → All byte bytes → BuildsPair old p (Ok tt) w.line → w ≡ record old { line = w.line } → accepted ≡ takes_span w.settings key
+        → HasBuilt (text_in e line) accepted w
+    pair-built accepted all b same takes =
+        let text = text_in e line in
+        let o = pair-is text (text_in e (bytes_in line key)) (text_in e (bytes_in line value)) f.split b.0 b.1 (key-means ∙ b.2) (value-means ∙ b.3) in
+        let scalars = text-scalars e line f.well (front-bytes bytes line (length line) all f.front) in
+        let well = well-in e line key f.well (λ u. (f.spans u).0) in
+        record {
+          key = b.0;
+          value = b.1;
+          outcome = o;
+          scalars = pair-scalars text b.0 b.1 scalars o;
+          accepts = takes ∙ span-accepts w.settings e line key b.0 b.1 (pair-within line key value f.places).key_within well (key-means ∙ b.2);
+          built = b.4 ∙ sym (ap (λ (x : Engine). line_bytes x (pair b.0 b.1)) same);
+        }
+
+    -- or the pair is malformed, or memory ran out
+    pub pair-unbuilt : (error : UnescapeError) → BuildsPair old p (Err error) w.line → BuildsLine (text_in e line) (Err error) w
+    pair-unbuilt (error.Malformed kind) (inl b) =
+        key-breaks (text_in e line) (text_in e (bytes_in line key)) (text_in e (bytes_in line value)) f.split (malformed_in kind) (key-means ∙ b)
+    pair-unbuilt (error.Malformed kind) (inr (meant, m, b)) =
+        value-breaks (text_in e line) (text_in e (bytes_in line key)) (text_in e (bytes_in line value)) f.split meant (malformed_in kind) (key-means ∙ m) (value-means ∙ b)
+    pair-unbuilt error.Memory b = tt
+
+-- why nothing was built says why a line has no item
+pub unbuilt-no_item : (text : List ℕ) (number : ℕ) (why : UnescapeError) (w : Engine) (e : PropertiesError) → BuildsLine text (Err why) w → IsUnresolvedError why number e
+    → IsNoItem number text e
+unbuilt-no_item text number (error.Malformed kind) w e b says = inl (malformed_in kind, b, says)
+unbuilt-no_item text number error.Memory w e b says = inr says

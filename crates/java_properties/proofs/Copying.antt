@@ -1,5 +1,5 @@
 -- How items are copied one after another.
-use Rattle.std.proofs.Common.{◌≡◌, ◌<◌, ◌^◌, ℕ, List, [], ◌++◌, refl, ap, inl, inr}
+use Rattle.std.proofs.Common.{◌≡◌, ◌<◌, ◌^◌, ℕ, List, [], ◌++◌, refl, ap, subst, inl, inr}
 use Rattle.std.specs.Prelude.{Bool, true, Option, None, Some, Result, Ok, Err}
 use Rattle.std.specs.declared.io.Error as io
 use Rattle.counted_io.specs.Streams.{Reader, Sink}
@@ -63,6 +63,9 @@ pub record IsCopiedTo {R W : Type 0} (reader : Reader R) (sink : Sink W) (old : 
 module _ {R W : Type 0} {reader : Reader R} {sink : Sink W} {old : Reading R} {writer : Writing W} where
   pub copied-start : IsCopiedTo reader sink old writer old.state old.reader writer
   copied-start = record { between = old; bytes = []; passed = passed-start old.state old.reader; along = λ result new written h. h }
+
+  pub copied-same : {state : ReaderState} {to : R} {a b : Writing W} → a ≡ b → IsCopiedTo reader sink old writer state to a → IsCopiedTo reader sink old writer state to b
+  copied-same {state} {to} same h = subst (IsCopiedTo reader sink old writer state to) same h
 
   -- an item was copied
   copied-item : {state : ReaderState} {to : R} {so_far : Writing W} (h : IsCopiedTo reader sink old writer state to so_far) (new : ReaderState) (next : R) (after : Writing W)

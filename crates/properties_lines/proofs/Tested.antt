@@ -385,7 +385,7 @@ tested-filled s held all more w t l empty same = subst (λ v. IsTested s v w) (s
       | inl less ↦
           let kept : between s.at w (held ++ more) ≡ between s.at w held =
           ap (take (w - s.at)) (drop-append-le s.at held more l)
-              ∙ take-append-le (w - s.at) (drop s.at held) more (omega (arith, length-drop s.at held, t.within)) in
+          ∙ take-append-le (w - s.at) (drop s.at held) more (omega (arith, length-drop s.at held, t.within)) in
           subst IsUtf8 (sym kept) (t.text d e).ahead
       | inr past ↦ subst IsUtf8 (sym (between-none s.at w (held ++ more) past)) no-bytes
     ];

@@ -1,6 +1,6 @@
 // A writer without its sink.
 
-ghost use Rattle.std.specs.Prelude.{◌≡◌, false, None, Ok, Err, OnOk, IfSome};
+ghost use Rattle.std.specs.Prelude.{◌≡◌, ◌<◌, ◌^◌, false, None, Ok, Err, OnOk, IfSome};
 ghost use Rattle.std.specs.Str.{chars};
 ghost use Rattle.properties_format.specs.Settings.{default_settings};
 ghost use Rattle.properties_format.specs.Writing.{is_accepted};
@@ -122,6 +122,7 @@ impl Engine {
     ) -> Result<(), Option<io::Error>>
         ensures sends { let old = writing self.old sink.old in
             SendsLine W.CountedWrite old self.old.line number result (writing self.new sink.new) }
+        ensures fits { number < 2 ^ 64 }
         ensures same_sink { IsSameSink W.CountedWrite sink.old sink.new }
     {
         match send(sink, self.line.as_slice()) {
