@@ -12,7 +12,7 @@ use Rattle.properties_format.specs.Encoding.{windows_1252}
 use Rattle.properties_format.specs.Entries.{pair}
 use Rattle.properties_format.specs.Escapes as escapes
 use Rattle.properties_format.specs.Escapes.{Means, means, breaks, IsMeaning, Spelling, spelling_character, spellings_before}
-use Rattle.properties_format.specs.Items.{MeansPair, IsOutcome, ignored, given, broken}
+use Rattle.properties_format.specs.Items.{MeansPair, IsOutcome, given, broken}
 use Rattle.properties_format.specs.Settings.{Settings}
 use Rattle.properties_format.specs.Split as split
 use Rattle.properties_format.specs.Split.{Logical, IsSplit}
@@ -20,10 +20,10 @@ use Rattle.properties_format.specs.Writing.{is_accepted, pair_call}
 use Rattle.properties_format.specs.Computed.Escapes.{meaning_of}
 use Rattle.properties_format.specs.Computed.Items.{outcome_of, split_outcome, comment_outcome, pair_outcome}
 use Rattle.properties_format.specs.Computed.Split.{split_of}
-use Rattle.properties_format.specs.Computed.Undecoded.{characters_of, in_text}
+use Rattle.properties_format.specs.Computed.Undecoded.{in_text}
 use Rattle.properties_format.proofs.Encodings.Characters.{pieces_of-scalar}
 use Rattle.properties_format.proofs.Escapes.Scalars.{means-scalars, rest-scalars}
-use Rattle.properties_format.proofs.Escapes.Unique.{meaning_of-empty, meaning_of-meets, means-only}
+use Rattle.properties_format.proofs.Escapes.Unique.{meaning_of-empty, meaning_of-meets}
 use Rattle.properties_format.proofs.Items.Unique.{outcome_of-meets}
 use Rattle.properties_format.proofs.Split.Unique.{split_of-only}
 use Rattle.properties_format.proofs.Undecoded.{decodes, splits}

@@ -1,5 +1,5 @@
-use Rattle.std.proofs.Common.{◌≡◌, ℕ, take, length, refl, sym, ap, ◌∙◌, subst, rules}
-use Rattle.std.specs.Prelude.{None, Some, Ok, Err}
+use Rattle.std.proofs.Common.{◌≡◌, take, length, refl, sym, ap, ◌∙◌, subst, rules}
+use Rattle.std.specs.Prelude.{None, Some, Err}
 use Rattle.std.proofs.lemmas.Result.{err_from_is_err_and}
 use Rattle.properties_text.specs.declared.escape.UnescapeError.{UnescapeError}
 use Rattle.properties_text.specs.declared.parse.ParsedSpans.{ParsedSpans}

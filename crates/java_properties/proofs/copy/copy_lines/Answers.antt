@@ -1,4 +1,4 @@
-use Rattle.std.proofs.Common.{◌≡◌, refl, sym, ap, ◌∙◌, subst}
+use Rattle.std.proofs.Common.{refl, sym, ap, ◌∙◌, subst}
 use Rattle.std.specs.Prelude.{true, Ok, Err}
 use Rattle.counted_io.specs.Streams.{reader, sink}
 use Rattle.properties_lines.specs.LineJoiner.{Joining, numbered_bytes}
