@@ -16,7 +16,7 @@ use Rattle.properties_lines.specs.Scanner.{is_decided, after_cr, bytes_of, scann
 use Rattle.properties_lines.specs.LineSearch.{unit_size}
 use Rattle.properties_lines.specs.LineReader.{Finder, HasRightLineFlags}
 use Rattle.properties_lines.specs.LogicalLine.{IsLineIn, TellsLine}
-use Rattle.properties_lines.specs.Tested.{between, IsApart, KnowsText, IsTested}
+use Rattle.properties_lines.specs.Private.Tested.{between, IsApart, KnowsText, IsTested}
 use Rattle.properties_lines.specs.declared.scanner.RawLine.{RawLine}
 use Rattle.properties_lines.specs.declared.scanner.Scanner.{Scanner}
 use Rattle.properties_lines.specs.declared.scanner.Scan.{Scan}

@@ -1,7 +1,6 @@
 pub mod Private
 pub mod LineSearch
 pub mod Scanner
-pub mod Tested
 pub mod LineReader
 pub mod LogicalLine
 pub mod LineJoiner

@@ -1,2 +1,3 @@
 pub mod InputBuffer
 pub mod HeldLines
+pub mod Tested

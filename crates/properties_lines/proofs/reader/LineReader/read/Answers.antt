@@ -2,7 +2,7 @@ use Rattle.std.proofs.Common.{inr, ◌≡◌, ◌≤◌, ◌+◌, ◌-◌, ◌�
 use Rattle.properties_lines.specs.LineReader.{Finder}
 use Rattle.properties_lines.specs.declared.error.LineError.TheVariants as why
 use Rattle.properties_lines.proofs.LineReaders.{finder_of, fits-left, fits-filled, done-left, passed-left, line-left, fails}
-use Rattle.properties_lines.specs.Tested.{IsTested}
+use Rattle.properties_lines.specs.Private.Tested.{IsTested}
 use Rattle.properties_lines.proofs.Tested.{tested-left, tested-filled, released-empty}
 use Rattle.properties_lines.proofs.reader.LineReader.read.Goals as goal
 
