@@ -171,8 +171,8 @@ module _ {R W : Type 0} {reader : Reader R} {sink : Sink W} {e : Encoding} {only
   copied it w result new written h (Copies.goes_on between so_far came rest) =
       copied between so_far result new written (passed-more so_far came.number came.content h (compute-entry came.gives) came.writes came.scalars) rest
   copied it w result new written h (Copies.ends is none) =
-      rw is (it, (subst (λ v. HasPassed reader sink e only input output it v) (sym none.same) h, compute-none none.gives))
+      rw is (it, subst (λ v. HasPassed reader sink e only input output it v) (sym none.same) h, compute-none none.gives)
   copied it w result new written h (Copies.stops_reading error is failed) =
-      rw is (it, (subst (λ v. HasPassed reader sink e only input output it v) (sym failed.same) h, (failed.live, compute-error failed.why)))
+      rw is (it, subst (λ v. HasPassed reader sink e only input output it v) (sym failed.same) h, failed.live, compute-error failed.why)
   copied it w result new written h (Copies.stops_writing error is failed) =
       rw is (stops-writing written failed.number (pair failed.key failed.value) h (compute-entry failed.gives) failed.writes)
