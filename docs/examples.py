@@ -24,7 +24,7 @@ use java_properties::{
     PropertiesWriter, edit_all, key_lines, laws, malformed_escapes, read, read_lines, read_sorted, read_source, remove_key, run_calls,
     set_key, set_value, value_of, write, write_sorted, write_source,
 };
-use properties_text::encoding::{OutputEncoding, TextBuffer};
+use properties_text::encoding::TextBuffer;
 use properties_text::escape::unescape;
 use properties_text::print::{LineBuffer, Pair, Place, Repertoire, print_pair, print_text, print_texts, print_value};
 use propedit_arguments::{asked_for, explain};
@@ -65,7 +65,7 @@ GIVEN = {
     "error": "let error = PropertiesError::from(io::Error::from(ErrorKind::NotFound));",
     "items": 'let mut items = PropertiesIter::new(alloc, b"a=b".as_slice())?;',
     "writer": f"let mut writer = PropertiesWriter::new(alloc, {SINK})?;",
-    "repertoire": "let repertoire = Repertoire { encoding: OutputEncoding::Utf8, ascii_only: false };",
+    "repertoire": "let repertoire = Repertoire::Utf8;",
     "line": "let mut line = LineBuffer::new(alloc);",
     "key": 'let key = String::from_str(alloc, "k")?;',
     "source": 'let source: &[u8] = b"port=80";',
