@@ -1,5 +1,5 @@
 -- The items of a source without malformed escapes.
-use Rattle.std.proofs.Common.{◌≡◌, ℕ, List, [], ◌∷◌, ◌++◌, refl, ap, sym, ◌∙◌}
+use Rattle.std.proofs.Common.{◌≡◌, ℕ, List, [], ◌∷◌, refl, ap, sym, ◌∙◌}
 use Rattle.properties_format.specs.Encoding.{Encoding, IsDecoded}
 use Rattle.properties_format.specs.Entries.{Entry, AreItems}
 use Rattle.properties_format.specs.Groups.{IsGroups, joined, first_number}
