@@ -32,7 +32,7 @@ use properties_tools::arguments::words;
 use properties_tools::filter::{filter, filter_ascii};
 use properties_tools::messages::{say, say_error};
 use properties_tools::propedit::answers::{answer_to, name};
-use properties_tools::propedit::asked::{Command, Request, Source, TextEnd, Work};
+use properties_tools::propedit::asked::{Command, FileEdits, Missing, Request, Source, TextEnd, Work};
 use properties_tools::propedit::error::{Failure, say_failure};
 use properties_tools::propedit::in_place::{Original, edit_file};
 use properties_tools::propedit::lines::ill_formed_lines;
@@ -44,6 +44,11 @@ use std::collections::{BTreeMap, HashMap};
 use std::env;
 use std::io::{self, ErrorKind, Write};
 use std::test::Fail;
+
+// What a program does for a request.
+fn answer(_: &Request) -> u8 {
+    0
+}
 """
 
 SINK = "Counted::new(Vec::new(alloc))"
@@ -73,6 +78,10 @@ GIVEN = {
     "host": 'let host = String::from_str(alloc, "host")?;',
     "value": 'let value = String::from_str(alloc, "v")?;',
 }
+EDITED_FILE = (
+    'let file = FileEdits { path: String::from_str(alloc, "my.properties")?, encoding: Encoding::UTF_8, '
+    "edits: Vec::new(alloc), missing: Missing::Refuse };"
+)
 
 
 def examples(path):
@@ -119,10 +128,16 @@ def main():
                     if is_free(given, text):
                         if given == "map" and "write_sorted" in text:
                             how = how.replace("HashMap", "BTreeMap")
+                        if given == "file" and "edit_file" in text:
+                            how = EDITED_FILE
                         print("    " + how)
+                if lines[0].startswith("match asked_for"):
+                    lines[-1] += ";"
                 for line in lines:
                     # A test returns no status, and its error is a `Fail`.
                     line = re.sub(r"return Ok\((.{3,})\);", r"let _ = \1; return Ok(());", line)
+                    line = re.sub(r"return (explain\(.+\));", r"let _ = \1; return Ok(());", line)
+                    line = re.sub(r"^(match asked_for)", r"let _ = \1", line)
                     print("    " + re.sub(r"return Err\((.+)\);", r"return Err(\1.into());", line))
                 print("    Ok(())\n}\n")
 
