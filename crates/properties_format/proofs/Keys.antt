@@ -9,11 +9,6 @@ use Rattle.properties_format.proofs.Maps.{value_in-meets}
 
 -- ---- keys in a list
 
-not-both : (key : List ℕ) (ks : List (List ℕ)) → HasNot key ks → Has key ks → ⊥
-not-both key [] n h = h
-not-both key (k ∷ ks) n (inl e) = n.0 e
-not-both key (k ∷ ks) n (inr h) = not-both key ks n.1 h
-
 pub contained : (key : List ℕ) (ks : List (List ℕ)) → Contains ks key → Has key ks
 contained key [] (n, l, e) = absurd (omega arith)
 contained key (k ∷ ks) (zero, l, e) = inl e
@@ -23,10 +18,6 @@ pub contains : (key : List ℕ) (ks : List (List ℕ)) → Has key ks → Contai
 contains key [] h = absurd h
 contains key (k ∷ ks) (inl e) = (0, omega arith, e)
 contains key (k ∷ ks) (inr h) = let m = contains key ks h in (suc m.0, (let l = m.1 in omega arith), m.2)
-
-has-middle : (key : List ℕ) (xs ys : List (List ℕ)) → Has key (xs ++ key ∷ ys)
-has-middle key [] ys = inl refl
-has-middle key (x ∷ xs) ys = inr (has-middle key xs ys)
 
 -- ---- the keys of entries
 

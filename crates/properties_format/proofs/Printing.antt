@@ -1,2 +1,1 @@
-pub mod BomLike
 pub mod Characters

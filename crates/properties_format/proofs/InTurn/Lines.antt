@@ -12,7 +12,6 @@ use Rattle.properties_format.specs.Computed.Parts.{unended_bytes}
 use Rattle.properties_format.proofs.Lines.Steps.{lines_of-line}
 use Rattle.properties_format.proofs.Lines.Only.{lines_of-plain}
 use Rattle.properties_format.proofs.Body.Decoded.{cut_of-lines}
-use Rattle.properties_format.proofs.Body.Groups.{group_bytes-append}
 use Rattle.properties_format.proofs.Edited.Contents.{ends-right}
 
 -- ---- the lines of a group
@@ -178,14 +177,3 @@ lines-with e o p (h ∷ i ∷ hs) (b, s, (by, t, k), a) m =
     front q =
         ap begins_with_lf (bytes-with p i hs)
         ∙ first-none x (ending_bytes p) (first-left x (ending_bytes o) (ap begins_with_lf (sym (bytes-of e o (i ∷ hs) a)) ∙ k q)) (λ r. m (ends q r))
-
--- Two lists of such lines are such lines together, if no CR is separated from an LF.
-pub lines-append : (e : Encoding) (by : LineEnding) (o : Option LineEnding) (g w : List HeldLine) → AreLinesBy e (Some by) g → AreLinesBy e o w
-    → (by ≡ cr → begins_with_lf (group_bytes w) ≡ false)
-    → AreLinesBy e o (g ++ w)
-lines-append e by o [] w a b k = absurd a
-lines-append e by o (h ∷ []) w (p, s, t) b k = line-before e o h by w p s t k b
-lines-append e by o (h ∷ i ∷ hs) w (p, s, (own, t, n), a) b k =
-    line-before e o h own (i ∷ hs ++ w) p s t
-    (λ q. ap begins_with_lf (group_bytes-append (i ∷ hs) w) ∙ first-none (group_bytes (i ∷ hs)) (group_bytes w) (n q) (λ r. absurd (lines-some e by (i ∷ hs) a r)))
-    (lines-append e by o (i ∷ hs) w a b k)

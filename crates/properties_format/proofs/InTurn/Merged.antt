@@ -6,11 +6,9 @@ use Rattle.properties_format.specs.Text.{LineEnding, lf, cr, crlf, carriage_retu
 use Rattle.properties_format.specs.Encoding.{Encoding}
 use Rattle.properties_format.specs.Lines.{Ended, AreLines, end}
 use Rattle.properties_format.specs.Computed.Lines.{begins_with_lf}
-use Rattle.properties_format.specs.Groups.{is_open, IsGroups, IsWhole, lines_in, last_group, joined}
-use Rattle.properties_format.specs.Items.{IsOutcome, given}
-use Rattle.properties_format.specs.Entries.{pair}
+use Rattle.properties_format.specs.Groups.{is_open, IsGroups, IsWhole, lines_in, last_group}
 use Rattle.properties_format.specs.Writing.{is_empty}
-use Rattle.properties_format.specs.Body.{HeldLine, AreHeld, as_lines, as_groups, held_in, AreGroupsOf, HasKey, NoneHasKey, ending_bytes, group_bytes, groups_bytes, last_ending}
+use Rattle.properties_format.specs.Body.{HeldLine, AreHeld, as_lines, as_groups, held_in, AreGroupsOf, ending_bytes, group_bytes, groups_bytes, last_ending}
 use Rattle.properties_format.specs.Edited.{is_editable, final_group}
 use Rattle.properties_format.specs.Computed.Cut.{cut_of, decoded_line}
 use Rattle.properties_format.specs.Computed.Body.{held_of, held_lines_of}
@@ -135,18 +133,6 @@ one-bytes (i ∷ is) h k =
     bytes-with (Some crlf) i is
     ∙ sym (append_assoc x (carriage_return ∷ []) (line_feed ∷ []))
     ∙ sym (ap₂ (λ u v. u ++ v) (bytes-unended (i ∷ is) ∙ ap (λ o. x ++ ending_bytes o) k.by_cr) (bytes-unended h ∙ ap₂ (λ u o. u ++ ending_bytes o) k.empty k.by_lf))
-
--- The bytes are unchanged.
-pub merged-bytes : (gs : List (List HeldLine)) → groups_bytes (merged gs) ≡ groups_bytes gs
-merged-bytes [] = refl
-merged-bytes (g ∷ []) = refl
-merged-bytes (g ∷ h ∷ gs) = elim (cases_Bool (are_one_ending g h)) [
-  | inl k ↦
-      ap groups_bytes (merged-one g h gs k)
-      ∙ ap₂ (λ u v. u ++ v) (one-bytes g h (one-ending g h k)) (merged-bytes gs)
-      ∙ append_assoc (group_bytes g) (group_bytes h) (groups_bytes gs)
-  | inr k ↦ ap groups_bytes (merged-two g h gs k) ∙ ap (λ v. group_bytes g ++ v) (merged-bytes (h ∷ gs))
-]
 
 -- ---- which groups begin with an LF
 
@@ -277,23 +263,6 @@ merged-groups e gs ok a =
     }
 
 -- ---- what else is unchanged
-
--- Whether a group has the key doesn't depend on its last line ending.
-pub key-with : (key : List ℕ) (o : Option LineEnding) (g : List HeldLine) → HasKey key g → HasKey key (with_ending o g)
-key-with key o g (value, h) = (value, subst (λ v. IsOutcome (joined v) (given (pair key value))) (sym (texts-with o g)) h)
-
--- Whether a group doesn't have the key doesn't depend on its last line ending.
-no_key-with : (key : List ℕ) (o : Option LineEnding) (g : List HeldLine) → ¬ (HasKey key g) → ¬ (HasKey key (with_ending o g))
-no_key-with key o g n (value, h) = n (value, subst (λ v. IsOutcome (joined v) (given (pair key value))) (texts-with o g) h)
-
--- If no group has the key, none has it once line endings are made one.
-pub merged-none : (key : List ℕ) (gs : List (List HeldLine)) → NoneHasKey key gs → NoneHasKey key (merged gs)
-merged-none key [] n = tt
-merged-none key (g ∷ []) n = n
-merged-none key (g ∷ h ∷ gs) n = elim (cases_Bool (are_one_ending g h)) [
-  | inl k ↦ subst (NoneHasKey key) (sym (merged-one g h gs k)) (no_key-with key (Some crlf) g n.0, merged-none key gs n.1.1)
-  | inr k ↦ subst (NoneHasKey key) (sym (merged-two g h gs k)) (n.0, merged-none key (h ∷ gs) n.1)
-]
 
 -- the last group
 pub final-next : (g : List HeldLine) (gs : List (List HeldLine)) → gs ≢ [] → final_group (g ∷ gs) ≡ final_group gs

@@ -1,5 +1,5 @@
 -- Groups of which no CR and LF alone are one line ending: they are the groups of their bytes as they stand.
-use Rattle.std.proofs.Common.{◌≡◌, false, List, [], ◌∷◌, Some, refl, ap, sym, ◌∙◌, inl, inr}
+use Rattle.std.proofs.Common.{◌≡◌, false, List, [], ◌∷◌, Some, ap, sym, ◌∙◌, inl, inr}
 use Rattle.std.proofs.lemmas.Bool.{cases_Bool}
 use Rattle.properties_format.specs.Text.{cr, crlf}
 use Rattle.properties_format.specs.Body.{HeldLine, last_ending}
@@ -13,13 +13,7 @@ AreUnmerged [] = Unit {0}
 AreUnmerged (g ∷ []) = Unit {0}
 AreUnmerged (g ∷ h ∷ gs) = (are_one_ending g h ≡ false) × AreUnmerged (h ∷ gs)
 
--- Such groups stay, where each CR takes the LF alone after it,
-pub unmerged-merged : (gs : List (List HeldLine)) → AreUnmerged gs → merged gs ≡ gs
-unmerged-merged [] a = refl
-unmerged-merged (g ∷ []) a = refl
-unmerged-merged (g ∷ h ∷ gs) a = merged-two g h gs a.0 ∙ ap (λ v. g ∷ v) (unmerged-merged (h ∷ gs) a.1)
-
--- and groups that stay are such.
+-- Groups that stay are such.
 pub merged-unmerged : (gs : List (List HeldLine)) → merged gs ≡ gs → AreUnmerged gs
 merged-unmerged [] s = tt
 merged-unmerged (g ∷ []) s = tt

@@ -1,16 +1,15 @@
 -- What a new writer writes doesn't begin like a byte order mark.
 use Rattle.std.proofs.Common.{◌≡◌, ℕ, ◌<◌, ◌==◌, ◌&&◌, ◌||◌, not, Bool, true, false, if◌then◌else◌, List, [], ◌∷◌, ◌++◌, refl, ap, ◌∙◌, inl, inr, append_assoc, arith, lit<, ne_eqb}
-use Rattle.std.specs.Prelude.{Some, None, unwrap_or}
+use Rattle.std.specs.Prelude.{nat_lt, Some, None, unwrap_or}
 use Rattle.std.proofs.lemmas.Bool.{cases_Bool, cond-true, cond-false, and_left}
 use Rattle.properties_format.specs.Text.{backslash, is_blanks, is_comment_sign}
 use Rattle.properties_format.specs.Encoding.{Encoding, begins_with, begins_like_bom, utf_8_bom, utf_16be_bom, utf_16le_bom}
 use Rattle.properties_format.specs.Split.{AreBlanks}
 use Rattle.properties_format.specs.Entries.{Content, comment, pair}
 use Rattle.properties_format.specs.Settings.{Settings, IsGoodPrefix, IsGoodSeparator}
-use Rattle.properties_format.specs.Printing.{in_key_or_value, in_prefix, printed_characters, encoded_text, is_bom_like, with_first_escaped, printed_key, printed_text}
+use Rattle.properties_format.specs.Printing.{in_key_or_value, in_prefix, unit_escape, high_surrogate, low_surrogate, unicode_escape, printed_characters, encoded_text, is_bom_like, with_first_escaped, printed_key, printed_text}
 use Rattle.properties_format.specs.Writing.{Call, comment_call, pair_call, prefix_call, separator_call, ending_call, flush_call, ascii_only_call, is_empty, settings_after_call, lines_with, AreOfScalars, AreGoodSettings}
 use Rattle.properties_format.proofs.Printing.Characters.{encoded-ascii, encoded_text-append, blank-ascii, good_separator-ascii}
-use Rattle.properties_format.proofs.Printing.BomLike.{unicode-is_escape}
 use Rattle.properties_format.proofs.ReadBack.Pairs.{separator-some}
 use Rattle.properties_format.proofs.ReadBack.Comments.{prefix-printed, sign-ascii}
 use Rattle.properties_format.proofs.ReadBack.Lines.{line_text, wrote_text, settings_after_call-good}
@@ -75,6 +74,17 @@ comment-unmarked e only prefix rest g =
 separator-front : (sep : List ℕ) → IsGoodSeparator sep → (c : ℕ) × (y : List ℕ) × (sep ≡ c ∷ y) × (c < 0x80)
 separator-front [] g = absurd (separator-some [] g refl)
 separator-front (c ∷ y) g = (c, y, refl, (good_separator-ascii (c ∷ y) g).0)
+
+-- what is printed begins with a backslash
+abbrev IsEscape : List ℕ → Type 0
+IsEscape x = (rest : List ℕ) × (x ≡ backslash ∷ rest)
+
+-- `\u` escapes begin with a backslash
+unicode-is_escape : (c : ℕ) → IsEscape (unicode_escape c)
+unicode-is_escape c = elim (cases_Bool (nat_lt c 0x1_0000)) [
+  | inl e ↦ (_, cond-true (nat_lt c 0x1_0000) (unit_escape c) (unit_escape (high_surrogate c) ++ unit_escape (low_surrogate c)) e)
+  | inr e ↦ (_, cond-false (nat_lt c 0x1_0000) (unit_escape c) (unit_escape (high_surrogate c) ++ unit_escape (low_surrogate c)) e)
+]
 
 -- A key with its first character escaped, with what follows it.
 with_first_escaped-unmarked : (e : Encoding) (only : Bool) (key rest : List ℕ) → is_bom_like e only key ≡ true → IsUnmarked e (with_first_escaped e only key ++ rest)
