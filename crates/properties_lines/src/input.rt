@@ -31,7 +31,7 @@ impl Model for InputBuffer {
 impl InputBuffer {
     /// Returns a buffer without bytes. Allocates nothing.
     pub fn new(alloc: Global) -> InputBuffer
-        ensures { result.held ≡ [] }
+        ensures { result ≡ record { held = []; room = 0 } }
     {
         InputBuffer {
             bytes: Vec::new(alloc),
@@ -73,6 +73,7 @@ impl InputBuffer {
     pub fn fill<R: CountedRead>(&mut self, reader: &mut R) -> io::Result<usize>
         requires { 0 < self.old.room }
         ensures fills { Fills R.CountedRead self.old.held reader.old result self.new.held reader.new }
+        ensures size { length self.new.held + self.new.room ≡ length self.old.held + self.old.room }
         ensures same_reader { IsSameReader R.CountedRead reader.old reader.new }
     {
         let count = read_at(&mut self.bytes, self.filled, reader)?;
@@ -95,6 +96,7 @@ impl InputBuffer {
 fn read_at<R: CountedRead>(bytes: &mut [u8], place: usize, reader: &mut R) -> io::Result<usize>
     requires { place < length bytes.old }
     ensures reads { ReadsAt R.CountedRead place bytes.old reader.old result bytes.new reader.new }
+    ensures size { length bytes.new ≡ length bytes.old }
     ensures same_reader { IsSameReader R.CountedRead reader.old reader.new }
 {
     reader.read_counted(&mut bytes[place..])

@@ -11,7 +11,7 @@ use Rattle.properties_format.specs.Computed.Encoding.{first_piece, pieces_of}
 use Rattle.properties_format.specs.Computed.Waiting.{awaits_bom, awaits_more}
 use Rattle.properties_text.specs.Encoding.{encoding_of}
 use Rattle.properties_text.specs.declared.encoding.Encoding.{Encoding}
-use Rattle.properties_text.specs.declared.encoding.Encoding.TheVariants.{UTF_16LE, UTF_16BE}
+use Rattle.properties_text.specs.declared.encoding.Encoding.TheVariants.{WINDOWS_1252, UTF_8, UTF_16LE, UTF_16BE}
 use Rattle.properties_text.specs.declared.encoding.byte_order_mark.ByteOrderMark.{ByteOrderMark}
 use Rattle.properties_text.specs.declared.encoding.byte_order_mark.ByteOrderMark.TheVariants.{Present, Absent, Undecided}
 use Rattle.properties_text.specs.declared.encoding.first_piece.FirstPiece.{FirstPiece}
@@ -91,6 +91,13 @@ pub record IsLongestText (bytes : List ℕ) (n : ℕ) : Type 0 where
   pub within : n ≤ length bytes
   pub text : IsUtf8 (take n bytes)
   pub longest : (m : ℕ) → m ≤ length bytes → IsUtf8 (take m bytes) → m ≤ n
+
+-- The bytes at the front that are text already are passed: in UTF-8 as many as are well-formed, otherwise none.
+abbrev pub PassesText : Encoding → List ℕ → List ℕ → Type 0
+PassesText UTF_8 bytes rest = (front : List ℕ) × (bytes ≡ front ++ rest) × IsLongestText bytes (length front)
+PassesText WINDOWS_1252 bytes rest = rest ≡ bytes
+PassesText UTF_16LE bytes rest = rest ≡ bytes
+PassesText UTF_16BE bytes rest = rest ≡ bytes
 
 -- The result is the character of a windows-1252 byte, in UTF-8.
 pub record IsTextOfByte (byte : ℕ) (text : ByteText) : Type 0 where

@@ -1,5 +1,5 @@
 -- What a text of a line is printed as, by the encoding of the line, what a backslash means in it, and what may be printed.
-use Rattle.std.specs.Prelude.{◌≡◌, ◌⊎◌, ◌≤◌, ◌<◌, ◌+◌, ◌*◌, ℕ, nat_le, nat_lt, ◌&&◌, Bool, not, true, false, if◌then◌else◌, List, [], ◌∷◌, ◌++◌, length, take, drop, Result, Ok, Err}
+use Rattle.std.specs.Prelude.{◌≡◌, ◌⊎◌, ◌≤◌, ◌<◌, ◌+◌, ◌*◌, ℕ, nat_le, nat_lt, ◌&&◌, Bool, not, true, false, if◌then◌else◌, List, [], ◌∷◌, ◌++◌, length, take, drop, get_or, Result, Ok, Err}
 use Rattle.properties_format.specs.Escapes as format_escapes
 use Rattle.properties_format.specs.Escapes.{Meaning, means, breaks}
 use Rattle.properties_format.specs.Computed.Escapes.{meaning_of, in_front, text_in_front}
@@ -128,6 +128,11 @@ abbrev pub PutsStops : LineEncoding → Repertoire → Bool → List ℕ → ℕ
 PutsStops e t escaped old at text from new (Ok put) = ArePut e t escaped (from_on e t escaped old at text from) text put new
 PutsStops e t escaped old at text from new (Err (error.Malformed malformed)) = rest_in e t escaped (drop from text) ≡ breaks (malformed_in malformed)
 PutsStops e t escaped old at text from new (Err error.Memory) = Unit {0}
+
+-- There is no room for a further character, or neither the next byte nor the one after it is a stop.
+pub record GoesFar (holds : ℕ → Bool) (text : List ℕ) (put : Put) (out : List ℕ) : Type 0 where
+  pub here : put.read < length text → holds (get_or text put.read 0) ≡ true → length out < put.end + 12
+  pub next : put.read + 1 < length text → holds (get_or text (put.read + 1) 0) ≡ true → length out < put.end + 12
 
 -- The result of printing the rest of a text: all of it was read and put; or how it is malformed; or memory ran out.
 abbrev pub PrintsRest : LineEncoding → Repertoire → Bool → List ℕ → ℕ → List ℕ → ℕ → List ℕ → Result ℕ UnescapeError → Type 0

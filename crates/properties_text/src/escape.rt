@@ -1,6 +1,6 @@
 //! Resolving the escapes of a key, a value or a comment's text.
 
-ghost use Rattle.std.specs.Prelude.{◌≡◌, ◌≤◌, ◌<◌, not, length, ◌++◌, get_or, true, IfOk, OnOk};
+ghost use Rattle.std.specs.Prelude.{◌≡◌, ◌≤◌, ◌<◌, ◌+◌, not, length, ◌++◌, get_or, true, IfOk, OnOk};
 ghost use Rattle.std.specs.Str.{chars};
 ghost use Rattle.std.specs.String.{string_bytes};
 ghost use Rattle.memchr.specs.Find.{IsFirstByte, is_byte};
@@ -118,6 +118,7 @@ fn put_escapes<'a>(run: &mut [u8], text: &'a str) -> Result<Escapes<'a>, Malform
     ensures resolves { ResolvesFront text.now run.new result }
     ensures shorter { IfOk result (λ escapes. 4 ≤ length run.old → get_or text.now 0 0 ≡ backslash
         → length escapes.rest.now < length text.now) }
+    ensures far { IfOk result (λ escapes. get_or escapes.rest.now 0 0 ≡ backslash → length run.new < escapes.end + 4) }
 {
     let mut end = 0;
     let mut rest = text;

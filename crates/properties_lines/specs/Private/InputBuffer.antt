@@ -1,5 +1,5 @@
 -- The effect of a read into the buffer of undecoded bytes.
-use Rattle.std.specs.Prelude.{◌≡◌, ℕ, ◌+◌, ◌<◌, ◌≤◌, true, List, [], ◌++◌, length, take, drop, Result, Ok, Err}
+use Rattle.std.specs.Prelude.{◌≡◌, ℕ, ◌+◌, ◌*◌, ◌<◌, ◌≤◌, true, List, [], ◌++◌, length, take, drop, Result, Ok, Err}
 use Rattle.std.specs.declared.io.Error.{Error}
 use Rattle.counted_io.specs.Streams.{Reader, HasRead, HasFailed}
 
@@ -8,11 +8,16 @@ pub record Buffer : Type 0 where
   pub held : List ℕ
   pub room : ℕ
 
--- There is free space after the bytes that are held. Some bytes at the front were released, at most `count`.
+-- There is free space after the bytes that are held. Some bytes at the front were released, at most `count`. Where there
+-- was space before, nothing changed. Otherwise `count` bytes were released if more than half of the bytes are among them,
+-- and if not, none were and the buffer grew.
 pub record HasRoom (count : ℕ) (old : Buffer) (gone : ℕ) (new : Buffer) : Type 0 where
   pub most : gone ≤ count
   pub held : new.held ≡ drop gone old.held
   pub room : 0 < new.room
+  pub stays : 0 < old.room → (gone ≡ 0) × (new.room ≡ old.room)
+  pub moves : old.room ≡ 0 → length old.held < 2 * count → (gone ≡ count) × (new.room ≡ count)
+  pub grows : old.room ≡ 0 → 2 * count ≤ length old.held → (gone ≡ 0) × (new.room ≡ 0x10000)
 
 -- Space was made, or memory ran out.
 abbrev pub MakesRoom : {E : Type 0} → ℕ → Buffer → Result ℕ E → Buffer → Type 0

@@ -1,8 +1,8 @@
 // The buffer into which lines are decoded.
 
-ghost use Rattle.std.specs.Prelude.{◌≡◌, ◌≤◌, ◌<◌, ◌++◌, List, ℕ, [], length, take, IfOk, OnOk, OnErr};
+ghost use Rattle.std.specs.Prelude.{◌≡◌, ◌⊎◌, ◌≤◌, ◌<◌, ◌+◌, ◌++◌, List, ℕ, [], length, take, IfOk, OnOk, OnErr};
 ghost use Rattle.std.specs.Str.{chars, IsUtf8, IsCharBoundary};
-ghost use Rattle.properties_text.specs.Decoding.{text_of, KeepsText};
+ghost use Rattle.properties_text.specs.Decoding.{text_of, KeepsText, PassesText};
 
 use super::decode::decode_run;
 use super::{Encoding, utf_8};
@@ -117,6 +117,7 @@ impl TextBuffer {
         ensures unchanged { OnErr result (self.new ≡ self.old) }
         ensures longer { length self.old ≤ length self.new }
         ensures left { IfOk result (λ rest. length rest.now ≤ length bytes.now) }
+        ensures far { IfOk result (λ rest. PassesText encoding bytes.now rest.now) }
     {
         match encoding {
             Encoding::UTF_8 => {
@@ -137,6 +138,7 @@ impl TextBuffer {
         ensures longer { length self.old ≤ length self.new }
         ensures left { IfOk result (λ rest. length rest.now ≤ length bytes.now) }
         ensures shorter { IfOk result (λ rest. 0 < length bytes.now → length rest.now < length bytes.now) }
+        ensures far { IfOk result (λ rest. length rest.now ≡ 0 ⊎ length self.old + 192 < length self.new) }
         ensures utf8 { IsUtf8 self.new }
     {
         make_room(&mut self.line.bytes, self.line.filled, RUN)?;

@@ -7,7 +7,7 @@ ghost use Rattle.properties_format.specs.Text.{backslash};
 ghost use Rattle.properties_text.specs.Spelt.{IsWell};
 ghost use Rattle.properties_format.specs.Printing.{literal, encoded_text};
 ghost use Rattle.properties_text.specs.Printing.{encoding_in, only_in, put_of, puts_of};
-ghost use Rattle.properties_text.specs.PrintedTexts.{past_in, ReadsBy, PutsStops, PrintsRest, IsRunPut, StopsIn, meaning_in, Prints};
+ghost use Rattle.properties_text.specs.PrintedTexts.{past_in, ReadsBy, PutsStops, GoesFar, PrintsRest, IsRunPut, StopsIn, meaning_in, Prints};
 
 use super::Repertoire;
 use super::bytes::{first_16, put_16, put_any, put_byte};
@@ -184,6 +184,7 @@ fn print_stops<Stops: ByteClass>(
     ensures longer { length out.old.items ≤ length out.new.items }
     ensures after { IfOk result (λ put. at ≤ put.end) }
     ensures onwards { IfOk result (λ put. from < length text.now → Stops.holds (get_or text.now from 0) ≡ true → from < put.read) }
+    ensures far { IfOk result (λ put. GoesFar Stops.holds text.now put out.new.items) }
 {
     make_room(out, at, LONGEST)?;
     put_stops::<Stops>(out, at, repertoire, encoding, text, from)
@@ -209,6 +210,7 @@ fn put_stops<Stops: ByteClass>(
     ensures same { take at out.new ≡ take at out.old }
     ensures after { IfOk result (λ put. at ≤ put.end) }
     ensures onwards { IfOk result (λ put. from < length text.now → Stops.holds (get_or text.now from 0) ≡ true → from < put.read) }
+    ensures far { IfOk result (λ put. GoesFar Stops.holds text.now put out.new) }
 {
     let mut put = Put {
         read: from,
