@@ -15,7 +15,7 @@ pub fn are_same_pairs<W: CountedWrite>(
 ) -> bool
     ensures { ComparesPairs writer.now first.now second.now result }
 {
-    writer.tell_settings_are_good();
+    laws::settings_are_good(writer);
     laws::reading_inverts_writing();
     first == second
 }

@@ -23,7 +23,7 @@ use Rattle.java_properties.specs.declared.copy.CopyError.{CopyError}
 use Rattle.java_properties.specs.declared.copy.CopyError.TheVariants.{Read, Write}
 use Rattle.java_properties.specs.declared.writer.engine.Engine.{Engine}
 use Rattle.java_properties.proofs.Engine.{numbered, unnumbered, sent-line, unsent-line}
-use Rattle.java_properties.proofs.Items.{Passed, passed-start, passed-blank, passed-no_item, passed-error, passed-none, gives-item, stopped, ended}
+use Rattle.java_properties.proofs.Items.{Passed, passed-start, passed-blank, passed-no_item, passed-error, passed-none, gives-spelt, stopped, ended}
 use Rattle.java_properties.proofs.StatedItems.{state-entry, state-none, state-error}
 
 -- ---- the line of a pair
@@ -92,7 +92,7 @@ module _ {R W : Type 0} {reader : Reader R} {sink : Sink W} {old : Reading R} {w
     copied-no_pair (inr (raw, is)) = copied-item h new next so_far (record {
       number = line.number;
       content = comment raw;
-      gives = state-entry (gives-item line new (comment raw) h.passed joins is);
+      gives = state-entry (gives-spelt line new (comment raw) h.passed joins is).0;
       scalars = tt;
       writes = (refl, refl);
     })
@@ -103,7 +103,7 @@ module _ {R W : Type 0} {reader : Reader R} {sink : Sink W} {old : Reading R} {w
     copied-pair key value after is scalars writes = copied-item h new next after (record {
       number = line.number;
       content = pair key value;
-      gives = state-entry (gives-item line new (pair key value) h.passed joins is);
+      gives = state-entry (gives-spelt line new (pair key value) h.passed joins is).0;
       scalars = scalars;
       writes = writes;
     })
@@ -117,7 +117,7 @@ module _ {R W : Type 0} {reader : Reader R} {sink : Sink W} {old : Reading R} {w
           number = line.number;
           key = key;
           value = value;
-          gives = state-entry (gives-item line new (pair key value) h.passed joins is);
+          gives = state-entry (gives-spelt line new (pair key value) h.passed joins is).0;
           scalars = scalars;
           writes = writes;
         }))

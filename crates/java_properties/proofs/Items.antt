@@ -1,5 +1,5 @@
 -- How items come of logical lines.
-use Rattle.std.proofs.Common.{◌≡◌, ℕ, true, false, List, [], ◌∷◌, ◌++◌, refl, sym, ap, ap₂, subst, ◌∙◌, inl, inr, append_assoc}
+use Rattle.std.proofs.Common.{◌≡◌, ℕ, true, false, List, [], ◌∷◌, ◌++◌, refl, sym, ap, ap₂, subst, ◌∙◌, inl, inr, append_assoc, append-nil}
 use Rattle.std.specs.Prelude.{◌⊎◌, Some, None, Result, Ok, Err}
 use Rattle.std.specs.Str.{chars, IsUtf8, is_utf8}
 use Rattle.std.proofs.lemmas.Str.{IsUtf8-from_is_utf8, is_utf8-from_IsUtf8, chars-nil}
@@ -12,18 +12,21 @@ use Rattle.properties_format.specs.Computed.Items.{outcome_of, followed}
 use Rattle.counted_io.specs.Streams.{Reader, HasRead}
 use Rattle.counted_io.proofs.Streams.{read-none, read-more, failed-more}
 use Rattle.properties_format.specs.Lines.{Line, InputEnd, end, fault, more}
-use Rattle.properties_format.specs.ItemsToCome.{ReaderState}
-use Rattle.properties_format.specs.Computed.ItemsToCome.{items_to_come}
+use Rattle.properties_format.specs.ItemsToCome.{ReaderState, AreLinesToCome}
+use Rattle.properties_format.specs.Computed.ItemsToCome.{items_to_come, natural_to_come}
 use Rattle.properties_format.proofs.ItemsToCome.Unique.{items_to_come-done}
+use Rattle.properties_format.proofs.ItemsToCome.Lines.{natural-done}
+use Rattle.properties_format.proofs.ItemsToCome.Divisions.{lines_come_first, natural_to_come-meets}
 use Rattle.properties_items.specs.Errors.{IsBareError}
 use Rattle.properties_items.specs.BorrowedItems.{found_entry, spans_of, IsFoundIn}
 use Rattle.properties_items.specs.declared.found.FoundContent.{FoundContent}
 use Rattle.properties_items.specs.declared.found.FoundContent.TheVariants as found
-use Rattle.properties_lines.specs.LineReader.{PassesSome}
-use Rattle.properties_lines.proofs.LineJoiner.{some-start, some-on, all-on}
+use Rattle.properties_lines.specs.LineReader.{Passes, PassesSome}
+use Rattle.properties_lines.proofs.LineJoiner.{some-start, some-on, all-on, passes-on}
 use Rattle.properties_lines.specs.LineJoiner.{IsLazyItems, Joins, JoinsError, JoinsLine, Comes, Joiner, Joining}
 use Rattle.properties_lines.specs.declared.error.LineError.{LineError}
 use Rattle.properties_lines.specs.declared.error.LineError.TheVariants as why
+use Rattle.java_properties.specs.Borrowing.{ComeNext, IsSpelt}
 use Rattle.java_properties.specs.Private.GivenItems.{in_utf_8, GivesItem, Owns, Gives, BreaksOff, GivesEntry, GivesNone, GivesMalformed, GivesError}
 use Rattle.properties_items.specs.FoundItems.{IsNoItem}
 use Rattle.properties_items.specs.declared.error.ErrorKind.TheVariants.{Memory}
@@ -60,6 +63,19 @@ found-utf8 bytes found h = elim (cases_Bool (is_utf8 bytes)) [
   | inl k ↦ IsUtf8-from_is_utf8 bytes k
   | inr k ↦ absurd (none-in-nil (in_utf_8 bytes) found.content (ap chars (kept-none bytes k) ∙ chars-nil) h.slices)
 ]
+
+-- ---- the lines that were passed
+
+come-next : {old new : ReaderState} {bytes : List ℕ} {lines : List Line} → Passes old bytes lines new → ComeNext old bytes lines new
+come-next (Passes.going_on g h) = ComeNext.going_on g (lines_come_first h)
+come-next {old} {new} {bytes} {lines} (Passes.at_last d h) =
+    let none = natural-done new [] end d in
+    let all = h.natural ∙ ap (λ v. lines ++ v) none.0 ∙ append-nil lines in
+    ComeNext.at_last d (
+      subst (λ v. AreLinesToCome old bytes end v []) all (
+        subst (λ v. AreLinesToCome old bytes end (natural_to_come old bytes end) v) (h.last ∙ none.1) (natural_to_come-meets old bytes end)
+      )
+    )
 
 -- ---- item after item
 
@@ -112,18 +128,30 @@ module _ {R : Type 0} {reader : Reader R} where
       → (q d : List ℕ) (ending : InputEnd) → items_to_come s ((r ++ q) ++ d) ending ≡ items_to_come t (q ++ d) ending
   passed-after {s} {r = r} h g q d ending = ap (λ v. items_to_come s v ending) (append_assoc r q d) ∙ passed-on h g (q ++ d) ending
 
-  -- an item came
-  pub gives-item : {s t : ReaderState} {from to next : R} {r : List ℕ} (line : Line) (new : ReaderState) (content : Content) → Passed reader s from r t to
-      → JoinsLine reader t to line new next → outcome_of line.text ≡ given content → GivesEntry reader s from (item line.number content) new next
-  gives-item {s} {t} {r = r} line new content h n o = record {
-    bytes = r ++ n.bytes;
-    read = read-more h.read n.read;
-    live = passed-live h n.live;
-    gives = by-comes n.comes;
-    passes = λ g. some-on (h.passes n.live) (n.passes g);
-    ended = n.ended;
-    lazy = passed-lazy h n.live n.lazy;
-  }
+  -- an item came, in a line that is spelt as in the input
+  pub gives-spelt : {s t : ReaderState} {from to next : R} {r : List ℕ} (line : Line) (new : ReaderState) (content : Content) → Passed reader s from r t to
+      → JoinsLine reader t to line new next → outcome_of line.text ≡ given content
+      → (entry : GivesEntry reader s from (item line.number content) new next) × IsSpelt s entry.bytes line new
+  gives-spelt {s} {t} {r = r} line new content h n o = (
+    record {
+      bytes = r ++ n.bytes;
+      read = read-more h.read n.read;
+      live = passed-live h n.live;
+      gives = by-comes n.comes;
+      passes = λ g. some-on (h.passes n.live) (n.passes g);
+      ended = n.ended;
+      lazy = passed-lazy h n.live n.lazy;
+    },
+    record {
+      before = (h.passes n.live).lines;
+      first = n.group.first;
+      others = n.group.others;
+      come = come-next (passes-on (Passes.going_on n.live (h.passes n.live).reads) n.live n.group.passes);
+      number = n.group.number;
+      text = n.group.text;
+      ends = n.group.ends;
+    },
+  )
     where
       by-comes : Comes t n.bytes line new → Gives s (r ++ n.bytes) (item line.number content) new
       by-comes (Comes.going_on k logical) = Gives.going_on k (record {

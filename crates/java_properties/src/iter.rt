@@ -98,7 +98,8 @@ impl<R: CountedRead> PropertiesIter<R> {
     /// Advances to the next item, which [`get`](Self::get) then borrows; or returns an error, or `None` at the end.
     ///
     /// Together, the two calls do what `next_ref` does, for loops that are proved. The returned value borrows nothing,
-    /// so a proof can still refer to the iterator's state.
+    /// so a proof can still refer to the iterator's state. The logical line that the texts are cut out of is spelt as
+    /// the input spells it.
     ///
     /// ```text
     /// while let Some(found) = items.advance() {

@@ -1,4 +1,4 @@
-//! The three laws of the format and the laws of its edits, for use in callers' proofs.
+//! The three laws of the format, the laws of its edits and a law of writers, for use in callers' proofs.
 //!
 //! The functions do nothing: each states a law as its contract. The contracts of [`read_lines`](crate::read_lines) and
 //! [`run_calls`](crate::run_calls) state the same of a single run.
@@ -13,7 +13,9 @@ ghost use Rattle.properties_format.specs.Settings.{Settings};
 ghost use Rattle.properties_format.specs.Writing.{Call};
 ghost use Rattle.properties_format.specs.Pairs.{Pair};
 ghost use Rattle.properties_format.specs.Laws.{HasOne, HasOneReading, ReadingInvertsWriting, EqualBytesOfEqualPairs, WritingAnewChangesNothing, MapIsReadBack, SplittingCommutes, LineEndsSeparatePieces};
+ghost use Rattle.java_properties.specs.ReadBack.{IsGoodWriter};
 
+use crate::writer::PropertiesWriter;
 pub use properties_editing::laws::editing;
 
 /// Reading is unique: what an input means exists and is unique, at each step and for each way in which the input ends.
@@ -53,6 +55,21 @@ pub fn reading_inverts_writing()
     ensures anew { (e : Encoding) (s : Settings) (ps : List Pair) → WritingAnewChangesNothing e s ps }
     ensures map { (e : Encoding) (s : Settings) (ps : List Pair) → MapIsReadBack e s ps }
 {}
+
+/// A writer is good, as every writer is: its encoding is one that can be written, and its settings are good.
+///
+/// [`reading_inverts_writing`] is about good settings, so with both laws a proof can apply it to this writer.
+///
+/// ```text
+/// laws::settings_are_good(&writer);
+/// laws::reading_inverts_writing();
+/// // A proof that comes after may take lists of pairs to be equal that this writer writes as equal bytes.
+/// ```
+pub fn settings_are_good<W>(writer: &PropertiesWriter<W>)
+    ensures { IsGoodWriter writer.now }
+{
+    writer.engine.settings.tell_they_are_good();
+}
 
 /// Splitting commutes with decoding, in every encoding: the lines of the bytes, each decoded separately, are the lines
 /// of the decoded text. This includes broken sequences and lone surrogates.

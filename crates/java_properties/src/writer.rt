@@ -6,7 +6,6 @@ ghost use Rattle.counted_io.specs.Streams.{IsSameSink};
 ghost use Rattle.properties_format.specs.Encoding.{windows_1252, output_encoding};
 ghost use Rattle.properties_format.specs.Entries as entry;
 ghost use Rattle.properties_text.specs.Encoding.{encoding_of};
-ghost use Rattle.java_properties.specs.ReadBack.{IsGoodWriter};
 ghost use Rattle.java_properties.specs.PropertiesWriter.{new_writer, WritesLine, Flushes, SetsPrefix, SetsSeparator, SetsEnding, SetsAsciiOnly};
 
 use counted_io::CountedWrite;
@@ -159,23 +158,6 @@ impl<W: CountedWrite> PropertiesWriter<W> {
         ensures same_sink { IsSameSink W.CountedWrite self.old.sink self.new.sink }
     {
         self.flush()
-    }
-
-    /// Gives a proof the fact that the writer is good, as every writer is: its encoding is one that can be written, and
-    /// its settings are good. It does nothing at run time.
-    ///
-    /// [`laws::reading_inverts_writing`](crate::laws::reading_inverts_writing) is about good settings, so after this
-    /// call a proof can apply it to this writer.
-    ///
-    /// ```text
-    /// writer.tell_settings_are_good();
-    /// laws::reading_inverts_writing();
-    /// // A proof that comes after may take lists of pairs to be equal that this writer writes as equal bytes.
-    /// ```
-    pub fn tell_settings_are_good(&self)
-        ensures { IsGoodWriter self.now }
-    {
-        self.engine.settings.tell_they_are_good();
     }
 
     /// Returns a reference to the sink, with what was written so far.

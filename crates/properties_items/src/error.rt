@@ -168,7 +168,7 @@ impl PropertiesError {
     /// A stream that fails in its first line counts as of no line: it may be a folder, or not open at all.
     ///
     /// ```text
-    /// if let Err(error) = read(alloc, &mut input, Encoding::UTF_8) {
+    /// if let Err(error) = read_sorted(alloc, &mut input, Encoding::UTF_8) {
     ///     println!(rt; "{}", error.at("my.properties"))?;
     ///     // As `my.properties:3: Malformed \uxxxx encoding: not hex.`, or `my.properties: Is a directory`.
     /// }

@@ -113,3 +113,14 @@ fn hash_of<T: Hash>(value: &T) -> u64 {
     value.hash(&mut state);
     state.finish()
 }
+
+#[test]
+fn line_endings_are_ordered(rt: HostRuntime) -> Result<(), Fail> {
+    let order = [LineEnding::CR, LineEnding::LF, LineEnding::CRLF];
+    for (place, ending) in order.iter().enumerate() {
+        for (other_place, other) in order.iter().enumerate() {
+            same(&rt, ending < other, place < other_place);
+        }
+    }
+    Ok(())
+}

@@ -15,6 +15,7 @@ use Rattle.properties_lines.specs.LineJoiner.{IsLazyItems, Joiner, JoinsError}
 use Rattle.properties_lines.specs.declared.error.LineError.{LineError}
 use Rattle.properties_items.specs.BorrowedItems.{found_entry, IsFoundIn}
 use Rattle.java_properties.specs.PropertiesIter.{entry_of}
+use Rattle.java_properties.specs.Borrowing.{logical_line, IsSpelt}
 use Rattle.properties_items.specs.declared.error.ErrorKind.TheVariants as kind
 use Rattle.properties_items.specs.declared.error.PropertiesError.{PropertiesError}
 use Rattle.properties_items.specs.declared.found.Found.{Found}
@@ -91,6 +92,8 @@ Owns old found (Err e) new = IsBareError kind.Memory e × (new ≡ record old { 
 -- at its end.
 abbrev pub FindsItem : {R : Type 0} → Reader R → ReaderState → R → Option (Result Found PropertiesError) → Joiner → R → Type 0
 FindsItem reader old from None new to = GivesNone reader old from new.state to
-FindsItem reader old from (Some (Ok found)) new to = GivesEntry reader old from (found_entry new.line found) new.state to × IsFoundIn new.line found
+FindsItem reader old from (Some (Ok found)) new to =
+    (entry : GivesEntry reader old from (found_entry new.line found) new.state to)
+    × IsFoundIn new.line found × IsSpelt old entry.bytes (logical_line found.line_number new.line) new.state
 FindsItem reader old from (Some (Err e)) new to =
     (old.is_done ≡ false) × (new.state.is_done ≡ true) × (GivesMalformed reader old from e to ⊎ GivesError reader old from e to)

@@ -5,6 +5,7 @@ ghost use Rattle.java_properties.specs.Calls.{calls_in, call_in, IsAcceptedResul
 ghost use Rattle.java_properties.specs.ReadBack.{ReadsBack, WritesOnlyThese};
 ghost use Rattle.java_properties.specs.AsciiOnly.{WritesAscii};
 
+use crate::laws;
 use crate::writer::PropertiesWriter;
 use counted_io::CountedWrite;
 use properties_items::error::{ErrorKind, PropertiesError};
@@ -57,7 +58,7 @@ pub fn run_calls<W: CountedWrite>(
     ensures ascii { WritesAscii W.CountedWrite writer.old (calls_in calls.now) result writer.new }
     ensures same_sink { IsSameSink W.CountedWrite writer.old.sink writer.new.sink }
 {
-    writer.tell_settings_are_good();
+    laws::settings_are_good(writer);
     let mut answers = Vec::with_capacity(alloc, calls.len())?;
     for call in calls {
         let accepted = run_call(call, writer)?;

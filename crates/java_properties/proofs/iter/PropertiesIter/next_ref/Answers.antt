@@ -1,7 +1,10 @@
-use Rattle.std.proofs.Common.{sym, subst}
+use Rattle.std.proofs.Common.{◌≡◌, sym, subst}
+use Rattle.std.specs.Str.{chars}
 use Rattle.counted_io.specs.Streams.{reader}
 use Rattle.properties_format.specs.Entries.{Entry}
+use Rattle.properties_items.specs.BorrowedItems.{BorrowsPlain}
 use Rattle.java_properties.specs.PropertiesIter.{GivesEntry}
+use Rattle.java_properties.specs.Borrowing.{logical_line, IsSpelt}
 use Rattle.java_properties.proofs.iter.PropertiesIter.next_ref.Goals as goal
 
 pub returns-in_err-found : goal.returns-in_err-found
@@ -11,9 +14,13 @@ pub returns-in-Ok : goal.returns-in-Ok
 returns-in-Ok g c =
     let old = c.args.self.now in
     let new = c.advance.new.self in
+    let line = c.get.result in
     let gave = rw c.in-Ok.is at c.in_ok-found.ensures.gives in
-    let P : Entry → Type 0 = λ v. GivesEntry (reader g.R.Read g.R.CountedRead) old.state old.reader v new.state new.reader in
-    (new, (subst P (sym c.get.ensures.item) gave.0.0, c.get.ensures.borrowed), gave.1)
+    let number : c.in-Ok.found.line_number ≡ line.line_number = let same = c.get.ensures.item in cc in
+    let P : Entry → Type 0 = λ v.
+        (n : GivesEntry (reader g.R.Read g.R.CountedRead) old.state old.reader v new.state new.reader)
+        × BorrowsPlain (chars new.line) line.content × IsSpelt old.state n.bytes (logical_line line.line_number new.line) new.state in
+    (new, subst P (sym c.get.ensures.item) (gave.0.0, c.get.ensures.borrowed, rw (← number) gave.0.2), gave.1)
 
 pub returns-in-Err : goal.returns-in-Err
 returns-in-Err g c =

@@ -22,27 +22,27 @@ returns-in_err-accepted-clause-runs g c =
 pub returns-clause-reads_back : goal.returns-clause-reads_back
 returns-clause-reads_back g c = λ clean.
     let all = calls-all call_in c.args.calls.now c.loop-call.call-index c.loop-call-test.false in
-    made-read_back {new = c.loop-call.writer} c.tell_settings_are_good.ensures (calls-scalars c.args.calls.now) (rw all at c.loop-call.invariant.made) clean
+    made-read_back {new = c.loop-call.writer} c.settings_are_good.ensures (calls-scalars c.args.calls.now) (rw all at c.loop-call.invariant.made) clean
 
 pub returns-in_err-accepted-clause-reads_back : goal.returns-in_err-accepted-clause-reads_back
 returns-in_err-accepted-clause-reads_back g c =
-    runs-read_back (sink g.W.Write g.W.CountedWrite) c.args.writer.now _ (calls_in c.args.calls.now) _ c.tell_settings_are_good.ensures
+    runs-read_back (sink g.W.Write g.W.CountedWrite) c.args.writer.now _ (calls_in c.args.calls.now) _ c.settings_are_good.ensures
     (calls-scalars c.args.calls.now) (returns-in_err-accepted-clause-runs g c)
 
 pub returns-in_err-accepted-clause-ascii : goal.returns-in_err-accepted-clause-ascii
 returns-in_err-accepted-clause-ascii g c =
     let s = sink g.W.Write g.W.CountedWrite in
-    runs-ascii s c.args.writer.now _ (calls_in c.args.calls.now) _ c.tell_settings_are_good.ensures (calls-scalars c.args.calls.now) (returns-in_err-accepted-clause-runs g c)
+    runs-ascii s c.args.writer.now _ (calls_in c.args.calls.now) _ c.settings_are_good.ensures (calls-scalars c.args.calls.now) (returns-in_err-accepted-clause-runs g c)
 
 pub returns-clause-only : goal.returns-clause-only
 returns-clause-only g c = λ pairs these.
     let all = calls-all call_in c.args.calls.now c.loop-call.call-index c.loop-call-test.false in
-    made-only {new = c.loop-call.writer} c.tell_settings_are_good.ensures (calls-scalars c.args.calls.now) (rw all at c.loop-call.invariant.made) pairs these
+    made-only {new = c.loop-call.writer} c.settings_are_good.ensures (calls-scalars c.args.calls.now) (rw all at c.loop-call.invariant.made) pairs these
 
 pub returns-clause-ascii : goal.returns-clause-ascii
 returns-clause-ascii g c =
     let all = calls-all call_in c.args.calls.now c.loop-call.call-index c.loop-call-test.false in
-    made-ascii {new = c.loop-call.writer} c.tell_settings_are_good.ensures (calls-scalars c.args.calls.now) (rw all at c.loop-call.invariant.made)
+    made-ascii {new = c.loop-call.writer} c.settings_are_good.ensures (calls-scalars c.args.calls.now) (rw all at c.loop-call.invariant.made)
 
 pub loop-call-preserved : goal.loop-call-preserved
 loop-call-preserved g c =

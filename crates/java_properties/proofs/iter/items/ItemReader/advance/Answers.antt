@@ -1,6 +1,7 @@
 use Rattle.std.proofs.Common.{◌≡◌, ◌++◌, ◌∙◌, ◌-◌, ◌^◌, arith, sym, ap, subst, inr, List, ℕ, [], refl}
 use Rattle.std.specs.Prelude.{Some, Ok}
 use Rattle.std.specs.Str.{chars}
+use Rattle.properties_format.specs.Entries as entry
 use Rattle.properties_format.specs.Items.{ignored}
 use Rattle.properties_format.specs.Computed.Items.{outcome_of}
 use Rattle.properties_format.specs.ItemsToCome.{ReaderState}
@@ -8,10 +9,11 @@ use Rattle.counted_io.specs.Streams.{reader}
 use Rattle.properties_lines.specs.LineReader.{lines_left}
 use Rattle.properties_lines.specs.LineJoiner.{Joiner, Joining, numbered_line}
 use Rattle.properties_items.specs.BorrowedItems.{found_content, IsFoundIn}
-use Rattle.java_properties.specs.Private.GivenItems.{as_text, FindsItem}
+use Rattle.java_properties.specs.Borrowing.{logical_line, IsSpelt}
+use Rattle.java_properties.specs.Private.GivenItems.{as_text, FindsItem, GivesEntry}
 use Rattle.properties_items.specs.FoundItems.{IsNoItem}
 use Rattle.properties_items.specs.declared.found.Found.{Found}
-use Rattle.java_properties.proofs.Items.{kept-utf8, Passed, passed-start, passed-error, passed-no_item, gives-item, passed-blank, stopped}
+use Rattle.java_properties.proofs.Items.{kept-utf8, Passed, passed-start, passed-error, passed-no_item, gives-spelt, passed-blank, stopped}
 use Rattle.properties_items.proofs.FoundItems.{found-item, plain-blank}
 use Rattle.java_properties.proofs.iter.items.ItemReader.advance.Given.{Over}
 use Rattle.java_properties.proofs.iter.items.ItemReader.advance.Goals as goal
@@ -39,10 +41,11 @@ gives-found g c item found =
     let is = subst P c.line-line.ensures found in
     let line = numbered_line c.in-Some.number new in
     let content = found_content new.line item.content in
-    subst Q (sym (kept-utf8 new.line c.in-Some.ensures.text)) (
-      rw is.0 (gives-item line new.state content c.loop-number.invariant.passed.1 c.in-Some.ensures.joins.0 (found-item new.line item is.1)),
-      is.1,
-    )
+    let spelt = gives-spelt line new.state content c.loop-number.invariant.passed.1 c.in-Some.ensures.joins.0 (found-item new.line item is.1) in
+    let R : ℕ → Type 0 = λ n.
+        (gives : GivesEntry (reader g.R.Read g.R.CountedRead) c.args.self.now.state c.args.reader.now (entry.item n content) new.state c.next_text.new.reader)
+        × IsFoundIn new.line item × IsSpelt c.args.self.now.state gives.bytes (logical_line n new.line) new.state in
+    subst Q (sym (kept-utf8 new.line c.in-Some.ensures.text)) (subst R (sym is.0) (spelt.0, is.1, spelt.1))
 
 -- and a blank line is passed
 passes-blank : (g : Over) (c : After-line-line g) → outcome_of (chars c.line-line.result.now) ≡ ignored

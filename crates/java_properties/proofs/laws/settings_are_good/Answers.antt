@@ -2,7 +2,7 @@ use Rattle.std.proofs.Common.{subst}
 use Rattle.java_properties.specs.ReadBack.{IsGoodWriter}
 use Rattle.java_properties.specs.PropertiesWriter.{Writing}
 use Rattle.java_properties.proofs.ReadBack.Written.{line_of-own}
-use Rattle.java_properties.proofs.writer.PropertiesWriter.tell_settings_are_good.Goals as goal
+use Rattle.java_properties.proofs.laws.settings_are_good.Goals as goal
 
 pub returns : goal.returns
-returns g c = subst (λ (w : Writing _). IsGoodWriter w) c.self.view_is (record { encoding = line_of-own _; settings = c.tell_they_are_good.ensures })
+returns g c = subst (λ (w : Writing _). IsGoodWriter w) c.writer.view_is (record { encoding = line_of-own _; settings = c.tell_they_are_good.ensures })
