@@ -3,7 +3,7 @@ use Rattle.std.proofs.Common.{◌≡◌, ◌<◌, ◌≤◌, ℕ, zero, suc, ◌
 use Rattle.std.specs.Prelude.{if◌then◌else◌, nat_lt}
 use Rattle.std.proofs.lemmas.Bool.{cases_Bool, cond-true, cond-false}
 use Rattle.std.proofs.lemmas.List.{drop_more, take_more, drop_all}
-use Rattle.std.specs.Prelude.{Some, None, ◌==◌}
+use Rattle.std.specs.Prelude.{Some, None, ◌==◌, bytes_eq}
 use Rattle.std.proofs.lemmas.Bool.Decides.{nat_tests}
 use Rattle.std.proofs.lemmas.List.{length-drop}
 use Rattle.std.proofs.lemmas.Str.{encodes-chars, chars-nil}
@@ -39,7 +39,11 @@ use Rattle.properties_editing.specs.Private.BodyGroups.{IsWithin, TakesLine}
 use Rattle.properties_format.specs.Printing.{encoded_text}
 use Rattle.properties_format.specs.Valued.{value_text}
 use Rattle.properties_format.specs.Body.{group_bytes, last_ending}
-use Rattle.properties_format.specs.Computed.Items.{outcome_of}
+use Rattle.properties_format.specs.Escapes.{Malformed, Means, Breaks, Meaning, means, breaks}
+use Rattle.properties_format.specs.Computed.Escapes.{meaning_of}
+use Rattle.properties_format.specs.Computed.Items.{outcome_of, pair_outcome, split_outcome}
+use Rattle.properties_format.specs.Computed.Edited.{IsSound}
+use Rattle.properties_format.proofs.Escapes.Unique.{means-only, meaning_of-only}
 use Rattle.properties_format.specs.Computed.Parts.{unended_bytes}
 use Rattle.properties_format.specs.Computed.Valued.{between_of, is_pair_to}
 use Rattle.properties_format.proofs.Body.Groups.{held-body}
@@ -180,6 +184,8 @@ between-pair line key value u at k v meets =
     ∙ chars-append (take value.start line) rest (IsUtf8-take line value.start u v.starts_whole) in
     record {
       is_span = record { ordered = ordered; within = let o = v.ordered in let w = v.within in omega arith; starts_whole = k.ends_whole; ends_whole = v.starts_whole };
+      key = chars key_bytes;
+      is_pair = subst (λ w. IsPair x (chars key_bytes) (chars w)) (sym value_is) meets;
       of_pair = ap (λ s. between_if_pair s x) (sym (split_of-only x (split.pair (chars key_bytes) (chars rest)) meets))
           ∙ ap Some (ap₂ without_end after written ∙ without_end-append (chars (bytes_in line span)) (chars rest));
       before = sym (ap₂ without_end whole written ∙ without_end-append (chars (take value.start line)) (chars rest));
@@ -439,30 +445,60 @@ walking-on {e} {body} {old} {new} {first} {left} text added w k t l =
         let left = length-drop start d in
         length-take-le (end - start) (drop start d) (omega arith)
 
--- ---- a pair with another value
+-- ---- whether a pair has a value
 
-pub is_pair-from_between : (x b : List ℕ) (s : split.Logical) → IsSplit x s → between_if_pair s x ≡ Some b → ((key value : List ℕ) × IsPair x key value) × (between_in x ≡ b)
-is_pair-from_between x b split.blank h k = absurd (cc)
-is_pair-from_between x b (split.comment text) h k = absurd (cc)
-is_pair-from_between x b (split.pair key value) h k = ((key, value, h), cc)
+outcome-spelt : (x key spelt : List ℕ) → IsPair x key spelt → outcome_of x ≡ pair_outcome (meaning_of key) (meaning_of spelt)
+outcome-spelt x key spelt h = ap split_outcome (sym (split_of-only x (split.pair key spelt) h))
+
+-- It has the value that is meant.
+pub value-told : (x key spelt meant value : List ℕ) → IsPair x key spelt → IsSound (outcome_of x) → Means spelt meant → is_pair_to value (outcome_of x) ≡ bytes_eq meant value
+value-told x key spelt meant value h sound m =
+    let is = outcome-spelt x key spelt h ∙ ap (pair_outcome (meaning_of key)) (sym (means-only spelt meant m)) in
+    ap (is_pair_to value) is ∙ told (meaning_of key) (subst IsSound is sound)
+  where
+    told : (k : Meaning) → IsSound (pair_outcome k (means meant)) → is_pair_to value (pair_outcome k (means meant)) ≡ bytes_eq meant value
+    told (means k) s = refl
+    told (breaks kind) s = absurd s
+
+-- No escape of its value is malformed.
+pub value-unbroken : (x key spelt : List ℕ) (kind : Malformed) → IsPair x key spelt → IsSound (outcome_of x) → Breaks spelt kind → ⊥
+value-unbroken x key spelt kind h sound b =
+    none (meaning_of key) (subst IsSound (outcome-spelt x key spelt h ∙ ap (pair_outcome (meaning_of key)) (sym (meaning_of-only spelt (breaks kind) b))) sound)
+  where
+    none : (k : Meaning) → IsSound (pair_outcome k (breaks kind)) → ⊥
+    none (means k) s = s
+    none (breaks why) s = s
+
+-- ---- a pair with another value
 
 -- what separates key and value of a line, and that it is a pair
 pub line-pair : (line x : List ℕ) (span : Span) → chars line ≡ x → IsBetweenAt line span
     → ((key value : List ℕ) × IsPair x key value) × (between_in x ≡ chars (bytes_in line span))
 line-pair line x span h at =
-    let told = subst (λ v. between_if_pair (split_of v) v ≡ Some (chars (bytes_in line span))) h at.of_pair in
-    is_pair-from_between x (chars (bytes_in line span)) (split_of x) (split_of-meets x) told
+    let value = chars (drop span.end line) in
+    let told = ap (λ s. between_if_pair s (chars line)) (split_of-only (chars line) (split.pair at.key value) at.is_pair) ∙ at.of_pair in
+    ((at.key, value, subst (λ v. IsPair v at.key value) h at.is_pair), ap between_in (sym h) ∙ cc)
 
 -- The first group of a body that is one group is that one.
 pub same-group : {e : Encoding} {body : List ℕ} {group : Group} {s : GroupReader} (f : IsFirstGroup e body group s) (a : IsPairAlone e body) → f.held ≡ a.group
 same-group f a = let q = sym f.groups ∙ a.is_group in cc
+
+-- The logical line of the first group is that of the pair.
+alone-line : {e : Encoding} {body : List ℕ} {group : Group} {s : GroupReader} (line : List ℕ) → line ≡ text_of body s group → IsFirstGroup e body group s → (a : IsPairAlone e body)
+    → chars line ≡ joined (as_lines a.group)
+alone-line line is f a = ap chars is ∙ f.text ∙ ap (λ g. joined (as_lines g)) (same-group f a)
+
+-- It has no malformed escape.
+pub alone-sound : {e : Encoding} {body : List ℕ} {group : Group} {s : GroupReader} (line : List ℕ) → line ≡ text_of body s group → IsFirstGroup e body group s → IsPairAlone e body
+    → IsSound (outcome_of (chars line))
+alone-sound line is f a = subst IsSound (sym (ap outcome_of (alone-line line is f a) ∙ a.is_pair)) tt
 
 -- How many bytes come before the value in the logical line of a pair by itself.
 pub before-value : {e : Encoding} {body : List ℕ} {group : Group} {s : GroupReader} (line : List ℕ) (span : Span) → IsUtf8 line → line ≡ text_of body s group
     → IsFirstGroup e body group s → IsPairAlone e body → IsBetweenAt line span → IsBeforeValue e body span.end
 before-value {e} {body} {group} {s} line span u is f a at =
     let x = joined (as_lines a.group) in
-    let same : chars line ≡ x = ap chars is ∙ f.text ∙ ap (λ g. joined (as_lines g)) (same-group f a) in
+    let same = alone-line line is f a in
     let m = line-pair line x span same at in
     let front = IsUtf8-take line span.end u at.is_span.ends_whole in
     record {
@@ -497,7 +533,7 @@ pub value-new : {e : Encoding} {body : List ℕ} {group : Group} {s : GroupReade
     → IsNewValue e body value (record { front_size = size; bytes = bytes })
 value-new {e} {body} {group} {s} value line separator bytes size span ok is f a at other front cut printed =
     let x = joined (as_lines a.group) in
-    let same : chars line ≡ x = ap chars is ∙ f.text ∙ ap (λ g. joined (as_lines g)) (same-group f a) in
+    let same = alone-line line is f a in
     let m = line-pair line x span same at in
     let one : front.group ≡ a.group = let q = sym front.is_group ∙ a.is_group in cc in
     let sized : size ≡ length (front_of e a.group) = front.is_size ∙ ap (λ g. length (front_of e g)) one in

@@ -8,7 +8,6 @@ ghost use Rattle.properties_text.specs.Parsing.{AreSpans, IsSpan, in_characters,
 ghost use Rattle.properties_format.specs.Items.{given};
 ghost use Rattle.properties_format.specs.Computed.Body.{is_pair_with};
 ghost use Rattle.properties_format.specs.Computed.Parts.{outcome_key};
-ghost use Rattle.properties_format.specs.Computed.Valued.{is_pair_to};
 ghost use Rattle.properties_items.specs.Texts.{characters};
 ghost use Rattle.properties_items.specs.FoundItems.{pair_characters, outcome_pair, FindsText, FindsContent, FindsIn, FindsPlain};
 ghost use Rattle.properties_format.specs.Split.{IsSplit};
@@ -153,17 +152,6 @@ pub fn item_has_key(found: &Found, line: &str, key: &str) -> bool
     }
 }
 
-/// Returns whether the item is a pair with this value.
-pub fn item_has_value(found: &Found, line: &str, value: &str) -> bool
-    requires { IsFoundIn line.now found.now }
-    ensures { result ≡ is_pair_to (chars value.now) (given (found_content line.now found.now.content)) }
-{
-    match &found.content {
-        FoundContent::Comment(_) => false,
-        FoundContent::KVPair(_, text) => text.is(line, value),
-    }
-}
-
 /// Returns a copy of the key, or `None` if the item is a comment.
 pub fn item_key(alloc: Global, found: &Found, line: &str) -> Result<Option<String>, AllocError>
     requires { IsFoundIn line.now found.now }
@@ -220,7 +208,8 @@ impl FoundText {
         }
     }
 
-    // Returns whether the found text equals `text`.
+    // Returns whether the found text equals `text`. Kept out of line: the callers take fewer steps so.
+    #[inline(never)]
     fn is(&self, line: &str, text: &str) -> bool
         requires { IsTextIn line.now self.now }
         ensures { result ≡ bytes_eq (chars (found_bytes line.now self.now)) (chars text.now) }

@@ -36,16 +36,13 @@ use Rattle.properties_editing.specs.declared.edit.value.NewValue.{NewValue}
 use Rattle.properties_items.specs.declared.error.ErrorKind.TheVariants as kind
 use Rattle.properties_items.specs.declared.error.PropertiesError.{PropertiesError}
 
--- The result says whether a logical line is a pair with this value; or there is an error in the line with this number.
-abbrev pub ChecksValueOfLine : List ℕ → List ℕ → ℕ → Result Bool PropertiesError → Type 0
-ChecksValueOfLine line value number (Ok answer) = IsSound (outcome_of line) × (answer ≡ is_pair_to value (outcome_of line))
-ChecksValueOfLine line value number (Err e) = IsNoItem number line e
-
 -- ---- where the value of a pair begins
 
 -- The span separates key and value in a logical line, and the value begins after it.
 pub record IsBetweenAt (line : List ℕ) (span : Span) : Type 0 where
   pub is_span : IsSpan line span
+  pub key : List ℕ
+  pub is_pair : IsPair (chars line) key (chars (drop span.end line))
   pub of_pair : between_if_pair (split_of (chars line)) (chars line) ≡ Some (chars (bytes_in line span))
   pub before : chars (take span.end line) ≡ before_value (chars line)
 
@@ -87,11 +84,10 @@ pub record IsNewValue (e : Encoding) (bytes value : List ℕ) (new : NewValue) :
   pub front : take new.front_size bytes ≡ front_of e group
   pub bytes_are : new.bytes ≡ encoded_text e (value_text e (between_of group) value)
 
--- How a pair by itself gets a value, or `None` if it has the value; or memory ran out.
-abbrev pub GivesValue : Encoding → List ℕ → List ℕ → Result (Option NewValue) PropertiesError → Type 0
-GivesValue e bytes value (Ok None) = (group : List HeldLine) × (held_groups_of e bytes ≡ group ∷ []) × (has_value value group ≡ true)
-GivesValue e bytes value (Ok (Some new)) = IsNewValue e bytes value new
-GivesValue e bytes value (Err error) = IsBareError kind.Memory error
+-- How a pair by itself gets a value, or `None` if it has the value.
+abbrev pub GivesValue : Encoding → List ℕ → List ℕ → Option NewValue → Type 0
+GivesValue e bytes value None = (group : List HeldLine) × (held_groups_of e bytes ≡ group ∷ []) × (has_value value group ≡ true)
+GivesValue e bytes value (Some new) = IsNewValue e bytes value new
 
 -- a source with a value for the pair in this span of it
 abbrev pub revalued_in : Encoding → List ℕ → ℕ → ℕ → List ℕ → List HeldLine → List ℕ
@@ -99,12 +95,11 @@ revalued_in e source start end value group =
     if has_value value group then source
     else take start source ++ (front_of e group ++ (encoded_text e (value_text e (between_of group) value) ++ drop end source))
 
--- The source with a value for the pair in this span of it; or memory ran out.
-abbrev pub Revalues : Encoding → List ℕ → ℕ → ℕ → List ℕ → Result (Vec ℕ) PropertiesError → Type 0
-Revalues e source start end value (Ok bytes) =
+-- The bytes are the source with a value for the pair in this span of it.
+abbrev pub Revalues : Encoding → List ℕ → ℕ → ℕ → List ℕ → List ℕ → Type 0
+Revalues e source start end value bytes =
     (group : List HeldLine) × (held_groups_of e (take (end - start) (drop start source)) ≡ group ∷ [])
-    × (bytes.items ≡ revalued_in e source start end value group)
-Revalues e source start end value (Err error) = IsBareError kind.Memory error
+    × (bytes ≡ revalued_in e source start end value group)
 
 -- ---- a new pair
 

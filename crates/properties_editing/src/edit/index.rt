@@ -339,10 +339,8 @@ pub fn revalue(
 {
     let start = opened.start + pair.start;
     let end = opened.start + pair.end;
-    let new = match new_value(alloc, opened.encoding, &source[start..end], value) {
-        Ok(Some(new)) => new,
-        Ok(None) => return Ok(()),
-        Err(_) => return Err(AllocError),
+    let Some(new) = new_value(alloc, opened.encoding, &source[start..end], value)? else {
+        return Ok(());
     };
     let text = String::from_str(alloc, value)?;
     let front = &source[..start + new.front_size];

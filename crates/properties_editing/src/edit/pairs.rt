@@ -1,16 +1,19 @@
 // The keys and pairs of logical lines.
 
+ghost use Rattle.std.specs.Prelude.{◌≡◌, IfOk};
 ghost use Rattle.std.specs.Str.{chars};
+ghost use Rattle.properties_format.specs.Computed.Items.{outcome_of};
+ghost use Rattle.properties_format.specs.Computed.Edited.{IsSound};
+ghost use Rattle.properties_format.specs.Computed.Valued.{is_pair_to};
 ghost use Rattle.properties_editing.specs.Private.BodyKeys.{FindsItem, ChecksKeyOfLine};
 ghost use Rattle.properties_editing.specs.Private.BodyIndex.{FindsPairOfLine};
-ghost use Rattle.properties_editing.specs.Private.BodyValues.{ChecksValueOfLine};
+ghost use Rattle.properties_editing.specs.Private.BodyValues.{IsBetweenAt};
 
 use properties_items::error::{PropertiesError, make};
-use properties_items::found::{
-    Found, find_escaped, find_plain, item_has_key, item_has_value, item_pair,
-};
-use properties_text::escape::has_backslash;
-use std::alloc::Global;
+use properties_items::found::{Found, find_escaped, find_plain, item_has_key, item_pair};
+use properties_text::escape::{UnescapeError, has_backslash, unescape};
+use properties_text::parse::Span;
+use std::alloc::{AllocError, Global};
 
 /// Returns whether a logical line is a pair with this key. Fails if an escape in the line, which has this number, is
 /// malformed, or if memory runs out.
@@ -23,19 +26,22 @@ pub fn has_key(alloc: Global, number: usize, line: &str, key: &str) -> Result<bo
     }
 }
 
-/// Returns whether a logical line is a pair with this value. Fails if an escape in the line, which has this number, is
-/// malformed, or if memory runs out.
+/// Returns whether the pair that is this logical line has this value. `separator` is what separates its key from its value.
+/// No escape of the line is malformed.
 pub fn has_value(
     alloc: Global,
-    number: usize,
     line: &str,
+    separator: Span,
     value: &str,
-) -> Result<bool, PropertiesError>
-    ensures { ChecksValueOfLine (chars line.now) (chars value.now) number result }
+) -> Result<bool, AllocError>
+    requires separator { IsBetweenAt line.now separator }
+    requires sound { IsSound (outcome_of (chars line.now)) }
+    ensures { IfOk result (λ answer. answer ≡ is_pair_to (chars value.now) (outcome_of (chars line.now))) }
 {
-    match find_item(alloc, number, line)? {
-        Some(found) => Ok(item_has_value(&found, line, value)),
-        None => Ok(false),
+    match unescape(alloc, &line[separator.end..]) {
+        Ok(text) => Ok(text.as_str() == value),
+        Err(UnescapeError::Malformed(_)) => unreachable!(),
+        Err(UnescapeError::Memory) => Err(AllocError),
     }
 }
 

@@ -1,6 +1,6 @@
 // A pair with another value, and its layout kept.
 
-ghost use Rattle.std.specs.Prelude.{◌≡◌, ◌≤◌, ◌+◌, ◌-◌, take, drop, length, false};
+ghost use Rattle.std.specs.Prelude.{◌≡◌, ◌≤◌, ◌+◌, ◌-◌, take, drop, length, false, IfOk};
 ghost use Rattle.std.specs.Str.{chars};
 ghost use Rattle.properties_format.specs.Text.{is_blanks};
 ghost use Rattle.properties_format.specs.Encoding.{output_encoding};
@@ -17,7 +17,6 @@ use crate::edit::layout::{between, front_size};
 use crate::edit::pairs::has_value;
 use crate::edit::replace::{concatenated, repertoire_of};
 use crate::edit::source::BodyStart;
-use properties_items::error::PropertiesError;
 use properties_text::encoding::Encoding;
 use properties_text::parse::leading_blanks;
 use properties_text::print::{LineBuffer, print_value};
@@ -39,19 +38,19 @@ pub fn new_value(
     encoding: Encoding,
     pair: &[u8],
     value: &str,
-) -> Result<Option<NewValue>, PropertiesError>
+) -> Result<Option<NewValue>, AllocError>
     requires bytes { unit_size (encoding_of encoding) ≡ 1 }
     requires alone { IsPairAlone (encoding_of encoding) pair.now }
-    ensures { GivesValue (encoding_of encoding) pair.now (chars value.now) result }
+    ensures { IfOk result (λ new. GivesValue (encoding_of encoding) pair.now (chars value.now) new) }
 {
     let (groups, group) = first_group(alloc, encoding, pair)?;
     let line = groups.line(pair, group);
-    if has_value(alloc, group.number, line, value)? {
-        return Ok(None);
-    }
     let Some(separator) = between(line) else {
         unreachable!()
     };
+    if has_value(alloc, line, separator, value)? {
+        return Ok(None);
+    }
     let front_size = front_size(alloc, encoding, pair, separator.end)?;
     let mut bytes = LineBuffer::new(alloc);
     print_value_after(&mut bytes, encoding, separator.cut(line), value)?;
@@ -65,21 +64,21 @@ pub fn with_value(
     opened: BodyStart,
     pair: BodySpan,
     value: &str,
-) -> Result<Vec<u8>, PropertiesError>
+) -> Result<Vec<u8>, AllocError>
     requires bytes { unit_size (encoding_of opened.encoding) ≡ 1 }
     requires ordered { pair.start ≤ pair.end }
     requires within { opened.start + pair.end ≤ length source.now }
     requires alone { IsPairAlone (encoding_of opened.encoding)
         (take (pair.end - pair.start) (drop (opened.start + pair.start) source.now)) }
-    ensures { Revalues (encoding_of opened.encoding) source.now (opened.start + pair.start) (opened.start + pair.end) (chars value.now) result }
+    ensures { IfOk result (λ bytes. Revalues (encoding_of opened.encoding) source.now (opened.start + pair.start) (opened.start + pair.end) (chars value.now) bytes.items) }
 {
     let start = opened.start + pair.start;
     let end = opened.start + pair.end;
     match new_value(alloc, opened.encoding, &source[start..end], value)? {
-        None => Ok(source.to_vec(alloc)?),
+        None => source.to_vec(alloc),
         Some(new) => {
             let front = &source[..start + new.front_size];
-            Ok(concatenated(alloc, front, new.bytes.as_slice(), &source[end..])?)
+            concatenated(alloc, front, new.bytes.as_slice(), &source[end..])
         }
     }
 }

@@ -65,8 +65,8 @@ overflow_add-front c =
     let len = c.args.source.now.ok in
     let start = c.args.opened.start + c.args.pair.start in
     let end = c.args.opened.start + c.args.pair.end in
-    let n : IsNewValue (encoding_of c.args.opened.encoding) (take (end - start) (drop start c.args.source.now.items)) (chars c.args.value.now) c.in-Ok-Some.new =
-    rw c.deref.ensures.value at (rw c.in-Ok-Some.field-0-is at c.in-Ok-Some.ensures) in
+    let n : IsNewValue (encoding_of c.args.opened.encoding) (take (end - start) (drop start c.args.source.now.items)) (chars c.args.value.now) c.in-Some.new =
+    rw c.deref.ensures.value at (rw c.in-Some.is at c.in_ok-new.ensures) in
     let front = n.within in
     let left = length-drop start c.args.source.now.items in
     let size : length (take (end - start) (drop start c.args.source.now.items)) ≡ end - start = length-take-le (end - start) (drop start c.args.source.now.items) (omega arith) in
@@ -83,13 +83,13 @@ slice_bounds-front-end c =
     let len = c.args.source.now.ok in
     let start = c.args.opened.start + c.args.pair.start in
     let end = c.args.opened.start + c.args.pair.end in
-    let n : IsNewValue (encoding_of c.args.opened.encoding) (take (end - start) (drop start c.args.source.now.items)) (chars c.args.value.now) c.in-Ok-Some.new =
-    rw c.deref.ensures.value at (rw c.in-Ok-Some.field-0-is at c.in-Ok-Some.ensures) in
+    let n : IsNewValue (encoding_of c.args.opened.encoding) (take (end - start) (drop start c.args.source.now.items)) (chars c.args.value.now) c.in-Some.new =
+    rw c.deref.ensures.value at (rw c.in-Some.is at c.in_ok-new.ensures) in
     let front = n.within in
     let left = length-drop start c.args.source.now.items in
     let size : length (take (end - start) (drop start c.args.source.now.items)) ≡ end - start = length-take-le (end - start) (drop start c.args.source.now.items) (omega arith) in
     let whole = ap length c.deref-2.ensures.value in
-    sym (length-take-le (start + c.in-Ok-Some.new.front_size) c.deref-2.result.now (omega arith))
+    sym (length-take-le (start + c.in-Some.new.front_size) c.deref-2.result.now (omega arith))
 
 pub slice_bounds-concatenated-count : goal.slice_bounds-concatenated-count
 slice_bounds-concatenated-count c =
@@ -124,9 +124,14 @@ put_back-requires-clause-within c =
     let len = c.args.source.now.ok in
     omega arith
 
+pub returns-in_err-new : goal.returns-in_err-new
+returns-in_err-new c =
+    let r = err_from_is_err_and c.from_residual.result c.from_residual.ensures.1 in
+    rw r.1 (refl, keeps-nothing _ c.args.index.now c.requires.is_index)
+
 pub returns-in_err-text : goal.returns-in_err-text
 returns-in_err-text c =
-    let r = err_from_is_err_and c.from_residual.result c.from_residual.ensures.1 in
+    let r = err_from_is_err_and c.from_residual-in_err-text.result c.from_residual-in_err-text.ensures.1 in
     rw r.1 (refl, keeps-nothing _ c.args.index.now c.requires.is_index)
 
 pub returns-in_err-bytes : goal.returns-in_err-bytes
@@ -134,8 +139,8 @@ returns-in_err-bytes c =
     let r = err_from_is_err_and c.from_residual-in_err-bytes.result c.from_residual-in_err-bytes.ensures.1 in
     rw r.1 (refl, keeps-nothing _ c.args.index.now c.requires.is_index)
 
-pub returns-in-Ok-None : goal.returns-in-Ok-None
-returns-in-Ok-None c = λ e force.
+pub returns-in_default : goal.returns-in_default
+returns-in_default c = λ e force.
     let r = c.requires in
     let opened = c.args.opened in
     let old = c.args.source.now.items in
@@ -144,7 +149,7 @@ returns-in-Ok-None c = λ e force.
     let was = c.args.index.now in
     let small = c.args.source.now.small in
     let len = c.args.source.now.ok in
-    let there = rw c.deref.ensures.value at (rw c.in-Ok-None.field-0-is at c.in-Ok-None.ensures) in
+    let there = rw c.deref.ensures.value at (rw c.in_default.is at c.in_ok-new.ensures) in
     same-value e opened old old key value c.args.pair was was (chars-scalars c.args.value.now c.utf8.value) force (editable-bytes (encoding_of opened.encoding) r.unit) r.sound r.placed r.is_index
     (omega arith) (omega arith) (chars-scalars c.args.key.now c.utf8.key) there
 
@@ -157,11 +162,11 @@ put_back-requires-clause-longer c =
     let f = encoding_of opened.encoding in
     let start = opened.start + c.args.pair.start in
     let end = opened.start + c.args.pair.end in
-    let n : IsNewValue f (take (end - start) (drop start old)) value c.in-Ok-Some.new = rw c.deref.ensures.value at (rw c.in-Ok-Some.field-0-is at c.in-Ok-Some.ensures) in
+    let n : IsNewValue f (take (end - start) (drop start old)) value c.in-Some.new = rw c.deref.ensures.value at (rw c.in-Some.is at c.in_ok-new.ensures) in
     let made : c.in_ok-bytes.bytes.items ≡ revalued_in f old start end value n.group =
-    revalued-made f old start end value c.in_ok-bytes.bytes.items c.in-Ok-Some.new n
+    revalued-made f old start end value c.in_ok-bytes.bytes.items c.in-Some.new n
     (c.in_ok-bytes.ensures
-    ∙ ap₂ (λ v w. take (start + c.in-Ok-Some.new.front_size) v ++ w) c.deref-2.ensures.value
+    ∙ ap₂ (λ v w. take (start + c.in-Some.new.front_size) v ++ w) c.deref-2.ensures.value
     (ap₂ (λ v w. v ++ w) c.as_slice.ensures (ap (λ v. take (length v - end) (drop end v)) c.deref-3.ensures.value ∙ take_rest old end))) in
     value-size opened old (editable-bytes (encoding_of opened.encoding) r.unit) r.start r.sound c.args.pair (chars c.args.key.now) r.placed value c.in_ok-bytes.bytes.items n.group made
 
@@ -188,11 +193,11 @@ returns c = λ e force.
     let f = encoding_of opened.encoding in
     let start = opened.start + c.args.pair.start in
     let end = opened.start + c.args.pair.end in
-    let n : IsNewValue f (take (end - start) (drop start old)) value c.in-Ok-Some.new = rw c.deref.ensures.value at (rw c.in-Ok-Some.field-0-is at c.in-Ok-Some.ensures) in
+    let n : IsNewValue f (take (end - start) (drop start old)) value c.in-Some.new = rw c.deref.ensures.value at (rw c.in-Some.is at c.in_ok-new.ensures) in
     let made : c.in_ok-bytes.bytes.items ≡ revalued_in f old start end value n.group =
-    revalued-made f old start end value c.in_ok-bytes.bytes.items c.in-Ok-Some.new n
+    revalued-made f old start end value c.in_ok-bytes.bytes.items c.in-Some.new n
     (c.in_ok-bytes.ensures
-    ∙ ap₂ (λ v w. take (start + c.in-Ok-Some.new.front_size) v ++ w) c.deref-2.ensures.value
+    ∙ ap₂ (λ v w. take (start + c.in-Some.new.front_size) v ++ w) c.deref-2.ensures.value
     (ap₂ (λ v w. v ++ w) c.as_slice.ensures (ap (λ v. take (length v - end) (drop end v)) c.deref-3.ensures.value ∙ take_rest old end))) in
     revalued-index e opened old put key value pair was is (chars-scalars c.args.value.now c.utf8.value) force (editable-bytes (encoding_of opened.encoding) r.unit) r.sound r.placed r.is_index
     (omega arith) (omega arith) (chars-scalars c.args.key.now c.utf8.key) (n.group, n.is_group, n.other, c.put_back.ensures.bytes ∙ made) follows
