@@ -13,6 +13,6 @@ returns-in_ok-concatenated-in-Some c =
     let new = rw c.in-Some.is at c.in_ok-new_value.ensures in (
       new.group,
       new.is_group,
-      revalued-made (encoding_of c.args.opened.encoding) source start end (chars c.args.value.now) c.in_ok-concatenated-in-Some.field-0.items c.in-Some.new new
+      revalued-made (encoding_of c.args.opened.encoding) c.args.opened.ascii_only source start end (chars c.args.value.now) c.in_ok-concatenated-in-Some.field-0.items c.in-Some.new new
           (c.in_ok-concatenated-in-Some.ensures ∙ ap₂ (λ v w. take (start + c.in-Some.new.front_size) source ++ (v ++ w)) c.as_slice.ensures (take_rest source end)),
     )
