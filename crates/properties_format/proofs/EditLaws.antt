@@ -1,5 +1,5 @@
 -- The laws of edits.
-use Rattle.std.proofs.Common.{◌≡◌, ℕ, ◌+◌, true, false, List, [], ◌∷◌, ◌++◌, length, Option, Some, None, refl, ap, sym, ◌∙◌, inl, inr, subst}
+use Rattle.std.proofs.Common.{◌≡◌, ℕ, ◌+◌, true, false, List, [], ◌∷◌, ◌++◌, length, Option, Some, None, refl, ap, sym, ◌∙◌, inl, inr, subst, Bool}
 use Rattle.std.specs.Prelude.{bytes_eq}
 use Rattle.std.proofs.lemmas.Bool.{cond-true, cond-false, false_from_ne_true, cases_Bool}
 use Rattle.std.proofs.lemmas.Slice.Eq.{bytes_eq-Decides}
@@ -95,16 +95,16 @@ pub result-made : (e : Encoding) (source made : List ℕ) → IsReadable e sourc
 result-made e source made r = result-editable e source made r.editable ∙ result_by-edited (items_of e source end) made r.no_fault
 
 -- Setting a key twice equals setting it once, to the later value.
-pub setting-twice : (e : Encoding) (source key first second : List ℕ) → SettingTwiceIsSettingOnce e source key first second
-setting-twice e source key first second k v w between h result =
+pub setting-twice : (e : Encoding) (only : Bool) (source key first second : List ℕ) → SettingTwiceIsSettingOnce e only source key first second
+setting-twice e only source key first second k v w between h result =
     let r = readable e source h.0 h.1 in
-    let next = (key_set-contents e source key first between r k v h.2).readable in
-    let bytes : key_set e between key second ≡ key_set e source key second =
-    ap (λ x. key_set e x key second) (key_set-only e source key first between h.2) ∙ set-twice e source key first second h.0 k v in
-    let same : set_key_result e between key second ≡ set_key_result e source key second =
-    result-made e between (key_set e between key second) next ∙ ap edited bytes ∙ sym (result-made e source (key_set e source key second) r) in (
-      (λ i. subst (IsSetKeyResult e source key second) (sym (set_key_result-only e between key second result i ∙ same)) (set_key_result-meets e source key second)),
-      (λ i. subst (IsSetKeyResult e between key second) (sym (set_key_result-only e source key second result i ∙ sym same)) (set_key_result-meets e between key second)),
+    let next = (key_set-contents e only source key first between r k v h.2).readable in
+    let bytes : key_set e only between key second ≡ key_set e only source key second =
+    ap (λ x. key_set e only x key second) (key_set-only e only source key first between h.2) ∙ set-twice e only source key first second h.0 k v in
+    let same : set_key_result e only between key second ≡ set_key_result e only source key second =
+    result-made e between (key_set e only between key second) next ∙ ap edited bytes ∙ sym (result-made e source (key_set e only source key second) r) in (
+      (λ i. subst (IsSetKeyResult e only source key second) (sym (set_key_result-only e only between key second result i ∙ same)) (set_key_result-meets e only source key second)),
+      (λ i. subst (IsSetKeyResult e only between key second) (sym (set_key_result-only e only source key second result i ∙ sym same)) (set_key_result-meets e only between key second)),
     )
 
 -- ---- the map
@@ -139,10 +139,10 @@ removed-differs key value_at = (
 )
 
 -- After a key is set, the map has the value for it, and for every other key what it had before.
-pub setting-gives : (e : Encoding) (source key value : List ℕ) → SettingGivesTheValue e source key value
-setting-gives e source key value k v result h old new =
+pub setting-gives : (e : Encoding) (only : Bool) (source key value : List ℕ) → SettingGivesTheValue e only source key value
+setting-gives e only source key value k v result h old new =
     maps-differ e source result key (put key value) (Some value) old new
-    (λ before after i j m. (set_key-reads e source key value result k v h before after i j).mapped old m) (set-differs key value)
+    (λ before after i j m. (set_key-reads e only source key value result k v h before after i j).mapped old m) (set-differs key value)
 
 -- After a key is removed, the map has no value for it, and for every other key what it had before.
 pub removing-takes : (e : Encoding) (source key : List ℕ) → RemovingTakesTheValue e source key
@@ -153,42 +153,42 @@ removing-takes e source key result h old new =
 -- ---- lists of edits
 
 -- An empty list of edits changes no byte.
-pub no_edits-nothing : (e : Encoding) (source : List ℕ) → NoEditsChangeNothing e source
-no_edits-nothing e source result h = h.2
+pub no_edits-nothing : (e : Encoding) (only : Bool) (source : List ℕ) → NoEditsChangeNothing e only source
+no_edits-nothing e only source result h = h.2
 
 -- A list of one edit has the same results as the call for that edit.
-pub one_edit-call : (e : Encoding) (source : List ℕ) (edit : Edit) → OneEditIsItsCall e source edit
-one_edit-call e source (put key value) = λ result.
+pub one_edit-call : (e : Encoding) (only : Bool) (source : List ℕ) (edit : Edit) → OneEditIsItsCall e only source edit
+one_edit-call e only source (put key value) = λ result.
     let all = put key value ∷ [] in (
-      (λ h. subst (IsSetKeyResult e source key value) (sym (edit_all_result-only e source all result h)) (set_key_result-meets e source key value)),
-      (λ h. subst (IsEditAllResult e source all) (sym (set_key_result-only e source key value result h)) (edit_all_result-meets e source all)),
+      (λ h. subst (IsSetKeyResult e only source key value) (sym (edit_all_result-only e only source all result h)) (set_key_result-meets e only source key value)),
+      (λ h. subst (IsEditAllResult e only source all) (sym (set_key_result-only e only source key value result h)) (edit_all_result-meets e only source all)),
     )
-one_edit-call e source (remove key) = λ result.
+one_edit-call e only source (remove key) = λ result.
     let all = remove key ∷ [] in (
-      (λ h. subst (IsRemoveKeyResult e source key) (sym (edit_all_result-only e source all result h)) (remove_key_result-meets e source key)),
-      (λ h. subst (IsEditAllResult e source all) (sym (remove_key_result-only e source key result h)) (edit_all_result-meets e source all)),
+      (λ h. subst (IsRemoveKeyResult e source key) (sym (edit_all_result-only e only source all result h)) (remove_key_result-meets e source key)),
+      (λ h. subst (IsEditAllResult e only source all) (sym (remove_key_result-only e source key result h)) (edit_all_result-meets e only source all)),
     )
-one_edit-call e source (set_value key value) = λ result.
+one_edit-call e only source (set_value key value) = λ result.
     let all = set_value key value ∷ [] in (
-      (λ h. subst (IsSetValueResult e source key value) (sym (edit_all_result-only e source all result h)) (set_value_result-meets e source key value)),
-      (λ h. subst (IsEditAllResult e source all) (sym (set_value_result-only e source key value result h)) (edit_all_result-meets e source all)),
+      (λ h. subst (IsSetValueResult e only source key value) (sym (edit_all_result-only e only source all result h)) (set_value_result-meets e only source key value)),
+      (λ h. subst (IsEditAllResult e only source all) (sym (set_value_result-only e only source key value result h)) (edit_all_result-meets e only source all)),
     )
 
 -- Two lists of edits, joined into one, make the same as the second list on the result of the first.
-edits_made-append : (e : Encoding) (source : List ℕ) (first second : List Edit)
-    → edits_made e source (first ++ second) ≡ edits_made e (edits_made e source first) second
-edits_made-append e source [] second = refl
-edits_made-append e source (edit ∷ first) second = edits_made-append e (edit_made e source edit) first second
+edits_made-append : (e : Encoding) (only : Bool) (source : List ℕ) (first second : List Edit)
+    → edits_made e only source (first ++ second) ≡ edits_made e only (edits_made e only source first) second
+edits_made-append e only source [] second = refl
+edits_made-append e only source (edit ∷ first) second = edits_made-append e only (edit_made e only source edit) first second
 
 -- Two lists of edits, joined into one, have the same results as the second list on the result of the first.
-pub lists-follow : (e : Encoding) (source : List ℕ) (first second : List Edit) → ListsOfEditsFollow e source first second
-lists-follow e source first second scalars between h result =
+pub lists-follow : (e : Encoding) (only : Bool) (source : List ℕ) (first second : List Edit) → ListsOfEditsFollow e only source first second
+lists-follow e only source first second scalars between h result =
     let r = readable e source h.0 h.1 in
-    let next = (edits-contents e source first between r scalars h.2).readable in
-    let same : edit_all_result e source (first ++ second) ≡ edit_all_result e between second =
-    result-made e source (edits_made e source (first ++ second)) r
-    ∙ ap edited (edits_made-append e source first second ∙ ap (λ v. edits_made e v second) (sym (edits_made-only e source first between h.0 h.2)))
-    ∙ sym (result-made e between (edits_made e between second) next) in (
-      (λ k. subst (IsEditAllResult e between second) (sym (edit_all_result-only e source (first ++ second) result k ∙ same)) (edit_all_result-meets e between second)),
-      (λ k. subst (IsEditAllResult e source (first ++ second)) (sym (edit_all_result-only e between second result k ∙ sym same)) (edit_all_result-meets e source (first ++ second))),
+    let next = (edits-contents e only source first between r scalars h.2).readable in
+    let same : edit_all_result e only source (first ++ second) ≡ edit_all_result e only between second =
+    result-made e source (edits_made e only source (first ++ second)) r
+    ∙ ap edited (edits_made-append e only source first second ∙ ap (λ v. edits_made e only v second) (sym (edits_made-only e only source first between h.0 h.2)))
+    ∙ sym (result-made e between (edits_made e only between second) next) in (
+      (λ k. subst (IsEditAllResult e only between second) (sym (edit_all_result-only e only source (first ++ second) result k ∙ same)) (edit_all_result-meets e only between second)),
+      (λ k. subst (IsEditAllResult e only source (first ++ second)) (sym (edit_all_result-only e only between second result k ∙ sym same)) (edit_all_result-meets e only source (first ++ second))),
     )

@@ -1,9 +1,9 @@
 -- The keys of entries, each in the position of the first pair with it.
-use Rattle.std.proofs.Common.{◌≡◌, ◌≢◌, ◌<◌, ℕ, zero, suc, ◌+◌, List, [], ◌∷◌, ◌++◌, refl, ap, sym, ◌∙◌, inl, inr, subst, arith}
+use Rattle.std.proofs.Common.{◌≡◌, ◌≢◌, ℕ, zero, suc, List, [], ◌∷◌, ◌++◌, refl, ap, sym, ◌∙◌, inl, inr, subst, arith}
 use Rattle.std.specs.Prelude.{Option, Some, None, Contains, filter_map}
 use Rattle.properties_format.specs.Entries.{comment, pair, Entry, item, malformed, read_fault}
 use Rattle.properties_format.specs.Maps.{HasNoPair, IsLastValue, IsValue, PairComesBefore, AreKeys}
-use Rattle.properties_format.specs.Computed.Keys.{Has, HasNot, ComesBefore, AreFirstOf}
+use Rattle.properties_format.specs.Computed.Keys.{Has, HasNot, AreFirstOf}
 use Rattle.properties_format.specs.Computed.Maps.{value_in}
 use Rattle.properties_format.proofs.Maps.{value_in-meets}
 

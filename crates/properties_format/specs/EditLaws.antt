@@ -1,6 +1,7 @@
--- The laws of edits that callers rely on.
+-- The laws of edits that callers rely on. They hold with ASCII-only output on and off, as the flag after the encoding
+-- says.
 -- Source: java.util.Properties of Java SE 7, setProperty and load (a later pair takes the place of an earlier one).
-use Rattle.std.specs.Prelude.{◌≡◌, ◌≢◌, ◌↔◌, All, ℕ, List, [], ◌∷◌, ◌++◌, Option, Some, None}
+use Rattle.std.specs.Prelude.{◌≡◌, ◌≢◌, ◌↔◌, All, ℕ, List, [], ◌∷◌, ◌++◌, Option, Some, None, Bool}
 use Rattle.properties_format.specs.Text.{scalar}
 use Rattle.properties_format.specs.Encoding.{Encoding}
 use Rattle.properties_format.specs.Lines.{end}
@@ -21,10 +22,10 @@ RemovingNoPairChangesNothing e source key =
 
 -- Setting a key twice equals setting it once, to the later value: the second call has the same results as on the
 -- source.
-abbrev pub SettingTwiceIsSettingOnce : Encoding → List ℕ → List ℕ → List ℕ → List ℕ → Type 0
-SettingTwiceIsSettingOnce e source key first second =
-    All scalar key → All scalar first → All scalar second → (between : List ℕ) → IsSetKeyResult e source key first (edited between)
-    → (result : EditResult) → IsSetKeyResult e between key second result ↔ IsSetKeyResult e source key second result
+abbrev pub SettingTwiceIsSettingOnce : Encoding → Bool → List ℕ → List ℕ → List ℕ → List ℕ → Type 0
+SettingTwiceIsSettingOnce e only source key first second =
+    All scalar key → All scalar first → All scalar second → (between : List ℕ) → IsSetKeyResult e only source key first (edited between)
+    → (result : EditResult) → IsSetKeyResult e only between key second result ↔ IsSetKeyResult e only source key second result
 
 -- Read in this encoding, the bytes have this map.
 abbrev pub HasMap : Encoding → List ℕ → (List ℕ → Option (List ℕ)) → Type 0
@@ -35,9 +36,9 @@ abbrev pub DiffersAt : List ℕ → Option (List ℕ) → (List ℕ → Option (
 DiffersAt key value old new = (new key ≡ value) × ((other : List ℕ) → other ≢ key → new other ≡ old other)
 
 -- After a key is set, the result's map has the value for it, and for every other key what the source's map has.
-abbrev pub SettingGivesTheValue : Encoding → List ℕ → List ℕ → List ℕ → Type 0
-SettingGivesTheValue e source key value =
-    All scalar key → All scalar value → (result : List ℕ) → IsSetKeyResult e source key value (edited result)
+abbrev pub SettingGivesTheValue : Encoding → Bool → List ℕ → List ℕ → List ℕ → Type 0
+SettingGivesTheValue e only source key value =
+    All scalar key → All scalar value → (result : List ℕ) → IsSetKeyResult e only source key value (edited result)
     → (old new : List ℕ → Option (List ℕ)) → HasMap e source old → HasMap e result new → DiffersAt key (Some value) old new
 
 -- After a key is removed, the result's map has no value for it, and for every other key what the source's map has.
@@ -49,45 +50,45 @@ RemovingTakesTheValue e source key =
 -- ---- One value.
 
 -- Setting a key to the value that it already has changes no byte.
-abbrev pub SettingItsOwnValueChangesNothing : Encoding → List ℕ → List ℕ → List ℕ → Type 0
-SettingItsOwnValueChangesNothing e source key value =
-    HasValue e source key (Some value) → (result : List ℕ) → IsSetValueResult e source key value (edited result) → result ≡ source
+abbrev pub SettingItsOwnValueChangesNothing : Encoding → Bool → List ℕ → List ℕ → List ℕ → Type 0
+SettingItsOwnValueChangesNothing e only source key value =
+    HasValue e source key (Some value) → (result : List ℕ) → IsSetValueResult e only source key value (edited result) → result ≡ source
 
 -- Setting a value twice equals setting it once, to the later value, if the source doesn't have that value already.
-abbrev pub SettingAValueTwiceIsSettingItOnce : Encoding → List ℕ → List ℕ → List ℕ → List ℕ → Type 0
-SettingAValueTwiceIsSettingItOnce e source key first second =
+abbrev pub SettingAValueTwiceIsSettingItOnce : Encoding → Bool → List ℕ → List ℕ → List ℕ → List ℕ → Type 0
+SettingAValueTwiceIsSettingItOnce e only source key first second =
     All scalar key → All scalar first → All scalar second → ¬ (HasValue e source key (Some second))
-    → (between : List ℕ) → IsSetValueResult e source key first (edited between)
-    → (result : EditResult) → IsSetValueResult e between key second result ↔ IsSetValueResult e source key second result
+    → (between : List ℕ) → IsSetValueResult e only source key first (edited between)
+    → (result : EditResult) → IsSetValueResult e only between key second result ↔ IsSetValueResult e only source key second result
 
 -- Setting a value a second time changes no byte.
-abbrev pub SettingAValueAgainChangesNothing : Encoding → List ℕ → List ℕ → List ℕ → Type 0
-SettingAValueAgainChangesNothing e source key value =
-    All scalar key → All scalar value → (between : List ℕ) → IsSetValueResult e source key value (edited between)
-    → IsSetValueResult e between key value (edited between)
+abbrev pub SettingAValueAgainChangesNothing : Encoding → Bool → List ℕ → List ℕ → List ℕ → Type 0
+SettingAValueAgainChangesNothing e only source key value =
+    All scalar key → All scalar value → (between : List ℕ) → IsSetValueResult e only source key value (edited between)
+    → IsSetValueResult e only between key value (edited between)
 
 -- After a value is set, the result's map has it for the key, and for every other key what the source's map has.
-abbrev pub SettingAValueGivesIt : Encoding → List ℕ → List ℕ → List ℕ → Type 0
-SettingAValueGivesIt e source key value =
-    All scalar key → All scalar value → (result : List ℕ) → IsSetValueResult e source key value (edited result)
+abbrev pub SettingAValueGivesIt : Encoding → Bool → List ℕ → List ℕ → List ℕ → Type 0
+SettingAValueGivesIt e only source key value =
+    All scalar key → All scalar value → (result : List ℕ) → IsSetValueResult e only source key value (edited result)
     → (old new : List ℕ → Option (List ℕ)) → HasMap e source old → HasMap e result new → DiffersAt key (Some value) old new
 
 -- ---- Lists of edits.
 
 -- An empty list of edits changes no byte.
-abbrev pub NoEditsChangeNothing : Encoding → List ℕ → Type 0
-NoEditsChangeNothing e source = (result : List ℕ) → IsEditAllResult e source [] (edited result) → result ≡ source
+abbrev pub NoEditsChangeNothing : Encoding → Bool → List ℕ → Type 0
+NoEditsChangeNothing e only source = (result : List ℕ) → IsEditAllResult e only source [] (edited result) → result ≡ source
 
 -- A list of one edit has the same results as the call for that edit.
-abbrev pub OneEditIsItsCall : Encoding → List ℕ → Edit → Type 0
-OneEditIsItsCall e source (put key value) =
-    (result : EditResult) → IsEditAllResult e source (put key value ∷ []) result ↔ IsSetKeyResult e source key value result
-OneEditIsItsCall e source (remove key) = (result : EditResult) → IsEditAllResult e source (remove key ∷ []) result ↔ IsRemoveKeyResult e source key result
-OneEditIsItsCall e source (set_value key value) =
-    (result : EditResult) → IsEditAllResult e source (set_value key value ∷ []) result ↔ IsSetValueResult e source key value result
+abbrev pub OneEditIsItsCall : Encoding → Bool → List ℕ → Edit → Type 0
+OneEditIsItsCall e only source (put key value) =
+    (result : EditResult) → IsEditAllResult e only source (put key value ∷ []) result ↔ IsSetKeyResult e only source key value result
+OneEditIsItsCall e only source (remove key) = (result : EditResult) → IsEditAllResult e only source (remove key ∷ []) result ↔ IsRemoveKeyResult e source key result
+OneEditIsItsCall e only source (set_value key value) =
+    (result : EditResult) → IsEditAllResult e only source (set_value key value ∷ []) result ↔ IsSetValueResult e only source key value result
 
 -- Two lists of edits, joined into one, have the same results as the second list on the result of the first.
-abbrev pub ListsOfEditsFollow : Encoding → List ℕ → List Edit → List Edit → Type 0
-ListsOfEditsFollow e source first second =
-    AreScalarEdits first → (between : List ℕ) → IsEditAllResult e source first (edited between)
-    → (result : EditResult) → IsEditAllResult e source (first ++ second) result ↔ IsEditAllResult e between second result
+abbrev pub ListsOfEditsFollow : Encoding → Bool → List ℕ → List Edit → List Edit → Type 0
+ListsOfEditsFollow e only source first second =
+    AreScalarEdits first → (between : List ℕ) → IsEditAllResult e only source first (edited between)
+    → (result : EditResult) → IsEditAllResult e only source (first ++ second) result ↔ IsEditAllResult e only between second result

@@ -14,20 +14,21 @@ use Rattle.properties_format.specs.Body.{AreGroupsOf, HasKey, HeldLine, NoneHasK
 
 -- ---- A key is set.
 
--- the bytes of a pair without a line ending, with ASCII-only output off; at the front of a body, a key that begins like
--- a byte order mark has its first character escaped
-abbrev pub pair_bytes : Encoding → Bool → List ℕ → List ℕ → List ℕ
-pair_bytes e first key value = encoded_text e (printed_key e false first key ++ (equals_sign ∷ printed_characters e false in_key_or_value value))
+-- the bytes of a pair without a line ending, with ASCII-only output on or off; at the front of a body, a key that
+-- begins like a byte order mark has its first character escaped
+abbrev pub pair_bytes : Encoding → Bool → Bool → List ℕ → List ℕ → List ℕ
+pair_bytes e only first key value = encoded_text e (printed_key e only first key ++ (equals_sign ∷ printed_characters e only in_key_or_value value))
 
--- The last pair with the key is replaced by the printed pair, which keeps the line ending.
-pub record IsReplaced (e : Encoding) (groups : List (List HeldLine)) (key value result : List ℕ) : Type 0 where
+-- The last pair with the key is replaced by the printed pair, which keeps the line ending. The flag says whether the
+-- pair is printed with ASCII-only output on.
+pub record IsReplaced (e : Encoding) (only : Bool) (groups : List (List HeldLine)) (key value result : List ℕ) : Type 0 where
   pub before : List (List HeldLine)
   pub group : List HeldLine
   pub after : List (List HeldLine)
   pub division : groups ≡ before ++ group ∷ after
   pub has_key : HasKey key group
   pub no_later : NoneHasKey key after
-  pub bytes : result ≡ groups_bytes before ++ (pair_bytes e (is_empty (groups_bytes before)) key value ++ (ending_bytes (last_ending group) ++ groups_bytes after))
+  pub bytes : result ≡ groups_bytes before ++ (pair_bytes e only (is_empty (groups_bytes before)) key value ++ (ending_bytes (last_ending group) ++ groups_bytes after))
 
 -- the last of the groups
 abbrev pub final_group : List (List HeldLine) → List HeldLine
@@ -62,10 +63,10 @@ added_ending source = line_ending_text (if ends_in_cr source then cr else lf)
 abbrev pub separation : List ℕ → List HeldLine → List ℕ
 separation source group = if is_empty_line group then [] else (if is_left_open group then added_ending source ++ added_ending source else added_ending source)
 
--- No pair has the key, and the printed pair is appended at the end, with an LF.
-pub record IsAppended (e : Encoding) (source : List ℕ) (groups : List (List HeldLine)) (key value result : List ℕ) : Type 0 where
+-- No pair has the key, and the pair, printed with ASCII-only output on or off, is appended at the end, with an LF.
+pub record IsAppended (e : Encoding) (only : Bool) (source : List ℕ) (groups : List (List HeldLine)) (key value result : List ℕ) : Type 0 where
   pub no_pair : NoneHasKey key groups
-  pub bytes : let front : List ℕ = groups_bytes groups ++ separation source (final_group groups) in result ≡ front ++ (pair_bytes e (is_empty front) key value ++ line_feed ∷ [])
+  pub bytes : let front : List ℕ = groups_bytes groups ++ separation source (final_group groups) in result ≡ front ++ (pair_bytes e only (is_empty front) key value ++ line_feed ∷ [])
 
 -- the byte order mark at the front of the bytes, or nothing if there is none
 abbrev pub bom_of : List ℕ → List ℕ
@@ -73,13 +74,13 @@ bom_of b =
     if begins_with utf_8_bom b then utf_8_bom
     else (if begins_with utf_16be_bom b then utf_16be_bom else (if begins_with utf_16le_bom b then utf_16le_bom else []))
 
--- The result is the source with the key set to the value: the byte order mark stays, and in the body the last pair with
--- the key is replaced, or a new pair is appended if no pair has the key.
-pub record IsKeySet (e : Encoding) (source key value result : List ℕ) : Type 0 where
+-- The result is the source with the key set to the value, with ASCII-only output on or off: the byte order mark stays,
+-- and in the body the last pair with the key is replaced, or a new pair is appended if no pair has the key.
+pub record IsKeySet (e : Encoding) (only : Bool) (source key value result : List ℕ) : Type 0 where
   pub groups : List (List HeldLine)
   pub held : AreGroupsOf (byte_order_mark e source).encoding (byte_order_mark e source).body groups
   pub body : List ℕ
-  pub edited : IsReplaced (byte_order_mark e source).encoding groups key value body ⊎ IsAppended (byte_order_mark e source).encoding source groups key value body
+  pub edited : IsReplaced (byte_order_mark e source).encoding only groups key value body ⊎ IsAppended (byte_order_mark e source).encoding only source groups key value body
   pub whole : result ≡ bom_of source ++ body
 
 -- ---- A key is removed.
@@ -137,9 +138,9 @@ IsEditResult e source Makes unsupported = is_editable (byte_order_mark e source)
 IsEditResult e source Makes (unreadable kind n) = (is_editable (byte_order_mark e source).encoding ≡ true) × ItemsAre e source (IsFirstMalformed kind n)
 IsEditResult e source Makes (edited result) = (is_editable (byte_order_mark e source).encoding ≡ true) × ItemsAre e source AreItems × Makes result
 
--- the results of the two editors
-abbrev pub IsSetKeyResult : Encoding → List ℕ → List ℕ → List ℕ → EditResult → Type 0
-IsSetKeyResult e source key value result = IsEditResult e source (IsKeySet e source key value) result
+-- the results of setting a key, with ASCII-only output on or off, and of removing it
+abbrev pub IsSetKeyResult : Encoding → Bool → List ℕ → List ℕ → List ℕ → EditResult → Type 0
+IsSetKeyResult e only source key value result = IsEditResult e source (IsKeySet e only source key value) result
 
 abbrev pub IsRemoveKeyResult : Encoding → List ℕ → List ℕ → EditResult → Type 0
 IsRemoveKeyResult e source key result = IsEditResult e source (IsKeyRemoved e source key) result

@@ -1,6 +1,6 @@
 -- Edits in turn, each made to what the one before it gave: a key is set or removed, or a value is set in place.
 -- Source: java.util.Properties of Java SE 7, setProperty and load (a later pair takes the place of an earlier one).
-use Rattle.std.specs.Prelude.{◌≡◌, All, ℕ, List, [], ◌∷◌}
+use Rattle.std.specs.Prelude.{◌≡◌, All, ℕ, List, [], ◌∷◌, Bool}
 use Rattle.properties_format.specs.Text.{scalar}
 use Rattle.properties_format.specs.Encoding.{Encoding}
 use Rattle.properties_format.specs.Edited.{IsKeySet, IsKeyRemoved, EditResult, IsEditResult}
@@ -12,16 +12,17 @@ pub data Edit : Type 0 where
   remove : List ℕ → Edit
   set_value : List ℕ → List ℕ → Edit
 
--- the result is the source after this edit
-abbrev pub IsEdited : Encoding → List ℕ → Edit → List ℕ → Type 0
-IsEdited e source (put key value) result = IsKeySet e source key value result
-IsEdited e source (remove key) result = IsKeyRemoved e source key result
-IsEdited e source (set_value key value) result = IsValueSet e source key value result
+-- the result is the source after this edit; what is put in is printed with ASCII-only output on or off
+abbrev pub IsEdited : Encoding → Bool → List ℕ → Edit → List ℕ → Type 0
+IsEdited e only source (put key value) result = IsKeySet e only source key value result
+IsEdited e only source (remove key) result = IsKeyRemoved e source key result
+IsEdited e only source (set_value key value) result = IsValueSet e only source key value result
 
--- the result is the source after these edits, each made to what the one before it gave
-abbrev pub AreEdited : Encoding → List ℕ → List Edit → List ℕ → Type 0
-AreEdited e source [] result = result ≡ source
-AreEdited e source (edit ∷ edits) result = (next : List ℕ) × IsEdited e source edit next × AreEdited e next edits result
+-- the result is the source after these edits, each made to what the one before it gave, with ASCII-only output on or
+-- off for all of them
+abbrev pub AreEdited : Encoding → Bool → List ℕ → List Edit → List ℕ → Type 0
+AreEdited e only source [] result = result ≡ source
+AreEdited e only source (edit ∷ edits) result = (next : List ℕ) × IsEdited e only source edit next × AreEdited e only next edits result
 
 -- the texts that an edit puts in are of scalar values
 abbrev pub IsScalarEdit : Edit → Type 0
@@ -34,6 +35,6 @@ abbrev pub AreScalarEdits : List Edit → Type 0
 AreScalarEdits [] = Unit {0}
 AreScalarEdits (edit ∷ edits) = IsScalarEdit edit × AreScalarEdits edits
 
--- the results of edits in turn
-abbrev pub IsEditAllResult : Encoding → List ℕ → List Edit → EditResult → Type 0
-IsEditAllResult e source edits result = IsEditResult e source (AreEdited e source edits) result
+-- the results of edits in turn, with ASCII-only output on or off
+abbrev pub IsEditAllResult : Encoding → Bool → List ℕ → List Edit → EditResult → Type 0
+IsEditAllResult e only source edits result = IsEditResult e source (AreEdited e only source edits) result

@@ -21,33 +21,34 @@ use Rattle.properties_format.specs.Edited.{bom_of, final_group, is_empty_line, i
 abbrev pub is_free : ℕ → Bool
 is_free c = c == space || (is_separator c || is_comment_sign c)
 
--- a character inside a value: unescaped if it is one of these, otherwise as a writer prints it
-abbrev pub printed_inside : Encoding → ℕ → List ℕ
-printed_inside e c = if is_free c then c ∷ [] else printed_character e false in_key_or_value c
+-- a character inside a value: unescaped if it is one of these, otherwise as a writer prints it, with ASCII-only output
+-- on or off as the flag says
+abbrev pub printed_inside : Encoding → Bool → ℕ → List ℕ
+printed_inside e only c = if is_free c then c ∷ [] else printed_character e only in_key_or_value c
 
 -- the first character: a space is escaped by a backslash, and after blanks only, so is a separator
-abbrev pub printed_first : Encoding → Bool → ℕ → List ℕ
-printed_first e after_blanks c = if c == space || (after_blanks && is_separator c) then backslash ∷ c ∷ [] else printed_inside e c
+abbrev pub printed_first : Encoding → Bool → Bool → ℕ → List ℕ
+printed_first e only after_blanks c = if c == space || (after_blanks && is_separator c) then backslash ∷ c ∷ [] else printed_inside e only c
 
 -- the last character: a space is `\u0020`, which survives editors that trim lines
-abbrev pub printed_last : Encoding → ℕ → List ℕ
-printed_last e c = if c == space then unit_escape space else printed_inside e c
+abbrev pub printed_last : Encoding → Bool → ℕ → List ℕ
+printed_last e only c = if c == space then unit_escape space else printed_inside e only c
 
 -- the characters after the first; the last of them is printed as the last character
-abbrev pub printed_rest : Encoding → List ℕ → List ℕ
-printed_rest e [] = []
-printed_rest e (c ∷ []) = printed_last e c
-printed_rest e (c ∷ d ∷ cs) = printed_inside e c ++ printed_rest e (d ∷ cs)
+abbrev pub printed_rest : Encoding → Bool → List ℕ → List ℕ
+printed_rest e only [] = []
+printed_rest e only (c ∷ []) = printed_last e only c
+printed_rest e only (c ∷ d ∷ cs) = printed_inside e only c ++ printed_rest e only (d ∷ cs)
 
 -- a value, after blanks only or after a separator
-abbrev pub printed_value : Encoding → Bool → List ℕ → List ℕ
-printed_value e after_blanks [] = []
-printed_value e after_blanks (c ∷ cs) = if is_empty cs && c == space then unit_escape space else printed_first e after_blanks c ++ printed_rest e cs
+abbrev pub printed_value : Encoding → Bool → Bool → List ℕ → List ℕ
+printed_value e only after_blanks [] = []
+printed_value e only after_blanks (c ∷ cs) = if is_empty cs && c == space then unit_escape space else printed_first e only after_blanks c ++ printed_rest e only cs
 
 -- what follows the front of a pair: the value, preceded by an equals sign if nothing separated the key from its value
-abbrev pub value_text : Encoding → List ℕ → List ℕ → List ℕ
-value_text e [] value = equals_sign ∷ printed_value e false value
-value_text e (c ∷ cs) value = printed_value e (is_blanks (c ∷ cs)) value
+abbrev pub value_text : Encoding → Bool → List ℕ → List ℕ → List ℕ
+value_text e only [] value = equals_sign ∷ printed_value e only false value
+value_text e only (c ∷ cs) value = printed_value e only (is_blanks (c ∷ cs)) value
 
 -- ---- A pair gets another value.
 
@@ -90,9 +91,9 @@ pub record IsThere (groups : List (List HeldLine)) (key value result : List ℕ)
   pub no_later : NoneHasKey key after
   pub bytes : result ≡ groups_bytes groups
 
--- The last pair with the key has another value. What `value_text` prints replaces everything between the pair's front
--- and its line ending.
-pub record IsRevalued (e : Encoding) (groups : List (List HeldLine)) (key value result : List ℕ) : Type 0 where
+-- The last pair with the key has another value. What `value_text` prints, with ASCII-only output on or off, replaces
+-- everything between the pair's front and its line ending.
+pub record IsRevalued (e : Encoding) (only : Bool) (groups : List (List HeldLine)) (key value result : List ℕ) : Type 0 where
   pub before : List (List HeldLine)
   pub group : List HeldLine
   pub after : List (List HeldLine)
@@ -104,7 +105,7 @@ pub record IsRevalued (e : Encoding) (groups : List (List HeldLine)) (key value 
   pub front : List ℕ
   pub is_front : IsFrontOf e group between front
   pub bytes : result
-      ≡ groups_bytes before ++ (front ++ (encoded_text e (value_text e between value) ++ (ending_bytes (last_ending group) ++ groups_bytes after)))
+      ≡ groups_bytes before ++ (front ++ (encoded_text e (value_text e only between value) ++ (ending_bytes (last_ending group) ++ groups_bytes after)))
 
 -- ---- A new pair.
 
@@ -154,38 +155,38 @@ ending_in groups = line_ending_text (ending_among lf (held_in groups))
 abbrev pub separation_by : List ℕ → List HeldLine → List ℕ
 separation_by ending group = if is_empty_line group then [] else (if is_left_open group then ending ++ ending else ending)
 
--- the bytes of a new pair after these bytes, with its line ending
-abbrev pub new_pair_bytes : Encoding → List ℕ → List ℕ → List ℕ → List ℕ → List ℕ → List ℕ
-new_pair_bytes e front key separator value ending =
-    encoded_text e (printed_key e false (is_empty front) key ++ (separator ++ printed_value e (is_blanks separator) value)) ++ ending
+-- the bytes of a new pair after these bytes, with its line ending, with ASCII-only output on or off
+abbrev pub new_pair_bytes : Encoding → Bool → List ℕ → List ℕ → List ℕ → List ℕ → List ℕ → List ℕ
+new_pair_bytes e only front key separator value ending =
+    encoded_text e (printed_key e only (is_empty front) key ++ (separator ++ printed_value e only (is_blanks separator) value)) ++ ending
 
 -- No pair has the key, and a new pair is added at the end.
-pub record IsAdded (e : Encoding) (groups : List (List HeldLine)) (key value result : List ℕ) : Type 0 where
+pub record IsAdded (e : Encoding) (only : Bool) (groups : List (List HeldLine)) (key value result : List ℕ) : Type 0 where
   pub no_pair : NoneHasKey key groups
   pub separator : List ℕ
   pub is_separator : IsNewSeparator groups key separator
   pub bytes : let front : List ℕ = groups_bytes groups ++ separation_by (ending_in groups) (final_group groups) in
-      result ≡ front ++ new_pair_bytes e front key separator value (ending_in groups)
+      result ≡ front ++ new_pair_bytes e only front key separator value (ending_in groups)
 
 -- ---- The value of a key is set.
 
 -- the body of these groups, with the value set
-abbrev pub IsBodyValued : Encoding → List (List HeldLine) → List ℕ → List ℕ → List ℕ → Type 0
-IsBodyValued e groups key value body = IsThere groups key value body ⊎ (IsRevalued e groups key value body ⊎ IsAdded e groups key value body)
+abbrev pub IsBodyValued : Encoding → Bool → List (List HeldLine) → List ℕ → List ℕ → List ℕ → Type 0
+IsBodyValued e only groups key value body = IsThere groups key value body ⊎ (IsRevalued e only groups key value body ⊎ IsAdded e only groups key value body)
 
--- The result is the source with the value of the key set. The byte order mark stays. In the body, nothing changes if
--- the last pair with the key has the value already; otherwise that pair gets the value, or a new pair is added if no
--- pair has the key.
-pub record IsValueSet (e : Encoding) (source key value result : List ℕ) : Type 0 where
+-- The result is the source with the value of the key set, with ASCII-only output on or off. The byte order mark stays.
+-- In the body, nothing changes if the last pair with the key has the value already; otherwise that pair gets the value,
+-- or a new pair is added if no pair has the key.
+pub record IsValueSet (e : Encoding) (only : Bool) (source key value result : List ℕ) : Type 0 where
   pub groups : List (List HeldLine)
   pub held : AreGroupsOf (byte_order_mark e source).encoding (byte_order_mark e source).body groups
   pub body : List ℕ
-  pub edited : IsBodyValued (byte_order_mark e source).encoding groups key value body
+  pub edited : IsBodyValued (byte_order_mark e source).encoding only groups key value body
   pub whole : result ≡ bom_of source ++ body
 
--- the results of setting a value
-abbrev pub IsSetValueResult : Encoding → List ℕ → List ℕ → List ℕ → EditResult → Type 0
-IsSetValueResult e source key value result = IsEditResult e source (IsValueSet e source key value) result
+-- the results of setting a value, with ASCII-only output on or off
+abbrev pub IsSetValueResult : Encoding → Bool → List ℕ → List ℕ → List ℕ → EditResult → Type 0
+IsSetValueResult e only source key value result = IsEditResult e source (IsValueSet e only source key value) result
 
 -- ---- What stays unchanged.
 

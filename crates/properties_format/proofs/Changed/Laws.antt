@@ -1,5 +1,5 @@
 -- What an edited source says: the items of the source with the edit made to what they say.
-use Rattle.std.proofs.Common.{◌≡◌, ℕ, true, List, ◌++◌, ap, sym, ◌∙◌, inl, inr, subst, All}
+use Rattle.std.proofs.Common.{◌≡◌, ℕ, true, List, ◌++◌, ap, sym, ◌∙◌, inl, inr, subst, All, Bool}
 use Rattle.properties_format.specs.Text.{scalar}
 use Rattle.properties_format.specs.Encoding.{Encoding, InForce, byte_order_mark}
 use Rattle.properties_format.specs.Lines.{end}
@@ -60,17 +60,17 @@ ends-alike e source gs r h k =
 
 -- After a key is set, the last pair with the key has the value, or there is a new last pair if none has the key. All
 -- other contents are unchanged.
-pub key_set-contents : (e : Encoding) (source key value result : List ℕ) → IsReadable e source → All scalar key → All scalar value
-    → IsKeySet e source key value result
+pub key_set-contents : (e : Encoding) (only : Bool) (source key value result : List ℕ) → IsReadable e source → All scalar key → All scalar value
+    → IsKeySet e only source key value result
     → IsReadTo e result (IsSetIn key value (source_contents e source))
-key_set-contents e source key value result r k v h =
+key_set-contents e only source key value result r k v h =
     let f = byte_order_mark e source in
     let gs = held-groups f.encoding f.body h.groups r.editable h.held in
     let t = groups-contents e source h.groups r h.held in
-    read-to e result (record { encoding = f.encoding; body = h.body }) (IsSetIn key value (source_contents e source)) r.editable (key_set-in_force e source key value result r.editable h)
+    read-to e result (record { encoding = f.encoding; body = h.body }) (IsSetIn key value (source_contents e source)) r.editable (key_set-in_force e only source key value result r.editable h)
     (elim h.edited [
-      | inl m ↦ replaced-outcomes f.encoding h.groups key value h.body (source_contents e source) r.editable k v gs t m
-      | inr m ↦ appended-outcomes f.encoding source h.groups key value h.body (source_contents e source) r.editable k v gs (ends-alike e source h.groups r h.held) t m
+      | inl m ↦ replaced-outcomes f.encoding only h.groups key value h.body (source_contents e source) r.editable k v gs t m
+      | inr m ↦ appended-outcomes f.encoding only source h.groups key value h.body (source_contents e source) r.editable k v gs (ends-alike e source h.groups r h.held) t m
     ])
 
 -- After a key is removed, the pairs with the key are gone. All other contents are unchanged.

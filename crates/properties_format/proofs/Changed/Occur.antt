@@ -1,5 +1,5 @@
 -- The other groups of a source are in the edited source, in order.
-use Rattle.std.proofs.Common.{ℕ, List, [], ◌∷◌, ◌++◌, refl, ap, sym, ◌∙◌, inl, inr, append_assoc, subst}
+use Rattle.std.proofs.Common.{ℕ, List, [], ◌∷◌, ◌++◌, refl, ap, sym, ◌∙◌, inl, inr, append_assoc, subst, Bool}
 use Rattle.properties_format.specs.Encoding.{Encoding}
 use Rattle.properties_format.specs.Body.{HeldLine, group_bytes, groups_bytes}
 use Rattle.properties_format.specs.Edited.{bom_of, IsKeySet, IsWithout, guarding_lf, IsKeyRemoved}
@@ -27,9 +27,9 @@ occur-alone [] = tt
 occur-alone (g ∷ gs) = ([], groups_bytes gs, refl, occur-alone gs)
 
 -- If a key is set, every group but the last pair with the key is unchanged.
-pub key_set-keeps : (e : Encoding) (source key value result : List ℕ) → IsKeySet e source key value result
+pub key_set-keeps : (e : Encoding) (only : Bool) (source key value result : List ℕ) → IsKeySet e only source key value result
     → KeepsOthers (AreOthersThanLast key) e source result
-key_set-keeps e source key value result h = elim h.edited [
+key_set-keeps e only source key value result h = elim h.edited [
   | inl r ↦ (
     h.groups,
     r.before ++ r.after,

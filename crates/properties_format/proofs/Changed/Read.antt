@@ -1,5 +1,5 @@
 -- What is guaranteed of an editor's result, if there is one.
-use Rattle.std.proofs.Common.{◌≡◌, ℕ, true, List, All, subst, sym, Option}
+use Rattle.std.proofs.Common.{◌≡◌, ℕ, true, List, All, subst, sym, Option, Bool}
 use Rattle.properties_format.specs.Text.{scalar}
 use Rattle.properties_format.specs.Encoding.{Encoding, byte_order_mark}
 use Rattle.properties_format.specs.Lines.{end}
@@ -31,10 +31,10 @@ reads-after e source result IsEdit change r m old new h k =
 
 -- The result of setting a key reads as the source with that key set: the last pair with it has the new value, or there
 -- is a new last pair.
-pub set_key-reads : (e : Encoding) (source key value result : List ℕ) → All scalar key → All scalar value → IsSetKeyResult e source key value (edited result)
+pub set_key-reads : (e : Encoding) (only : Bool) (source key value result : List ℕ) → All scalar key → All scalar value → IsSetKeyResult e only source key value (edited result)
     → ReadsAfter (IsSetIn key value) (map_edited (put key value)) e source result
-set_key-reads e source key value result k v h =
-    reads-after e source result (IsSetIn key value) (map_edited (put key value)) (key_set-contents e source key value result (readable e source h.0 h.1) k v h.2) (map-edited (put key value))
+set_key-reads e only source key value result k v h =
+    reads-after e source result (IsSetIn key value) (map_edited (put key value)) (key_set-contents e only source key value result (readable e source h.0 h.1) k v h.2) (map-edited (put key value))
 
 -- The result of removing a key reads as the source without the pairs with that key.
 pub remove_key-reads : (e : Encoding) (source key result : List ℕ) → IsRemoveKeyResult e source key (edited result)

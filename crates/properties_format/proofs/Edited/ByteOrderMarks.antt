@@ -97,23 +97,23 @@ ending-cut x cr y = byte_order_mark-cut x carriage_return y (lit< tt)
 ending-cut x crlf y = byte_order_mark-cut x carriage_return (line_feed ∷ y) (lit< tt)
 
 -- The bytes of a pair, up to its separator.
-pair-parts : (e : Encoding) (first : Bool) (key value : List ℕ)
-    → pair_bytes e first key value ≡ encoded_text e (printed_key e false first key) ++ (equals_sign ∷ encoded_text e (printed_characters e false in_key_or_value value))
-pair-parts e first key value =
-    encoded_text-append e (printed_key e false first key) (equals_sign ∷ printed_characters e false in_key_or_value value)
-    ∙ ap (λ o. encoded_text e (printed_key e false first key) ++ (unwrap_or o [] ++ encoded_text e (printed_characters e false in_key_or_value value))) (encoded-ascii e equals_sign (lit< tt))
+pair-parts : (e : Encoding) (only : Bool) (first : Bool) (key value : List ℕ)
+    → pair_bytes e only first key value ≡ encoded_text e (printed_key e only first key) ++ (equals_sign ∷ encoded_text e (printed_characters e only in_key_or_value value))
+pair-parts e only first key value =
+    encoded_text-append e (printed_key e only first key) (equals_sign ∷ printed_characters e only in_key_or_value value)
+    ∙ ap (λ o. encoded_text e (printed_key e only first key) ++ (unwrap_or o [] ++ encoded_text e (printed_characters e only in_key_or_value value))) (encoded-ascii e equals_sign (lit< tt))
 
 -- A printed pair contains an ASCII byte.
-pub pair-ascii : (e : Encoding) (first : Bool) (key value : List ℕ) → HasAscii (pair_bytes e first key value)
-pair-ascii e first key value =
-    (encoded_text e (printed_key e false first key), equals_sign, encoded_text e (printed_characters e false in_key_or_value value), pair-parts e first key value, lit< tt)
+pub pair-ascii : (e : Encoding) (only : Bool) (first : Bool) (key value : List ℕ) → HasAscii (pair_bytes e only first key value)
+pair-ascii e only first key value =
+    (encoded_text e (printed_key e only first key), equals_sign, encoded_text e (printed_characters e only in_key_or_value value), pair-parts e only first key value, lit< tt)
 
 -- A pair at the front doesn't begin like a byte order mark.
-first-unmarked : (e : Encoding) (key value rest : List ℕ) → begins_like_bom (pair_bytes e true key value ++ rest) ≡ false
-first-unmarked e key value rest =
-    ascii-cut (pair_bytes e true key value) rest [] (pair-ascii e true key value)
-    ∙ ap begins_like_bom (append-nil (pair_bytes e true key value))
-    ∙ pair-unmarked e false key (equals_sign ∷ []) (printed_characters e false in_key_or_value value) default_settings-good.separator
+first-unmarked : (e : Encoding) (only : Bool) (key value rest : List ℕ) → begins_like_bom (pair_bytes e only true key value ++ rest) ≡ false
+first-unmarked e only key value rest =
+    ascii-cut (pair_bytes e only true key value) rest [] (pair-ascii e only true key value)
+    ∙ ap begins_like_bom (append-nil (pair_bytes e only true key value))
+    ∙ pair-unmarked e only key (equals_sign ∷ []) (printed_characters e only in_key_or_value value) default_settings-good.separator
 
 -- ---- setting a key
 
@@ -135,15 +135,15 @@ first-ascii e g [] h hs k = k.0.ascii
 first-ascii e g (i ∷ gs) h hs k = k.0.ascii
 
 -- If a pair is replaced, a body that didn't begin like a byte order mark still doesn't.
-replaced-unmarked : (e : Encoding) (gs : List (List HeldLine)) (key value body : List ℕ) → AreHeldGroups e gs → begins_like_bom (groups_bytes gs) ≡ false
-    → IsReplaced e gs key value body
+replaced-unmarked : (e : Encoding) (only : Bool) (gs : List (List HeldLine)) (key value body : List ℕ) → AreHeldGroups e gs → begins_like_bom (groups_bytes gs) ≡ false
+    → IsReplaced e only gs key value body
     → begins_like_bom body ≡ false
-replaced-unmarked e gs key value body k h r = of_before r.before r.division r.bytes
+replaced-unmarked e only gs key value body k h r = of_before r.before r.division r.bytes
   where
     of_before : (before : List (List HeldLine)) → gs ≡ before ++ r.group ∷ r.after
-        → body ≡ groups_bytes before ++ (pair_bytes e (is_empty (groups_bytes before)) key value ++ (ending_bytes (last_ending r.group) ++ groups_bytes r.after))
+        → body ≡ groups_bytes before ++ (pair_bytes e only (is_empty (groups_bytes before)) key value ++ (ending_bytes (last_ending r.group) ++ groups_bytes r.after))
         → begins_like_bom body ≡ false
-    of_before [] s t = ap begins_like_bom t ∙ first-unmarked e key value (ending_bytes (last_ending r.group) ++ groups_bytes r.after)
+    of_before [] s t = ap begins_like_bom t ∙ first-unmarked e only key value (ending_bytes (last_ending r.group) ++ groups_bytes r.after)
     of_before (g ∷ before) s t =
         ap begins_like_bom t
         ∙ front-unmarked g before _ (groups_bytes (r.group ∷ r.after)) (first-ascii e g before r.group r.after (rw s at k))
@@ -171,10 +171,10 @@ separation-cases source g = elim (cases_Bool (is_empty_line g)) [
 ]
 
 -- If a pair is appended, a body that didn't begin like a byte order mark still doesn't.
-appended-unmarked : (e : Encoding) (source : List ℕ) (gs : List (List HeldLine)) (key value body : List ℕ) → AreHeldGroups e gs
+appended-unmarked : (e : Encoding) (only : Bool) (source : List ℕ) (gs : List (List HeldLine)) (key value body : List ℕ) → AreHeldGroups e gs
     → begins_like_bom (groups_bytes gs) ≡ false
-    → IsAppended e source gs key value body → begins_like_bom body ≡ false
-appended-unmarked e source gs key value body k h r = elim (separation-cases source (final_group gs)) [
+    → IsAppended e only source gs key value body → begins_like_bom body ≡ false
+appended-unmarked e only source gs key value body k h r = elim (separation-cases source (final_group gs)) [
   | inl p ↦ none gs k h p.0 (ap (λ v. groups_bytes gs ++ v) p.1 ∙ append-nil (groups_bytes gs))
   | inr p ↦
       ap begins_like_bom r.bytes
@@ -188,18 +188,18 @@ appended-unmarked e source gs key value body k h r = elim (separation-cases sour
     front = groups_bytes gs ++ separation source (final_group gs)
 
     tail : List ℕ
-    tail = pair_bytes e (is_empty (groups_bytes gs ++ separation source (final_group gs))) key value ++ line_feed ∷ []
+    tail = pair_bytes e only (is_empty (groups_bytes gs ++ separation source (final_group gs))) key value ++ line_feed ∷ []
 
     none : (hs : List (List HeldLine)) → AreHeldGroups e hs → begins_like_bom (groups_bytes hs) ≡ false → is_empty_line (final_group hs) ≡ true
         → groups_bytes gs ++ separation source (final_group gs) ≡ groups_bytes hs → begins_like_bom body ≡ false
     none [] k h m s = absurd (cc)
     none (g ∷ []) k h m s =
         let q : groups_bytes gs ++ separation source (final_group gs) ≡ [] = s ∙ append-nil (group_bytes g) ∙ empty-last g m k.ending in
-        ap begins_like_bom r.bytes ∙ ap (λ v. begins_like_bom (v ++ (pair_bytes e (is_empty v) key value ++ line_feed ∷ []))) q
-        ∙ first-unmarked e key value (line_feed ∷ [])
+        ap begins_like_bom r.bytes ∙ ap (λ v. begins_like_bom (v ++ (pair_bytes e only (is_empty v) key value ++ line_feed ∷ []))) q
+        ∙ first-unmarked e only key value (line_feed ∷ [])
     none (g ∷ i ∷ hs) k h m s =
         ap begins_like_bom r.bytes
-        ∙ ap (λ v. begins_like_bom (v ++ (pair_bytes e (is_empty v) key value ++ line_feed ∷ []))) s
+        ∙ ap (λ v. begins_like_bom (v ++ (pair_bytes e only (is_empty v) key value ++ line_feed ∷ []))) s
         ∙ front-unmarked g (i ∷ hs) _ [] k.0.ascii (ap begins_like_bom (append-nil (groups_bytes (g ∷ i ∷ hs))) ∙ h)
 
 -- If the source has no byte order mark, its groups don't begin like one.
@@ -211,16 +211,16 @@ groups-unmarked e source gs ok h n =
     ∙ n
 
 -- After a key is set, the same encoding is in force, with the edited body.
-pub key_set-in_force : (e : Encoding) (source key value result : List ℕ) → is_editable (byte_order_mark e source).encoding ≡ true
-    → (h : IsKeySet e source key value result)
+pub key_set-in_force : (e : Encoding) (only : Bool) (source key value result : List ℕ) → is_editable (byte_order_mark e source).encoding ≡ true
+    → (h : IsKeySet e only source key value result)
     → byte_order_mark e result ≡ record { encoding = (byte_order_mark e source).encoding; body = h.body }
-key_set-in_force e source key value result ok h =
+key_set-in_force e only source key value result ok h =
     let f = byte_order_mark e source in
     let gs = held-groups f.encoding f.body h.groups ok h.held in
     ap (byte_order_mark e) h.whole
     ∙ in_force e source h.body ok (λ n. elim h.edited [
-      | inl r ↦ replaced-unmarked f.encoding h.groups key value h.body gs (groups-unmarked e source h.groups ok h.held n) r
-      | inr r ↦ appended-unmarked f.encoding source h.groups key value h.body gs (groups-unmarked e source h.groups ok h.held n) r
+      | inl r ↦ replaced-unmarked f.encoding only h.groups key value h.body gs (groups-unmarked e source h.groups ok h.held n) r
+      | inr r ↦ appended-unmarked f.encoding only source h.groups key value h.body gs (groups-unmarked e source h.groups ok h.held n) r
     ])
 
 -- ---- removing a key

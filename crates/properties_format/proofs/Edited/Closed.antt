@@ -1,5 +1,5 @@
 -- Groups that a line ending closes, so that others can come after them.
-use Rattle.std.proofs.Common.{◌≡◌, ◌≢◌, ◌<◌, ◌≤◌, ℕ, ◌+◌, Bool, true, false, List, [], ◌∷◌, ◌++◌, Option, Some, None, length, refl, ap, ap₂, sym, ◌∙◌, inl, inr, append_assoc, append-nil, length-append, subst, arith}
+use Rattle.std.proofs.Common.{◌≡◌, ◌≢◌, ◌<◌, ℕ, true, false, List, [], ◌∷◌, ◌++◌, Some, None, length, refl, ap, ap₂, sym, ◌∙◌, inl, inr, append_assoc, append-nil, length-append, subst, arith}
 use Rattle.std.specs.Prelude.{◌⊎◌, unwrap_or, if◌then◌else◌}
 use Rattle.std.proofs.lemmas.Bool.{cases_Bool, cond-true, cond-false}
 use Rattle.properties_format.specs.Text.{LineEnding, lf, cr, crlf, carriage_return, line_ending_text}
@@ -8,24 +8,20 @@ use Rattle.properties_format.specs.Encoding.{Encoding}
 use Rattle.properties_format.specs.Lines.{Ended, HoldsNoLineEnd, BeginsWithNoLoneLf, AreLines}
 use Rattle.properties_format.specs.Computed.Cut.{decoded_line}
 use Rattle.properties_format.specs.Groups.{IsWhole, joined}
-use Rattle.properties_format.specs.Entries.{pair}
-use Rattle.properties_format.specs.Items.{ignored, given, Outcome}
-use Rattle.properties_format.specs.Body.{HeldLine, HasKey, NoneHasKey, AreGroupsOf, as_lines, held_in, group_bytes, groups_bytes, ending_bytes, last_ending}
-use Rattle.properties_format.specs.Edited.{is_editable, is_empty_line, is_left_open}
+use Rattle.properties_format.specs.Items.{ignored}
+use Rattle.properties_format.specs.Body.{HeldLine, as_lines, held_in, group_bytes, groups_bytes, ending_bytes, last_ending}
+use Rattle.properties_format.specs.Edited.{is_empty_line, is_left_open}
 use Rattle.properties_format.specs.Computed.Items.{outcome_of}
-use Rattle.properties_format.specs.Computed.Body.{held_of, has_key, is_pair_with, held_groups_of}
-use Rattle.properties_format.specs.Computed.Edited.{KeyPlace, last_place}
+use Rattle.properties_format.specs.Computed.Body.{held_of}
 use Rattle.properties_format.specs.Computed.Parts.{unended_bytes}
 use Rattle.properties_format.specs.Valued.{ending_among, separation_by}
 use Rattle.properties_format.proofs.Body.Decoded.{decoded-nil}
 use Rattle.properties_format.proofs.Body.Groups.{IsLastFit, AreFit, held_ended, cut-off, groups-bytes, lines-front, group_bytes-append, groups_bytes-append}
 use Rattle.properties_format.proofs.Edited.Contents.{ends-right, fit-closed, fit-open, closed-by_empty}
-use Rattle.properties_format.proofs.Edited.Made as made
-use Rattle.properties_format.proofs.Edited.Made.{has_key-true, HasKey-test, last_place-meets, last_place-none, last_place-some}
 use Rattle.properties_format.proofs.InTurn.Lines.{bytes-unended}
 use Rattle.properties_format.proofs.Edited.Parts.{unended-kept}
 use Rattle.properties_format.proofs.Valued.Added.{empty_line, ending-held, outcomes-empty}
-use Rattle.properties_format.proofs.Valued.Lined.{AreLined, groups-lined, lined-groups, last_by, lines-join, held_of-append, held_ended-append, held_in-append, AreAllWhole, fit-parts, fit-join}
+use Rattle.properties_format.proofs.Valued.Lined.{AreLined, last_by, lines-join, held_ended-append, held_in-append, AreAllWhole, fit-parts}
 
 -- ---- ended lines
 

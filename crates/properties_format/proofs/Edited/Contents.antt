@@ -145,16 +145,16 @@ none-hold key (g ∷ gs) cs h s = hold-step key (outcome g) (outcomes_of (as_gro
 -- ---- replacing the last pair
 
 -- The printed pair instead of a group.
-outcomes-in_place : (e : Encoding) (first : Bool) (key value : List ℕ) (g : List HeldLine) (after : List (List HeldLine)) → is_editable e ≡ true → All scalar key
+outcomes-in_place : (e : Encoding) (only : Bool) (first : Bool) (key value : List ℕ) (g : List HeldLine) (after : List (List HeldLine)) → is_editable e ≡ true → All scalar key
     → All scalar value
     → AreHeldGroups e (g ∷ after)
-    → outcomes_in e (pair_bytes e first key value ++ (ending_bytes (last_ending g) ++ groups_bytes after)) ≡ given (pair key value) ∷ outcomes_of (as_groups after)
-outcomes-in_place e first key value g [] ok k v h =
-    ap (λ o. outcomes_in e (pair_bytes e first key value ++ (ending_bytes o ++ []))) h.ending ∙ ap (outcomes_in e) (append-nil (pair_bytes e first key value))
-    ∙ outcomes-last_pair e first key value ok k v
-outcomes-in_place e first key value g (i ∷ after) ok k v h =
-    ap (λ o. outcomes_in e (pair_bytes e first key value ++ (ending_bytes o ++ groups_bytes (i ∷ after)))) h.0.ending
-    ∙ outcomes-pair e first key value h.0.by (groups_bytes (i ∷ after)) ok k v
+    → outcomes_in e (pair_bytes e only first key value ++ (ending_bytes (last_ending g) ++ groups_bytes after)) ≡ given (pair key value) ∷ outcomes_of (as_groups after)
+outcomes-in_place e only first key value g [] ok k v h =
+    ap (λ o. outcomes_in e (pair_bytes e only first key value ++ (ending_bytes o ++ []))) h.ending ∙ ap (outcomes_in e) (append-nil (pair_bytes e only first key value))
+    ∙ outcomes-last_pair e only first key value ok k v
+outcomes-in_place e only first key value g (i ∷ after) ok k v h =
+    ap (λ o. outcomes_in e (pair_bytes e only first key value ++ (ending_bytes o ++ groups_bytes (i ∷ after)))) h.0.ending
+    ∙ outcomes-pair e only first key value h.0.by (groups_bytes (i ∷ after)) ok k v
     ∙ ap (λ w. given (pair key value) ∷ w) (told-groups e (i ∷ after) h.1)
 
 -- the outcomes of a body are these contents
@@ -162,10 +162,10 @@ abbrev pub ComesTo : Encoding → List ℕ → (List Content → Type 0) → Typ
 ComesTo e body Such = (new : List Content) × Such new × (outcomes_in e body ≡ givens new)
 
 -- If the last pair with the key is replaced, the contents are unchanged except for its new value.
-pub replaced-outcomes : (e : Encoding) (gs : List (List HeldLine)) (key value body : List ℕ) (old : List Content) → is_editable e ≡ true → All scalar key
+pub replaced-outcomes : (e : Encoding) (only : Bool) (gs : List (List HeldLine)) (key value body : List ℕ) (old : List Content) → is_editable e ≡ true → All scalar key
     → All scalar value → AreHeldGroups e gs
-    → outcomes_of (as_groups gs) ≡ givens old → IsReplaced e gs key value body → ComesTo e body (IsSetIn key value old)
-replaced-outcomes e gs key value body old ok k v h t r =
+    → outcomes_of (as_groups gs) ≡ givens old → IsReplaced e only gs key value body → ComesTo e body (IsSetIn key value old)
+replaced-outcomes e only gs key value body old ok k v h t r =
     let both = groups-before e r.before r.group r.after (rw r.division at h) in
     let a = key-outcome key r.group r.has_key in
     let s : outcomes_of (as_groups r.before) ++ given (pair key a.0) ∷ outcomes_of (as_groups r.after) ≡ givens old =
@@ -194,7 +194,7 @@ replaced-outcomes e gs key value body old ok k v h t r =
           }),
           ap (outcomes_in e) r.bytes
               ∙ outcomes-fronts e r.before _ fs
-              ∙ ap₂ (λ x y. x ++ y) ft (outcomes-in_place e (is_empty (groups_bytes r.before)) key value r.group r.after ok k v hs ∙ ap (λ x. given (pair key value) ∷ x) q)
+              ∙ ap₂ (λ x y. x ++ y) ft (outcomes-in_place e only (is_empty (groups_bytes r.before)) key value r.group r.after ok k v hs ∙ ap (λ x. given (pair key value) ∷ x) q)
               ∙ sym (givens-append front (pair key value ∷ back)),
         )
 
@@ -387,23 +387,23 @@ outcomes-after e source (g ∷ i ∷ gs) d h a =
     ∙ outcome_before-append (outcome g) (outcomes_of (as_groups (i ∷ gs))) (outcomes_in e d)
 
 -- If a pair is appended to a body, its contents are those of the body followed by that pair.
-pub appended-outcomes : (e : Encoding) (source : List ℕ) (gs : List (List HeldLine)) (key value body : List ℕ) (old : List Content) → is_editable e ≡ true
+pub appended-outcomes : (e : Encoding) (only : Bool) (source : List ℕ) (gs : List (List HeldLine)) (key value body : List ℕ) (old : List Content) → is_editable e ≡ true
     → All scalar key → All scalar value
     → AreHeldGroups e gs → (ends_in_cr (groups_bytes gs) ≡ true → ends_in_cr source ≡ true) → outcomes_of (as_groups gs) ≡ givens old
-    → IsAppended e source gs key value body
+    → IsAppended e only source gs key value body
     → ComesTo e body (IsSetIn key value old)
-appended-outcomes e source gs key value body old ok k v h a t r = (
+appended-outcomes e only source gs key value body old ok k v h a t r = (
   old ++ pair key value ∷ [],
   inr (none-hold key gs old r.no_pair t, refl),
   ap (outcomes_in e) r.bytes
       ∙ ap (outcomes_in e) (append_assoc (groups_bytes gs) (separation source (final_group gs)) tail)
       ∙ outcomes-after e source gs tail h a
-      ∙ ap₂ (λ x y. x ++ y) t (outcomes-pair e (is_empty (groups_bytes gs ++ separation source (final_group gs))) key value lf [] ok k v ∙ ap (λ w. given (pair key value) ∷ w) (outcomes-nil e))
+      ∙ ap₂ (λ x y. x ++ y) t (outcomes-pair e only (is_empty (groups_bytes gs ++ separation source (final_group gs))) key value lf [] ok k v ∙ ap (λ w. given (pair key value) ∷ w) (outcomes-nil e))
       ∙ sym (givens-append old (pair key value ∷ [])),
 )
   where
     tail : List ℕ
-    tail = pair_bytes e (is_empty (groups_bytes gs ++ separation source (final_group gs))) key value ++ line_feed ∷ []
+    tail = pair_bytes e only (is_empty (groups_bytes gs ++ separation source (final_group gs))) key value ++ line_feed ∷ []
 
 -- ---- removing a key
 

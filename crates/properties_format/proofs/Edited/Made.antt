@@ -91,47 +91,47 @@ last_place-some key (f ∷ before) g after h k = ap (place_after key f (before +
 -- ---- setting a key
 
 -- The last pair with the key is replaced at its place, or a pair is appended if there is none.
-set-meets : (e : Encoding) (source key value : List ℕ) (gs : List (List HeldLine)) (o : Option KeyPlace) → IsPlace key gs o
-    → IsReplaced e gs key value (set_at e source gs key value o) ⊎ IsAppended e source gs key value (set_at e source gs key value o)
-set-meets e source key value gs None h = inr (record { no_pair = h; bytes = refl })
-set-meets e source key value gs (Some p) h =
+set-meets : (e : Encoding) (only : Bool) (source key value : List ℕ) (gs : List (List HeldLine)) (o : Option KeyPlace) → IsPlace key gs o
+    → IsReplaced e only gs key value (set_at e only source gs key value o) ⊎ IsAppended e only source gs key value (set_at e only source gs key value o)
+set-meets e only source key value gs None h = inr (record { no_pair = h; bytes = refl })
+set-meets e only source key value gs (Some p) h =
     inl (record { before = p.before; group = p.group; after = p.after; division = h.division; has_key = h.has; no_later = h.no_later; bytes = refl })
 
 -- A result with a pair replaced or appended is the computed one.
-set-only : (e : Encoding) (source key value : List ℕ) (gs : List (List HeldLine)) (body : List ℕ)
-    → IsReplaced e gs key value body ⊎ IsAppended e source gs key value body
-    → body ≡ set_at e source gs key value (last_place key gs)
-set-only e source key value gs body (inl h) =
-    h.bytes ∙ ap (set_at e source gs key value) (sym (ap (last_place key) h.division ∙ last_place-some key h.before h.group h.after h.has_key h.no_later))
-set-only e source key value gs body (inr h) = h.bytes ∙ ap (set_at e source gs key value) (sym (last_place-none key gs h.no_pair))
+set-only : (e : Encoding) (only : Bool) (source key value : List ℕ) (gs : List (List HeldLine)) (body : List ℕ)
+    → IsReplaced e only gs key value body ⊎ IsAppended e only source gs key value body
+    → body ≡ set_at e only source gs key value (last_place key gs)
+set-only e only source key value gs body (inl h) =
+    h.bytes ∙ ap (set_at e only source gs key value) (sym (ap (last_place key) h.division ∙ last_place-some key h.before h.group h.after h.has_key h.no_later))
+set-only e only source key value gs body (inr h) = h.bytes ∙ ap (set_at e only source gs key value) (sym (last_place-none key gs h.no_pair))
 
 -- What is computed is the source with the key set.
-pub key_set-meets : (e : Encoding) (source key value : List ℕ) → IsKeySet e source key value (key_set e source key value)
-key_set-meets e source key value =
+pub key_set-meets : (e : Encoding) (only : Bool) (source key value : List ℕ) → IsKeySet e only source key value (key_set e only source key value)
+key_set-meets e only source key value =
     let f = byte_order_mark e source in
     let gs = held_groups_of f.encoding f.body in
     record {
       groups = gs;
       held = held_groups_of-meets f.encoding f.body;
-      body = set_at f.encoding source gs key value (last_place key gs);
-      edited = set-meets f.encoding source key value gs (last_place key gs) (last_place-meets key gs);
+      body = set_at f.encoding only source gs key value (last_place key gs);
+      edited = set-meets f.encoding only source key value gs (last_place key gs) (last_place-meets key gs);
       whole = refl;
     }
 
 -- The body of that result is the computed one.
-pub key_set-body : (e : Encoding) (source key value : List ℕ)
-    → (key_set-meets e source key value).body
-    ≡ (let f = byte_order_mark e source in set_at f.encoding source (held_groups_of f.encoding f.body) key value (last_place key (held_groups_of f.encoding f.body)))
+pub key_set-body : (e : Encoding) (only : Bool) (source key value : List ℕ)
+    → (key_set-meets e only source key value).body
+    ≡ (let f = byte_order_mark e source in set_at f.encoding only source (held_groups_of f.encoding f.body) key value (last_place key (held_groups_of f.encoding f.body)))
 unfolding key_set-meets
-key_set-body e source key value = refl
+key_set-body e only source key value = refl
 
 -- A source with the key set is the computed one.
-pub key_set-only : (e : Encoding) (source key value result : List ℕ) → IsKeySet e source key value result → result ≡ key_set e source key value
-key_set-only e source key value result h =
+pub key_set-only : (e : Encoding) (only : Bool) (source key value result : List ℕ) → IsKeySet e only source key value result → result ≡ key_set e only source key value
+key_set-only e only source key value result h =
     let f = byte_order_mark e source in
     h.whole
-    ∙ ap (λ v. bom_of source ++ v) (set-only f.encoding source key value h.groups h.body h.edited)
-    ∙ ap (λ v. bom_of source ++ set_at f.encoding source v key value (last_place key v)) (held_groups_of-only f.encoding f.body h.groups h.held)
+    ∙ ap (λ v. bom_of source ++ v) (set-only f.encoding only source key value h.groups h.body h.edited)
+    ∙ ap (λ v. bom_of source ++ set_at f.encoding only source v key value (last_place key v)) (held_groups_of-only f.encoding f.body h.groups h.held)
 
 -- ---- removing a key
 

@@ -11,8 +11,8 @@ use Rattle.properties_format.proofs.Edited.ByteOrderMarks.{pair-ascii}
 use Rattle.properties_format.proofs.InTurn.Lines.{AreLinesBy}
 
 -- A printed pair has bytes.
-pub pair-some : (e : Encoding) (first : Bool) (key value : List ℕ) → pair_bytes e first key value ≢ []
-pair-some e first key value = let a = pair-ascii e first key value in some (pair_bytes e first key value) a.0 a.1 a.2 a.3
+pub pair-some : (e : Encoding) (only : Bool) (first : Bool) (key value : List ℕ) → pair_bytes e only first key value ≢ []
+pair-some e only first key value = let a = pair-ascii e only first key value in some (pair_bytes e only first key value) a.0 a.1 a.2 a.3
   where
     some : (x u : List ℕ) (c : ℕ) (v : List ℕ) → x ≡ u ++ c ∷ v → x ≢ []
     some x [] c v s q = cc

@@ -1,5 +1,5 @@
 -- The computed result of an editor is a result of that edit, and the only one.
-use Rattle.std.proofs.Common.{◌≡◌, ℕ, ◌+◌, length, true, false, List, [], ◌∷◌, refl, ap, ap₂, sym, ◌∙◌, inl, inr, subst}
+use Rattle.std.proofs.Common.{◌≡◌, ℕ, ◌+◌, length, true, false, List, [], ◌∷◌, refl, ap, ap₂, sym, ◌∙◌, inl, inr, subst, Bool}
 use Rattle.std.proofs.lemmas.Bool.{cases_Bool, cond-true, cond-false}
 use Rattle.properties_format.specs.Encoding.{Encoding, byte_order_mark}
 use Rattle.properties_format.specs.Lines.{end}
@@ -122,15 +122,15 @@ result_of-only e source made Makes (unreadable kind n) one (ok, items) =
     sym (result_by-unreadable (items_of e source end) made kind n f) ∙ sym (result-editable e source made ok)
 
 -- What is computed is a result of setting a key.
-pub set_key_result-meets : (e : Encoding) (source key value : List ℕ) → IsSetKeyResult e source key value (set_key_result e source key value)
-set_key_result-meets e source key value =
-    result_of-meets e source (key_set e source key value) (IsKeySet e source key value) (λ ok. key_set-meets e source key value)
+pub set_key_result-meets : (e : Encoding) (only : Bool) (source key value : List ℕ) → IsSetKeyResult e only source key value (set_key_result e only source key value)
+set_key_result-meets e only source key value =
+    result_of-meets e source (key_set e only source key value) (IsKeySet e only source key value) (λ ok. key_set-meets e only source key value)
 
 -- No other result is one of setting a key.
-pub set_key_result-only : (e : Encoding) (source key value : List ℕ) (r : EditResult) → IsSetKeyResult e source key value r
-    → r ≡ set_key_result e source key value
-set_key_result-only e source key value r h =
-    result_of-only e source (key_set e source key value) (IsKeySet e source key value) r (λ ok. key_set-only e source key value) h
+pub set_key_result-only : (e : Encoding) (only : Bool) (source key value : List ℕ) (r : EditResult) → IsSetKeyResult e only source key value r
+    → r ≡ set_key_result e only source key value
+set_key_result-only e only source key value r h =
+    result_of-only e source (key_set e only source key value) (IsKeySet e only source key value) r (λ ok. key_set-only e only source key value) h
 
 -- What is computed is a result of removing a key.
 pub remove_key_result-meets : (e : Encoding) (source key : List ℕ) → IsRemoveKeyResult e source key (remove_key_result e source key)

@@ -1,5 +1,5 @@
 -- What a source says after edits in turn.
-use Rattle.std.proofs.Common.{ℕ, List, [], ◌∷◌, ap, sym, subst}
+use Rattle.std.proofs.Common.{ℕ, List, [], ◌∷◌, ap, sym, subst, Bool}
 use Rattle.properties_format.specs.Encoding.{Encoding}
 use Rattle.properties_format.specs.Edited.{edited}
 use Rattle.properties_format.specs.Edits.{Edit, put, remove, set_value, IsEdited, AreEdited, IsScalarEdit, AreScalarEdits, IsEditAllResult}
@@ -10,25 +10,25 @@ use Rattle.properties_format.proofs.Changed.Read.{readable, reads-after}
 use Rattle.properties_format.proofs.Valued.Read.{value_set-contents}
 
 -- the same of each edit
-pub edit-contents : (e : Encoding) (source : List ℕ) (edit : Edit) (result : List ℕ) → IsReadable e source → IsScalarEdit edit → IsEdited e source edit result
+pub edit-contents : (e : Encoding) (only : Bool) (source : List ℕ) (edit : Edit) (result : List ℕ) → IsReadable e source → IsScalarEdit edit → IsEdited e only source edit result
     → IsReadTo e result (IsEditedIn edit (source_contents e source))
-edit-contents e source (put key value) result r k h = key_set-contents e source key value result r k.0 k.1 h
-edit-contents e source (remove key) result r k h = key_removed-contents e source key result r h
-edit-contents e source (set_value key value) result r k h = value_set-contents e source key value result r k.0 k.1 h
+edit-contents e only source (put key value) result r k h = key_set-contents e only source key value result r k.0 k.1 h
+edit-contents e only source (remove key) result r k h = key_removed-contents e source key result r h
+edit-contents e only source (set_value key value) result r k h = value_set-contents e only source key value result r k.0 k.1 h
 
 -- After edits in turn the source says what it said after the same edits.
-pub edits-contents : (e : Encoding) (source : List ℕ) (edits : List Edit) (result : List ℕ) → IsReadable e source → AreScalarEdits edits
-    → AreEdited e source edits result
+pub edits-contents : (e : Encoding) (only : Bool) (source : List ℕ) (edits : List Edit) (result : List ℕ) → IsReadable e source → AreScalarEdits edits
+    → AreEdited e only source edits result
     → IsReadTo e result (AreEditedIn edits (source_contents e source))
-edits-contents e source [] result r k h = record { readable = subst (IsReadable e) (sym h) r; such = ap (source_contents e) h }
-edits-contents e source (edit ∷ edits) result r k h =
-    let m = edit-contents e source edit h.0 r k.0 h.1 in
-    let n = edits-contents e h.0 edits result m.readable k.1 h.2 in
+edits-contents e only source [] result r k h = record { readable = subst (IsReadable e) (sym h) r; such = ap (source_contents e) h }
+edits-contents e only source (edit ∷ edits) result r k h =
+    let m = edit-contents e only source edit h.0 r k.0 h.1 in
+    let n = edits-contents e only h.0 edits result m.readable k.1 h.2 in
     record { readable = n.readable; such = (source_contents e h.0, m.such, n.such) }
 
 -- The result of edits in turn reads as the source after them.
-pub edit_all-reads : (e : Encoding) (source : List ℕ) (edits : List Edit) (result : List ℕ) → AreScalarEdits edits
-    → IsEditAllResult e source edits (edited result)
+pub edit_all-reads : (e : Encoding) (only : Bool) (source : List ℕ) (edits : List Edit) (result : List ℕ) → AreScalarEdits edits
+    → IsEditAllResult e only source edits (edited result)
     → ReadsAfter (AreEditedIn edits) (map_after edits) e source result
-edit_all-reads e source edits result k h =
-    reads-after e source result (AreEditedIn edits) (map_after edits) (edits-contents e source edits result (readable e source h.0 h.1) k h.2) (map-after edits)
+edit_all-reads e only source edits result k h =
+    reads-after e source result (AreEditedIn edits) (map_after edits) (edits-contents e only source edits result (readable e source h.0 h.1) k h.2) (map-after edits)

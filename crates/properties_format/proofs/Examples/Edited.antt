@@ -1,5 +1,5 @@
 -- Sources with keys set and removed.
-use Rattle.std.proofs.Common.{◌≡◌, ℕ, List, [], ◌∷◌, refl}
+use Rattle.std.proofs.Common.{◌≡◌, ℕ, true, false, List, [], ◌∷◌, refl}
 use Rattle.std.specs.Prelude.{map, codes}
 use Rattle.std.specs.Char.{encode_utf8}
 use Rattle.properties_format.specs.Encoding.{Encoding, windows_1252, utf_8, utf_16le, utf_16be}
@@ -71,9 +71,25 @@ set =
     ∷ (windows_1252, codes "a=1\n\\u1=x", codes "a", codes "b", unreadable not_enough_digits 2)
     ∷ []
 
-each_set : map (λ (e, source, key, value, result). set_key_result e source key value) set ≡ map (λ (e, source, key, value, result). result) set
+each_set : map (λ (e, source, key, value, result). set_key_result e false source key value) set ≡ map (λ (e, source, key, value, result). result) set
 unfolding items_of pieces_of split_of meaning_of held_groups_of encode_utf8
 each_set = refl
+
+-- encoding, source, key, value, and the source with the key set with ASCII-only output on
+abbrev set_in_ascii : List (Encoding × List ℕ × List ℕ × List ℕ × EditResult)
+set_in_ascii =
+    -- Characters that the encoding has are escaped too, and the bytes of other lines stay.
+    (windows_1252, codes "a=é\n", codes "ü", codes "ß", edited (codes "a=é\n\\u00fc=\\u00df\n"))
+    ∷ (utf_8, [], codes "é", codes "a€", edited (codes "\\u00e9=a\\u20ac\n"))
+    -- A character above U+FFFF is two escapes.
+    ∷ (utf_8, codes "k=v", codes "k", 0x1f41e ∷ [], edited (codes "k=\\ud83d\\udc1e"))
+    -- No key begins like a byte order mark.
+    ∷ (windows_1252, [], codes "þÿ", codes "x", edited (codes "\\u00fe\\u00ff=x\n"))
+    ∷ []
+
+each_set_in_ascii : map (λ (e, source, key, value, result). set_key_result e true source key value) set_in_ascii ≡ map (λ (e, source, key, value, result). result) set_in_ascii
+unfolding items_of pieces_of split_of meaning_of held_groups_of encode_utf8
+each_set_in_ascii = refl
 
 -- From a result above, whose first pair follows a comment that may be open, the comment and the pair are read.
 read_after_a_joined_comment : items_of windows_1252 (codes "\\\n#b\\\n\nc=d\n") end ≡ item 1 (comment (codes "b")) ∷ item 4 (pair (codes "c") (codes "d")) ∷ []
@@ -128,6 +144,6 @@ edits =
     ∷ (windows_1252, codes "x\ra\n\nb", remove (codes "a") ∷ remove (codes "x") ∷ [], edited (codes "b"))
     ∷ []
 
-each_edited : map (λ (e, source, edits, result). edit_all_result e source edits) edits ≡ map (λ (e, source, edits, result). result) edits
+each_edited : map (λ (e, source, edits, result). edit_all_result e false source edits) edits ≡ map (λ (e, source, edits, result). result) edits
 unfolding items_of pieces_of split_of meaning_of held_groups_of
 each_edited = refl

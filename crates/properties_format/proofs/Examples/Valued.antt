@@ -1,5 +1,5 @@
 -- Sources with a value set in place.
-use Rattle.std.proofs.Common.{◌≡◌, ℕ, List, [], ◌∷◌, refl}
+use Rattle.std.proofs.Common.{◌≡◌, ℕ, true, false, List, [], ◌∷◌, refl}
 use Rattle.std.specs.Prelude.{map, codes}
 use Rattle.std.specs.Char.{encode_utf8}
 use Rattle.properties_format.specs.Encoding.{Encoding, windows_1252, utf_8}
@@ -67,6 +67,23 @@ rows =
     ∷ (windows_1252, codes "a 1", [], codes "v", edited (codes "a 1\n=v\n"))
     ∷ []
 
-each : map (λ (e, source, key, value, result). set_value_result e source key value) rows ≡ map (λ (e, source, key, value, result). result) rows
+each : map (λ (e, source, key, value, result). set_value_result e false source key value) rows ≡ map (λ (e, source, key, value, result). result) rows
 unfolding items_of pieces_of split_of meaning_of held_groups_of encode_utf8
 each = refl
+
+-- encoding, source, key, value, and the source with the value set in place with ASCII-only output on
+abbrev rows_in_ascii : List (Encoding × List ℕ × List ℕ × List ℕ × EditResult)
+rows_in_ascii =
+    -- A character that the encoding has is escaped too, and the front keeps its bytes.
+    (windows_1252, codes "é = v\n", codes "é", codes "é", edited (codes "é = \\u00e9\n"))
+    -- In a new pair, the key is escaped too.
+    ∷ (utf_8, codes "k: v\n", codes "é", codes "€x", edited (codes "k: v\n\\u00e9: \\u20acx\n"))
+    -- A character above U+FFFF is two escapes.
+    ∷ (utf_8, codes "k=v", codes "k", 0x1f41e ∷ [], edited (codes "k=\\ud83d\\udc1e"))
+    -- If the key already has the value, no byte changes.
+    ∷ (windows_1252, codes "k=é", codes "k", codes "é", edited (codes "k=é"))
+    ∷ []
+
+each_in_ascii : map (λ (e, source, key, value, result). set_value_result e true source key value) rows_in_ascii ≡ map (λ (e, source, key, value, result). result) rows_in_ascii
+unfolding items_of pieces_of split_of meaning_of held_groups_of encode_utf8
+each_in_ascii = refl

@@ -44,7 +44,7 @@ ascii-scalars [] h = tt
 ascii-scalars (c ∷ x) h = (inl (let b = h.0 in omega arith), ascii-scalars x h.1)
 
 -- What is printed for a text of scalar values consists of scalar values.
-printed_characters-scalars : (e : Encoding) (only : Bool) (place : Place) (x : List ℕ) → AllByRecursion scalar x → AllByRecursion scalar (printed_characters e only place x)
+pub printed_characters-scalars : (e : Encoding) (only : Bool) (place : Place) (x : List ℕ) → AllByRecursion scalar x → AllByRecursion scalar (printed_characters e only place x)
 printed_characters-scalars e only place [] h = tt
 printed_characters-scalars e only place (c ∷ x) h =
     scalars-append (printed_character e only place c) (printed_characters e only place x)

@@ -1,6 +1,6 @@
 -- The groups of a body with a value set: their outcomes, and that setting another value has the same result as on the
 -- original body.
-use Rattle.std.proofs.Common.{◌≡◌, ◌≢◌, ℕ, true, false, List, [], ◌∷◌, ◌++◌, Option, Some, None, refl, ap, ap₂, sym, ◌∙◌, inl, inr, append_assoc, append-nil, subst}
+use Rattle.std.proofs.Common.{◌≡◌, ◌≢◌, ℕ, true, false, List, [], ◌∷◌, ◌++◌, Option, Some, None, refl, ap, ap₂, sym, ◌∙◌, inl, inr, append_assoc, append-nil, subst, Bool}
 use Rattle.std.specs.Prelude.{All}
 use Rattle.std.proofs.lemmas.Bool.{cases_Bool, cond-true, cond-false}
 use Rattle.properties_format.specs.Text.{scalar, LineEnding, lf, line_ending_text, is_blanks}
@@ -81,11 +81,11 @@ IsNotAt value (Some p) = has_value value p.group ≡ false
 
 -- What holds for a body with a value set: its groups, their outcomes, the place of the pair, and the result of setting
 -- another value.
-pub record IsValued (e : Encoding) (gs : List (List HeldLine)) (key value body : List ℕ) : Type 0 where
+pub record IsValued (e : Encoding) (only : Bool) (gs : List (List HeldLine)) (key value body : List ℕ) : Type 0 where
   pub groups : List (List HeldLine)
   pub held : AreGroupsOf e body groups
   pub contents_set : (old : List Content) → outcomes_of (as_groups gs) ≡ givens old → HaveContents groups (IsSetIn key value old)
-  pub again : (second : List ℕ) → IsNotAt second (last_place key gs) → valued_at e groups key second (last_place key groups) ≡ valued_at e gs key second (last_place key gs)
+  pub again : (second : List ℕ) → IsNotAt second (last_place key gs) → valued_at e only groups key second (last_place key groups) ≡ valued_at e only gs key second (last_place key gs)
 
 -- A group that is a pair has exactly one value.
 one-value : (key value second : List ℕ) (g : List HeldLine) → HasPair key value g → has_value second g ≡ true → value ≡ second
@@ -96,23 +96,23 @@ one-value key value second g h k =
     cc
 
 -- The result of setting a value at the place of a pair that has a value depends only on the pair's front.
-again-at : (e : Encoding) (groups before : List (List HeldLine)) (g : List HeldLine) (after : List (List HeldLine)) (key value second body : List ℕ)
+again-at : (e : Encoding) (only : Bool) (groups before : List (List HeldLine)) (g : List HeldLine) (after : List (List HeldLine)) (key value second body : List ℕ)
     → groups ≡ before ++ g ∷ after → HasPair key value g → NoneHasKey key after → groups_bytes groups ≡ body
     → (made : List ℕ → List ℕ) → body ≡ made value
-    → revalued_at e second (record { before = before; group = g; after = after }) ≡ made second
-    → valued_at e groups key second (last_place key groups) ≡ made second
-again-at e groups before g after key value second body s h n b made m r =
+    → revalued_at e only second (record { before = before; group = g; after = after }) ≡ made second
+    → valued_at e only groups key second (last_place key groups) ≡ made second
+again-at e only groups before g after key value second body s h n b made m r =
     let p : KeyPlace = record { before = before; group = g; after = after } in
-    ap (valued_at e groups key second) (ap (last_place key) s ∙ last_place-some key before g after (value, h) n)
+    ap (valued_at e only groups key second) (ap (last_place key) s ∙ last_place-some key before g after (value, h) n)
     ∙ (elim (cases_Bool (has_value second g)) [
-      | inl k ↦ cond-true (has_value second g) (groups_bytes groups) (revalued_at e second p) k ∙ b ∙ m ∙ ap made (one-value key value second g h k)
-      | inr k ↦ cond-false (has_value second g) (groups_bytes groups) (revalued_at e second p) k ∙ r
+      | inl k ↦ cond-true (has_value second g) (groups_bytes groups) (revalued_at e only second p) k ∙ b ∙ m ∙ ap made (one-value key value second g h k)
+      | inr k ↦ cond-false (has_value second g) (groups_bytes groups) (revalued_at e only second p) k ∙ r
     ])
 
 -- The last pair already has the value.
-there-valued : (e : Encoding) (gs : List (List HeldLine)) (key value body : List ℕ) → is_editable e ≡ true → AreLined e gs → IsThere gs key value body
-    → IsValued e gs key value body
-there-valued e gs key value body ok l h = record {
+there-valued : (e : Encoding) (only : Bool) (gs : List (List HeldLine)) (key value body : List ℕ) → is_editable e ≡ true → AreLined e gs → IsThere gs key value body
+    → IsValued e only gs key value body
+there-valued e only gs key value body ok l h = record {
   groups = gs;
   held = subst (λ v. AreGroupsOf e v gs) (sym h.bytes) (lined-groups e gs ok l);
   contents_set = λ old t.
@@ -122,16 +122,16 @@ there-valued e gs key value body ok l h = record {
 }
 
 -- the bytes of the groups with another value
-pub revalued-bytes : (e : Encoding) (before : List (List HeldLine)) (kept : List HeldLine) (head between front value : List ℕ) (ending : Option LineEnding)
+pub revalued-bytes : (e : Encoding) (only : Bool) (before : List (List HeldLine)) (kept : List HeldLine) (head between front value : List ℕ) (ending : Option LineEnding)
     (after : List (List HeldLine)) → front ≡ group_bytes kept ++ head
-    → groups_bytes (before ++ (kept ++ new_line e head between value ending ∷ []) ∷ after)
-    ≡ groups_bytes before ++ (front ++ (encoded_text e (value_text e between value) ++ (ending_bytes ending ++ groups_bytes after)))
-revalued-bytes e before kept head between front value ending after s =
-    let x = encoded_text e (value_text e between value) in
+    → groups_bytes (before ++ (kept ++ new_line e only head between value ending ∷ []) ∷ after)
+    ≡ groups_bytes before ++ (front ++ (encoded_text e (value_text e only between value) ++ (ending_bytes ending ++ groups_bytes after)))
+revalued-bytes e only before kept head between front value ending after s =
+    let x = encoded_text e (value_text e only between value) in
     let rest = ending_bytes ending ++ groups_bytes after in
-    groups_bytes-append before ((kept ++ new_line e head between value ending ∷ []) ∷ after)
+    groups_bytes-append before ((kept ++ new_line e only head between value ending ∷ []) ∷ after)
     ∙ ap (λ v. groups_bytes before ++ (v ++ groups_bytes after))
-    (group_bytes-append kept (new_line e head between value ending ∷ [])
+    (group_bytes-append kept (new_line e only head between value ending ∷ [])
     ∙ ap (λ v. group_bytes kept ++ ((head ++ x) ++ v)) (append-nil (ending_bytes ending))
     ∙ ap (λ v. group_bytes kept ++ v) (append_assoc head x (ending_bytes ending))
     ∙ sym (append_assoc (group_bytes kept) head (x ++ ending_bytes ending))
@@ -139,15 +139,15 @@ revalued-bytes e before kept head between front value ending after s =
     ∙ ap (λ v. groups_bytes before ++ v) (append_assoc front (x ++ ending_bytes ending) (groups_bytes after) ∙ ap (λ v. front ++ v) (append_assoc x (ending_bytes ending) (groups_bytes after)))
 
 -- What follows the front, if that is the old front followed by what was missing.
-after-missing : (e : Encoding) (between value : List ℕ) → value_text e (between_after between) value ≡ value_after e between value
-after-missing e [] value = refl
-after-missing e (c ∷ cs) value = refl
+after-missing : (e : Encoding) (only : Bool) (between value : List ℕ) → value_text e only (between_after between) value ≡ value_after e only between value
+after-missing e only [] value = refl
+after-missing e only (c ∷ cs) value = refl
 
 -- The last pair has another value.
-revalued-valued : (e : Encoding) (source_body : List ℕ) (gs : List (List HeldLine)) (key value body : List ℕ) → is_editable e ≡ true → All scalar value
-    → AreGroupsOf e source_body gs → IsRevalued e gs key value body
-    → IsValued e gs key value body
-revalued-valued e source_body gs key value body ok v held r =
+revalued-valued : (e : Encoding) (only : Bool) (source_body : List ℕ) (gs : List (List HeldLine)) (key value body : List ℕ) → is_editable e ≡ true → All scalar value
+    → AreGroupsOf e source_body gs → IsRevalued e only gs key value body
+    → IsValued e only gs key value body
+revalued-valued e only source_body gs key value body ok v held r =
     let f = r.is_front in
     let l = groups-lined e source_body gs ok held in
     let lined : AreLined e (r.before ++ (f.kept ++ f.line ∷ f.more) ∷ r.after) = subst (AreLined e) (r.division ∙ ap (λ w. r.before ++ w ∷ r.after) f.division) l in
@@ -155,15 +155,15 @@ revalued-valued e source_body gs key value body ok v held r =
     let line_plain = plain-lines f.kept f.line f.more (group-plain e r.before (f.kept ++ f.line ∷ f.more) r.after lined) in
     let ending = last_ending (f.kept ++ f.line ∷ f.more) in
     let ends : ending ≡ last_ending r.group = ap last_ending (sym f.division) in
-    let c = changed-pair e r.group key r.between r.front value ending f ok v fit line_plain r.has_key in
-    let g = f.kept ++ new_line e f.head r.between value ending ∷ [] in
+    let c = changed-pair e only r.group key r.between r.front value ending f ok v fit line_plain r.has_key in
+    let g = f.kept ++ new_line e only f.head r.between value ending ∷ [] in
     let groups = r.before ++ g ∷ r.after in
-    let next : AreLined e groups = changed-lined e r.before f.kept f.line f.more r.after (new_bytes e f.head r.between value) lined c.plain c.some c.whole in
+    let next : AreLined e groups = changed-lined e r.before f.kept f.line f.more r.after (new_bytes e only f.head r.between value) lined c.plain c.some c.whole in
     let made : List ℕ → List ℕ = λ x.
-    groups_bytes r.before ++ (r.front ++ (encoded_text e (value_text e r.between x) ++ (ending_bytes (last_ending r.group) ++ groups_bytes r.after))) in
+    groups_bytes r.before ++ (r.front ++ (encoded_text e (value_text e only r.between x) ++ (ending_bytes (last_ending r.group) ++ groups_bytes r.after))) in
     let bytes : groups_bytes groups ≡ body =
-    revalued-bytes e r.before f.kept f.head r.between r.front value ending r.after f.bytes
-    ∙ ap (λ o. groups_bytes r.before ++ (r.front ++ (encoded_text e (value_text e r.between value) ++ (ending_bytes o ++ groups_bytes r.after)))) ends
+    revalued-bytes e only r.before f.kept f.head r.between r.front value ending r.after f.bytes
+    ∙ ap (λ o. groups_bytes r.before ++ (r.front ++ (encoded_text e (value_text e only r.between value) ++ (ending_bytes o ++ groups_bytes r.after)))) ends
     ∙ sym r.bytes in
     let next_held : AreGroupsOf e body groups = subst (λ w. AreGroupsOf e w groups) bytes (lined-groups e groups ok next) in
     let old_front = front_of-only e r.group r.between r.front ok (group-decoded e source_body gs r.before r.group r.after held r.division) f in
@@ -176,17 +176,17 @@ revalued-valued e source_body gs key value body ok v held r =
           let place : last_place key gs ≡ Some (record { before = r.before; group = r.group; after = r.after }) =
           ap (last_place key) r.division ∙ last_place-some key r.before r.group r.after r.has_key r.no_later in
           let other : has_value second r.group ≡ false = subst (IsNotAt second) place k in
-          again-at e groups r.before g r.after key value second body refl c.has_pair r.no_later bytes made r.bytes
-          (ap₂ (λ x b. groups_bytes r.before ++ (x ++ (encoded_text e (value_text e b second) ++ (ending_bytes (last_ending g) ++ groups_bytes r.after)))) (sym new_front.1) (sym new_front.0)
-          ∙ ap (λ x. groups_bytes r.before ++ ((r.front ++ missing r.between) ++ (encoded_text e x ++ (ending_bytes (last_ending g) ++ groups_bytes r.after)))) (after-missing e r.between second)
+          again-at e only groups r.before g r.after key value second body refl c.has_pair r.no_later bytes made r.bytes
+          (ap₂ (λ x b. groups_bytes r.before ++ (x ++ (encoded_text e (value_text e only b second) ++ (ending_bytes (last_ending g) ++ groups_bytes r.after)))) (sym new_front.1) (sym new_front.0)
+          ∙ ap (λ x. groups_bytes r.before ++ ((r.front ++ missing r.between) ++ (encoded_text e x ++ (ending_bytes (last_ending g) ++ groups_bytes r.after)))) (after-missing e only r.between second)
           ∙ ap (λ x. groups_bytes r.before ++ x)
-          (append_assoc r.front (missing r.between) (encoded_text e (value_after e r.between second) ++ (ending_bytes (last_ending g) ++ groups_bytes r.after))
+          (append_assoc r.front (missing r.between) (encoded_text e (value_after e only r.between second) ++ (ending_bytes (last_ending g) ++ groups_bytes r.after))
           ∙ ap (λ x. r.front ++ x)
-          (sym (append_assoc (missing r.between) (encoded_text e (value_after e r.between second)) (ending_bytes (last_ending g) ++ groups_bytes r.after))
-          ∙ ap₂ (λ x o. x ++ (ending_bytes o ++ groups_bytes r.after)) (sym (after-bytes e r.between second)) (last-of f.kept (new_line e f.head r.between value ending) ∙ ends))))
-          ∙ sym (ap (valued_at e gs key second) place
-          ∙ cond-false (has_value second r.group) (groups_bytes gs) (revalued_at e second (record { before = r.before; group = r.group; after = r.after })) other
-          ∙ ap₂ (λ b x. groups_bytes r.before ++ (x ++ (encoded_text e (value_text e b second) ++ (ending_bytes (last_ending r.group) ++ groups_bytes r.after)))) (sym old_front.0) (sym old_front.1));
+          (sym (append_assoc (missing r.between) (encoded_text e (value_after e only r.between second)) (ending_bytes (last_ending g) ++ groups_bytes r.after))
+          ∙ ap₂ (λ x o. x ++ (ending_bytes o ++ groups_bytes r.after)) (sym (after-bytes e only r.between second)) (last-of f.kept (new_line e only f.head r.between value ending) ∙ ends))))
+          ∙ sym (ap (valued_at e only gs key second) place
+          ∙ cond-false (has_value second r.group) (groups_bytes gs) (revalued_at e only second (record { before = r.before; group = r.group; after = r.after })) other
+          ∙ ap₂ (λ b x. groups_bytes r.before ++ (x ++ (encoded_text e (value_text e only b second) ++ (ending_bytes (last_ending r.group) ++ groups_bytes r.after)))) (sym old_front.0) (sym old_front.1));
     }
   where
     last-of : (a : List HeldLine) (h : HeldLine) → last_ending (a ++ h ∷ []) ≡ h.ending
@@ -197,15 +197,15 @@ revalued-valued e source_body gs key value body ok v held r =
 -- ---- a new pair
 
 -- A new pair after a front, with the same text between key and value.
-added-text : (e : Encoding) (between sep value : List ℕ) → between ≢ [] → is_blanks between ≡ is_blanks sep → value_text e between value ≡ printed_value e (is_blanks sep) value
-added-text e [] sep value some same = absurd (some refl)
-added-text e (c ∷ cs) sep value some same = ap (λ b. printed_value e b value) same
+added-text : (e : Encoding) (only : Bool) (between sep value : List ℕ) → between ≢ [] → is_blanks between ≡ is_blanks sep → value_text e only between value ≡ printed_value e only (is_blanks sep) value
+added-text e only [] sep value some same = absurd (some refl)
+added-text e only (c ∷ cs) sep value some same = ap (λ b. printed_value e only b value) same
 
 -- No pair has the key, and a new one is added.
-added-valued : (e : Encoding) (source_body : List ℕ) (gs : List (List HeldLine)) (key value body : List ℕ) → is_editable e ≡ true → All scalar key → All scalar value
-    → AreGroupsOf e source_body gs → NoneHasKey key gs → body ≡ added_at e gs key value
-    → IsValued e gs key value body
-added-valued e source_body gs key value body ok k v held none s =
+added-valued : (e : Encoding) (only : Bool) (source_body : List ℕ) (gs : List (List HeldLine)) (key value body : List ℕ) → is_editable e ≡ true → All scalar key → All scalar value
+    → AreGroupsOf e source_body gs → NoneHasKey key gs → body ≡ added_at e only gs key value
+    → IsValued e only gs key value body
+added-valued e only source_body gs key value body ok k v held none s =
     let l = groups-lined e source_body gs ok held in
     let m = closed-groups e gs l in
     let closed = m.0 in
@@ -214,12 +214,12 @@ added-valued e source_body gs key value body ok k v held none s =
     let first = is_empty front in
     let sep = separator_by key (last_between gs) in
     let by = ending_among lf (held_in gs) in
-    let p = added-pair e first key sep value by ok k v (new_separator-fit gs key sep (new_separator-meets gs key)) in
-    let line = added_line e first key sep value by in
+    let p = added-pair e only first key sep value by ok k v (new_separator-fit gs key sep (new_separator-meets gs key)) in
+    let line = added_line e only first key sep value by in
     let g = line ∷ [] in
     let z = empty_line e None ∷ [] in
     let groups = closed ++ g ∷ z ∷ [] in
-    let n : Ended = record { text = added_bytes e first key sep value; by = by } in
+    let n : Ended = record { text = added_bytes e only first key sep value; by = by } in
     let next : AreLined e groups = record {
       ended = c.lines ++ n ∷ [];
       last = [];
@@ -227,14 +227,14 @@ added-valued e source_body gs key value body ok k v held none s =
       are_lines = lines-join c.lines (n ∷ []) [] c.are_lines (λ q. λ y. p.some y.0) (p.plain, (λ q. tt), tt);
       fit = fit-join closed g (z ∷ []) c.whole (p.whole, inl (empty-whole e));
     } in
-    let made : List ℕ → List ℕ = added_at e gs key in
+    let made : List ℕ → List ℕ = added_at e only gs key in
     let bytes : groups_bytes groups ≡ body =
     groups_bytes-append closed (g ∷ z ∷ [])
     ∙ ap₂ (λ w x. w ++ x) c.bytes
-    (append-nil (group_bytes g) ∙ ap (λ w. added_bytes e first key sep value ++ w) (append-nil (line_ending_text by)))
+    (append-nil (group_bytes g) ∙ ap (λ w. added_bytes e only first key sep value ++ w) (append-nil (line_ending_text by)))
     ∙ sym s in
     let next_held : AreGroupsOf e body groups = subst (λ w. AreGroupsOf e w groups) bytes (lined-groups e groups ok next) in
-    let written = printed_key e false first key in
+    let written = printed_key e only first key in
     let new_front = front_of-only e g p.between (encoded_text e (written ++ sep)) ok (refl, tt) p.is_front in
     record {
       groups = groups;
@@ -248,15 +248,15 @@ added-valued e source_body gs key value body ok k v held none s =
             ∙ sym (givens-append old (pair key value ∷ [])),
       );
       again = λ second no.
-          again-at e groups closed g (z ∷ []) key value second body refl p.has_pair (empty-no_key e key, tt) bytes made s
-          (ap₂ (λ x b. groups_bytes closed ++ (x ++ (encoded_text e (value_text e b second) ++ (line_ending_text by ++ [])))) (sym new_front.1) (sym new_front.0)
-          ∙ ap₂ (λ w x. w ++ (encoded_text e (written ++ sep) ++ (encoded_text e x ++ (line_ending_text by ++ [])))) c.bytes (added-text e p.between sep second p.between_some p.blanks)
+          again-at e only groups closed g (z ∷ []) key value second body refl p.has_pair (empty-no_key e key, tt) bytes made s
+          (ap₂ (λ x b. groups_bytes closed ++ (x ++ (encoded_text e (value_text e only b second) ++ (line_ending_text by ++ [])))) (sym new_front.1) (sym new_front.0)
+          ∙ ap₂ (λ w x. w ++ (encoded_text e (written ++ sep) ++ (encoded_text e x ++ (line_ending_text by ++ [])))) c.bytes (added-text e only p.between sep second p.between_some p.blanks)
           ∙ ap (λ w. front ++ w)
-          (sym (append_assoc (encoded_text e (written ++ sep)) (encoded_text e (printed_value e (is_blanks sep) second)) (line_ending_text by ++ []))
+          (sym (append_assoc (encoded_text e (written ++ sep)) (encoded_text e (printed_value e only (is_blanks sep) second)) (line_ending_text by ++ []))
           ∙ ap₂ (λ w x. w ++ x)
-          (sym (encoded_text-append e (written ++ sep) (printed_value e (is_blanks sep) second)) ∙ ap (encoded_text e) (append_assoc written sep (printed_value e (is_blanks sep) second)))
+          (sym (encoded_text-append e (written ++ sep) (printed_value e only (is_blanks sep) second)) ∙ ap (encoded_text e) (append_assoc written sep (printed_value e only (is_blanks sep) second)))
           (append-nil (line_ending_text by))))
-          ∙ sym (ap (valued_at e gs key second) (last_place-none key gs none));
+          ∙ sym (ap (valued_at e only gs key second) (last_place-none key gs none));
     }
   where
     empty-whole : (e : Encoding) → IsWhole (as_lines (empty_line e None ∷ []))
@@ -268,11 +268,11 @@ added-valued e source_body gs key value body ok k v held none s =
         absurd (cc)
 
 -- A body with a value set has these properties.
-pub body-valued : (e : Encoding) (source_body : List ℕ) (gs : List (List HeldLine)) (key value body : List ℕ) → is_editable e ≡ true → All scalar key → All scalar value
-    → AreGroupsOf e source_body gs → IsBodyValued e gs key value body
-    → IsValued e gs key value body
-body-valued e source_body gs key value body ok k v held (inl h) = there-valued e gs key value body ok (groups-lined e source_body gs ok held) h
-body-valued e source_body gs key value body ok k v held (inr (inl h)) = revalued-valued e source_body gs key value body ok v held h
-body-valued e source_body gs key value body ok k v held (inr (inr h)) =
-    added-valued e source_body gs key value body ok k v held h.no_pair
-    (valued-only e source_body key value gs body ok held (inr (inr h)) ∙ ap (valued_at e gs key value) (last_place-none key gs h.no_pair))
+pub body-valued : (e : Encoding) (only : Bool) (source_body : List ℕ) (gs : List (List HeldLine)) (key value body : List ℕ) → is_editable e ≡ true → All scalar key → All scalar value
+    → AreGroupsOf e source_body gs → IsBodyValued e only gs key value body
+    → IsValued e only gs key value body
+body-valued e only source_body gs key value body ok k v held (inl h) = there-valued e only gs key value body ok (groups-lined e source_body gs ok held) h
+body-valued e only source_body gs key value body ok k v held (inr (inl h)) = revalued-valued e only source_body gs key value body ok v held h
+body-valued e only source_body gs key value body ok k v held (inr (inr h)) =
+    added-valued e only source_body gs key value body ok k v held h.no_pair
+    (valued-only e only source_body key value gs body ok held (inr (inr h)) ∙ ap (valued_at e only gs key value) (last_place-none key gs h.no_pair))

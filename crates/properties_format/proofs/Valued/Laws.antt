@@ -1,5 +1,5 @@
 -- The laws of setting a value.
-use Rattle.std.proofs.Common.{◌≡◌, ℕ, ◌+◌, List, [], ◌∷◌, ◌++◌, length, Option, Some, None, refl, ap, sym, ◌∙◌, inl, inr, subst}
+use Rattle.std.proofs.Common.{◌≡◌, ℕ, ◌+◌, List, [], ◌∷◌, ◌++◌, length, Option, Some, None, refl, ap, sym, ◌∙◌, inl, inr, subst, Bool}
 use Rattle.std.proofs.lemmas.Bool.{cases_Bool, cond-true}
 use Rattle.properties_format.specs.Encoding.{Encoding, byte_order_mark}
 use Rattle.properties_format.specs.Lines.{end}
@@ -124,8 +124,8 @@ not-at e source key value r h =
             cc
 
 -- If the source has the value, setting that value results in the source.
-own-made : (e : Encoding) (source key value : List ℕ) → IsReadable e source → HasValue e source key (Some value) → value_set e source key value ≡ source
-own-made e source key value r h =
+own-made : (e : Encoding) (only : Bool) (source key value : List ℕ) → IsReadable e source → HasValue e source key (Some value) → value_set e only source key value ≡ source
+own-made e only source key value r h =
     let f = byte_order_mark e source in
     let gs = held_groups_of f.encoding f.body in
     let is : IsLastValue (items_of e source end) key value = subst (λ v. IsLastValue v key value) (items_of-only e source end h.entries h.items) h.is in
@@ -135,7 +135,7 @@ own-made e source key value r h =
   where
     of-place : IsLastValue (items_of e source end) key value → (o : Option KeyPlace)
         → last_place key (held_groups_of (byte_order_mark e source).encoding (byte_order_mark e source).body) ≡ o
-        → valued_at (byte_order_mark e source).encoding (held_groups_of (byte_order_mark e source).encoding (byte_order_mark e source).body) key value o
+        → valued_at (byte_order_mark e source).encoding only (held_groups_of (byte_order_mark e source).encoding (byte_order_mark e source).body) key value o
         ≡ groups_bytes (held_groups_of (byte_order_mark e source).encoding (byte_order_mark e source).body)
     of-place is None s =
         let a = value_in-only (items_of e source end) key (Some value) is in
@@ -147,55 +147,55 @@ own-made e source key value r h =
         let b = value_in-only (items_of e source end) key (Some m.0) m.2 in
         let t : m.0 ≡ value = cc in
         let f = byte_order_mark e source in
-        cond-true (has_value value p.group) (groups_bytes (held_groups_of f.encoding f.body)) (revalued_at f.encoding value p)
+        cond-true (has_value value p.group) (groups_bytes (held_groups_of f.encoding f.body)) (revalued_at f.encoding only value p)
         (HasPair-test key value p.group (subst (λ w. HasPair key w p.group) t m.1))
 
 -- ---- the laws
 
 -- Setting a key to the value that it already has changes no byte.
-pub setting-own_value : (e : Encoding) (source key value : List ℕ) → SettingItsOwnValueChangesNothing e source key value
-setting-own_value e source key value has result h =
-    value_set-only e source key value result h.0 h.2 ∙ own-made e source key value (readable e source h.0 h.1) has
+pub setting-own_value : (e : Encoding) (only : Bool) (source key value : List ℕ) → SettingItsOwnValueChangesNothing e only source key value
+setting-own_value e only source key value has result h =
+    value_set-only e only source key value result h.0 h.2 ∙ own-made e only source key value (readable e source h.0 h.1) has
 
 -- Setting a value twice equals setting it once, to the later value, if the source doesn't have that value already.
-pub setting-value_twice : (e : Encoding) (source key first second : List ℕ) → SettingAValueTwiceIsSettingItOnce e source key first second
-setting-value_twice e source key first second k v w other between h result =
+pub setting-value_twice : (e : Encoding) (only : Bool) (source key first second : List ℕ) → SettingAValueTwiceIsSettingItOnce e only source key first second
+setting-value_twice e only source key first second k v w other between h result =
     let r = readable e source h.0 h.1 in
-    let next = (value_set-contents e source key first between r k v h.2).readable in
-    let bytes = value_set-again e source key first second between h.0 k v h.2 (not-at e source key second r other) in
-    let same : set_value_result e between key second ≡ set_value_result e source key second =
-    result-made e between (value_set e between key second) next ∙ ap edited bytes ∙ sym (result-made e source (value_set e source key second) r) in (
-      (λ i. subst (IsSetValueResult e source key second) (sym (set_value_result-only e between key second result i ∙ same)) (set_value_result-meets e source key second)),
-      (λ i. subst (IsSetValueResult e between key second) (sym (set_value_result-only e source key second result i ∙ sym same)) (set_value_result-meets e between key second)),
+    let next = (value_set-contents e only source key first between r k v h.2).readable in
+    let bytes = value_set-again e only source key first second between h.0 k v h.2 (not-at e source key second r other) in
+    let same : set_value_result e only between key second ≡ set_value_result e only source key second =
+    result-made e between (value_set e only between key second) next ∙ ap edited bytes ∙ sym (result-made e source (value_set e only source key second) r) in (
+      (λ i. subst (IsSetValueResult e only source key second) (sym (set_value_result-only e only between key second result i ∙ same)) (set_value_result-meets e only source key second)),
+      (λ i. subst (IsSetValueResult e only between key second) (sym (set_value_result-only e only source key second result i ∙ sym same)) (set_value_result-meets e only between key second)),
     )
 
 -- Setting a value a second time changes no byte.
-pub setting-value_again : (e : Encoding) (source key value : List ℕ) → SettingAValueAgainChangesNothing e source key value
-setting-value_again e source key value k v between h =
+pub setting-value_again : (e : Encoding) (only : Bool) (source key value : List ℕ) → SettingAValueAgainChangesNothing e only source key value
+setting-value_again e only source key value k v between h =
     let f = byte_order_mark e source in
     let r = readable e source h.0 h.1 in
-    let next = (value_set-contents e source key value between r k v h.2).readable in
-    let made : between ≡ value_set e source key value = value_set-only e source key value between h.0 h.2 in
-    let bytes : value_set e between key value ≡ between = of-place made (last_place key (held_groups_of f.encoding f.body)) refl in
-    subst (IsSetValueResult e between key value) (result-made e between (value_set e between key value) next ∙ ap edited bytes) (set_value_result-meets e between key value)
+    let next = (value_set-contents e only source key value between r k v h.2).readable in
+    let made : between ≡ value_set e only source key value = value_set-only e only source key value between h.0 h.2 in
+    let bytes : value_set e only between key value ≡ between = of-place made (last_place key (held_groups_of f.encoding f.body)) refl in
+    subst (IsSetValueResult e only between key value) (result-made e between (value_set e only between key value) next ∙ ap edited bytes) (set_value_result-meets e only between key value)
   where
-    of-place : between ≡ value_set e source key value → (o : Option KeyPlace)
-        → last_place key (held_groups_of (byte_order_mark e source).encoding (byte_order_mark e source).body) ≡ o → value_set e between key value ≡ between
-    of-place made None s = value_set-again e source key value value between h.0 k v h.2 (subst (IsNotAt value) (sym s) tt) ∙ sym made
+    of-place : between ≡ value_set e only source key value → (o : Option KeyPlace)
+        → last_place key (held_groups_of (byte_order_mark e source).encoding (byte_order_mark e source).body) ≡ o → value_set e only between key value ≡ between
+    of-place made None s = value_set-again e only source key value value between h.0 k v h.2 (subst (IsNotAt value) (sym s) tt) ∙ sym made
     of-place made (Some p) s = elim (cases_Bool (has_value value p.group)) [
       | inl t ↦
           let r = readable e source h.0 h.1 in
           let m = place-value e source key r p s in
           let q = has_value-true key value p.group (m.0, m.1) t in
           let same : m.0 ≡ value = one m.0 m.1 q in
-          let own = own-made e source key value r (record {
+          let own = own-made e only source key value r (record {
             entries = items_of e source end;
             items = items_of-meets e source end;
             whole = r.no_fault;
             is = subst (IsLastValue (items_of e source end) key) same m.2;
           }) in
-          ap (λ x. value_set e x key value) (made ∙ own) ∙ own ∙ sym (made ∙ own)
-      | inr t ↦ value_set-again e source key value value between h.0 k v h.2 (subst (IsNotAt value) (sym s) t) ∙ sym made
+          ap (λ x. value_set e only x key value) (made ∙ own) ∙ own ∙ sym (made ∙ own)
+      | inr t ↦ value_set-again e only source key value value between h.0 k v h.2 (subst (IsNotAt value) (sym s) t) ∙ sym made
     ]
       where
         one : (w : List ℕ) → HasPair key w p.group → HasPair key value p.group → w ≡ value
@@ -205,7 +205,7 @@ setting-value_again e source key value k v between h =
             cc
 
 -- After a value is set, the map has it for the key, and for every other key what it had before.
-pub setting-value_gives : (e : Encoding) (source key value : List ℕ) → SettingAValueGivesIt e source key value
-setting-value_gives e source key value k v result h old new =
+pub setting-value_gives : (e : Encoding) (only : Bool) (source key value : List ℕ) → SettingAValueGivesIt e only source key value
+setting-value_gives e only source key value k v result h old new =
     maps-differ e source result key (put key value) (Some value) old new
-    (λ before after i j m. (set_value-reads e source key value result k v h before after i j).mapped old m) (set-differs key value)
+    (λ before after i j m. (set_value-reads e only source key value result k v h before after i j).mapped old m) (set-differs key value)

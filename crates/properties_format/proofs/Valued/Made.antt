@@ -1,5 +1,5 @@
 -- The computed result of setting a value in place is the result of that edit, and the only one.
-use Rattle.std.proofs.Common.{◌≡◌, ℕ, true, false, List, [], ◌∷◌, ◌++◌, Option, Some, None, refl, ap, ap₂, sym, ◌∙◌, inl, inr, subst}
+use Rattle.std.proofs.Common.{◌≡◌, ℕ, true, false, List, [], ◌∷◌, ◌++◌, Option, Some, None, refl, ap, ap₂, sym, ◌∙◌, inl, inr, subst, Bool}
 use Rattle.std.proofs.lemmas.Bool.{cases_Bool, cond-true, cond-false, false_from_ne_true}
 use Rattle.std.proofs.lemmas.Slice.Eq.{bytes_eq-Decides}
 use Rattle.properties_format.specs.Encoding.{Encoding, byte_order_mark}
@@ -187,11 +187,11 @@ pub raw-pair : (key : List ℕ) (g : List HeldLine) → HasKey key g → (k : Li
 raw-pair key g (value, h) = (h.raw_key, h.raw_value, h.split)
 
 -- The computed body is a body with the value set.
-valued-meets : (e : Encoding) (body key value : List ℕ) (gs : List (List HeldLine)) (o : Option KeyPlace) → is_editable e ≡ true → AreGroupsOf e body gs
-    → IsPlace key gs o → IsBodyValued e gs key value (valued_at e gs key value o)
-valued-meets e body key value gs None ok g h =
+valued-meets : (e : Encoding) (only : Bool) (body key value : List ℕ) (gs : List (List HeldLine)) (o : Option KeyPlace) → is_editable e ≡ true → AreGroupsOf e body gs
+    → IsPlace key gs o → IsBodyValued e only gs key value (valued_at e only gs key value o)
+valued-meets e only body key value gs None ok g h =
     inr (inr (record { no_pair = h; separator = separator_by key (last_between gs); is_separator = new_separator-meets gs key; bytes = refl }))
-valued-meets e body key value gs (Some p) ok g h = elim (cases_Bool (has_value value p.group)) [
+valued-meets e only body key value gs (Some p) ok g h = elim (cases_Bool (has_value value p.group)) [
   | inl k ↦
       inl (record {
         before = p.before;
@@ -200,7 +200,7 @@ valued-meets e body key value gs (Some p) ok g h = elim (cases_Bool (has_value v
         division = h.division;
         has_pair = has_value-true key value p.group h.has k;
         no_later = h.no_later;
-        bytes = cond-true (has_value value p.group) (groups_bytes gs) (revalued_at e value p) k;
+        bytes = cond-true (has_value value p.group) (groups_bytes gs) (revalued_at e only value p) k;
       })
   | inr k ↦
       let m = raw-pair key p.group h.has in
@@ -215,62 +215,62 @@ valued-meets e body key value gs (Some p) ok g h = elim (cases_Bool (has_value v
         between = between_of p.group;
         front = front_of e p.group;
         is_front = front_of-meets e p.group m.0 m.1 ok (group-decoded e body gs p.before p.group p.after g h.division) m.2;
-        bytes = cond-false (has_value value p.group) (groups_bytes gs) (revalued_at e value p) k;
+        bytes = cond-false (has_value value p.group) (groups_bytes gs) (revalued_at e only value p) k;
       }))
 ]
 
 -- A body with the value set is the computed one.
-pub valued-only : (e : Encoding) (body key value : List ℕ) (gs : List (List HeldLine)) (result : List ℕ) → is_editable e ≡ true → AreGroupsOf e body gs
-    → IsBodyValued e gs key value result → result ≡ valued_at e gs key value (last_place key gs)
-valued-only e body key value gs result ok g (inl h) =
+pub valued-only : (e : Encoding) (only : Bool) (body key value : List ℕ) (gs : List (List HeldLine)) (result : List ℕ) → is_editable e ≡ true → AreGroupsOf e body gs
+    → IsBodyValued e only gs key value result → result ≡ valued_at e only gs key value (last_place key gs)
+valued-only e only body key value gs result ok g (inl h) =
     let p : KeyPlace = record { before = h.before; group = h.group; after = h.after } in
     h.bytes
-    ∙ sym (cond-true (has_value value h.group) (groups_bytes gs) (revalued_at e value p) (HasPair-test key value h.group h.has_pair))
-    ∙ ap (valued_at e gs key value) (sym (ap (last_place key) h.division ∙ last_place-some key h.before h.group h.after (value, h.has_pair) h.no_later))
-valued-only e body key value gs result ok g (inr (inl h)) =
+    ∙ sym (cond-true (has_value value h.group) (groups_bytes gs) (revalued_at e only value p) (HasPair-test key value h.group h.has_pair))
+    ∙ ap (valued_at e only gs key value) (sym (ap (last_place key) h.division ∙ last_place-some key h.before h.group h.after (value, h.has_pair) h.no_later))
+valued-only e only body key value gs result ok g (inr (inl h)) =
     let p : KeyPlace = record { before = h.before; group = h.group; after = h.after } in
     let f = front_of-only e h.group h.between h.front ok (group-decoded e body gs h.before h.group h.after g h.division) h.is_front in
     h.bytes
-    ∙ ap₂ (λ b x. groups_bytes h.before ++ (x ++ (encoded_text e (value_text e b value) ++ (ending_bytes (last_ending h.group) ++ groups_bytes h.after)))) f.0 f.1
-    ∙ sym (cond-false (has_value value h.group) (groups_bytes gs) (revalued_at e value p) (no_value-test key value h.group h.has_key h.other_value))
-    ∙ ap (valued_at e gs key value) (sym (ap (last_place key) h.division ∙ last_place-some key h.before h.group h.after h.has_key h.no_later))
-valued-only e body key value gs result ok g (inr (inr h)) =
+    ∙ ap₂ (λ b x. groups_bytes h.before ++ (x ++ (encoded_text e (value_text e only b value) ++ (ending_bytes (last_ending h.group) ++ groups_bytes h.after)))) f.0 f.1
+    ∙ sym (cond-false (has_value value h.group) (groups_bytes gs) (revalued_at e only value p) (no_value-test key value h.group h.has_key h.other_value))
+    ∙ ap (valued_at e only gs key value) (sym (ap (last_place key) h.division ∙ last_place-some key h.before h.group h.after h.has_key h.no_later))
+valued-only e only body key value gs result ok g (inr (inr h)) =
     let front = groups_bytes gs ++ separation_by (ending_in gs) (final_group gs) in
     h.bytes
-    ∙ ap (λ s. front ++ new_pair_bytes e front key s value (ending_in gs)) (new_separator-only gs key h.separator h.is_separator)
-    ∙ ap (valued_at e gs key value) (sym (last_place-none key gs h.no_pair))
+    ∙ ap (λ s. front ++ new_pair_bytes e only front key s value (ending_in gs)) (new_separator-only gs key h.separator h.is_separator)
+    ∙ ap (valued_at e only gs key value) (sym (last_place-none key gs h.no_pair))
 
 -- What is computed is the source with the value set.
-pub value_set-meets : (e : Encoding) (source key value : List ℕ) → is_editable (byte_order_mark e source).encoding ≡ true
-    → IsValueSet e source key value (value_set e source key value)
-value_set-meets e source key value ok =
+pub value_set-meets : (e : Encoding) (only : Bool) (source key value : List ℕ) → is_editable (byte_order_mark e source).encoding ≡ true
+    → IsValueSet e only source key value (value_set e only source key value)
+value_set-meets e only source key value ok =
     let f = byte_order_mark e source in
     let gs = held_groups_of f.encoding f.body in
     let held = held_groups_of-meets f.encoding f.body in
     record {
       groups = gs;
       held = held;
-      body = valued_at f.encoding gs key value (last_place key gs);
-      edited = valued-meets f.encoding f.body key value gs (last_place key gs) ok held (last_place-meets key gs);
+      body = valued_at f.encoding only gs key value (last_place key gs);
+      edited = valued-meets f.encoding only f.body key value gs (last_place key gs) ok held (last_place-meets key gs);
       whole = refl;
     }
 
 -- A source with the value set is the computed one.
-pub value_set-only : (e : Encoding) (source key value result : List ℕ) → is_editable (byte_order_mark e source).encoding ≡ true
-    → IsValueSet e source key value result → result ≡ value_set e source key value
-value_set-only e source key value result ok h =
+pub value_set-only : (e : Encoding) (only : Bool) (source key value result : List ℕ) → is_editable (byte_order_mark e source).encoding ≡ true
+    → IsValueSet e only source key value result → result ≡ value_set e only source key value
+value_set-only e only source key value result ok h =
     let f = byte_order_mark e source in
     h.whole
-    ∙ ap (λ v. bom_of source ++ v) (valued-only f.encoding f.body key value h.groups h.body ok h.held h.edited)
-    ∙ ap (λ v. bom_of source ++ valued_at f.encoding v key value (last_place key v)) (held_groups_of-only f.encoding f.body h.groups h.held)
+    ∙ ap (λ v. bom_of source ++ v) (valued-only f.encoding only f.body key value h.groups h.body ok h.held h.edited)
+    ∙ ap (λ v. bom_of source ++ valued_at f.encoding only v key value (last_place key v)) (held_groups_of-only f.encoding f.body h.groups h.held)
 
 -- What is computed is a result of setting a value.
-pub set_value_result-meets : (e : Encoding) (source key value : List ℕ) → IsSetValueResult e source key value (set_value_result e source key value)
-set_value_result-meets e source key value =
-    result_of-meets e source (value_set e source key value) (IsValueSet e source key value) (value_set-meets e source key value)
+pub set_value_result-meets : (e : Encoding) (only : Bool) (source key value : List ℕ) → IsSetValueResult e only source key value (set_value_result e only source key value)
+set_value_result-meets e only source key value =
+    result_of-meets e source (value_set e only source key value) (IsValueSet e only source key value) (value_set-meets e only source key value)
 
 -- No other result is one of setting a value.
-pub set_value_result-only : (e : Encoding) (source key value : List ℕ) (r : EditResult) → IsSetValueResult e source key value r
-    → r ≡ set_value_result e source key value
-set_value_result-only e source key value r h =
-    result_of-only e source (value_set e source key value) (IsValueSet e source key value) r (λ ok result. value_set-only e source key value result ok) h
+pub set_value_result-only : (e : Encoding) (only : Bool) (source key value : List ℕ) (r : EditResult) → IsSetValueResult e only source key value r
+    → r ≡ set_value_result e only source key value
+set_value_result-only e only source key value r h =
+    result_of-only e source (value_set e only source key value) (IsValueSet e only source key value) r (λ ok result. value_set-only e only source key value result ok) h

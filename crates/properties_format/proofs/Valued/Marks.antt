@@ -1,6 +1,6 @@
 -- The encoding in force of a source with a value set is that of the source: the byte order mark stays, and no new one
 -- appears.
-use Rattle.std.proofs.Common.{◌≡◌, ◌⊎◌, ◌<◌, ℕ, ◌==◌, ◌||◌, true, false, List, [], ◌∷◌, ◌++◌, refl, ap, sym, ◌∙◌, inl, inr, append_assoc, append-nil, lit<, subst}
+use Rattle.std.proofs.Common.{◌≡◌, ◌⊎◌, ◌<◌, ℕ, ◌==◌, ◌||◌, true, false, List, [], ◌∷◌, ◌++◌, refl, ap, sym, ◌∙◌, inl, inr, append_assoc, append-nil, lit<, subst, Bool}
 use Rattle.std.specs.Prelude.{unwrap_or}
 use Rattle.std.proofs.lemmas.Bool.{cases_Bool, and_parts, and_from, or_cases, or_left, or_right, false_from_ne_true}
 use Rattle.properties_format.specs.Text.{equals_sign, LineEnding, lf, line_ending_text, is_blanks}
@@ -62,30 +62,30 @@ front-bytes e group between front f =
     ∙ ap (λ v. v ++ (f.tail ++ rest)) (sym f.bytes)
 
 -- A front followed by what is printed for a value, instead of a group at the front of a body.
-front-valued : (e : Encoding) (group : List HeldLine) (between front value : List ℕ) (f : IsFrontOf e group between front) (rest more : List ℕ)
+front-valued : (e : Encoding) (only : Bool) (group : List HeldLine) (between front value : List ℕ) (f : IsFrontOf e group between front) (rest more : List ℕ)
     → is_editable e ≡ true
-    → begins_like_bom (front ++ rest) ≡ false → begins_like_bom (front ++ (encoded_text e (value_text e between value) ++ more)) ≡ false
-front-valued e group [] front value f rest more ok h =
-    let x = printed_value e false value in
+    → begins_like_bom (front ++ rest) ≡ false → begins_like_bom (front ++ (encoded_text e (value_text e only between value) ++ more)) ≡ false
+front-valued e only group [] front value f rest more ok h =
+    let x = printed_value e only false value in
     ap (λ o. begins_like_bom (front ++ ((unwrap_or o [] ++ encoded_text e x) ++ more))) (encoded-ascii e equals_sign (lit< tt))
     ∙ prefix-unmarked front rest equals_sign (encoded_text e x ++ more) (lit< tt) h
-front-valued e group (b ∷ bs) front value f rest more ok h =
+front-valued e only group (b ∷ bs) front value f rest more ok h =
     let m = front-ends e group (b ∷ bs) front f (λ q. cc) in
     let n = ascii-end e f.head m.0 m.1 ok m.3 (sym (decoded_line-only e f.head f.head_text f.is_head) ∙ m.2) in
     let w = group_bytes f.kept ++ n.front in
     let s : (z : List ℕ) → front ++ z ≡ w ++ m.1 ∷ z = λ z.
     ap (λ v. v ++ z) (f.bytes ∙ ap (λ v. group_bytes f.kept ++ v) n.bytes ∙ sym (append_assoc (group_bytes f.kept) n.front (m.1 ∷ []))) ∙ append_assoc w (m.1 ∷ []) z in
-    ap begins_like_bom (s (encoded_text e (value_text e (b ∷ bs) value) ++ more))
-    ∙ prefix-unmarked w (m.1 ∷ rest) m.1 (encoded_text e (value_text e (b ∷ bs) value) ++ more) m.3 (ap begins_like_bom (sym (s rest)) ∙ h)
+    ap begins_like_bom (s (encoded_text e (value_text e only (b ∷ bs) value) ++ more))
+    ∙ prefix-unmarked w (m.1 ∷ rest) m.1 (encoded_text e (value_text e only (b ∷ bs) value) ++ more) m.3 (ap begins_like_bom (sym (s rest)) ∙ h)
 
 -- If the last pair gets another value, a body that didn't begin like a byte order mark still doesn't.
-revalued-unmarked : (e : Encoding) (gs : List (List HeldLine)) (key value body : List ℕ) → is_editable e ≡ true → AreHeldGroups e gs
-    → begins_like_bom (groups_bytes gs) ≡ false → IsRevalued e gs key value body
+revalued-unmarked : (e : Encoding) (only : Bool) (gs : List (List HeldLine)) (key value body : List ℕ) → is_editable e ≡ true → AreHeldGroups e gs
+    → begins_like_bom (groups_bytes gs) ≡ false → IsRevalued e only gs key value body
     → begins_like_bom body ≡ false
-revalued-unmarked e gs key value body ok k h r = of_before r.before r.division r.bytes
+revalued-unmarked e only gs key value body ok k h r = of_before r.before r.division r.bytes
   where
     of_before : (before : List (List HeldLine)) → gs ≡ before ++ r.group ∷ r.after
-        → body ≡ groups_bytes before ++ (r.front ++ (encoded_text e (value_text e r.between value) ++ (ending_bytes (last_ending r.group) ++ groups_bytes r.after)))
+        → body ≡ groups_bytes before ++ (r.front ++ (encoded_text e (value_text e only r.between value) ++ (ending_bytes (last_ending r.group) ++ groups_bytes r.after)))
         → begins_like_bom body ≡ false
     of_before [] s t =
         let f = r.is_front in
@@ -93,24 +93,24 @@ revalued-unmarked e gs key value body ok k h r = of_before r.before r.division r
         let u : groups_bytes gs ≡ r.front ++ (old ++ groups_bytes r.after) =
         ap groups_bytes s ∙ ap (λ v. v ++ groups_bytes r.after) (front-bytes e r.group r.between r.front f) ∙ append_assoc r.front old (groups_bytes r.after) in
         ap begins_like_bom t
-        ∙ front-valued e r.group r.between r.front value f (old ++ groups_bytes r.after) (ending_bytes (last_ending r.group) ++ groups_bytes r.after) ok
+        ∙ front-valued e only r.group r.between r.front value f (old ++ groups_bytes r.after) (ending_bytes (last_ending r.group) ++ groups_bytes r.after) ok
         (ap begins_like_bom (sym u) ∙ h)
     of_before (g ∷ before) s t =
         ap begins_like_bom t
-        ∙ front-unmarked g before (r.front ++ (encoded_text e (value_text e r.between value) ++ (ending_bytes (last_ending r.group) ++ groups_bytes r.after))) (groups_bytes (r.group ∷ r.after))
+        ∙ front-unmarked g before (r.front ++ (encoded_text e (value_text e only r.between value) ++ (ending_bytes (last_ending r.group) ++ groups_bytes r.after))) (groups_bytes (r.group ∷ r.after))
         (first-ascii e g before r.group r.after (subst (AreHeldGroups e) s k))
         (ap begins_like_bom (sym (groups_bytes-append (g ∷ before) (r.group ∷ r.after)) ∙ ap groups_bytes (sym s)) ∙ h)
 
 -- ---- a new pair
 
 -- A new pair at the front doesn't begin like a byte order mark.
-first-unmarked : (e : Encoding) (key sep value : List ℕ) (by : LineEnding) (groups : List (List HeldLine)) → IsNewSeparator groups key sep
-    → begins_like_bom (encoded_text e (printed_key e false true key ++ (sep ++ printed_value e (is_blanks sep) value)) ++ line_ending_text by) ≡ false
-first-unmarked e key sep value by groups s =
-    let x = encoded_text e (printed_key e false true key ++ (sep ++ printed_value e (is_blanks sep) value)) in
+first-unmarked : (e : Encoding) (only : Bool) (key sep value : List ℕ) (by : LineEnding) (groups : List (List HeldLine)) → IsNewSeparator groups key sep
+    → begins_like_bom (encoded_text e (printed_key e only true key ++ (sep ++ printed_value e only (is_blanks sep) value)) ++ line_ending_text by) ≡ false
+first-unmarked e only key sep value by groups s =
+    let x = encoded_text e (printed_key e only true key ++ (sep ++ printed_value e only (is_blanks sep) value)) in
     ap (λ v. begins_like_bom (x ++ v)) (sym (append-nil (line_ending_text by)))
     ∙ ending-cut x by []
-    ∙ pair-unmarked e false key sep (printed_value e (is_blanks sep) value) (new_separator-fit groups key sep s).good
+    ∙ pair-unmarked e only key sep (printed_value e only (is_blanks sep) value) (new_separator-fit groups key sep s).good
 
 -- What separates a pair from the last group is empty after an empty line, and otherwise begins with a line ending.
 separation_by-cases : (by : LineEnding) (g : List HeldLine)
@@ -124,9 +124,9 @@ separation_by-cases by g = elim (cases_Bool (is_empty_line g)) [
 ]
 
 -- If a new pair is added, a body that didn't begin like a byte order mark still doesn't.
-added-unmarked : (e : Encoding) (gs : List (List HeldLine)) (key value body : List ℕ) → AreHeldGroups e gs → begins_like_bom (groups_bytes gs) ≡ false
-    → IsAdded e gs key value body → begins_like_bom body ≡ false
-added-unmarked e gs key value body k h r = elim (separation_by-cases (ending_among lf (held_in gs)) (final_group gs)) [
+added-unmarked : (e : Encoding) (only : Bool) (gs : List (List HeldLine)) (key value body : List ℕ) → AreHeldGroups e gs → begins_like_bom (groups_bytes gs) ≡ false
+    → IsAdded e only gs key value body → begins_like_bom body ≡ false
+added-unmarked e only gs key value body k h r = elim (separation_by-cases (ending_among lf (held_in gs)) (final_group gs)) [
   | inl p ↦ none gs k h p.0 (ap (λ v. groups_bytes gs ++ v) p.1 ∙ append-nil (groups_bytes gs))
   | inr p ↦
       ap begins_like_bom r.bytes
@@ -140,14 +140,14 @@ added-unmarked e gs key value body k h r = elim (separation_by-cases (ending_amo
     front = groups_bytes gs ++ separation_by (ending_in gs) (final_group gs)
 
     tail : List ℕ → List ℕ
-    tail x = encoded_text e (printed_key e false (is_empty x) key ++ (r.separator ++ printed_value e (is_blanks r.separator) value)) ++ ending_in gs
+    tail x = encoded_text e (printed_key e only (is_empty x) key ++ (r.separator ++ printed_value e only (is_blanks r.separator) value)) ++ ending_in gs
 
     none : (hs : List (List HeldLine)) → AreHeldGroups e hs → begins_like_bom (groups_bytes hs) ≡ false → is_empty_line (final_group hs) ≡ true
         → groups_bytes gs ++ separation_by (ending_in gs) (final_group gs) ≡ groups_bytes hs → begins_like_bom body ≡ false
     none [] k h m s = absurd (cc)
     none (g ∷ []) k h m s =
         let q : groups_bytes gs ++ separation_by (ending_in gs) (final_group gs) ≡ [] = s ∙ append-nil (group_bytes g) ∙ empty-last g m k.ending in
-        ap begins_like_bom r.bytes ∙ ap (λ v. begins_like_bom (v ++ tail v)) q ∙ first-unmarked e key r.separator value (ending_among lf (held_in gs)) gs r.is_separator
+        ap begins_like_bom r.bytes ∙ ap (λ v. begins_like_bom (v ++ tail v)) q ∙ first-unmarked e only key r.separator value (ending_among lf (held_in gs)) gs r.is_separator
     none (g ∷ i ∷ hs) k h m s =
         ap begins_like_bom r.bytes
         ∙ ap (λ v. begins_like_bom (v ++ tail v)) s
@@ -156,10 +156,10 @@ added-unmarked e gs key value body k h r = elim (separation_by-cases (ending_amo
 -- ---- the source
 
 -- After a value is set, the same encoding is in force, with the edited body.
-pub value_set-in_force : (e : Encoding) (source key value result : List ℕ) → is_editable (byte_order_mark e source).encoding ≡ true
-    → (h : IsValueSet e source key value result)
+pub value_set-in_force : (e : Encoding) (only : Bool) (source key value result : List ℕ) → is_editable (byte_order_mark e source).encoding ≡ true
+    → (h : IsValueSet e only source key value result)
     → byte_order_mark e result ≡ record { encoding = (byte_order_mark e source).encoding; body = h.body }
-value_set-in_force e source key value result ok h =
+value_set-in_force e only source key value result ok h =
     let f = byte_order_mark e source in
     let gs = held-groups f.encoding f.body h.groups ok h.held in
     ap (byte_order_mark e) h.whole
@@ -167,6 +167,6 @@ value_set-in_force e source key value result ok h =
     let old = groups-unmarked e source h.groups ok h.held n in
     elim h.edited [
       | inl r ↦ ap begins_like_bom r.bytes ∙ old
-      | inr (inl r) ↦ revalued-unmarked f.encoding h.groups key value h.body ok gs old r
-      | inr (inr r) ↦ added-unmarked f.encoding h.groups key value h.body gs old r
+      | inr (inl r) ↦ revalued-unmarked f.encoding only h.groups key value h.body ok gs old r
+      | inr (inr r) ↦ added-unmarked f.encoding only h.groups key value h.body gs old r
     ])

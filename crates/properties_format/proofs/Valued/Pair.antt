@@ -1,6 +1,6 @@
 -- The group of a pair that gets another value: it is that pair, and its front is the old front, followed by an equals
 -- sign if nothing separated the key from the value.
-use Rattle.std.proofs.Common.{◌≡◌, ◌≢◌, ℕ, true, false, List, [], ◌∷◌, ◌++◌, Option, None, refl, ap, ap₂, sym, ◌∙◌, append_assoc, append-nil, lit<, subst}
+use Rattle.std.proofs.Common.{◌≡◌, ◌≢◌, ℕ, true, false, List, [], ◌∷◌, ◌++◌, Option, None, refl, ap, ap₂, sym, ◌∙◌, append_assoc, append-nil, lit<, subst, Bool}
 use Rattle.std.specs.Prelude.{All, unwrap_or}
 use Rattle.std.proofs.lemmas.List.Elements.{recursion_from_All}
 use Rattle.properties_format.specs.Text.{scalar, equals_sign, LineEnding, is_blanks}
@@ -40,11 +40,11 @@ missing-bytes e [] = ap (λ o. unwrap_or o [] ++ []) (encoded-ascii e equals_sig
 missing-bytes e (c ∷ cs) = refl
 
 -- The bytes after the front.
-pub after-bytes : (e : Encoding) (between value : List ℕ) → encoded_text e (value_text e between value) ≡ missing between ++ encoded_text e (value_after e between value)
-after-bytes e between value =
-    ap (encoded_text e) (value_text-parts e between value)
-    ∙ encoded_text-append e (missing between) (value_after e between value)
-    ∙ ap (λ v. v ++ encoded_text e (value_after e between value)) (missing-bytes e between)
+pub after-bytes : (e : Encoding) (only : Bool) (between value : List ℕ) → encoded_text e (value_text e only between value) ≡ missing between ++ encoded_text e (value_after e only between value)
+after-bytes e only between value =
+    ap (encoded_text e) (value_text-parts e only between value)
+    ∙ encoded_text-append e (missing between) (value_after e only between value)
+    ∙ ap (λ v. v ++ encoded_text e (value_after e only between value)) (missing-bytes e between)
 
 -- It leaves no line open.
 missing-closed : (x between : List ℕ) → is_open x ≡ false → is_open (x ++ missing between) ≡ false
@@ -57,28 +57,28 @@ missing-plain [] = (refl, tt)
 missing-plain (c ∷ cs) = tt
 
 -- What is printed for an empty value is only what is missing.
-no_value-text : (e : Encoding) (between : List ℕ) → value_text e between [] ≡ missing between
-no_value-text e [] = refl
-no_value-text e (c ∷ cs) = refl
+no_value-text : (e : Encoding) (only : Bool) (between : List ℕ) → value_text e only between [] ≡ missing between
+no_value-text e only [] = refl
+no_value-text e only (c ∷ cs) = refl
 
 -- ---- the changed group
 
 -- the line that replaces those after the lines that are kept
-abbrev pub new_bytes : Encoding → List ℕ → List ℕ → List ℕ → List ℕ
-new_bytes e head between value = head ++ encoded_text e (value_text e between value)
+abbrev pub new_bytes : Encoding → Bool → List ℕ → List ℕ → List ℕ → List ℕ
+new_bytes e only head between value = head ++ encoded_text e (value_text e only between value)
 
 -- the line of these bytes
-abbrev pub new_line : Encoding → List ℕ → List ℕ → List ℕ → Option LineEnding → HeldLine
-new_line e head between value ending =
-    record { bytes = new_bytes e head between value; text = decoded_line e (new_bytes e head between value); ending = ending }
+abbrev pub new_line : Encoding → Bool → List ℕ → List ℕ → List ℕ → Option LineEnding → HeldLine
+new_line e only head between value ending =
+    record { bytes = new_bytes e only head between value; text = decoded_line e (new_bytes e only head between value); ending = ending }
 
 -- What holds for the changed group.
-pub record IsChangedPair (e : Encoding) (key between front value : List ℕ) (kept : List HeldLine) (head : List ℕ) (ending : Option LineEnding) : Type 0 where
-  pub plain : HoldsNoLineEnd (new_bytes e head between value)
-  pub some : new_bytes e head between value ≢ []
-  pub whole : IsWhole (as_lines (kept ++ new_line e head between value ending ∷ []))
-  pub has_pair : HasPair key value (kept ++ new_line e head between value ending ∷ [])
-  pub is_front : IsFrontOf e (kept ++ new_line e head between value ending ∷ []) (between_after between) (front ++ missing between)
+pub record IsChangedPair (e : Encoding) (only : Bool) (key between front value : List ℕ) (kept : List HeldLine) (head : List ℕ) (ending : Option LineEnding) : Type 0 where
+  pub plain : HoldsNoLineEnd (new_bytes e only head between value)
+  pub some : new_bytes e only head between value ≢ []
+  pub whole : IsWhole (as_lines (kept ++ new_line e only head between value ending ∷ []))
+  pub has_pair : HasPair key value (kept ++ new_line e only head between value ending ∷ [])
+  pub is_front : IsFrontOf e (kept ++ new_line e only head between value ending ∷ []) (between_after between) (front ++ missing between)
 
 -- A head isn't empty.
 head-some : (e : Encoding) (group : List HeldLine) (between front : List ℕ) (f : IsFrontOf e group between front) → f.head ≢ []
@@ -116,46 +116,46 @@ key-means e group key between front f (old, h) =
     subst (λ v. Means v key) t h.key_means
 
 -- The group with the front and another value.
-pub changed-pair : (e : Encoding) (group : List HeldLine) (key between front value : List ℕ) (ending : Option LineEnding) (f : IsFrontOf e group between front)
+pub changed-pair : (e : Encoding) (only : Bool) (group : List HeldLine) (key between front value : List ℕ) (ending : Option LineEnding) (f : IsFrontOf e group between front)
     → is_editable e ≡ true → All scalar value → IsLastFit group → HoldsNoLineEnd f.line.bytes → HasKey key group
-    → IsChangedPair e key between front value f.kept f.head ending
-changed-pair e group key between front value ending f ok scalars fit line_plain has =
+    → IsChangedPair e only key between front value f.kept f.head ending
+changed-pair e only group key between front value ending f ok scalars fit line_plain has =
     let h = f.is_pair in
     let first = is_first_after true f.kept in
-    let va = value_after e between value in
-    let vt = value_text e between value in
+    let va = value_after e only between value in
+    let vt = value_text e only between value in
     let all = recursion_from_All scalar value scalars in
-    let loose = value-loose e (is_blanks (between_after between)) value all in
-    let writable = value-writable e (is_blanks (between_after between)) value all in
-    let none = value-writable e (is_blanks (between_after between)) [] tt in
-    let decoded : decoded_line e (new_bytes e f.head between value) ≡ f.head_text ++ vt = after-front e group between front value f ok writable in
+    let loose = value-loose e only (is_blanks (between_after between)) value all in
+    let writable = value-writable e only (is_blanks (between_after between)) value all in
+    let none = value-writable e only (is_blanks (between_after between)) [] tt in
+    let decoded : decoded_line e (new_bytes e only f.head between value) ≡ f.head_text ++ vt = after-front e only group between front value f ok writable in
     let parts : f.head_text ++ vt ≡ (f.head_text ++ missing between) ++ va =
-    ap (λ v. f.head_text ++ v) (value_text-parts e between value) ∙ sym (append_assoc f.head_text (missing between) va) in
+    ap (λ v. f.head_text ++ v) (value_text-parts e only between value) ∙ sym (append_assoc f.head_text (missing between) va) in
     let closed_head : is_open (f.head_text ++ missing between) ≡ false = missing-closed f.head_text between f.closed in
     let closed : is_open (f.head_text ++ vt) ≡ false = ap is_open parts ∙ loosely-closed (f.head_text ++ missing between) va value loose closed_head in
-    let line : HeldLine = record { bytes = new_bytes e f.head between value; text = f.head_text ++ vt; ending = ending } in
-    let same : line ≡ new_line e f.head between value ending =
-    ap (λ v. let l : HeldLine = record { bytes = new_bytes e f.head between value; text = v; ending = ending } in l) (sym decoded) in
+    let line : HeldLine = record { bytes = new_bytes e only f.head between value; text = f.head_text ++ vt; ending = ending } in
+    let same : line ≡ new_line e only f.head between value ending =
+    ap (λ v. let l : HeldLine = record { bytes = new_bytes e only f.head between value; text = v; ending = ending } in l) (sym decoded) in
     let unmarked = kept-unmarked e group between front f in
     let joined_is : joined (as_lines (f.kept ++ line ∷ [])) ≡ h.indent ++ (f.key ++ (between_after between ++ va)) =
-    longer-joined e f.kept f.head_text vt (new_bytes e f.head between value) ending unmarked f.not_blank closed
-    ∙ ap₂ (λ v w. v ++ w) (sym (front-text e group between front f)) (value_text-parts e between value)
+    longer-joined e f.kept f.head_text vt (new_bytes e only f.head between value) ending unmarked f.not_blank closed
+    ∙ ap₂ (λ v w. v ++ w) (sym (front-text e group between front f)) (value_text-parts e only between value)
     ∙ append_assoc h.indent (f.key ++ between) (missing between ++ va)
     ∙ ap (λ v. h.indent ++ v) (append_assoc f.key between (missing between ++ va))
     ∙ ap (λ v. h.indent ++ (f.key ++ v)) (sym (append_assoc between (missing between) va))
     ∙ ap (λ v. h.indent ++ (f.key ++ (v ++ va))) (sym (between_after-parts between)) in
-    let joined_new : joined (as_lines (f.kept ++ new_line e f.head between value ending ∷ [])) ≡ h.indent ++ (f.key ++ (between_after between ++ va)) =
+    let joined_new : joined (as_lines (f.kept ++ new_line e only f.head between value ending ∷ [])) ≡ h.indent ++ (f.key ++ (between_after between ++ va)) =
     ap (λ v. joined (as_lines (f.kept ++ v ∷ []))) (sym same) ∙ joined_is in
-    let anew = pair-anew (joined (as_lines group)) f.key f.value va h between (joined (as_lines (f.kept ++ new_line e f.head between value ending ∷ []))) f.is_between
-    (value-begins e (is_blanks (between_after between)) value all) (key-closed e group between front f) joined_new in
+    let anew = pair-anew (joined (as_lines group)) f.key f.value va h between (joined (as_lines (f.kept ++ new_line e only f.head between value ending ∷ []))) f.is_between
+    (value-begins e only (is_blanks (between_after between)) value all) (key-closed e group between front f) joined_new in
     let value_plain : HoldsNoLineEnd (encoded_text e vt) =
     plain-bytes e (encoded_text e vt) ok
-    (subst HoldsNoLineEnd (sym (ap (decoded_line e) (after-bytes e between value) ∙ text-after e between va ok writable))
+    (subst HoldsNoLineEnd (sym (ap (decoded_line e) (after-bytes e only between value) ∙ text-after e between va ok writable))
     (plain-append (missing between) va (missing-plain between) (loosely-plain va value loose))) in
     let shorter : decoded_line e (f.head ++ missing between) ≡ f.head_text ++ missing between =
-    ap (λ v. decoded_line e (f.head ++ v)) (sym (ap (encoded_text e) (no_value-text e between) ∙ missing-bytes e between))
-    ∙ after-front e group between front [] f ok none
-    ∙ ap (λ v. f.head_text ++ v) (no_value-text e between) in
+    ap (λ v. decoded_line e (f.head ++ v)) (sym (ap (encoded_text e) (no_value-text e only between) ∙ missing-bytes e between))
+    ∙ after-front e only group between front [] f ok none
+    ∙ ap (λ v. f.head_text ++ v) (no_value-text e only between) in
     record {
       plain = plain-append f.head (encoded_text e vt) (plain-left f.head f.tail (subst HoldsNoLineEnd f.cut line_plain)) value_plain;
       some = λ q. head-some e group between front f (no-front f.head (encoded_text e vt) q);
@@ -170,14 +170,14 @@ changed-pair e group key between front value ending f ok scalars fit line_plain 
       };
       is_front = record {
         kept = f.kept;
-        line = new_line e f.head between value ending;
+        line = new_line e only f.head between value ending;
         more = [];
         division = refl;
         head = f.head ++ missing between;
         tail = encoded_text e va;
         head_text = f.head_text ++ missing between;
         tail_text = va;
-        cut = ap (λ v. f.head ++ v) (after-bytes e between value) ∙ sym (append_assoc f.head (missing between) (encoded_text e va));
+        cut = ap (λ v. f.head ++ v) (after-bytes e only between value) ∙ sym (append_assoc f.head (missing between) (encoded_text e va));
         cut_text = decoded ∙ parts;
         is_head = subst (IsDecodedLine e (f.head ++ missing between)) shorter (decoded_line-meets e (f.head ++ missing between));
         is_tail = subst (IsDecodedLine e (encoded_text e va)) (text-own e va ok writable) (decoded_line-meets e (encoded_text e va));

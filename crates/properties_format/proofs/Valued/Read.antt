@@ -1,5 +1,5 @@
 -- What a source with a value set contains, what stays unchanged, and the result of setting another value.
-use Rattle.std.proofs.Common.{◌≡◌, ℕ, true, List, [], ◌∷◌, ◌++◌, refl, ap, ap₂, sym, ◌∙◌, inl, inr, append_assoc, append-nil, subst, All}
+use Rattle.std.proofs.Common.{◌≡◌, ℕ, true, List, [], ◌∷◌, ◌++◌, refl, ap, ap₂, sym, ◌∙◌, inl, inr, append_assoc, append-nil, subst, All, Bool}
 use Rattle.std.proofs.lemmas.List.{append_cancel_right}
 use Rattle.properties_format.specs.Text.{scalar}
 use Rattle.properties_format.specs.Encoding.{Encoding, InForce, byte_order_mark}
@@ -29,66 +29,66 @@ use Rattle.properties_format.proofs.Valued.Marks.{front-bytes, value_set-in_forc
 -- ---- its contents
 
 -- What holds for the body.
-valued-body : (e : Encoding) (source key value result : List ℕ) → is_editable (byte_order_mark e source).encoding ≡ true → All scalar key → All scalar value
-    → (h : IsValueSet e source key value result)
-    → IsValued (byte_order_mark e source).encoding h.groups key value h.body
-valued-body e source key value result ok k v h =
-    let f = byte_order_mark e source in body-valued f.encoding f.body h.groups key value h.body ok k v h.held h.edited
+valued-body : (e : Encoding) (only : Bool) (source key value result : List ℕ) → is_editable (byte_order_mark e source).encoding ≡ true → All scalar key → All scalar value
+    → (h : IsValueSet e only source key value result)
+    → IsValued (byte_order_mark e source).encoding only h.groups key value h.body
+valued-body e only source key value result ok k v h =
+    let f = byte_order_mark e source in body-valued f.encoding only f.body h.groups key value h.body ok k v h.held h.edited
 
 -- After a value is set, the last pair with the key has it, or there is a new last pair if none has the key. All other
 -- contents are unchanged.
-pub value_set-contents : (e : Encoding) (source key value result : List ℕ) → IsReadable e source → All scalar key → All scalar value
-    → IsValueSet e source key value result
+pub value_set-contents : (e : Encoding) (only : Bool) (source key value result : List ℕ) → IsReadable e source → All scalar key → All scalar value
+    → IsValueSet e only source key value result
     → IsReadTo e result (IsSetIn key value (source_contents e source))
-value_set-contents e source key value result r k v h =
+value_set-contents e only source key value result r k v h =
     let f = byte_order_mark e source in
-    let m = valued-body e source key value result r.editable k v h in
+    let m = valued-body e only source key value result r.editable k v h in
     let t = m.contents_set (source_contents e source) (groups-contents e source h.groups r h.held) in
     let same : outcomes_in f.encoding h.body ≡ givens t.0 =
     ap (outcomes_in f.encoding) (sym (held-body f.encoding h.body m.groups r.editable m.held))
     ∙ told-groups f.encoding m.groups (held-groups f.encoding h.body m.groups r.editable m.held)
     ∙ t.2 in
     read-to e result (record { encoding = f.encoding; body = h.body }) (IsSetIn key value (source_contents e source)) r.editable
-    (value_set-in_force e source key value result r.editable h) (t.0, t.1, same)
+    (value_set-in_force e only source key value result r.editable h) (t.0, t.1, same)
 
 -- The result of setting a value reads as the source with that value.
-pub set_value-reads : (e : Encoding) (source key value result : List ℕ) → All scalar key → All scalar value → IsSetValueResult e source key value (edited result)
+pub set_value-reads : (e : Encoding) (only : Bool) (source key value result : List ℕ) → All scalar key → All scalar value → IsSetValueResult e only source key value (edited result)
     → ReadsAfter (IsSetIn key value) (map_edited (put key value)) e source result
-set_value-reads e source key value result k v h =
-    reads-after e source result (IsSetIn key value) (map_edited (put key value)) (value_set-contents e source key value result (readable e source h.0 h.1) k v h.2) (map-edited (put key value))
+set_value-reads e only source key value result k v h =
+    reads-after e source result (IsSetIn key value) (map_edited (put key value)) (value_set-contents e only source key value result (readable e source h.0 h.1) k v h.2) (map-edited (put key value))
 
 -- ---- another value
 
 -- The byte order mark of the result is that of the source.
-bom-same : (e : Encoding) (source key value result : List ℕ) → is_editable (byte_order_mark e source).encoding ≡ true → (h : IsValueSet e source key value result)
+bom-same : (e : Encoding) (only : Bool) (source key value result : List ℕ) → is_editable (byte_order_mark e source).encoding ≡ true → (h : IsValueSet e only source key value result)
     → bom_of result ≡ bom_of source
-bom-same e source key value result ok h =
-    let f = value_set-in_force e source key value result ok h in
+bom-same e only source key value result ok h =
+    let f = value_set-in_force e only source key value result ok h in
     append_cancel_right (bom_of result) (bom_of source) h.body
     (ap (λ v. let w : InForce = v in bom_of result ++ w.body) (sym f) ∙ sym (source-whole e result) ∙ h.whole)
 
 -- Setting another value in the result has the same results as in the source, if the source doesn't have that value
 -- already.
-pub value_set-again : (e : Encoding) (source key first second between : List ℕ) → is_editable (byte_order_mark e source).encoding ≡ true → All scalar key
+pub value_set-again : (e : Encoding) (only : Bool) (source key first second between : List ℕ) → is_editable (byte_order_mark e source).encoding ≡ true → All scalar key
     → All scalar first
-    → IsValueSet e source key first between
+    → IsValueSet e only source key first between
     → IsNotAt second (last_place key (held_groups_of (byte_order_mark e source).encoding (byte_order_mark e source).body))
-    → value_set e between key second ≡ value_set e source key second
-value_set-again e source key first second between ok k v h other =
+    → value_set e only between key second ≡ value_set e only source key second
+value_set-again e only source key first second between ok k v h other =
     let f = byte_order_mark e source in
-    let m = valued-body e source key first between ok k v h in
+    let m = valued-body e only source key first between ok k v h in
     let own = held_groups_of-only f.encoding f.body h.groups h.held in
-    ap (λ w. let g : InForce = w in bom_of between ++ valued_at g.encoding (held_groups_of g.encoding g.body) key second (last_place key (held_groups_of g.encoding g.body)))
-    (value_set-in_force e source key first between ok h)
-    ∙ ap₂ (λ x gs. x ++ valued_at f.encoding gs key second (last_place key gs)) (bom-same e source key first between ok h) (sym (held_groups_of-only f.encoding h.body m.groups m.held))
+    ap (λ w. let g : InForce = w in bom_of between ++ valued_at g.encoding only (held_groups_of g.encoding g.body) key second (last_place key (held_groups_of g.encoding g.body)))
+    (value_set-in_force e only source key first between ok h)
+    ∙ ap₂ (λ x gs. x ++ valued_at f.encoding only gs key second (last_place key gs)) (bom-same e only source key first between ok h) (sym (held_groups_of-only f.encoding h.body m.groups m.held))
     ∙ ap (λ x. bom_of source ++ x) (m.again second (subst (λ gs. IsNotAt second (last_place key gs)) (sym own) other))
-    ∙ ap (λ gs. bom_of source ++ valued_at f.encoding gs key second (last_place key gs)) own
+    ∙ ap (λ gs. bom_of source ++ valued_at f.encoding only gs key second (last_place key gs)) own
 
 -- ---- what stays unchanged
 
 -- If a value is set, every group but the last pair with the key is unchanged.
-pub value_set-keeps : (e : Encoding) (source key value result : List ℕ) → IsValueSet e source key value result → KeepsOthers (AreOthersThanLast key) e source result
-value_set-keeps e source key value result h = elim h.edited [
+pub value_set-keeps : (e : Encoding) (only : Bool) (source key value result : List ℕ) → IsValueSet e only source key value result → KeepsOthers (AreOthersThanLast key) e source result
+value_set-keeps e only source key value result h = elim h.edited [
   | inl r ↦ (
     h.groups,
     r.before ++ r.after,
@@ -180,10 +180,10 @@ around-source e source before group after between front f s =
     ∙ sym (append_assoc (groups_bytes before) front (old ++ (by ++ groups_bytes after))))
 
 -- If a value is set, every byte outside the old value is unchanged.
-pub value_set-keeps_front : (e : Encoding) (source key value result : List ℕ) → is_editable (byte_order_mark e source).encoding ≡ true
-    → IsValueSet e source key value result
+pub value_set-keeps_front : (e : Encoding) (only : Bool) (source key value result : List ℕ) → is_editable (byte_order_mark e source).encoding ≡ true
+    → IsValueSet e only source key value result
     → KeepsFront e source key result
-value_set-keeps_front e source key value result ok h =
+value_set-keeps_front e only source key value result ok h =
     let f = byte_order_mark e source in
     let body : f.body ≡ groups_bytes h.groups = sym (held-body f.encoding f.body h.groups ok h.held) in
     elim h.edited [
@@ -218,7 +218,7 @@ value_set-keeps_front e source key value result ok h =
       | inr (inl r) ↦
           let m = r.is_front in
           let back = ending_bytes (last_ending r.group) ++ groups_bytes r.after in
-          let new = encoded_text f.encoding (value_text f.encoding r.between value) in (
+          let new = encoded_text f.encoding (value_text f.encoding only r.between value) in (
             h.groups,
             h.held,
             inl (record {
@@ -245,7 +245,7 @@ value_set-keeps_front e source key value result ok h =
           )
       | inr (inr r) ↦
           let separation = separation_by (ending_in h.groups) (final_group h.groups) in
-          let more = separation ++ new_pair_bytes f.encoding (groups_bytes h.groups ++ separation) key r.separator value (ending_in h.groups) in (
+          let more = separation ++ new_pair_bytes f.encoding only (groups_bytes h.groups ++ separation) key r.separator value (ending_in h.groups) in (
             h.groups,
             h.held,
             inr (
@@ -254,7 +254,7 @@ value_set-keeps_front e source key value result ok h =
               h.whole
                   ∙ ap (λ v. bom_of source ++ v)
                   (r.bytes
-                  ∙ append_assoc (groups_bytes h.groups) separation (new_pair_bytes f.encoding (groups_bytes h.groups ++ separation) key r.separator value (ending_in h.groups))
+                  ∙ append_assoc (groups_bytes h.groups) separation (new_pair_bytes f.encoding only (groups_bytes h.groups ++ separation) key r.separator value (ending_in h.groups))
                   ∙ ap (λ v. v ++ more) (sym body))
                   ∙ sym (append_assoc (bom_of source) f.body more)
                   ∙ ap (λ v. v ++ more) (sym (source-whole e source)),

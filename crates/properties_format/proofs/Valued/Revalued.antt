@@ -90,8 +90,8 @@ between_after [] = equals_sign ∷ []
 between_after (c ∷ cs) = c ∷ cs
 
 -- what is printed for the value after it
-abbrev pub value_after : Encoding → List ℕ → List ℕ → List ℕ
-value_after e between value = printed_value e (is_blanks (between_after between)) value
+abbrev pub value_after : Encoding → Bool → List ℕ → List ℕ → List ℕ
+value_after e only between value = printed_value e only (is_blanks (between_after between)) value
 
 -- what is missing between key and value
 abbrev pub missing : List ℕ → List ℕ
@@ -99,9 +99,9 @@ missing [] = equals_sign ∷ []
 missing (c ∷ cs) = []
 
 -- What comes after the front is what was missing, followed by the value.
-pub value_text-parts : (e : Encoding) (between value : List ℕ) → value_text e between value ≡ missing between ++ value_after e between value
-value_text-parts e [] value = refl
-value_text-parts e (c ∷ cs) value = refl
+pub value_text-parts : (e : Encoding) (only : Bool) (between value : List ℕ) → value_text e only between value ≡ missing between ++ value_after e only between value
+value_text-parts e only [] value = refl
+value_text-parts e only (c ∷ cs) value = refl
 
 -- What separates the key from the value is what separated them before, followed by what was missing.
 pub between_after-parts : (between : List ℕ) → between_after between ≡ between ++ missing between
@@ -239,17 +239,17 @@ front-ends e group between front f some =
     of-between (inr m) = absurd (some (f.is_between ∙ m.0))
 
 -- The head followed by what is printed for a value decodes to both texts.
-pub after-front : (e : Encoding) (group : List HeldLine) (between front value : List ℕ) (f : IsFrontOf e group between front) → is_editable e ≡ true
-    → AreWritable e (value_after e between value)
-    → decoded_line e (f.head ++ encoded_text e (value_text e between value)) ≡ f.head_text ++ value_text e between value
-after-front e group [] front value f ok w =
-    let x = printed_value e false value in
+pub after-front : (e : Encoding) (only : Bool) (group : List HeldLine) (between front value : List ℕ) (f : IsFrontOf e group between front) → is_editable e ≡ true
+    → AreWritable e (value_after e only between value)
+    → decoded_line e (f.head ++ encoded_text e (value_text e only between value)) ≡ f.head_text ++ value_text e only between value
+after-front e only group [] front value f ok w =
+    let x = printed_value e only false value in
     let head : decoded_line e f.head ≡ f.head_text = sym (decoded_line-only e f.head f.head_text f.is_head) in
     ap (λ o. decoded_line e (f.head ++ (unwrap_or o [] ++ encoded_text e x))) (encoded-ascii e equals_sign (lit< tt))
     ∙ ascii-among e f.head equals_sign (encoded_text e x) ok (lit< tt)
     ∙ ap₂ (λ v z. v ++ equals_sign ∷ z) head (text-own e x ok w)
-after-front e group (b ∷ bs) front value f ok w =
-    let x = value_text e (b ∷ bs) value in
+after-front e only group (b ∷ bs) front value f ok w =
+    let x = value_text e only (b ∷ bs) value in
     let m = front-ends e group (b ∷ bs) front f (λ q. cc) in
     let n = ascii-end e f.head m.0 m.1 ok m.3 (sym (decoded_line-only e f.head f.head_text f.is_head) ∙ m.2) in
     ap (λ v. decoded_line e (v ++ encoded_text e x)) n.bytes

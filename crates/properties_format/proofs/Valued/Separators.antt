@@ -181,22 +181,22 @@ new-pair written key sep value s f b = of-spellings s.spellings s.text s.charact
 -- ---- the group of a new pair
 
 -- the bytes of a new pair, at the front of a body or not, without a line ending
-abbrev pub added_bytes : Encoding → Bool → List ℕ → List ℕ → List ℕ → List ℕ
-added_bytes e first key sep value = encoded_text e (printed_key e false first key ++ (sep ++ printed_value e (is_blanks sep) value))
+abbrev pub added_bytes : Encoding → Bool → Bool → List ℕ → List ℕ → List ℕ → List ℕ
+added_bytes e only first key sep value = encoded_text e (printed_key e only first key ++ (sep ++ printed_value e only (is_blanks sep) value))
 
 -- the line of these bytes
-abbrev pub added_line : Encoding → Bool → List ℕ → List ℕ → List ℕ → LineEnding → HeldLine
-added_line e first key sep value by =
-    record { bytes = added_bytes e first key sep value; text = decoded_line e (added_bytes e first key sep value); ending = Some by }
+abbrev pub added_line : Encoding → Bool → Bool → List ℕ → List ℕ → List ℕ → LineEnding → HeldLine
+added_line e only first key sep value by =
+    record { bytes = added_bytes e only first key sep value; text = decoded_line e (added_bytes e only first key sep value); ending = Some by }
 
 -- What holds for that group.
-pub record IsAddedPair (e : Encoding) (first : Bool) (key sep value : List ℕ) (by : LineEnding) : Type 0 where
-  pub plain : HoldsNoLineEnd (added_bytes e first key sep value)
-  pub some : added_bytes e first key sep value ≢ []
-  pub whole : IsWhole (as_lines (added_line e first key sep value by ∷ []))
-  pub has_pair : HasPair key value (added_line e first key sep value by ∷ [])
+pub record IsAddedPair (e : Encoding) (only : Bool) (first : Bool) (key sep value : List ℕ) (by : LineEnding) : Type 0 where
+  pub plain : HoldsNoLineEnd (added_bytes e only first key sep value)
+  pub some : added_bytes e only first key sep value ≢ []
+  pub whole : IsWhole (as_lines (added_line e only first key sep value by ∷ []))
+  pub has_pair : HasPair key value (added_line e only first key sep value by ∷ [])
   pub between : List ℕ
-  pub is_front : IsFrontOf e (added_line e first key sep value by ∷ []) between (encoded_text e (printed_key e false first key ++ sep))
+  pub is_front : IsFrontOf e (added_line e only first key sep value by ∷ []) between (encoded_text e (printed_key e only first key ++ sep))
   pub between_some : between ≢ []
   pub blanks : is_blanks between ≡ is_blanks sep
 
@@ -205,22 +205,22 @@ text-some : (e : Encoding) (x : List ℕ) → is_editable e ≡ true → AreWrit
 text-some e x ok w h q = h (sym (text-own e x ok w) ∙ ap (decoded_line e) q ∙ decoded-nil e)
 
 -- The group of a new pair has these properties.
-pub added-pair : (e : Encoding) (first : Bool) (key sep value : List ℕ) (by : LineEnding) → is_editable e ≡ true → All scalar key → All scalar value
-    → IsFitSeparator key sep → IsAddedPair e first key sep value by
-added-pair e first key sep value by ok k v f =
-    let written = printed_key e false first key in
-    let va = printed_value e (is_blanks sep) value in
+pub added-pair : (e : Encoding) (only : Bool) (first : Bool) (key sep value : List ℕ) (by : LineEnding) → is_editable e ≡ true → All scalar key → All scalar value
+    → IsFitSeparator key sep → IsAddedPair e only first key sep value by
+added-pair e only first key sep value by ok k v f =
+    let written = printed_key e only first key in
+    let va = printed_value e only (is_blanks sep) value in
     let keys = recursion_from_All scalar key k in
     let all = recursion_from_All scalar value v in
-    let printed_character = key-printed e false first key keys in
-    let loose = value-loose e (is_blanks sep) value all in
-    let n = new-pair written key sep va printed_character f (value-begins e (is_blanks sep) value all) in
-    let key_writable : AreWritable e written = record { scalars = key-scalars e false first key keys; encodable = printed_key-encodable e false first key } in
+    let printed_character = key-printed e only first key keys in
+    let loose = value-loose e only (is_blanks sep) value all in
+    let n = new-pair written key sep va printed_character f (value-begins e only (is_blanks sep) value all) in
+    let key_writable : AreWritable e written = record { scalars = key-scalars e only first key keys; encodable = printed_key-encodable e only first key } in
     let sep_writable = ascii-writable e sep (good_separator-ascii sep f.good) in
-    let value_written = value-writable e (is_blanks sep) value all in
+    let value_written = value-writable e only (is_blanks sep) value all in
     let front_writable = writable-append e written sep key_writable sep_writable in
     let writable = writable-append e written (sep ++ va) key_writable (writable-append e sep va sep_writable value_written) in
-    let decoded : decoded_line e (added_bytes e first key sep value) ≡ written ++ (sep ++ va) = text-own e (written ++ (sep ++ va)) ok writable in
+    let decoded : decoded_line e (added_bytes e only first key sep value) ≡ written ++ (sep ++ va) = text-own e (written ++ (sep ++ va)) ok writable in
     let quiet = separator-quiet sep f.good in
     let sep_some = separator-some sep f.good in
     let closed : is_open (written ++ (sep ++ va)) ≡ false = closed-after written sep va quiet.slashes sep_some (loosely-closed [] va value loose refl) in
@@ -228,14 +228,14 @@ added-pair e first key sep value by ok k v f =
     ap (λ x. is_open (written ++ x)) (sym (append-nil sep)) ∙ closed-after written sep [] quiet.slashes sep_some refl in
     let plain_text : HoldsNoLineEnd (written ++ (sep ++ va)) =
     plain-append written (sep ++ va) (printed-plain written key printed_character) (plain-append sep va quiet.plain (loosely-plain va value loose)) in
-    let line : HeldLine = record { bytes = added_bytes e first key sep value; text = written ++ (sep ++ va); ending = Some by } in
-    let same : line ≡ added_line e first key sep value by =
-    ap (λ x. let l : HeldLine = record { bytes = added_bytes e first key sep value; text = x; ending = Some by } in l) (sym decoded) in
-    let joined_is : joined (as_lines (added_line e first key sep value by ∷ [])) ≡ written ++ (sep ++ va) =
+    let line : HeldLine = record { bytes = added_bytes e only first key sep value; text = written ++ (sep ++ va); ending = Some by } in
+    let same : line ≡ added_line e only first key sep value by =
+    ap (λ x. let l : HeldLine = record { bytes = added_bytes e only first key sep value; text = x; ending = Some by } in l) (sym decoded) in
+    let joined_is : joined (as_lines (added_line e only first key sep value by ∷ [])) ≡ written ++ (sep ++ va) =
     ap (λ x. joined (as_lines (x ∷ []))) (sym same) ∙ joined-closed (record { number = 0; text = written ++ (sep ++ va) }) closed in
-    let p = again (joined (as_lines (added_line e first key sep value by ∷ []))) written sep va joined_is n in
+    let p = again (joined (as_lines (added_line e only first key sep value by ∷ []))) written sep va joined_is n in
     record {
-      plain = plain-bytes e (added_bytes e first key sep value) ok (subst HoldsNoLineEnd (sym decoded) plain_text);
+      plain = plain-bytes e (added_bytes e only first key sep value) ok (subst HoldsNoLineEnd (sym decoded) plain_text);
       some = text-some e (written ++ (sep ++ va)) ok writable (λ q. sep_some (no-front sep va (none-right written (sep ++ va) q)));
       whole = subst (λ x. IsWhole (as_lines (x ∷ []))) same (alone (record { number = 0; text = written ++ (sep ++ va) }) closed);
       has_pair = record {
@@ -248,7 +248,7 @@ added-pair e first key sep value by ok k v f =
       between = n.is_pair.between;
       is_front = record {
         kept = [];
-        line = added_line e first key sep value by;
+        line = added_line e only first key sep value by;
         more = [];
         division = refl;
         head = encoded_text e (written ++ sep);

@@ -132,27 +132,27 @@ first-special after_blanks c h = elim (or_cases (c == space) (after_blanks && is
 ]
 
 -- A character inside a value is loosely spelt.
-inside-loose : (e : Encoding) (c : ℕ) → scalar c → IsLooselyPrinted (printed_inside e c) c
-inside-loose e c h = elim (cases_Bool (is_free c)) [
+inside-loose : (e : Encoding) (only : Bool) (c : ℕ) → scalar c → IsLooselyPrinted (printed_inside e only c) c
+inside-loose e only c h = elim (cases_Bool (is_free c)) [
   | inl k ↦
       let f = free-plain c k in
-      same-loose (printed_inside e c) (c ∷ []) c (cond-true (is_free c) (c ∷ []) (printed_character e false in_key_or_value c) k)
+      same-loose (printed_inside e only c) (c ∷ []) c (cond-true (is_free c) (c ∷ []) (printed_character e only in_key_or_value c) k)
       (record { spelling = itself c; text = refl; character = refl; loose = inr (c, refl, f.0, f.1) })
   | inr k ↦
-      same-loose (printed_inside e c) (printed_character e false in_key_or_value c) c (cond-false (is_free c) (c ∷ []) (printed_character e false in_key_or_value c) k)
-      (safely-loose (printed_character e false in_key_or_value c) c (in_key_or_value-printed e false c h))
+      same-loose (printed_inside e only c) (printed_character e only in_key_or_value c) c (cond-false (is_free c) (c ∷ []) (printed_character e only in_key_or_value c) k)
+      (safely-loose (printed_character e only in_key_or_value c) c (in_key_or_value-printed e only c h))
 ]
 
 -- A character at the front of a value is loosely spelt.
-first-loose : (e : Encoding) (after_blanks : Bool) (c : ℕ) → scalar c → IsLooselyPrinted (printed_first e after_blanks c) c
-first-loose e after_blanks c h = elim (cases_Bool (c == space || (after_blanks && is_separator c))) [
+first-loose : (e : Encoding) (only : Bool) (after_blanks : Bool) (c : ℕ) → scalar c → IsLooselyPrinted (printed_first e only after_blanks c) c
+first-loose e only after_blanks c h = elim (cases_Bool (c == space || (after_blanks && is_separator c))) [
   | inl k ↦
-      same-loose (printed_first e after_blanks c) (backslash ∷ c ∷ []) c
-      (cond-true (c == space || (after_blanks && is_separator c)) (backslash ∷ c ∷ []) (printed_inside e c) k)
+      same-loose (printed_first e only after_blanks c) (backslash ∷ c ∷ []) c
+      (cond-true (c == space || (after_blanks && is_separator c)) (backslash ∷ c ∷ []) (printed_inside e only c) k)
       (safely-loose (backslash ∷ c ∷ []) c (special-printed c (first-special after_blanks c k)))
   | inr k ↦
-      same-loose (printed_first e after_blanks c) (printed_inside e c) c
-      (cond-false (c == space || (after_blanks && is_separator c)) (backslash ∷ c ∷ []) (printed_inside e c) k) (inside-loose e c h)
+      same-loose (printed_first e only after_blanks c) (printed_inside e only c) c
+      (cond-false (c == space || (after_blanks && is_separator c)) (backslash ∷ c ∷ []) (printed_inside e only c) k) (inside-loose e only c h)
 ]
 
 -- A space as `\u0020` is loosely spelt.
@@ -160,17 +160,17 @@ space-loose : (c : ℕ) → (c == space) ≡ true → IsLooselyPrinted (unit_esc
 space-loose c k = rw (eqb-true c space k) (safely-loose (unit_escape space) space (unicode-printed space (inl (lit< tt))))
 
 -- A character at the end of a value is loosely spelt.
-last-loose : (e : Encoding) (c : ℕ) → scalar c → IsLooselyPrinted (printed_last e c) c
-last-loose e c h = elim (cases_Bool (c == space)) [
-  | inl k ↦ same-loose (printed_last e c) (unit_escape space) c (cond-true (c == space) (unit_escape space) (printed_inside e c) k) (space-loose c k)
-  | inr k ↦ same-loose (printed_last e c) (printed_inside e c) c (cond-false (c == space) (unit_escape space) (printed_inside e c) k) (inside-loose e c h)
+last-loose : (e : Encoding) (only : Bool) (c : ℕ) → scalar c → IsLooselyPrinted (printed_last e only c) c
+last-loose e only c h = elim (cases_Bool (c == space)) [
+  | inl k ↦ same-loose (printed_last e only c) (unit_escape space) c (cond-true (c == space) (unit_escape space) (printed_inside e only c) k) (space-loose c k)
+  | inr k ↦ same-loose (printed_last e only c) (printed_inside e only c) c (cond-false (c == space) (unit_escape space) (printed_inside e only c) k) (inside-loose e only c h)
 ]
 
 -- The characters after the first are loosely spelt.
-rest-loose : (e : Encoding) (cs : List ℕ) → AllByRecursion scalar cs → AreLooselyPrinted (printed_rest e cs) cs
-rest-loose e [] h = record { spellings = []; text = refl; characters = refl; loose = tt }
-rest-loose e (c ∷ []) h = loose-one (printed_last e c) c (last-loose e c h.0)
-rest-loose e (c ∷ d ∷ cs) h = loose-cons (printed_inside e c) (printed_rest e (d ∷ cs)) c (d ∷ cs) (inside-loose e c h.0) (rest-loose e (d ∷ cs) h.1)
+rest-loose : (e : Encoding) (only : Bool) (cs : List ℕ) → AllByRecursion scalar cs → AreLooselyPrinted (printed_rest e only cs) cs
+rest-loose e only [] h = record { spellings = []; text = refl; characters = refl; loose = tt }
+rest-loose e only (c ∷ []) h = loose-one (printed_last e only c) c (last-loose e only c h.0)
+rest-loose e only (c ∷ d ∷ cs) h = loose-cons (printed_inside e only c) (printed_rest e only (d ∷ cs)) c (d ∷ cs) (inside-loose e only c h.0) (rest-loose e only (d ∷ cs) h.1)
 
 -- The test for a value that is a single space.
 alone-space : (c : ℕ) (cs : List ℕ) → (is_empty cs && c == space) ≡ true → (cs ≡ []) × ((c == space) ≡ true)
@@ -178,10 +178,10 @@ alone-space c [] h = (refl, h)
 alone-space c (d ∷ cs) h = absurd (cc)
 
 -- What is printed for a value is loosely spelt.
-pub value-loose : (e : Encoding) (after_blanks : Bool) (value : List ℕ) → AllByRecursion scalar value → AreLooselyPrinted (printed_value e after_blanks value) value
-value-loose e after_blanks [] h = record { spellings = []; text = refl; characters = refl; loose = tt }
-value-loose e after_blanks (c ∷ cs) h =
-    let more = printed_first e after_blanks c ++ printed_rest e cs in
+pub value-loose : (e : Encoding) (only : Bool) (after_blanks : Bool) (value : List ℕ) → AllByRecursion scalar value → AreLooselyPrinted (printed_value e only after_blanks value) value
+value-loose e only after_blanks [] h = record { spellings = []; text = refl; characters = refl; loose = tt }
+value-loose e only after_blanks (c ∷ cs) h =
+    let more = printed_first e only after_blanks c ++ printed_rest e only cs in
     elim (cases_Bool (is_empty cs && c == space)) [
       | inl k ↦
           let a = alone-space c cs k in
@@ -189,7 +189,7 @@ value-loose e after_blanks (c ∷ cs) h =
           (subst (λ v. AreLooselyPrinted (unit_escape space) (c ∷ v)) (sym a.0) (loose-one (unit_escape space) c (space-loose c a.1)))
       | inr k ↦
           subst (λ v. AreLooselyPrinted v (c ∷ cs)) (sym (cond-false (is_empty cs && c == space) (unit_escape space) more k))
-          (loose-cons (printed_first e after_blanks c) (printed_rest e cs) c cs (first-loose e after_blanks c h.0) (rest-loose e cs h.1))
+          (loose-cons (printed_first e only after_blanks c) (printed_rest e only cs) c cs (first-loose e only after_blanks c h.0) (rest-loose e only cs h.1))
     ]
 
 -- ---- how it begins
@@ -216,36 +216,36 @@ free-begins after_blanks c y h k =
         elim (or_cases (c == 0x23) (c == 0x21) m) [ inl e ↦ rw (eqb-true c 0x23 e) refl | inr e ↦ rw (eqb-true c 0x21 e) refl ]
 
 -- The first character of a value, before any text.
-first-begins : (e : Encoding) (after_blanks : Bool) (c : ℕ) (y : List ℕ) → scalar c → BeginsAfter after_blanks (printed_first e after_blanks c ++ y)
-first-begins e after_blanks c y h = elim (cases_Bool (c == space || (after_blanks && is_separator c))) [
+first-begins : (e : Encoding) (only : Bool) (after_blanks : Bool) (c : ℕ) (y : List ℕ) → scalar c → BeginsAfter after_blanks (printed_first e only after_blanks c ++ y)
+first-begins e only after_blanks c y h = elim (cases_Bool (c == space || (after_blanks && is_separator c))) [
   | inl k ↦
-      subst (λ v. BeginsAfter after_blanks (v ++ y)) (sym (cond-true (c == space || (after_blanks && is_separator c)) (backslash ∷ c ∷ []) (printed_inside e c) k))
+      subst (λ v. BeginsAfter after_blanks (v ++ y)) (sym (cond-true (c == space || (after_blanks && is_separator c)) (backslash ∷ c ∷ []) (printed_inside e only c) k))
       (record { no_blank = refl; no_separator = λ q. refl })
   | inr k ↦
-      subst (λ v. BeginsAfter after_blanks (v ++ y)) (sym (cond-false (c == space || (after_blanks && is_separator c)) (backslash ∷ c ∷ []) (printed_inside e c) k))
+      subst (λ v. BeginsAfter after_blanks (v ++ y)) (sym (cond-false (c == space || (after_blanks && is_separator c)) (backslash ∷ c ∷ []) (printed_inside e only c) k))
       (elim (cases_Bool (is_free c)) [
         | inl m ↦
-            subst (λ v. BeginsAfter after_blanks (v ++ y)) (sym (cond-true (is_free c) (c ∷ []) (printed_character e false in_key_or_value c) m))
+            subst (λ v. BeginsAfter after_blanks (v ++ y)) (sym (cond-true (is_free c) (c ∷ []) (printed_character e only in_key_or_value c) m))
             (free-begins after_blanks c y m k)
         | inr m ↦
-            let s = in_key_or_value-printed e false c h in
+            let s = in_key_or_value-printed e only c h in
             let b = safe-begins s.spelling y s.safe in
-            subst (λ v. BeginsAfter after_blanks (v ++ y)) (sym (cond-false (is_free c) (c ∷ []) (printed_character e false in_key_or_value c) m ∙ s.text))
+            subst (λ v. BeginsAfter after_blanks (v ++ y)) (sym (cond-false (is_free c) (c ∷ []) (printed_character e only in_key_or_value c) m ∙ s.text))
             (record { no_blank = b.no_blank; no_separator = λ q. b.no_separator })
       ])
 ]
 
 -- What is printed for a value doesn't begin with a blank, and after blanks it doesn't begin with a separator.
-pub value-begins : (e : Encoding) (after_blanks : Bool) (value : List ℕ) → AllByRecursion scalar value → BeginsAfter after_blanks (printed_value e after_blanks value)
-value-begins e after_blanks [] h = record { no_blank = refl; no_separator = λ q. refl }
-value-begins e after_blanks (c ∷ cs) h =
-    let more = printed_first e after_blanks c ++ printed_rest e cs in
+pub value-begins : (e : Encoding) (only : Bool) (after_blanks : Bool) (value : List ℕ) → AllByRecursion scalar value → BeginsAfter after_blanks (printed_value e only after_blanks value)
+value-begins e only after_blanks [] h = record { no_blank = refl; no_separator = λ q. refl }
+value-begins e only after_blanks (c ∷ cs) h =
+    let more = printed_first e only after_blanks c ++ printed_rest e only cs in
     elim (cases_Bool (is_empty cs && c == space)) [
       | inl k ↦
           subst (BeginsAfter after_blanks) (sym (cond-true (is_empty cs && c == space) (unit_escape space) more k))
           (record { no_blank = refl; no_separator = λ q. refl })
       | inr k ↦
-          subst (BeginsAfter after_blanks) (sym (cond-false (is_empty cs && c == space) (unit_escape space) more k)) (first-begins e after_blanks c (printed_rest e cs) h.0)
+          subst (BeginsAfter after_blanks) (sym (cond-false (is_empty cs && c == space) (unit_escape space) more k)) (first-begins e only after_blanks c (printed_rest e only cs) h.0)
     ]
 
 -- ---- it can be written
@@ -255,30 +255,30 @@ pub ascii-writable : (e : Encoding) (x : List ℕ) → AreAscii x → AreWritabl
 ascii-writable e x h = record { scalars = ascii-scalars x h; encodable = AreEncodable-ascii e x h }
 
 -- A character inside a value can be written.
-inside-writable : (e : Encoding) (c : ℕ) → scalar c → AreWritable e (printed_inside e c)
-inside-writable e c h =
-    cond_both (is_free c) (c ∷ []) (printed_character e false in_key_or_value c) (AreWritable e) (λ k. ascii-writable e (c ∷ []) ((free-plain c k).2, tt))
-    (λ k. record { scalars = printed-either e false in_key_or_value c (AllByRecursion scalar) ascii-scalars (λ m. (h, tt)); encodable = printed-encodable e false in_key_or_value c })
+inside-writable : (e : Encoding) (only : Bool) (c : ℕ) → scalar c → AreWritable e (printed_inside e only c)
+inside-writable e only c h =
+    cond_both (is_free c) (c ∷ []) (printed_character e only in_key_or_value c) (AreWritable e) (λ k. ascii-writable e (c ∷ []) ((free-plain c k).2, tt))
+    (λ k. record { scalars = printed-either e only in_key_or_value c (AllByRecursion scalar) ascii-scalars (λ m. (h, tt)); encodable = printed-encodable e only in_key_or_value c })
 
 -- A character at the front of a value can be written.
-first-writable : (e : Encoding) (after_blanks : Bool) (c : ℕ) → scalar c → AreWritable e (printed_first e after_blanks c)
-first-writable e after_blanks c h =
-    cond_both (c == space || (after_blanks && is_separator c)) (backslash ∷ c ∷ []) (printed_inside e c) (AreWritable e)
-    (λ k. ascii-writable e (backslash ∷ c ∷ []) (lit< tt, (special-ascii c (first-special after_blanks c k), tt))) (λ k. inside-writable e c h)
+first-writable : (e : Encoding) (only : Bool) (after_blanks : Bool) (c : ℕ) → scalar c → AreWritable e (printed_first e only after_blanks c)
+first-writable e only after_blanks c h =
+    cond_both (c == space || (after_blanks && is_separator c)) (backslash ∷ c ∷ []) (printed_inside e only c) (AreWritable e)
+    (λ k. ascii-writable e (backslash ∷ c ∷ []) (lit< tt, (special-ascii c (first-special after_blanks c k), tt))) (λ k. inside-writable e only c h)
 
 -- A space as `\u0020` can be written.
 space-writable : (e : Encoding) → AreWritable e (unit_escape space)
 space-writable e = ascii-writable e (unit_escape space) (unicode_escape-ascii space)
 
 -- The characters after the first can be written.
-rest-writable : (e : Encoding) (cs : List ℕ) → AllByRecursion scalar cs → AreWritable e (printed_rest e cs)
-rest-writable e [] h = ascii-writable e [] tt
-rest-writable e (c ∷ []) h = cond_both (c == space) (unit_escape space) (printed_inside e c) (AreWritable e) (λ k. space-writable e) (λ k. inside-writable e c h.0)
-rest-writable e (c ∷ d ∷ cs) h = writable-append e (printed_inside e c) (printed_rest e (d ∷ cs)) (inside-writable e c h.0) (rest-writable e (d ∷ cs) h.1)
+rest-writable : (e : Encoding) (only : Bool) (cs : List ℕ) → AllByRecursion scalar cs → AreWritable e (printed_rest e only cs)
+rest-writable e only [] h = ascii-writable e [] tt
+rest-writable e only (c ∷ []) h = cond_both (c == space) (unit_escape space) (printed_inside e only c) (AreWritable e) (λ k. space-writable e) (λ k. inside-writable e only c h.0)
+rest-writable e only (c ∷ d ∷ cs) h = writable-append e (printed_inside e only c) (printed_rest e only (d ∷ cs)) (inside-writable e only c h.0) (rest-writable e only (d ∷ cs) h.1)
 
 -- What is printed for a value of scalar values can be written.
-pub value-writable : (e : Encoding) (after_blanks : Bool) (value : List ℕ) → AllByRecursion scalar value → AreWritable e (printed_value e after_blanks value)
-value-writable e after_blanks [] h = ascii-writable e [] tt
-value-writable e after_blanks (c ∷ cs) h =
-    cond_both (is_empty cs && c == space) (unit_escape space) (printed_first e after_blanks c ++ printed_rest e cs) (AreWritable e) (λ k. space-writable e)
-    (λ k. writable-append e (printed_first e after_blanks c) (printed_rest e cs) (first-writable e after_blanks c h.0) (rest-writable e cs h.1))
+pub value-writable : (e : Encoding) (only : Bool) (after_blanks : Bool) (value : List ℕ) → AllByRecursion scalar value → AreWritable e (printed_value e only after_blanks value)
+value-writable e only after_blanks [] h = ascii-writable e [] tt
+value-writable e only after_blanks (c ∷ cs) h =
+    cond_both (is_empty cs && c == space) (unit_escape space) (printed_first e only after_blanks c ++ printed_rest e only cs) (AreWritable e) (λ k. space-writable e)
+    (λ k. writable-append e (printed_first e only after_blanks c) (printed_rest e only cs) (first-writable e only after_blanks c h.0) (rest-writable e only cs h.1))
