@@ -37,6 +37,7 @@ use Rattle.properties_editing.proofs.SetValues.{alone-value, value-edits, revalu
 use Rattle.properties_editing.proofs.IndexChanged.{IsLastTold, changed-index, changed-sound, last-told, whole-closed}
 use Rattle.properties_editing.proofs.IndexRevalued.{regrouped}
 use Rattle.properties_editing.proofs.IndexSpans.{size-around}
+
 -- ---- what is found without a search
 
 closes : (source : List ℕ) (empty opens : Bool)

@@ -13,8 +13,8 @@ ghost use Rattle.properties_editing.specs.Private.Sources.{PrintsIn};
 
 use crate::edit::find::{BodySpan, Closing, closing_bytes, separation_after};
 use crate::edit::source::BodyStart;
-use properties_text::encoding::byte_order_mark::begins_like_mark;
 use properties_text::encoding::LineEncoding;
+use properties_text::encoding::byte_order_mark::begins_like_mark;
 use properties_text::print::{LineBuffer, Repertoire, print_texts};
 use std::alloc::{AllocError, Global};
 

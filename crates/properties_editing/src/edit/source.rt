@@ -42,7 +42,15 @@ fn in_force(source: &[u8], encoding: Encoding, ascii_only: bool) -> BodyStart
     ensures ascii_only { result.ascii_only ≡ ascii_only }
 {
     match byte_order_mark(source) {
-        ByteOrderMark::Present(encoding, start) => BodyStart { encoding, start, ascii_only },
-        ByteOrderMark::Absent | ByteOrderMark::Undecided => BodyStart { encoding, start: 0, ascii_only },
+        ByteOrderMark::Present(encoding, start) => BodyStart {
+            encoding,
+            start,
+            ascii_only,
+        },
+        ByteOrderMark::Absent | ByteOrderMark::Undecided => BodyStart {
+            encoding,
+            start: 0,
+            ascii_only,
+        },
     }
 }

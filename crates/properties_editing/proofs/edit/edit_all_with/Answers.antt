@@ -64,4 +64,3 @@ returns c =
     let all : edits_in done ≡ edits_in edits = ap edits_in (take_all c.loop-edit.edit-index edits (omega arith)) in
     let made = result-made (edits_in done) (edits-scalars done) c.loop-edit.invariant.result in
     subst (λ b. AreMade e b source (edits_in edits) bytes) c.in_ok-opened.ensures.2 (subst (λ v. AreMade e c.in_ok-opened.opened.ascii_only source v bytes) all made)
-
