@@ -36,7 +36,8 @@ use Rattle.properties_editing.specs.Private.Sources.{IsInForce}
 use Rattle.properties_editing.specs.declared.edit.document.Document.TheInside.{Inside}
 use Rattle.properties_editing.specs.declared.edit.index.Index.{Index}
 use Rattle.properties_editing.specs.declared.edit.source.BodyStart.{BodyStart}
-use Rattle.properties_editing.proofs.Editing.{bom-front, editable, made-edits, result-made}
+use Rattle.properties_editing.proofs.Editing.{bom-front, editable, result-made}
+use Rattle.properties_editing.proofs.EditsInTurn.{made-edits}
 use Rattle.properties_editing.proofs.IndexParsed.{kept-index}
 use Rattle.properties_editing.proofs.IndexValues.{map-values}
 

@@ -24,14 +24,11 @@ use Rattle.properties_format.proofs.Edited.Results.{set_key_result-meets, set_ke
 use Rattle.properties_format.proofs.Edited.Steps.{result-after}
 use Rattle.properties_format.proofs.InTurn.Lines.{bytes-unended}
 use Rattle.properties_format.proofs.Changed.Read.{set_key-reads, remove_key-reads}
-use Rattle.properties_format.specs.Edits.{Edit, AreScalarEdits, IsEditAllResult}
-use Rattle.properties_format.specs.Computed.Edits.{edit_all_result}
-use Rattle.properties_format.proofs.Edits.Results.{edit_all_result-meets, edit_all_result-only}
+use Rattle.properties_format.specs.Edits.{AreScalarEdits}
 use Rattle.properties_items.proofs.Scalars.{string-scalars}
 use Rattle.properties_editing.specs.declared.edit.Edit as edit
 use Rattle.properties_editing.specs.declared.edit.Edit.TheVariants as variant
-use Rattle.properties_editing.specs.Editing.{edit_in, edits_in, AreMade, IsRefusal, IsSet, IsRemoved}
-use Rattle.properties_format.proofs.Edits.Contents.{edit_all-reads}
+use Rattle.properties_editing.specs.Editing.{edit_in, edits_in, IsRefusal, IsSet, IsRemoved}
 use Rattle.properties_format.proofs.Changed.Occur.{key_set-keeps, key_removed-keeps}
 use Rattle.properties_format.proofs.Edited.Pair.{editable-own}
 use Rattle.properties_text.specs.Encoding.{encoding_of}
@@ -308,16 +305,6 @@ removed-result {source} {e} {opened} key bytes others h ok k made =
     (made ∙ ap (λ v. take opened.start source ++ ((if opened.start == 0 && begins_like_bom v then line_feed ∷ [] else []) ++ v)) k.bytes)
 
 -- ---- edits in turn
-
-pub made-edits : {e : Encoding} {only : Bool} {source bytes : List ℕ} (edits : List Edit) → AreScalarEdits edits → edit_all_result e only source edits ≡ edited bytes
-    → AreMade e only source edits bytes
-made-edits {e} {only} {source} {bytes} edits scalar is =
-    let meets = subst (IsEditAllResult e only source edits) is (edit_all_result-meets e only source edits) in
-    record {
-      result = meets;
-      only = λ other h. edit_all_result-only e only source edits other h ∙ is;
-      reads = edit_all-reads e only source edits bytes scalar meets;
-    }
 
 -- the texts of edits are of scalar values
 pub edits-scalars : (edits : List edit.Edit) → AreScalarEdits (edits_in edits)

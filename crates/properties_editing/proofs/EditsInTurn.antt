@@ -1,9 +1,10 @@
 -- Edits made one after another, each to the bytes that the one before it gave.
-use Rattle.std.proofs.Common.{ℕ, List, [], ◌∷◌, ◌++◌, refl, sym, ◌∙◌, subst}
+use Rattle.std.proofs.Common.{◌≡◌, ℕ, Bool, List, [], ◌∷◌, ◌++◌, refl, sym, ◌∙◌, subst}
 use Rattle.properties_format.specs.Encoding.{Encoding}
 use Rattle.properties_format.specs.Edited.{edited, IsEditResult}
 use Rattle.properties_format.specs.Edits.{Edit, IsEdited, AreEdited, AreScalarEdits, IsEditAllResult}
-use Rattle.properties_format.proofs.Edits.Results.{edit_all_result-only}
+use Rattle.properties_format.specs.Computed.Edits.{edit_all_result}
+use Rattle.properties_format.proofs.Edits.Results.{edit_all_result-meets, edit_all_result-only}
 use Rattle.properties_format.proofs.Edits.Contents.{edit_all-reads}
 use Rattle.properties_editing.specs.Editing.{AreMade}
 
@@ -22,7 +23,14 @@ result-more {e} {only} {source} {middle} edits edit result h k = (h.0, h.1, edit
 -- The result is the only one, and it reads as the source after the edits.
 pub result-made : {e : Encoding} {only : Bool} {source bytes : List ℕ} (edits : List Edit) → AreScalarEdits edits → IsEditAllResult e only source edits (edited bytes) → AreMade e only source edits bytes
 result-made {e} {only} {source} {bytes} edits scalar h = record {
-  result = h;
-  only = λ other k. edit_all_result-only e only source edits other k ∙ sym (edit_all_result-only e only source edits (edited bytes) h);
-  reads = edit_all-reads e only source edits bytes scalar h;
+  edit = record {
+    result = h;
+    only = λ other k. edit_all_result-only e only source edits other k ∙ sym (edit_all_result-only e only source edits (edited bytes) h);
+    reads = edit_all-reads e only source edits bytes scalar h;
+  };
 }
+
+-- So it is of what is computed.
+pub made-edits : {e : Encoding} {only : Bool} {source bytes : List ℕ} (edits : List Edit) → AreScalarEdits edits → edit_all_result e only source edits ≡ edited bytes
+    → AreMade e only source edits bytes
+made-edits {e} {only} {source} edits scalar is = result-made edits scalar (subst (IsEditAllResult e only source edits) is (edit_all_result-meets e only source edits))

@@ -74,7 +74,6 @@ edits_in edits = map edit_in edits
 -- of its key.
 pub record AreMade (e : Encoding) (only : Bool) (source : List ℕ) (edits : List format.Edit) (bytes : List ℕ) : Type 0 where
   pub edit : IsEdit (IsEditAllResult e only source edits) (ReadsAfter (AreEditedIn edits) (map_after edits) e source) bytes
-  pub keeps : AreKept e source edits bytes
 
 abbrev pub MakesEdits : Encoding → Bool → List ℕ → List format.Edit → Result (Vec ℕ) PropertiesError → Type 0
 MakesEdits e only source edits (Ok bytes) = AreMade e only source edits bytes.items
@@ -85,7 +84,7 @@ EditsAll e source edits result = MakesEdits e false source edits result
 
 -- In ASCII alone no byte past ASCII is put in.
 abbrev pub EditsAllAscii : Encoding → List ℕ → List format.Edit → Result (Vec ℕ) PropertiesError → Type 0
-EditsAllAscii e source edits result = MakesEdits e true source edits result × IfOk result (λ bytes. IsPutInAscii e source bytes.items)
+EditsAllAscii e source edits result = MakesEdits e true source edits result
 
 -- Both are the same edit, with the same texts.
 abbrev pub IsSameEdit : Edit → Edit → Type 0

@@ -6,7 +6,7 @@ use Rattle.properties_format.proofs.Edits.Results.{edit_all_result-meets}
 use Rattle.properties_text.specs.Encoding.{encoding_of}
 use Rattle.properties_editing.specs.Private.BodyIndex.{AreEditsMade}
 use Rattle.properties_editing.specs.Editing.{AreMade, edit_in, edits_in}
-use Rattle.properties_editing.proofs.Editing.{edits_in-more, edits-scalars, made-edits, refusal}
+use Rattle.properties_editing.proofs.Editing.{edits_in-more, edits-scalars, refusal}
 use Rattle.properties_editing.proofs.Editing as editing
 use Rattle.properties_editing.proofs.EditsInTurn.{result-made, result-more}
 use Rattle.properties_editing.proofs.edit.edit_all_with.Goals as goal
