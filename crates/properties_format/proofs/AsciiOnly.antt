@@ -3,7 +3,7 @@
 use Rattle.std.proofs.Common.{◌≡◌, ℕ, ◌<◌, ◌==◌, ◌||◌, Bool, true, false, cond, List, [], ◌∷◌, ◌++◌, refl, ap, sym, ◌∙◌, inl, inr, ap₂, subst, ltb-true}
 use Rattle.std.specs.Prelude.{Option, Some, None, is_some, nat_lt}
 use Rattle.std.specs.List.{AllByRecursion}
-use Rattle.std.proofs.lemmas.List.Elements.{All-from_recursion}
+use Rattle.std.proofs.lemmas.List.Elements.{All-from_recursion, recursion_from_All}
 use Rattle.std.proofs.lemmas.Bool.{cases_Bool, and_left, cond_both}
 use Rattle.properties_format.specs.Text.{line_ending_text, backslash, space}
 use Rattle.properties_format.specs.Encoding.{Encoding, windows_1252, utf_8, encoded, begins_like_bom}
@@ -38,14 +38,14 @@ literal-same : (e f : Encoding) (c : ℕ) → literal e true c ≡ literal f tru
 literal-same e f c = ap (λ b. cond b (c ∷ []) (unicode_escape c)) (may_be_unescaped-on e c ∙ sym (may_be_unescaped-on f c))
 
 -- A character is printed the same in every encoding.
-printed-same : (e f : Encoding) (place : Place) (c : ℕ) → printed_character e true place c ≡ printed_character f true place c
+pub printed-same : (e f : Encoding) (place : Place) (c : ℕ) → printed_character e true place c ≡ printed_character f true place c
 printed-same e f in_key_or_value c =
     ap (λ x. cond (is_special c) (backslash ∷ c ∷ []) (cond (has_letter c) (letter_escape c) (cond (nat_lt c space) (unicode_escape c) x))) (literal-same e f c)
 printed-same e f in_comment c = ap (λ x. cond (c == backslash) (backslash ∷ backslash ∷ []) (cond (c == 0x0a || c == 0x0d) (letter_escape c) x)) (literal-same e f c)
 printed-same e f in_prefix c = literal-same e f c
 
 -- A character is printed in ASCII.
-printed-ascii : (e : Encoding) (place : Place) (c : ℕ) → AreAscii (printed_character e true place c)
+pub printed-ascii : (e : Encoding) (place : Place) (c : ℕ) → AreAscii (printed_character e true place c)
 printed-ascii e place c = printed-either e true place c AreAscii (λ x h. h) (λ k. (may_be_unescaped-below e c k, tt))
 
 -- ---- texts
@@ -61,7 +61,7 @@ printed_characters-ascii e place [] = tt
 printed_characters-ascii e place (c ∷ x) = AreAscii-append (printed_character e true place c) (printed_characters e true place x) (printed-ascii e place c) (printed_characters-ascii e place x)
 
 -- The bytes of an ASCII text don't begin like a byte order mark.
-ascii-unmarked : (e : Encoding) (x : List ℕ) → AreAscii x → begins_like_bom (encoded_text e x) ≡ false
+pub ascii-unmarked : (e : Encoding) (x : List ℕ) → AreAscii x → begins_like_bom (encoded_text e x) ≡ false
 ascii-unmarked e [] h = refl
 ascii-unmarked e (c ∷ x) h = front-unmarked e (c ∷ x) c x refl h.0
 
@@ -170,10 +170,18 @@ wrote-shared e f s n (call ∷ calls) on k g =
     (wrote-shared e f t m calls (call-on s call on k.0) k.1 (separator-kept s call g))
 
 -- An ASCII text, as bytes.
-bytes-ascii : (x : List ℕ) → AreAscii x → AreAsciiBytes x
+pub bytes-ascii : (x : List ℕ) → AreAscii x → AreAsciiBytes x
 bytes-ascii x h = All-from_recursion (λ b. b < 0x80) x (go x h)
   where
     go : (x : List ℕ) → AreAscii x → AllByRecursion (λ b. b < 0x80) x
+    go [] h = tt
+    go (b ∷ x) h = (h.0, go x h.1)
+
+-- ASCII bytes, as a text.
+pub ascii-of : (x : List ℕ) → AreAsciiBytes x → AreAscii x
+ascii-of x h = go x (recursion_from_All (λ b. b < 0x80) x h)
+  where
+    go : (x : List ℕ) → AllByRecursion (λ b. b < 0x80) x → AreAscii x
     go [] h = tt
     go (b ∷ x) h = (h.0, go x h.1)
 

@@ -1,2 +1,4 @@
 pub mod Results
 pub mod Contents
+pub mod InAscii
+pub mod Kept

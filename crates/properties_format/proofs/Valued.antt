@@ -16,3 +16,4 @@ pub mod Unended
 pub mod Sizes
 pub mod Steps
 pub mod Walks
+pub mod InAscii

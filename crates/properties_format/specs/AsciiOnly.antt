@@ -1,7 +1,7 @@
--- Which calls write only ASCII, and what that means for the bytes.
+-- Which calls write only ASCII, what an edit with ASCII-only output on puts in, and what that means for the bytes.
 -- Source: java.util.Properties of Java SE 7, store, whose escapes are ASCII; RFC 20 (ASCII is the numbers below 80
 -- hexadecimal).
-use Rattle.std.specs.Prelude.{◌≡◌, All, ℕ, ◌<◌, true, List, [], ◌∷◌}
+use Rattle.std.specs.Prelude.{◌≡◌, ◌⊎◌, All, ℕ, ◌<◌, nat_lt, true, if◌then◌else◌, List, [], ◌∷◌}
 use Rattle.properties_format.specs.Encoding.{windows_1252, utf_8}
 use Rattle.properties_format.specs.Lines.{end}
 use Rattle.properties_format.specs.Entries.{Entry}
@@ -36,3 +36,25 @@ AreAsciiBytes bytes = All (λ b. b < 0x80) bytes
 pub record AreItemsInBoth (bytes : List ℕ) (entries : List Entry) : Type 0 where
   pub in_windows_1252 : IsItems windows_1252 bytes end entries
   pub in_utf_8 : IsItems utf_8 bytes end entries
+
+-- ---- Edits.
+
+-- the bytes past ASCII, from 80 hexadecimal on, in order
+abbrev pub beyond_ascii : List ℕ → List ℕ
+beyond_ascii [] = []
+beyond_ascii (b ∷ bs) = if nat_lt b 0x80 then beyond_ascii bs else b ∷ beyond_ascii bs
+
+-- The first list is the second with any number of elements left out.
+abbrev pub IsSubsequence : List ℕ → List ℕ → Type 0
+IsSubsequence some [] = some ≡ []
+IsSubsequence some (x ∷ all) = IsSubsequence some all ⊎ (more : List ℕ) × (some ≡ x ∷ more) × IsSubsequence more all
+
+-- Only ASCII is put into the source: each byte past ASCII in the result is one of the source's, in order.
+abbrev pub PutsInAscii : List ℕ → List ℕ → Type 0
+PutsInAscii source result = IsSubsequence (beyond_ascii result) (beyond_ascii source)
+
+-- Only ASCII is put in. So an ASCII source has an ASCII result, which has the same items in windows-1252 and in UTF-8.
+pub record IsInAscii (source result : List ℕ) : Type 0 where
+  pub puts : PutsInAscii source result
+  pub ascii : AreAsciiBytes source → AreAsciiBytes result
+  pub alike : AreAsciiBytes source → (entries : List Entry) × AreItemsInBoth result entries

@@ -1,13 +1,14 @@
 -- What an edit changes: in a source's contents, in its map and in its bytes.
 -- Source: java.util.Properties of Java SE 7, setProperty and load (a later pair takes the place of an earlier one).
-use Rattle.std.specs.Prelude.{◌≡◌, ◌≢◌, ◌⊎◌, bytes_eq, ℕ, if◌then◌else◌, List, [], ◌∷◌, ◌++◌, Option, Some, None}
+use Rattle.std.specs.Prelude.{◌≡◌, ◌≢◌, ◌⊎◌, bytes_eq, ℕ, if◌then◌else◌, Bool, List, [], ◌∷◌, ◌++◌, Option, Some, None}
 use Rattle.properties_format.specs.Encoding.{Encoding, byte_order_mark}
 use Rattle.properties_format.specs.Lines.{end}
 use Rattle.properties_format.specs.Entries.{Content, comment, pair, Entry, item, malformed, read_fault, AreItems}
 use Rattle.properties_format.specs.Items.{IsItems}
 use Rattle.properties_format.specs.Maps.{IsMap}
 use Rattle.properties_format.specs.Body.{AreGroupsOf, HasKey, HeldLine, NoneHasKey, group_bytes}
-use Rattle.properties_format.specs.Edits.{Edit, put, remove, set_value}
+use Rattle.properties_format.specs.Edits.{Edit, put, remove, set_value, IsEdited}
+use Rattle.properties_format.specs.Valued.{KeepsFront}
 
 -- the contents of the items, in order
 abbrev pub contents : List Entry → List Content
@@ -104,3 +105,16 @@ KeepsOthers Others e source result =
     (groups : List (List HeldLine)) × (others : List (List HeldLine)) × AreGroupsOf (byte_order_mark e source).encoding (byte_order_mark e source).body groups
     × Others groups others
     × OccurIn others result
+
+-- What an edit keeps: the groups except the pair that is set, or except the pairs that are removed; and if a value is
+-- set in place, every byte outside it.
+abbrev pub KeepsRest : Encoding → List ℕ → Edit → List ℕ → Type 0
+KeepsRest e source (put key value) result = KeepsOthers (AreOthersThanLast key) e source result
+KeepsRest e source (remove key) result = KeepsOthers (AreOthers key) e source result
+KeepsRest e source (set_value key value) result = KeepsOthers (AreOthersThanLast key) e source result × KeepsFront e source key result
+
+-- The result is the source after these edits, each of which keeps the rest of what the one before it gave.
+abbrev pub AreKept : Encoding → Bool → List ℕ → List Edit → List ℕ → Type 0
+AreKept e only source [] result = result ≡ source
+AreKept e only source (edit ∷ edits) result =
+    (next : List ℕ) × IsEdited e only source edit next × KeepsRest e source edit next × AreKept e only next edits result

@@ -50,9 +50,9 @@ abbrev pub escaped_key : Repertoire → List ℕ → List ℕ
 escaped_key r key = format.encoded_text (encoding_in r) (format.with_first_escaped (encoding_in r) (only_in r) key)
 
 -- the character held back inside a value that is set in place, or nothing if none is
-abbrev pub held_text : Encoding → Option ℕ → List ℕ
-held_text e None = []
-held_text e (Some c) = printed_inside e c
+abbrev pub held_text : Encoding → Bool → Option ℕ → List ℕ
+held_text e only None = []
+held_text e only (Some c) = printed_inside e only c
 
 -- ---- bytes of an output encoding
 

@@ -367,8 +367,8 @@ pub fn print_text(
 ///
 /// Spaces, separators and comment signs are not escaped, except at the ends: a space at the start is escaped with a
 /// backslash, and so is a separator at the start if only blanks come before it. A space at the end is `\u0020`, which
-/// survives editors that trim lines. Everything else is printed as [`print_text`] prints a value. Above U+007F only
-/// what the encoding lacks is escaped, so ASCII-only output must be off. Fails if memory runs out.
+/// survives editors that trim lines. Everything else is printed as in a key: what the repertoire lacks is escaped.
+/// Fails if memory runs out.
 ///
 /// ```text
 /// print_value(&mut line, repertoire, false, " a:b ")?; // appends `\ a:b\u0020`
@@ -379,9 +379,8 @@ pub fn print_value(
     after_blanks: bool,
     text: &str,
 ) -> Result<(), AllocError>
-    requires { only_in repertoire ≡ false }
     ensures { let e = encoding_in repertoire in
-        let value = printed_value e after_blanks (chars text.now) in
+        let value = printed_value e (only_in repertoire) after_blanks (chars text.now) in
         AppendsOnOk line.old (encoded_text e value) result line.new }
 {
     let mut characters = text.chars();
@@ -403,9 +402,8 @@ fn print_first_of_value(
     after_blanks: bool,
     first: char,
 ) -> Result<(), AllocError>
-    requires { only_in repertoire ≡ false }
     ensures { let e = encoding_in repertoire in
-        let text = printed_first e after_blanks first in
+        let text = printed_first e (only_in repertoire) after_blanks first in
         AppendsOnOk line.old (encoded_text e text) result line.new }
 {
     if first == ' ' || (after_blanks && is_separator(first)) {
@@ -420,9 +418,8 @@ fn print_rest_of_value(
     repertoire: Repertoire,
     rest: &str,
 ) -> Result<(), AllocError>
-    requires { only_in repertoire ≡ false }
     ensures { let e = encoding_in repertoire in
-        let text = printed_rest e (chars rest.now) in
+        let text = printed_rest e (only_in repertoire) (chars rest.now) in
         AppendsOnOk line.old (encoded_text e text) result line.new }
 {
     let mut held = None;
@@ -442,9 +439,8 @@ fn print_held(
     repertoire: Repertoire,
     held: Option<char>,
 ) -> Result<(), AllocError>
-    requires { only_in repertoire ≡ false }
     ensures { let e = encoding_in repertoire in
-        AppendsOnOk line.old (encoded_text e (held_text e held)) result line.new }
+        AppendsOnOk line.old (encoded_text e (held_text e (only_in repertoire) held)) result line.new }
 {
     match held {
         Some(character) => print_in_value(line, repertoire, character),
@@ -459,9 +455,8 @@ fn print_last_of_value(
     repertoire: Repertoire,
     last: char,
 ) -> Result<(), AllocError>
-    requires { only_in repertoire ≡ false }
     ensures { let e = encoding_in repertoire in
-        AppendsOnOk line.old (encoded_text e (printed_last e last)) result line.new }
+        AppendsOnOk line.old (encoded_text e (printed_last e (only_in repertoire) last)) result line.new }
 {
     if last == ' ' {
         return print_escape(line, last);
@@ -475,9 +470,8 @@ fn print_in_value(
     repertoire: Repertoire,
     character: char,
 ) -> Result<(), AllocError>
-    requires { only_in repertoire ≡ false }
     ensures { let e = encoding_in repertoire in
-        AppendsOnOk line.old (encoded_text e (printed_inside e character)) result line.new }
+        AppendsOnOk line.old (encoded_text e (printed_inside e (only_in repertoire) character)) result line.new }
 {
     if character == ' ' || is_separator(character) || is_comment_sign(character) {
         return print_literal(line, repertoire, character);

@@ -25,7 +25,7 @@ edit_made-only e only source (remove key) result ok h = key_removed-only e sourc
 edit_made-only e only source (set_value key value) result ok h = value_set-only e only source key value result ok h
 
 -- after an edit the encoding in force is the same
-edit-editable : (e : Encoding) (only : Bool) (source : List ℕ) (edit : Edit) (result : List ℕ) → is_editable (byte_order_mark e source).encoding ≡ true
+pub edit-editable : (e : Encoding) (only : Bool) (source : List ℕ) (edit : Edit) (result : List ℕ) → is_editable (byte_order_mark e source).encoding ≡ true
     → IsEdited e only source edit result → is_editable (byte_order_mark e result).encoding ≡ true
 edit-editable e only source (put key value) result ok h =
     ap (λ v. let w : InForce = v in is_editable w.encoding) (key_set-in_force e only source key value result ok h) ∙ ok

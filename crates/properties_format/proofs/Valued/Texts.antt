@@ -112,7 +112,7 @@ loosely-closed x y z s o = ap (λ v. is_open (x ++ v)) s.text ∙ are_loose-clos
 -- ---- each character
 
 -- A character that a value may have unescaped isn't a backslash or a line end.
-free-plain : (c : ℕ) → is_free c ≡ true → ((c == backslash) ≡ false) × (is_line_end c ≡ false) × (c < 0x80)
+pub free-plain : (c : ℕ) → is_free c ≡ true → ((c == backslash) ≡ false) × (is_line_end c ≡ false) × (c < 0x80)
 free-plain c h = elim (or_cases (c == space) (is_separator c || is_comment_sign c) h) [
   | inl e ↦ rw (eqb-true c space e) (refl, refl, lit< tt)
   | inr h ↦ elim (or_cases (is_separator c) (is_comment_sign c) h) [
@@ -122,7 +122,7 @@ free-plain c h = elim (or_cases (c == space) (is_separator c || is_comment_sign 
 ]
 
 -- A space and a separator are special.
-first-special : (after_blanks : Bool) (c : ℕ) → (c == space || (after_blanks && is_separator c)) ≡ true → is_special c ≡ true
+pub first-special : (after_blanks : Bool) (c : ℕ) → (c == space || (after_blanks && is_separator c)) ≡ true → is_special c ≡ true
 first-special after_blanks c h = elim (or_cases (c == space) (after_blanks && is_separator c) h) [
   | inl e ↦ rw (eqb-true c space e) refl
   | inr h ↦ elim (or_cases (c == 0x3d) (c == 0x3a) (and_parts after_blanks (is_separator c) h).1) [

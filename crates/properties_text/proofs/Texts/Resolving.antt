@@ -1,6 +1,6 @@
 -- Texts whose escapes are resolved one after another.
 use Rattle.std.proofs.Common.{◌≡◌, ℕ, suc, ◌<◌, ◌+◌, ◌-◌, ◌==◌, ◌||◌, true, false, List, [], ◌∷◌, ◌++◌, length, take, drop, get_or, refl, ap, sym, ◌∙◌, subst, inl, inr, append_assoc, append-nil, arith}
-use Rattle.std.specs.Prelude.{Option, Some, None, slice_range, ◌%◌}
+use Rattle.std.specs.Prelude.{Option, Some, None, slice_range}
 use Rattle.std.specs.Option.{is_some}
 use lib.Utf8.{encode, encodes}
 use Rattle.std.specs.Str.{IsUtf8, IsCharBoundary, chars}
@@ -11,7 +11,7 @@ use Rattle.memchr.specs.Find.{IsFirstByte, is_byte}
 use Rattle.properties_format.specs.Text.{backslash}
 use Rattle.properties_format.specs.Escapes.{Malformed, Meaning, means, breaks, Means, Breaks, IsMeaning}
 use Rattle.properties_format.specs.Computed.Escapes.{in_front, text_in_front, meaning_of}
-use Rattle.properties_format.specs.Groups.{ending_backslashes, is_open}
+use Rattle.properties_format.specs.Groups.{ending_backslashes}
 use Rattle.properties_format.specs.Writing.{HoldsNoBackslash}
 use Rattle.properties_format.proofs.Groups.Open.{ending_backslashes-after}
 use Rattle.properties_format.proofs.Escapes.Laws.{meaning_of-plain_front, meaning_of-plain}

@@ -6,7 +6,7 @@ use Rattle.std.proofs.lemmas.Result.{on_ok_weaker}
 use Rattle.properties_format.specs.Printing.{encoded_text}
 use Rattle.properties_format.specs.Writing.{is_empty}
 use Rattle.properties_format.specs.Valued.{printed_value}
-use Rattle.properties_text.specs.Printing.{encoding_in}
+use Rattle.properties_text.specs.Printing.{encoding_in, only_in}
 use Rattle.properties_text.proofs.Printing.Values.{space-alone, value-after, some-characters, none-left}
 use Rattle.properties_text.proofs.print.print_value.Goals as goal
 use Rattle.properties_text.proofs.print.print_value.Goals.{else-is_empty-via-then-is_empty+else-first-eq32, else-is_empty-via-else-is_empty}
@@ -14,6 +14,7 @@ use Rattle.properties_text.proofs.print.print_value.Goals.{else-is_empty-via-the
 pub returns-then-first-eq32 : goal.returns-then-first-eq32
 returns-then-first-eq32 c =
     let e = encoding_in c.args.repertoire in
+    let only = only_in c.args.repertoire in
     let after = c.next.new.self.rest.now in
     let parts = chars_past_char c.args.text.now after c.in-Some.first c.utf8.text (sym c.chars-characters.ensures.rest ∙ c.in-Some.ensures.steps.0) in
     let empty = sym c.is_empty.ensures ∙ c.if-is_empty.true in
@@ -21,13 +22,14 @@ returns-then-first-eq32 c =
     let first = c.if-first-eq32.true in
     let all = parts ∙ ap₂ (λ v w. v ∷ w) first none in
     on_ok_weaker c.print_escape.result
-    (λ h. space-alone e c.args.after_blanks c.args.line.now c.print_escape.new.line h ∙ ap (λ v. c.args.line.now ++ encoded_text e
-    (printed_value e c.args.after_blanks v)) (sym all))
+    (λ h. space-alone e only c.args.after_blanks c.args.line.now c.print_escape.new.line h ∙ ap (λ v. c.args.line.now ++ encoded_text e
+    (printed_value e only c.args.after_blanks v)) (sym all))
     c.print_escape.ensures
 
 pub returns : goal.returns
 returns c =
     let e = encoding_in c.args.repertoire in
+    let only = only_in c.args.repertoire in
     let after = c.next.new.self.rest.now in
     let parts = chars_past_char c.args.text.now after c.in-Some.first c.utf8.text (sym c.chars-characters.ensures.rest ∙ c.in-Some.ensures.steps.0) in
     let rest = c.as_str-rest.result.now in
@@ -41,7 +43,7 @@ returns c =
     ] in
     on_ok_weaker c.print_rest_of_value.result
     (λ h.
-    value-after e c.args.after_blanks c.args.line.now c.print_first_of_value.new.line c.print_rest_of_value.new.line c.in-Some.first (chars rest) other
+    value-after e only c.args.after_blanks c.args.line.now c.print_first_of_value.new.line c.print_rest_of_value.new.line c.in-Some.first (chars rest) other
     c.in_ok-print_first_of_value.ensures h
-    ∙ ap (λ v. c.args.line.now ++ encoded_text e (printed_value e c.args.after_blanks v)) (sym all))
+    ∙ ap (λ v. c.args.line.now ++ encoded_text e (printed_value e only c.args.after_blanks v)) (sym all))
     c.print_rest_of_value.ensures
