@@ -24,6 +24,7 @@ use Rattle.properties_format.proofs.Edited.Results.{set_key_result-meets, set_ke
 use Rattle.properties_format.proofs.Edited.Steps.{result-after}
 use Rattle.properties_format.proofs.InTurn.Lines.{bytes-unended}
 use Rattle.properties_format.proofs.Changed.Read.{set_key-reads, remove_key-reads}
+use Rattle.properties_format.proofs.Edits.InAscii.{set_key-in_ascii}
 use Rattle.properties_format.specs.Edits.{AreScalarEdits}
 use Rattle.properties_items.proofs.Scalars.{string-scalars}
 use Rattle.properties_editing.specs.declared.edit.Edit as edit
@@ -100,6 +101,7 @@ set-edits {e} {only} {source} {key} {value} {bytes} k v is =
         reads = set_key-reads e only source key value bytes k v meets;
       };
       keeps = key_set-keeps e only source key value bytes meets.2;
+      ascii = λ on. set_key-in_ascii e source key value bytes (subst (λ b. IsSetKeyResult e b source key value (edited bytes)) on meets);
     }
 
 -- ---- the printed pair

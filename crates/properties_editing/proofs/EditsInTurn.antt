@@ -6,6 +6,8 @@ use Rattle.properties_format.specs.Edits.{Edit, IsEdited, AreEdited, AreScalarEd
 use Rattle.properties_format.specs.Computed.Edits.{edit_all_result}
 use Rattle.properties_format.proofs.Edits.Results.{edit_all_result-meets, edit_all_result-only}
 use Rattle.properties_format.proofs.Edits.Contents.{edit_all-reads}
+use Rattle.properties_format.proofs.Edits.InAscii.{edit_all-in_ascii}
+use Rattle.properties_format.proofs.Edits.Kept.{edit_all-kept}
 use Rattle.properties_editing.specs.Editing.{AreMade}
 
 -- One more edit is made.
@@ -28,6 +30,8 @@ result-made {e} {only} {source} {bytes} edits scalar h = record {
     only = λ other k. edit_all_result-only e only source edits other k ∙ sym (edit_all_result-only e only source edits (edited bytes) h);
     reads = edit_all-reads e only source edits bytes scalar h;
   };
+  keeps = edit_all-kept e only source edits bytes h;
+  ascii = λ on. edit_all-in_ascii e source edits bytes (subst (λ b. IsEditAllResult e b source edits (edited bytes)) on h);
 }
 
 -- So it is of what is computed.

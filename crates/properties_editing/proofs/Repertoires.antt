@@ -1,10 +1,10 @@
 -- What a repertoire prints is what is meant in an encoding, in ASCII alone or not.
-use Rattle.std.proofs.Common.{◌≡◌, ℕ, Bool, true, false, List, [], ◌∷◌, ◌++◌, refl, ap, ap₂, sym, ◌∙◌}
+use Rattle.std.proofs.Common.{◌≡◌, true, false, ap₂}
 use Rattle.properties_format.specs.Encoding.{Encoding, utf_8}
 use Rattle.properties_format.specs.Printing.{in_key_or_value, printed_key, printed_characters, encoded_text}
 use Rattle.properties_format.specs.Valued.{printed_value}
-use Rattle.properties_format.proofs.Printing.Characters.{AreAscii, encoded_text-ascii}
-use Rattle.properties_format.proofs.AsciiOnly.{printed_characters-same, printed_characters-ascii, printed_key-same, printed_key-ascii}
+use Rattle.properties_format.proofs.AsciiOnly.{printed_characters-same, printed_characters-ascii}
+use Rattle.properties_format.proofs.Valued.InAscii.{encoded-same, key_bytes-same, value_bytes-same}
 use Rattle.properties_text.specs.Printing.{encoding_in, only_in}
 use Rattle.properties_text.specs.declared.print.Repertoire.{Repertoire}
 use Rattle.properties_text.specs.declared.print.Repertoire.TheVariants.{Ascii}
@@ -19,17 +19,12 @@ prints-all r e is all =
       values = λ after_blanks value. ap₂ (λ f b. encoded_text f (printed_value f b after_blanks value)) is all;
     }
 
--- ASCII texts are the same bytes in each encoding.
-alike : (e f : Encoding) (x y : List ℕ) → x ≡ y → AreAscii x → AreAscii y → encoded_text e x ≡ encoded_text f y
-alike e f x y same a b = encoded_text-ascii e x a ∙ same ∙ sym (encoded_text-ascii f y b)
-
--- That of ASCII prints in each encoding.
+-- That of ASCII prints the same bytes in each encoding.
 pub prints-ascii : (e : Encoding) → PrintsIn e true Ascii
 prints-ascii e =
     record {
-      keys = λ first key. alike utf_8 e _ _ (printed_key-same utf_8 e first key) (printed_key-ascii utf_8 first key) (printed_key-ascii e first key);
+      keys = λ first key. key_bytes-same utf_8 e first key;
       texts = λ text.
-          alike utf_8 e _ _ (printed_characters-same utf_8 e in_key_or_value text) (printed_characters-ascii utf_8 in_key_or_value text) (printed_characters-ascii e in_key_or_value text);
-      values = λ after_blanks value.
-          alike utf_8 e _ _ (printed_value-same utf_8 e after_blanks value) (printed_value-ascii utf_8 after_blanks value) (printed_value-ascii e after_blanks value);
+          encoded-same utf_8 e _ _ (printed_characters-ascii utf_8 in_key_or_value text) (printed_characters-same utf_8 e in_key_or_value text);
+      values = λ after_blanks value. value_bytes-same utf_8 e after_blanks value;
     }

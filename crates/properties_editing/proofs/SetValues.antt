@@ -20,6 +20,7 @@ use Rattle.properties_format.proofs.Edited.Contents.{key-outcome}
 use Rattle.properties_format.proofs.Edited.Made as made
 use Rattle.properties_format.proofs.Edited.Made.{last_place-meets}
 use Rattle.properties_format.proofs.Valued.Made.{group-decoded, set_value_result-meets, set_value_result-only, raw-pair}
+use Rattle.properties_format.proofs.Edits.InAscii.{set_value-in_ascii}
 use Rattle.properties_format.proofs.Valued.Read.{set_value-reads, value_set-keeps, value_set-keeps_front}
 use Rattle.properties_format.proofs.Valued.Unended.{without_ending, unended-joined, unended-front, unended-between, unended-value}
 use Rattle.properties_format.proofs.Edited.Pair.{editable-own}
@@ -199,6 +200,7 @@ value-edits {e} {only} {source} {key} {value} {bytes} k v is =
       };
       keeps = value_set-keeps e only source key value bytes meets.2;
       keeps_front = value_set-keeps_front e only source key value bytes meets.0 meets.2;
+      ascii = λ on. set_value-in_ascii e source key value bytes (subst (λ b. IsSetValueResult e b source key value (edited bytes)) on meets);
     }
 
 -- The pair that was found in a source is a pair by itself.

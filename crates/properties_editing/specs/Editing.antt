@@ -1,5 +1,5 @@
 -- The results of edits.
-use Rattle.std.specs.Prelude.{◌≡◌, ◌⊎◌, ℕ, Bool, true, false, List, IfOk, Result, Ok, Err, map, string_bytes}
+use Rattle.std.specs.Prelude.{◌≡◌, ◌⊎◌, ℕ, Bool, true, false, List, Result, Ok, Err, map, string_bytes}
 use Rattle.std.specs.Str.{chars}
 use Rattle.std.specs.Global.{Vec}
 use Rattle.properties_format.specs.Encoding.{Encoding}
@@ -8,7 +8,8 @@ use Rattle.properties_format.specs.Edited.{EditResult, edited, unsupported, unre
 use Rattle.properties_format.specs.Edits.{put, remove, set_value, IsEditAllResult}
 use Rattle.properties_format.specs.Edits as format
 use Rattle.properties_format.specs.Valued.{IsSetValueResult, KeepsFront}
-use Rattle.properties_format.specs.Changed.{IsSetIn, IsRemovedIn, AreEditedIn, map_edited, map_after, AreOthersThanLast, AreOthers, ReadsAfter, KeepsOthers}
+use Rattle.properties_format.specs.Changed.{IsSetIn, IsRemovedIn, AreEditedIn, map_edited, map_after, AreOthersThanLast, AreOthers, ReadsAfter, KeepsOthers, AreKept}
+use Rattle.properties_format.specs.AsciiOnly.{IsInAscii}
 use Rattle.properties_items.specs.Errors.{IsBareError, IsMalformed}
 use Rattle.properties_editing.specs.declared.edit.Edit.{Edit}
 use Rattle.properties_editing.specs.declared.edit.Edit.TheVariants.{Put, Remove, SetValue}
@@ -30,22 +31,25 @@ pub record IsEdit (IsMeant : EditResult → Type 0) (Reads : List ℕ → Type 0
 
 -- ---- a key
 
--- The source with a key set, in ASCII alone or not: its result, how it reads, and that it keeps every group but the last
--- pair with the key.
+-- The source with a key set, in ASCII alone or not: its result, how it reads, that it keeps every group but the last pair
+-- with the key, and that in ASCII alone only ASCII is put in.
 pub record IsSet (e : Encoding) (only : Bool) (source key value bytes : List ℕ) : Type 0 where
   pub edit : IsEdit (IsSetKeyResult e only source key value) (ReadsAfter (IsSetIn key value) (map_edited (put key value)) e source) bytes
   pub keeps : KeepsOthers (AreOthersThanLast key) e source bytes
+  pub ascii : only ≡ true → IsInAscii source bytes
 
 abbrev pub SetsKey : Encoding → List ℕ → List ℕ → List ℕ → Result (Vec ℕ) PropertiesError → Type 0
 SetsKey e source key value (Ok bytes) = IsSet e false source key value bytes.items
 SetsKey e source key value (Err error) = IsRefusal (IsSetKeyResult e false source key value) error
 
 -- The source with the value of a key set, in ASCII alone or not: its result, how it reads, that it keeps every group but
--- the last pair with the key, and that it keeps every byte outside that pair's value.
+-- the last pair with the key, that it keeps every byte outside that pair's value, and that in ASCII alone only ASCII is
+-- put in.
 pub record HasValueSet (e : Encoding) (only : Bool) (source key value bytes : List ℕ) : Type 0 where
   pub edit : IsEdit (IsSetValueResult e only source key value) (ReadsAfter (IsSetIn key value) (map_edited (put key value)) e source) bytes
   pub keeps : KeepsOthers (AreOthersThanLast key) e source bytes
   pub keeps_front : KeepsFront e source key bytes
+  pub ascii : only ≡ true → IsInAscii source bytes
 
 abbrev pub SetsValue : Encoding → List ℕ → List ℕ → List ℕ → Result (Vec ℕ) PropertiesError → Type 0
 SetsValue e source key value (Ok bytes) = HasValueSet e false source key value bytes.items
@@ -70,10 +74,12 @@ edit_in (SetValue key value) = set_value (chars (string_bytes key)) (chars (stri
 abbrev pub edits_in : List Edit → List format.Edit
 edits_in edits = map edit_in edits
 
--- The source after edits, in ASCII alone or not: its result, how it reads, and that each edit keeps every group but those
--- of its key.
+-- The source after edits, in ASCII alone or not: its result, how it reads, that each edit keeps the rest of what the one
+-- before it gave, and that in ASCII alone only ASCII is put in.
 pub record AreMade (e : Encoding) (only : Bool) (source : List ℕ) (edits : List format.Edit) (bytes : List ℕ) : Type 0 where
   pub edit : IsEdit (IsEditAllResult e only source edits) (ReadsAfter (AreEditedIn edits) (map_after edits) e source) bytes
+  pub keeps : AreKept e only source edits bytes
+  pub ascii : only ≡ true → IsInAscii source bytes
 
 abbrev pub MakesEdits : Encoding → Bool → List ℕ → List format.Edit → Result (Vec ℕ) PropertiesError → Type 0
 MakesEdits e only source edits (Ok bytes) = AreMade e only source edits bytes.items
@@ -82,7 +88,6 @@ MakesEdits e only source edits (Err error) = IsRefusal (IsEditAllResult e only s
 abbrev pub EditsAll : Encoding → List ℕ → List format.Edit → Result (Vec ℕ) PropertiesError → Type 0
 EditsAll e source edits result = MakesEdits e false source edits result
 
--- In ASCII alone no byte past ASCII is put in.
 abbrev pub EditsAllAscii : Encoding → List ℕ → List format.Edit → Result (Vec ℕ) PropertiesError → Type 0
 EditsAllAscii e source edits result = MakesEdits e true source edits result
 
