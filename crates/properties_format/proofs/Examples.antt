@@ -14,3 +14,4 @@ pub mod Settings
 pub mod Split
 pub mod Waiting
 pub mod Writing
+pub mod AsciiOnly
