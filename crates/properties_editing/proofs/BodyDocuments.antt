@@ -59,13 +59,13 @@ again {e} {old} {opened} new body h whole is =
 
 pub set-again : {e : Encoding} {old : List ℕ} {opened : BodyStart} (key value new : List ℕ) → IsInForce old e opened → is_editable (encoding_of opened.encoding) ≡ true
     → IsSet e opened.ascii_only old key value new → IsInForce new e opened
-set-again {e} {old} key value new h ok s =
+set-again {e} {old} {opened} key value new h ok s =
     let k = s.edit.result.2 in
     again new k.body h k.whole (key_set-in_force e opened.ascii_only old key value new (editable h ok) k)
 
 pub value-again : {e : Encoding} {old : List ℕ} {opened : BodyStart} (key value new : List ℕ) → IsInForce old e opened → is_editable (encoding_of opened.encoding) ≡ true
     → HasValueSet e opened.ascii_only old key value new → IsInForce new e opened
-value-again {e} {old} key value new h ok s =
+value-again {e} {old} {opened} key value new h ok s =
     let k = s.edit.result.2 in
     again new k.body h k.whole (value_set-in_force e opened.ascii_only old key value new (editable h ok) k)
 

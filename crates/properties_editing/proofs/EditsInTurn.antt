@@ -17,10 +17,10 @@ edited-more e only source [] edit middle result h k = (result, subst (λ v. IsEd
 edited-more e only source (d ∷ edits) edit middle result (next, m, h) k = (next, m, edited-more e only next edits edit middle result h k)
 
 -- So it is of results.
-pub result-more : {e : Encoding} {only : Bool} {source middle : List ℕ} (edits : List Edit) (edit : Edit) (result : List ℕ) → IsEditAllResult e only source edits (edited middle)
+pub result-more : {e : Encoding} (only : Bool) {source middle : List ℕ} (edits : List Edit) (edit : Edit) (result : List ℕ) → IsEditAllResult e only source edits (edited middle)
     → IsEditResult e middle (IsEdited e only middle edit) (edited result)
     → IsEditAllResult e only source (edits ++ edit ∷ []) (edited result)
-result-more {e} {only} {source} {middle} edits edit result h k = (h.0, h.1, edited-more e only source edits edit middle result h.2 k.2)
+result-more {e} only {source} {middle} edits edit result h k = (h.0, h.1, edited-more e only source edits edit middle result h.2 k.2)
 
 -- The result is the only one, and it reads as the source after the edits.
 pub result-made : {e : Encoding} {only : Bool} {source bytes : List ℕ} (edits : List Edit) → AreScalarEdits edits → IsEditAllResult e only source edits (edited bytes) → AreMade e only source edits bytes

@@ -52,7 +52,7 @@ loop-edit-preserved c =
     let h = c.loop-edit.invariant in
     let made = c.in_ok-make.ensures e h.in_force in
     subst (λ v. AreEditsMade e c.in_ok-opened.opened source v c.make.new.source.items c.make.new.index) (sym all)
-    (record { result = result-more before (edit_in edit) c.make.new.source.items h.result made.result; in_force = made.in_force; sound = made.sound; is_index = made.is_index })
+    (record { result = result-more c.in_ok-opened.opened.ascii_only before (edit_in edit) c.make.new.source.items h.result made.result; in_force = made.in_force; sound = made.sound; is_index = made.is_index })
 
 pub returns : goal.returns
 returns c =

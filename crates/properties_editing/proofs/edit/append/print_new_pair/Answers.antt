@@ -14,7 +14,7 @@ returns c =
     let only = c.args.opened.ascii_only in
     let text = c.args.separator.now in
     let key = c.in_ok-print_key.ensures.appended ∙ ap (λ v. c.args.line.now ++ v) (c.repertoire_of-repertoire.ensures.keys c.args.first (chars c.args.key.now)) in
-    let value = rw c.repertoire_of-repertoire.ensures.values c.are_blanks.result (chars c.args.value.now) at c.print_value.ensures in
+    let value = rw (c.repertoire_of-repertoire.ensures.values c.are_blanks.result (chars c.args.value.now)) at c.print_value.ensures in
     let separator = separator-bytes e text (chars text) c.utf8.separator refl c.requires in
     on_ok_weaker c.print_value.result
     (λ h. new_pair-unended e only c.args.line.now c.print_key.new.line c.extend.new.self c.print_value.new.line

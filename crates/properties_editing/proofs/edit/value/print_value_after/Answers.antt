@@ -11,7 +11,7 @@ pub returns-then-is_empty : goal.returns-then-is_empty
 returns-then-is_empty c =
     let e = output_encoding (encoding_of c.args.opened.encoding) in
     let only = c.args.opened.ascii_only in
-    let printed = rw c.repertoire_of-repertoire.ensures.values false (chars c.args.value.now) at c.print_value.ensures in
+    let printed = rw (c.repertoire_of-repertoire.ensures.values false (chars c.args.value.now)) at c.print_value.ensures in
     on_ok_weaker c.print_value.result
     (λ h. value-unseparated e only c.args.line.now c.extend.new.self c.print_value.new.line (chars c.args.separator.now) (chars c.args.value.now)
     (text-empty c.args.separator.now c.if-is_empty.ensures) c.in_ok-extend.ensures.appended h)
