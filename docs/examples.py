@@ -21,7 +21,7 @@ use byte_blocks::{Byte, Either, LineEnds, find};
 use counted_io::{Counted, CountedRead, CountedWrite, ScriptedReader, ScriptedSink, SinkFault, Tail, send};
 use java_properties::{
     Call, Cause, ContentRef, Document, Edit, Encoding, LineContent, LineEnding, PropertiesError, PropertiesIter,
-    PropertiesWriter, edit_all, key_lines, laws, malformed_escapes, read, read_lines, read_sorted, read_source, remove_key, run_calls,
+    PropertiesWriter, edit_all, edit_all_ascii, key_lines, laws, malformed_escapes, read, read_lines, read_sorted, read_source, remove_key, run_calls,
     set_key, set_value, value_of, write, write_sorted, write_source,
 };
 use properties_text::encoding::TextBuffer;
@@ -32,7 +32,7 @@ use properties_tools::arguments::words;
 use properties_tools::filter::{filter, filter_ascii};
 use properties_tools::messages::{say, say_error};
 use properties_tools::propedit::answers::{answer_to, name};
-use properties_tools::propedit::asked::{Command, FileEdits, Missing, Request, Source, TextEnd, Work};
+use properties_tools::propedit::asked::{Command, Edits, FileEdits, Missing, Request, Source, TextEnd, Work};
 use properties_tools::propedit::error::{Failure, say_failure};
 use properties_tools::propedit::in_place::{Original, edit_file};
 use properties_tools::propedit::lines::ill_formed_lines;

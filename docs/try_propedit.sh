@@ -4,7 +4,7 @@
 #
 #     docs/try_propedit.sh crates/propedit/out/propedit
 #
-# Run as root, it also tries files and folders of another user.
+# Run as root, it also tries files and folders of another user. With a JDK, it has Java read what -a writes.
 set -u
 [ $# = 1 ] && [ -x "$1" ] || { echo "usage: try_propedit.sh PROGRAM" >&2; exit 2; }
 work=$(mktemp -d)
@@ -81,7 +81,7 @@ gives 0 "$(cat ../output)\n" ''
 cp ../output ../usage
 for words in 'Usage: propedit [OPTIONS] <COMMAND>' '  get  ' '  list  ' '  check  ' '  set  ' '  remove  ' \
     '-f, --file <FILE>' '-i, --in-place <FILE>' '--create' '-e, --encoding <NAME>' '-d, --default <VALUE>' \
-    '-z, --null' '-h, --help' '-V, --version' '[default: utf-8]' 'standard input' 'Status: 0'; do
+    '-z, --null' '-a, --ascii' '-h, --help' '-V, --version' '[default: utf-8]' 'standard input' 'Status: 0'; do
     grep -qF -- "$words" ../usage || fail "the usage lacks: $words"
     count=$((count + 1))
 done
@@ -343,6 +343,56 @@ gives 0 'é\n' ''
 run -e utf-16le set b 1
 gives 0 '\xef\xbb\xbfa=\xc3\xa9\nb=1\n' ''
 
+# ASCII alone
+
+given 'host = a\n# \xc5\xbc\n'
+for option in -a --ascii; do
+    run $option set host 'ż € é 🐞'
+    gives 0 'host = \\u017c \\u20ac \\u00e9 \\ud83d\\udc1e\n# ż\n' ''
+    run $option set 'żółw' 'č' remove host
+    gives 0 '# ż\n\\u017c\\u00f3\\u0142w = \\u010d\n' ''
+    run $option remove host set é =
+    gives 0 '# ż\n\\u00e9==\n' ''
+done
+given '# \xe9\n\xe9 : \x80\n'
+run -a -e windows-1252 set é 'ÿ €'
+gives 0 '# \xe9\n\xe9 : \\u00ff \\u20ac\n' ''
+run -ae windows-1252 set é €
+gives 0 '# \xe9\n\xe9 : \x80\n' ''
+run -a -i app.properties -e windows-1252 set ñ '"'
+gives 0 '' ''
+holds app.properties '# \xe9\n\xe9 : \x80\n\\u00f1 : "\n'
+
+# Java, which takes each byte of a stream for a character, reads the texts that were put in.
+cat >../Load.java <<'JAVA'
+import java.io.PrintStream;
+import java.util.Properties;
+import java.util.TreeSet;
+
+class Load {
+    public static void main(String[] arguments) throws Exception {
+        Properties pairs = new Properties();
+        pairs.load(System.in);
+        PrintStream output = new PrintStream(System.out, false, "UTF-8");
+        for (String key : new TreeSet<>(pairs.stringPropertyNames())) {
+            output.print(key + "|" + pairs.getProperty(key) + "\n");
+        }
+        output.flush();
+    }
+}
+JAVA
+if javac -d .. ../Load.java 2>../errors; then
+    given 'price  = 4\n'
+    run -a set price ' 5 € \é 🐞 ' set 'żółw: #' $'\t=\x7f\xc2\x80\n' set 'ÿ' ''
+    cp ../output ../input
+    command='java Load'
+    java -cp .. Load <../input >../output 2>../errors
+    status=$?
+    gives 0 'price| 5 € \\é 🐞 \nÿ|\nżółw: #|\t=\x7f\xc2\x80\n\n' ''
+else
+    echo 'try_propedit.sh: no JDK: Java reads nothing' >&2
+fi
+
 # What is not UTF-8, where that is in force
 
 given 'a = 1\n# x\nb = caf\xe9\nc = \xff\n'
@@ -414,6 +464,9 @@ is_refused "invalid value 'latin-9' for '--encoding <NAME>': no encoding has thi
 is_refused "unexpected argument '-x' found" -x get a
 is_refused "unexpected argument '--fil' found" --fil app.properties get a
 is_refused "the argument '--null' cannot be used multiple times" -zz list
+for words in 'get a' list check 'remove a' 'remove a remove b'; do
+    is_refused "the argument '--ascii' cannot be used with '${words%% *}'" -a $words
+done
 is_refused "the argument '--null' cannot be used multiple times" -z --null list
 is_refused "the argument '--encoding <NAME>' cannot be used multiple times" -e utf-8 -e utf-8 get a
 is_refused "the argument '--default <VALUE>' cannot be used multiple times" -d 1 -d 2 get a

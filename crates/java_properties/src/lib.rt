@@ -26,7 +26,9 @@ mod writer;
 pub use copy::CopyError;
 pub use iter::{PropertiesIter, Stopped, key_lines, malformed_escapes, read_lines, value_of};
 pub use maps::{read, read_sorted, write, write_sorted};
-pub use properties_editing::{Document, Edit, edit_all, remove_key, set_key, set_value};
+pub use properties_editing::{
+    Document, Edit, edit_all, edit_all_ascii, remove_key, set_key, set_value,
+};
 pub use properties_items::borrowed::{ContentRef, LineRef};
 pub use properties_items::error::{At, Cause, ErrorKind, PropertiesError, Reason};
 pub use properties_items::findings::{KeyLine, MalformedEscape};

@@ -188,6 +188,13 @@ const EDITS: &[Row] = &[
         "",
         b"# x\na : 3\nb = 2",
     ),
+    (
+        &["-a", "-i", EDITED, "set", "a", "\u{e9}"],
+        b"# \xc3\xa9\na : 1",
+        0,
+        "",
+        b"# \xc3\xa9\na : \\u00e9",
+    ),
     // Nothing changes.
     (
         &["-i", EDITED, "set", "a", "3"],

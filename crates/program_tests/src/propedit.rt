@@ -240,6 +240,28 @@ const EDITS: &[Row] = &[
         b"a = 1\r\nb: 2\r\nc: 3\r\n",
         "",
     ),
+    // In ASCII alone, characters are put in as escapes, and those that are there stay.
+    (
+        &["-a", "set", "a", "5 \u{20ac} \u{e9} \u{1f41e}"],
+        b"a = 1\n",
+        0,
+        b"a = 5 \\u20ac \\u00e9 \\ud83d\\udc1e\n",
+        "",
+    ),
+    (
+        &["--ascii", "-e", "latin1", "set", "\u{e9}", "\u{20ac}"],
+        b"# \xe9\nb : \xe9\n",
+        0,
+        b"# \xe9\nb : \xe9\n\\u00e9 : \\u20ac\n",
+        "",
+    ),
+    (
+        &["-a", "remove", "b", "set", "a", "\u{e9}"],
+        b"a=1\nb=2\n",
+        0,
+        b"a=\\u00e9\n",
+        "",
+    ),
 ];
 
 #[test]
@@ -461,6 +483,22 @@ const OTHER_WORDS: &[Refusal] = &[
     (
         &["-z", "remove", "a"],
         "error: the argument '--null' cannot be used with 'remove'",
+    ),
+    (
+        &["-a", "get", "a"],
+        "error: the argument '--ascii' cannot be used with 'get'",
+    ),
+    (
+        &["-a", "list"],
+        "error: the argument '--ascii' cannot be used with 'list'",
+    ),
+    (
+        &["-a", "check"],
+        "error: the argument '--ascii' cannot be used with 'check'",
+    ),
+    (
+        &["-a", "remove", "a"],
+        "error: the argument '--ascii' cannot be used with 'remove'",
     ),
     (
         &["--create", "set", "a", "1"],

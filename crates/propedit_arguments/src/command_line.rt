@@ -36,7 +36,8 @@ fn with_options<'a>(alloc: Global, command: Command<'a>) -> Result<Command<'a>, 
         .arg(create(alloc)?)?
         .arg(encoding(alloc))?
         .arg(default(alloc))?
-        .arg(null(alloc))
+        .arg(null(alloc))?
+        .arg(ascii(alloc))
 }
 
 fn file<'a>(alloc: Global) -> Arg<'a> {
@@ -89,6 +90,14 @@ fn null<'a>(alloc: Global) -> Arg<'a> {
         .long("null")
         .action(ArgAction::SetTrue)
         .help("Ends each text of get and list with a zero byte, and not a line feed")
+}
+
+fn ascii<'a>(alloc: Global) -> Arg<'a> {
+    Arg::new(alloc, "ascii")
+        .short('a')
+        .long("ascii")
+        .action(ArgAction::SetTrue)
+        .help("Writes what set puts in as ASCII alone, which Java reads in every encoding")
 }
 
 fn get<'a>(alloc: Global) -> Result<Command<'a>, AllocError> {

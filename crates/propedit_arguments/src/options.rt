@@ -16,6 +16,7 @@ pub struct Options<'a> {
     pub encoding: Encoding,
     pub default: Option<&'a str>,
     pub end: TextEnd,
+    pub ascii_only: bool,
 }
 
 /// Returns the options before the command of this name.
@@ -31,6 +32,7 @@ pub fn options_in<'a>(
         encoding: encoding(matches)?,
         default: matches.get_str("default"),
         end: end(matches),
+        ascii_only: matches.get_flag("ascii"),
     })
 }
 
@@ -76,6 +78,10 @@ impl<'a> Options<'a> {
 
     pub fn refuse_zero(&self) -> Result<(), Mistake<'a>> {
         self.refuse(self.end == TextEnd::Zero, "--null")
+    }
+
+    pub fn refuse_ascii(&self) -> Result<(), Mistake<'a>> {
+        self.refuse(self.ascii_only, "--ascii")
     }
 
     fn refuse(&self, is_given: bool, option: &'static str) -> Result<(), Mistake<'a>> {

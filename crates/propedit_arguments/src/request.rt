@@ -10,7 +10,7 @@ use clap::error::ErrorKind;
 use clap::{ArgMatches, Error};
 use counted_io::CountedWrite;
 use java_properties::Edit;
-use properties_tools::propedit::asked::{CheckedFiles, Command, FileEdits, Request};
+use properties_tools::propedit::asked::{CheckedFiles, Command, Edits, FileEdits, Request};
 use properties_tools::propedit::{lack_memory, refuse, show};
 use std::alloc::{AllocError, Global};
 
@@ -109,6 +109,7 @@ fn get<'a>(
     words: &ArgMatches<'a>,
 ) -> Result<Request, Mistake<'a>> {
     options.refuse_in_place()?;
+    options.refuse_ascii()?;
     let key = owned(alloc, words.get_str("KEY"))?;
     let default = match options.default {
         Some(value) => Some(String::from_str(alloc, value)?),
@@ -124,6 +125,7 @@ fn list<'a>(
 ) -> Result<Request, Mistake<'a>> {
     options.refuse_in_place()?;
     options.refuse_default()?;
+    options.refuse_ascii()?;
     let prefix = owned(alloc, words.get_str("PREFIX"))?;
     options.work(alloc, Command::List(prefix, options.end))
 }
@@ -136,6 +138,7 @@ fn check<'a>(
     options.refuse_in_place()?;
     options.refuse_default()?;
     options.refuse_zero()?;
+    options.refuse_ascii()?;
     let Some(names) = words.get_strs("FILE") else {
         return options.work(alloc, Command::Check);
     };
@@ -149,10 +152,17 @@ fn check<'a>(
 fn change<'a>(
     alloc: Global,
     options: &Options<'a>,
-    edits: Vec<Edit>,
+    list: Vec<Edit>,
 ) -> Result<Request, Mistake<'a>> {
     options.refuse_default()?;
     options.refuse_zero()?;
+    if !list.iter().any(sets_value) {
+        options.refuse_ascii()?;
+    }
+    let edits = Edits {
+        list,
+        ascii_only: options.ascii_only,
+    };
     let Some(path) = options.in_place else {
         return options.work(alloc, Command::Change(edits));
     };
@@ -162,6 +172,13 @@ fn change<'a>(
         edits,
         missing: options.missing,
     }))
+}
+
+fn sets_value(edit: &Edit) -> bool {
+    match edit {
+        Edit::Put(_, _) | Edit::SetValue(_, _) => true,
+        Edit::Remove(_) => false,
+    }
 }
 
 fn paths(alloc: Global, names: &[&str]) -> Result<Vec<String>, AllocError> {

@@ -1,5 +1,5 @@
 -- What the calls of a document come to.
-use Rattle.std.proofs.Common.{◌≡◌, ℕ, ◌+◌, Bool, true, List, [], ◌∷◌, ◌++◌, length, take, drop, refl, ap, ap₂, sym, ◌∙◌, subst, length-append, arith}
+use Rattle.std.proofs.Common.{◌≡◌, ℕ, ◌+◌, Bool, true, false, List, [], ◌∷◌, ◌++◌, length, take, drop, refl, ap, ap₂, sym, ◌∙◌, subst, length-append, arith}
 use Rattle.std.specs.Prelude.{Option, Some, None, Result, Ok, Err, IfOk, OnOk}
 use Rattle.std.specs.Borrow.{Bor}
 use Rattle.std.specs.Global.{Vec}
@@ -36,7 +36,8 @@ use Rattle.properties_editing.specs.Private.Sources.{IsInForce}
 use Rattle.properties_editing.specs.declared.edit.document.Document.TheInside.{Inside}
 use Rattle.properties_editing.specs.declared.edit.index.Index.{Index}
 use Rattle.properties_editing.specs.declared.edit.source.BodyStart.{BodyStart}
-use Rattle.properties_editing.proofs.Editing.{bom-front, editable, made-edits, result-made}
+use Rattle.properties_editing.proofs.Editing.{bom-front, editable, result-made}
+use Rattle.properties_editing.proofs.EditsInTurn.{made-edits}
 use Rattle.properties_editing.proofs.IndexParsed.{kept-index}
 use Rattle.properties_editing.proofs.IndexValues.{map-values}
 
@@ -57,16 +58,16 @@ again {e} {old} {opened} new body h whole is =
     }
 
 pub set-again : {e : Encoding} {old : List ℕ} {opened : BodyStart} (key value new : List ℕ) → IsInForce old e opened → is_editable (encoding_of opened.encoding) ≡ true
-    → IsSet e old key value new → IsInForce new e opened
-set-again {e} {old} key value new h ok s =
+    → IsSet e opened.ascii_only old key value new → IsInForce new e opened
+set-again {e} {old} {opened} key value new h ok s =
     let k = s.edit.result.2 in
-    again new k.body h k.whole (key_set-in_force e old key value new (editable h ok) k)
+    again new k.body h k.whole (key_set-in_force e opened.ascii_only old key value new (editable h ok) k)
 
 pub value-again : {e : Encoding} {old : List ℕ} {opened : BodyStart} (key value new : List ℕ) → IsInForce old e opened → is_editable (encoding_of opened.encoding) ≡ true
-    → HasValueSet e old key value new → IsInForce new e opened
-value-again {e} {old} key value new h ok s =
+    → HasValueSet e opened.ascii_only old key value new → IsInForce new e opened
+value-again {e} {old} {opened} key value new h ok s =
     let k = s.edit.result.2 in
-    again new k.body h k.whole (value_set-in_force e old key value new (editable h ok) k)
+    again new k.body h k.whole (value_set-in_force e opened.ascii_only old key value new (editable h ok) k)
 
 pub removed-again : {e : Encoding} {old : List ℕ} {opened : BodyStart} (key new : List ℕ) → IsInForce old e opened → is_editable (encoding_of opened.encoding) ≡ true
     → IsRemoved e old key new → IsInForce new e opened
@@ -169,7 +170,7 @@ module _ (d : Inside) (i : IsDocument d) (source : Vec ℕ) (index : Index) wher
   after = record d { source = source; index = index }
 
   same-bytes : source.items ≡ d.source.items → open_document after ≡ open_document d
-  same-bytes is = ap (λ v. let w : OpenDocument = record { encoding = encoding_of d.encoding; bytes = v } in w) is
+  same-bytes is = ap (λ v. let w : OpenDocument = record { encoding = encoding_of d.encoding; bytes = v; ascii_only = d.opened.ascii_only } in w) is
 
   kept : source.items ≡ d.source.items → IsIndex (held_groups_of (encoding_of d.opened.encoding) (drop d.opened.start d.source.items)) index → IsDocument after
   kept is h =
@@ -187,7 +188,7 @@ module _ (d : Inside) (i : IsDocument d) (source : Vec ℕ) (index : Index) wher
   put-ends key value (Ok done) h =
       let k = h (encoding_of d.encoding) i.in_force in (
         record { in_force = set-again key value source.items i.in_force i.editable k.set; editable = i.editable; sound = k.sound; is_index = k.is_index },
-        (refl, k.set),
+        (refl, refl, k.set),
       )
   put-ends key value (Err error) h = (kept h.0 (kept-index _ d.index index i.is_index h.1), same-bytes h.0)
 
@@ -197,7 +198,7 @@ module _ (d : Inside) (i : IsDocument d) (source : Vec ℕ) (index : Index) wher
   value-ends key value (Ok done) h =
       let k = h (encoding_of d.encoding) i.in_force in (
         record { in_force = value-again key value source.items i.in_force i.editable k.set; editable = i.editable; sound = k.sound; is_index = k.is_index },
-        (refl, k.set),
+        (refl, refl, k.set),
       )
   value-ends key value (Err error) h = (kept h.0 (kept-index _ d.index index i.is_index h.1), same-bytes h.0)
 
@@ -208,7 +209,7 @@ module _ (d : Inside) (i : IsDocument d) (source : Vec ℕ) (index : Index) wher
       let k = h (encoding_of d.encoding) i.in_force in
       let checked = checks_has_key (λ p. characters p.value) (open_document d) key (stored_at d.index.pairs.entries key) (has-value d i key (stored_value d.index.pairs.entries key) refl) in (
         record { in_force = removed-again key source.items i.in_force i.editable k.removed; editable = i.editable; sound = k.sound; is_index = k.is_index },
-        record { encoding = refl; removed = k.removed; checked = subst (ChecksHasKey (open_document d) key) (sym is) checked },
+        record { encoding = refl; ascii_only = refl; removed = k.removed; checked = subst (ChecksHasKey (open_document d) key) (sym is) checked },
       )
 
 -- ---- a document that is opened
@@ -216,23 +217,27 @@ module _ (d : Inside) (i : IsDocument d) (source : Vec ℕ) (index : Index) wher
 -- It is one, and comes to the source as it is.
 pub record IsOpened (d : Inside) (source : List ℕ) : Type 0 where
   pub document : IsDocument d
-  pub same : open_document d ≡ record { encoding = encoding_of d.encoding; bytes = source }
-  pub made : AreMade (encoding_of d.encoding) source [] source
+  pub same : open_document d ≡ record { encoding = encoding_of d.encoding; bytes = source; ascii_only = false }
+  pub made : AreMade (encoding_of d.encoding) false source [] source
 
-own-opened : (d : Inside) → IsDocument d → IsOpened d d.source.items
-own-opened d i = record { document = i; same = refl; made = made-edits [] tt (result-made d.source.items i.in_force i.editable i.sound) }
+own-opened : (d : Inside) → IsDocument d → d.opened.ascii_only ≡ false → IsOpened d d.source.items
+own-opened d i off = record {
+  document = i;
+  same = ap (λ b. let w : OpenDocument = record { encoding = encoding_of d.encoding; bytes = d.source.items; ascii_only = b } in w) off;
+  made = made-edits [] tt (result-made d.source.items i.in_force i.editable i.sound);
+}
 
 pub opens-document : (d : Inside) (source : List ℕ) → d.source.items ≡ source → IsInForce source (encoding_of d.encoding) d.opened → is_editable (encoding_of d.opened.encoding) ≡ true
-    → AreSound (held_groups_of (encoding_of d.opened.encoding) (drop d.opened.start source))
+    → d.opened.ascii_only ≡ false → AreSound (held_groups_of (encoding_of d.opened.encoding) (drop d.opened.start source))
     → IsIndex (held_groups_of (encoding_of d.opened.encoding) (drop d.opened.start source)) d.index → IsOpened d source
-opens-document d source copy force ok sound index =
+opens-document d source copy force ok off sound index =
     let f = encoding_of d.opened.encoding in
     subst (IsOpened d) copy (own-opened d (record {
       in_force = subst (λ v. IsInForce v (encoding_of d.encoding) d.opened) (sym copy) force;
       editable = ok;
       sound = subst (λ v. AreSound (held_groups_of f (drop d.opened.start v))) (sym copy) sound;
       is_index = subst (λ v. IsIndex (held_groups_of f (drop d.opened.start v)) d.index) (sym copy) index;
-    }))
+    }) off)
 
 -- ---- an edit of a list
 

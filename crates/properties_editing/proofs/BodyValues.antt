@@ -526,12 +526,12 @@ front-first e body g key value ok h pair =
     (ap (take (length front)) all ∙ take-append_seam front _, (omega arith))
 
 -- A pair by itself with another value.
-pub value-new : {e : Encoding} {body : List ℕ} {group : Group} {s : GroupReader} (value line separator bytes : List ℕ) (size : ℕ) (span : Span) → is_editable e ≡ true
+pub value-new : {e : Encoding} {only : Bool} {body : List ℕ} {group : Group} {s : GroupReader} (value line separator bytes : List ℕ) (size : ℕ) (span : Span) → is_editable e ≡ true
     → line ≡ text_of body s group → IsFirstGroup e body group s → (a : IsPairAlone e body) → IsBetweenAt line span
     → false ≡ is_pair_to value (outcome_of (chars line)) → IsFrontSize e body size → separator ≡ bytes_in line span
-    → bytes ≡ encoded_text e (value_text e (chars separator) value)
-    → IsNewValue e body value (record { front_size = size; bytes = bytes })
-value-new {e} {body} {group} {s} value line separator bytes size span ok is f a at other front cut printed =
+    → bytes ≡ encoded_text e (value_text e only (chars separator) value)
+    → IsNewValue e only body value (record { front_size = size; bytes = bytes })
+value-new {e} {only} {body} {group} {s} value line separator bytes size span ok is f a at other front cut printed =
     let x = joined (as_lines a.group) in
     let same = alone-line line is f a in
     let m = line-pair line x span same at in
@@ -544,7 +544,7 @@ value-new {e} {body} {group} {s} value line separator bytes size span ok is f a 
       other = sym (other ∙ ap (λ v. is_pair_to value (outcome_of v)) same);
       within = subst (λ n. n ≤ length body) (sym sized) first.1;
       front = ap (λ n. take n body) sized ∙ first.0;
-      bytes_are = printed ∙ ap (λ v. encoded_text e (value_text e v value)) (ap chars cut ∙ sym m.1);
+      bytes_are = printed ∙ ap (λ v. encoded_text e (value_text e only v value)) (ap chars cut ∙ sym m.1);
     }
 
 -- ---- a separator
@@ -558,9 +558,9 @@ alone-between line is f a =
     ap last_between a.1 ∙ ap (λ x. between_if_pair (split_of x) x) (sym text)
 
 -- A source with a value for a pair, from what stays of the pair and what follows it.
-pub revalued-made : (e : Encoding) (source : List ℕ) (start end : ℕ) (value bytes : List ℕ) (new : NewValue) (n : IsNewValue e (take (end - start) (drop start source)) value new)
-    → bytes ≡ take (start + new.front_size) source ++ (new.bytes ++ drop end source) → bytes ≡ revalued_in e source start end value n.group
-revalued-made e source start end value bytes new n made =
+pub revalued-made : (e : Encoding) (only : Bool) (source : List ℕ) (start end : ℕ) (value bytes : List ℕ) (new : NewValue) (n : IsNewValue e only (take (end - start) (drop start source)) value new)
+    → bytes ≡ take (start + new.front_size) source ++ (new.bytes ++ drop end source) → bytes ≡ revalued_in e only source start end value n.group
+revalued-made e only source start end value bytes new n made =
     let part = drop start source in
     let within = n.within in
     let sized : length (take (end - start) part) ≤ end - start = length-take-most (end - start) part in
@@ -569,7 +569,7 @@ revalued-made e source start end value bytes new n made =
     let front : take (start + new.front_size) source ≡ take start source ++ front_of e n.group = take-add start new.front_size source ∙ ap (λ v. take start source ++ v) short in
     made
     ∙ ap₂ (λ v w. v ++ (w ++ drop end source)) front n.bytes_are
-    ∙ append_assoc (take start source) (front_of e n.group) (encoded_text e (value_text e (between_of n.group) value) ++ drop end source)
+    ∙ append_assoc (take start source) (front_of e n.group) (encoded_text e (value_text e only (between_of n.group) value) ++ drop end source)
     ∙ sym (cond-false (has_value value n.group) source _ n.other)
   where
     length-take-most : (n : ℕ) (d : List ℕ) → length (take n d) ≤ n

@@ -24,14 +24,12 @@ use Rattle.properties_format.proofs.Edited.Results.{set_key_result-meets, set_ke
 use Rattle.properties_format.proofs.Edited.Steps.{result-after}
 use Rattle.properties_format.proofs.InTurn.Lines.{bytes-unended}
 use Rattle.properties_format.proofs.Changed.Read.{set_key-reads, remove_key-reads}
-use Rattle.properties_format.specs.Edits.{Edit, AreScalarEdits, IsEditAllResult}
-use Rattle.properties_format.specs.Computed.Edits.{edit_all_result}
-use Rattle.properties_format.proofs.Edits.Results.{edit_all_result-meets, edit_all_result-only}
+use Rattle.properties_format.proofs.Edits.InAscii.{set_key-in_ascii}
+use Rattle.properties_format.specs.Edits.{AreScalarEdits}
 use Rattle.properties_items.proofs.Scalars.{string-scalars}
 use Rattle.properties_editing.specs.declared.edit.Edit as edit
 use Rattle.properties_editing.specs.declared.edit.Edit.TheVariants as variant
-use Rattle.properties_editing.specs.Editing.{edit_in, edits_in, AreMade, IsRefusal, IsSet, IsRemoved}
-use Rattle.properties_format.proofs.Edits.Contents.{edit_all-reads}
+use Rattle.properties_editing.specs.Editing.{edit_in, edits_in, IsRefusal, IsSet, IsRemoved}
 use Rattle.properties_format.proofs.Changed.Occur.{key_set-keeps, key_removed-keeps}
 use Rattle.properties_format.proofs.Edited.Pair.{editable-own}
 use Rattle.properties_text.specs.Encoding.{encoding_of}
@@ -92,28 +90,29 @@ refusal {source = source} {e} {opened} result Makes made h ok meets fault return
 
 -- ---- a key is set
 
-pub set-edits : {e : Encoding} {source key value bytes : List ℕ} → All scalar key → All scalar value → set_key_result e source key value ≡ edited bytes
-    → IsSet e source key value bytes
-set-edits {e} {source} {key} {value} {bytes} k v is =
-    let meets = subst (IsSetKeyResult e source key value) is (set_key_result-meets e source key value) in
+pub set-edits : {e : Encoding} {only : Bool} {source key value bytes : List ℕ} → All scalar key → All scalar value → set_key_result e only source key value ≡ edited bytes
+    → IsSet e only source key value bytes
+set-edits {e} {only} {source} {key} {value} {bytes} k v is =
+    let meets = subst (IsSetKeyResult e only source key value) is (set_key_result-meets e only source key value) in
     record {
       edit = record {
         result = meets;
-        only = λ other h. set_key_result-only e source key value other h ∙ is;
-        reads = set_key-reads e source key value bytes k v meets;
+        only = λ other h. set_key_result-only e only source key value other h ∙ is;
+        reads = set_key-reads e only source key value bytes k v meets;
       };
-      keeps = key_set-keeps e source key value bytes meets.2;
+      keeps = key_set-keeps e only source key value bytes meets.2;
+      ascii = λ on. set_key-in_ascii e source key value bytes (subst (λ b. IsSetKeyResult e b source key value (edited bytes)) on meets);
     }
 
 -- ---- the printed pair
 
 -- its parts are appended
-pub pair-appended : (e : Encoding) (first : Bool) (key value start all : List ℕ)
-    → all ≡ start ++ (encoded_text e (printed_key e false first key) ++ (equals_sign ∷ encoded_text e (printed_characters e false in_key_or_value value) ++ []))
-    → all ≡ start ++ pair_bytes e first key value
-pair-appended e first key value start all h =
-    let front = printed_key e false first key in
-    let back = printed_characters e false in_key_or_value value in
+pub pair-appended : (e : Encoding) (only : Bool) (first : Bool) (key value start all : List ℕ)
+    → all ≡ start ++ (encoded_text e (printed_key e only first key) ++ (equals_sign ∷ encoded_text e (printed_characters e only in_key_or_value value) ++ []))
+    → all ≡ start ++ pair_bytes e only first key value
+pair-appended e only first key value start all h =
+    let front = printed_key e only first key in
+    let back = printed_characters e only in_key_or_value value in
     h
     ∙ ap (λ v. start ++ (encoded_text e front ++ (equals_sign ∷ v))) (append-nil (encoded_text e back))
     ∙ ap (λ v. start ++ v) (sym (encoded_text-append e front (equals_sign ∷ back)
@@ -129,11 +128,11 @@ pub are_empty : (x y : List ℕ) (a b : Bool) → a ≡ (length x == 0) → b �
 are_empty x y a b h k = ap₂ (λ v w. v && w) (h ∙ no-bytes x) (k ∙ no-bytes y) ∙ sym (is_empty-append x y)
 
 -- a pair at the end is printed and ended
-pub appended : (e f : Encoding) (source separation all : List ℕ) (first other : Bool) (key value start paired ended : List ℕ) → start ≡ []
-    → paired ≡ start ++ pair_bytes e first key value → ended ≡ paired ++ line_feed ∷ [] → all ≡ source ++ (separation ++ ended) → first ≡ other
-    → all ≡ source ++ (separation ++ (pair_bytes e other key value ++ line_feed ∷ []))
-appended e f source separation all first other key value start paired ended none h k m is =
-    m ∙ ap (λ v. source ++ (separation ++ v)) (k ∙ ap (λ v. v ++ line_feed ∷ []) (h ∙ ap₂ (λ v b. v ++ pair_bytes e b key value) none is))
+pub appended : (e : Encoding) (only : Bool) (source separation all : List ℕ) (first other : Bool) (key value start paired ended : List ℕ) → start ≡ []
+    → paired ≡ start ++ pair_bytes e only first key value → ended ≡ paired ++ line_feed ∷ [] → all ≡ source ++ (separation ++ ended) → first ≡ other
+    → all ≡ source ++ (separation ++ (pair_bytes e only other key value ++ line_feed ∷ []))
+appended e only source separation all first other key value start paired ended none h k m is =
+    m ∙ ap (λ v. source ++ (separation ++ v)) (k ∙ ap (λ v. v ++ line_feed ∷ []) (h ∙ ap₂ (λ v b. v ++ pair_bytes e only b key value) none is))
 
 -- ---- a pair is replaced
 
@@ -187,8 +186,8 @@ start-first body start h = ap (λ n. n == 0) (sym (length-take-le start body h))
 pub replaced-result : {source : List ℕ} {e : Encoding} {opened : BodyStart} {found : place.KeyPlace} (key value bytes : List ℕ) (pair : BodySpan) → IsInForce source e opened
     → is_editable (encoding_of opened.encoding) ≡ true → IsKeyFound (encoding_of opened.encoding) (drop opened.start source) key found → found.pair ≡ Some pair
     → bytes ≡ take (opened.start + pair.start) source
-    ++ (pair_bytes (output_encoding (encoding_of opened.encoding)) (pair.start == 0) key value ++ drop (opened.start + pair.end) source)
-    → set_key_result e source key value ≡ edited bytes
+    ++ (pair_bytes (output_encoding (encoding_of opened.encoding)) opened.ascii_only (pair.start == 0) key value ++ drop (opened.start + pair.end) source)
+    → set_key_result e opened.ascii_only source key value ≡ edited bytes
 replaced-result {source} {e} {opened} {found} key value bytes pair h ok k is made =
     let f = encoding_of opened.encoding in
     let body = drop opened.start source in
@@ -199,16 +198,16 @@ replaced-result {source} {e} {opened} {found} key value bytes pair h ok k is mad
     let ordered = at.ordered in
     let within = at.within in
     let first : (pair.start == 0) ≡ is_empty before = start-first body pair.start (omega arith) ∙ ap is_empty at.front in
-    let printed : pair_bytes (output_encoding f) (pair.start == 0) key value ≡ pair_bytes f (is_empty before) key value =
-    ap₂ (λ v b. pair_bytes v b key value) (editable-own f ok) first in
+    let printed : pair_bytes (output_encoding f) opened.ascii_only (pair.start == 0) key value ≡ pair_bytes f opened.ascii_only (is_empty before) key value =
+    ap₂ (λ v b. pair_bytes v opened.ascii_only b key value) (editable-own f ok) first in
     let front : take (opened.start + pair.start) source ≡ bom_of source ++ before =
     part-of source opened.start pair.start h.within ∙ ap₂ (λ v w. v ++ w) (sym (bom-front h)) at.front in
     let back : drop (opened.start + pair.end) source ≡ ending_bytes (last_ending place.place.group) ++ groups_bytes place.place.after =
     sym (drop-drop pair.end opened.start source) ∙ at.back in
-    let set : key_set e source key value ≡ bytes =
-    ap (λ v. key_set_in v source key value) h.in_force
-    ∙ ap (λ v. bom_of source ++ set_at f source gs key value v) place.is
-    ∙ sym (append_assoc (bom_of source) before (pair_bytes f (is_empty before) key value ++ (ending_bytes (last_ending place.place.group) ++ groups_bytes place.place.after)))
+    let set : key_set e opened.ascii_only source key value ≡ bytes =
+    ap (λ v. key_set_in v opened.ascii_only source key value) h.in_force
+    ∙ ap (λ v. bom_of source ++ set_at f opened.ascii_only source gs key value v) place.is
+    ∙ sym (append_assoc (bom_of source) before (pair_bytes f opened.ascii_only (is_empty before) key value ++ (ending_bytes (last_ending place.place.group) ++ groups_bytes place.place.after)))
     ∙ sym (made ∙ ap₂ (λ v w. v ++ w) front (ap₂ (λ v w. v ++ w) printed back)) in
     ap (result_of e source) set ∙ result-made bytes h ok k.sound
 
@@ -218,8 +217,8 @@ replaced-result {source} {e} {opened} {found} key value bytes pair h ok k is mad
 pub appended-result : {source : List ℕ} {e : Encoding} {opened : BodyStart} {found : place.KeyPlace} (key value bytes : List ℕ) → IsInForce source e opened
     → is_editable (encoding_of opened.encoding) ≡ true → IsKeyFound (encoding_of opened.encoding) (drop opened.start source) key found → found.pair ≡ None
     → let separation = closing_bytes (added_ending source) found.closing in
-    bytes ≡ source ++ (separation ++ (pair_bytes (output_encoding (encoding_of opened.encoding)) (is_empty (drop opened.start source ++ separation)) key value ++ line_feed ∷ []))
-    → set_key_result e source key value ≡ edited bytes
+    bytes ≡ source ++ (separation ++ (pair_bytes (output_encoding (encoding_of opened.encoding)) opened.ascii_only (is_empty (drop opened.start source ++ separation)) key value ++ line_feed ∷ []))
+    → set_key_result e opened.ascii_only source key value ≡ edited bytes
 appended-result {source} {e} {opened} {found} key value bytes h ok k none made =
     let f = encoding_of opened.encoding in
     let body = drop opened.start source in
@@ -228,16 +227,16 @@ appended-result {source} {e} {opened} {found} key value bytes h ok k none made =
     let all : groups_bytes gs ≡ body = held-body f body gs ok (held_groups_of-meets f body) in
     let parts = k.closing source in
     let by = closing_bytes (added_ending source) found.closing in
-    let pair = pair_bytes f (is_empty (body ++ by)) key value ++ line_feed ∷ [] in
+    let pair = pair_bytes f opened.ascii_only (is_empty (body ++ by)) key value ++ line_feed ∷ [] in
     let whole : source ≡ bom_of source ++ body = source-whole e source ∙ ap (λ v. let w : InForce = v in bom_of source ++ w.body) h.in_force in
-    let set : key_set e source key value ≡ bytes =
-    ap (λ v. key_set_in v source key value) h.in_force
-    ∙ ap (λ v. bom_of source ++ set_at f source gs key value v) last
-    ∙ ap₂ (λ v w. bom_of source ++ ((v ++ w) ++ (pair_bytes f (is_empty (v ++ w)) key value ++ line_feed ∷ []))) all parts
+    let set : key_set e opened.ascii_only source key value ≡ bytes =
+    ap (λ v. key_set_in v opened.ascii_only source key value) h.in_force
+    ∙ ap (λ v. bom_of source ++ set_at f opened.ascii_only source gs key value v) last
+    ∙ ap₂ (λ v w. bom_of source ++ ((v ++ w) ++ (pair_bytes f opened.ascii_only (is_empty (v ++ w)) key value ++ line_feed ∷ []))) all parts
     ∙ ap (λ v. bom_of source ++ v) (append_assoc body by pair)
     ∙ sym (append_assoc (bom_of source) body (by ++ pair))
     ∙ ap (λ v. v ++ (by ++ pair)) (sym whole)
-    ∙ sym (made ∙ ap (λ v. source ++ (by ++ (pair_bytes v (is_empty (body ++ by)) key value ++ line_feed ∷ []))) (editable-own f ok)) in
+    ∙ sym (made ∙ ap (λ v. source ++ (by ++ (pair_bytes v opened.ascii_only (is_empty (body ++ by)) key value ++ line_feed ∷ []))) (editable-own f ok)) in
     ap (result_of e source) set ∙ result-made bytes h ok k.sound
 
 -- ---- the law of the source
@@ -308,16 +307,6 @@ removed-result {source} {e} {opened} key bytes others h ok k made =
     (made ∙ ap (λ v. take opened.start source ++ ((if opened.start == 0 && begins_like_bom v then line_feed ∷ [] else []) ++ v)) k.bytes)
 
 -- ---- edits in turn
-
-pub made-edits : {e : Encoding} {source bytes : List ℕ} (edits : List Edit) → AreScalarEdits edits → edit_all_result e source edits ≡ edited bytes
-    → AreMade e source edits bytes
-made-edits {e} {source} {bytes} edits scalar is =
-    let meets = subst (IsEditAllResult e source edits) is (edit_all_result-meets e source edits) in
-    record {
-      result = meets;
-      only = λ other h. edit_all_result-only e source edits other h ∙ is;
-      reads = edit_all-reads e source edits bytes scalar meets;
-    }
 
 -- the texts of edits are of scalar values
 pub edits-scalars : (edits : List edit.Edit) → AreScalarEdits (edits_in edits)

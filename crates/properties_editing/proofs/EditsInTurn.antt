@@ -1,28 +1,40 @@
 -- Edits made one after another, each to the bytes that the one before it gave.
-use Rattle.std.proofs.Common.{ℕ, List, [], ◌∷◌, ◌++◌, refl, sym, ◌∙◌, subst}
+use Rattle.std.proofs.Common.{◌≡◌, ℕ, Bool, List, [], ◌∷◌, ◌++◌, refl, sym, ◌∙◌, subst}
 use Rattle.properties_format.specs.Encoding.{Encoding}
 use Rattle.properties_format.specs.Edited.{edited, IsEditResult}
 use Rattle.properties_format.specs.Edits.{Edit, IsEdited, AreEdited, AreScalarEdits, IsEditAllResult}
-use Rattle.properties_format.proofs.Edits.Results.{edit_all_result-only}
+use Rattle.properties_format.specs.Computed.Edits.{edit_all_result}
+use Rattle.properties_format.proofs.Edits.Results.{edit_all_result-meets, edit_all_result-only}
 use Rattle.properties_format.proofs.Edits.Contents.{edit_all-reads}
+use Rattle.properties_format.proofs.Edits.InAscii.{edit_all-in_ascii}
+use Rattle.properties_format.proofs.Edits.Kept.{edit_all-kept}
 use Rattle.properties_editing.specs.Editing.{AreMade}
 
 -- One more edit is made.
-edited-more : (e : Encoding) (source : List ℕ) (edits : List Edit) (edit : Edit) (middle result : List ℕ) → AreEdited e source edits middle → IsEdited e middle edit result
-    → AreEdited e source (edits ++ edit ∷ []) result
-edited-more e source [] edit middle result h k = (result, subst (λ v. IsEdited e v edit result) h k, refl)
-edited-more e source (d ∷ edits) edit middle result (next, m, h) k = (next, m, edited-more e next edits edit middle result h k)
+edited-more : (e : Encoding) (only : Bool) (source : List ℕ) (edits : List Edit) (edit : Edit) (middle result : List ℕ) → AreEdited e only source edits middle → IsEdited e only middle edit result
+    → AreEdited e only source (edits ++ edit ∷ []) result
+edited-more e only source [] edit middle result h k = (result, subst (λ v. IsEdited e only v edit result) h k, refl)
+edited-more e only source (d ∷ edits) edit middle result (next, m, h) k = (next, m, edited-more e only next edits edit middle result h k)
 
 -- So it is of results.
-pub result-more : {e : Encoding} {source middle : List ℕ} (edits : List Edit) (edit : Edit) (result : List ℕ) → IsEditAllResult e source edits (edited middle)
-    → IsEditResult e middle (IsEdited e middle edit) (edited result)
-    → IsEditAllResult e source (edits ++ edit ∷ []) (edited result)
-result-more {e} {source} {middle} edits edit result h k = (h.0, h.1, edited-more e source edits edit middle result h.2 k.2)
+pub result-more : {e : Encoding} (only : Bool) {source middle : List ℕ} (edits : List Edit) (edit : Edit) (result : List ℕ) → IsEditAllResult e only source edits (edited middle)
+    → IsEditResult e middle (IsEdited e only middle edit) (edited result)
+    → IsEditAllResult e only source (edits ++ edit ∷ []) (edited result)
+result-more {e} only {source} {middle} edits edit result h k = (h.0, h.1, edited-more e only source edits edit middle result h.2 k.2)
 
 -- The result is the only one, and it reads as the source after the edits.
-pub result-made : {e : Encoding} {source bytes : List ℕ} (edits : List Edit) → AreScalarEdits edits → IsEditAllResult e source edits (edited bytes) → AreMade e source edits bytes
-result-made {e} {source} {bytes} edits scalar h = record {
-  result = h;
-  only = λ other k. edit_all_result-only e source edits other k ∙ sym (edit_all_result-only e source edits (edited bytes) h);
-  reads = edit_all-reads e source edits bytes scalar h;
+pub result-made : {e : Encoding} {only : Bool} {source bytes : List ℕ} (edits : List Edit) → AreScalarEdits edits → IsEditAllResult e only source edits (edited bytes) → AreMade e only source edits bytes
+result-made {e} {only} {source} {bytes} edits scalar h = record {
+  edit = record {
+    result = h;
+    only = λ other k. edit_all_result-only e only source edits other k ∙ sym (edit_all_result-only e only source edits (edited bytes) h);
+    reads = edit_all-reads e only source edits bytes scalar h;
+  };
+  keeps = edit_all-kept e only source edits bytes h;
+  ascii = λ on. edit_all-in_ascii e source edits bytes (subst (λ b. IsEditAllResult e b source edits (edited bytes)) on h);
 }
+
+-- So it is of what is computed.
+pub made-edits : {e : Encoding} {only : Bool} {source bytes : List ℕ} (edits : List Edit) → AreScalarEdits edits → edit_all_result e only source edits ≡ edited bytes
+    → AreMade e only source edits bytes
+made-edits {e} {only} {source} edits scalar is = result-made edits scalar (subst (IsEditAllResult e only source edits) is (edit_all_result-meets e only source edits))

@@ -123,41 +123,41 @@ added-index e by second body key value pb added old new ok seam plain some whole
 -- ---- the two new pairs
 
 -- The pair that setting a value adds.
-pub value-added : (e : Encoding) (by : LineEnding) (body key value added : List ℕ) (first : Bool) (old new : Index) → is_editable e ≡ true → All scalar key → All scalar value
+pub value-added : (e : Encoding) (only : Bool) (by : LineEnding) (body key value added : List ℕ) (first : Bool) (old new : Index) → is_editable e ≡ true → All scalar key → All scalar value
     → AreSound (held_groups_of e body) → IsIndex (held_groups_of e body) old → by ≡ ending_among lf (held_in (held_groups_of e body))
     → length added < 2 ^ 64
-    → (let pb = added_bytes e first key (separator_by key (last_between (held_groups_of e body))) value in
+    → (let pb = added_bytes e only first key (separator_by key (last_between (held_groups_of e body))) value in
     let start = length body + length (closing_bytes (line_ending_text by) old.closing) in
     (added ≡ body ++ (closing_bytes (line_ending_text by) old.closing ++ (pb ++ line_ending_text by)))
     × GrowsIndex key value (record { start = start; end = start + length pb }) (length body) (length (closing_bytes (line_ending_text by) (opened_closing old.closing))) old new)
     → AreSound (held_groups_of e added) × IsIndex (held_groups_of e added) new
-value-added e by body key value added first old new ok k v sounds h is fits made =
+value-added e only by body key value added first old new ok k v sounds h is fits made =
     let gs = held_groups_of e body in
     let sep = separator_by key (last_between gs) in
-    let p = added-pair e first key sep value by ok k v (new_separator-fit gs key sep (new_separator-meets gs key)) in
-    added-index e by by body key value (added_bytes e first key sep value) added old new ok (value-seam e gs (groups-lined e body gs ok (held_groups_of-meets e body)) by is) p.plain p.some p.whole
+    let p = added-pair e only first key sep value by ok k v (new_separator-fit gs key sep (new_separator-meets gs key)) in
+    added-index e by by body key value (added_bytes e only first key sep value) added old new ok (value-seam e gs (groups-lined e body gs ok (held_groups_of-meets e body)) by is) p.plain p.some p.whole
     (sym (outcome_of-only _ (given (pair key value)) p.has_pair)) sounds h fits made.0 made.1
 
 -- The pair that setting a key adds.
-pub put-added : (e : Encoding) (by : LineEnding) (body key value added : List ℕ) (first : Bool) (old new : Index) → is_editable e ≡ true → All scalar key → All scalar value
+pub put-added : (e : Encoding) (only : Bool) (by : LineEnding) (body key value added : List ℕ) (first : Bool) (old new : Index) → is_editable e ≡ true → All scalar key → All scalar value
     → AreSound (held_groups_of e body) → IsIndex (held_groups_of e body) old → (ends_in_cr body ≡ true → by ≡ cr)
     → length added < 2 ^ 64
-    → (let pb = pair_bytes e first key value in
+    → (let pb = pair_bytes e only first key value in
     let start = length body + length (closing_bytes (line_ending_text by) old.closing) in
     (added ≡ body ++ (closing_bytes (line_ending_text by) old.closing ++ (pb ++ line_ending_text lf)))
     × GrowsIndex key value (record { start = start; end = start + length pb }) (length body) (length (closing_bytes (line_ending_text by) (opened_closing old.closing))) old new)
     → AreSound (held_groups_of e added) × IsIndex (held_groups_of e added) new
-put-added e by body key value added first old new ok k v sounds h is fits made =
+put-added e only by body key value added first old new ok k v sounds h is fits made =
     let gs = held_groups_of e body in
-    let pb = pair_bytes e first key value in
+    let pb = pair_bytes e only first key value in
     let all : groups_bytes gs ≡ body = held-body e body gs ok (held_groups_of-meets e body) in
-    let text : pair_text e first key value ≡ decoded_line e pb = sym (pair-decoded e first key value ok k v) in
-    let whole : IsWhole (record { number = 0; text = decoded_line e pb } ∷ []) = subst (λ w. IsWhole (record { number = 0; text = w } ∷ [])) text (pair-whole e first key value k v) in
+    let text : pair_text e only first key value ≡ decoded_line e pb = sym (pair-decoded e only first key value ok k v) in
+    let whole : IsWhole (record { number = 0; text = decoded_line e pb } ∷ []) = subst (λ w. IsWhole (record { number = 0; text = w } ∷ [])) text (pair-whole e only first key value k v) in
     let outcome : outcome_of (joined (record { number = 0; text = decoded_line e pb } ∷ [])) ≡ given (pair key value) =
-    ap (λ w. outcome_of (joined (record { number = 0; text = w } ∷ []))) (sym text) ∙ pair-outcome e first key value k v in
+    ap (λ w. outcome_of (joined (record { number = 0; text = w } ∷ []))) (sym text) ∙ pair-outcome e only first key value k v in
     added-index e by lf body key value pb added old new ok
     (put-seam e gs (groups-lined e body gs ok (held_groups_of-meets e body)) by (λ q. is (ap ends_in_cr (sym all) ∙ q)))
-    (pair-plain e first key value ok k v) (pair-some e first key value) whole outcome sounds h fits made.0 made.1
+    (pair-plain e only first key value ok k v) (pair-some e only first key value) whole outcome sounds h fits made.0 made.1
 
 -- ---- in a source
 
@@ -194,7 +194,7 @@ pub pair-added : (opened : BodyStart) (old new key value line : List ℕ) (layou
     → opened.start ≤ length old → AreSound (held_groups_of (encoding_of opened.encoding) (drop opened.start old))
     → IsIndex (held_groups_of (encoding_of opened.encoding) (drop opened.start old)) was → stored_at was.pairs.entries key ≡ None
     → All scalar key → All scalar value → IsLayoutAfter (encoding_of opened.encoding) (drop opened.start old) was.closing key layout
-    → line ≡ unended_pair (output_encoding (encoding_of opened.encoding)) (is_empty (drop opened.start old ++ closing_bytes (line_ending_text (ending_of layout.ending)) was.closing)) key
+    → line ≡ unended_pair (output_encoding (encoding_of opened.encoding)) opened.ascii_only (is_empty (drop opened.start old ++ closing_bytes (line_ending_text (ending_of layout.ending)) was.closing)) key
     (characters layout.separator) value
     → length new < 2 ^ 64
     → IsPairAppended opened key value (line_ending_text (ending_of layout.ending)) line (line_ending_text (ending_of layout.ending)) old was new is
@@ -208,20 +208,20 @@ pair-added opened old new key value line layout was is ok start sound h none k v
     let separation = closing_bytes ending was.closing in
     let first = is_empty (body ++ separation) in
     let out = output_encoding f in
-    let line_is : line ≡ added_bytes f first key (separator_by key (last_between gs)) value =
-    printed ∙ ap₂ (λ o s. added_bytes o first key s value) (editable-own f ok) l.separates in
+    let line_is : line ≡ added_bytes f opened.ascii_only first key (separator_by key (last_between gs)) value =
+    printed ∙ ap₂ (λ o s. added_bytes o opened.ascii_only first key s value) (editable-own f ok) l.separates in
     let place : length old - opened.start ≡ length body = sym (length-drop opened.start old) in
     let bytes : drop opened.start new ≡ body ++ (separation ++ (line ++ ending)) = ap (drop opened.start) made.bytes ∙ drop-front opened.start old (separation ++ (line ++ ending)) start in
     let grown = rw (place, line_is) at made.index in
     let left_size = length-drop opened.start new in
     let left_fits : length (drop opened.start new) < 2 ^ 64 = omega arith in
-    let added = value-added f by body key value (drop opened.start new) first was is ok k v sound h (l.ends f gs ok (held_groups_of-meets f body)) left_fits
+    let added = value-added f opened.ascii_only by body key value (drop opened.start new) first was is ok k v sound h (l.ends f gs ok (held_groups_of-meets f body)) left_fits
     (bytes ∙ ap (λ w. body ++ (separation ++ (w ++ ending))) line_is, grown) in
     record {
       set = λ e force. value-edits k v
           (new_pair-result key value new layout force ok (found-none f body key was sound h none) refl l
           (made.bytes ∙ ap (λ w. old ++ (separation ++ (w ++ ending))) printed
-          ∙ ap (λ c. old ++ (closing_bytes ending c ++ (unended_pair out (is_empty (body ++ closing_bytes ending c)) key (characters layout.separator) value ++ ending))) (sym l.closes)));
+          ∙ ap (λ c. old ++ (closing_bytes ending c ++ (unended_pair out opened.ascii_only (is_empty (body ++ closing_bytes ending c)) key (characters layout.separator) value ++ ending))) (sym l.closes)));
       sound = added.0;
       is_index = added.1;
     }
@@ -238,7 +238,7 @@ pub key-added : (opened : BodyStart) (old new key value line : List ℕ) (by : L
     → opened.start ≤ length old → AreSound (held_groups_of (encoding_of opened.encoding) (drop opened.start old))
     → IsIndex (held_groups_of (encoding_of opened.encoding) (drop opened.start old)) was → stored_at was.pairs.entries key ≡ None
     → All scalar key → All scalar value → by ≡ (if ends_in_cr old then cr else lf)
-    → line ≡ pair_bytes (output_encoding (encoding_of opened.encoding)) (is_empty (drop opened.start old ++ closing_bytes (line_ending_text by) was.closing)) key value
+    → line ≡ pair_bytes (output_encoding (encoding_of opened.encoding)) opened.ascii_only (is_empty (drop opened.start old ++ closing_bytes (line_ending_text by) was.closing)) key value
     → length new < 2 ^ 64
     → IsPairAppended opened key value (line_ending_text by) line (line_ending_text lf) old was new is
     → IsKeyAdded opened key value old new is
@@ -249,7 +249,7 @@ key-added opened old new key value line by was is ok start sound h none k v ends
     let ending = line_ending_text by in
     let separation = closing_bytes ending was.closing in
     let first = is_empty (body ++ separation) in
-    let line_is : line ≡ pair_bytes f first key value = printed ∙ ap (λ o. pair_bytes o first key value) (editable-own f ok) in
+    let line_is : line ≡ pair_bytes f opened.ascii_only first key value = printed ∙ ap (λ o. pair_bytes o opened.ascii_only first key value) (editable-own f ok) in
     let place : length old - opened.start ≡ length body = sym (length-drop opened.start old) in
     let bytes : drop opened.start new ≡ body ++ (separation ++ (line ++ line_ending_text lf)) =
     ap (drop opened.start) made.bytes ∙ drop-front opened.start old (separation ++ (line ++ line_ending_text lf)) start in
@@ -259,14 +259,14 @@ key-added opened old new key value line by was is ok start sound h none k v ends
     let seam : ends_in_cr body ≡ true → by ≡ cr = λ q.
     let whole : ends_in_cr old ≡ true = ap ends_in_cr (sym (take-append-drop opened.start old)) ∙ ends-right (take opened.start old) body q in
     ends ∙ cond-true (ends_in_cr old) cr lf whole in
-    let added = put-added f by body key value (drop opened.start new) first was is ok k v sound h seam left_fits
+    let added = put-added f opened.ascii_only by body key value (drop opened.start new) first was is ok k v sound h seam left_fits
     (bytes ∙ ap (λ w. body ++ (separation ++ (w ++ line_ending_text lf))) line_is, grown) in
     record {
       set = λ e force. set-edits k v
           (appended-result key value new force ok (found-none f body key was sound h none) refl
           (made.bytes ∙ ap (λ w. old ++ (separation ++ (w ++ line_ending_text lf))) printed
           ∙ ap (λ b. let s : List ℕ = closing_bytes (line_ending_text b) was.closing in
-          old ++ (s ++ (pair_bytes (output_encoding f) (is_empty (body ++ s)) key value ++ line_ending_text lf))) ends));
+          old ++ (s ++ (pair_bytes (output_encoding f) opened.ascii_only (is_empty (body ++ s)) key value ++ line_ending_text lf))) ends));
       sound = added.0;
       is_index = added.1;
     }

@@ -73,7 +73,7 @@ module _ (opened : BodyStart) (old : List ℕ) (ok : is_editable (encoding_of op
 
   -- A source doesn't get shorter than what is kept of it.
   pub value-size : (value new : List ℕ) (group : List HeldLine)
-      → new ≡ revalued_in (encoding_of opened.encoding) old (opened.start + pair.start) (opened.start + pair.end) value group
+      → new ≡ revalued_in (encoding_of opened.encoding) opened.ascii_only old (opened.start + pair.start) (opened.start + pair.end) value group
       → length old ≤ pair.end + length new
   value-size value new group is = elim (cases_Bool (has_value value group)) [
     | inl there ↦
@@ -82,7 +82,7 @@ module _ (opened : BodyStart) (old : List ℕ) (ok : is_editable (encoding_of op
     | inr other ↦
         let e = encoding_of opened.encoding in
         let front = front_of e group in
-        let text = encoded_text e (value_text e (between_of group) value) in
+        let text = encoded_text e (value_text e opened.ascii_only (between_of group) value) in
         let s = opened.start + pair.start in
         let t = opened.start + pair.end in
         let in_old = pair-within in
@@ -154,7 +154,7 @@ module _ (e : Encoding) (opened : BodyStart) (old new key value : List ℕ) (pai
       let ending_size = ap (λ o. length (ending_bytes o)) ending in
       let starts = at.starts in
       let ends = at.ends in
-      let some = (regrouped f body key value p ok v m).old_size in
+      let some = (regrouped f opened.ascii_only body key value p ok v m).old_size in
       let new_is : pair.end + length new - length old ≡ length (groups_bytes p.before) + length (unended_bytes group) = omega arith in
       let old_is : pair.end ≡ length (groups_bytes p.before) + length (unended_bytes p.group) = omega arith in
       let fits : length (groups_bytes next) < 2 ^ 64 = omega arith in
@@ -177,7 +177,7 @@ module _ (e : Encoding) (opened : BodyStart) (old new key value : List ℕ) (pai
       → ((group : List HeldLine)
       × (held_groups_of (encoding_of opened.encoding) (take ((opened.start + pair.end) - (opened.start + pair.start)) (drop (opened.start + pair.start) old)) ≡ group ∷ [])
       × (has_value value group ≡ false)
-      × (new ≡ revalued_in (encoding_of opened.encoding) old (opened.start + pair.start) (opened.start + pair.end) value group))
+      × (new ≡ revalued_in (encoding_of opened.encoding) opened.ascii_only old (opened.start + pair.start) (opened.start + pair.end) value group))
       → FollowsPair key value pair.end (pair.end + length new - length old) (opened.start + pair.end == length old) was is
       → IsValuePut e opened key value old new is
   revalued-index k revalues follows =
@@ -187,24 +187,24 @@ module _ (e : Encoding) (opened : BodyStart) (old new key value : List ℕ) (pai
       let p = at.place in
       let m = subst (made.IsPlace key gs) at.is (last_place-meets key gs) in
       let result = revalued-result key value new pair h ok (found-at f body key pair sound at) refl (revalues.0, revalues.1, revalues.3) in
-      let set = value_set e old key value in
+      let set = value_set e opened.ascii_only old key value in
       let same : edited set ≡ edited new = sym (result-made set h ok sound) ∙ result in
       let set_is : set ≡ new = cc in
       let other : has_value value p.group ≡ false = sym (alone-value old key value opened pair ok at revalues.0 revalues.1) ∙ revalues.2 in
-      let edited_body = revalued_at f value p in
+      let edited_body = revalued_at f opened.ascii_only value p in
       let whole : new ≡ bom_of old ++ edited_body =
       sym set_is
-      ∙ ap (λ w. value_set_in w old key value) h.in_force
-      ∙ ap (λ w. bom_of old ++ valued_at f gs key value w) at.is
+      ∙ ap (λ w. value_set_in w opened.ascii_only old key value) h.in_force
+      ∙ ap (λ w. bom_of old ++ valued_at f opened.ascii_only gs key value w) at.is
       ∙ ap (λ w. bom_of old ++ w) (cond-false (has_value value p.group) (groups_bytes gs) edited_body other) in
-      let r = regrouped f body key value p ok v m in
+      let r = regrouped f opened.ascii_only body key value p ok v m in
       let kept = followed-index r.group edited_body whole r.is_groups r.has_pair r.ending r.full r.whole follows in
       record { set = value-edits k v result; sound = kept.0; is_index = kept.1 }
 
   -- The printed pair is in its place.
   pub reput-index : All scalar key
       → new ≡ take (opened.start + pair.start) old
-      ++ (pair_bytes (output_encoding (encoding_of opened.encoding)) (pair.start == 0) key value ++ drop (opened.start + pair.end) old)
+      ++ (pair_bytes (output_encoding (encoding_of opened.encoding)) opened.ascii_only (pair.start == 0) key value ++ drop (opened.start + pair.end) old)
       → FollowsPair key value pair.end (pair.end + length new - length old) (opened.start + pair.end == length old) was is
       → IsPairPut e opened key value old new is
   reput-index k bytes follows =
@@ -214,13 +214,13 @@ module _ (e : Encoding) (opened : BodyStart) (old new key value : List ℕ) (pai
       let p = at.place in
       let m = subst (made.IsPlace key gs) at.is (last_place-meets key gs) in
       let result = replaced-result key value new pair h ok (found-at f body key pair sound at) refl bytes in
-      let set = key_set e old key value in
+      let set = key_set e opened.ascii_only old key value in
       let same : edited set ≡ edited new = sym (result-made set h ok sound) ∙ result in
       let set_is : set ≡ new = cc in
-      let edited_body = set_at f old gs key value (Some p) in
+      let edited_body = set_at f opened.ascii_only old gs key value (Some p) in
       let whole : new ≡ bom_of old ++ edited_body =
-      sym set_is ∙ ap (λ w. key_set_in w old key value) h.in_force ∙ ap (λ w. bom_of old ++ set_at f old gs key value w) at.is in
-      let r = reput-of f old body key value p.before p.group p.after ok k v m.has m.division in
+      sym set_is ∙ ap (λ w. key_set_in w opened.ascii_only old key value) h.in_force ∙ ap (λ w. bom_of old ++ set_at f opened.ascii_only old gs key value w) at.is in
+      let r = reput-of f opened.ascii_only old body key value p.before p.group p.after ok k v m.has m.division in
       let kept = followed-index r.group edited_body whole r.is_groups r.has_pair r.ending r.full r.whole follows in
       record { set = set-edits k v result; sound = kept.0; is_index = kept.1 }
 
@@ -232,7 +232,7 @@ module _ (e : Encoding) (opened : BodyStart) (old new key value : List ℕ) (pai
       → IsValuePut e opened key value old old was
   same-value k there =
       let f = encoding_of opened.encoding in
-      let bytes : old ≡ revalued_in f old (opened.start + pair.start) (opened.start + pair.end) value there.0 = sym (cond-true (has_value value there.0) old _ there.2) in
+      let bytes : old ≡ revalued_in f opened.ascii_only old (opened.start + pair.start) (opened.start + pair.end) value there.0 = sym (cond-true (has_value value there.0) old _ there.2) in
       record {
         set = value-edits k v (revalued-result key value old pair h ok (found-at f (drop opened.start old) key pair sound at) refl (there.0, there.1, bytes));
         sound = sound;

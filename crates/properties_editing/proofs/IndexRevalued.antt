@@ -1,5 +1,5 @@
 -- A body in which a pair gets another value: its groups are those of the body with one replaced.
-use Rattle.std.proofs.Common.{◌≡◌, ◌≢◌, ◌<◌, ℕ, ◌+◌, true, false, List, [], ◌∷◌, ◌++◌, refl, ap, sym, ◌∙◌, append_assoc, subst, length, length-append, arith}
+use Rattle.std.proofs.Common.{◌≡◌, ◌≢◌, ◌<◌, ℕ, ◌+◌, Bool, true, false, List, [], ◌∷◌, ◌++◌, refl, ap, sym, ◌∙◌, append_assoc, subst, length, length-append, arith}
 use Rattle.std.specs.Prelude.{All}
 use Rattle.properties_format.specs.Text.{scalar}
 use Rattle.properties_format.specs.Encoding.{Encoding}
@@ -48,19 +48,19 @@ pair-size e group between front f =
 -- ---- the groups
 
 -- The group of a pair is replaced by one that is the pair with its key and the value, and ends as it did.
-pub record IsRegrouped (e : Encoding) (key value : List ℕ) (p : KeyPlace) : Type 0 where
+pub record IsRegrouped (e : Encoding) (only : Bool) (key value : List ℕ) (p : KeyPlace) : Type 0 where
   pub group : List HeldLine
-  pub is_groups : p.before ++ group ∷ p.after ≡ held_groups_of e (revalued_at e value p)
+  pub is_groups : p.before ++ group ∷ p.after ≡ held_groups_of e (revalued_at e only value p)
   pub has_pair : HasPair key value group
   pub ending : last_ending group ≡ last_ending p.group
-  pub bytes : unended_bytes group ≡ front_of e p.group ++ encoded_text e (value_text e (between_of p.group) value)
+  pub bytes : unended_bytes group ≡ front_of e p.group ++ encoded_text e (value_text e only (between_of p.group) value)
   pub old_size : 0 < length (unended_bytes p.group)
   pub full : is_empty_line group ≡ false
   pub whole : IsWhole (as_lines group)
 
-pub regrouped : (e : Encoding) (body key value : List ℕ) (p : KeyPlace) → is_editable e ≡ true → All scalar value → made.IsLastPlace key (held_groups_of e body) p
-    → IsRegrouped e key value p
-regrouped e body key value p ok v m =
+pub regrouped : (e : Encoding) (only : Bool) (body key value : List ℕ) (p : KeyPlace) → is_editable e ≡ true → All scalar value → made.IsLastPlace key (held_groups_of e body) p
+    → IsRegrouped e only key value p
+regrouped e only body key value p ok v m =
     let gs = held_groups_of e body in
     let held = held_groups_of-meets e body in
     let raw = raw-pair key p.group m.has in
@@ -73,23 +73,23 @@ regrouped e body key value p ok v m =
     let line_plain = plain-lines f.kept f.line f.more (group-plain e p.before (f.kept ++ f.line ∷ f.more) p.after lined) in
     let ending = last_ending (f.kept ++ f.line ∷ f.more) in
     let ends : ending ≡ last_ending p.group = ap last_ending (sym f.division) in
-    let c = changed-pair e p.group key between front value ending f ok v fit line_plain m.has in
-    let line = new_line e f.head between value ending in
+    let c = changed-pair e only p.group key between front value ending f ok v fit line_plain m.has in
+    let line = new_line e only f.head between value ending in
     let g = f.kept ++ line ∷ [] in
     let groups = p.before ++ g ∷ p.after in
-    let next : AreLined e groups = changed-lined e p.before f.kept f.line f.more p.after (new_bytes e f.head between value) lined c.plain c.some c.whole in
-    let bytes : groups_bytes groups ≡ revalued_at e value p =
-    revalued-bytes e p.before f.kept f.head between front value ending p.after f.bytes
-    ∙ ap (λ o. groups_bytes p.before ++ (front ++ (encoded_text e (value_text e between value) ++ (ending_bytes o ++ groups_bytes p.after)))) ends in
+    let next : AreLined e groups = changed-lined e p.before f.kept f.line f.more p.after (new_bytes e only f.head between value) lined c.plain c.some c.whole in
+    let bytes : groups_bytes groups ≡ revalued_at e only value p =
+    revalued-bytes e only p.before f.kept f.head between front value ending p.after f.bytes
+    ∙ ap (λ o. groups_bytes p.before ++ (front ++ (encoded_text e (value_text e only between value) ++ (ending_bytes o ++ groups_bytes p.after)))) ends in
     record {
       group = g;
-      is_groups = held_groups_of-only e (revalued_at e value p) groups (subst (λ w. AreGroupsOf e w groups) bytes (lined-groups e groups ok next));
+      is_groups = held_groups_of-only e (revalued_at e only value p) groups (subst (λ w. AreGroupsOf e w groups) bytes (lined-groups e groups ok next));
       has_pair = c.has_pair;
       ending = last_ending-push f.kept line ∙ ends;
       bytes =
           unended-kept f.kept line
-          ∙ sym (append_assoc (group_bytes f.kept) f.head (encoded_text e (value_text e between value)))
-          ∙ ap (λ w. w ++ encoded_text e (value_text e between value)) (sym f.bytes);
+          ∙ sym (append_assoc (group_bytes f.kept) f.head (encoded_text e (value_text e only between value)))
+          ∙ ap (λ w. w ++ encoded_text e (value_text e only between value)) (sym f.bytes);
       old_size = pair-size e p.group between front f;
       full = push-full f.kept line c.some;
       whole = c.whole;

@@ -23,3 +23,4 @@ pub mod IndexChanged
 pub mod IndexAdded
 pub mod EditComparisons
 pub mod Editing
+pub mod Repertoires

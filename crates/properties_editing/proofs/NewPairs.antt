@@ -19,18 +19,18 @@ use Rattle.properties_editing.proofs.BodyGroups.{no-bytes}
 -- ---- a value after its separator
 
 -- an equals sign comes first where nothing separates key and value
-pub value-unseparated : (e : Encoding) (line raw all separator value : List ℕ) → separator ≡ [] → raw ≡ line ++ equals_sign ∷ []
-    → all ≡ raw ++ encoded_text e (printed_value e false value) → all ≡ line ++ encoded_text e (value_text e separator value)
-value-unseparated e line raw all separator value none h k =
-    let back = encoded_text e (printed_value e false value) in
+pub value-unseparated : (e : Encoding) (only : Bool) (line raw all separator value : List ℕ) → separator ≡ [] → raw ≡ line ++ equals_sign ∷ []
+    → all ≡ raw ++ encoded_text e (printed_value e only false value) → all ≡ line ++ encoded_text e (value_text e only separator value)
+value-unseparated e only line raw all separator value none h k =
+    let back = encoded_text e (printed_value e only false value) in
     k ∙ ap (λ v. v ++ back) h
     ∙ append_assoc line (equals_sign ∷ []) back
-    ∙ ap (λ v. line ++ v) (sym (ap (λ v. encoded_text e (value_text e v value)) none ∙ ap (λ o. unwrap_or o [] ++ back) (encoded-ascii e equals_sign (lit< tt))))
+    ∙ ap (λ v. line ++ v) (sym (ap (λ v. encoded_text e (value_text e only v value)) none ∙ ap (λ o. unwrap_or o [] ++ back) (encoded-ascii e equals_sign (lit< tt))))
 
 -- and none where something does
-pub value-separated : (e : Encoding) (separator value : List ℕ) → separator ≢ [] → printed_value e (is_blanks separator) value ≡ value_text e separator value
-value-separated e [] value some = absurd (some refl)
-value-separated e (c ∷ cs) value some = refl
+pub value-separated : (e : Encoding) (only : Bool) (separator value : List ℕ) → separator ≢ [] → printed_value e only (is_blanks separator) value ≡ value_text e only separator value
+value-separated e only [] value some = absurd (some refl)
+value-separated e only (c ∷ cs) value some = refl
 
 -- a text without bytes has no characters, and one with bytes has some
 pub text-empty : (x : List ℕ) → true ≡ (length x == 0) → chars x ≡ []
@@ -74,35 +74,35 @@ pub ending-bytes : (bs : List ℕ) (by : LineEnding) → IsUtf8 bs → chars bs 
 ending-bytes bs by u h = line_ending-bytes windows_1252 bs by u h ∙ encoded_text-ascii windows_1252 (line_ending_text by) (line_end-ascii by)
 
 -- A key, a separator and a value, one after the other.
-pub new_pair-unended : (e : Encoding) (start keyed separated valued separator separator_bytes key value : List ℕ) (after_blanks : Bool)
+pub new_pair-unended : (e : Encoding) (only : Bool) (start keyed separated valued separator separator_bytes key value : List ℕ) (after_blanks : Bool)
     → keyed ≡ start ++ encoded_text e key → separated ≡ keyed ++ separator_bytes → separator_bytes ≡ encoded_text e separator
-    → valued ≡ separated ++ encoded_text e (printed_value e after_blanks value) → after_blanks ≡ is_blanks separator
-    → valued ≡ start ++ encoded_text e (key ++ (separator ++ printed_value e (is_blanks separator) value))
-new_pair-unended e start keyed separated valued separator separator_bytes key value after_blanks h i j k l =
-    let back = printed_value e (is_blanks separator) value in
+    → valued ≡ separated ++ encoded_text e (printed_value e only after_blanks value) → after_blanks ≡ is_blanks separator
+    → valued ≡ start ++ encoded_text e (key ++ (separator ++ printed_value e only (is_blanks separator) value))
+new_pair-unended e only start keyed separated valued separator separator_bytes key value after_blanks h i j k l =
+    let back = printed_value e only (is_blanks separator) value in
     let parts : encoded_text e (key ++ (separator ++ back)) ≡ encoded_text e key ++ (encoded_text e separator ++ encoded_text e back) =
     encoded_text-append e key (separator ++ back) ∙ ap (λ v. encoded_text e key ++ v) (encoded_text-append e separator back) in
-    k ∙ ap₂ (λ v b. v ++ encoded_text e (printed_value e b value)) (i ∙ ap₂ (λ v w. v ++ w) h j) l
+    k ∙ ap₂ (λ v b. v ++ encoded_text e (printed_value e only b value)) (i ∙ ap₂ (λ v w. v ++ w) h j) l
     ∙ append_assoc (start ++ encoded_text e key) (encoded_text e separator) (encoded_text e back)
     ∙ append_assoc start (encoded_text e key) (encoded_text e separator ++ encoded_text e back)
     ∙ ap (λ v. start ++ v) (sym parts)
 
 -- They are followed by a line ending.
-pub new_pair-ended : (e : Encoding) (start printed all separator key value ending_bytes : List ℕ) (first : Bool) (by : LineEnding)
-    → printed ≡ start ++ encoded_text e (printed_key e false first key ++ (separator ++ printed_value e (is_blanks separator) value))
+pub new_pair-ended : (e : Encoding) (only : Bool) (start printed all separator key value ending_bytes : List ℕ) (first : Bool) (by : LineEnding)
+    → printed ≡ start ++ encoded_text e (printed_key e only first key ++ (separator ++ printed_value e only (is_blanks separator) value))
     → all ≡ printed ++ ending_bytes → ending_bytes ≡ line_ending_text by
-    → all ≡ start ++ (encoded_text e (printed_key e false first key ++ (separator ++ printed_value e (is_blanks separator) value)) ++ line_ending_text by)
-new_pair-ended e start printed all separator key value ending_bytes first by h m n =
+    → all ≡ start ++ (encoded_text e (printed_key e only first key ++ (separator ++ printed_value e only (is_blanks separator) value)) ++ line_ending_text by)
+new_pair-ended e only start printed all separator key value ending_bytes first by h m n =
     m ∙ ap₂ (λ v w. v ++ w) h n
-    ∙ append_assoc start (encoded_text e (printed_key e false first key ++ (separator ++ printed_value e (is_blanks separator) value))) (line_ending_text by)
+    ∙ append_assoc start (encoded_text e (printed_key e only first key ++ (separator ++ printed_value e only (is_blanks separator) value))) (line_ending_text by)
 
 -- A new pair after a source, and what separates it from the source.
-pub new_pair-appended : (e : Encoding) (source rest separation raw_separation empty closing_bytes printed all key separator value ending : List ℕ) (first : Bool)
-    → all ≡ source ++ (printed ++ []) → printed ≡ closing_bytes ++ (encoded_text e (printed_key e false first key ++ (separator ++ printed_value e (is_blanks separator) value)) ++ ending)
+pub new_pair-appended : (e : Encoding) (only : Bool) (source rest separation raw_separation empty closing_bytes printed all key separator value ending : List ℕ) (first : Bool)
+    → all ≡ source ++ (printed ++ []) → printed ≡ closing_bytes ++ (encoded_text e (printed_key e only first key ++ (separator ++ printed_value e only (is_blanks separator) value)) ++ ending)
     → closing_bytes ≡ empty ++ raw_separation → empty ≡ [] → raw_separation ≡ separation → first ≡ is_empty (rest ++ separation)
-    → all ≡ source ++ (separation ++ new_pair_bytes e (rest ++ separation) key separator value ending)
-new_pair-appended e source rest separation raw_separation empty closing_bytes printed all key separator value ending first h i j k l m =
-    let pair : Bool → List ℕ = λ b. encoded_text e (printed_key e false b key ++ (separator ++ printed_value e (is_blanks separator) value)) ++ ending in
+    → all ≡ source ++ (separation ++ new_pair_bytes e only (rest ++ separation) key separator value ending)
+new_pair-appended e only source rest separation raw_separation empty closing_bytes printed all key separator value ending first h i j k l m =
+    let pair : Bool → List ℕ = λ b. encoded_text e (printed_key e only b key ++ (separator ++ printed_value e only (is_blanks separator) value)) ++ ending in
     h ∙ ap (λ v. source ++ v) (append-nil printed ∙ i ∙ ap₂ (λ v b. v ++ pair b) (j ∙ ap₂ (λ v w. v ++ w) k l) m)
 
 -- ---- the separator of a new pair

@@ -20,6 +20,7 @@ use Rattle.properties_format.proofs.Edited.Contents.{key-outcome}
 use Rattle.properties_format.proofs.Edited.Made as made
 use Rattle.properties_format.proofs.Edited.Made.{last_place-meets}
 use Rattle.properties_format.proofs.Valued.Made.{group-decoded, set_value_result-meets, set_value_result-only, raw-pair}
+use Rattle.properties_format.proofs.Edits.InAscii.{set_value-in_ascii}
 use Rattle.properties_format.proofs.Valued.Read.{set_value-reads, value_set-keeps, value_set-keeps_front}
 use Rattle.properties_format.proofs.Valued.Unended.{without_ending, unended-joined, unended-front, unended-between, unended-value}
 use Rattle.properties_format.proofs.Edited.Pair.{editable-own}
@@ -103,8 +104,8 @@ pub revalued-result : {source : List ℕ} {e : Encoding} {opened : BodyStart} {f
     → is_editable (encoding_of opened.encoding) ≡ true → IsKeyFound (encoding_of opened.encoding) (drop opened.start source) key found → found.pair ≡ Some pair
     → ((group : List HeldLine)
     × (held_groups_of (encoding_of opened.encoding) (take ((opened.start + pair.end) - (opened.start + pair.start)) (drop (opened.start + pair.start) source)) ≡ group ∷ [])
-    × (bytes ≡ revalued_in (encoding_of opened.encoding) source (opened.start + pair.start) (opened.start + pair.end) value group))
-    → set_value_result e source key value ≡ edited bytes
+    × (bytes ≡ revalued_in (encoding_of opened.encoding) opened.ascii_only source (opened.start + pair.start) (opened.start + pair.end) value group))
+    → set_value_result e opened.ascii_only source key value ≡ edited bytes
 revalued-result {source} {e} {opened} {found} key value bytes pair h ok k is (group, alone, made) =
     let f = encoding_of opened.encoding in
     let body = drop opened.start source in
@@ -130,26 +131,26 @@ revalued-result {source} {e} {opened} {found} key value bytes pair h ok k is (gr
     sym (drop-drop pair.end opened.start source) ∙ part.back in
     let whole : source ≡ bom_of source ++ body = source-whole e source ∙ ap (λ v. let w : InForce = v in bom_of source ++ w.body) h.in_force in
     let all : groups_bytes gs ≡ body = held-body f body gs ok (held_groups_of-meets f body) in
-    let set : value_set e source key value ≡ bom_of source ++ (if has_value value p.group then groups_bytes gs else revalued_at f value p) =
-    ap (λ v. value_set_in v source key value) h.in_force
-    ∙ ap (λ v. bom_of source ++ valued_at f gs key value v) at.is in
-    let is_made : value_set e source key value ≡ bytes =
+    let set : value_set e opened.ascii_only source key value ≡ bom_of source ++ (if has_value value p.group then groups_bytes gs else revalued_at f opened.ascii_only value p) =
+    ap (λ v. value_set_in v opened.ascii_only source key value) h.in_force
+    ∙ ap (λ v. bom_of source ++ valued_at f opened.ascii_only gs key value v) at.is in
+    let is_made : value_set e opened.ascii_only source key value ≡ bytes =
     elim (cases_Bool (has_value value p.group)) [
       | inl there ↦
           set
-          ∙ ap (λ v. bom_of source ++ v) (cond-true (has_value value p.group) (groups_bytes gs) (revalued_at f value p) there ∙ all)
+          ∙ ap (λ v. bom_of source ++ v) (cond-true (has_value value p.group) (groups_bytes gs) (revalued_at f opened.ascii_only value p) there ∙ all)
           ∙ sym whole
           ∙ sym (made ∙ cond-true (has_value value group) source _ (has_is ∙ there))
       | inr other ↦
-          let tail = encoded_text f (value_text f (between_of p.group) value) in
+          let tail = encoded_text f (value_text f opened.ascii_only (between_of p.group) value) in
           let rest = ending_bytes (last_ending p.group) ++ groups_bytes p.after in
           set
-          ∙ ap (λ v. bom_of source ++ v) (cond-false (has_value value p.group) (groups_bytes gs) (revalued_at f value p) other)
+          ∙ ap (λ v. bom_of source ++ v) (cond-false (has_value value p.group) (groups_bytes gs) (revalued_at f opened.ascii_only value p) other)
           ∙ sym (append_assoc (bom_of source) (groups_bytes p.before) (front_of f p.group ++ (tail ++ rest)))
           ∙ sym (made
           ∙ cond-false (has_value value group) source _ (has_is ∙ other)
           ∙ ap₂ (λ v w. v ++ w) front
-          (ap₂ (λ v w. v ++ w) front_is (ap₂ (λ v w. v ++ w) (ap (λ b. encoded_text f (value_text f b value)) between_is) back)))
+          (ap₂ (λ v w. v ++ w) front_is (ap₂ (λ v w. v ++ w) (ap (λ b. encoded_text f (value_text f opened.ascii_only b value)) between_is) back)))
     ] in
     ap (result_of e source) is_made ∙ result-made bytes h ok k.sound
 
@@ -159,8 +160,8 @@ pub new_pair-result : {source : List ℕ} {e : Encoding} {opened : BodyStart} {f
     → IsLayoutAfter (encoding_of opened.encoding) (drop opened.start source) found.closing key layout
     → let ending = line_ending_text (ending_of layout.ending) in
     let separation = closing_bytes ending layout.closing in
-    bytes ≡ source ++ (separation ++ new_pair_bytes (output_encoding (encoding_of opened.encoding)) (drop opened.start source ++ separation) key (characters layout.separator) value ending)
-    → set_value_result e source key value ≡ edited bytes
+    bytes ≡ source ++ (separation ++ new_pair_bytes (output_encoding (encoding_of opened.encoding)) opened.ascii_only (drop opened.start source ++ separation) key (characters layout.separator) value ending)
+    → set_value_result e opened.ascii_only source key value ≡ edited bytes
 new_pair-result {source} {e} {opened} {found} key value bytes layout h ok k none l made =
     let f = encoding_of opened.encoding in
     let body = drop opened.start source in
@@ -173,32 +174,33 @@ new_pair-result {source} {e} {opened} {found} key value bytes layout h ok k none
     let parts : separation_by (ending_in gs) (final_group gs) ≡ by =
     ap (λ v. separation_by v (final_group gs)) ends ∙ closing_bytes-any (final_group gs) found.closing (k.closing []) ending ∙ ap (closing_bytes ending) (sym l.closes) in
     let separator = separator_by key (last_between gs) in
-    let pair = new_pair_bytes f (body ++ by) key (characters layout.separator) value ending in
+    let pair = new_pair_bytes f opened.ascii_only (body ++ by) key (characters layout.separator) value ending in
     let whole : source ≡ bom_of source ++ body = source-whole e source ∙ ap (λ v. let w : InForce = v in bom_of source ++ w.body) h.in_force in
-    let set : value_set e source key value ≡ bytes =
-    ap (λ v. value_set_in v source key value) h.in_force
-    ∙ ap (λ v. bom_of source ++ valued_at f gs key value v) last
-    ∙ ap₂ (λ v w. bom_of source ++ ((v ++ w) ++ new_pair_bytes f (v ++ w) key separator value (ending_in gs))) all parts
-    ∙ ap₂ (λ v w. bom_of source ++ ((body ++ by) ++ new_pair_bytes f (body ++ by) key v value w)) (sym l.separates) ends
+    let set : value_set e opened.ascii_only source key value ≡ bytes =
+    ap (λ v. value_set_in v opened.ascii_only source key value) h.in_force
+    ∙ ap (λ v. bom_of source ++ valued_at f opened.ascii_only gs key value v) last
+    ∙ ap₂ (λ v w. bom_of source ++ ((v ++ w) ++ new_pair_bytes f opened.ascii_only (v ++ w) key separator value (ending_in gs))) all parts
+    ∙ ap₂ (λ v w. bom_of source ++ ((body ++ by) ++ new_pair_bytes f opened.ascii_only (body ++ by) key v value w)) (sym l.separates) ends
     ∙ ap (λ v. bom_of source ++ v) (append_assoc body by pair)
     ∙ sym (append_assoc (bom_of source) body (by ++ pair))
     ∙ ap (λ v. v ++ (by ++ pair)) (sym whole)
-    ∙ sym (made ∙ ap (λ v. source ++ (by ++ new_pair_bytes v (body ++ by) key (characters layout.separator) value ending)) (editable-own f ok)) in
+    ∙ sym (made ∙ ap (λ v. source ++ (by ++ new_pair_bytes v opened.ascii_only (body ++ by) key (characters layout.separator) value ending)) (editable-own f ok)) in
     ap (result_of e source) set ∙ result-made bytes h ok k.sound
 
 -- What the result is, how it reads, and what it keeps.
-pub value-edits : {e : Encoding} {source key value bytes : List ℕ} → All scalar key → All scalar value → set_value_result e source key value ≡ edited bytes
-    → HasValueSet e source key value bytes
-value-edits {e} {source} {key} {value} {bytes} k v is =
-    let meets = subst (IsSetValueResult e source key value) is (set_value_result-meets e source key value) in
+pub value-edits : {e : Encoding} {only : Bool} {source key value bytes : List ℕ} → All scalar key → All scalar value → set_value_result e only source key value ≡ edited bytes
+    → HasValueSet e only source key value bytes
+value-edits {e} {only} {source} {key} {value} {bytes} k v is =
+    let meets = subst (IsSetValueResult e only source key value) is (set_value_result-meets e only source key value) in
     record {
       edit = record {
         result = meets;
-        only = λ other h. set_value_result-only e source key value other h ∙ is;
-        reads = set_value-reads e source key value bytes k v meets;
+        only = λ other h. set_value_result-only e only source key value other h ∙ is;
+        reads = set_value-reads e only source key value bytes k v meets;
       };
-      keeps = value_set-keeps e source key value bytes meets.2;
-      keeps_front = value_set-keeps_front e source key value bytes meets.0 meets.2;
+      keeps = value_set-keeps e only source key value bytes meets.2;
+      keeps_front = value_set-keeps_front e only source key value bytes meets.0 meets.2;
+      ascii = λ on. set_value-in_ascii e source key value bytes (subst (λ b. IsSetValueResult e b source key value (edited bytes)) on meets);
     }
 
 -- The pair that was found in a source is a pair by itself.

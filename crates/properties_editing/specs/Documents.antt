@@ -8,24 +8,30 @@ use Rattle.properties_format.specs.Edits.{IsEditAllResult}
 use Rattle.properties_editing.specs.Editing.{AreMade, HasValueSet, IsRefusal, IsSet, IsRemoved}
 use Rattle.properties_items.specs.declared.error.PropertiesError.{PropertiesError}
 
--- A document as its callers see it: the requested encoding, and the document's bytes.
+-- A document as its callers see it: the requested encoding, the document's bytes, and whether what is put in is written
+-- in ASCII alone.
 pub record OpenDocument : Type 0 where
   pub encoding : Encoding
   pub bytes : List ℕ
+  pub ascii_only : Bool
 
 -- A source was opened unchanged; or it was refused, as `edit_all` refuses it.
 abbrev pub OpensDocument : Encoding → List ℕ → Result OpenDocument PropertiesError → Type 0
-OpensDocument e source (Ok d) = (d ≡ record { encoding = e; bytes = source }) × AreMade e source [] source
-OpensDocument e source (Err error) = IsRefusal (IsEditAllResult e source []) error
+OpensDocument e source (Ok d) = (d ≡ record { encoding = e; bytes = source; ascii_only = false }) × AreMade e false source [] source
+OpensDocument e source (Err error) = IsRefusal (IsEditAllResult e false source []) error
+
+-- What the edits after this put in is written in ASCII alone, or not. All else is as it was.
+abbrev pub TurnsAsciiOnly : Bool → OpenDocument → OpenDocument → Type 0
+TurnsAsciiOnly only old new = new ≡ record old { ascii_only = only }
 
 -- A key was set to a value; or memory ran out, and the document is unchanged.
 abbrev pub PutsInto : {E : Type 0} → List ℕ → List ℕ → OpenDocument → Result Unit E → OpenDocument → Type 0
-PutsInto key value old (Ok done) new = (new.encoding ≡ old.encoding) × IsSet old.encoding old.bytes key value new.bytes
+PutsInto key value old (Ok done) new = (new.encoding ≡ old.encoding) × (new.ascii_only ≡ old.ascii_only) × IsSet old.encoding old.ascii_only old.bytes key value new.bytes
 PutsInto key value old (Err error) new = new ≡ old
 
 -- The value of a key was set; or memory ran out, and the document is unchanged.
 abbrev pub SetsValueIn : {E : Type 0} → List ℕ → List ℕ → OpenDocument → Result Unit E → OpenDocument → Type 0
-SetsValueIn key value old (Ok done) new = (new.encoding ≡ old.encoding) × HasValueSet old.encoding old.bytes key value new.bytes
+SetsValueIn key value old (Ok done) new = (new.encoding ≡ old.encoding) × (new.ascii_only ≡ old.ascii_only) × HasValueSet old.encoding old.ascii_only old.bytes key value new.bytes
 SetsValueIn key value old (Err error) new = new ≡ old
 
 -- Read in its encoding, a document has this value for a key: that of the last pair with the key, or none if no pair has
@@ -41,6 +47,7 @@ ChecksHasKey d key false = HasValueAt d key None
 -- A key was removed, and the result says whether a pair had it.
 pub record RemovesFrom (key : List ℕ) (old : OpenDocument) (was_there : Bool) (new : OpenDocument) : Type 0 where
   pub encoding : new.encoding ≡ old.encoding
+  pub ascii_only : new.ascii_only ≡ old.ascii_only
   pub removed : IsRemoved old.encoding old.bytes key new.bytes
   pub checked : ChecksHasKey old key was_there
 

@@ -1,5 +1,5 @@
 -- The results of edits.
-use Rattle.std.specs.Prelude.{◌≡◌, ◌⊎◌, ℕ, List, Result, Ok, Err, map, string_bytes}
+use Rattle.std.specs.Prelude.{◌≡◌, ◌⊎◌, ℕ, Bool, true, false, List, Result, Ok, Err, map, string_bytes}
 use Rattle.std.specs.Str.{chars}
 use Rattle.std.specs.Global.{Vec}
 use Rattle.properties_format.specs.Encoding.{Encoding}
@@ -8,7 +8,8 @@ use Rattle.properties_format.specs.Edited.{EditResult, edited, unsupported, unre
 use Rattle.properties_format.specs.Edits.{put, remove, set_value, IsEditAllResult}
 use Rattle.properties_format.specs.Edits as format
 use Rattle.properties_format.specs.Valued.{IsSetValueResult, KeepsFront}
-use Rattle.properties_format.specs.Changed.{IsSetIn, IsRemovedIn, AreEditedIn, map_edited, map_after, AreOthersThanLast, AreOthers, ReadsAfter, KeepsOthers}
+use Rattle.properties_format.specs.Changed.{IsSetIn, IsRemovedIn, AreEditedIn, map_edited, map_after, AreOthersThanLast, AreOthers, ReadsAfter, KeepsOthers, AreKept}
+use Rattle.properties_format.specs.AsciiOnly.{IsInAscii}
 use Rattle.properties_items.specs.Errors.{IsBareError, IsMalformed}
 use Rattle.properties_editing.specs.declared.edit.Edit.{Edit}
 use Rattle.properties_editing.specs.declared.edit.Edit.TheVariants.{Put, Remove, SetValue}
@@ -30,25 +31,29 @@ pub record IsEdit (IsMeant : EditResult → Type 0) (Reads : List ℕ → Type 0
 
 -- ---- a key
 
--- The source with a key set: its result, how it reads, and that it keeps every group but the last pair with the key.
-pub record IsSet (e : Encoding) (source key value bytes : List ℕ) : Type 0 where
-  pub edit : IsEdit (IsSetKeyResult e source key value) (ReadsAfter (IsSetIn key value) (map_edited (put key value)) e source) bytes
+-- The source with a key set, in ASCII alone or not: its result, how it reads, that it keeps every group but the last pair
+-- with the key, and that in ASCII alone only ASCII is put in.
+pub record IsSet (e : Encoding) (only : Bool) (source key value bytes : List ℕ) : Type 0 where
+  pub edit : IsEdit (IsSetKeyResult e only source key value) (ReadsAfter (IsSetIn key value) (map_edited (put key value)) e source) bytes
   pub keeps : KeepsOthers (AreOthersThanLast key) e source bytes
+  pub ascii : only ≡ true → IsInAscii source bytes
 
 abbrev pub SetsKey : Encoding → List ℕ → List ℕ → List ℕ → Result (Vec ℕ) PropertiesError → Type 0
-SetsKey e source key value (Ok bytes) = IsSet e source key value bytes.items
-SetsKey e source key value (Err error) = IsRefusal (IsSetKeyResult e source key value) error
+SetsKey e source key value (Ok bytes) = IsSet e false source key value bytes.items
+SetsKey e source key value (Err error) = IsRefusal (IsSetKeyResult e false source key value) error
 
--- The source with the value of a key set: its result, how it reads, that it keeps every group but the last pair with the
--- key, and that it keeps every byte outside that pair's value.
-pub record HasValueSet (e : Encoding) (source key value bytes : List ℕ) : Type 0 where
-  pub edit : IsEdit (IsSetValueResult e source key value) (ReadsAfter (IsSetIn key value) (map_edited (put key value)) e source) bytes
+-- The source with the value of a key set, in ASCII alone or not: its result, how it reads, that it keeps every group but
+-- the last pair with the key, that it keeps every byte outside that pair's value, and that in ASCII alone only ASCII is
+-- put in.
+pub record HasValueSet (e : Encoding) (only : Bool) (source key value bytes : List ℕ) : Type 0 where
+  pub edit : IsEdit (IsSetValueResult e only source key value) (ReadsAfter (IsSetIn key value) (map_edited (put key value)) e source) bytes
   pub keeps : KeepsOthers (AreOthersThanLast key) e source bytes
   pub keeps_front : KeepsFront e source key bytes
+  pub ascii : only ≡ true → IsInAscii source bytes
 
 abbrev pub SetsValue : Encoding → List ℕ → List ℕ → List ℕ → Result (Vec ℕ) PropertiesError → Type 0
-SetsValue e source key value (Ok bytes) = HasValueSet e source key value bytes.items
-SetsValue e source key value (Err error) = IsRefusal (IsSetValueResult e source key value) error
+SetsValue e source key value (Ok bytes) = HasValueSet e false source key value bytes.items
+SetsValue e source key value (Err error) = IsRefusal (IsSetValueResult e false source key value) error
 
 -- The source without a key: its result, how it reads, and that it keeps every group that isn't a pair with the key.
 pub record IsRemoved (e : Encoding) (source key bytes : List ℕ) : Type 0 where
@@ -69,13 +74,22 @@ edit_in (SetValue key value) = set_value (chars (string_bytes key)) (chars (stri
 abbrev pub edits_in : List Edit → List format.Edit
 edits_in edits = map edit_in edits
 
--- The source after edits: its result, and how it reads.
-abbrev pub AreMade : Encoding → List ℕ → List format.Edit → List ℕ → Type 0
-AreMade e source edits bytes = IsEdit (IsEditAllResult e source edits) (ReadsAfter (AreEditedIn edits) (map_after edits) e source) bytes
+-- The source after edits, in ASCII alone or not: its result, how it reads, that each edit keeps the rest of what the one
+-- before it gave, and that in ASCII alone only ASCII is put in.
+pub record AreMade (e : Encoding) (only : Bool) (source : List ℕ) (edits : List format.Edit) (bytes : List ℕ) : Type 0 where
+  pub edit : IsEdit (IsEditAllResult e only source edits) (ReadsAfter (AreEditedIn edits) (map_after edits) e source) bytes
+  pub keeps : AreKept e only source edits bytes
+  pub ascii : only ≡ true → IsInAscii source bytes
+
+abbrev pub MakesEdits : Encoding → Bool → List ℕ → List format.Edit → Result (Vec ℕ) PropertiesError → Type 0
+MakesEdits e only source edits (Ok bytes) = AreMade e only source edits bytes.items
+MakesEdits e only source edits (Err error) = IsRefusal (IsEditAllResult e only source edits) error
 
 abbrev pub EditsAll : Encoding → List ℕ → List format.Edit → Result (Vec ℕ) PropertiesError → Type 0
-EditsAll e source edits (Ok bytes) = AreMade e source edits bytes.items
-EditsAll e source edits (Err error) = IsRefusal (IsEditAllResult e source edits) error
+EditsAll e source edits result = MakesEdits e false source edits result
+
+abbrev pub EditsAllAscii : Encoding → List ℕ → List format.Edit → Result (Vec ℕ) PropertiesError → Type 0
+EditsAllAscii e source edits result = MakesEdits e true source edits result
 
 -- Both are the same edit, with the same texts.
 abbrev pub IsSameEdit : Edit → Edit → Type 0

@@ -8,7 +8,7 @@ ghost use Rattle.properties_format.specs.Edited.{is_editable};
 ghost use Rattle.properties_format.specs.Computed.Body.{held_groups_of};
 ghost use Rattle.properties_format.specs.Computed.Edited.{AreSound};
 ghost use Rattle.properties_editing.specs.Private.BodyIndex.{IsIndex, MakesEdit};
-ghost use Rattle.properties_editing.specs.Editing.{EditsAll, RemovesKey, SetsKey, SetsValue, edit_in, edits_in};
+ghost use Rattle.properties_editing.specs.Editing.{EditsAll, EditsAllAscii, MakesEdits, RemovesKey, SetsKey, SetsValue, edit_in, edits_in};
 
 mod append;
 mod document;
@@ -63,7 +63,7 @@ pub fn set_key(
     ensures splitting { SplittingCommutes (encoding_of encoding) source.now }
 {
     // UTF-16 is refused before any line is read.
-    let opened = BodyStart::open(source, encoding)?;
+    let opened = BodyStart::open(source, encoding, false)?;
     let place = find_key(alloc, opened.encoding, &source[opened.start..], key)?;
     let bytes = match place.pair {
         Some(pair) => replaced(alloc, source, opened, pair, key, value)?,
@@ -110,7 +110,7 @@ pub fn set_value(
     ensures sets { SetsValue (encoding_of encoding) source.now (chars key.now) (chars value.now) result }
     ensures splitting { SplittingCommutes (encoding_of encoding) source.now }
 {
-    let opened = BodyStart::open(source, encoding)?;
+    let opened = BodyStart::open(source, encoding, false)?;
     let body = &source[opened.start..];
     let place = find_key(alloc, opened.encoding, body, key)?;
     let bytes = match place.pair {
@@ -146,7 +146,7 @@ pub fn remove_key(
     ensures removes { RemovesKey (encoding_of encoding) source.now (chars key.now) result }
     ensures splitting { SplittingCommutes (encoding_of encoding) source.now }
 {
-    let opened = BodyStart::open(source, encoding)?;
+    let opened = BodyStart::open(source, encoding, false)?;
     let others = spans_without_key(alloc, opened.encoding, &source[opened.start..], key)?;
     let bytes = reduced_to(alloc, source, opened, &others)?;
     Ok(bytes)
@@ -186,7 +186,44 @@ pub fn edit_all(
     ensures edits { EditsAll (encoding_of encoding) source.now (edits_in edits.now) result }
     ensures splitting { SplittingCommutes (encoding_of encoding) source.now }
 {
-    let opened = BodyStart::open(source, encoding)?;
+    edit_all_with(alloc, source, encoding, false, edits)
+}
+
+/// Returns the source after these edits, as [`edit_all`] does, and writes ASCII alone: in a key or a value that an edit
+/// puts in, every character past U+007F becomes a `\u` escape, or two above U+FFFF.
+///
+/// What stands in the source and isn't replaced stays as it is, also past ASCII. If the source is ASCII, so is the
+/// result, and it has the same items in windows-1252 and in UTF-8. Java reads a file as ISO 8859-1, so it needs such
+/// escapes.
+///
+/// ```text
+/// let edits = vec![in alloc; Edit::SetValue(price, value)]?;
+/// let edited = edit_all_ascii(alloc, b"price = 4\n", Encoding::UTF_8, &edits)?;
+/// // If the value is `5 €`: `price = 5 \u20ac` and a line feed.
+/// ```
+pub fn edit_all_ascii(
+    alloc: Global,
+    source: &[u8],
+    encoding: Encoding,
+    edits: &[Edit],
+) -> Result<Vec<u8>, PropertiesError>
+    ensures edits { EditsAllAscii (encoding_of encoding) source.now (edits_in edits.now) result }
+    ensures splitting { SplittingCommutes (encoding_of encoding) source.now }
+{
+    edit_all_with(alloc, source, encoding, true, edits)
+}
+
+// Returns the source after these edits, which are written in ASCII alone or not.
+fn edit_all_with(
+    alloc: Global,
+    source: &[u8],
+    encoding: Encoding,
+    ascii_only: bool,
+    edits: &[Edit],
+) -> Result<Vec<u8>, PropertiesError>
+    ensures { MakesEdits (encoding_of encoding) ascii_only source.now (edits_in edits.now) result }
+{
+    let opened = BodyStart::open(source, encoding, ascii_only)?;
     let mut index = Index::parse(alloc, opened.encoding, &source[opened.start..])?;
     let mut bytes = source.to_vec(alloc)?;
     for edit in edits {

@@ -2,7 +2,7 @@
 //!
 //! The functions do nothing: each states laws as its contract.
 
-ghost use Rattle.std.specs.Prelude.{ℕ, List};
+ghost use Rattle.std.specs.Prelude.{ℕ, Bool, List};
 ghost use Rattle.properties_format.specs.Encoding.{Encoding};
 ghost use Rattle.properties_format.specs.Edits.{Edit};
 ghost use Rattle.properties_format.specs.EditLaws.{RemovingNoPairChangesNothing, SettingTwiceIsSettingOnce};
@@ -11,9 +11,9 @@ ghost use Rattle.properties_format.specs.EditLaws.{SettingItsOwnValueChangesNoth
 ghost use Rattle.properties_format.specs.EditLaws.{SettingAValueAgainChangesNothing, SettingAValueGivesIt};
 ghost use Rattle.properties_format.specs.EditLaws.{NoEditsChangeNothing, OneEditIsItsCall, ListsOfEditsFollow};
 
-/// The effects of edits, for every source. Removing a key that no pair has changes no byte. Setting a key twice is the
-/// same as setting it once, to the later value. After a key is set, the map has its value; after a key is removed, the
-/// map has no value for it. Every other key keeps its value.
+/// The effects of edits, for every source, in ASCII alone or not. Removing a key that no pair has changes no byte.
+/// Setting a key twice is the same as setting it once, to the later value. After a key is set, the map has its value;
+/// after a key is removed, the map has no value for it. Every other key keeps its value.
 ///
 /// A value that is set with its layout kept is in the map as well. Setting the value that a key has changes no byte,
 /// nor does setting a value again. Setting a value twice is the same as setting it once, to the later value, if the
@@ -28,14 +28,14 @@ ghost use Rattle.properties_format.specs.EditLaws.{NoEditsChangeNothing, OneEdit
 /// ```
 pub fn editing()
     ensures absent { (e : Encoding) (source key : List ℕ) → RemovingNoPairChangesNothing e source key }
-    ensures twice { (e : Encoding) (source key v w : List ℕ) → SettingTwiceIsSettingOnce e source key v w }
-    ensures set { (e : Encoding) (source key value : List ℕ) → SettingGivesTheValue e source key value }
+    ensures twice { (e : Encoding) (only : Bool) (source key v w : List ℕ) → SettingTwiceIsSettingOnce e only source key v w }
+    ensures set { (e : Encoding) (only : Bool) (source key value : List ℕ) → SettingGivesTheValue e only source key value }
     ensures removed { (e : Encoding) (source key : List ℕ) → RemovingTakesTheValue e source key }
-    ensures own_value { (e : Encoding) (source key value : List ℕ) → SettingItsOwnValueChangesNothing e source key value }
-    ensures value_twice { (e : Encoding) (source key v w : List ℕ) → SettingAValueTwiceIsSettingItOnce e source key v w }
-    ensures value_again { (e : Encoding) (source key value : List ℕ) → SettingAValueAgainChangesNothing e source key value }
-    ensures value { (e : Encoding) (source key value : List ℕ) → SettingAValueGivesIt e source key value }
-    ensures none { (e : Encoding) (source : List ℕ) → NoEditsChangeNothing e source }
-    ensures one { (e : Encoding) (source : List ℕ) (edit : Edit) → OneEditIsItsCall e source edit }
-    ensures lists { (e : Encoding) (source : List ℕ) (xs ys : List Edit) → ListsOfEditsFollow e source xs ys }
+    ensures own_value { (e : Encoding) (only : Bool) (source key value : List ℕ) → SettingItsOwnValueChangesNothing e only source key value }
+    ensures value_twice { (e : Encoding) (only : Bool) (source key v w : List ℕ) → SettingAValueTwiceIsSettingItOnce e only source key v w }
+    ensures value_again { (e : Encoding) (only : Bool) (source key value : List ℕ) → SettingAValueAgainChangesNothing e only source key value }
+    ensures value { (e : Encoding) (only : Bool) (source key value : List ℕ) → SettingAValueGivesIt e only source key value }
+    ensures none { (e : Encoding) (only : Bool) (source : List ℕ) → NoEditsChangeNothing e only source }
+    ensures one { (e : Encoding) (only : Bool) (source : List ℕ) (edit : Edit) → OneEditIsItsCall e only source edit }
+    ensures lists { (e : Encoding) (only : Bool) (source : List ℕ) (xs ys : List Edit) → ListsOfEditsFollow e only source xs ys }
 {}

@@ -1,10 +1,10 @@
 //! Edits `.properties` files that are in memory, and says the laws of edits.
 //!
-//! [`set_key`], [`set_value`] and [`remove_key`] make one edit, [`edit_all`] a list of them. A [`Document`] is a source
-//! that is kept open for edits. `java_properties` hands all of it on.
+//! [`set_key`], [`set_value`] and [`remove_key`] make one edit, [`edit_all`] and [`edit_all_ascii`] a list of them. A
+//! [`Document`] is a source that is kept open for edits. `java_properties` hands all of it on.
 #![tactic(auto)]
 
 mod edit;
 pub mod laws;
 
-pub use edit::{Document, Edit, edit_all, remove_key, set_key, set_value};
+pub use edit::{Document, Edit, edit_all, edit_all_ascii, remove_key, set_key, set_value};

@@ -6,7 +6,8 @@ ghost use Rattle.std.specs.Prelude.{◌<◌};
 
 use crate::same::same;
 use java_properties::{
-    Document, Edit, Encoding, PropertiesError, edit_all, remove_key, set_key, set_value, value_of,
+    Document, Edit, Encoding, PropertiesError, edit_all, edit_all_ascii, remove_key, set_key,
+    set_value, value_of,
 };
 use std::alloc::{AllocError, Global};
 use std::process::Abort;
@@ -49,7 +50,29 @@ fn check_edits(
     }
     let listed = edit_all(alloc, source, Encoding::WINDOWS_1252, &edits)?;
     same(rt, listed.as_slice(), wanted.as_slice());
+    check_ascii(rt, alloc, source, &edits, &document)?;
     check_source(rt, alloc, &document, KEYS[numbers.below(7)])
+}
+
+// A document and a list give the same bytes in ASCII alone. They say what the other document says.
+fn check_ascii(
+    rt: &impl Abort,
+    alloc: Global,
+    source: &[u8],
+    edits: &[Edit],
+    other: &Document,
+) -> Result<(), Fail> {
+    let mut document = Document::parse(alloc, source, Encoding::WINDOWS_1252)?;
+    document.set_ascii_only(true);
+    for edit in edits {
+        change(&mut document, edit)?;
+    }
+    let listed = edit_all_ascii(alloc, source, Encoding::WINDOWS_1252, edits)?;
+    same(rt, listed.as_slice(), document.source());
+    for key in KEYS {
+        check_value(rt, document.get(key), other.get(key));
+    }
+    Ok(())
 }
 
 fn change(document: &mut Document, edit: &Edit) -> Result<(), AllocError> {

@@ -12,7 +12,6 @@ pub mod Texts
 use Rattle.std.specs.Prelude.{◌≡◌, ◌≢◌, ◌⊎◌, ℕ, List, Option, Some, None, Result, Ok, Err, codes}
 use Rattle.std.specs.Global.{Vec}
 use Rattle.counted_io.specs.Streams.{Reader, Sink}
-use Rattle.properties_format.specs.Edits.{Edit}
 use Rattle.properties_format.specs.Encoding.{Encoding}
 use Rattle.properties_text.specs.Encoding.{encoding_of}
 use Rattle.java_properties.specs.WholeSources.{GivesWhole, ReadsSource, WritesSource}
@@ -21,6 +20,7 @@ use Rattle.properties_tools.specs.Propedit.Answers.{name_of, Answers as Gives}
 use Rattle.properties_tools.specs.Propedit.Change.{Changes}
 use Rattle.properties_tools.specs.Propedit.Failures.{standard_output, PrintsFailure}
 use Rattle.properties_tools.specs.declared.propedit.answers.Answer.{Answer}
+use Rattle.properties_tools.specs.declared.propedit.asked.Edits.{Edits}
 use Rattle.properties_tools.specs.declared.propedit.asked.Work.{Work}
 use Rattle.properties_tools.specs.declared.propedit.error.Failure.{Failure}
 use Rattle.properties_tools.specs.declared.propedit.error.Failure.TheVariants.{Input, Output}
@@ -100,7 +100,7 @@ pub record Shows {W E : Type 0} (sink : Sink W) (error_sink : Sink E) (text : Li
 -- ---- in place
 
 -- What replaces a source: the edited bytes, which aren't its own, or nothing where they are.
-abbrev pub Replaces : Encoding → List ℕ → List Edit → Result (Option (Vec ℕ)) Failure → Type 0
+abbrev pub Replaces : Encoding → List ℕ → Edits → Result (Option (Vec ℕ)) Failure → Type 0
 Replaces e source edits (Ok (Some bytes)) = Changes e source edits (Ok bytes) × (bytes.items ≢ source)
 Replaces e source edits (Ok None) = (bytes : Vec ℕ) × Changes e source edits (Ok bytes) × (bytes.items ≡ source)
 Replaces e source edits (Err failure) = Changes e source edits (Err failure)

@@ -14,18 +14,17 @@ pub mod source;
 ghost use Rattle.std.specs.Prelude.{◌≡◌};
 ghost use Rattle.counted_io.specs.Streams.{IsSameReader, IsSameSink};
 ghost use Rattle.properties_text.specs.Encoding.{encoding_of};
-ghost use Rattle.java_properties.specs.Editing.{edits_in};
 ghost use Rattle.properties_tools.specs.Messages.{printed_line, HasPrintedLine};
 ghost use Rattle.properties_tools.specs.Propedit.{not_utf_8, Ends, Prints, Replaces, Runs, Shows};
 ghost use Rattle.properties_tools.specs.Propedit.Failures.{memory_words};
 
 use crate::messages::say;
 use crate::propedit::answers::{answer_to, name};
-use crate::propedit::asked::Work;
+use crate::propedit::asked::{Edits, Work};
 use crate::propedit::change::change;
 use crate::propedit::error::{Failure, NO_MEMORY, STANDARD_OUTPUT, say_failure};
 use counted_io::{CountedRead, CountedWrite};
-use java_properties::{Edit, Encoding, read_source, write_source};
+use java_properties::{Encoding, read_source, write_source};
 use std::alloc::Global;
 
 const NOT_UTF_8: &str = "propedit: an argument is not UTF-8\n";
@@ -87,16 +86,19 @@ fn print_answer<R: CountedRead, W: CountedWrite>(
 /// For a file that is edited in place: if nothing changes, nothing has to be written.
 ///
 /// ```text
-/// let edits = vec![in alloc; Edit::Remove(port)]?;
+/// let edits = Edits {
+///     list: vec![in alloc; Edit::Remove(port)]?,
+///     ascii_only: false,
+/// };
 /// replacement(alloc, b"host = a\n", Encoding::UTF_8, &edits)?; // None
 /// ```
 pub fn replacement(
     alloc: Global,
     source: &[u8],
     encoding: Encoding,
-    edits: &[Edit],
+    edits: &Edits,
 ) -> Result<Option<Vec<u8>>, Failure>
-    ensures { Replaces (encoding_of encoding) source.now (edits_in edits.now) result }
+    ensures { Replaces (encoding_of encoding) source.now edits.now result }
 {
     let bytes = change(alloc, source, encoding, edits)?;
     if bytes.as_slice() == source {

@@ -10,7 +10,7 @@ use Rattle.properties_editing.specs.Private.Sources.{IsInForce}
 use Rattle.properties_editing.specs.declared.edit.document.Document.TheInside.{Inside}
 
 abbrev pub open_document : Inside → OpenDocument
-open_document d = record { encoding = encoding_of d.encoding; bytes = d.source.items }
+open_document d = record { encoding = encoding_of d.encoding; bytes = d.source.items; ascii_only = d.opened.ascii_only }
 
 -- The source's encoding can be edited, nothing in it is malformed, and the index is that of its groups.
 pub record IsDocument (d : Inside) : Type 0 where

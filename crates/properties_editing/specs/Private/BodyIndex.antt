@@ -236,7 +236,7 @@ AppendsPair opened key value by line ending old was (Err error) new is = (new �
 
 -- The source has the value for the key, and the index is that of its groups.
 pub record IsValueAdded (opened : BodyStart) (key value old new : List ℕ) (index : Index) : Type 0 where
-  pub set : (e : Encoding) → IsInForce old e opened → HasValueSet e old key value new
+  pub set : (e : Encoding) → IsInForce old e opened → HasValueSet e opened.ascii_only old key value new
   pub sound : AreSound (held_groups_of (encoding_of opened.encoding) (drop opened.start new))
   pub is_index : IsIndex (held_groups_of (encoding_of opened.encoding) (drop opened.start new)) index
 
@@ -247,7 +247,7 @@ AddsValue opened key value old was (Err error) new is = (new ≡ old) × KeepsNo
 
 -- The source has the printed pair for the key, and the index is that of its groups.
 pub record IsKeyAdded (opened : BodyStart) (key value old new : List ℕ) (index : Index) : Type 0 where
-  pub set : (e : Encoding) → IsInForce old e opened → IsSet e old key value new
+  pub set : (e : Encoding) → IsInForce old e opened → IsSet e opened.ascii_only old key value new
   pub sound : AreSound (held_groups_of (encoding_of opened.encoding) (drop opened.start new))
   pub is_index : IsIndex (held_groups_of (encoding_of opened.encoding) (drop opened.start new)) index
 
@@ -259,7 +259,7 @@ AddsKey opened key value old was (Err error) new is = (new ≡ old) × KeepsNoth
 
 -- The source has the value for the key, and the index is that of its groups.
 pub record IsValuePut (e : Encoding) (opened : BodyStart) (key value old new : List ℕ) (index : Index) : Type 0 where
-  pub set : HasValueSet e old key value new
+  pub set : HasValueSet e opened.ascii_only old key value new
   pub sound : AreSound (held_groups_of (encoding_of opened.encoding) (drop opened.start new))
   pub is_index : IsIndex (held_groups_of (encoding_of opened.encoding) (drop opened.start new)) index
 
@@ -270,7 +270,7 @@ PutsValue opened key value old was (Err error) new is = (new ≡ old) × KeepsNo
 
 -- The source has the printed pair for the key, and the index is that of its groups.
 pub record IsPairPut (e : Encoding) (opened : BodyStart) (key value old new : List ℕ) (index : Index) : Type 0 where
-  pub set : IsSet e old key value new
+  pub set : IsSet e opened.ascii_only old key value new
   pub sound : AreSound (held_groups_of (encoding_of opened.encoding) (drop opened.start new))
   pub is_index : IsIndex (held_groups_of (encoding_of opened.encoding) (drop opened.start new)) index
 
@@ -327,7 +327,7 @@ RemovesPairs opened key old new is = (e : Encoding) → IsInForce old e opened �
 
 -- The source was edited, and the index is that of its groups.
 pub record IsEditMade (e : Encoding) (opened : BodyStart) (edit : Edit) (old new : List ℕ) (index : Index) : Type 0 where
-  pub result : IsEditResult e old (IsEdited e old edit) (edited new)
+  pub result : IsEditResult e old (IsEdited e opened.ascii_only old edit) (edited new)
   pub in_force : IsInForce new e opened
   pub sound : AreSound (held_groups_of (encoding_of opened.encoding) (drop opened.start new))
   pub is_index : IsIndex (held_groups_of (encoding_of opened.encoding) (drop opened.start new)) index
@@ -337,7 +337,7 @@ MakesEdit opened edit old new is = (e : Encoding) → IsInForce old e opened →
 
 -- So it is of edits in turn.
 pub record AreEditsMade (e : Encoding) (opened : BodyStart) (source : List ℕ) (edits : List Edit) (bytes : List ℕ) (index : Index) : Type 0 where
-  pub result : IsEditAllResult e source edits (edited bytes)
+  pub result : IsEditAllResult e opened.ascii_only source edits (edited bytes)
   pub in_force : IsInForce bytes e opened
   pub sound : AreSound (held_groups_of (encoding_of opened.encoding) (drop opened.start bytes))
   pub is_index : IsIndex (held_groups_of (encoding_of opened.encoding) (drop opened.start bytes)) index

@@ -75,31 +75,32 @@ pub record IsPairAlone (e : Encoding) (bytes : List ℕ) : Type 0 where
   pub value : List ℕ
   pub is_pair : outcome_of (joined (as_lines group)) ≡ given (pair key value)
 
--- The bytes are one group, which doesn't have the value. It gets the value if these bytes come after its front.
-pub record IsNewValue (e : Encoding) (bytes value : List ℕ) (new : NewValue) : Type 0 where
+-- The bytes are one group, which doesn't have the value. It gets the value, in ASCII alone or not, if these bytes come
+-- after its front.
+pub record IsNewValue (e : Encoding) (only : Bool) (bytes value : List ℕ) (new : NewValue) : Type 0 where
   pub group : List HeldLine
   pub is_group : held_groups_of e bytes ≡ group ∷ []
   pub other : has_value value group ≡ false
   pub within : new.front_size ≤ length bytes
   pub front : take new.front_size bytes ≡ front_of e group
-  pub bytes_are : new.bytes ≡ encoded_text e (value_text e (between_of group) value)
+  pub bytes_are : new.bytes ≡ encoded_text e (value_text e only (between_of group) value)
 
 -- How a pair by itself gets a value, or `None` if it has the value.
-abbrev pub GivesValue : Encoding → List ℕ → List ℕ → Option NewValue → Type 0
-GivesValue e bytes value None = (group : List HeldLine) × (held_groups_of e bytes ≡ group ∷ []) × (has_value value group ≡ true)
-GivesValue e bytes value (Some new) = IsNewValue e bytes value new
+abbrev pub GivesValue : Encoding → Bool → List ℕ → List ℕ → Option NewValue → Type 0
+GivesValue e only bytes value None = (group : List HeldLine) × (held_groups_of e bytes ≡ group ∷ []) × (has_value value group ≡ true)
+GivesValue e only bytes value (Some new) = IsNewValue e only bytes value new
 
 -- a source with a value for the pair in this span of it
-abbrev pub revalued_in : Encoding → List ℕ → ℕ → ℕ → List ℕ → List HeldLine → List ℕ
-revalued_in e source start end value group =
+abbrev pub revalued_in : Encoding → Bool → List ℕ → ℕ → ℕ → List ℕ → List HeldLine → List ℕ
+revalued_in e only source start end value group =
     if has_value value group then source
-    else take start source ++ (front_of e group ++ (encoded_text e (value_text e (between_of group) value) ++ drop end source))
+    else take start source ++ (front_of e group ++ (encoded_text e (value_text e only (between_of group) value) ++ drop end source))
 
 -- The bytes are the source with a value for the pair in this span of it.
-abbrev pub Revalues : Encoding → List ℕ → ℕ → ℕ → List ℕ → List ℕ → Type 0
-Revalues e source start end value bytes =
+abbrev pub Revalues : Encoding → Bool → List ℕ → ℕ → ℕ → List ℕ → List ℕ → Type 0
+Revalues e only source start end value bytes =
     (group : List HeldLine) × (held_groups_of e (take (end - start) (drop start source)) ≡ group ∷ [])
-    × (bytes ≡ revalued_in e source start end value group)
+    × (bytes ≡ revalued_in e only source start end value group)
 
 -- ---- a new pair
 
@@ -138,10 +139,10 @@ IsEndingWithin body o =
     (e : Encoding) (groups : List (List HeldLine)) → is_editable e ≡ true → AreGroupsOf e body groups
     → (by : text.LineEnding) → ending_among by (held_in groups) ≡ unwrap_or (ending_in o) by
 
--- the bytes of a new pair without its line ending, which is the first of the body or not
-abbrev pub unended_pair : Encoding → Bool → List ℕ → List ℕ → List ℕ → List ℕ
-unended_pair e first key separator value =
-    encoded_text e (printed_key e false first key ++ (separator ++ printed_value e (is_blanks separator) value))
+-- the bytes of a new pair without its line ending, in ASCII alone or not, which is the first of the body or not
+abbrev pub unended_pair : Encoding → Bool → Bool → List ℕ → List ℕ → List ℕ → List ℕ
+unended_pair e only first key separator value =
+    encoded_text e (printed_key e only first key ++ (separator ++ printed_value e only (is_blanks separator) value))
 
 -- A new pair after the body is laid out like this.
 pub record IsLayoutAfter (e : Encoding) (body : List ℕ) (closing : Closing) (key : List ℕ) (layout : Layout) : Type 0 where

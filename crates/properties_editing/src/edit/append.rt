@@ -252,7 +252,7 @@ pub fn with_new_pair(
         let ending = line_ending_text (ending_of layout.now.ending) in
         let separation = closing_bytes ending layout.now.closing in
         let front = drop opened.start source.now ++ separation in
-        let pair = new_pair_bytes e front (chars key.now) (characters layout.now.separator) (chars value.now) ending in
+        let pair = new_pair_bytes e opened.ascii_only front (chars key.now) (characters layout.now.separator) (chars value.now) ending in
         IfOk result (λ bytes. bytes.items ≡ source.now ++ (separation ++ pair)) }
 {
     let mut line = LineBuffer::new(alloc);
@@ -260,7 +260,7 @@ pub fn with_new_pair(
     line.extend(separation.as_bytes())?;
     let first = are_empty(&source[opened.start..], separation.as_bytes());
     let separator = layout.separator.as_str();
-    print_new_pair(&mut line, opened.encoding, first, separator, key, value)?;
+    print_new_pair(&mut line, opened, first, separator, key, value)?;
     line.extend(ending_text(layout.ending).as_bytes())?;
     concatenated(alloc, source, line.as_slice(), b"")
 }
@@ -269,18 +269,18 @@ pub fn with_new_pair(
 /// isn't taken for a byte order mark.
 pub fn printed_new_pair(
     alloc: Global,
-    encoding: Encoding,
+    opened: BodyStart,
     first: bool,
     separator: &str,
     key: &str,
     value: &str,
 ) -> Result<Vec<u8>, AllocError>
     requires { is_good_separator (chars separator.now) ≡ true }
-    ensures { let e = output_encoding (encoding_of encoding) in
-        IfOk result (λ bytes. bytes.items ≡ unended_pair e first (chars key.now) (chars separator.now) (chars value.now)) }
+    ensures { let e = output_encoding (encoding_of opened.encoding) in
+        IfOk result (λ bytes. bytes.items ≡ unended_pair e opened.ascii_only first (chars key.now) (chars separator.now) (chars value.now)) }
 {
     let mut line = LineBuffer::new(alloc);
-    print_new_pair(&mut line, encoding, first, separator, key, value)?;
+    print_new_pair(&mut line, opened, first, separator, key, value)?;
     concatenated(alloc, line.as_slice(), b"", b"")
 }
 
@@ -288,17 +288,17 @@ pub fn printed_new_pair(
 // byte order mark.
 fn print_new_pair(
     line: &mut LineBuffer,
-    encoding: Encoding,
+    opened: BodyStart,
     first: bool,
     separator: &str,
     key: &str,
     value: &str,
 ) -> Result<(), AllocError>
     requires { is_good_separator (chars separator.now) ≡ true }
-    ensures { let e = output_encoding (encoding_of encoding) in
-        AppendsOnOk line.old (unended_pair e first (chars key.now) (chars separator.now) (chars value.now)) result line.new }
+    ensures { let e = output_encoding (encoding_of opened.encoding) in
+        AppendsOnOk line.old (unended_pair e opened.ascii_only first (chars key.now) (chars separator.now) (chars value.now)) result line.new }
 {
-    let repertoire = repertoire_of(encoding);
+    let repertoire = repertoire_of(opened);
     print_key(line, repertoire, first, key)?;
     line.extend(separator.as_bytes())?;
     print_value(line, repertoire, are_blanks(separator), value)

@@ -5,7 +5,7 @@ ghost use Rattle.std.specs.Option.{option_map};
 ghost use Rattle.std.specs.Str.{chars};
 ghost use Rattle.properties_format.specs.Laws.{SplittingCommutes};
 ghost use Rattle.properties_text.specs.Encoding.{encoding_of};
-ghost use Rattle.properties_editing.specs.Documents.{HasKeysInOrder, HasValueAt, OpensDocument, PutsInto, RemovesFrom, SetsValueIn, ChecksHasKey};
+ghost use Rattle.properties_editing.specs.Documents.{HasKeysInOrder, HasValueAt, OpensDocument, PutsInto, RemovesFrom, SetsValueIn, TurnsAsciiOnly, ChecksHasKey};
 
 use crate::edit::index::{Index, put_pair, put_value, remove_pairs};
 use crate::edit::source::BodyStart;
@@ -34,7 +34,7 @@ pub struct Document {
     source: Vec<u8>,
     // The requested encoding.
     encoding: Encoding,
-    // The encoding in force, and where the body starts.
+    // The encoding in force, where the body starts, and whether new texts are written in ASCII alone.
     opened: BodyStart,
     // Where its pairs are.
     index: Index,
@@ -65,7 +65,7 @@ impl Document {
         ensures opens { OpensDocument (encoding_of encoding) source.now result }
         ensures splitting { SplittingCommutes (encoding_of encoding) source.now }
     {
-        let opened = BodyStart::open(source, encoding)?;
+        let opened = BodyStart::open(source, encoding, false)?;
         let index = Index::parse(alloc, opened.encoding, &source[opened.start..])?;
         Ok(Document {
             alloc,
@@ -108,6 +108,22 @@ impl Document {
         ensures { IfOk result (λ keys. HasKeysInOrder self.now keys.items) }
     {
         self.index.keys(alloc)
+    }
+
+    /// Whether the calls after this one write ASCII alone, as [`edit_all_ascii`](crate::edit_all_ascii) does. They don't
+    /// at the start. No byte changes.
+    ///
+    /// ```text
+    /// let mut document = Document::parse(alloc, b"price = 4\n", Encoding::UTF_8)?;
+    /// document.set_ascii_only(true);
+    /// document.set_value("price", "5 \u{20ac}")?;
+    /// let bytes = document.to_bytes(alloc)?;
+    /// // They are `price = 5 \u20ac` and a line feed.
+    /// ```
+    pub fn set_ascii_only(&mut self, ascii_only: bool)
+        ensures { TurnsAsciiOnly ascii_only self.old self.new }
+    {
+        self.opened.ascii_only = ascii_only;
     }
 
     /// Sets a key to a value, as [`set_key`](crate::set_key) does. If memory runs out, nothing changes.

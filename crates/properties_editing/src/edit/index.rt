@@ -339,7 +339,7 @@ pub fn revalue(
 {
     let start = opened.start + pair.start;
     let end = opened.start + pair.end;
-    let Some(new) = new_value(alloc, opened.encoding, &source[start..end], value)? else {
+    let Some(new) = new_value(alloc, opened, &source[start..end], value)? else {
         return Ok(());
     };
     let text = String::from_str(alloc, value)?;
@@ -465,7 +465,7 @@ pub fn add_value(
     let separation = closing_bytes(index.closing, layout.ending).as_bytes();
     let first = are_empty(body, separation);
     let separator = layout.separator.as_str();
-    let line = printed_new_pair(alloc, opened.encoding, first, separator, key, value)?;
+    let line = printed_new_pair(alloc, opened, first, separator, key, value)?;
     append_pair(
         alloc,
         source,
@@ -498,7 +498,7 @@ pub fn add_key(
     let by = separation_after(source);
     let separation = closing_bytes(index.closing, by).as_bytes();
     let first = are_empty(&source[opened.start..], separation);
-    let line = printed_pair(alloc, opened.encoding, first, key, value)?;
+    let line = printed_pair(alloc, opened, first, key, value)?;
     append_pair(
         alloc,
         source,

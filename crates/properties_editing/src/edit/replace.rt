@@ -1,6 +1,6 @@
 // The bytes of an edited source.
 
-ghost use Rattle.std.specs.Prelude.{◌≡◌, ◌==◌, ◌≤◌, ◌+◌, ◌-◌, ◌++◌, [], ◌∷◌, take, drop, length, false, IfOk, OnOk};
+ghost use Rattle.std.specs.Prelude.{◌≡◌, ◌==◌, ◌≤◌, ◌+◌, ◌-◌, ◌++◌, [], ◌∷◌, take, drop, length, IfOk, OnOk};
 ghost use Rattle.std.specs.Str.{chars};
 ghost use Rattle.properties_format.specs.Text.{line_feed};
 ghost use Rattle.properties_format.specs.Writing.{is_empty};
@@ -8,12 +8,13 @@ ghost use Rattle.properties_format.specs.Edited.{added_ending, pair_bytes};
 ghost use Rattle.properties_editing.specs.Private.BodyKeys.{AreWithin, left_bytes, closing_bytes, spans_bytes};
 ghost use Rattle.properties_format.specs.Encoding.{output_encoding};
 ghost use Rattle.properties_text.specs.Encoding.{encoding_of};
-ghost use Rattle.properties_text.specs.Printing.{AppendsOnOk, encoding_in, only_in};
+ghost use Rattle.properties_text.specs.Printing.{AppendsOnOk};
+ghost use Rattle.properties_editing.specs.Private.Sources.{PrintsIn};
 
 use crate::edit::find::{BodySpan, Closing, closing_bytes, separation_after};
 use crate::edit::source::BodyStart;
+use properties_text::encoding::LineEncoding;
 use properties_text::encoding::byte_order_mark::begins_like_mark;
-use properties_text::encoding::{Encoding, LineEncoding};
 use properties_text::print::{LineBuffer, Repertoire, print_texts};
 use std::alloc::{AllocError, Global};
 
@@ -29,12 +30,12 @@ pub fn replaced(
     requires ordered { pair.start ≤ pair.end }
     requires within { opened.start + pair.end ≤ length source.now }
     ensures { let e = output_encoding (encoding_of opened.encoding) in
-        let line = pair_bytes e (pair.start == 0) (chars key.now) (chars value.now) in
+        let line = pair_bytes e opened.ascii_only (pair.start == 0) (chars key.now) (chars value.now) in
         IfOk result (λ bytes. bytes.items ≡ take (opened.start + pair.start) source.now
         ++ (line ++ drop (opened.start + pair.end) source.now)) }
 {
     let mut line = LineBuffer::new(alloc);
-    print_new(&mut line, opened.encoding, pair.start == 0, key, value)?;
+    print_new(&mut line, opened, pair.start == 0, key, value)?;
     let front = &source[..opened.start + pair.start];
     let back = &source[opened.start + pair.end..];
     concatenated(alloc, front, line.as_slice(), back)
@@ -54,13 +55,13 @@ pub fn appended(
     ensures { let e = output_encoding (encoding_of opened.encoding) in
         let separation = closing_bytes (added_ending source.now) closing in
         let first = is_empty (drop opened.start source.now ++ separation) in
-        let line = pair_bytes e first (chars key.now) (chars value.now) in
+        let line = pair_bytes e opened.ascii_only first (chars key.now) (chars value.now) in
         IfOk result (λ bytes. bytes.items ≡ source.now ++ (separation ++ (line ++ line_feed ∷ []))) }
 {
     let separation = closing_bytes(closing, separation_after(source)).as_bytes();
     let first = are_empty(&source[opened.start..], separation);
     let mut line = LineBuffer::new(alloc);
-    print_new(&mut line, opened.encoding, first, key, value)?;
+    print_new(&mut line, opened, first, key, value)?;
     line.extend(b"\n")?;
     concatenated(alloc, source, separation, line.as_slice())
 }
@@ -128,31 +129,31 @@ pub fn are_empty(rest: &[u8], separation: &[u8]) -> bool
 // order mark.
 fn print_new(
     line: &mut LineBuffer,
-    encoding: Encoding,
+    opened: BodyStart,
     first: bool,
     key: &str,
     value: &str,
 ) -> Result<(), AllocError>
-    ensures { let e = output_encoding (encoding_of encoding) in
-        AppendsOnOk line.old (pair_bytes e first (chars key.now) (chars value.now)) result line.new }
+    ensures { let e = output_encoding (encoding_of opened.encoding) in
+        AppendsOnOk line.old (pair_bytes e opened.ascii_only first (chars key.now) (chars value.now)) result line.new }
 {
-    print_texts(line, repertoire_of(encoding), first, key, value, "=", "")
+    print_texts(line, repertoire_of(opened), first, key, value, "=", "")
 }
 
 /// Returns a pair as it is printed, without a line ending. A pair that is `first` in a body is printed so that it isn't
 /// taken for a byte order mark.
 pub fn printed_pair(
     alloc: Global,
-    encoding: Encoding,
+    opened: BodyStart,
     first: bool,
     key: &str,
     value: &str,
 ) -> Result<Vec<u8>, AllocError>
-    ensures { let e = output_encoding (encoding_of encoding) in
-        IfOk result (λ bytes. bytes.items ≡ pair_bytes e first (chars key.now) (chars value.now)) }
+    ensures { let e = output_encoding (encoding_of opened.encoding) in
+        IfOk result (λ bytes. bytes.items ≡ pair_bytes e opened.ascii_only first (chars key.now) (chars value.now)) }
 {
     let mut line = LineBuffer::new(alloc);
-    print_new(&mut line, encoding, first, key, value)?;
+    print_new(&mut line, opened, first, key, value)?;
     concatenated(alloc, line.as_slice(), b"", b"")
 }
 
@@ -176,10 +177,12 @@ pub fn concatenated(
     Ok(bytes)
 }
 
-/// Returns the characters that an edit prints as they are: all that the encoding has.
-pub fn repertoire_of(encoding: Encoding) -> Repertoire
-    ensures encoding { encoding_in result ≡ output_encoding (encoding_of encoding) }
-    ensures all { only_in result ≡ false }
+/// Returns the characters that an edit prints as they are: all that the encoding has, or those of ASCII.
+pub fn repertoire_of(opened: BodyStart) -> Repertoire
+    ensures { PrintsIn (output_encoding (encoding_of opened.encoding)) opened.ascii_only result }
 {
-    Repertoire::from(LineEncoding::from(encoding))
+    if opened.ascii_only {
+        return Repertoire::Ascii;
+    }
+    Repertoire::from(LineEncoding::from(opened.encoding))
 }

@@ -1,5 +1,6 @@
 // The part of a source that is edited: the body after the byte order mark, in the encoding in force.
 
+ghost use Rattle.std.specs.Prelude.{◌≡◌};
 ghost use Rattle.properties_text.specs.Encoding.{encoding_of};
 ghost use Rattle.properties_editing.specs.Private.Sources.{IsInForce, OpensSource};
 
@@ -7,21 +8,27 @@ use properties_items::error::{PropertiesError, make};
 use properties_text::encoding::Encoding;
 use properties_text::encoding::byte_order_mark::{ByteOrderMark, byte_order_mark};
 
-/// What is known about a source before it is edited.
+/// What is known about a source before it is edited, and how new texts are written.
 #[derive(Clone, Copy)]
 pub struct BodyStart {
     /// The encoding in force.
     pub encoding: Encoding,
     /// The position where the body starts, after any byte order mark.
     pub start: usize,
+    /// Whether they are written in ASCII alone: every other character as escapes.
+    pub ascii_only: bool,
 }
 
 impl BodyStart {
     /// Opens a source in this encoding, unless a byte order mark selects another one. UTF-16 is refused.
-    pub fn open(source: &[u8], encoding: Encoding) -> Result<BodyStart, PropertiesError>
-        ensures { OpensSource source.now (encoding_of encoding) result }
+    pub fn open(
+        source: &[u8],
+        encoding: Encoding,
+        ascii_only: bool,
+    ) -> Result<BodyStart, PropertiesError>
+        ensures { OpensSource source.now (encoding_of encoding) ascii_only result }
     {
-        let opened = in_force(source, encoding);
+        let opened = in_force(source, encoding, ascii_only);
         match opened.encoding {
             Encoding::WINDOWS_1252 | Encoding::UTF_8 => Ok(opened),
             Encoding::UTF_16LE | Encoding::UTF_16BE => Err(make::unsupported()),
@@ -30,11 +37,20 @@ impl BodyStart {
 }
 
 // Returns the encoding in force and the position where the body starts.
-fn in_force(source: &[u8], encoding: Encoding) -> BodyStart
-    ensures { IsInForce source.now (encoding_of encoding) result }
+fn in_force(source: &[u8], encoding: Encoding, ascii_only: bool) -> BodyStart
+    ensures in_force { IsInForce source.now (encoding_of encoding) result }
+    ensures ascii_only { result.ascii_only ≡ ascii_only }
 {
     match byte_order_mark(source) {
-        ByteOrderMark::Present(encoding, start) => BodyStart { encoding, start },
-        ByteOrderMark::Absent | ByteOrderMark::Undecided => BodyStart { encoding, start: 0 },
+        ByteOrderMark::Present(encoding, start) => BodyStart {
+            encoding,
+            start,
+            ascii_only,
+        },
+        ByteOrderMark::Absent | ByteOrderMark::Undecided => BodyStart {
+            encoding,
+            start: 0,
+            ascii_only,
+        },
     }
 }

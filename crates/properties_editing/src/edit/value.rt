@@ -17,7 +17,6 @@ use crate::edit::layout::{between, front_size};
 use crate::edit::pairs::has_value;
 use crate::edit::replace::{concatenated, repertoire_of};
 use crate::edit::source::BodyStart;
-use properties_text::encoding::Encoding;
 use properties_text::parse::leading_blanks;
 use properties_text::print::{LineBuffer, print_value};
 use std::alloc::{AllocError, Global};
@@ -35,15 +34,15 @@ pub struct NewValue {
 /// long.
 pub fn new_value(
     alloc: Global,
-    encoding: Encoding,
+    opened: BodyStart,
     pair: &[u8],
     value: &str,
 ) -> Result<Option<NewValue>, AllocError>
-    requires bytes { unit_size (encoding_of encoding) ≡ 1 }
-    requires alone { IsPairAlone (encoding_of encoding) pair.now }
-    ensures { IfOk result (λ new. GivesValue (encoding_of encoding) pair.now (chars value.now) new) }
+    requires bytes { unit_size (encoding_of opened.encoding) ≡ 1 }
+    requires alone { IsPairAlone (encoding_of opened.encoding) pair.now }
+    ensures { IfOk result (λ new. GivesValue (encoding_of opened.encoding) opened.ascii_only pair.now (chars value.now) new) }
 {
-    let (groups, group) = first_group(alloc, encoding, pair)?;
+    let (groups, group) = first_group(alloc, opened.encoding, pair)?;
     let line = groups.line(pair, group);
     let Some(separator) = between(line) else {
         unreachable!()
@@ -51,9 +50,9 @@ pub fn new_value(
     if has_value(alloc, line, separator, value)? {
         return Ok(None);
     }
-    let front_size = front_size(alloc, encoding, pair, separator.end)?;
+    let front_size = front_size(alloc, opened.encoding, pair, separator.end)?;
     let mut bytes = LineBuffer::new(alloc);
-    print_value_after(&mut bytes, encoding, separator.cut(line), value)?;
+    print_value_after(&mut bytes, opened, separator.cut(line), value)?;
     Ok(Some(NewValue { front_size, bytes }))
 }
 
@@ -70,11 +69,11 @@ pub fn with_value(
     requires within { opened.start + pair.end ≤ length source.now }
     requires alone { IsPairAlone (encoding_of opened.encoding)
         (take (pair.end - pair.start) (drop (opened.start + pair.start) source.now)) }
-    ensures { IfOk result (λ bytes. Revalues (encoding_of opened.encoding) source.now (opened.start + pair.start) (opened.start + pair.end) (chars value.now) bytes.items) }
+    ensures { IfOk result (λ bytes. Revalues (encoding_of opened.encoding) opened.ascii_only source.now (opened.start + pair.start) (opened.start + pair.end) (chars value.now) bytes.items) }
 {
     let start = opened.start + pair.start;
     let end = opened.start + pair.end;
-    match new_value(alloc, opened.encoding, &source[start..end], value)? {
+    match new_value(alloc, opened, &source[start..end], value)? {
         None => source.to_vec(alloc),
         Some(new) => {
             let front = &source[..start + new.front_size];
@@ -86,14 +85,14 @@ pub fn with_value(
 // Appends what follows the front of a pair. If nothing separates its key and value, an equals sign comes first.
 fn print_value_after(
     line: &mut LineBuffer,
-    encoding: Encoding,
+    opened: BodyStart,
     separator: &str,
     value: &str,
 ) -> Result<(), AllocError>
-    ensures { let e = output_encoding (encoding_of encoding) in
-        AppendsOnOk line.old (encoded_text e (value_text e (chars separator.now) (chars value.now))) result line.new }
+    ensures { let e = output_encoding (encoding_of opened.encoding) in
+        AppendsOnOk line.old (encoded_text e (value_text e opened.ascii_only (chars separator.now) (chars value.now))) result line.new }
 {
-    let repertoire = repertoire_of(encoding);
+    let repertoire = repertoire_of(opened);
     if separator.is_empty() {
         line.extend(b"=")?;
         return print_value(line, repertoire, false, value);

@@ -1,10 +1,8 @@
 -- What a command gives for a source: a text to print and the exit status, or why it fails.
 use Rattle.std.specs.Prelude.{◌≡◌, ℕ, List, [], ◌∷◌, Result, Ok, Err, codes, string_bytes}
 use Rattle.std.specs.Option.{option_map}
-use Rattle.properties_format.specs.Edits.{Edit}
 use Rattle.properties_format.specs.Encoding.{Encoding}
 use Rattle.properties_text.specs.Encoding.{encoding_of}
-use Rattle.java_properties.specs.Editing.{edits_in}
 use Rattle.java_properties.specs.Maps.{characters}
 use Rattle.properties_tools.specs.Propedit.Change.{Changes}
 use Rattle.properties_tools.specs.Propedit.Check.{IsReport}
@@ -15,6 +13,7 @@ use Rattle.properties_tools.specs.declared.propedit.answers.Answer.{Answer}
 use Rattle.properties_tools.specs.declared.propedit.asked.Command.{Command}
 use Rattle.properties_tools.specs.declared.propedit.asked.Command.TheVariants.{Get, Check, Change}
 use Rattle.properties_tools.specs.declared.propedit.asked.Command.TheVariants as command
+use Rattle.properties_tools.specs.declared.propedit.asked.Edits.{Edits}
 use Rattle.properties_tools.specs.declared.propedit.asked.Source.{Source}
 use Rattle.properties_tools.specs.declared.propedit.asked.Source.TheVariants.{StandardInput, File}
 use Rattle.properties_tools.specs.declared.propedit.asked.Work.{Work}
@@ -36,7 +35,7 @@ Checks name e source (Ok answer) = IsReport name e source answer.text.items × (
 Checks name e source (Err failure) = LacksMemory failure
 
 -- What edits give as an answer: the bytes after them, and the status 0.
-abbrev pub ChangesTo : Encoding → List ℕ → List Edit → Result Answer Failure → Type 0
+abbrev pub ChangesTo : Encoding → List ℕ → Edits → Result Answer Failure → Type 0
 ChangesTo e source edits (Ok answer) = Changes e source edits (Ok answer.text) × (answer.status ≡ 0)
 ChangesTo e source edits (Err failure) = Changes e source edits (Err failure)
 
@@ -45,7 +44,7 @@ abbrev pub AnswersCommand : List ℕ → Encoding → Command → List ℕ → R
 AnswersCommand name e (Get key default end) source result = Gets e source (characters key) (option_map characters default) end result
 AnswersCommand name e (command.List prefix end) source result = Lists e source (characters prefix) end result
 AnswersCommand name e Check source result = Checks name e source result
-AnswersCommand name e (Change edits) source result = ChangesTo e source (edits_in edits.items) result
+AnswersCommand name e (Change edits) source result = ChangesTo e source edits result
 
 -- What the command of some work gives for its source.
 abbrev pub Answers : Work → List ℕ → Result Answer Failure → Type 0

@@ -2,18 +2,17 @@
 
 ghost use Rattle.std.specs.Prelude.{◌≡◌, ◌++◌, OnOk};
 ghost use Rattle.std.specs.Str.{chars};
-ghost use Rattle.java_properties.specs.Editing.{edits_in};
 ghost use Rattle.properties_text.specs.Encoding.{encoding_of};
 ghost use Rattle.properties_tools.specs.Propedit.Answers.{Answers, Checks, ChangesTo, name_of};
 ghost use Rattle.properties_tools.specs.Propedit.Texts.{end_byte, ended};
 
-use crate::propedit::asked::{Command, Source, TextEnd, Work};
+use crate::propedit::asked::{Command, Edits, Source, TextEnd, Work};
 use crate::propedit::change::change;
 use crate::propedit::check::report;
 use crate::propedit::error::Failure;
 use crate::propedit::get::get;
 use crate::propedit::list::list;
-use java_properties::{Edit, Encoding};
+use java_properties::Encoding;
 use std::alloc::{AllocError, Global};
 
 /// What a command prints, and its exit status.
@@ -78,9 +77,9 @@ fn changed(
     alloc: Global,
     source: &[u8],
     encoding: Encoding,
-    edits: &[Edit],
+    edits: &Edits,
 ) -> Result<Answer, Failure>
-    ensures { ChangesTo (encoding_of encoding) source.now (edits_in edits.now) result }
+    ensures { ChangesTo (encoding_of encoding) source.now edits.now result }
 {
     let text = change(alloc, source, encoding, edits)?;
     Ok(Answer { text, status: 0 })

@@ -37,10 +37,18 @@ pub struct FileEdits {
     pub path: String,
     /// The encoding of the file. A byte order mark overrules it.
     pub encoding: Encoding,
-    /// The edits, in order.
-    pub edits: Vec<Edit>,
+    pub edits: Edits,
     /// What is done if there is no such file.
     pub missing: Missing,
+}
+
+/// Edits, and how they are written.
+#[derive(Drop)]
+pub struct Edits {
+    /// They are made in order. There is one at least, and each sets a value or removes a key.
+    pub list: Vec<Edit>,
+    /// Whether they are written in ASCII alone.
+    pub ascii_only: bool,
 }
 
 /// What is done if a file that is to be edited is missing.
@@ -69,8 +77,8 @@ pub enum Command {
     List(String, TextEnd),
     /// Print what is wrong.
     Check,
-    /// Make these edits in order. There is one at least, and each sets a value or removes a key.
-    Change(Vec<Edit>),
+    /// Make these edits.
+    Change(Edits),
 }
 
 /// What ends a text that is printed.

@@ -1,12 +1,12 @@
 // A source after edits.
 
 ghost use Rattle.properties_text.specs.Encoding.{encoding_of};
-ghost use Rattle.java_properties.specs.Editing.{edits_in};
 ghost use Rattle.properties_tools.specs.Propedit.Change.{Changes};
 
+use crate::propedit::asked::Edits;
 use crate::propedit::error::Failure;
 use crate::propedit::source::refuse_unsound;
-use java_properties::{Edit, Encoding, edit_all};
+use java_properties::{Encoding, edit_all, edit_all_ascii};
 use std::alloc::Global;
 
 /// Returns the bytes of a source after edits, which are made in order.
@@ -15,7 +15,10 @@ use std::alloc::Global;
 /// UTF-16.
 ///
 /// ```text
-/// let edits = vec![in alloc; Edit::SetValue(port, value)]?;
+/// let edits = Edits {
+///     list: vec![in alloc; Edit::SetValue(port, value)]?,
+///     ascii_only: false,
+/// };
 /// let bytes = change(alloc, b"# the front door\nport = 80\n", Encoding::UTF_8, &edits)?;
 /// // If the value is `8080`: `# the front door`, a line feed, `port = 8080` and a line feed.
 /// ```
@@ -23,10 +26,15 @@ pub fn change(
     alloc: Global,
     source: &[u8],
     encoding: Encoding,
-    edits: &[Edit],
+    edits: &Edits,
 ) -> Result<Vec<u8>, Failure>
-    ensures { Changes (encoding_of encoding) source.now (edits_in edits.now) result }
+    ensures { Changes (encoding_of encoding) source.now edits.now result }
 {
     refuse_unsound(alloc, source, encoding)?;
-    Ok(edit_all(alloc, source, encoding, edits)?)
+    let bytes = if edits.ascii_only {
+        edit_all_ascii(alloc, source, encoding, &edits.list)?
+    } else {
+        edit_all(alloc, source, encoding, &edits.list)?
+    };
+    Ok(bytes)
 }

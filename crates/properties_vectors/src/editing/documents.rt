@@ -56,6 +56,8 @@ fn take_step(
     match (step.word.as_str(), step.texts.as_slice()) {
         ("put", [key, value]) => document.put(text(key)?, text(value)?)?,
         ("value", [key, value]) => document.set_value(text(key)?, text(value)?)?,
+        ("ascii-only", []) => document.set_ascii_only(true),
+        ("all-characters", []) => document.set_ascii_only(false),
         ("remove", [key]) => {
             let key = text(key)?;
             let was_there = document.contains_key(key);

@@ -1,8 +1,9 @@
-use Rattle.std.proofs.Common.{◌∙◌, ap}
+use Rattle.std.proofs.Common.{◌≡◌, ◌∙◌, ap, subst, false}
 use Rattle.std.proofs.lemmas.List.{take_rest}
 use Rattle.std.specs.Str.{chars}
+use Rattle.properties_format.specs.Edited.{edited}
 use Rattle.properties_format.specs.Valued.{IsValueSet}
-use Rattle.properties_format.specs.Computed.Valued.{value_set}
+use Rattle.properties_format.specs.Computed.Valued.{value_set, set_value_result}
 use Rattle.properties_format.proofs.Valued.Made.{set_value_result-meets}
 use Rattle.properties_format.proofs.Laws.{splitting-commutes}
 use Rattle.properties_text.specs.Encoding.{encoding_of}
@@ -22,7 +23,7 @@ returns-in_err-place-clause-sets c =
     let key = chars c.args.key.now in
     let value = chars c.args.value.now in
     let opened = c.in_ok-opened.ensures in
-    let refused = refusal c.from_residual-in_err-place.result (IsValueSet e source key value) (value_set e source key value) opened.0 opened.1 (set_value_result-meets e source key value)
+    let refused = refusal c.from_residual-in_err-place.result (IsValueSet e false source key value) (value_set e false source key value) opened.0 opened.1 (set_value_result-meets e false source key value)
     c.in_err-place.ensures c.from_residual-in_err-place.ensures.1 in
     rw refused.1 refused.2
 
@@ -51,6 +52,7 @@ returns-in_err-bytes-in-None-clause-splitting c = splitting-commutes (encoding_o
 
 pub returns-clause-sets : goal.returns-clause-sets
 returns-clause-sets c =
+    let e = encoding_of c.args.encoding in
     let source = c.args.source.now in
     let key = chars c.args.key.now in
     let value = chars c.args.value.now in
@@ -58,7 +60,7 @@ returns-clause-sets c =
     let opened = c.in_ok-opened in
     let found = rw (take_rest source opened.opened.start) at c.in_ok-place.ensures in
     value-edits (chars-scalars c.args.key.now c.utf8.key) (chars-scalars c.args.value.now c.utf8.value)
-    (elim c.match-place.branch [
+    (subst (λ b. set_value_result e b source key value ≡ edited bytes) opened.ensures.2 (elim c.match-place.branch [
       | in-Some+in_ok-bytes-in-Some w ↦
           let is = ap (λ v. v.items) w.bytes-is in
           let made = w.in_ok-bytes-in-Some.ensures in
@@ -67,7 +69,7 @@ returns-clause-sets c =
           let layout = rw (take_rest source opened.opened.start) at w.in_ok-layout-in-None.ensures in
           new_pair-result key value bytes w.in_ok-layout-in-None.layout opened.ensures.0 opened.ensures.1 found w.in-None.is layout
           (ap (λ v. v.items) w.bytes-is ∙ w.in_ok-bytes-in-None.ensures)
-    ])
+    ]))
 
 pub returns-clause-splitting : goal.returns-clause-splitting
 returns-clause-splitting c = splitting-commutes (encoding_of c.args.encoding) c.args.source.now

@@ -21,11 +21,11 @@ returns c =
     let first = c.are_empty-first.ensures
     ∙ ap₂ (λ v w. is_empty (v ++ w)) (take_rest source c.args.opened.start) (c.as_bytes-2.ensures.value ∙ c.closing_bytes-separation.ensures) in
     let printed = rw c.as_str-separator.ensures.value at c.in_ok-print_new_pair.ensures in
-    let ended = new_pair-ended e c.extend.new.self c.print_new_pair.new.line c.extend-2.new.self (characters layout.separator) (chars c.args.key.now) (chars c.args.value.now)
+    let ended = new_pair-ended e c.args.opened.ascii_only c.extend.new.self c.print_new_pair.new.line c.extend-2.new.self (characters layout.separator) (chars c.args.key.now) (chars c.args.value.now)
     c.ending_text.result.now c.are_empty-first.result (ending_of layout.ending) printed (c.in_ok-extend-2.ensures.appended ∙ ap (λ v. c.print_new_pair.new.line ++ v) c.as_bytes-3.ensures.value)
     (ending-bytes c.ending_text.result.now (ending_of layout.ending) c.ending_text.utf8 c.ending_text.ensures) in
     IfOk-weaker c.concatenated.result _ _
-    (λ bytes h. new_pair-appended e source (drop c.args.opened.start source) (closing_bytes ending layout.closing) c.closing_bytes-separation.result.now c.new-line.result c.extend.new.self
+    (λ bytes h. new_pair-appended e c.args.opened.ascii_only source (drop c.args.opened.start source) (closing_bytes ending layout.closing) c.closing_bytes-separation.result.now c.new-line.result c.extend.new.self
     c.extend-2.new.self bytes.items (chars c.args.key.now) (characters layout.separator) (chars c.args.value.now) ending c.are_empty-first.result
     (h ∙ ap₂ (λ v w. source ++ (v ++ w)) c.as_slice.ensures refl) ended (c.in_ok-extend.ensures.appended ∙ ap (λ v. c.new-line.result ++ v) c.as_bytes.ensures.value) c.new-line.ensures c.closing_bytes-separation.ensures first)
     c.concatenated.ensures

@@ -25,7 +25,7 @@ returns c =
     let fits : by ≡ (if ends_in_cr old then cr else lf) = c.separation_after-by.ensures ∙ ap (λ v. if ends_in_cr v then cr else lf) c.deref.ensures.value in
     let body = ap (λ v. take (length v - opened.start) (drop opened.start v)) c.deref-2.ensures.value ∙ take_rest old opened.start in
     let first = c.are_empty-first.ensures ∙ ap₂ (λ v w. is_empty (v ++ w)) body (c.as_bytes-separation.ensures.value ∙ c.closing_bytes.ensures) in
-    let printed = c.deref-3.ensures.value ∙ c.in_ok-line.ensures ∙ ap (λ b. pair_bytes out b key value) first in
+    let printed = c.deref-3.ensures.value ∙ c.in_ok-line.ensures ∙ ap (λ b. pair_bytes out opened.ascii_only b key value) first in
     let small = c.append_pair.new.source.small in
     let len = c.append_pair.new.source.ok in
     adds-key c.append_pair.result opened key value (line_ending_text by) c.deref-3.result.now (line_ending_text lf) old c.append_pair.new.source.items was c.append_pair.new.index

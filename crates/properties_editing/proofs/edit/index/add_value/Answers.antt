@@ -35,7 +35,7 @@ returns c =
     let laid = rw (c.deref.ensures.value, take_rest old opened.start) at c.in_ok-layout.ensures in
     let body = ap (λ v. take (length v - opened.start) (drop opened.start v)) c.deref.ensures.value ∙ take_rest old opened.start in
     let first = c.are_empty-first.ensures ∙ ap₂ (λ v w. is_empty (v ++ w)) body (c.as_bytes-separation.ensures.value ∙ c.closing_bytes.ensures) in
-    let printed = c.deref-2.ensures.value ∙ c.in_ok-line.ensures ∙ ap₂ (λ b s. unended_pair out b key (chars s) value) first c.as_str-separator.ensures.value in
+    let printed = c.deref-2.ensures.value ∙ c.in_ok-line.ensures ∙ ap₂ (λ b s. unended_pair out opened.ascii_only b key (chars s) value) first c.as_str-separator.ensures.value in
     let small = c.append_pair.new.source.small in
     let len = c.append_pair.new.source.ok in
     adds-value c.append_pair.result opened key value ending c.deref-2.result.now ending old c.append_pair.new.source.items was c.append_pair.new.index

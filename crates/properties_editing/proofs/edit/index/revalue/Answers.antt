@@ -65,7 +65,7 @@ overflow_add-front c =
     let len = c.args.source.now.ok in
     let start = c.args.opened.start + c.args.pair.start in
     let end = c.args.opened.start + c.args.pair.end in
-    let n : IsNewValue (encoding_of c.args.opened.encoding) (take (end - start) (drop start c.args.source.now.items)) (chars c.args.value.now) c.in-Some.new =
+    let n : IsNewValue (encoding_of c.args.opened.encoding) c.args.opened.ascii_only (take (end - start) (drop start c.args.source.now.items)) (chars c.args.value.now) c.in-Some.new =
     rw c.deref.ensures.value at (rw c.in-Some.is at c.in_ok-new.ensures) in
     let front = n.within in
     let left = length-drop start c.args.source.now.items in
@@ -83,7 +83,7 @@ slice_bounds-front-end c =
     let len = c.args.source.now.ok in
     let start = c.args.opened.start + c.args.pair.start in
     let end = c.args.opened.start + c.args.pair.end in
-    let n : IsNewValue (encoding_of c.args.opened.encoding) (take (end - start) (drop start c.args.source.now.items)) (chars c.args.value.now) c.in-Some.new =
+    let n : IsNewValue (encoding_of c.args.opened.encoding) c.args.opened.ascii_only (take (end - start) (drop start c.args.source.now.items)) (chars c.args.value.now) c.in-Some.new =
     rw c.deref.ensures.value at (rw c.in-Some.is at c.in_ok-new.ensures) in
     let front = n.within in
     let left = length-drop start c.args.source.now.items in
@@ -162,9 +162,9 @@ put_back-requires-clause-longer c =
     let f = encoding_of opened.encoding in
     let start = opened.start + c.args.pair.start in
     let end = opened.start + c.args.pair.end in
-    let n : IsNewValue f (take (end - start) (drop start old)) value c.in-Some.new = rw c.deref.ensures.value at (rw c.in-Some.is at c.in_ok-new.ensures) in
-    let made : c.in_ok-bytes.bytes.items ≡ revalued_in f old start end value n.group =
-    revalued-made f old start end value c.in_ok-bytes.bytes.items c.in-Some.new n
+    let n : IsNewValue f opened.ascii_only (take (end - start) (drop start old)) value c.in-Some.new = rw c.deref.ensures.value at (rw c.in-Some.is at c.in_ok-new.ensures) in
+    let made : c.in_ok-bytes.bytes.items ≡ revalued_in f opened.ascii_only old start end value n.group =
+    revalued-made f opened.ascii_only old start end value c.in_ok-bytes.bytes.items c.in-Some.new n
     (c.in_ok-bytes.ensures
     ∙ ap₂ (λ v w. take (start + c.in-Some.new.front_size) v ++ w) c.deref-2.ensures.value
     (ap₂ (λ v w. v ++ w) c.as_slice.ensures (ap (λ v. take (length v - end) (drop end v)) c.deref-3.ensures.value ∙ take_rest old end))) in
@@ -193,9 +193,9 @@ returns c = λ e force.
     let f = encoding_of opened.encoding in
     let start = opened.start + c.args.pair.start in
     let end = opened.start + c.args.pair.end in
-    let n : IsNewValue f (take (end - start) (drop start old)) value c.in-Some.new = rw c.deref.ensures.value at (rw c.in-Some.is at c.in_ok-new.ensures) in
-    let made : c.in_ok-bytes.bytes.items ≡ revalued_in f old start end value n.group =
-    revalued-made f old start end value c.in_ok-bytes.bytes.items c.in-Some.new n
+    let n : IsNewValue f opened.ascii_only (take (end - start) (drop start old)) value c.in-Some.new = rw c.deref.ensures.value at (rw c.in-Some.is at c.in_ok-new.ensures) in
+    let made : c.in_ok-bytes.bytes.items ≡ revalued_in f opened.ascii_only old start end value n.group =
+    revalued-made f opened.ascii_only old start end value c.in_ok-bytes.bytes.items c.in-Some.new n
     (c.in_ok-bytes.ensures
     ∙ ap₂ (λ v w. take (start + c.in-Some.new.front_size) v ++ w) c.deref-2.ensures.value
     (ap₂ (λ v w. v ++ w) c.as_slice.ensures (ap (λ v. take (length v - end) (drop end v)) c.deref-3.ensures.value ∙ take_rest old end))) in

@@ -18,6 +18,6 @@ returns c =
     let first = c.are_empty-first.ensures ∙ ap₂ (λ v w. is_empty (v ++ w)) (take_rest source c.args.opened.start) separation in
     IfOk-weaker c.concatenated.result _ _
     (λ bytes h.
-    appended e e source _ _ c.are_empty-first.result _ (chars c.args.key.now) (chars c.args.value.now) _ _ _ c.new-line.ensures c.in_ok-print_new.ensures c.in_ok-extend.ensures.appended
+    appended e c.args.opened.ascii_only source _ _ c.are_empty-first.result _ (chars c.args.key.now) (chars c.args.value.now) _ _ _ c.new-line.ensures c.in_ok-print_new.ensures c.in_ok-extend.ensures.appended
     (h ∙ ap₂ (λ v w. source ++ (v ++ w)) separation c.as_slice.ensures) first)
     c.concatenated.ensures

@@ -14,8 +14,8 @@ front_size-requires-clause-before c =
 
 pub returns : goal.returns
 returns c =
-    let ok = editable-bytes (encoding_of c.args.encoding) c.requires.bytes in
+    let ok = editable-bytes (encoding_of c.args.opened.encoding) c.requires.bytes in
     let other = rw c.if-branch.false at c.in_ok-has_value.ensures in
-    let printed = rw (editable-own (encoding_of c.args.encoding) ok, c.new-bytes.ensures) at c.in_ok-print_value_after.ensures in
+    let printed = rw (editable-own (encoding_of c.args.opened.encoding) ok, c.new-bytes.ensures) at c.in_ok-print_value_after.ensures in
     value-new (chars c.args.value.now) c.line-line.result.now c.cut.result.now c.print_value_after.new.line c.in_ok-front_size.front_size c.in-Some.separator ok
     c.line-line.ensures c.in_ok-groups.ensures c.requires.alone c.in-Some.ensures other c.in_ok-front_size.ensures c.cut.ensures printed

@@ -16,7 +16,7 @@ returns-in-Some c =
     (λ bytes h. (
       new.group,
       new.is_group,
-      revalued-made (encoding_of c.args.opened.encoding) source start end (chars c.args.value.now) bytes.items c.in-Some.new new
+      revalued-made (encoding_of c.args.opened.encoding) c.args.opened.ascii_only source start end (chars c.args.value.now) bytes.items c.in-Some.new new
           (h ∙ ap₂ (λ v w. take (start + c.in-Some.new.front_size) source ++ (v ++ w)) c.as_slice.ensures (take_rest source end)),
     ))
     c.concatenated.ensures
