@@ -1,5 +1,5 @@
 -- How items are copied one after another.
-use Rattle.std.proofs.Common.{◌≡◌, ◌<◌, ◌^◌, ℕ, List, [], ◌++◌, refl, ap, subst, inl, inr}
+use Rattle.std.proofs.Common.{◌≡◌, ◌<◌, ◌^◌, ℕ, List, [], ◌++◌, refl, sym, ap, subst, inl, inr}
 use Rattle.std.specs.Prelude.{Bool, true, Option, None, Some, Result, Ok, Err}
 use Rattle.std.specs.declared.io.Error as io
 use Rattle.counted_io.specs.Streams.{Reader, Sink}
@@ -28,11 +28,7 @@ use Rattle.java_properties.proofs.StatedItems.{state-entry, state-none, state-er
 
 -- ---- the line of a pair
 
--- what is built changes nothing that callers see
-pub built-same : {W : Type 0} (old new : Engine) (from : W) → new ≡ record old { line = new.line } → writing new from ≡ writing old from
-built-same old new from h = ap (λ (w : Engine). writing w from) h
-
-module _ {W : Type 0} {sink : Sink W} (w : Engine) (from : W) (text : List ℕ) (accepted : Bool) (h : HasBuilt text accepted w) where
+module _ {W : Type 0} {sink : Sink W} (w : Engine) (from : W) {text : List ℕ} {accepted : Bool} (h : HasBuilt text accepted w) where
   -- the line that was built was sent
   pub built-sent : (number : ℕ) (after : Writing W) → number < 2 ^ 64 → NumbersLine w accepted (Ok number) → SendsLine sink (writing w from) w.line number (Ok tt) after
       → WritesLine sink (writing w from) (pair h.key h.value) (Ok tt) after
@@ -64,8 +60,10 @@ module _ {R W : Type 0} {reader : Reader R} {sink : Sink W} {old : Reading R} {w
   pub copied-start : IsCopiedTo reader sink old writer old.state old.reader writer
   copied-start = record { between = old; bytes = []; passed = passed-start old.state old.reader; along = λ result new written h. h }
 
-  pub copied-same : {state : ReaderState} {to : R} {a b : Writing W} → a ≡ b → IsCopiedTo reader sink old writer state to a → IsCopiedTo reader sink old writer state to b
-  copied-same {state} {to} same h = subst (IsCopiedTo reader sink old writer state to) same h
+  -- what is built changes nothing that callers see
+  pub copied-same : {state : ReaderState} {to : R} {from : W} (a b : Engine) → b ≡ record a { line = b.line } → IsCopiedTo reader sink old writer state to (writing a from)
+      → IsCopiedTo reader sink old writer state to (writing b from)
+  copied-same {state} {to} {from} a b same h = subst (IsCopiedTo reader sink old writer state to) (sym (ap (λ (w : Engine). writing w from) same)) h
 
   -- an item was copied
   copied-item : {state : ReaderState} {to : R} {so_far : Writing W} (h : IsCopiedTo reader sink old writer state to so_far) (new : ReaderState) (next : R) (after : Writing W)
@@ -79,7 +77,7 @@ module _ {R W : Type 0} {reader : Reader R} {sink : Sink W} {old : Reading R} {w
         along = λ result last written more. h.along result last written (Copies.goes_on between after item more);
       }
 
-  module _ {state : ReaderState} {to : R} {so_far : Writing W} (h : IsCopiedTo reader sink old writer state to so_far) (line : Line) (new : ReaderState) (next : R)
+  module _ {state : ReaderState} {to : R} {so_far : Writing W} (h : IsCopiedTo reader sink old writer state to so_far) {line : Line} {new : ReaderState} {next : R}
       (joins : JoinsLine reader state to line new next) where
     -- a line came that is no pair
     pub copied-no_pair : IsNoPair line.text → IsCopiedTo reader sink old writer new next so_far

@@ -1,14 +1,14 @@
 use Rattle.std.proofs.Common.{refl, sym, ap, ◌∙◌, subst}
-use Rattle.std.specs.Prelude.{true, Ok, Err}
+use Rattle.std.specs.Prelude.{Ok, Err}
 use Rattle.counted_io.specs.Streams.{reader, sink}
-use Rattle.properties_lines.specs.LineJoiner.{Joining, numbered_bytes}
+use Rattle.properties_lines.specs.LineJoiner.{Joining}
 use Rattle.java_properties.specs.Copying.{Copies}
 use Rattle.java_properties.specs.Private.CopiedLines.{reading}
 use Rattle.java_properties.specs.Private.Engine.{writing}
 use Rattle.java_properties.specs.Private.GivenItems.{in_utf_8}
 use Rattle.java_properties.specs.declared.copy.CopyError.TheVariants.{Read}
 use Rattle.java_properties.proofs.CopiedLines.{unbuilt-no_item}
-use Rattle.java_properties.proofs.Copying.{built-same, built-sent, built-unsent, built-refused, copied-start, copied-same, copied-no_pair, copied-pair, copied-unwritten, copied-unread, copied-all, copied-error}
+use Rattle.java_properties.proofs.Copying.{built-sent, built-unsent, built-refused, copied-start, copied-same, copied-no_pair, copied-pair, copied-unwritten, copied-unread, copied-all, copied-error}
 use Rattle.java_properties.proofs.copy.copy_lines.Goals as goal
 
 pub loop-number-init : goal.loop-number-init
@@ -16,15 +16,10 @@ loop-number-init g c = record { copied = copied-start; error = c.requires; same_
 
 pub loop-number-preserved-in-Ok-Nothing : goal.loop-number-preserved-in-Ok-Nothing
 loop-number-preserved-in-Ok-Nothing g c =
-    let new = c.next_line.new.self in
-    let next = c.next_line.new.reader in
     let advances = c.in-Some.ensures.advances in
-    let line = numbered_bytes c.in-Some.number new.encoding new.at.line in
-    let w = c.build_line.new.engine in
-    let h = copied-same (sym (built-same c.loop-number.engine w c.loop-number.sink c.build_line.ensures.same)) c.loop-number.invariant.copied in
-    let none = rw c.in-Ok-Nothing.field-0-is at c.in-Ok-Nothing.ensures.builds in
+    let h = copied-same c.loop-number.engine c.build_line.new.engine c.build_line.ensures.same c.loop-number.invariant.copied in
     record {
-      copied = copied-no_pair h line new.at.state next advances.joins none;
+      copied = copied-no_pair h advances.joins (rw c.in-Ok-Nothing.field-0-is at c.in-Ok-Nothing.ensures.builds);
       error = advances.error;
       same_reader = c.next_line.ensures.same_reader ∙ c.loop-number.invariant.same_reader;
       same_sink = c.loop-number.invariant.same_sink;
@@ -32,17 +27,14 @@ loop-number-preserved-in-Ok-Nothing g c =
 
 pub loop-number-preserved : goal.loop-number-preserved
 loop-number-preserved g c =
-    let new = c.next_line.new.self in
-    let next = c.next_line.new.reader in
     let advances = c.in-Some.ensures.advances in
-    let line = numbered_bytes c.in-Some.number new.encoding new.at.line in
     let w = c.build_line.new.engine in
-    let h = copied-same (sym (built-same c.loop-number.engine w c.loop-number.sink c.build_line.ensures.same)) c.loop-number.invariant.copied in
+    let h = copied-same c.loop-number.engine w c.build_line.ensures.same c.loop-number.invariant.copied in
     let built = rw c.in-Ok-Line.field-0-is at c.in-Ok-Line.ensures.builds in
     let after = writing c.send_line.new.self c.send_line.new.sink in
-    let writes = built-sent w c.loop-number.sink line.text true built.0 c.in-Ok-Line.line after c.send_line.ensures.fits built.1 c.in_default-send_line.ensures.sends in
+    let writes = built-sent w c.loop-number.sink built.0 c.in-Ok-Line.line after c.send_line.ensures.fits built.1 c.in_default-send_line.ensures.sends in
     record {
-      copied = copied-pair h line new.at.state next advances.joins built.0.key built.0.value after built.0.outcome built.0.scalars writes;
+      copied = copied-pair h advances.joins built.0.key built.0.value after built.0.outcome built.0.scalars writes;
       error = advances.error;
       same_reader = c.next_line.ensures.same_reader ∙ c.loop-number.invariant.same_reader;
       same_sink = c.send_line.ensures.same_sink ∙ c.loop-number.invariant.same_sink;
@@ -50,47 +42,33 @@ loop-number-preserved g c =
 
 pub returns-in-Err-send_line-clause-copies : goal.returns-in-Err-send_line-clause-copies
 returns-in-Err-send_line-clause-copies g c =
-    let new = c.next_line.new.self in
-    let next = c.next_line.new.reader in
-    let advances = c.in-Some.ensures.advances in
-    let line = numbered_bytes c.in-Some.number new.encoding new.at.line in
     let w = c.build_line.new.engine in
-    let h = copied-same (sym (built-same c.loop-number.engine w c.loop-number.sink c.build_line.ensures.same)) c.loop-number.invariant.copied in
+    let h = copied-same c.loop-number.engine w c.build_line.ensures.same c.loop-number.invariant.copied in
     let built = rw c.in-Ok-Line.field-0-is at c.in-Ok-Line.ensures.builds in
     let after = writing c.send_line.new.self c.send_line.new.sink in
-    let error = c.write_fault-error.result in
     let writes =
-    built-unsent w c.loop-number.sink line.text true built.0 c.in-Ok-Line.line c.in-Err-send_line.fault error after c.send_line.ensures.fits built.1
+    built-unsent w c.loop-number.sink built.0 c.in-Ok-Line.line c.in-Err-send_line.fault c.write_fault-error.result after c.send_line.ensures.fits built.1
     c.in-Err-send_line.ensures.sends c.write_fault-error.ensures in
-    copied-unwritten h line new.at.state next advances.joins built.0.key built.0.value (in_utf_8 new.at.line) error after built.0.outcome built.0.scalars writes
+    copied-unwritten h c.in-Some.ensures.advances.joins built.0.key built.0.value (in_utf_8 c.next_line.new.self.at.line) c.write_fault-error.result after
+    built.0.outcome built.0.scalars writes
 
 pub returns-in-Ok-Refused-clause-copies : goal.returns-in-Ok-Refused-clause-copies
 returns-in-Ok-Refused-clause-copies g c =
-    let new = c.next_line.new.self in
-    let next = c.next_line.new.reader in
-    let advances = c.in-Some.ensures.advances in
-    let line = numbered_bytes c.in-Some.number new.encoding new.at.line in
     let w = c.build_line.new.engine in
-    let h = copied-same (sym (built-same c.loop-number.engine w c.loop-number.sink c.build_line.ensures.same)) c.loop-number.invariant.copied in
+    let h = copied-same c.loop-number.engine w c.build_line.ensures.same c.loop-number.invariant.copied in
     let built = rw c.in-Ok-Refused.field-0-is at c.in-Ok-Refused.ensures.builds in
-    let error = c.refusal.result in
-    let writes = built-refused w c.loop-number.sink line.text c.in-Ok-Refused.accepted built.0 error c.refusal.ensures in
-    copied-unwritten h line new.at.state next advances.joins built.0.key built.0.value (in_utf_8 new.at.line) error (writing w c.loop-number.sink) built.0.outcome
-    built.0.scalars writes
+    copied-unwritten h c.in-Some.ensures.advances.joins built.0.key built.0.value (in_utf_8 c.next_line.new.self.at.line) c.refusal.result
+    (writing w c.loop-number.sink) built.0.outcome built.0.scalars (built-refused w c.loop-number.sink built.0 c.refusal.result c.refusal.ensures)
 
 pub returns-in-Err-clause-copies : goal.returns-in-Err-clause-copies
 returns-in-Err-clause-copies g c =
-    let new = c.next_line.new.self in
-    let next = c.next_line.new.reader in
-    let advances = c.in-Some.ensures.advances in
-    let line = numbered_bytes c.in-Some.number new.encoding new.at.line in
     let w = c.build_line.new.engine in
-    let h = copied-same (sym (built-same c.loop-number.engine w c.loop-number.sink c.build_line.ensures.same)) c.loop-number.invariant.copied in
+    let h = copied-same c.loop-number.engine w c.build_line.ensures.same c.loop-number.invariant.copied in
     let error = c.unresolved.result in
     let last = c.end.new.self.at in
     let done = ap (λ (l : Joining). l.at.state.is_done) c.end.ensures in
-    let none = unbuilt-no_item line.text line.number c.in-Err.error w error c.in-Err.ensures.builds c.unresolved.ensures in
-    copied-unread h line new.at.state next advances.joins (in_utf_8 last.line) error last.state done none
+    copied-unread h c.in-Some.ensures.advances.joins (in_utf_8 last.line) error last.state done
+    (unbuilt-no_item _ _ c.in-Err.error w error c.in-Err.ensures.builds c.unresolved.ensures)
 
 pub returns-in-None-clause-copies : goal.returns-in-None-clause-copies
 returns-in-None-clause-copies g c =
