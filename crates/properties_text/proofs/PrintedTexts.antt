@@ -1,4 +1,3 @@
 pub mod Steps
 pub mod Runs
-pub mod Laws
 pub mod Keys

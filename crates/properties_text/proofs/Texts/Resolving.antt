@@ -1,6 +1,6 @@
 -- Texts whose escapes are resolved one after another.
 use Rattle.std.proofs.Common.{◌≡◌, ℕ, suc, ◌<◌, ◌+◌, ◌-◌, ◌==◌, ◌||◌, true, false, List, [], ◌∷◌, ◌++◌, length, take, drop, get_or, refl, ap, sym, ◌∙◌, subst, inl, inr, append_assoc, append-nil, arith}
-use Rattle.std.specs.Prelude.{Option, Some, None, slice_range, ◌%◌}
+use Rattle.std.specs.Prelude.{Option, Some, None, slice_range}
 use Rattle.std.specs.Option.{is_some}
 use lib.Utf8.{encode, encodes}
 use Rattle.std.specs.Str.{IsUtf8, IsCharBoundary, chars}
@@ -11,9 +11,7 @@ use Rattle.memchr.specs.Find.{IsFirstByte, is_byte}
 use Rattle.properties_format.specs.Text.{backslash}
 use Rattle.properties_format.specs.Escapes.{Malformed, Meaning, means, breaks, Means, Breaks, IsMeaning}
 use Rattle.properties_format.specs.Computed.Escapes.{in_front, text_in_front, meaning_of}
-use Rattle.properties_format.specs.Groups.{ending_backslashes, is_open}
 use Rattle.properties_format.specs.Writing.{HoldsNoBackslash}
-use Rattle.properties_format.proofs.Groups.Open.{ending_backslashes-after}
 use Rattle.properties_format.proofs.Escapes.Laws.{meaning_of-plain_front, meaning_of-plain}
 use Rattle.properties_format.proofs.Escapes.Unique.{text_in_front-means, text_in_front-breaks, breaks-only, meaning_of-meets}
 use Rattle.properties_text.specs.Escaping.{holds_backslash, malformed_in, IsRefused}
@@ -131,13 +129,6 @@ holds-part [] (y ∷ ys) zs h =
     let p = or_parts (y == backslash) (holds_backslash (ys ++ zs)) h in
     ap (λ v. v || holds_backslash ys) p.0 ∙ holds-part [] ys zs p.1
 holds-part (x ∷ xs) ys zs h = holds-part xs ys zs (or_parts (x == backslash) (holds_backslash (xs ++ (ys ++ zs))) h).1
-
--- A text without a backslash isn't open.
-none-ending : (xs : List ℕ) → holds_backslash xs ≡ false → ending_backslashes xs ≡ 0
-none-ending [] h = refl
-none-ending (x ∷ xs) h =
-    let p = or_parts (x == backslash) (holds_backslash xs) h in
-    ending_backslashes-after [] x xs p.0 ∙ none-ending xs p.1
 
 -- the beginning of a text, as a slice of it
 pub slice-front : (bs : List ℕ) (at : ℕ) → slice_range bs 0 at ≡ take at bs

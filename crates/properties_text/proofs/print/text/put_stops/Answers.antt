@@ -1,4 +1,4 @@
-use Rattle.std.proofs.Common.{◌≤◌, ◌++◌, true, length, take, refl, sym, ap, ◌∙◌, arith}
+use Rattle.std.proofs.Common.{◌≤◌, ◌++◌, length, take, refl, sym, ap, ◌∙◌, arith}
 use Rattle.properties_text.specs.Printing.{printed_byte}
 use Rattle.properties_text.proofs.TextFronts.{taken-rest}
 use Rattle.properties_text.proofs.PrintedTexts.Runs.{stop-put, put-run, stop-broken, run-byte, first-at, front-kept, run-kept}
