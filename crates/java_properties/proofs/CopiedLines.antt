@@ -1,11 +1,11 @@
 -- How the line of a pair is built from the bytes of a logical line, in either encoding.
-use Rattle.std.proofs.Common.{◌≡◌, ◌≤◌, ◌==◌, ◌-◌, ◌+◌, ℕ, zero, suc, List, [], ◌∷◌, ◌++◌, length, map, take, drop, refl, sym, ap, ap₂, ◌∙◌, subst, inl, inr, arith, eqb-true}
+use Rattle.std.proofs.Common.{◌≡◌, ◌≤◌, ◌==◌, ◌-◌, ◌+◌, ℕ, List, [], ◌∷◌, ◌++◌, length, map, take, drop, refl, sym, ap, ap₂, ◌∙◌, subst, inl, inr, arith, eqb-true}
 use lib.Utf8.{encodes}
 use Rattle.std.specs.Prelude.{Bool, Option, Some, None, All, Ok, Err}
 use Rattle.std.specs.Str.{IsUtf8, chars}
 use Rattle.std.proofs.lemmas.Bool.{cases_Bool, eq-eqb}
 use Rattle.std.proofs.lemmas.List.{length-append, length-take-le, length-drop, take-take, drop-take}
-use Rattle.std.proofs.lemmas.List.Elements.{All-nil, All-cons, All-head, All-tail}
+use Rattle.std.proofs.lemmas.List.Elements.{All-nil, All-cons, All-head, All-tail, All-take}
 use Rattle.std.proofs.lemmas.Str.{IsUtf8-between, encodes-chars}
 use Rattle.properties_format.specs.Text.{byte, scalar}
 use Rattle.properties_format.specs.Encoding.{windows_1252}
@@ -136,12 +136,7 @@ all-left (c ∷ x) y h = All-cons scalar c x (All-head scalar c (x ++ y) h) (all
 
 -- a line at the front of bytes
 pub front-bytes : (bytes line : List ℕ) (n : ℕ) → All byte bytes → take n bytes ≡ line → All byte line
-front-bytes bytes line n h e = subst (All byte) e (take-bytes bytes n h)
-  where
-    take-bytes : (bytes : List ℕ) (n : ℕ) → All byte bytes → All byte (take n bytes)
-    take-bytes bytes zero h = All-nil byte
-    take-bytes [] (suc n) h = All-nil byte
-    take-bytes (b ∷ bytes) (suc n) h = All-cons byte b (take n bytes) (All-head byte b bytes h) (take-bytes bytes n (All-tail byte b bytes h))
+front-bytes bytes line n h e = subst (All byte) e (All-take byte n bytes h)
 
 -- the text of a line is of scalar values
 pub text-scalars : (e : LineEncoding) (line : List ℕ) → IsWell e line → All byte line → All scalar (text_in e line)
