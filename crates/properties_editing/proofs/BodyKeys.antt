@@ -3,7 +3,9 @@ use Rattle.std.proofs.lemmas.Bool.Decides.{nat_tests}
 use Rattle.properties_format.specs.Text.{carriage_return}
 use Rattle.properties_format.specs.Computed.Lines.{ends_in_cr}
 use Rattle.std.proofs.Common.{take-add, get_or, ◌==◌, ◌≡◌, ℕ, ◌+◌, ◌-◌, ◌≤◌, ◌<◌, zero, suc, List, [], ◌∷◌, ◌++◌, length, take, drop, refl, ap, ap₂, sym, ◌∙◌, subst, inl, inr, append-nil, append_assoc, length-append, arith}
-use Rattle.std.specs.Prelude.{◌⊎◌, Bool, true, false, if◌then◌else◌, Option, Some, None}
+use Rattle.std.specs.Prelude.{◌⊎◌, Bool, true, false, if◌then◌else◌, Option, Some, None, unwrap_or}
+use Rattle.std.specs.Option.{is_some}
+use Rattle.properties_format.specs.Entries as content
 use Rattle.std.proofs.lemmas.Bool.{cases_Bool, cond-true, cond-false}
 use Rattle.std.proofs.lemmas.List.{drop-drop, take_more}
 use Rattle.std.proofs.Math.Seq.{drop-append_seam}
@@ -11,7 +13,10 @@ use Rattle.properties_format.specs.Edited.{is_editable}
 use Rattle.properties_format.specs.Computed.Edited.{without}
 use Rattle.properties_format.proofs.Body.Groups.{held-body, held_groups_of-meets}
 use Rattle.properties_format.proofs.Edited.Steps.{without-append}
-use Rattle.properties_editing.specs.Private.BodyKeys.{spans_bytes, AreWithin, AreOthersFound, IsErrorOfGroups, IsPlace, closing_of, closing_bytes, IsKeyFound, found_after}
+use Rattle.properties_editing.specs.Private.BodyKeys.{spans_bytes, AreWithin, AreOthersFound, IsErrorOfGroups, IsPlace, closing_of, closing_bytes, IsKeyFound, found_after, key_told}
+use Rattle.properties_editing.specs.Private.BodyIndex.{is_pair}
+use Rattle.properties_editing.specs.Private.BodyValues.{IsLastPair, FindsLastPair}
+use Rattle.properties_editing.proofs.LastPairs.{last-after}
 use Rattle.std.specs.Str.{chars}
 use Rattle.properties_format.specs.Encoding.{Encoding, windows_1252, utf_8, utf_16le, utf_16be}
 use Rattle.properties_lines.specs.LineSearch.{unit_size}
@@ -21,7 +26,7 @@ use Rattle.properties_format.specs.Computed.Groups.{closes}
 use Rattle.properties_format.specs.Computed.Cut.{cut_of}
 use Rattle.properties_format.specs.Body.{HeldLine, as_lines, held_in, group_bytes, groups_bytes}
 use Rattle.properties_format.specs.Edited.{unreadable, final_group, added_ending, separation, is_empty_line, is_left_open}
-use Rattle.properties_format.specs.Items.{broken}
+use Rattle.properties_format.specs.Items.{Outcome, ignored, given, broken}
 use Rattle.properties_format.specs.Computed.Items.{outcome_of, followed}
 use Rattle.properties_format.specs.Computed.Body.{is_pair_with, has_key, entries_in, held_of, held_lines_of, held_groups_after, held_groups_of}
 use Rattle.properties_format.specs.Computed.Parts.{unended_bytes}
@@ -123,6 +128,7 @@ pub record HasLooked (e : Encoding) (body key : List ℕ) (s : GroupReader) (fou
   pub groups : List (List HeldLine)
   pub read : HasRead e body groups s
   pub pair : IsPlace key groups found.pair
+  pub last : IsLastPair groups found.last
   pub closing : (groups ≡ []) ⊎ ((source : List ℕ) → separation source (final_group groups) ≡ closing_bytes (added_ending source) found.closing)
 
 -- a group after which a new pair is separated so
@@ -160,14 +166,31 @@ place-after key groups g group pair true h is starts ends = record {
 }
 place-after key groups g group pair false h is starts ends = place-kept key groups g pair h (sym is)
 
+-- what is told of a key
+pub told-with : (key : List ℕ) (o : Outcome) → unwrap_or (key_told key o) false ≡ is_pair_with key o
+told-with key ignored = refl
+told-with key (given (content.comment text)) = refl
+told-with key (given (content.pair k v)) = refl
+told-with key (broken kind) = refl
+
+told-pair : (key : List ℕ) (o : Outcome) → is_some (key_told key o) ≡ is_pair o
+told-pair key ignored = refl
+told-pair key (given (content.comment text)) = refl
+told-pair key (given (content.pair k v)) = refl
+told-pair key (broken kind) = refl
+
 -- one more group was looked at
-pub looked-more : {e : Encoding} {body key : List ℕ} {s t : GroupReader} {found : place.KeyPlace} {group : Group} (told : Bool) → HasLooked e body key s found
-    → TakesGroup body s group t → IsSound (outcome_of (chars (text_of body t group))) → told ≡ is_pair_with key (outcome_of (chars (text_of body t group)))
+pub looked-more : {e : Encoding} {body key : List ℕ} {s t : GroupReader} {found : place.KeyPlace} {group : Group} (told : Option Bool) → HasLooked e body key s found
+    → TakesGroup body s group t → IsSound (outcome_of (chars (text_of body t group))) → told ≡ key_told key (outcome_of (chars (text_of body t group)))
     → HasLooked e body key t (found_after found group told)
 looked-more {e} {body} {key} {s} {t} {found} {group} told h k sound is = record {
   groups = h.groups ++ k.held ∷ [];
   read = read-more h.read k sound;
-  pair = place-after key h.groups k.held group found.pair told h.pair (is ∙ ap (λ v. is_pair_with key (outcome_of v)) k.text) (k.starts ∙ h.read.placed) k.span.unended;
+  pair = place-after key h.groups k.held group found.pair (unwrap_or told false) h.pair
+      (ap (λ v. unwrap_or v false) is ∙ told-with key (outcome_of (chars (text_of body t group))) ∙ ap (λ v. is_pair_with key (outcome_of v)) k.text) (k.starts ∙ h.read.placed)
+      k.span.unended;
+  last = last-after h.groups k.held group (is_some told) found.last h.last (subst (λ v. IsSound (outcome_of v)) k.text sound)
+      (ap is_some is ∙ told-pair key (outcome_of (chars (text_of body t group))) ∙ ap (λ v. is_pair (outcome_of v)) k.text) (k.starts ∙ h.read.placed) k.span.unended;
   closing = inr (λ source. ap (separation source) (final_group-push h.groups k.held) ∙ closing_bytes-group source k.held group k.span.empty k.span.opens);
 }
 
@@ -195,17 +218,19 @@ some-groups e body h = some-after [] (held_lines_of e body) (λ none. some-lines
 
 -- all groups were looked at
 pub looked-all : {e : Encoding} {body key : List ℕ} {s : GroupReader} {found : place.KeyPlace} → HasLooked e body key s found → s.scanner.is_done ≡ true
-    → IsKeyFound e body key found
+    → IsKeyFound e body key found × FindsLastPair e body found.last
 looked-all {e} {body} {key} {s} {found} h done =
-    let all = read-all h.read done in
-    record {
-      sound = subst AreSound (sym all) h.read.sound;
-      pair = subst (λ v. IsPlace key v found.pair) (sym all) h.pair;
-      closing = elim h.closing [
-        | inl none ↦ absurd (some-groups e body (all ∙ none))
-        | inr closing ↦ λ source. ap (λ v. separation source (final_group v)) all ∙ closing source
-      ];
-    }
+    let all = read-all h.read done in (
+      record {
+        sound = subst AreSound (sym all) h.read.sound;
+        pair = subst (λ v. IsPlace key v found.pair) (sym all) h.pair;
+        closing = elim h.closing [
+          | inl none ↦ absurd (some-groups e body (all ∙ none))
+          | inr closing ↦ λ source. ap (λ v. separation source (final_group v)) all ∙ closing source
+        ];
+      },
+      subst (λ v. IsLastPair v found.last) (sym all) h.last,
+    )
 
 -- ---- the last byte
 

@@ -48,7 +48,6 @@ use Rattle.properties_format.specs.Computed.Parts.{unended_bytes}
 use Rattle.properties_format.specs.Computed.Valued.{between_of, is_pair_to}
 use Rattle.properties_format.proofs.Body.Groups.{held-body}
 use Rattle.properties_format.proofs.InTurn.Lines.{bytes-unended}
-use Rattle.properties_format.proofs.Split.Unique.{split_of-meets}
 use Rattle.properties_format.proofs.Valued.Fronts.{front_of-meets}
 use Rattle.properties_format.proofs.Valued.Read.{front-unended}
 use Rattle.properties_format.proofs.Valued.Walks.{front-within}

@@ -177,7 +177,7 @@ closes source false false = refl
 
 -- What the index says of a key that isn't stored.
 pub found-none : (e : Encoding) (body key : List ℕ) (index : Index) → AreSound (held_groups_of e body) → IsIndex (held_groups_of e body) index
-    → stored_at index.pairs.entries key ≡ None → IsKeyFound e body key (record { pair = None; closing = index.closing })
+    → stored_at index.pairs.entries key ≡ None → IsKeyFound e body key (record { pair = None; last = None; closing = index.closing })
 found-none e body key index sound h none =
     let gs = held_groups_of e body in
     record {

@@ -1,6 +1,6 @@
 -- A value in place, and the index then.
 use Rattle.std.proofs.Common.{◌≡◌, ◌==◌, ◌<◌, ◌≤◌, ℕ, ◌+◌, ◌-◌, ◌^◌, Bool, true, false, List, [], ◌∷◌, ◌++◌, All, length, take, drop, refl, ap, ap₂, sym, ◌∙◌, subst, inl, inr, length-append, length-drop, arith}
-use Rattle.std.specs.Prelude.{Some, if◌then◌else◌}
+use Rattle.std.specs.Prelude.{Some, None, if◌then◌else◌}
 use Rattle.std.proofs.Math.Seq.{drop-append_seam}
 use Rattle.std.proofs.lemmas.Bool.{cases_Bool, cond-true, cond-false}
 use Rattle.std.proofs.lemmas.List.{length-take-le}
@@ -48,7 +48,7 @@ closes source false false = refl
 
 -- what is known of a key in a place that is known
 abbrev pub found_at : List (List HeldLine) → BodySpan → place.KeyPlace
-found_at gs pair = record { pair = Some pair; closing = closing_of (is_empty_line (final_group gs)) (is_left_open (final_group gs)) }
+found_at gs pair = record { pair = Some pair; last = None; closing = closing_of (is_empty_line (final_group gs)) (is_left_open (final_group gs)) }
 
 pub found-at : (e : Encoding) (body key : List ℕ) (pair : BodySpan) → AreSound (held_groups_of e body) → IsPlaceOf key (held_groups_of e body) pair
     → IsKeyFound e body key (found_at (held_groups_of e body) pair)

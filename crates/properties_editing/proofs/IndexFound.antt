@@ -5,14 +5,10 @@ use Rattle.std.proofs.lemmas.Bool.{cases_Bool}
 use Rattle.std.proofs.lemmas.List.{map-append}
 use Rattle.properties_format.specs.Groups.{joined}
 use Rattle.properties_format.specs.Body.{HeldLine, as_lines, groups_bytes, group_bytes, NoneHasKey}
-use Rattle.properties_format.specs.Escapes.{Meaning, means, breaks}
-use Rattle.properties_format.specs.Computed.Escapes.{meaning_of}
-use Rattle.properties_format.specs.Split.{Logical}
 use Rattle.properties_format.specs.Computed.Split.{split_of}
 use Rattle.properties_format.specs.Computed.Body.{is_pair_with}
-use Rattle.properties_format.specs.Computed.Edited.{IsSound, AreSound, KeyPlace, last_place}
-use Rattle.properties_format.specs.Computed.Items.{split_outcome, comment_outcome, pair_outcome}
-use Rattle.properties_format.specs.Computed.Valued.{between_if_pair, between_in, last_between, or_else}
+use Rattle.properties_format.specs.Computed.Edited.{AreSound, KeyPlace, last_place}
+use Rattle.properties_format.specs.Computed.Valued.{between_if_pair, last_between, or_else}
 use Rattle.properties_format.proofs.Edited.Made as made
 use Rattle.properties_format.proofs.Edited.Made.{HasKey-test, last_place-meets, no_key-test}
 use Rattle.properties_editing.specs.Private.BodyIndex.{IsIndex, found_span, is_pair, last_live, last_span, live_spans, outcome, places_of, span_at, span_of, span_or, spans_where, stored_at}
@@ -21,6 +17,7 @@ use Rattle.properties_editing.specs.Private.BodyValues.{IsLastPair}
 use Rattle.properties_editing.specs.declared.edit.index.Index.{Index}
 use Rattle.properties_editing.specs.declared.edit.index.IndexedPair.{IndexedPair}
 use Rattle.properties_editing.specs.declared.edit.find.BodySpan.{BodySpan}
+use Rattle.properties_editing.proofs.LastPairs.{between-none, between-some}
 use Rattle.properties_editing.proofs.IndexSpans.{spans-join, spans-skip, spans-take}
 
 -- ---- the last of a list
@@ -101,25 +98,6 @@ new-key groups index h key = of-stored (stored_at index.pairs.entries key) (h.li
 -- what separates key and value, if the group is a pair
 abbrev told : List HeldLine → Option (List ℕ)
 told g = between_if_pair (split_of (joined (as_lines g))) (joined (as_lines g))
-
-between-none : (l : Logical) (x : List ℕ) → IsSound (split_outcome l) → is_pair (split_outcome l) ≡ false → between_if_pair l x ≡ None
-between-none Logical.blank x sound none = refl
-between-none (Logical.comment raw) x sound none = refl
-between-none (Logical.pair raw_key raw_value) x sound none = of-pair (meaning_of raw_key) (meaning_of raw_value) sound none
-  where
-    of-pair : (k v : Meaning) → IsSound (pair_outcome k v) → is_pair (pair_outcome k v) ≡ false → between_if_pair (Logical.pair raw_key raw_value) x ≡ None
-    of-pair (breaks kind) v s n = absurd s
-    of-pair (means key) (breaks kind) s n = absurd s
-    of-pair (means key) (means value) s n = absurd (cc)
-
-between-some : (l : Logical) (x : List ℕ) → is_pair (split_outcome l) ≡ true → (between : List ℕ) × (between_if_pair l x ≡ Some between)
-between-some Logical.blank x some = absurd (cc)
-between-some (Logical.comment raw) x some = of-comment (meaning_of raw) some
-  where
-    of-comment : (m : Meaning) → is_pair (comment_outcome m) ≡ true → (between : List ℕ) × (between_if_pair (Logical.comment raw) x ≡ Some between)
-    of-comment (means text) n = absurd (cc)
-    of-comment (breaks kind) n = absurd (cc)
-between-some (Logical.pair raw_key raw_value) x some = (between_in x, refl)
 
 -- ---- the last pair
 

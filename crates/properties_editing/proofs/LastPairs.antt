@@ -1,8 +1,7 @@
 -- The last pair of a body, whatever its key, and its last line ending.
-use Rattle.std.proofs.Common.{◌≡◌, ◌<◌, ◌≤◌, ℕ, ◌+◌, ◌-◌, true, false, List, [], ◌∷◌, ◌++◌, length, take, drop, get_or, refl, inl, inr, ap, ap₂, sym, ◌∙◌, subst, arith, append-nil, append_assoc, length-append}
+use Rattle.std.proofs.Common.{◌≡◌, ◌<◌, ◌≤◌, ℕ, ◌+◌, ◌-◌, Bool, true, false, List, [], ◌∷◌, ◌++◌, length, take, drop, get_or, refl, inl, inr, ap, ap₂, sym, ◌∙◌, subst, arith, append_assoc, length-append}
 use Rattle.std.specs.Prelude.{Option, Some, None, if◌then◌else◌, unwrap_or}
 use Rattle.std.specs.Option.{option_map}
-use Rattle.std.specs.Option.{is_some}
 use Rattle.std.proofs.lemmas.Bool.{cases_Bool, cond-true, cond-false}
 use Rattle.std.proofs.lemmas.List.{drop_more, take-append-drop}
 use borrow.Author.Tests.{eqb-true}
@@ -24,10 +23,9 @@ use Rattle.properties_format.proofs.Valued.Lined.{last_by, last_by-append}
 use Rattle.properties_format.proofs.Valued.Added.{ending-held}
 use Rattle.properties_editing.specs.Private.BodyLines.{ending_in}
 use Rattle.properties_items.specs.LineEndings.{ending_of}
-use Rattle.properties_editing.specs.Private.BodyValues.{IsEndingWithin, IsLastEnding, IsLastPairOf, IsGroupAlone, IsBetweenIn, IsLastPair, FindsLastPair}
+use Rattle.properties_editing.specs.Private.BodyValues.{IsEndingWithin, IsLastEnding, IsLastPairOf, IsGroupAlone, IsLastPair}
 use Rattle.properties_items.specs.declared.line.LineEnding.{LineEnding}
 use Rattle.properties_items.specs.declared.line.LineEnding.TheVariants.{CR, LF}
-use Rattle.properties_text.specs.Parsing.{bytes_in}
 use Rattle.std.proofs.Math.Seq.{take-append_seam, drop-append_seam}
 use Rattle.properties_format.specs.Settings.{IsGoodSeparator}
 use Rattle.properties_format.specs.Body.{ending_bytes, last_ending, AreGroupsOf}
@@ -42,103 +40,79 @@ use Rattle.properties_format.proofs.Valued.Made.{new_separator-meets}
 use Rattle.properties_format.proofs.Valued.Separators.{new_separator-fit}
 use Rattle.properties_format.proofs.Valued.Unended.{without_ending, unended-groups, unended-joined}
 use Rattle.properties_editing.proofs.BodyValues.{middle-of}
-use Rattle.std.specs.Str.{chars}
 use Rattle.properties_format.specs.Encoding.{Encoding}
 use Rattle.properties_format.specs.Groups.{joined}
 use Rattle.properties_format.specs.Computed.Split.{split_of}
-use Rattle.properties_format.specs.Body.{HeldLine, as_lines, group_bytes, groups_bytes}
+use Rattle.properties_format.specs.Body.{HeldLine, as_lines, groups_bytes}
 use Rattle.properties_format.specs.Computed.Body.{held_groups_of}
 use Rattle.properties_format.specs.Computed.Parts.{unended_bytes}
-use Rattle.properties_format.specs.Computed.Valued.{between_if_pair, last_between, or_else}
+use Rattle.properties_format.specs.Split.{Logical}
+use Rattle.properties_format.specs.Escapes.{Meaning, means, breaks}
+use Rattle.properties_format.specs.Computed.Escapes.{meaning_of}
+use Rattle.properties_format.specs.Computed.Items.{comment_outcome, pair_outcome, split_outcome}
+use Rattle.properties_format.specs.Computed.Edited.{IsSound}
+use Rattle.properties_format.specs.Computed.Valued.{between_if_pair, between_in, last_between, or_else}
+use Rattle.properties_editing.specs.Private.BodyIndex.{is_pair, outcome}
 use Rattle.properties_format.proofs.Body.Groups.{groups_bytes-append}
 use Rattle.properties_format.proofs.Valued.Made.{last_between-push}
-use Rattle.properties_text.specs.Encoding.{encoding_of}
-use Rattle.properties_text.specs.declared.parse.Span.{Span}
-use Rattle.properties_editing.specs.Private.BodyGroups.{IsWithin, groups_left, text_of, TakesGroup}
 use Rattle.properties_editing.specs.declared.edit.groups.Group.{Group}
-use Rattle.properties_editing.specs.declared.edit.groups.GroupReader.{GroupReader}
 use Rattle.properties_editing.specs.declared.edit.find.BodySpan.{BodySpan}
+
+-- ---- what separates key and value, if a line is a pair
+
+pub between-none : (l : Logical) (x : List ℕ) → IsSound (split_outcome l) → is_pair (split_outcome l) ≡ false → between_if_pair l x ≡ None
+between-none Logical.blank x sound none = refl
+between-none (Logical.comment raw) x sound none = refl
+between-none (Logical.pair raw_key raw_value) x sound none = of-pair (meaning_of raw_key) (meaning_of raw_value) sound none
+  where
+    of-pair : (k v : Meaning) → IsSound (pair_outcome k v) → is_pair (pair_outcome k v) ≡ false → between_if_pair (Logical.pair raw_key raw_value) x ≡ None
+    of-pair (breaks kind) v s n = absurd s
+    of-pair (means key) (breaks kind) s n = absurd s
+    of-pair (means key) (means value) s n = absurd (cc)
+
+pub between-some : (l : Logical) (x : List ℕ) → is_pair (split_outcome l) ≡ true → (between : List ℕ) × (between_if_pair l x ≡ Some between)
+between-some Logical.blank x some = absurd (cc)
+between-some (Logical.comment raw) x some = of-comment (meaning_of raw) some
+  where
+    of-comment : (m : Meaning) → is_pair (comment_outcome m) ≡ true → (between : List ℕ) × (between_if_pair (Logical.comment raw) x ≡ Some between)
+    of-comment (means text) n = absurd (cc)
+    of-comment (breaks kind) n = absurd (cc)
+between-some (Logical.pair raw_key raw_value) x some = (between_in x, refl)
 
 -- ---- the last pair
 
--- These groups of a body were passed, and this is the last pair of them.
-pub record HasPassed (e : Encoding) (body : List ℕ) (s : GroupReader) (last : Option BodySpan) : Type 0 where
-  pub groups : List (List HeldLine)
-  pub all : held_groups_of e body ≡ groups ++ groups_left body s
-  pub placed : s.scanner.at ≡ length (groups_bytes groups)
-  pub within : IsWithin body s
-  pub encoding : encoding_of s.scanner.encoding ≡ e
-  pub is_last : IsLastPair groups last
-
-pub passed-none : {e : Encoding} (body : List ℕ) (s : GroupReader) → s.scanner.at ≡ 0 → s.scanner.is_done ≡ false → IsWithin body s → encoding_of s.scanner.encoding ≡ e
-    → HasPassed e body s None
-passed-none {e} body s at going w same = record {
-  groups = [];
-  all = rw (going, at, same) refl;
-  placed = at;
-  within = w;
-  encoding = same;
-  is_last = refl;
-}
-
--- the last pair with one more group after it
-last-after : (groups : List (List HeldLine)) (g : List HeldLine) (group : Group) (line : List ℕ) (found : Option Span) (last next : Option BodySpan) → IsLastPair groups last
-    → chars line ≡ joined (as_lines g) → IsBetweenIn line found → next ≡ (if is_some found then Some (record { start = group.start; end = group.end }) else last)
-    → group.start ≡ length (groups_bytes groups) → group.end ≡ group.start + length (unended_bytes g) → IsLastPair (groups ++ g ∷ []) next
-last-after groups g group line None None next h t none is starts ends =
-    subst (IsLastPair (groups ++ g ∷ [])) (sym is)
-    (last_between-push groups g ∙ ap₂ or_else (subst (λ x. between_if_pair (split_of x) x ≡ None) t none) h)
-last-after groups g group line None (Some span) next h t none is starts ends =
-    subst (IsLastPair (groups ++ g ∷ [])) (sym is) record {
-      before = h.before;
-      group = h.group;
-      after = h.after ++ g ∷ [];
-      division = ap (λ v. v ++ g ∷ []) h.division ∙ append_assoc h.before (h.group ∷ h.after) (g ∷ []);
-      between = h.between;
-      of_pair = h.of_pair;
-      last = last_between-push groups g ∙ ap₂ or_else (subst (λ x. between_if_pair (split_of x) x ≡ None) t none) h.last;
-      starts = h.starts;
-      ends = h.ends;
-    }
-last-after groups g group line (Some found) last next h t at is starts ends =
-    let told = subst (λ x. between_if_pair (split_of x) x ≡ Some (chars (bytes_in line found))) t at.of_pair in
-    subst (IsLastPair (groups ++ g ∷ [])) (sym is) record {
+-- the last pair with one more group after it, which is a pair or not
+pub last-after : (groups : List (List HeldLine)) (g : List HeldLine) (group : Group) (told : Bool) (last : Option BodySpan) → IsLastPair groups last → IsSound (outcome g)
+    → told ≡ is_pair (outcome g) → group.start ≡ length (groups_bytes groups) → group.end ≡ group.start + length (unended_bytes g)
+    → IsLastPair (groups ++ g ∷ []) (if told then Some (record { start = group.start; end = group.end }) else last)
+last-after groups g group true last h sound is starts ends =
+    let x = joined (as_lines g) in
+    let b = between-some (split_of x) x (sym is) in
+    record {
       before = groups;
       group = g;
       after = [];
       division = refl;
-      between = chars (bytes_in line found);
-      of_pair = told;
-      last = last_between-push groups g ∙ ap (λ v. or_else v (last_between groups)) told;
+      between = b.0;
+      of_pair = b.1;
+      last = last_between-push groups g ∙ ap (λ v. or_else v (last_between groups)) b.1;
       starts = starts;
       ends = ends;
     }
-
--- one more group was passed
-pub passed-more : {e : Encoding} {body : List ℕ} {s t : GroupReader} {last next : Option BodySpan} {group : Group} (found : Option Span) → HasPassed e body s last
-    → TakesGroup body s group t → IsBetweenIn (text_of body t group) found
-    → next ≡ (if is_some found then Some (record { start = group.start; end = group.end }) else last) → HasPassed e body t next
-passed-more {e} {body} {s} {t} {last} {next} {group} found h k between is =
-    let one : groups_bytes (k.held ∷ []) ≡ group_bytes k.held = append-nil (group_bytes k.held) in
-    let next_at = k.span.next in
-    let starts = k.starts in
-    let placed = h.placed in
-    let all : length (groups_bytes (h.groups ++ k.held ∷ [])) ≡ length (groups_bytes h.groups) + length (group_bytes k.held) =
-    ap length (groups_bytes-append h.groups (k.held ∷ []) ∙ ap (λ v. groups_bytes h.groups ++ v) one) ∙ length-append (groups_bytes h.groups) (group_bytes k.held) in
-    record {
-      groups = h.groups ++ k.held ∷ [];
-      all = h.all ∙ ap (λ v. h.groups ++ v) k.groups ∙ sym (append_assoc h.groups (k.held ∷ []) (groups_left body t));
-      placed = omega arith;
-      within = k.within;
-      encoding = k.encoding ∙ h.encoding;
-      is_last = last-after h.groups k.held group (text_of body t group) found last next h.is_last k.text between is (k.starts ∙ h.placed) k.span.unended;
-    }
-
--- all groups were passed
-pub passed-all : {e : Encoding} {body : List ℕ} {s : GroupReader} {last : Option BodySpan} → HasPassed e body s last → s.scanner.is_done ≡ true → FindsLastPair e body last
-passed-all {e} {body} {s} {last} h done =
-    let all : held_groups_of e body ≡ h.groups = h.all ∙ (rw done (append-nil h.groups)) in
-    subst (λ v. IsLastPair v last) (sym all) h.is_last
+last-after groups g group false None h sound is starts ends =
+    last_between-push groups g ∙ ap₂ or_else (between-none (split_of (joined (as_lines g))) (joined (as_lines g)) sound (sym is)) h
+last-after groups g group false (Some span) h sound is starts ends = record {
+  before = h.before;
+  group = h.group;
+  after = h.after ++ g ∷ [];
+  division = ap (λ v. v ++ g ∷ []) h.division ∙ append_assoc h.before (h.group ∷ h.after) (g ∷ []);
+  between = h.between;
+  of_pair = h.of_pair;
+  last = last_between-push groups g
+      ∙ ap₂ or_else (between-none (split_of (joined (as_lines g))) (joined (as_lines g)) sound (sym is)) h.last;
+  starts = h.starts;
+  ends = h.ends;
+}
 
 -- ---- the last line ending
 

@@ -22,7 +22,7 @@ mod replace;
 mod source;
 mod value;
 
-use crate::edit::append::{layout_after, with_new_pair};
+use crate::edit::append::{layout_at, with_new_pair};
 pub use crate::edit::document::Document;
 use crate::edit::find::find_key;
 use crate::edit::index::{Index, put_pair, put_value, remove_pairs};
@@ -116,7 +116,7 @@ pub fn set_value(
     let bytes = match place.pair {
         Some(pair) => with_value(alloc, source, opened, pair, value)?,
         None => {
-            let layout = layout_after(alloc, opened.encoding, body, place.closing, key)?;
+            let layout = layout_at(alloc, opened.encoding, body, place.closing, place.last, key)?;
             with_new_pair(alloc, source, opened, &layout, key, value)?
         }
     };

@@ -6,7 +6,6 @@ ghost use Rattle.std.specs.Str.{chars};
 ghost use Rattle.std.specs.Cow.{cow_str_bytes};
 ghost use Rattle.properties_text.specs.Parsing.{AreSpans, IsSpan, in_characters, spanned};
 ghost use Rattle.properties_format.specs.Items.{given};
-ghost use Rattle.properties_format.specs.Computed.Body.{is_pair_with};
 ghost use Rattle.properties_format.specs.Computed.Parts.{outcome_key};
 ghost use Rattle.properties_items.specs.Texts.{characters};
 ghost use Rattle.properties_items.specs.FoundItems.{pair_characters, outcome_pair, FindsText, FindsContent, FindsIn, FindsPlain};
@@ -141,14 +140,14 @@ pub fn cut_item(found: Found, line: &str) -> LineRef<'_>
     LineRef::new(line_number, content.cut(line))
 }
 
-/// Returns whether the item is a pair with this key.
-pub fn item_has_key(found: &Found, line: &str, key: &str) -> bool
+/// Returns whether the pair has this key, or `None` if the item is a comment.
+pub fn item_has_key(found: &Found, line: &str, key: &str) -> Option<bool>
     requires { IsFoundIn line.now found.now }
-    ensures { result ≡ is_pair_with (chars key.now) (given (found_content line.now found.now.content)) }
+    ensures { result ≡ option_map (λ k. bytes_eq k (chars key.now)) (outcome_key (given (found_content line.now found.now.content))) }
 {
     match &found.content {
-        FoundContent::Comment(_) => false,
-        FoundContent::KVPair(text, _) => text.is(line, key),
+        FoundContent::Comment(_) => None,
+        FoundContent::KVPair(text, _) => Some(text.is(line, key)),
     }
 }
 

@@ -1,5 +1,6 @@
 -- Which logical lines are pairs with a key, and where the last of these pairs is in a body.
-use Rattle.std.specs.Prelude.{◌≡◌, ◌⊎◌, ℕ, ◌+◌, Bool, if◌then◌else◌, List, [], ◌∷◌, ◌++◌, take, drop, ◌-◌, ◌==◌, ◌&&◌, ◌≤◌, length, Option, Some, None, Result, Ok, Err}
+use Rattle.std.specs.Prelude.{◌≡◌, ◌⊎◌, ℕ, ◌+◌, Bool, false, if◌then◌else◌, List, [], ◌∷◌, ◌++◌, take, drop, ◌-◌, ◌==◌, ◌&&◌, ◌≤◌, length, Option, Some, None, Result, Ok, Err, bytes_eq, unwrap_or}
+use Rattle.std.specs.Option.{is_some, option_map}
 use Rattle.std.specs.Str.{chars}
 use Rattle.std.specs.declared.vec.Vec.{Vec}
 use Rattle.properties_format.specs.Text.{line_feed}
@@ -7,14 +8,15 @@ use Rattle.properties_format.specs.Encoding.{Encoding, begins_like_bom}
 use Rattle.properties_format.specs.Escapes.{Malformed}
 use Rattle.properties_format.specs.Body.{HeldLine, groups_bytes}
 use Rattle.properties_format.specs.Edited.{unreadable, final_group, added_ending, separation}
-use Rattle.properties_format.specs.Items.{ignored}
+use Rattle.properties_format.specs.Items.{Outcome, ignored}
 use Rattle.properties_format.specs.Computed.Items.{outcome_of}
-use Rattle.properties_format.specs.Computed.Body.{is_pair_with, entries_in, held_groups_of}
-use Rattle.properties_format.specs.Computed.Parts.{unended_bytes}
+use Rattle.properties_format.specs.Computed.Body.{entries_in, held_groups_of}
+use Rattle.properties_format.specs.Computed.Parts.{outcome_key, unended_bytes}
 use Rattle.properties_format.specs.Computed.Edited.{KeyPlace, last_place, without, IsSound, AreSound, result_by}
 use Rattle.properties_items.specs.BorrowedItems.{IsFoundIn}
 use Rattle.properties_items.specs.FoundItems.{IsNoItem}
 use Rattle.properties_items.specs.Errors.{IsBareError, IsMalformed}
+use Rattle.properties_editing.specs.Private.BodyValues.{FindsLastPair}
 use Rattle.properties_editing.specs.declared.edit.groups.Group.{Group}
 use Rattle.properties_editing.specs.declared.edit.find.Closing.{Closing}
 use Rattle.properties_editing.specs.declared.edit.find.Closing.TheVariants as closing
@@ -30,9 +32,13 @@ FindsItem line number (Ok None) = outcome_of (chars line) ≡ ignored
 FindsItem line number (Ok (Some found)) = IsFoundIn line found
 FindsItem line number (Err e) = IsNoItem number (chars line) e
 
--- The result says whether a logical line is a pair with this key; or there is an error in the line with this number.
-abbrev pub ChecksKeyOfLine : List ℕ → List ℕ → ℕ → Result Bool PropertiesError → Type 0
-ChecksKeyOfLine line key number (Ok answer) = IsSound (outcome_of line) × (answer ≡ is_pair_with key (outcome_of line))
+-- whether a pair has this key, if the outcome is a pair
+abbrev pub key_told : List ℕ → Outcome → Option Bool
+key_told key outcome = option_map (λ k. bytes_eq k key) (outcome_key outcome)
+
+-- The result says whether the pair that is a logical line has this key; or there is an error in the line with this number.
+abbrev pub ChecksKeyOfLine : List ℕ → List ℕ → ℕ → Result (Option Bool) PropertiesError → Type 0
+ChecksKeyOfLine line key number (Ok answer) = IsSound (outcome_of line) × (answer ≡ key_told key (outcome_of line))
 ChecksKeyOfLine line key number (Err e) = IsNoItem number line e
 
 -- ---- the first malformed escape of a body
@@ -68,11 +74,13 @@ closing_bytes ending closing.Nothing = []
 closing_bytes ending closing.OneEnding = ending
 closing_bytes ending closing.TwoEndings = ending ++ ending
 
--- what is known of the key after one more group, which may be a pair with it
-abbrev pub found_after : place.KeyPlace → Group → Bool → place.KeyPlace
-found_after found group is_pair =
+-- what is known of the key after one more group, which says whether it has the key, if it is a pair
+abbrev pub found_after : place.KeyPlace → Group → Option Bool → place.KeyPlace
+found_after found group told =
+    let span : BodySpan = record { start = group.start; end = group.end } in
     record {
-      pair = if is_pair then Some (record { start = group.start; end = group.end }) else found.pair;
+      pair = if unwrap_or told false then Some span else found.pair;
+      last = if is_some told then Some span else found.last;
       closing = closing_of group.is_empty group.is_open;
     }
 
@@ -82,9 +90,9 @@ pub record IsKeyFound (e : Encoding) (body key : List ℕ) (found : place.KeyPla
   pub pair : IsPlace key (held_groups_of e body) found.pair
   pub closing : (source : List ℕ) → separation source (final_group (held_groups_of e body)) ≡ closing_bytes (added_ending source) found.closing
 
--- the result of searching for a key
+-- the result of searching for a key, and for the last pair
 abbrev pub FindsKey : Encoding → List ℕ → List ℕ → Result place.KeyPlace PropertiesError → Type 0
-FindsKey e body key (Ok found) = IsKeyFound e body key found
+FindsKey e body key (Ok found) = IsKeyFound e body key found × FindsLastPair e body found.last
 FindsKey e body key (Err error) = IsErrorOfGroups (held_groups_of e body) error
 
 -- ---- what is left without a key

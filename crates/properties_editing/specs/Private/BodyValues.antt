@@ -1,8 +1,7 @@
 -- How the value of a key is set in a body that is held in memory: where the value of a pair begins, and how a new pair is
 -- laid out.
-use Rattle.std.specs.Prelude.{◌≡◌, ℕ, ◌+◌, ◌-◌, ◌≤◌, Bool, true, false, if◌then◌else◌, List, [], ◌∷◌, ◌++◌, length, take, drop, Option, Some, None, Result, Ok, Err, unwrap_or}
+use Rattle.std.specs.Prelude.{◌≡◌, ℕ, ◌+◌, ◌-◌, ◌≤◌, Bool, true, false, if◌then◌else◌, List, [], ◌∷◌, ◌++◌, length, take, drop, Option, Some, None, unwrap_or}
 use Rattle.std.specs.Str.{chars, encode_utf8_all}
-use Rattle.std.specs.Global.{Vec}
 use Rattle.properties_format.specs.Text as text
 use Rattle.properties_format.specs.Encoding.{Encoding}
 use Rattle.properties_format.specs.Groups.{joined}
@@ -17,24 +16,19 @@ use Rattle.properties_format.specs.Body.{HeldLine, as_lines, groups_bytes, held_
 use Rattle.properties_format.specs.Edited.{is_editable}
 use Rattle.properties_format.specs.Valued.{value_text, printed_value, ending_among}
 use Rattle.properties_format.specs.Computed.Body.{held_groups_of}
-use Rattle.properties_format.specs.Computed.Edited.{IsSound}
 use Rattle.properties_format.specs.Computed.Settings.{is_good_separator}
 use Rattle.properties_format.specs.Computed.Parts.{unended_bytes}
-use Rattle.properties_format.specs.Computed.Valued.{before_value, between_if_pair, between_of, front_of, has_value, is_pair_to, last_between, separator_by}
+use Rattle.properties_format.specs.Computed.Valued.{before_value, between_if_pair, between_of, front_of, has_value, last_between, separator_by}
 use Rattle.properties_text.specs.Parsing.{bytes_in, IsSpan}
 use Rattle.properties_text.specs.declared.parse.Span.{Span}
 use Rattle.properties_items.specs.Texts.{characters}
 use Rattle.properties_items.specs.LineEndings.{ending_of}
 use Rattle.properties_editing.specs.Private.BodyLines.{ending_in}
-use Rattle.properties_items.specs.FoundItems.{IsNoItem}
-use Rattle.properties_items.specs.Errors.{IsBareError}
 use Rattle.properties_items.specs.declared.line.LineEnding.{LineEnding}
 use Rattle.properties_editing.specs.declared.edit.append.Layout.{Layout}
 use Rattle.properties_editing.specs.declared.edit.find.BodySpan.{BodySpan}
 use Rattle.properties_editing.specs.declared.edit.find.Closing.{Closing}
 use Rattle.properties_editing.specs.declared.edit.value.NewValue.{NewValue}
-use Rattle.properties_items.specs.declared.error.ErrorKind.TheVariants as kind
-use Rattle.properties_items.specs.declared.error.PropertiesError.{PropertiesError}
 
 -- ---- where the value of a pair begins
 

@@ -21,7 +21,7 @@ ghost use Rattle.properties_editing.specs.Private.BodyKeys.{closing_bytes};
 ghost use Rattle.properties_editing.specs.Private.BodyValues.{FindsLastPair, IsEndingWithin, IsLastEnding, IsGroupAlone, IsLayoutAfter, unended_pair};
 
 use crate::edit::find::{BodySpan, Closing, closing_bytes, ends_in_cr};
-use crate::edit::groups::{GroupReader, first_group};
+use crate::edit::groups::first_group;
 use crate::edit::layout::between;
 use crate::edit::replace::{are_empty, concatenated, part, repertoire_of};
 use crate::edit::source::BodyStart;
@@ -41,39 +41,6 @@ pub struct Layout {
     pub separator: String,
     /// Its line ending, and the one that `closing` is made of.
     pub ending: LineEnding,
-}
-
-/// Returns the layout of a new pair after a body: the separator of its last pair and its last line ending. `closing`
-/// says how the last group of the body ends. The encoding's units are one byte long.
-pub fn layout_after(
-    alloc: Global,
-    encoding: Encoding,
-    body: &[u8],
-    closing: Closing,
-    key: &str,
-) -> Result<Layout, AllocError>
-    requires { unit_size (encoding_of encoding) ≡ 1 }
-    ensures { IfOk result (λ layout. IsLayoutAfter (encoding_of encoding) body.now closing (chars key.now) layout) }
-{
-    Ok(Layout {
-        closing,
-        separator: separator_after(alloc, encoding, body, key)?,
-        ending: last_ending(body),
-    })
-}
-
-// Returns the separator of a new pair with this key: that of the last pair of the body, or an equals sign.
-fn separator_after(
-    alloc: Global,
-    encoding: Encoding,
-    body: &[u8],
-    key: &str,
-) -> Result<String, AllocError>
-    requires { unit_size (encoding_of encoding) ≡ 1 }
-    ensures { IfOk result (λ text. characters text ≡ separator_by (chars key.now) (last_between (held_groups_of (encoding_of encoding) body.now))) }
-{
-    let last = last_pair(alloc, encoding, body)?;
-    separator_at(alloc, encoding, body, last, key)
 }
 
 /// Returns the layout of a new pair after a body, of which this is the last pair. `closing` says how the last group of the
@@ -117,24 +84,6 @@ fn separator_at(
         Some(separator) => Ok(separator),
         None => String::from_str(alloc, "="),
     }
-}
-
-// Returns the last pair of a body, whatever its key. The encoding's units are one byte long.
-fn last_pair(alloc: Global, encoding: Encoding, body: &[u8]) -> Result<Option<BodySpan>, AllocError>
-    requires { unit_size (encoding_of encoding) ≡ 1 }
-    ensures { IfOk result (λ pair. FindsLastPair (encoding_of encoding) body.now pair) }
-{
-    let mut groups = GroupReader::new(alloc, encoding);
-    let mut last = None;
-    while let Some(group) = groups.next(body)? {
-        if between(groups.line(body, group)).is_some() {
-            last = Some(BodySpan {
-                start: group.start,
-                end: group.end,
-            });
-        }
-    }
-    Ok(last)
 }
 
 /// Returns the separator of a new pair with this key that looks like the pair of these bytes, which are one group, or

@@ -17,11 +17,13 @@ use properties_items::line::LineEnding;
 use properties_text::encoding::Encoding;
 use std::alloc::Global;
 
-/// The last pair with a key, if there is one, and how the last group of the body ends.
+/// The last pair with a key and the last pair of all, if there is one, and how the last group of the body ends.
 #[derive(Clone, Copy)]
 pub struct KeyPlace {
-    /// The pair, without its last line ending.
+    /// The pair with the key, without its last line ending.
     pub pair: Option<BodySpan>,
+    /// The last pair, whatever its key, likewise.
+    pub last: Option<BodySpan>,
     /// What separates a new pair from the last group.
     pub closing: Closing,
 }
@@ -59,32 +61,35 @@ pub fn find_key(
     let mut groups = GroupReader::new(alloc, encoding);
     let mut place = KeyPlace {
         pair: None,
+        last: None,
         closing: Closing::Nothing,
     };
     while let Some(group) = groups.next(body)? {
         let number = group.number;
-        let is_pair = has_key(alloc, number, groups.line(body, group), key)?;
-        place = place.after(group, is_pair);
+        let has_key = has_key(alloc, number, groups.line(body, group), key)?;
+        place = place.after(group, has_key);
     }
     Ok(place)
 }
 
 impl KeyPlace {
-    // Returns what is known after this group. `is_pair` says whether the group is a pair with the key.
-    fn after(self, group: Group, is_pair: bool) -> KeyPlace
-        ensures { result ≡ found_after self group is_pair }
+    // Returns what is known after this group. `has_key` says whether it has the key, if it is a pair.
+    fn after(self, group: Group, has_key: Option<bool>) -> KeyPlace
+        ensures { result ≡ found_after self group has_key }
     {
-        let pair = if is_pair {
-            Some(BodySpan {
-                start: group.start,
-                end: group.end,
-            })
-        } else {
-            self.pair
+        let closing = closing_after(group);
+        let Some(has_key) = has_key else {
+            return KeyPlace { closing, ..self };
         };
+        let last = Some(BodySpan {
+            start: group.start,
+            end: group.end,
+        });
+        let pair = if has_key { last } else { self.pair };
         KeyPlace {
             pair,
-            closing: closing_after(group),
+            last,
+            closing,
         }
     }
 }

@@ -15,14 +15,19 @@ use properties_text::escape::{UnescapeError, has_backslash, unescape};
 use properties_text::parse::Span;
 use std::alloc::{AllocError, Global};
 
-/// Returns whether a logical line is a pair with this key. Fails if an escape in the line, which has this number, is
-/// malformed, or if memory runs out.
-pub fn has_key(alloc: Global, number: usize, line: &str, key: &str) -> Result<bool, PropertiesError>
+/// Returns whether the pair that is a logical line has this key, or `None` if the line isn't a pair. Fails if an escape in
+/// the line, which has this number, is malformed, or if memory runs out.
+pub fn has_key(
+    alloc: Global,
+    number: usize,
+    line: &str,
+    key: &str,
+) -> Result<Option<bool>, PropertiesError>
     ensures { ChecksKeyOfLine (chars line.now) (chars key.now) number result }
 {
     match find_item(alloc, number, line)? {
         Some(found) => Ok(item_has_key(&found, line, key)),
-        None => Ok(false),
+        None => Ok(None),
     }
 }
 

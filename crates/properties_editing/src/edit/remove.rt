@@ -29,7 +29,7 @@ pub fn spans_without_key(
     let mut start = 0;
     while let Some(group) = groups.next(body)? {
         let number = group.number;
-        if has_key(alloc, number, groups.line(body, group), key)? {
+        if has_key(alloc, number, groups.line(body, group), key)?.unwrap_or(false) {
             let end = group.start;
             others.push(BodySpan { start, end })?;
             start = groups.place();

@@ -32,14 +32,17 @@ returns-in_err-place-clause-splitting c = splitting-commutes (encoding_of c.args
 
 pub with_value-requires-clause-within : goal.with_value-requires-clause-within
 with_value-requires-clause-within c =
-    let found = rw (take_rest c.args.source.now c.in_ok-opened.opened.start) at c.in_ok-place.ensures in
+    let found = (rw (take_rest c.args.source.now c.in_ok-opened.opened.start) at c.in_ok-place.ensures).0 in
     span-within c.in-Some.pair c.in_ok-opened.ensures.0 c.in_ok-opened.ensures.1 found c.in-Some.is
 
 pub with_value-requires-clause-alone : goal.with_value-requires-clause-alone
 with_value-requires-clause-alone c =
     let opened = c.in_ok-opened.opened in
-    let found = rw (take_rest c.args.source.now opened.start) at c.in_ok-place.ensures in
+    let found = (rw (take_rest c.args.source.now opened.start) at c.in_ok-place.ensures).0 in
     found-alone c.args.source.now (chars c.args.key.now) opened c.in-Some.pair c.in_ok-opened.ensures.1 found c.in-Some.is
+
+pub layout_at-requires-clause-last : goal.layout_at-requires-clause-last
+layout_at-requires-clause-last c = c.in_ok-place.ensures.1
 
 pub returns-in_err-bytes-in-Some-clause-splitting : goal.returns-in_err-bytes-in-Some-clause-splitting
 returns-in_err-bytes-in-Some-clause-splitting c = splitting-commutes (encoding_of c.args.encoding) c.args.source.now
@@ -58,7 +61,7 @@ returns-clause-sets c =
     let value = chars c.args.value.now in
     let bytes = c.match-place.bytes.items in
     let opened = c.in_ok-opened in
-    let found = rw (take_rest source opened.opened.start) at c.in_ok-place.ensures in
+    let found = (rw (take_rest source opened.opened.start) at c.in_ok-place.ensures).0 in
     value-edits (chars-scalars c.args.key.now c.utf8.key) (chars-scalars c.args.value.now c.utf8.value)
     (subst (λ b. set_value_result e b source key value ≡ edited bytes) opened.ensures.2 (elim c.match-place.branch [
       | in-Some+in_ok-bytes-in-Some w ↦

@@ -1,5 +1,4 @@
-use Rattle.std.proofs.Common.{◌∙◌, ap, sym, subst}
-use Rattle.std.specs.Prelude.{bytes_eq}
+use Rattle.std.proofs.Common.{◌∙◌, sym, subst}
 use Rattle.std.specs.Str.{chars}
 use Rattle.properties_format.specs.Escapes.{Breaks, Means}
 use Rattle.properties_text.specs.Escaping.{malformed_in}

@@ -1,8 +1,9 @@
 use Rattle.std.proofs.Common.{◌++◌, [], ◌∷◌, ◌∙◌, ap, sym, subst}
+use Rattle.std.specs.Prelude.{false, unwrap_or}
 use Rattle.std.proofs.lemmas.Result.{err_from_is_err_and}
 use Rattle.std.specs.Str.{chars}
 use Rattle.properties_text.specs.Encoding.{encoding_of}
-use Rattle.properties_editing.proofs.BodyKeys.{HasKept, read-fault, kept-none, kept-removed, kept-more, kept-all, editable-bytes}
+use Rattle.properties_editing.proofs.BodyKeys.{HasKept, read-fault, kept-none, kept-removed, kept-more, kept-all, editable-bytes, told-with}
 use Rattle.properties_editing.specs.Private.BodyGroups.{IsWithin}
 use Rattle.properties_lines.specs.LineSearch.{unit_size}
 use Rattle.properties_editing.specs.declared.edit.groups.GroupReader.{GroupReader}
@@ -25,11 +26,11 @@ returns-in_err-has_key c =
     let said = rw c.line.ensures at c.in_err-has_key.ensures in
     rw (error.1, error.2) (read-fault c.in_err-has_key.field-0.0 c.loop-others.invariant.read came said)
 
-pub loop-others-preserved-then-branch : goal.loop-others-preserved-then-branch
-loop-others-preserved-then-branch c =
+pub loop-others-preserved-then-unwrap_or : goal.loop-others-preserved-then-unwrap_or
+loop-others-preserved-then-unwrap_or c =
     let came = rw c.in-Some.is at c.in_ok-group.ensures in
     let told = rw c.line.ensures at c.in_ok-has_key.ensures in
-    let is = sym c.if-branch.true ∙ told.1 in
+    let is = sym c.if-unwrap_or.true ∙ c.unwrap_or.ensures ∙ ap (λ v. unwrap_or v false) told.1 ∙ told-with (chars c.args.key.now) _ in
     let body = c.args.body.now in
     let kept = kept-removed c.push.new.self.items c.loop-others.invariant came told.0 is c.in_ok-push.ensures.items in
     subst (HasKept (encoding_of c.args.encoding) body (chars c.args.key.now) c.next.new.self c.push.new.self.items) (sym c.place-start.ensures) kept
@@ -38,7 +39,7 @@ pub loop-others-preserved : goal.loop-others-preserved
 loop-others-preserved c =
     let came = rw c.in-Some.is at c.in_ok-group.ensures in
     let told = rw c.line.ensures at c.in_ok-has_key.ensures in
-    let is = sym c.if-branch.false ∙ told.1 in
+    let is = sym c.if-unwrap_or.false ∙ c.unwrap_or.ensures ∙ ap (λ v. unwrap_or v false) told.1 ∙ told-with (chars c.args.key.now) _ in
     kept-more (editable-bytes (encoding_of c.args.encoding) c.requires) c.loop-others.invariant came told.0 is
 
 pub returns : goal.returns
