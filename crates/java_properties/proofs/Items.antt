@@ -72,9 +72,9 @@ come-next {old} {new} {bytes} {lines} (Passes.at_last d h) =
     let none = natural-done new [] end d in
     let all = h.natural ∙ ap (λ v. lines ++ v) none.0 ∙ append-nil lines in
     ComeNext.at_last d (
-      subst (λ v. AreLinesToCome old bytes end v []) all (
-        subst (λ v. AreLinesToCome old bytes end (natural_to_come old bytes end) v) (h.last ∙ none.1) (natural_to_come-meets old bytes end)
-      )
+    subst (λ v. AreLinesToCome old bytes end v []) all (
+    subst (λ v. AreLinesToCome old bytes end (natural_to_come old bytes end) v) (h.last ∙ none.1) (natural_to_come-meets old bytes end)
+    )
     )
 
 -- ---- item after item

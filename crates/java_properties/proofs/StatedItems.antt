@@ -78,8 +78,7 @@ pub state-advance : {R : Type 0} (reader : Reader R) (old new : Reading R) (answ
     → FindsItem reader old.state old.reader answer (record { state = new.state; line = new.line }) new.reader → AdvancesTo reader old answer new
 state-advance reader old new None h = state-none h
 state-advance reader old new (Some (Ok found)) h =
-    let n = h.0 in
-    (
+    let n = h.0 in (
       record { bytes = n.bytes; read = n.read; live = n.live; gives = state-gives n.gives; passes = λ g. state-some (n.passes g); ended = n.ended; lazy = state-lazy n.lazy },
       h.1,
       h.2,

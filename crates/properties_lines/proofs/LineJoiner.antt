@@ -18,14 +18,11 @@ use Rattle.properties_format.proofs.ItemsToCome.Entries.{gives-on, joining-open,
 use Rattle.properties_format.proofs.ItemsToCome.Steps.{lines-start, lines-on, on-start, on-open, logical-comment_line, logical-closed}
 use Rattle.properties_format.specs.Computed.ReaderSteps.{Gives}
 use Rattle.properties_text.specs.Escaping.{holds_backslash}
-use Rattle.properties_text.proofs.Texts.Resolving.{found_none}
 use Rattle.properties_lines.specs.LineReader as finder
 use Rattle.properties_lines.specs.LineReader.{Finder, Finds, Passes, PassesSome, PassesAll, IsLazy, HasRightLineFlags, FindsError, found_line}
 use Rattle.properties_text.specs.Encoding.{line_of}
 use Rattle.properties_text.specs.Spelt.{text_in, IsWell}
 use Rattle.properties_text.specs.declared.encoding.line.LineEncoding.{LineEncoding}
-use Rattle.memchr.specs.Find.{IsFirstByte, is_byte}
-use Rattle.properties_format.specs.Text.{backslash}
 use Rattle.properties_lines.specs.LogicalLine.{bytes_at, bytes_with, is_natural, IsLineIn, HasText, IsTextOf, IsNotContinued, OpensJoin, unfinished_text}
 use Rattle.properties_lines.specs.declared.logical.Place.{Place}
 use Rattle.properties_lines.specs.declared.logical.Place.TheVariants.{Natural, Decoded, Joined}
@@ -548,11 +545,6 @@ natural-bytes Joined natural decoded joined h = absurd (cc)
 joined-bytes : (place : Place) (natural decoded joined : List ℕ) → place ≡ Joined
     → (bytes_at place natural decoded joined ≡ joined) × (is_natural place ≡ false)
 joined-bytes place natural decoded joined h = rw h (refl, refl)
-
--- a search found no backslash
-pub none-found : (bytes : List ℕ) (found : Option ℕ) → IsFirstByte (is_byte backslash) bytes found → is_some found ≡ false → holds_backslash bytes ≡ false
-none-found bytes None h k = found_none bytes h
-none-found bytes (Some at) h k = absurd (cc)
 
 module _ {R : Type 0} {reader : Reader R} where
   -- the line is a logical line

@@ -16,8 +16,8 @@ use crate::error::LineError;
 use crate::join::is_open;
 use crate::logical::LogicalLine;
 use crate::reader::LineReader;
+use crate::scanner;
 use counted_io::CountedRead;
-use memchr::memchr;
 use properties_text::encoding::{Encoding, LineEncoding};
 use std::alloc::Global;
 use std::marker::Model;
@@ -195,7 +195,7 @@ fn read_rest<R: CountedRead>(
             if !join_lines(lines, line, reader) {
                 return None;
             }
-            *has_backslash = memchr(b'\\', line.bytes(lines.line())).is_some();
+            *has_backslash = scanner::has_backslash(line.bytes(lines.line()));
             Some(number)
         }
         Err(_) => {

@@ -439,7 +439,8 @@ fn search_blocks<C: ByteClass>(
     Err(at)
 }
 
-fn has_backslash(bytes: &[u8]) -> bool
+/// Returns whether one of the bytes is that of a backslash.
+pub(crate) fn has_backslash(bytes: &[u8]) -> bool
     ensures { result ≡ holds_backslash bytes.now }
 {
     memchr(b'\\', bytes).is_some()

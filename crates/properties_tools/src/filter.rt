@@ -66,7 +66,8 @@ pub fn filter_ascii<R: CountedRead, W: CountedWrite>(
     filter_with(alloc, input, writer, encoding, true)
 }
 
-fn filter_with<R: CountedRead, W: CountedWrite>(
+/// Does what [`filter`] does or, if `ascii_only`, what [`filter_ascii`] does.
+pub(crate) fn filter_with<R: CountedRead, W: CountedWrite>(
     alloc: Global,
     input: &mut R,
     writer: &mut W,

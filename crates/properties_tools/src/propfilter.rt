@@ -3,15 +3,13 @@
 ghost use Rattle.std.specs.Prelude.{◌≡◌, ◌∷◌, [], map, string_bytes};
 ghost use Rattle.std.specs.Option.{option_map};
 ghost use Rattle.counted_io.specs.Streams.{IsSameReader, IsSameSink};
-ghost use Rattle.properties_text.specs.Encoding.{encoding_of};
-ghost use Rattle.properties_tools.specs.Filter.{Filters};
 ghost use Rattle.properties_tools.specs.Messages.{printed_line, HasPrintedLine};
 ghost use Rattle.properties_tools.specs.Propfilter.{asked_of, not_utf_8, usage, IsAsked, IsNamedWith, Runs};
 
-use crate::filter::{filter, filter_ascii};
+use crate::filter::filter_with;
 use crate::messages::{say, say_error};
 use counted_io::{CountedRead, CountedWrite};
-use java_properties::{Encoding, PropertiesError};
+use java_properties::Encoding;
 use std::alloc::Global;
 
 const USAGE: &str = "usage: propfilter [windows-1252|utf-8|utf-16le|utf-16be [ascii]]\n";
@@ -55,7 +53,7 @@ pub fn run<R: CountedRead, W: CountedWrite, E: CountedWrite>(
     let Some(asked) = asked_for(arguments) else {
         return refuse(errors);
     };
-    match filter_asked(alloc, input, output, asked) {
+    match filter_with(alloc, input, output, asked.encoding, asked.ascii_only) {
         Ok(()) => 0,
         Err(error) => {
             say_error(alloc, errors, error);
@@ -89,24 +87,6 @@ fn refuse<E: CountedWrite>(errors: &mut E) -> u8
 {
     say(errors, USAGE);
     2
-}
-
-fn filter_asked<R: CountedRead, W: CountedWrite>(
-    alloc: Global,
-    input: &mut R,
-    output: &mut W,
-    asked: Asked,
-) -> Result<(), PropertiesError>
-    ensures filters { let e = encoding_of asked.encoding in
-        Filters R.CountedRead W.CountedWrite e asked.ascii_only
-        input.old output.old result input.new output.new }
-    ensures same_reader { IsSameReader R.CountedRead input.old input.new }
-    ensures same_sink { IsSameSink W.CountedWrite output.old output.new }
-{
-    if asked.ascii_only {
-        return filter_ascii(alloc, input, output, asked.encoding);
-    }
-    filter(alloc, input, output, asked.encoding)
 }
 
 #[tactic(auto, using(crate::proofs::Asking::named_alone))]

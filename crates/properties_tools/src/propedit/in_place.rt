@@ -1,6 +1,7 @@
 //! Files that are edited in place, whole or not at all.
 
-ghost use Rattle.std.specs.Prelude.{◌≡◌, ◌⊎◌, string_bytes, IfOk};
+ghost use Rattle.std.specs.Prelude.{◌≡◌, ◌⊎◌, ◌++◌, codes, string_bytes, if◌then◌else◌, IfOk};
+ghost use Rattle.std.specs.Option.{is_some};
 ghost use Rattle.counted_io.specs.Streams.{IsSameSink};
 ghost use Rattle.properties_tools.specs.Propedit.InPlace.{problem_display, replace_display, IsProblemLine, PrintsUnedited, SaysProblem};
 
@@ -132,7 +133,10 @@ impl Original {
         Original::of(alloc, path, Some(seen))
     }
 
-    fn of(alloc: Global, path: String, seen: Option<Seen>) -> io::Result<Original> {
+    fn of(alloc: Global, path: String, seen: Option<Seen>) -> io::Result<Original>
+        ensures { IfOk result (λ original. (string_bytes original.temporary ≡ string_bytes path ++ codes ".propedit")
+            × (original.path ≡ path) × (original.seen ≡ seen)) }
+    {
         let temporary = format!(in alloc; "{path}.propedit")?;
         Ok(Original {
             path,
@@ -206,7 +210,9 @@ impl Original {
 
     // Returns the mode to create the file with. A new file gets the mode that the system gives it. One that replaces a
     // file may be read by nobody else until it has that file's mode.
-    fn first_mode(&self) -> u32 {
+    fn first_mode(&self) -> u32
+        ensures { result ≡ (if is_some self.now.seen then 384 else 438) }
+    {
         match self.seen {
             Some(_) => 0o600,
             None => 0o666,
@@ -253,7 +259,9 @@ impl Original {
         }
     }
 
-    fn undone(self, problem: Problem, is_left: bool) -> ReplaceError {
+    fn undone(self, problem: Problem, is_left: bool) -> ReplaceError
+        ensures { result ≡ record { problem = problem; temporary = self.temporary; is_left = is_left } }
+    {
         ReplaceError {
             problem,
             temporary: self.temporary,

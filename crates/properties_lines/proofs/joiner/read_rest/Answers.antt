@@ -4,7 +4,7 @@ use Rattle.std.specs.declared.alloc.AllocError.{AllocError}
 use Rattle.properties_text.specs.Encoding.{encoding_of}
 use Rattle.properties_text.specs.Escaping.{holds_backslash}
 use Rattle.properties_lines.specs.LogicalLine.{Begins, bytes_with}
-use Rattle.properties_lines.proofs.LineJoiner.{reads-alone, reads-joined, reads-broken, reads-no_room, none-found}
+use Rattle.properties_lines.proofs.LineJoiner.{reads-alone, reads-joined, reads-broken, reads-no_room}
 use Rattle.properties_lines.proofs.joiner.read_rest.Goals as goal
 
 pub returns-then-not-join_lines-clause-reads : goal.returns-then-not-join_lines-clause-reads
@@ -24,9 +24,9 @@ returns-else-not-join_lines-clause-reads g c =
     let line = c.join_lines.new.line in
     let bytes : c.bytes.result.now ≡ bytes_with line c.join_lines.new.lines.line = c.bytes.ensures ∙ ap (bytes_with line) c.line-in-Ok-true.ensures in
     rw c.number-number.ensures
-    (reads-joined c.args.lines.now c.join_lines.new.lines c.begin.new.self line c.is_some.result opens joined.0 joined.1
+    (reads-joined c.args.lines.now c.join_lines.new.lines c.begin.new.self line c.has_backslash.result opens joined.0 joined.1
     (c.if-not-join_lines.ensures.place refl) (c.if-not-join_lines.ensures.well refl)
-    (λ k. subst (λ v. holds_backslash v ≡ false) bytes (none-found c.bytes.result.now c.memchr.result c.memchr.ensures (sym c.is_some.ensures ∙ k))))
+    (λ k. subst (λ v. holds_backslash v ≡ false) bytes (sym c.has_backslash.ensures ∙ k)))
 
 pub returns-in-Ok-false-clause-reads : goal.returns-in-Ok-false-clause-reads
 returns-in-Ok-false-clause-reads g c =

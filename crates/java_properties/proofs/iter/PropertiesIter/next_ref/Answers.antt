@@ -18,8 +18,8 @@ returns-in-Ok g c =
     let gave = rw c.in-Ok.is at c.in_ok-found.ensures.gives in
     let number : c.in-Ok.found.line_number ≡ line.line_number = let same = c.get.ensures.item in cc in
     let P : Entry → Type 0 = λ v.
-        (n : GivesEntry (reader g.R.Read g.R.CountedRead) old.state old.reader v new.state new.reader)
-        × BorrowsPlain (chars new.line) line.content × IsSpelt old.state n.bytes (logical_line line.line_number new.line) new.state in
+    (n : GivesEntry (reader g.R.Read g.R.CountedRead) old.state old.reader v new.state new.reader)
+    × BorrowsPlain (chars new.line) line.content × IsSpelt old.state n.bytes (logical_line line.line_number new.line) new.state in
     (new, subst P (sym c.get.ensures.item) (gave.0.0, c.get.ensures.borrowed, rw (← number) gave.0.2), gave.1)
 
 pub returns-in-Err : goal.returns-in-Err

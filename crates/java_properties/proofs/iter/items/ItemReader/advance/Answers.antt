@@ -43,8 +43,8 @@ gives-found g c item found =
     let content = found_content new.line item.content in
     let spelt = gives-spelt line new.state content c.loop-number.invariant.passed.1 c.in-Some.ensures.joins.0 (found-item new.line item is.1) in
     let R : ℕ → Type 0 = λ n.
-        (gives : GivesEntry (reader g.R.Read g.R.CountedRead) c.args.self.now.state c.args.reader.now (entry.item n content) new.state c.next_text.new.reader)
-        × IsFoundIn new.line item × IsSpelt c.args.self.now.state gives.bytes (logical_line n new.line) new.state in
+    (gives : GivesEntry (reader g.R.Read g.R.CountedRead) c.args.self.now.state c.args.reader.now (entry.item n content) new.state c.next_text.new.reader)
+    × IsFoundIn new.line item × IsSpelt c.args.self.now.state gives.bytes (logical_line n new.line) new.state in
     subst Q (sym (kept-utf8 new.line c.in-Some.ensures.text)) (subst R (sym is.0) (spelt.0, is.1, spelt.1))
 
 -- and a blank line is passed
