@@ -78,18 +78,19 @@ impl KeyPlace {
         ensures { result ≡ found_after self group has_key }
     {
         let closing = closing_after(group);
-        let Some(has_key) = has_key else {
-            return KeyPlace { closing, ..self };
-        };
-        let last = Some(BodySpan {
-            start: group.start,
-            end: group.end,
-        });
-        let pair = if has_key { last } else { self.pair };
-        KeyPlace {
-            pair,
-            last,
-            closing,
+        match has_key {
+            None => KeyPlace { closing, ..self },
+            Some(has_key) => {
+                let last = Some(BodySpan {
+                    start: group.start,
+                    end: group.end,
+                });
+                KeyPlace {
+                    pair: if has_key { last } else { self.pair },
+                    last,
+                    closing,
+                }
+            }
         }
     }
 }
