@@ -193,8 +193,8 @@ pub fn edit_all(
 /// puts in, every character past U+007F becomes a `\u` escape, or two above U+FFFF.
 ///
 /// What stands in the source and isn't replaced stays as it is, also past ASCII. If the source is ASCII, so is the
-/// result, and it has the same items in windows-1252 and in UTF-8. Java reads a file as ISO 8859-1, so it needs such
-/// escapes.
+/// result, and it has the same items in windows-1252 and in UTF-8. A file that Java reads by `Properties.load`, from an
+/// `InputStream`, needs such escapes for characters past U+00FF.
 ///
 /// ```text
 /// let edits = vec![in alloc; Edit::SetValue(price, value)]?;
