@@ -9,6 +9,7 @@ It prints what doesn't hold, how many rows are left out and why, and last how ma
 import contextlib
 import doctest
 import io
+import itertools
 import pathlib
 import pickle
 import re
@@ -225,45 +226,48 @@ def edit(encoding, left, right):
     edits, asked, readings, ascii_only = [], [], [], False
     for word, texts in steps:
         words = [text.decode() for text in texts]
-        if word == "put":
-            edits.append(SetKey(*words))
-        elif word == "value":
-            edits.append(SetValue(*words))
-        elif word == "remove":
-            edits.append(RemoveKey(*words))
+        if word in EDITS:
+            edits.append((ascii_only, EDITS[word](*words)))
         elif word == "get":
             asked.append((len(edits), words[0]))
         elif is_reading(word):
             readings.append(word.split()[1])
         elif word in ("ascii-only", "all-characters"):
-            if edits:
-                raise LeftOut("settings that change between lines")
             ascii_only = word == "ascii-only"
         else:
             raise ValueError(word)
     parts = split(right)
     wanted = error_of(parts[0]) or as_bytes(QUOTED.fullmatch(parts[0])[1])
-
-    def changed(count):
-        try:
-            return properties.edit(source, edits[:count], encoding=encoding, ascii_only=ascii_only)
-        except PropertiesError as error:
-            return came_error(error)
-
-    yield changed(len(edits)), wanted
+    came = changed(source, encoding, edits)
+    yield came, wanted
     if len(edits) == 1:
-        yield by_single_call(source, edits[0], encoding, ascii_only), wanted
+        yield by_single_call(source, encoding, *edits[0]), wanted
     if isinstance(wanted, tuple):
         # A source that is refused is refused whatever is to be changed.
         for single in [SetKey("a", "b"), SetValue("a", "b"), RemoveKey("a"), RemoveKey("none")]:
-            yield by_single_call(source, single, encoding, ascii_only), wanted
+            for ascii_only in (False, True):
+                yield by_single_call(source, encoding, ascii_only, single), wanted
         return
-    seen = [properties.get(changed(count), key, encoding=encoding) for count, key in asked]
+    seen = [properties.get(changed(source, encoding, edits[:count]), key, encoding=encoding) for count, key in asked]
     yield seen, [None if part == "none" else texts_of(part)[0] for part in parts[1 : 1 + len(asked)]]
-    yield [item for name in readings for item in came_items(changed(len(edits)), name)], wanted_items(parts[1 + len(asked) :])
+    yield [item for name in readings for item in came_items(came, name)], wanted_items(parts[1 + len(asked) :])
 
 
-def by_single_call(source, single, encoding, ascii_only):
+EDITS = {"put": SetKey, "value": SetValue, "remove": RemoveKey}
+
+
+def changed(source, encoding, edits):
+    """The source after the edits, of which those that follow one another with the same setting are a list."""
+    try:
+        for ascii_only, run in itertools.groupby(edits or [(False, None)], lambda edit: edit[0]):
+            run = [edit for _, edit in run if edit is not None]
+            source = properties.edit(source, run, encoding=encoding, ascii_only=ascii_only)
+        return source
+    except PropertiesError as error:
+        return came_error(error)
+
+
+def by_single_call(source, encoding, ascii_only, single):
     try:
         if isinstance(single, RemoveKey):
             return properties.remove_key(source, single.key, encoding=encoding)
@@ -332,6 +336,8 @@ def run_tables(count):
                     reasons[str(why)] = reasons.get(str(why), 0) + 1
                 except Exception as error:  # noqa: BLE001
                     count.check(False, f"{place}: {error!r}")
+    stored = re.findall(r": (\d+) rows hold", (TABLES.parent / "stdout").read_text())
+    count.check(rows == sum(map(int, stored)), f"{rows} rows of tables")
     run = rows - sum(reasons.values())
     print(f"{run} of {rows} rows of tables were run. Left out:")
     for why, number in sorted(reasons.items()):
