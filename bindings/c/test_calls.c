@@ -598,7 +598,7 @@ static void try_escapes(void) {
             refuses(names[calls[place]], request, statuses[number], 4);
         }
     }
-    refuses("items of an escape alone", request_of(ITEMS, T("\\u1"), PROPERTIES_UTF_8), PROPERTIES_NOT_ENOUGH_DIGITS, 1);
+    refuses("items of an escape", request_of(ITEMS, T("\\u1"), PROPERTIES_UTF_8), PROPERTIES_NOT_ENOUGH_DIGITS, 1);
     refuses("edit by no edits", request_of(EDIT, T("\n\\u1"), PROPERTIES_UTF_8), PROPERTIES_NOT_ENOUGH_DIGITS, 2);
 }
 

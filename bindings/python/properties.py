@@ -8,15 +8,16 @@ r"""Reads, checks, edits and writes Java .properties files, by the library of wh
     b'# the web server\nport    = 8080\n'
 
 Files are bytes, keys and values are str. Encodings have Python's labels. The default is iso-8859-1, in which Java's
-`Properties.load(InputStream)` reads; others are cp1252, utf-8, utf-16, utf-16-le and utf-16-be. iso-8859-1 is taken as cp1252,
-as browsers take it: they differ in 27 of the bytes from 80 to 9F, which files in ISO 8859-1 don't have. A byte order mark in
-the data overrides the encoding. Bytes that aren't text of the encoding are read as U+FFFD.
+`Properties.load(InputStream)` reads; others are cp1252, utf-8, utf-16, utf-16-le and utf-16-be. iso-8859-1 is taken as
+cp1252, as browsers take it: they differ in 27 of the bytes from 80 to 9F, which files in ISO 8859-1 don't have. A byte
+order mark in the data overrides the encoding. Bytes that aren't text of the encoding are read as U+FFFD.
 
-What is written is ASCII alone, with escapes for other characters, as Java's `Properties.store` and `json.dumps` write it, so that
-it reads the same in iso-8859-1, cp1252 and utf-8. With ascii_only=False only those characters are escapes that the encoding lacks.
+What is written is ASCII alone, with escapes for other characters, as Java's `Properties.store` and `json.dumps` write
+it, so that it reads the same in iso-8859-1, cp1252 and utf-8. With ascii_only=False only those characters are escapes
+that the encoding lacks.
 
-The functions may be called in any thread. They need the shared object libproperties.so beside this file, or at the path
-that the environment variable PROPERTIES_LIBRARY has.
+Any thread may call the functions at any time. They need the shared object libproperties.so, beside this file or at the
+path that the environment variable PROPERTIES_LIBRARY has.
 """
 
 from __future__ import annotations
@@ -27,7 +28,7 @@ import enum
 import os
 import pathlib
 import struct
-from typing import Dict, Iterable, List, Mapping, NamedTuple, Optional, Tuple, TypeVar, Union
+from typing import Dict, Iterable, List, Mapping, NamedTuple, Optional, Tuple, Union
 
 __all__ = [
     "Comment",
@@ -54,7 +55,6 @@ __all__ = [
 ]
 
 VERSION = 1
-T = TypeVar("T")
 Bytes = Union[bytes, bytearray, memoryview]
 
 
@@ -138,7 +138,7 @@ class FindingKind(enum.IntEnum):
 
 
 class Finding(NamedTuple):
-    """What is wrong in a line. `key` and `first`, the line of the first pair with the key, are of repeated keys alone."""
+    """What is wrong in a line. Repeated keys alone have a `key`, and as `first` the line of the first pair with it."""
 
     line: int
     kind: FindingKind
@@ -178,8 +178,8 @@ class PropertiesError(ValueError):
 
 
 class MalformedEscape(PropertiesError):
-    r"""A backslash with a u isn't followed by four hexadecimal digits that make a character. A backslash begins an escape in
-    comments too.
+    r"""A backslash with a u isn't followed by four hexadecimal digits that make a character. A backslash begins an
+    escape in comments too.
 
     >>> load(b"# C:\\users")
     Traceback (most recent call last):
@@ -222,7 +222,8 @@ def _library() -> ctypes.CDLL:
     try:
         library = ctypes.CDLL(path)
     except OSError as error:
-        raise ImportError(f"{error}. bindings/build.sh makes it; PROPERTIES_LIBRARY says where it is.", path=path) from None
+        where = "bindings/build.sh makes it; PROPERTIES_LIBRARY says where it is"
+        raise ImportError(f"{error}. {where}.", path=path) from None
     library.properties_version.argtypes = []
     library.properties_version.restype = ctypes.c_uint32
     version = library.properties_version()
@@ -337,7 +338,9 @@ def load(data: Bytes, encoding: str = "iso-8859-1") -> Dict[str, str]:
     return {item.key: item.value for item in items(data, encoding) if isinstance(item, Pair)}
 
 
-def get(data: Bytes, key: str, default: T = None, *, encoding: str = "iso-8859-1") -> Union[str, T]:  # type: ignore[assignment]
+def get(
+    data: Bytes, key: str, default: Optional[str] = None, *, encoding: str = "iso-8859-1"
+) -> Optional[str]:
     r"""Returns the value of a key, or the default if no pair has it. It makes no dict.
 
     Raises MalformedEscape.
@@ -357,8 +360,8 @@ def get(data: Bytes, key: str, default: T = None, *, encoding: str = "iso-8859-1
 
 
 def set_value(data: Bytes, key: str, value: str, *, encoding: str = "iso-8859-1", ascii_only: bool = True) -> bytes:
-    r"""Returns the file with the value of a key set, and with the layout of its line. If no pair has the key, one is added at
-    the end. Every other line stays as it is.
+    r"""Returns the file with the value of a key set, and with the layout of its line. If no pair has the key, one is
+    added at the end. Every other line stays as it is.
 
     Raises MalformedEscape, and PropertiesError if the file is UTF-16.
 
@@ -427,8 +430,8 @@ def dumps(
     encoding: str = "iso-8859-1",
     ascii_only: bool = True,
 ) -> bytes:
-    r"""Returns a file with these lines: the entries of a mapping, or comments and pairs, as `items` returns them or as plain
-    tuples of a key and a value. For utf-16 it is UTF-8.
+    r"""Returns a file with these lines: the entries of a mapping, or comments and pairs, as `items` returns them or as
+    plain tuples of a key and a value. For utf-16 it is UTF-8.
 
     >>> dumps({"port": "80", "drink": "café"})
     b'port=80\ndrink=caf\\u00e9\n'
@@ -449,8 +452,8 @@ def _line_record(line: Union[Item, Tuple[str, str]]) -> bytes:
 
 
 def findings(data: Bytes, encoding: str = "iso-8859-1") -> List[Finding]:
-    r"""Returns what is wrong, in the order of the lines: the first malformed escape of each, and each pair whose key an earlier
-    pair has. Unlike the other functions it goes on after a malformed escape.
+    r"""Returns what is wrong, in the order of the lines: the first malformed escape of each, and each pair whose key an
+    earlier pair has. Unlike the other functions it goes on after a malformed escape.
 
     >>> for finding in findings(b"a = 1\nb = \\u12\na = 2\n"):
     ...     print(finding.line, finding.reason)
@@ -467,5 +470,6 @@ def findings(data: Bytes, encoding: str = "iso-8859-1") -> List[Finding]:
         key = packed[place : place + key_length].decode("utf-8")
         place += key_length
         is_repeated = kind == FindingKind.REPEATED_KEY
-        found.append(Finding(line, FindingKind(kind), key if is_repeated else None, first if is_repeated else None))
+        more = (key, first) if is_repeated else ()
+        found.append(Finding(line, FindingKind(kind), *more))
     return sorted(found, key=lambda finding: finding.line)
