@@ -12,8 +12,8 @@
  *   the room that is needed, and `out` is as it was. With any other status but PROPERTIES_OK, *length is 0 and `out` is
  *   as it was; at some errors properties_items also gives the items before the error. Past *length, `out` always is as
  *   it was.
- * - If several errors could be reported, it is the first of these: the encoding, then keys and values that aren't
- *   UTF-8, then the packed list, then the rest.
+ * - If several errors could be reported, it is the first of these: the encoding, a key or a value that isn't UTF-8, the
+ *   packed list, from its front on, and then the rest.
  *
  * How much room: try four times the length of the source for items, once the length of the source and some more for
  * everything else. If that is too little, the call is to be made again with the room that *length says; it then does
