@@ -203,8 +203,8 @@ int properties_edit(uint8_t const *source, size_t source_length, uint32_t encodi
 /* Writes a packed list of comments and pairs as a file: a line each, comments after `# `, pairs with `=`, and line
  * feeds. It reads back as the same pairs, and as the same comments but for blanks at their ends.
  *
- * Returns PROPERTIES_OK, _NO_ROOM, _NO_MEMORY, _UNKNOWN_ENCODING, _NOT_UTF_8, _TOO_MANY_LINES, or
- * PROPERTIES_BAD_LIST: a record is cut short, has an unknown kind, or is a comment and has a key. */
+ * Returns PROPERTIES_OK, _NO_ROOM, _NO_MEMORY, _UNKNOWN_ENCODING, _NOT_UTF_8, or PROPERTIES_BAD_LIST: a record is cut
+ * short, has an unknown kind, or is a comment and has a key. */
 int properties_write(uint8_t const *list, size_t list_length, uint32_t encoding, bool ascii_only, uint8_t *out,
                      size_t room, size_t *length, size_t *line);
 
