@@ -83,6 +83,11 @@ for standard in c++98 c++11 c++17 c++20; do
     works "the header in $standard" c++ -x c++ -std=$standard $warnings -I"$built" -c "$work/header.c" -o "$work/header.o"
 done
 
+# The shared object gives the functions that the header declares, and no others.
+grep -oE '^(int|uint32_t) properties_[a-z_]+' "$built/properties.h" | sed 's/.* //' | sort >"$work/declared"
+nm -D --defined-only "$built/libproperties.so" | sed 's/.* //' | sort | diff "$work/declared" - >"$work/log"
+result $? 'the names in the shared object'
+
 # Every call, in C and in C++.
 wraps=-Wl,--wrap=malloc,--wrap=realloc,--wrap=free
 test=$top/bindings/c/test_calls.c
@@ -137,7 +142,7 @@ grep -q '^ImportError: .*PROPERTIES_LIBRARY says where it is' log
 result $? 'the module without the shared object'
 counts 'the tables and the module, in Python' env PROPERTIES_LIBRARY="$built/libproperties.so" PYTHONDONTWRITEBYTECODE=1 \
     python3 "$top/bindings/python/test_rows.py"
-grep -v '^[0-9]* passed' "$work/log"
+grep -E '^ *[0-9]+ of ' "$work/log"
 
 echo "$passed passed, $failed failed"
 [ "$failed" = 0 ]

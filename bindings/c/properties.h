@@ -73,7 +73,7 @@ enum properties_encoding {
 
 /* What an item of a source is, and a line to write. */
 enum properties_item_kind {
-    PROPERTIES_COMMENT = 0, /* no key; the value is the text after the # or !, without blanks at its ends */
+    PROPERTIES_COMMENT = 0, /* no key; the value is the text after the # or !, less the blanks at its ends */
     PROPERTIES_PAIR = 1
 };
 

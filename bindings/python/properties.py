@@ -88,7 +88,7 @@ _REASONS = {
 
 
 class Comment(NamedTuple):
-    """A comment, with the number of the line that it is in. The text has no blanks at its ends."""
+    """A comment, with the number of the line that it is in. Blanks at its ends are no part of the text."""
 
     text: str
     line: int = 0

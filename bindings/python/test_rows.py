@@ -12,6 +12,7 @@ import io
 import itertools
 import pathlib
 import pickle
+import random
 import re
 import sys
 import threading
@@ -449,6 +450,53 @@ def try_threads(count):
     count.check(came == [True] * 40, "calls in several threads")
 
 
+def try_random(count):
+    """Calls on short random sources agree with one another."""
+    numbers = random.Random(1)
+    alphabet = [b"a", b"b", b"k", b"=", b":", b" ", b"\t", b"\n", b"\r", b"\\", b"#", b"!", b"\xe9", b"\xc3\xa9", b"\xff", b"\\u0061"]
+    values = ["", "v", " =", "é", "\u20ac\n", "\U0001f41e\\", "a" * 60]
+    for _ in range(4000):
+        source = b"".join(numbers.choices(alphabet, k=numbers.randrange(25)))
+        if numbers.randrange(8) == 0:
+            source += b"\\u00"
+        encoding = numbers.choice(["iso-8859-1", "utf-8"])
+        key, value, ascii_only = numbers.choice("abk"), numbers.choice(values), numbers.random() < 0.5
+        named = {"encoding": encoding, "ascii_only": ascii_only}
+        place = f"{source!r} in {encoding}, {key!r}, {value!r}, {ascii_only}"
+        escapes = [found for found in properties.findings(source, encoding) if found.key is None]
+        error = raised(properties.items, source, encoding)
+        count.check((error is None) == (not escapes), f"findings of {place}")
+        if error is not None:
+            count.check(error.line == escapes[0].line and error.status.name == escapes[0].kind.name, f"the line in {place}")
+            for call, more in ((properties.set_value, [key, value]), (properties.remove_key, [key])):
+                other = raised(call, source, *more, encoding=encoding)
+                count.check(other is not None and came_error(other) == came_error(error), f"{call.__name__} of {place}")
+            continue
+        items = properties.items(source, encoding)
+        pairs = [item[:2] for item in items if isinstance(item, Pair)]
+        loaded = properties.load(source, encoding)
+        count.check(loaded == dict(pairs) and list(loaded) == list(dict.fromkeys(key for key, _ in pairs)), f"load of {place}")
+        count.check(all(properties.get(source, key, encoding=encoding) == loaded[key] for key in loaded), f"get of {place}")
+        others = [pair for pair in pairs if pair[0] != key]
+        for call, kind in ((properties.set_value, SetValue), (properties.set_key, SetKey)):
+            edited = call(source, key, value, **named)
+            count.check(edited == properties.edit(source, [kind(key, value)], **named), f"{call.__name__} of {place}")
+            count.check(properties.get(edited, key, encoding=encoding) == value, f"{call.__name__} of {place}")
+            left = [item[:2] for item in properties.items(edited, encoding) if isinstance(item, Pair) and item.key != key]
+            count.check(left == others, f"{call.__name__} of {place}")
+        edited = properties.remove_key(source, key, encoding=encoding)
+        left = [item[:2] for item in properties.items(edited, encoding) if isinstance(item, Pair)]
+        count.check(left == others, f"remove_key of {place}")
+        written = properties.dumps(items, **named)
+        read = [as_read_back(item) for item in properties.items(written, encoding)]
+        count.check(read == [as_read_back(item) for item in items], f"dumps of {place}")
+
+
+def as_read_back(item):
+    """An item without its line. Of a comment that is written and read, blanks at its ends are lost, which were escapes."""
+    return item.text.strip(" \t\f") if isinstance(item, Comment) else item[:2]
+
+
 def try_header(count):
     """The numbers and words of the module are those of the header."""
     header = (TOP / "bindings/c/properties.h").read_text()
@@ -486,7 +534,7 @@ def main():
     count = Count()
     run_tables(count)
     for test in (
-        try_arguments, try_errors, try_findings, try_round_trips, try_threads, try_header, try_examples, try_page,
+        try_arguments, try_errors, try_findings, try_round_trips, try_random, try_threads, try_header, try_examples, try_page,
     ):
         try:
             test(count)
