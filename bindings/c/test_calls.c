@@ -1,0 +1,681 @@
+/* Makes every call with enough room, one byte too little and none, brings about every refusal, and compares what comes
+ * with what the header says. bindings/test.sh compiles it as C and as C++, with malloc, realloc and free wrapped. The
+ * last line counts. */
+#include "properties.h"
+
+#include <stdio.h>
+#include <stdlib.h>
+
+enum { GUARD = 64, PATTERN = 0xa5, UNSET = 12345 };
+
+static long passed, failed;
+
+/* Memory: the allocation of this number fails, if it isn't 0, and how many blocks are in use. */
+static long refuse_at, allocations, blocks;
+
+#ifdef __cplusplus
+extern "C" {
+#endif
+void *__real_malloc(size_t size);
+void *__real_realloc(void *block, size_t size);
+void __real_free(void *block);
+void *__wrap_malloc(size_t size);
+void *__wrap_realloc(void *block, size_t size);
+void __wrap_free(void *block);
+
+void *__wrap_malloc(size_t size) {
+    void *block;
+    if (++allocations == refuse_at) {
+        return NULL;
+    }
+    block = __real_malloc(size);
+    blocks += block != NULL;
+    return block;
+}
+
+void *__wrap_realloc(void *block, size_t size) {
+    void *larger;
+    if (++allocations == refuse_at) {
+        return NULL;
+    }
+    larger = __real_realloc(block, size);
+    blocks += block == NULL && larger != NULL;
+    return larger;
+}
+
+void __wrap_free(void *block) {
+    blocks -= block != NULL;
+    __real_free(block);
+}
+#ifdef __cplusplus
+}
+#endif
+
+struct text {
+    uint8_t const *bytes;
+    size_t length;
+};
+
+static struct text text_of(char const *bytes, size_t length) {
+    struct text text;
+    text.bytes = (uint8_t const *)bytes;
+    text.length = length;
+    return text;
+}
+
+#define T(literal) text_of(literal, sizeof(literal) - 1)
+
+/* A packed list, made by other code than that of the header. */
+struct packed {
+    uint8_t bytes[2000];
+    size_t length;
+};
+
+static void put_byte(struct packed *list, unsigned long long byte) {
+    list->bytes[list->length++] = (uint8_t)(byte % 256);
+}
+
+static void put_number(struct packed *list, unsigned long long number) {
+    int byte;
+    for (byte = 0; byte < 8; byte++) {
+        put_byte(list, number);
+        number /= 256;
+    }
+}
+
+static void put_text(struct packed *list, struct text text) {
+    size_t place;
+    for (place = 0; place < text.length; place++) {
+        put_byte(list, text.bytes[place]);
+    }
+}
+
+/* An item, an edit or a line to write. */
+static void put_item(struct packed *list, unsigned long long kind, unsigned long long line, struct text key,
+                     struct text value) {
+    put_number(list, kind);
+    put_number(list, line);
+    put_number(list, key.length);
+    put_number(list, value.length);
+    put_text(list, key);
+    put_text(list, value);
+}
+
+static void put_finding(struct packed *list, unsigned long long kind, unsigned long long line, unsigned long long first,
+                        struct text key) {
+    put_number(list, kind);
+    put_number(list, line);
+    put_number(list, first);
+    put_number(list, key.length);
+    put_text(list, key);
+}
+
+static struct text text_of_list(struct packed const *list) {
+    struct text text;
+    text.bytes = list->bytes;
+    text.length = list->length;
+    return text;
+}
+
+enum call { GET, ITEMS, FINDINGS, SET_VALUE, SET_KEY, REMOVE_KEY, EDIT, WRITE, CALLS };
+
+static char const *const names[] = {"get", "items", "findings", "set_value", "set_key", "remove_key", "edit", "write"};
+
+/* What is passed to a call; each call takes of it what it has. */
+struct request {
+    enum call call;
+    struct text source;
+    uint32_t encoding;
+    bool ascii_only;
+    struct text key;
+    struct text value;
+    struct text list;
+};
+
+static struct request request_of(enum call call, struct text source, uint32_t encoding) {
+    struct request request;
+    request.call = call;
+    request.source = source;
+    request.encoding = encoding;
+    request.ascii_only = false;
+    request.key = T("k");
+    request.value = T("v");
+    request.list = T("");
+    return request;
+}
+
+static int make_call(struct request const *r, uint8_t *out, size_t room, size_t *length, size_t *line) {
+    switch (r->call) {
+    case GET:
+        return properties_get(r->source.bytes, r->source.length, r->encoding, r->key.bytes, r->key.length, out, room,
+                              length, line);
+    case ITEMS:
+        return properties_items(r->source.bytes, r->source.length, r->encoding, out, room, length, line);
+    case FINDINGS:
+        return properties_findings(r->source.bytes, r->source.length, r->encoding, out, room, length, line);
+    case SET_VALUE:
+        return properties_set_value(r->source.bytes, r->source.length, r->encoding, r->ascii_only, r->key.bytes,
+                                    r->key.length, r->value.bytes, r->value.length, out, room, length, line);
+    case SET_KEY:
+        return properties_set_key(r->source.bytes, r->source.length, r->encoding, r->ascii_only, r->key.bytes,
+                                  r->key.length, r->value.bytes, r->value.length, out, room, length, line);
+    case REMOVE_KEY:
+        return properties_remove_key(r->source.bytes, r->source.length, r->encoding, r->key.bytes, r->key.length, out,
+                                     room, length, line);
+    case EDIT:
+        return properties_edit(r->source.bytes, r->source.length, r->encoding, r->ascii_only, r->list.bytes,
+                               r->list.length, out, room, length, line);
+    default:
+        return properties_write(r->list.bytes, r->list.length, r->encoding, r->ascii_only, out, room, length, line);
+    }
+}
+
+static void count(bool holds, char const *what, char const *name, long room) {
+    if (holds) {
+        passed++;
+    } else {
+        failed++;
+        printf("%s, room %ld: not %s\n", name, room, what);
+    }
+}
+
+/* Whether all bytes are as they were before the call. */
+static bool is_untouched(uint8_t const *bytes, size_t length) {
+    size_t place;
+    for (place = 0; place < length; place++) {
+        if (bytes[place] != PATTERN) {
+            return false;
+        }
+    }
+    return true;
+}
+
+static struct text copied(struct text text) {
+    uint8_t *copy = (uint8_t *)__real_malloc(text.length > 0 ? text.length : 1);
+    struct text result;
+    memcpy(copy, text.bytes, text.length);
+    result.bytes = copy;
+    result.length = text.length;
+    return result;
+}
+
+static void release(struct text text) {
+    __real_free((void *)text.bytes);
+}
+
+/* Makes the call with this room. The inputs are in blocks of their size, so that tools see a read past them. */
+static void check_room(char const *name, struct request request, size_t room, int wanted, size_t wanted_line,
+                       struct text result) {
+    uint8_t *memory = (uint8_t *)__real_malloc(GUARD + room + GUARD);
+    uint8_t *out = memory + GUARD;
+    size_t length = UNSET, line = UNSET, written = result.length;
+    struct request copy = request;
+    int status;
+    if (written > room) {
+        wanted = PROPERTIES_NO_ROOM;
+        wanted_line = 0;
+        written = 0;
+    }
+    copy.source = copied(request.source);
+    copy.key = copied(request.key);
+    copy.value = copied(request.value);
+    copy.list = copied(request.list);
+    memset(memory, PATTERN, GUARD + room + GUARD);
+    blocks = 0;
+    status = make_call(&copy, out, room, &length, &line);
+    if (status != wanted) {
+        printf("%s: status %d: %s\n", name, status, properties_status_text(status));
+    }
+    count(status == wanted, properties_status_text(wanted), name, (long)room);
+    count(length == result.length, "the length", name, (long)room);
+    count(line == wanted_line, "the line", name, (long)room);
+    count(memcmp(out, result.bytes, written) == 0, "the bytes", name, (long)room);
+    count(is_untouched(memory, GUARD), "as it was before", name, (long)room);
+    count(is_untouched(out + written, room - written + GUARD), "as it was behind", name, (long)room);
+    count(blocks == 0, "all memory freed", name, (long)room);
+    release(copy.source);
+    release(copy.key);
+    release(copy.value);
+    release(copy.list);
+    __real_free(memory);
+}
+
+/* Makes the call with more room than it needs, with just enough, with one byte too little and with none. */
+static void check(char const *name, struct request request, int status, size_t line, struct text result) {
+    check_room(name, request, result.length + 50, status, line, result);
+    check_room(name, request, result.length, status, line, result);
+    if (result.length > 1) {
+        check_room(name, request, result.length - 1, status, line, result);
+    }
+    if (result.length > 0) {
+        check_room(name, request, 0, status, line, result);
+    }
+}
+
+static void refuses(char const *name, struct request request, int status, size_t line) {
+    check_room(name, request, 0, status, line, T(""));
+    check_room(name, request, 300, status, line, T(""));
+}
+
+static char const SOURCE[] = "# one\na = 1\n\nk : caf\xc3\xa9\na\\\n  =2\n";
+
+static void try_get(void) {
+    struct request request = request_of(GET, T(SOURCE), PROPERTIES_UTF_8);
+    check("get", request, PROPERTIES_OK, 0, T("caf\xc3\xa9"));
+    request.encoding = PROPERTIES_WINDOWS_1252;
+    check("get, windows-1252", request, PROPERTIES_OK, 0, T("caf\xc3\x83\xc2\xa9"));
+    request.key = T("a");
+    check("get of the last", request, PROPERTIES_OK, 0, T("2"));
+    request.key = T("b");
+    check("get of none", request, PROPERTIES_NO_KEY, 0, T(""));
+    request.key = T("");
+    check("get of no key", request, PROPERTIES_NO_KEY, 0, T(""));
+    request = request_of(GET, T("k="), PROPERTIES_UTF_8);
+    check("get of nothing", request, PROPERTIES_OK, 0, T(""));
+    request = request_of(GET, T("k\0=\0v\0\xac\x20"), PROPERTIES_UTF_16LE);
+    check("get, UTF-16LE", request, PROPERTIES_OK, 0, T("v\xe2\x82\xac"));
+    request = request_of(GET, T("\0k\0=\0v\x20\xac"), PROPERTIES_UTF_16BE);
+    check("get, UTF-16BE", request, PROPERTIES_OK, 0, T("v\xe2\x82\xac"));
+    request = request_of(GET, T("\xef\xbb\xbfk=\xc3\xa9"), PROPERTIES_WINDOWS_1252);
+    check("get after a mark", request, PROPERTIES_OK, 0, T("\xc3\xa9"));
+    request = request_of(GET, T("\xff=1"), PROPERTIES_UTF_8);
+    request.key = T("\xef\xbf\xbd");
+    check("get of a replacement", request, PROPERTIES_OK, 0, T("1"));
+}
+
+static void try_items(void) {
+    struct packed list = {{0}, 0};
+    struct properties_cursor cursor;
+    struct properties_item item;
+    size_t end;
+    check("items of nothing", request_of(ITEMS, T(""), PROPERTIES_UTF_8), PROPERTIES_OK, 0, T(""));
+    check("items of blanks", request_of(ITEMS, T("\n \r\n"), PROPERTIES_UTF_8), PROPERTIES_OK, 0, T(""));
+    put_item(&list, PROPERTIES_COMMENT, 1, T(""), T("one"));
+    put_item(&list, PROPERTIES_PAIR, 2, T("a"), T("1"));
+    put_item(&list, PROPERTIES_PAIR, 4, T("k"), T("caf\xc3\xa9"));
+    put_item(&list, PROPERTIES_PAIR, 5, T("a"), T("2"));
+    check("items", request_of(ITEMS, T(SOURCE), PROPERTIES_UTF_8), PROPERTIES_OK, 0, text_of_list(&list));
+
+    /* The cursor gives the records, and nothing of a list that is cut. */
+    for (end = 0; end <= list.length; end++) {
+        uint8_t *cut = (uint8_t *)__real_malloc(end > 0 ? end : 1);
+        size_t seen = 0, whole = 0;
+        memcpy(cut, list.bytes, end);
+        cursor = properties_walk(cut, end);
+        while (properties_next_item(&cursor, &item)) {
+            seen++;
+            whole += PROPERTIES_RECORD_SIZE + item.key_length + item.value_length;
+        }
+        count(cursor.left == end - whole, "what is left", "a cursor", (long)end);
+        count((seen == 4) == (end == list.length), "all records", "a cursor", (long)end);
+        __real_free(cut);
+    }
+    cursor = properties_walk(list.bytes, list.length);
+    count(properties_next_item(&cursor, &item) && item.kind == PROPERTIES_COMMENT && item.line == 1 &&
+              item.key_length == 0 && item.value_length == 3 && memcmp(item.value, "one", 3) == 0,
+          "the comment", "a cursor", 0);
+    count(properties_next_item(&cursor, &item) && item.kind == PROPERTIES_PAIR && item.line == 2 &&
+              item.key_length == 1 && *item.key == 'a' && item.value_length == 1 && *item.value == '1',
+          "the pair", "a cursor", 0);
+
+    /* Lengths whose sum is more than any number. */
+    list.length = 0;
+    put_number(&list, 1);
+    put_number(&list, 1);
+    put_number(&list, 1);
+    put_number(&list, 0xffffffffffffffffULL);
+    put_text(&list, T("ab"));
+    cursor = properties_walk(list.bytes, list.length);
+    count(!properties_next_item(&cursor, &item) && cursor.left == list.length, "refused", "a cursor", 0);
+}
+
+static void try_findings(void) {
+    struct packed list = {{0}, 0};
+    struct properties_cursor cursor;
+    struct properties_finding finding;
+    static char const source[] = "a=1\nb=2\na=3\n\\u0062=\\u12\n#C:\\users\n k\\u0020=\\udc1e\n\\u0062=4\na\n";
+    check("findings of nothing", request_of(FINDINGS, T(""), PROPERTIES_UTF_8), PROPERTIES_OK, 0, T(""));
+    check("no findings", request_of(FINDINGS, T("a=1\nb=1\n#a\n"), PROPERTIES_UTF_8), PROPERTIES_OK, 0, T(""));
+    put_finding(&list, PROPERTIES_FOUND_NOT_ENOUGH_DIGITS, 4, 0, T(""));
+    put_finding(&list, PROPERTIES_FOUND_NOT_HEX, 5, 0, T(""));
+    put_finding(&list, PROPERTIES_FOUND_INVALID_CHARACTER, 6, 0, T(""));
+    put_finding(&list, PROPERTIES_FOUND_REPEATED_KEY, 3, 1, T("a"));
+    put_finding(&list, PROPERTIES_FOUND_REPEATED_KEY, 7, 2, T("b"));
+    put_finding(&list, PROPERTIES_FOUND_REPEATED_KEY, 8, 1, T("a"));
+    check("findings", request_of(FINDINGS, T(source), PROPERTIES_UTF_8), PROPERTIES_OK, 0, text_of_list(&list));
+    cursor = properties_walk(list.bytes, list.length);
+    count(properties_next_finding(&cursor, &finding) && finding.kind == PROPERTIES_FOUND_NOT_ENOUGH_DIGITS &&
+              finding.line == 4 && finding.first == 0 && finding.key_length == 0,
+          "the escape", "a cursor", 0);
+    count(properties_next_finding(&cursor, &finding) && properties_next_finding(&cursor, &finding) &&
+              properties_next_finding(&cursor, &finding) && finding.kind == PROPERTIES_FOUND_REPEATED_KEY &&
+              finding.line == 3 && finding.first == 1 && finding.key_length == 1 && *finding.key == 'a',
+          "the key", "a cursor", 0);
+    cursor = properties_walk(list.bytes, list.length - 1);
+    while (properties_next_finding(&cursor, &finding)) {
+    }
+    count(cursor.left == PROPERTIES_RECORD_SIZE, "what is left", "a cursor", 0);
+}
+
+static void try_edits(void) {
+    struct packed list = {{0}, 0};
+    struct request request = request_of(SET_VALUE, T("k    = 1\nb=2"), PROPERTIES_UTF_8);
+    check("set_value", request, PROPERTIES_OK, 0, T("k    = v\nb=2"));
+    request.call = SET_KEY;
+    check("set_key", request, PROPERTIES_OK, 0, T("k=v\nb=2"));
+    request.call = REMOVE_KEY;
+    check("remove_key", request, PROPERTIES_OK, 0, T("b=2"));
+    request.key = T("c");
+    check("remove_key of none", request, PROPERTIES_OK, 0, T("k    = 1\nb=2"));
+    request.call = SET_VALUE;
+    check("set_value of none", request, PROPERTIES_OK, 0, T("k    = 1\nb=2\nc=v\n"));
+    request = request_of(REMOVE_KEY, T("k\\\n=v"), PROPERTIES_UTF_8);
+    check("remove_key of all", request, PROPERTIES_OK, 0, T(""));
+    request = request_of(SET_KEY, T(""), PROPERTIES_WINDOWS_1252);
+    request.key = T("");
+    request.value = T("");
+    check("set_key of nothing", request, PROPERTIES_OK, 0, T("=\n"));
+
+    /* ASCII alone, and each encoding. What was there stays. */
+    request = request_of(SET_VALUE, T("# \xe9\n\xe9 = \xe9\n"), PROPERTIES_WINDOWS_1252);
+    request.key = T("\xc3\xa9");
+    request.value = T("\xc3\xa8\xe2\x82\xac\xe3\x81\x82");
+    check("set_value, windows-1252", request, PROPERTIES_OK, 0, T("# \xe9\n\xe9 = \xe8\x80\\u3042\n"));
+    request.ascii_only = true;
+    check("set_value, ASCII", request, PROPERTIES_OK, 0, T("# \xe9\n\xe9 = \\u00e8\\u20ac\\u3042\n"));
+    request.call = SET_KEY;
+    check("set_key, ASCII", request, PROPERTIES_OK, 0, T("# \xe9\n\\u00e9=\\u00e8\\u20ac\\u3042\n"));
+    request.source = T("# \xc3\xa9\n");
+    request.encoding = PROPERTIES_UTF_8;
+    check("set_key, ASCII in UTF-8", request, PROPERTIES_OK, 0, T("# \xc3\xa9\n\\u00e9=\\u00e8\\u20ac\\u3042\n"));
+    request.ascii_only = false;
+    check("set_key, UTF-8", request, PROPERTIES_OK, 0, T("# \xc3\xa9\n\xc3\xa9=\xc3\xa8\xe2\x82\xac\xe3\x81\x82\n"));
+    request.encoding = PROPERTIES_UTF_16LE;
+    request.source = T("\xef\xbb\xbf");
+    check("set_key after a mark", request, PROPERTIES_OK, 0,
+          T("\xef\xbb\xbf\xc3\xa9=\xc3\xa8\xe2\x82\xac\xe3\x81\x82\n"));
+
+    request = request_of(EDIT, T("a : 1\nb=2\n"), PROPERTIES_UTF_8);
+    check("edit by no edits", request, PROPERTIES_OK, 0, T("a : 1\nb=2\n"));
+    put_item(&list, PROPERTIES_EDIT_SET_VALUE, 7, T("a"), T("3"));
+    put_item(&list, PROPERTIES_EDIT_REMOVE_KEY, 0xffffffffffffffffULL, T("b"), T(""));
+    put_item(&list, PROPERTIES_EDIT_SET_KEY, 0, T("c"), T("\xc3\xa9"));
+    request.list = text_of_list(&list);
+    check("edit", request, PROPERTIES_OK, 0, T("a : 3\nc=\xc3\xa9\n"));
+    request.ascii_only = true;
+    check("edit, ASCII", request, PROPERTIES_OK, 0, T("a : 3\nc=\\u00e9\n"));
+}
+
+static void try_write(void) {
+    struct packed list = {{0}, 0};
+    struct request request = request_of(WRITE, T(""), PROPERTIES_UTF_8);
+    check("write of nothing", request, PROPERTIES_OK, 0, T(""));
+    put_item(&list, PROPERTIES_COMMENT, 9, T(""), T("c \xc3\xa9"));
+    put_item(&list, PROPERTIES_PAIR, 0, T("a b"), T("\xe2\x82\xac\n"));
+    put_item(&list, PROPERTIES_PAIR, 0, T(""), T(""));
+    request.list = text_of_list(&list);
+    check("write", request, PROPERTIES_OK, 0, T("# c \xc3\xa9\na\\ b=\xe2\x82\xac\\n\n=\n"));
+    request.encoding = PROPERTIES_UTF_16LE;
+    check("write, UTF-16LE", request, PROPERTIES_OK, 0, T("# c \xc3\xa9\na\\ b=\xe2\x82\xac\\n\n=\n"));
+    request.encoding = PROPERTIES_UTF_16BE;
+    check("write, UTF-16BE", request, PROPERTIES_OK, 0, T("# c \xc3\xa9\na\\ b=\xe2\x82\xac\\n\n=\n"));
+    request.encoding = PROPERTIES_WINDOWS_1252;
+    check("write, windows-1252", request, PROPERTIES_OK, 0, T("# c \xe9\na\\ b=\x80\\n\n=\n"));
+    request.ascii_only = true;
+    check("write, ASCII", request, PROPERTIES_OK, 0, T("# c \\u00e9\na\\ b=\\u20ac\\n\n=\n"));
+}
+
+/* What properties_items gives is what properties_write takes. */
+static void try_round_trip(void) {
+    static char const source[] = "# one\na=1\nb=\\u00e9\n";
+    uint8_t list[200], out[200];
+    size_t length, written, line;
+    count(properties_items((uint8_t const *)source, sizeof source - 1, PROPERTIES_UTF_8, list, sizeof list, &length,
+                           &line) == PROPERTIES_OK,
+          "read", "a round trip", 0);
+    count(properties_write(list, length, PROPERTIES_UTF_8, true, out, sizeof out, &written, &line) == PROPERTIES_OK,
+          "written", "a round trip", 0);
+    count(written == sizeof source - 1 && memcmp(out, source, written) == 0, "the same", "a round trip", 0);
+}
+
+/* The lists that the header's functions make are those that are laid out. */
+static void try_append(void) {
+    struct packed wanted = {{0}, 0};
+    uint8_t memory[200];
+    struct properties_list list;
+    size_t room;
+    put_item(&wanted, PROPERTIES_EDIT_SET_VALUE, 0, T("a"), T("3"));
+    put_item(&wanted, PROPERTIES_EDIT_REMOVE_KEY, 0, T("b"), T(""));
+    for (room = 0; room <= wanted.length; room++) {
+        size_t before;
+        bool fits;
+        memset(memory, PATTERN, sizeof memory);
+        list.bytes = memory;
+        list.room = room;
+        list.length = 0;
+        fits = properties_append(&list, PROPERTIES_EDIT_SET_VALUE, T("a").bytes, 1, T("3").bytes, 1);
+        count(fits == (room >= 34) && list.length == (fits ? 34u : 0u), "appended", "append", (long)room);
+        before = list.length;
+        fits = properties_append(&list, PROPERTIES_EDIT_REMOVE_KEY, T("b").bytes, 1, T("").bytes, 0);
+        count(fits == (room - before >= 33), "appended", "append", (long)room);
+        count(list.length == before + (fits ? 33 : 0), "the length", "append", (long)room);
+        count(is_untouched(memory + list.length, sizeof memory - list.length), "as it was", "append", (long)room);
+        count(room < wanted.length || memcmp(memory, wanted.bytes, wanted.length) == 0, "the list", "append",
+              (long)room);
+    }
+    list.room = sizeof memory;
+    count(!properties_append(&list, 0, memory, SIZE_MAX, memory, SIZE_MAX), "refused", "append", 0);
+    count(!properties_append(&list, 0, memory, 1, memory, SIZE_MAX), "refused", "append", 0);
+}
+
+/* Encodings that there are not, before all else that is wrong. */
+static void try_encodings(void) {
+    static uint32_t const encodings[] = {4, 5, 255, 256, 0x7fffffff, 0x80000000, 0xffffffff};
+    size_t place;
+    int call;
+    for (place = 0; place < sizeof encodings / sizeof *encodings; place++) {
+        for (call = 0; call < CALLS; call++) {
+            struct request request = request_of((enum call)call, T("k=\\u1\n"), encodings[place]);
+            request.key = T("\xff");
+            request.list = T("x");
+            refuses(names[call], request, PROPERTIES_UNKNOWN_ENCODING, 0);
+        }
+    }
+}
+
+static void try_texts(void) {
+    /* Bytes that no character has, characters that are cut or too long, a surrogate, and one past the last. */
+    struct text texts[8];
+    static enum call const calls[] = {GET, SET_VALUE, SET_KEY, REMOVE_KEY};
+    size_t place, number;
+    texts[0] = T("\xff");
+    texts[1] = T("a\x80");
+    texts[2] = T("\xc3");
+    texts[3] = T("\xf0\x9f\x90");
+    texts[4] = T("\xc0\xaf");
+    texts[5] = T("\xed\xa0\x80");
+    texts[6] = T("\xf4\x90\x80\x80");
+    texts[7] = T("\xe3\x81z");
+    for (place = 0; place < 8; place++) {
+        for (number = 0; number < 4; number++) {
+            struct request request = request_of(calls[number], T("k=\\u1\n"), PROPERTIES_UTF_16LE);
+            request.key = texts[place];
+            refuses(names[calls[number]], request, PROPERTIES_NOT_UTF_8, 0);
+            if (number == 1 || number == 2) {
+                request.key = T("k");
+                request.value = texts[place];
+                refuses(names[calls[number]], request, PROPERTIES_NOT_UTF_8, 0);
+            }
+        }
+        for (number = 0; number < 4; number++) {
+            struct packed list = {{0}, 0};
+            struct request request = request_of(number < 2 ? EDIT : WRITE, T("k=\\u1\n"), PROPERTIES_UTF_16LE);
+            put_item(&list, 1, 1, T("k"), number < 2 ? T("") : T("v"));
+            put_item(&list, number < 2 ? 2 : 1, 1, number % 2 ? texts[place] : T("k"),
+                     number % 2 ? T("v") : texts[place]);
+            request.list = text_of_list(&list);
+            refuses(names[request.call], request, PROPERTIES_NOT_UTF_8, 0);
+        }
+    }
+}
+
+static void refuses_list(enum call call, struct packed const *list) {
+    struct request request = request_of(call, T("k=\\u1\n"), PROPERTIES_UTF_16LE);
+    request.list = text_of_list(list);
+    refuses(names[call], request, PROPERTIES_BAD_LIST, 0);
+}
+
+static void try_lists(void) {
+    static enum call const calls[] = {EDIT, WRITE};
+    static unsigned long long const numbers[] = {
+        3, 4, 256, 0x100000000ULL, 0x8000000000000000ULL, 0xffffffffffffffffULL,
+    };
+    size_t place, end;
+    int number;
+    for (number = 0; number < 2; number++) {
+        struct packed list = {{0}, 0};
+        size_t first;
+        put_item(&list, 1, 0, T("key"), number == 0 ? T("") : T("value"));
+        first = list.length;
+        put_item(&list, 0, 0, number == 0 ? T("k") : T(""), T("v"));
+        for (end = 1; end < list.length; end++) {
+            struct packed cut = list;
+            cut.length = end;
+            if (end != first) {
+                refuses_list(calls[number], &cut);
+            }
+        }
+        for (end = 0; end < sizeof numbers / sizeof *numbers; end++) {
+            struct packed other = {{0}, 0};
+            put_item(&other, numbers[end], 0, T("k"), T("v"));
+            refuses_list(calls[number], &other);
+        }
+        /* Lengths that are more than what is left, alone and together. */
+        for (place = 0; place < 2; place++) {
+            for (end = 1; end < sizeof numbers / sizeof *numbers; end++) {
+                struct packed other = {{0}, 0};
+                put_number(&other, 1);
+                put_number(&other, 0);
+                put_number(&other, place == 0 ? numbers[end] : 1);
+                put_number(&other, place == 0 ? 1 : numbers[end]);
+                put_text(&other, T("kv"));
+                refuses_list(calls[number], &other);
+            }
+        }
+    }
+    {
+        struct packed list = {{0}, 0};
+        put_item(&list, 2, 0, T("k"), T("v"));
+        refuses_list(WRITE, &list);
+        list.length = 0;
+        put_item(&list, PROPERTIES_EDIT_REMOVE_KEY, 0, T("k"), T("v"));
+        refuses_list(EDIT, &list);
+        list.length = 0;
+        put_item(&list, PROPERTIES_COMMENT, 0, T("k"), T("v"));
+        refuses_list(WRITE, &list);
+    }
+}
+
+static void try_escapes(void) {
+    static int const statuses[] = {PROPERTIES_NOT_ENOUGH_DIGITS, PROPERTIES_NOT_HEX, PROPERTIES_INVALID_CHARACTER};
+    static enum call const calls[] = {GET, SET_VALUE, SET_KEY, REMOVE_KEY, EDIT};
+    struct text sources[3];
+    size_t number, place;
+    sources[0] = T("# c\nk=1\n\nb=\\\n  \\u12\nk=2\\uxxxx");
+    sources[1] = T("# c\nk=1\n\n#C:\\users\n\nk=2\\u1");
+    sources[2] = T("# c\nk=1\n\nk=\\ud83d\\u0041\n\nk=2\\u1");
+    for (number = 0; number < 3; number++) {
+        struct packed list = {{0}, 0};
+        struct packed edits = {{0}, 0};
+        put_item(&list, PROPERTIES_COMMENT, 1, T(""), T("c"));
+        put_item(&list, PROPERTIES_PAIR, 2, T("k"), T("1"));
+        put_item(&edits, PROPERTIES_EDIT_SET_KEY, 0, T("a"), T("1"));
+        check("items before an escape", request_of(ITEMS, sources[number], PROPERTIES_UTF_8), statuses[number], 4,
+              text_of_list(&list));
+        for (place = 0; place < 5; place++) {
+            struct request request = request_of(calls[place], sources[number], PROPERTIES_WINDOWS_1252);
+            request.list = text_of_list(&edits);
+            refuses(names[calls[place]], request, statuses[number], 4);
+        }
+    }
+    refuses("items of an escape", request_of(ITEMS, T("\\u1"), PROPERTIES_UTF_8), PROPERTIES_NOT_ENOUGH_DIGITS, 1);
+    refuses("edit by no edits", request_of(EDIT, T("\n\\u1"), PROPERTIES_UTF_8), PROPERTIES_NOT_ENOUGH_DIGITS, 2);
+}
+
+static void try_unsupported(void) {
+    struct text little = T("\xff\xfek\0"), big = T("\xfe\xff\0k");
+    int call;
+    for (call = SET_VALUE; call <= EDIT; call++) {
+        enum call edit = (enum call)call;
+        refuses(names[call], request_of(edit, T(""), PROPERTIES_UTF_16LE), PROPERTIES_UNSUPPORTED, 0);
+        refuses(names[call], request_of(edit, T("\0k"), PROPERTIES_UTF_16BE), PROPERTIES_UNSUPPORTED, 0);
+        refuses(names[call], request_of(edit, little, PROPERTIES_UTF_8), PROPERTIES_UNSUPPORTED, 0);
+        refuses(names[call], request_of(edit, big, PROPERTIES_WINDOWS_1252), PROPERTIES_UNSUPPORTED, 0);
+    }
+}
+
+/* Each allocation is refused in turn, until the call needs no more. */
+static void try_memory(void) {
+    struct packed edits = {{0}, 0};
+    struct packed lines = {{0}, 0};
+    int call;
+    put_item(&edits, PROPERTIES_EDIT_SET_KEY, 0, T("a"), T("1"));
+    put_item(&edits, PROPERTIES_EDIT_SET_VALUE, 0, T("k"), T("12"));
+    put_item(&edits, PROPERTIES_EDIT_REMOVE_KEY, 0, T("a"), T(""));
+    put_item(&lines, PROPERTIES_COMMENT, 0, T(""), T("c"));
+    put_item(&lines, PROPERTIES_PAIR, 0, T("k"), T("v"));
+    for (call = 0; call < CALLS; call++) {
+        struct request request = request_of((enum call)call, T("# c\nk : \\u0031\nk=2\n"), PROPERTIES_UTF_8);
+        uint8_t out[300];
+        size_t length, line;
+        int status;
+        long number = 0;
+        request.list = text_of_list(call == WRITE ? &lines : &edits);
+        do {
+            number++;
+            length = line = UNSET;
+            memset(out, PATTERN, sizeof out);
+            blocks = allocations = 0;
+            refuse_at = number;
+            status = make_call(&request, out, sizeof out, &length, &line);
+            refuse_at = 0;
+            count(blocks == 0, "all memory freed", names[call], number);
+            if (status != PROPERTIES_OK) {
+                count(status == PROPERTIES_NO_MEMORY, "refused", names[call], number);
+                count(length == 0 && line == 0, "without length and line", names[call], number);
+                count(is_untouched(out, sizeof out), "as it was", names[call], number);
+            }
+        } while (status != PROPERTIES_OK && number < 1000);
+        count(status == PROPERTIES_OK && number > 1, "done in the end", names[call], number);
+    }
+}
+
+static void try_words(void) {
+    int status, other;
+    for (status = PROPERTIES_OK; status <= PROPERTIES_UNSUPPORTED; status++) {
+        for (other = -1; other < status; other++) {
+            count(strcmp(properties_status_text(status), properties_status_text(other)) != 0, "words of its own",
+                  "a status", status);
+        }
+    }
+    count(properties_version() == PROPERTIES_VERSION, "the version", "version", 0);
+}
+
+int main(void) {
+    try_get();
+    try_items();
+    try_findings();
+    try_edits();
+    try_write();
+    try_round_trip();
+    try_append();
+    try_encodings();
+    try_texts();
+    try_lists();
+    try_escapes();
+    try_unsupported();
+    try_memory();
+    try_words();
+    printf("%ld passed, %ld failed\n", passed, failed);
+    return failed > 0;
+}

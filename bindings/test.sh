@@ -1,0 +1,148 @@
+#!/usr/bin/env bash
+# Tests the library for programs in C and in Python, outside the gate. It needs cc, c++, python3 and, where it isn't given a
+# folder into which build.sh has built, what build.sh needs. With valgrind it also looks for reads outside of the inputs.
+#
+#     bindings/test.sh [FOLDER]
+#
+# It prints what fails, and last how many checks passed and failed; its status is 0 if none failed.
+set -u
+[ $# -le 1 ] || { echo 'usage: test.sh [FOLDER]' >&2; exit 2; }
+top=$(cd "$(dirname "${BASH_SOURCE[0]}")/.." && pwd)
+work=$(mktemp -d)
+trap 'rm -rf "$work"' EXIT
+if [ $# = 1 ]; then
+    built=$(cd "$1" && pwd) || exit 2
+else
+    built=$work/built
+    "$top/bindings/build.sh" "$built" || exit 1
+fi
+passed=0
+failed=0
+warnings='-Wall -Wextra -pedantic -Werror'
+sanitizers='-g -O1 -fsanitize=address,undefined -fno-sanitize-recover=all'
+
+result() {
+    if [ "$1" = 0 ]; then
+        passed=$((passed + 1))
+    else
+        failed=$((failed + 1))
+        echo "$2: failed"
+        cat "$work/log"
+    fi
+}
+
+# The command succeeds.
+works() {
+    local name=$1
+    shift
+    "$@" >"$work/log" 2>&1
+    result $? "$name"
+}
+
+# The command's last line counts what passed and failed.
+counts() {
+    local name=$1 status line
+    shift
+    "$@" >"$work/log" 2>&1
+    status=$?
+    line=$(tail -n 1 "$work/log")
+    if [[ $line =~ ^([0-9]+)\ passed,\ ([0-9]+)\ failed$ ]]; then
+        passed=$((passed + BASH_REMATCH[1]))
+        failed=$((failed + BASH_REMATCH[2]))
+        echo "$name: $line"
+        [ "${BASH_REMATCH[2]}" != 0 ] || [ "$status" = 0 ]
+        result $? "$name, status $status"
+        [ "${BASH_REMATCH[2]}" = 0 ] || cat "$work/log"
+    else
+        result 1 "$name, status $status"
+    fi
+}
+
+# The command ends with this status, and prints exactly this on standard output, and this on standard error.
+gives() {
+    local status=$1 output=$2 errors=$3 came
+    shift 3
+    "$@" >"$work/output" 2>"$work/errors"
+    came=$?
+    {
+        [ "$came" = "$status" ] || echo "status $came, not $status"
+        printf '%b' "$output" | diff - "$work/output"
+        printf '%b' "$errors" | diff - "$work/errors"
+    } >"$work/log"
+    [ ! -s "$work/log" ]
+    result $? "$*"
+}
+
+# The header, twice, with none of its functions called.
+printf '#include "properties.h"\n#include "properties.h"\nint main(void) { return 0; }\n' >"$work/header.c"
+for standard in c99 c11 c17; do
+    works "the header in $standard" cc -std=$standard $warnings -I"$built" -c "$work/header.c" -o "$work/header.o"
+    works "the example in $standard" cc -std=$standard $warnings -I"$built" -c "$top/bindings/c/example.c" -o "$work/header.o"
+done
+for standard in c++98 c++11 c++17 c++20; do
+    works "the header in $standard" c++ -x c++ -std=$standard $warnings -I"$built" -c "$work/header.c" -o "$work/header.o"
+done
+
+# The shared object gives the functions that the header declares, and no others.
+grep -oE '^(int|uint32_t) properties_[a-z_]+' "$built/properties.h" | sed 's/.* //' | sort >"$work/declared"
+nm -D --defined-only "$built/libproperties.so" | sed 's/.* //' | sort | diff "$work/declared" - >"$work/log"
+result $? 'the names in the shared object'
+
+# Every call, in C and in C++.
+wraps=-Wl,--wrap=malloc,--wrap=realloc,--wrap=free
+test=$top/bindings/c/test_calls.c
+works 'the calls in C, compiled' cc -std=c99 $warnings $sanitizers $wraps -I"$built" "$test" "$built/libproperties.a" -o "$work/calls"
+counts 'the calls in C' "$work/calls"
+works 'the calls in C++, compiled' c++ -x c++ -std=c++11 $warnings $sanitizers $wraps -I"$built" "$test" -x none \
+    "$built/libproperties.a" -o "$work/calls"
+counts 'the calls in C++' "$work/calls"
+if command -v valgrind >/dev/null; then
+    works 'the calls, compiled' cc -std=c99 $warnings -g $wraps -I"$built" "$test" "$built/libproperties.a" -o "$work/calls"
+    works 'the calls under valgrind' valgrind -q --error-exitcode=9 --leak-check=full "$work/calls"
+else
+    echo 'There is no valgrind, so reads outside of the inputs are not looked for.'
+fi
+
+# The example, with the archive and with the shared object.
+cd "$work" || exit 2
+example=$top/bindings/c/example.c
+printf '# the web server\nport    = 80\n' >app.properties
+printf 'a=1\n\n# C:\\users\n' >broken.properties
+printf '' >empty.properties
+for _ in $(seq 3000); do printf 'k\n'; done >long.properties
+items='line 1, a comment: the web server\nline 2, port: 80\n'
+for library in archive 'shared object'; do
+    if [ "$library" = archive ]; then
+        works 'the example, with the archive' cc -std=c99 $warnings $sanitizers -I"$built" "$example" "$built/libproperties.a" \
+            -o example
+    else
+        works 'the example, with the shared object' cc -std=c99 $warnings $sanitizers -I"$built" "$example" -L"$built" \
+            -lproperties -Wl,-rpath,"$built" -o example
+    fi
+    gives 0 "$items# the web server\nport    = 8080\n" '' ./example app.properties port 8080
+    gives 0 "$items# the web server\nport    = 80\nhost = caf\xc3\xa9\n" '' ./example app.properties host $'caf\xc3\xa9'
+    gives 0 'k=v\n' '' ./example empty.properties k v
+    gives 1 'line 1, a: 1\n' 'broken.properties:3: Malformed \\uxxxx encoding: not hex.\n' ./example broken.properties k v
+    gives 1 "$items" "app.properties: A text isn't UTF-8.\n" ./example app.properties $'\xff' v
+    gives 1 '' 'none.properties: No such file or directory\n' ./example none.properties k v
+    gives 2 '' 'usage: example FILE KEY VALUE\n' ./example app.properties
+    works 'the example on many short lines' ./example long.properties k v
+    [ "$(wc -l <log)" = 6000 ]
+    result $? 'the example on many short lines'
+done
+
+# Python: the module beside the shared object, and without it.
+unset PROPERTIES_LIBRARY
+use='import properties; print(properties.load(b"a=1"))'
+gives 0 "{'a': '1'}\n" '' env PYTHONPATH="$built" PYTHONDONTWRITEBYTECODE=1 python3 -c "$use"
+mkdir alone
+cp "$built/properties.py" alone/
+env PYTHONPATH=alone PYTHONDONTWRITEBYTECODE=1 python3 -c "$use" >log 2>&1
+grep -q '^ImportError: .*PROPERTIES_LIBRARY says where it is' log
+result $? 'the module without the shared object'
+counts 'the tables and the module, in Python' env PROPERTIES_LIBRARY="$built/libproperties.so" PYTHONDONTWRITEBYTECODE=1 \
+    python3 "$top/bindings/python/test_rows.py"
+grep -E '^ *[0-9]+ of ' "$work/log"
+
+echo "$passed passed, $failed failed"
+[ "$failed" = 0 ]
