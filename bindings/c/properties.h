@@ -10,8 +10,8 @@
  *   the number of the line that an error is in, or to 0 if there is no error or no line. Lines are numbered from 1.
  * - The call returns one of enum properties_status. If the room is too small, it returns PROPERTIES_NO_ROOM, *length is
  *   the room that is needed, and `out` is as it was. With any other status but PROPERTIES_OK, *length is 0 and `out` is
- *   as it was; at some errors properties_items also gives the items before the error. Past *length, `out` always is as
- *   it was.
+ *   as it was; but at a malformed escape properties_items gives the items before it. Past *length, `out` always is as it
+ *   was.
  * - If several errors could be reported, it is the first of these: the encoding, a key or a value that isn't UTF-8, the
  *   packed list, from its front on, and then the rest.
  *
@@ -58,7 +58,7 @@ enum properties_status {
     PROPERTIES_NOT_ENOUGH_DIGITS = 7, /* fewer than four characters follow a \u in the line */
     PROPERTIES_NOT_HEX = 8,           /* one of the four characters after a \u isn't a hexadecimal digit */
     PROPERTIES_INVALID_CHARACTER = 9, /* an escape is a surrogate without its partner */
-    PROPERTIES_TOO_MANY_LINES = 10,   /* more than SIZE_MAX lines; no run gets there */
+    PROPERTIES_TOO_MANY_LINES = 10,   /* never comes: no source in memory has so many lines */
     PROPERTIES_UNSUPPORTED = 11       /* a source in UTF-16 can't be edited */
 };
 
@@ -143,17 +143,16 @@ struct properties_list {
  * pair.
  *
  * Returns PROPERTIES_OK, _NO_ROOM, _NO_KEY, _NO_MEMORY, _UNKNOWN_ENCODING, _NOT_UTF_8 (of the key), _NOT_ENOUGH_DIGITS,
- * _NOT_HEX, _INVALID_CHARACTER or _TOO_MANY_LINES. */
+ * _NOT_HEX or _INVALID_CHARACTER. */
 int properties_get(uint8_t const *source, size_t source_length, uint32_t encoding, uint8_t const *key,
                    size_t key_length, uint8_t *out, size_t room, size_t *length, size_t *line);
 
 /* Writes the packed list of all comments and pairs, in order, each with the number of the line that it begins in.
  *
- * At a malformed escape, and at _TOO_MANY_LINES, `out` gets the items before it, *length is how many bytes they take,
- * and *line is the line with the error. (If the room is too small for these items, it returns _NO_ROOM instead.)
+ * At a malformed escape `out` gets the items before it, *length is how many bytes they take, and *line is the line with
+ * the escape. (If the room is too small for these items, it returns _NO_ROOM instead.)
  *
- * Returns PROPERTIES_OK, _NO_ROOM, _NO_MEMORY, _UNKNOWN_ENCODING, _NOT_ENOUGH_DIGITS, _NOT_HEX, _INVALID_CHARACTER or
- * _TOO_MANY_LINES. */
+ * Returns PROPERTIES_OK, _NO_ROOM, _NO_MEMORY, _UNKNOWN_ENCODING, _NOT_ENOUGH_DIGITS, _NOT_HEX or _INVALID_CHARACTER. */
 int properties_items(uint8_t const *source, size_t source_length, uint32_t encoding, uint8_t *out, size_t room,
                      size_t *length, size_t *line);
 
@@ -161,7 +160,7 @@ int properties_items(uint8_t const *source, size_t source_length, uint32_t encod
  * order of the lines, and then the pairs whose key an earlier pair has, in that order too. Pairs with a malformed
  * escape are left out of the latter. If nothing is wrong, *length is 0.
  *
- * Returns PROPERTIES_OK, _NO_ROOM, _NO_MEMORY, _UNKNOWN_ENCODING or _TOO_MANY_LINES. */
+ * Returns PROPERTIES_OK, _NO_ROOM, _NO_MEMORY or _UNKNOWN_ENCODING. */
 int properties_findings(uint8_t const *source, size_t source_length, uint32_t encoding, uint8_t *out, size_t room,
                         size_t *length, size_t *line);
 
@@ -173,7 +172,7 @@ int properties_findings(uint8_t const *source, size_t source_length, uint32_t en
  * character is an escape only if the encoding lacks it.
  *
  * Returns PROPERTIES_OK, _NO_ROOM, _NO_MEMORY, _UNKNOWN_ENCODING, _NOT_UTF_8 (of key or value), _NOT_ENOUGH_DIGITS,
- * _NOT_HEX, _INVALID_CHARACTER (of these the first in the source, wherever it is), _TOO_MANY_LINES or _UNSUPPORTED. */
+ * _NOT_HEX, _INVALID_CHARACTER (of these the first in the source, wherever it is) or _UNSUPPORTED. */
 int properties_set_value(uint8_t const *source, size_t source_length, uint32_t encoding, bool ascii_only,
                          uint8_t const *key, size_t key_length, uint8_t const *value, size_t value_length,
                          uint8_t *out, size_t room, size_t *length, size_t *line);
