@@ -6,7 +6,7 @@ use Rattle.properties_format.specs.MalformedEscapes.{MalformedEscape}
 use Rattle.java_properties.specs.KeyLines.{KeyEntry}
 use Rattle.properties_c.specs.Numbers.{number_bytes}
 
--- the bytes of a finding: its kind, its line, the line of the first pair with the key, the length of the key, and the key
+-- the bytes of a finding: its kind, its line, the line of the first pair with the key, the length of the key, the key
 unfoldable pub finding_bytes : ℕ → ℕ → ℕ → List ℕ → List ℕ
 finding_bytes kind line first key =
     number_bytes kind ++ (number_bytes line ++ (number_bytes first ++ (number_bytes (length key) ++ key)))
