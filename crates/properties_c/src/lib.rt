@@ -13,14 +13,14 @@
 #![tactic(auto)]
 
 mod crossing;
-mod edit;
+pub mod edit;
 mod encoding;
 mod findings;
 mod items;
 mod lists;
 mod numbers;
-mod read;
+pub mod read;
 mod records;
 mod status;
-mod version;
-mod write;
+pub mod version;
+pub mod write;
