@@ -1,0 +1,8 @@
+pub mod Packing
+pub mod PackedLines
+pub mod Splitting
+pub mod TakenApart
+pub mod Slices
+pub mod Repeats
+pub mod Refusals
+pub mod ItemsRead

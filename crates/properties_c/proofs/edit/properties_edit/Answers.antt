@@ -1,0 +1,13 @@
+use Rattle.std.proofs.Common.{rules, inl, inr}
+use Rattle.properties_text.specs.Encoding.{encoding_of}
+use Rattle.properties_c.specs.PackedLists.{edits}
+use Rattle.properties_c.proofs.Refusals.{list-crossed}
+use Rattle.properties_c.proofs.edit.properties_edit.Goals as goal
+
+pub returns-in-Err : goal.returns-in-Err
+returns-in-Err c =
+    inl (
+      encoding_of c.in-Some.encoding,
+      search rules,
+      inr (list-crossed edits c.args.edits.now c.in-Err.status c.args.out.now _ _ _ c.in-Err.ensures (search rules)),
+    )

@@ -1,0 +1,7 @@
+use Rattle.std.proofs.Common.{refl, rules, inl, inr}
+use Rattle.properties_text.specs.Encoding.{encoding_of}
+use Rattle.properties_c.proofs.edit.properties_set_value.Goals as goal
+
+pub returns-in_default-text_of-2 : goal.returns-in_default-text_of-2
+returns-in_default-text_of-2 c =
+    inl (encoding_of c.in-Some.encoding, search rules, inl (search rules, inr (search rules, record { answers = search rules; kept = refl })))

@@ -1,0 +1,11 @@
+use Rattle.std.proofs.Common.{◌≡◌, [], ◌∷◌, ◌++◌, rules}
+use Rattle.properties_c.proofs.TakenApart.{HasCalls-more, IsFirst-shorter}
+use Rattle.properties_c.proofs.lists.calls_of.Goals as goal
+
+pub loop-rest-smaller : goal.loop-rest-smaller
+loop-rest-smaller c = IsFirst-shorter c.in-Ok.ensures.1
+
+pub loop-rest-preserved : goal.loop-rest-preserved
+loop-rest-preserved c =
+    let same : c.push.new.self.items ≡ c.loop-rest.calls.items ++ c.in-Ok.call ∷ [] = search rules in
+    rw same (HasCalls-more c.in-Ok.call c.loop-rest.invariant c.in-Ok.ensures.1 c.in-Ok.ensures.2)

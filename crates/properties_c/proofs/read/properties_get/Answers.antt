@@ -1,0 +1,25 @@
+use Rattle.std.proofs.Common.{◌≡◌, ◌∙◌, sym, refl, rules, inl, inr, Some, string_bytes}
+use Rattle.std.specs.Prelude.{encode_utf8_all}
+use Rattle.std.specs.Str.{chars}
+use Rattle.properties_text.specs.Encoding.{encoding_of}
+use Rattle.properties_c.proofs.PackedLines.{encoded-text}
+use Rattle.properties_c.proofs.read.properties_get.Goals as goal
+
+pub returns-in-Ok-Some : goal.returns-in-Ok-Some
+returns-in-Ok-Some c =
+    let value = c.in-Ok-Some.value in
+    let same : encode_utf8_all (chars (string_bytes value)) ≡ c.as_bytes.result.now =
+    encoded-text value ∙ sym (c.as_bytes.ensures.value ∙ c.as_str.ensures.value) in
+    inl (
+      encoding_of c.in-Some.encoding,
+      search rules,
+      inl (search rules, inl (Some (chars (string_bytes value)), search rules, rw same (search rules))),
+    )
+
+pub returns-in-Err : goal.returns-in-Err
+returns-in-Err c =
+    inl (
+      encoding_of c.in-Some.encoding,
+      search rules,
+      inl (search rules, inr (c.in-Err.error, search rules, record { answers = search rules; kept = refl })),
+    )

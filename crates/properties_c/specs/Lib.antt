@@ -1,0 +1,12 @@
+pub mod Statuses
+pub mod Crossing
+pub mod Inputs
+pub mod Numbers
+pub mod Records
+pub mod PackedItems
+pub mod PackedFindings
+pub mod PackedLists
+pub mod Reading
+pub mod Editing
+pub mod Writing
+pub mod Private

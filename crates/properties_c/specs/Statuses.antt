@@ -1,0 +1,52 @@
+-- The statuses of calls: their numbers, and those of errors.
+use Rattle.std.specs.Prelude.{ℕ, ℤ, pos, Option, Some, None}
+use Rattle.properties_format.specs.Escapes.{Malformed, not_enough_digits, not_hex, invalid_character}
+use Rattle.properties_items.specs.Errors.{line_of}
+use Rattle.properties_items.specs.declared.error.ErrorKind.{ErrorKind}
+use Rattle.properties_items.specs.declared.error.ErrorKind.TheVariants as kind
+use Rattle.properties_items.specs.declared.error.PropertiesError.{PropertiesError}
+use Rattle.properties_c.specs.declared.status.Status.{Status}
+use Rattle.properties_c.specs.declared.status.Status.TheVariants.{Done, NoRoom, NoKey, NoMemory, UnknownEncoding, NotUtf8, BadList, NotEnoughDigits, NotHex, InvalidCharacter, TooManyLines, Unsupported}
+
+abbrev pub status_number : Status → ℤ
+status_number Done = pos 0
+status_number NoRoom = pos 1
+status_number NoKey = pos 2
+status_number NoMemory = pos 3
+status_number UnknownEncoding = pos 4
+status_number NotUtf8 = pos 5
+status_number BadList = pos 6
+status_number NotEnoughDigits = pos 7
+status_number NotHex = pos 8
+status_number InvalidCharacter = pos 9
+status_number TooManyLines = pos 10
+status_number Unsupported = pos 11
+
+-- the status of an error of this kind
+abbrev pub status_of_kind : ErrorKind → Status
+status_of_kind kind.Io = NoMemory
+status_of_kind kind.NotEnoughDigits = NotEnoughDigits
+status_of_kind kind.NotHex = NotHex
+status_of_kind kind.InvalidCharacter = InvalidCharacter
+status_of_kind kind.BadCommentPrefix = NoMemory
+status_of_kind kind.BadKvSeparator = NoMemory
+status_of_kind kind.EmptyKey = NoMemory
+status_of_kind kind.TooManyLines = TooManyLines
+status_of_kind kind.Failed = NoMemory
+status_of_kind kind.Memory = NoMemory
+status_of_kind kind.Unsupported = Unsupported
+
+-- the status of a malformed escape
+abbrev pub malformed_status : Malformed → Status
+malformed_status not_enough_digits = NotEnoughDigits
+malformed_status not_hex = NotHex
+malformed_status invalid_character = InvalidCharacter
+
+-- the line, or 0 where there is none
+abbrev pub line_or_none : Option ℕ → ℕ
+line_or_none None = 0
+line_or_none (Some line) = line
+
+-- the line of an error, or 0
+abbrev pub error_line : PropertiesError → ℕ
+error_line error = line_or_none (line_of error)

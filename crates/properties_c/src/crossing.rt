@@ -1,0 +1,83 @@
+// What a call gives, on its way to C.
+
+ghost use Rattle.std.specs.Prelude.{◌≡◌};
+ghost use Rattle.properties_c.specs.Statuses.{error_line, status_of_kind};
+ghost use Rattle.properties_c.specs.Crossing.{crossing, Answers, Crosses, Delivers};
+ghost use Rattle.properties_c.specs.declared.status.Status.TheVariants.{Done, NoRoom};
+ghost use Rattle.properties_items.specs.Errors.{kind_of};
+
+use crate::status::{Status, number_of, status_of};
+use java_properties::PropertiesError;
+
+/// Sets the length and the line, and returns the number of the status.
+pub fn answer(
+    status: Status,
+    count: usize,
+    number: usize,
+    length: &mut usize,
+    line: &mut usize,
+) -> i32
+    ensures { Answers status count number result length.new line.new }
+{
+    *length = count;
+    *line = number;
+    number_of(status)
+}
+
+/// Answers with a status alone.
+pub fn refuse(status: Status, length: &mut usize, line: &mut usize) -> i32
+    ensures { Answers status 0 0 result length.new line.new }
+{
+    answer(status, 0, 0, length, line)
+}
+
+/// Answers that so much room is needed.
+pub fn lack_room(needed: usize, length: &mut usize, line: &mut usize) -> i32
+    ensures { Answers NoRoom needed 0 result length.new line.new }
+{
+    answer(Status::NoRoom, needed, 0, length, line)
+}
+
+/// Copies the bytes to the front of `out`, if they fit.
+pub fn deliver(bytes: &[u8], out: &mut [u8], length: &mut usize, line: &mut usize) -> i32
+    ensures { Delivers bytes.now Done 0 (crossing out.old result length.new line.new out.new) }
+{
+    let count = bytes.len();
+    if count > out.len() {
+        return lack_room(count, length, line);
+    }
+    out[..count].copy_from_slice(bytes);
+    answer(Status::Done, count, 0, length, line)
+}
+
+/// Answers with the status and the line of an error.
+pub fn fail(error: &PropertiesError, length: &mut usize, line: &mut usize) -> i32
+    ensures { Answers (status_of_kind (kind_of error.now)) 0 (error_line error.now) result length.new line.new }
+{
+    answer(status_of(error.kind()), 0, line_in(error), length, line)
+}
+
+/// Returns the line of an error, or 0.
+pub fn line_in(error: &PropertiesError) -> usize
+    ensures { result ≡ error_line error.now }
+{
+    match error.line_number() {
+        Some(number) => number,
+        None => 0,
+    }
+}
+
+/// Answers with the bytes that a call returned, or with its error.
+pub fn deliver_result(
+    outcome: Result<Vec<u8>, PropertiesError>,
+    out: &mut [u8],
+    length: &mut usize,
+    line: &mut usize,
+) -> i32
+    ensures { Crosses outcome (crossing out.old result length.new line.new out.new) }
+{
+    match outcome {
+        Ok(bytes) => deliver(&bytes, out, length, line),
+        Err(error) => fail(&error, length, line),
+    }
+}

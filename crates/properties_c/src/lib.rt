@@ -1,0 +1,26 @@
+//! The library for programs in C, and through them for other languages.
+//!
+//! Each export calls one function of `java_properties` and hands on what it returns. A slice is a pointer and a length,
+//! which for `out` is the room there. Texts are UTF-8. Each call sets `length` and `line` and returns a status:
+//!
+//! - at 0, `length` bytes were written to `out`;
+//! - if `out` has too little room, nothing is written, and `length` is what is needed;
+//! - at any other status nothing is written and `length` is 0, but [`properties_items`] then gives the items before the
+//!   error;
+//! - `line` is the line of the error, or 0.
+//!
+//! What is in `out` past `length` stays as it was. A parameter of the type `Global` takes no place in a call from C.
+#![tactic(auto)]
+
+mod crossing;
+pub mod edit;
+mod encoding;
+mod findings;
+mod items;
+mod lists;
+mod numbers;
+pub mod read;
+mod records;
+mod status;
+pub mod version;
+pub mod write;

@@ -1,0 +1,164 @@
+// Packed lists that come from C: edits, and lines to write.
+
+ghost use Rattle.std.specs.Prelude.{◌≡◌, IfOk};
+ghost use Rattle.java_properties.specs.Calls.{calls_in};
+ghost use Rattle.properties_c.specs.Writing.{calls_before as first_calls};
+ghost use Rattle.properties_c.specs.Records.{record_in};
+ghost use Rattle.properties_c.specs.Private.Lists.{CopiesText, MakesCall, MakesEdit, ReadsCalls, ReadsEdits, ReadsFirstCall, ReadsFirstEdit};
+ghost use Rattle.properties_c.specs.declared.status.Status.TheVariants.{NoMemory};
+
+use crate::encoding::text_of;
+use crate::items::{COMMENT, PAIR};
+use crate::records::{Record, split_record};
+use crate::status::Status;
+use java_properties::{Call, Edit};
+use std::alloc::{AllocError, AllocFailed, Global};
+
+// The kind of an edit that sets a key.
+const PUT: usize = 0;
+
+// The kind of an edit that removes a key.
+const REMOVE: usize = 1;
+
+// The kind of an edit that sets a value.
+const SET_VALUE: usize = 2;
+
+impl From<AllocError> for Status {
+    ghost from_gives = { λ _ status. status ≡ NoMemory };
+
+    fn from(_: AllocError) -> Status {
+        Status::NoMemory
+    }
+}
+
+impl<T: Drop> From<AllocFailed<T>> for Status {
+    ghost from_gives = { λ _ status. status ≡ NoMemory };
+
+    fn from(_: AllocFailed<T>) -> Status {
+        Status::NoMemory
+    }
+}
+
+/// Returns the edits of a packed list, or why it is refused.
+pub fn edits_of(alloc: Global, list: &[u8]) -> Result<Vec<Edit>, Status>
+    ensures { ReadsEdits list.now result }
+{
+    let mut edits = Vec::new(alloc);
+    let mut rest = list;
+    while !rest.is_empty() {
+        match first_edit(alloc, rest) {
+            Ok((edit, after)) => {
+                edits.push(edit)?;
+                rest = after;
+            }
+            Err(status) => return Err(status),
+        }
+    }
+    Ok(edits)
+}
+
+/// Returns the calls that write the lines of a packed list, or why it is refused. With `ascii_only`, a call comes
+/// before them that has every character past U+007F escaped.
+pub fn calls_of(alloc: Global, list: &[u8], ascii_only: bool) -> Result<Vec<Call>, Status>
+    ensures { ReadsCalls list.now ascii_only result }
+{
+    let mut calls = calls_before(alloc, ascii_only)?;
+    let mut rest = list;
+    while !rest.is_empty() {
+        match first_call(alloc, rest) {
+            Ok((call, after)) => {
+                calls.push(call)?;
+                rest = after;
+            }
+            Err(status) => return Err(status),
+        }
+    }
+    Ok(calls)
+}
+
+// Returns the calls that come before the lines.
+fn calls_before(alloc: Global, ascii_only: bool) -> Result<Vec<Call>, AllocError>
+    ensures { IfOk result (λ calls. calls_in calls.items ≡ first_calls ascii_only) }
+{
+    let mut calls = Vec::new(alloc);
+    if ascii_only {
+        calls.push(Call::AsciiOnly(true))?;
+    }
+    Ok(calls)
+}
+
+// Returns the first edit of a list and what comes after it.
+fn first_edit(alloc: Global, list: &[u8]) -> Result<(Edit, &[u8]), Status>
+    ensures { ReadsFirstEdit list.now result }
+{
+    let Some((first, rest)) = split_record(list) else {
+        return Err(Status::BadList);
+    };
+    match edit_of(alloc, first) {
+        Ok(edit) => Ok((edit, rest)),
+        Err(status) => Err(status),
+    }
+}
+
+// Returns the first call of a list and what comes after it.
+fn first_call(alloc: Global, list: &[u8]) -> Result<(Call, &[u8]), Status>
+    ensures { ReadsFirstCall list.now result }
+{
+    let Some((first, rest)) = split_record(list) else {
+        return Err(Status::BadList);
+    };
+    match call_of(alloc, first) {
+        Ok(call) => Ok((call, rest)),
+        Err(status) => Err(status),
+    }
+}
+
+fn edit_of(alloc: Global, given: Record<'_>) -> Result<Edit, Status>
+    ensures { MakesEdit (record_in given.entry) result }
+{
+    match given.kind {
+        PUT => {
+            let key = copy_of(alloc, given.key)?;
+            Ok(Edit::Put(key, copy_of(alloc, given.value)?))
+        }
+        REMOVE => {
+            if !given.value.is_empty() {
+                return Err(Status::BadList);
+            }
+            Ok(Edit::Remove(copy_of(alloc, given.key)?))
+        }
+        SET_VALUE => {
+            let key = copy_of(alloc, given.key)?;
+            Ok(Edit::SetValue(key, copy_of(alloc, given.value)?))
+        }
+        _ => Err(Status::BadList),
+    }
+}
+
+fn call_of(alloc: Global, given: Record<'_>) -> Result<Call, Status>
+    ensures { MakesCall (record_in given.entry) result }
+{
+    match given.kind {
+        COMMENT => {
+            if !given.key.is_empty() {
+                return Err(Status::BadList);
+            }
+            Ok(Call::Comment(copy_of(alloc, given.value)?))
+        }
+        PAIR => {
+            let key = copy_of(alloc, given.key)?;
+            Ok(Call::Pair(key, copy_of(alloc, given.value)?))
+        }
+        _ => Err(Status::BadList),
+    }
+}
+
+// Returns a copy of a text.
+fn copy_of(alloc: Global, bytes: &[u8]) -> Result<String, Status>
+    ensures { CopiesText bytes.now result }
+{
+    let Some(text) = text_of(bytes) else {
+        return Err(Status::NotUtf8);
+    };
+    Ok(String::from_str(alloc, text)?)
+}

@@ -1,0 +1,87 @@
+// The exports that read.
+
+ghost use Rattle.properties_c.specs.Crossing.{crossing};
+ghost use Rattle.properties_c.specs.Reading.{FindingsAcross, GetsAcross, ItemsAcross};
+
+use crate::crossing::{deliver, deliver_result, fail, line_in, refuse};
+use crate::encoding::{encoding_numbered, text_of};
+use crate::findings::findings_in;
+use crate::items::deliver_items;
+use crate::status::{Status, status_of};
+use java_properties::{read_lines, value_of};
+use std::alloc::Global;
+
+/// Gives the value of a key: that of the last pair with it.
+#[unsafe(no_mangle)]
+pub extern "C" fn properties_get(
+    alloc: Global,
+    source: &[u8],
+    encoding: u32,
+    key: &[u8],
+    out: &mut [u8],
+    length: &mut usize,
+    line: &mut usize,
+) -> i32
+    ensures { let x = crossing out.old result length.new line.new out.new in
+        GetsAcross source.now encoding key.now x }
+{
+    let Some(encoding) = encoding_numbered(encoding) else {
+        return refuse(Status::UnknownEncoding, length, line);
+    };
+    let Some(key) = text_of(key) else {
+        return refuse(Status::NotUtf8, length, line);
+    };
+    match value_of(alloc, source, encoding, key) {
+        Ok(Some(value)) => deliver(value.as_str().as_bytes(), out, length, line),
+        Ok(None) => refuse(Status::NoKey, length, line),
+        Err(error) => fail(&error, length, line),
+    }
+}
+
+/// Gives all comments and pairs, packed, each with its line. At a malformed escape, it gives those before it.
+#[unsafe(no_mangle)]
+pub extern "C" fn properties_items(
+    alloc: Global,
+    source: &[u8],
+    encoding: u32,
+    out: &mut [u8],
+    length: &mut usize,
+    line: &mut usize,
+) -> i32
+    ensures { let x = crossing out.old result length.new line.new out.new in
+        ItemsAcross source.now encoding x }
+{
+    let Some(encoding) = encoding_numbered(encoding) else {
+        return refuse(Status::UnknownEncoding, length, line);
+    };
+    let mut input = source;
+    match read_lines(alloc, &mut input, encoding) {
+        Ok(lines) => deliver_items(&lines, Status::Done, 0, out, length, line),
+        Err(stopped) => match status_of(stopped.error.kind()) {
+            Status::NoMemory => refuse(Status::NoMemory, length, line),
+            status => {
+                let number = line_in(&stopped.error);
+                deliver_items(&stopped.lines, status, number, out, length, line)
+            }
+        },
+    }
+}
+
+/// Gives what is wrong, packed: malformed escapes, and then keys that an earlier pair has.
+#[unsafe(no_mangle)]
+pub extern "C" fn properties_findings(
+    alloc: Global,
+    source: &[u8],
+    encoding: u32,
+    out: &mut [u8],
+    length: &mut usize,
+    line: &mut usize,
+) -> i32
+    ensures { let x = crossing out.old result length.new line.new out.new in
+        FindingsAcross source.now encoding x }
+{
+    let Some(encoding) = encoding_numbered(encoding) else {
+        return refuse(Status::UnknownEncoding, length, line);
+    };
+    deliver_result(findings_in(alloc, source, encoding), out, length, line)
+}
