@@ -24,7 +24,7 @@ fn documents_and_lists_are_edited_as_single_calls_edit_sources(
     rt: HostRuntime,
 ) -> Result<(), Fail> {
     let mut numbers = Numbers { seed: 12345 };
-    for _ in 0..1700 {
+    for _ in 0..1500 {
         let source = numbers.source(rt.alloc())?;
         check_edits(&rt, rt.alloc(), &mut numbers, &source)?;
     }
