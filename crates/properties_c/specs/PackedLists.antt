@@ -59,9 +59,10 @@ pub record Begins {A : Type 0} (m : Meaning A) (list : List ℕ) (things : List 
   pub division : list ≡ packed_all records ++ rest
   pub meant : AreMeant m records things
 
--- The list is the records of these things.
-abbrev pub IsPackedList : {A : Type 0} → Meaning A → List ℕ → List A → Type 0
-IsPackedList m list things = Begins m list things []
+-- The list is the records of these things, and of no others.
+pub record IsPackedList {A : Type 0} (m : Meaning A) (list : List ℕ) (things : List A) : Type 0 where
+  pub begins : Begins m list things []
+  pub only : (others : List A) → Begins m list others [] → others ≡ things
 
 -- No record that is known is at the front of these bytes.
 abbrev pub HasNoRecord : {A : Type 0} → Meaning A → List ℕ → Type 0

@@ -1,4 +1,6 @@
-use Rattle.std.proofs.Common.{◌≡◌, [], ◌∷◌, ◌++◌, rules}
+use Rattle.std.proofs.Common.{◌≡◌, [], ◌∷◌, ◌++◌, rules, arith}
+use Rattle.std.proofs.lemmas.Bool.Decides.{nat_tests}
+use Rattle.properties_c.proofs.OneReading.{lines-read}
 use Rattle.properties_c.proofs.TakenApart.{HasCalls-more, IsFirst-shorter}
 use Rattle.properties_c.proofs.lists.calls_of.Goals as goal
 
@@ -9,3 +11,8 @@ pub loop-rest-preserved : goal.loop-rest-preserved
 loop-rest-preserved c =
     let same : c.push.new.self.items ≡ c.loop-rest.calls.items ++ c.in-Ok.call ∷ [] = search rules in
     rw same (HasCalls-more c.in-Ok.call c.loop-rest.invariant c.in-Ok.ensures.1 c.in-Ok.ensures.2)
+
+pub returns : goal.returns
+returns c =
+    let h = c.loop-rest.invariant in
+    (h.contents, lines-read c.args.list.now h.contents c.loop-rest.rest.now (grind (arith, nat_tests)) h.begins, h.are)
