@@ -19,14 +19,14 @@ pub record Meaning (A : Type 0) : Type 1 where
 
 -- ---- edits
 
--- The kind is that of an edit, and a key that is removed has no value.
+-- The kind is that of an edit, which no line has, and a key that is removed has no value.
 abbrev pub IsKnownEdit : Record → Type 0
-IsKnownEdit r = (r.kind ≡ 0) ⊎ ((r.kind ≡ 1) × (r.value ≡ []) ⊎ (r.kind ≡ 2))
+IsKnownEdit r = (r.kind ≡ 2) ⊎ ((r.kind ≡ 3) × (r.value ≡ []) ⊎ (r.kind ≡ 4))
 
 abbrev pub MeansEdit : Record → Edit → Type 0
-MeansEdit r (put key value) = (r.kind ≡ 0) × IsText r.key key × IsText r.value value
-MeansEdit r (remove key) = (r.kind ≡ 1) × IsText r.key key × (r.value ≡ [])
-MeansEdit r (set_value key value) = (r.kind ≡ 2) × IsText r.key key × IsText r.value value
+MeansEdit r (put key value) = (r.kind ≡ 2) × IsText r.key key × IsText r.value value
+MeansEdit r (remove key) = (r.kind ≡ 3) × IsText r.key key × (r.value ≡ [])
+MeansEdit r (set_value key value) = (r.kind ≡ 4) × IsText r.key key × IsText r.value value
 
 abbrev pub edits : Meaning Edit
 edits = record { IsKnown = IsKnownEdit; Means = MeansEdit }

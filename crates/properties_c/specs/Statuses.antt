@@ -22,7 +22,8 @@ status_number InvalidCharacter = pos 9
 status_number TooManyLines = pos 10
 status_number Unsupported = pos 11
 
--- the status of an error of this kind
+-- the status of an error of this kind; a stream in memory fails only if memory runs out, and the kinds of a writer's
+-- errors are those of calls that no export makes
 abbrev pub status_of_kind : ErrorKind → Status
 status_of_kind kind.Io = NoMemory
 status_of_kind kind.NotEnoughDigits = NotEnoughDigits

@@ -14,14 +14,15 @@ use crate::status::Status;
 use java_properties::{Call, Edit};
 use std::alloc::{AllocError, AllocFailed, Global};
 
-// The kind of an edit that sets a key.
-const PUT: usize = 0;
+// The kind of an edit that sets a key. Edits and lines have different kinds, so that a list of the one isn't taken for
+// a list of the other.
+const PUT: usize = 2;
 
 // The kind of an edit that removes a key.
-const REMOVE: usize = 1;
+const REMOVE: usize = 3;
 
 // The kind of an edit that sets a value.
-const SET_VALUE: usize = 2;
+const SET_VALUE: usize = 4;
 
 impl From<AllocError> for Status {
     ghost from_gives = { λ _ status. status ≡ NoMemory };
