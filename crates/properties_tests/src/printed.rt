@@ -1,7 +1,7 @@
 // Values as they print themselves, for people and for debugging, where no row of a table prints them.
 
 use crate::same::same;
-use counted_io::{Counted, ScriptedSink, SinkFault};
+use counted_io::{Counted, ScriptedReader, ScriptedSink, SinkFault, Tail};
 use java_properties::{
     Cause, CopyError, Encoding, ErrorKind, LineEnding, PropertiesError, PropertiesIter,
     PropertiesWriter, Stopped, read_lines, remove_key,
@@ -214,6 +214,45 @@ fn what_stopped_is_debugged(rt: HostRuntime) -> Result<(), Fail> {
     let wanted =
         "Stopped { lines: [Line { line_number: 1, content: Comment(\"\u{e9}\") }, Line { line_number: 3, content: KVPair(\"a\", \"\\t\") }], error: PropertiesError { kind: NotEnoughDigits, line_number: Some(4), cause: None, refused: None } }";
     check_debugged(&rt, rt.alloc(), &stopped, wanted)
+}
+
+#[test]
+fn errors_are_printed_at_the_name_of_their_input(rt: HostRuntime) -> Result<(), Fail> {
+    let rows: [(&[u8], &str, &str); 5] = [
+        (
+            b"\n\na=\\u12\n",
+            "a.properties",
+            "a.properties:3: Malformed \\uxxxx encoding: not enough digits.",
+        ),
+        (
+            b"\\u12gh\n",
+            "a.properties",
+            "a.properties:1: Malformed \\uxxxx encoding: not hex.",
+        ),
+        // It may be a folder, so no line is named.
+        (b"a", "a.properties", "a.properties: timed out"),
+        (b"a\nb", "a.properties", "a.properties:2: timed out"),
+        (b"a\nb", "", ":2: timed out"),
+    ];
+    for (bytes, name, wanted) in rows {
+        let error = error_before_a_fault(&rt, rt.alloc(), bytes)?;
+        check_printed(&rt, rt.alloc(), &error.at(name), wanted)?;
+    }
+    let refused = refused_separator(&rt, rt.alloc(), "::");
+    let wanted = "a.properties: Bad key/value separator: \"::\"";
+    check_printed(&rt, rt.alloc(), &refused.at("a.properties"), wanted)
+}
+
+// The error of an input that fails after these bytes.
+fn error_before_a_fault(
+    rt: &impl Abort,
+    alloc: Global,
+    bytes: &[u8],
+) -> Result<PropertiesError, AllocError> {
+    let piece = Vec::from_slice(alloc, bytes)?;
+    let tail = Tail::Fault(io::ErrorKind::TimedOut);
+    let mut input = ScriptedReader::new(vec![in alloc; piece]?, tail);
+    Ok(error_of(rt, read_lines(alloc, &mut input, Encoding::UTF_8)).error)
 }
 
 fn error_of<T: Drop, E: Drop>(rt: &impl Abort, answer: Result<T, E>) -> E {

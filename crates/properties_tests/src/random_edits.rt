@@ -54,7 +54,8 @@ fn check_edits(
     check_source(rt, alloc, &document, KEYS[numbers.below(7)])
 }
 
-// A document and a list give the same bytes in ASCII alone. They say what the other document says.
+// A document and a list give the same bytes in ASCII alone, which are ASCII if the source is. The document says what the
+// other one says.
 fn check_ascii(
     rt: &impl Abort,
     alloc: Global,
@@ -69,6 +70,9 @@ fn check_ascii(
     }
     let listed = edit_all_ascii(alloc, source, Encoding::WINDOWS_1252, edits)?;
     same(rt, listed.as_slice(), document.source());
+    if source.is_ascii() {
+        same(rt, listed.is_ascii(), true);
+    }
     for key in KEYS {
         check_value(rt, document.get(key), other.get(key));
     }
