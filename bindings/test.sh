@@ -109,6 +109,7 @@ example=$top/bindings/c/example.c
 printf '# the web server\nport    = 80\n' >app.properties
 printf 'a=1\n\n# C:\\users\n' >broken.properties
 printf '' >empty.properties
+printf 'a\\u0000b=1\\u00002\n' >zero.properties
 for _ in $(seq 3000); do printf 'k\n'; done >long.properties
 items='line 1, a comment: the web server\nline 2, port: 80\n'
 for library in archive 'shared object'; do
@@ -122,6 +123,7 @@ for library in archive 'shared object'; do
     gives 0 "$items# the web server\nport    = 8080\n" '' ./example app.properties port 8080
     gives 0 "$items# the web server\nport    = 80\nhost = caf\xc3\xa9\n" '' ./example app.properties host $'caf\xc3\xa9'
     gives 0 'k=v\n' '' ./example empty.properties k v
+    gives 0 'line 1, a\0000b: 1\00002\na\\u0000b=1\\u00002\nk=v\n' '' ./example zero.properties k v
     gives 1 'line 1, a: 1\n' 'broken.properties:3: Malformed \\uxxxx encoding: not hex.\n' ./example broken.properties k v
     gives 1 "$items" "app.properties: A text isn't UTF-8.\n" ./example app.properties $'\xff' v
     gives 1 '' 'none.properties: No such file or directory\n' ./example none.properties k v

@@ -74,12 +74,14 @@ static bool list_items(char const *name, struct bytes const *file) {
     cursor = properties_walk(list.start, list.length);
     while (properties_next_item(&cursor, &item)) {
         if (item.kind == PROPERTIES_PAIR) {
-            printf("line %llu, %.*s: %.*s\n", (unsigned long long)item.line, (int)item.key_length,
-                   (char const *)item.key, (int)item.value_length, (char const *)item.value);
+            printf("line %llu, ", (unsigned long long)item.line);
+            fwrite(item.key, 1, item.key_length, stdout);
         } else {
-            printf("line %llu, a comment: %.*s\n", (unsigned long long)item.line, (int)item.value_length,
-                   (char const *)item.value);
+            printf("line %llu, a comment", (unsigned long long)item.line);
         }
+        printf(": ");
+        fwrite(item.value, 1, item.value_length, stdout);
+        printf("\n");
     }
     free(list.start);
     return status == PROPERTIES_OK || fail(name, line, properties_status_text(status));

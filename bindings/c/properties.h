@@ -17,11 +17,12 @@
  *
  * How much room: try four times the length of the source for items, once the length of the source and some more for
  * everything else. If that is too little, the call is to be made again with the room that *length says; it then does
- * all its work again. A call with room for 0 bytes asks for the length.
+ * all its work again. A call with room for 0 bytes asks for the length; `out` is then any pointer that isn't null.
  *
  * What the caller owes:
  *
- * - No pointer is null, even if there are no bytes: any valid pointer will do then.
+ * - No pointer is null, even if there are no bytes: any valid pointer will do then. malloc(0) may give null, and so may
+ *   data() of an empty std::vector and of a default std::string_view.
  * - `out` has `room` bytes, and they overlap no input, nor *length nor *line; those two are two variables.
  * - Nothing else changes the inputs or uses `out`, *length or *line during the call.
  * - A bool is true or false.
@@ -77,11 +78,12 @@ enum properties_item_kind {
     PROPERTIES_PAIR = 1
 };
 
-/* What an edit does. */
+/* What an edit does. None of these numbers is that of a kind of item, so a list of items isn't taken for a list of
+ * edits. */
 enum properties_edit_kind {
-    PROPERTIES_EDIT_SET_KEY = 0,    /* as properties_set_key */
-    PROPERTIES_EDIT_REMOVE_KEY = 1, /* as properties_remove_key; no value */
-    PROPERTIES_EDIT_SET_VALUE = 2   /* as properties_set_value */
+    PROPERTIES_EDIT_SET_KEY = 2,    /* as properties_set_key */
+    PROPERTIES_EDIT_REMOVE_KEY = 3, /* as properties_remove_key; no value */
+    PROPERTIES_EDIT_SET_VALUE = 4   /* as properties_set_value */
 };
 
 /* What is wrong in a line. */
@@ -101,7 +103,8 @@ enum properties_finding_kind {
  *     a finding:                         kind, line, first, length of the key;               key
  *
  * Edits and lines to write may have any number as their `line`. So the list that properties_items gives can be passed
- * to properties_write as it is. The functions below walk these lists and make them. */
+ * to properties_write as it is. properties_edit refuses a list of items, and properties_write a list of edits, unless
+ * it is empty. The functions below walk these lists and make them. */
 
 /* The bytes of a record before its texts. */
 #define PROPERTIES_RECORD_SIZE 32
@@ -160,16 +163,22 @@ int properties_items(uint8_t const *source, size_t source_length, uint32_t encod
  * order of the lines, and then the pairs whose key an earlier pair has, in that order too. Pairs with a malformed
  * escape are left out of the latter. If nothing is wrong, *length is 0.
  *
+ * Lines that aren't text of the encoding are not reported. In them, what isn't text is read as U+FFFD, so keys that
+ * differ in their bytes may read as one key, which is then reported as repeated: in UTF-8, the second of the lines
+ * "\xe4=1" and "\xf6=2". (`propedit check` reports such lines, and compares no keys with U+FFFD then.)
+ *
  * Returns PROPERTIES_OK, _NO_ROOM, _NO_MEMORY or _UNKNOWN_ENCODING. */
 int properties_findings(uint8_t const *source, size_t source_length, uint32_t encoding, uint8_t *out, size_t room,
                         size_t *length, size_t *line);
 
 /* Writes the source with the value of a key set. The last pair with the key gets the value, and keeps its indent, the
- * spelling of its key, its separator and its line ending. If no pair has the key, one is added at the end that looks
- * like the last pair. Every other line stays as it is, but for a line ending that a new pair needs before it.
+ * spelling of its key, its separator and its line ending. If no pair has the key, one is added at the end, with the
+ * separator of the last pair and the last line ending of the source, but with no indent. Every other line stays as it
+ * is, but for a line ending that a new pair needs before it.
  *
- * Where `ascii_only` is true, what is new is written in ASCII alone, with escapes for other characters; otherwise a
- * character is an escape only if the encoding lacks it.
+ * Where `ascii_only` is true, what is new is written in ASCII alone, with an escape for each other character. Otherwise
+ * a character past ASCII is an escape only if the encoding lacks it, or if it is the first one of a key at the front of
+ * the source that would begin like a byte order mark.
  *
  * Returns PROPERTIES_OK, _NO_ROOM, _NO_MEMORY, _UNKNOWN_ENCODING, _NOT_UTF_8 (of key or value), _NOT_ENOUGH_DIGITS,
  * _NOT_HEX, _INVALID_CHARACTER (of these the first in the source, wherever it is) or _UNSUPPORTED. */
@@ -184,7 +193,8 @@ int properties_set_key(uint8_t const *source, size_t source_length, uint32_t enc
                        uint8_t const *key, size_t key_length, uint8_t const *value, size_t value_length, uint8_t *out,
                        size_t room, size_t *length, size_t *line);
 
-/* Writes the source without the pairs that have the key, which may be none.
+/* Writes the source without the pairs that have the key, which may be none. Every other line stays as it is; but if
+ * what is left would begin like a byte order mark, a line feed comes first.
  *
  * Returns what properties_set_value returns. */
 int properties_remove_key(uint8_t const *source, size_t source_length, uint32_t encoding, uint8_t const *key,
@@ -194,23 +204,24 @@ int properties_remove_key(uint8_t const *source, size_t source_length, uint32_t 
  * properties_append makes such a list.
  *
  * Returns what properties_set_value returns (_NOT_UTF_8 of a key or a value of the list), or PROPERTIES_BAD_LIST: a
- * record is cut short, has an unknown kind, or removes a key and has a value. */
+ * record is cut short, has a kind that no edit has, such as that of an item, or removes a key and has a value. */
 int properties_edit(uint8_t const *source, size_t source_length, uint32_t encoding, bool ascii_only,
                     uint8_t const *edits, size_t edits_length, uint8_t *out, size_t room, size_t *length,
                     size_t *line);
 
 /* Writes a packed list of comments and pairs as a file: a line each, comments after `# `, pairs with `=`, and line
- * feeds. It reads back as the same pairs, and as the same comments but for blanks at their ends.
+ * feeds. It reads back as the same pairs, and as the same comments but for blanks at their ends. What `ascii_only` does
+ * is what it does in properties_set_value.
  *
  * Returns PROPERTIES_OK, _NO_ROOM, _NO_MEMORY, _UNKNOWN_ENCODING, _NOT_UTF_8, or PROPERTIES_BAD_LIST: a record is cut
- * short, has an unknown kind, or is a comment and has a key. */
+ * short, has a kind that no item has, such as that of an edit, or is a comment and has a key. */
 int properties_write(uint8_t const *list, size_t list_length, uint32_t encoding, bool ascii_only, uint8_t *out,
                      size_t room, size_t *length, size_t *line);
 
 /* Returns the version of the interface that the library has: PROPERTIES_VERSION, if the header fits. */
 uint32_t properties_version(void);
 
-/* Returns a status in words, without a line: "The key isn't there." or the like. */
+/* Returns a status in words, without a line: "No pair has the key." or the like. */
 static inline char const *properties_status_text(int status) {
     switch (status) {
     case PROPERTIES_OK:
@@ -314,21 +325,27 @@ static inline bool properties_next_finding(struct properties_cursor *cursor, str
 
 /* Appends an edit, or a line to write, to a list, and returns true; or returns false, and the list is as it was: the
  * record doesn't fit. It needs room for PROPERTIES_RECORD_SIZE + key_length + value_length bytes. `kind` is of enum
- * properties_edit_kind, or of enum properties_item_kind. */
+ * properties_edit_kind, or of enum properties_item_kind. A key or a value of no bytes may be null here, and so may the
+ * bytes of a list without room. */
 static inline bool properties_append(struct properties_list *list, uint64_t kind, uint8_t const *key,
                                      size_t key_length, uint8_t const *value, size_t value_length) {
-    uint8_t *record = list->bytes + list->length;
+    uint8_t *record;
     size_t left = list->room - list->length;
     if (left < PROPERTIES_RECORD_SIZE || key_length > left - PROPERTIES_RECORD_SIZE ||
         value_length > left - PROPERTIES_RECORD_SIZE - key_length) {
         return false;
     }
+    record = list->bytes + list->length;
     properties_put_number(record, kind);
     properties_put_number(record + 8, 0);
     properties_put_number(record + 16, key_length);
     properties_put_number(record + 24, value_length);
-    memcpy(record + PROPERTIES_RECORD_SIZE, key, key_length);
-    memcpy(record + PROPERTIES_RECORD_SIZE + key_length, value, value_length);
+    if (key_length > 0) {
+        memcpy(record + PROPERTIES_RECORD_SIZE, key, key_length);
+    }
+    if (value_length > 0) {
+        memcpy(record + PROPERTIES_RECORD_SIZE + key_length, value, value_length);
+    }
     list->length += PROPERTIES_RECORD_SIZE + key_length + value_length;
     return true;
 }

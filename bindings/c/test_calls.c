@@ -355,6 +355,14 @@ static void try_findings(void) {
     while (properties_next_finding(&cursor, &finding)) {
     }
     count(cursor.left == PROPERTIES_RECORD_SIZE, "what is left", "a cursor", 0);
+
+    /* Keys that aren't UTF-8 read as one, and the lines aren't reported. */
+    list.length = 0;
+    put_finding(&list, PROPERTIES_FOUND_REPEATED_KEY, 2, 1, T("\xef\xbf\xbd"));
+    check("findings in what isn't UTF-8", request_of(FINDINGS, T("\xe4=1\n\xf6=2\n"), PROPERTIES_UTF_8), PROPERTIES_OK,
+          0, text_of_list(&list));
+    check("no findings in windows-1252", request_of(FINDINGS, T("\xe4=1\n\xf6=2\n"), PROPERTIES_WINDOWS_1252),
+          PROPERTIES_OK, 0, T(""));
 }
 
 static void try_edits(void) {
@@ -394,6 +402,16 @@ static void try_edits(void) {
     request.source = T("\xef\xbb\xbf");
     check("set_key after a mark", request, PROPERTIES_OK, 0,
           T("\xef\xbb\xbf\xc3\xa9=\xc3\xa8\xe2\x82\xac\xe3\x81\x82\n"));
+
+    /* Escapes of ASCII, and of what would begin like a byte order mark; and a new pair takes no indent. */
+    request = request_of(SET_KEY, T(""), PROPERTIES_UTF_8);
+    request.key = T("\xef\xbb\xbf\x01");
+    request.value = T("\n\xef\xbb\xbf");
+    check("set_key like a mark", request, PROPERTIES_OK, 0, T("\\ufeff\\u0001=\\n\xef\xbb\xbf\n"));
+    request = request_of(REMOVE_KEY, T("k=v\n\xef\xbb\xbf" "a=1\n"), PROPERTIES_UTF_8);
+    check("remove_key before a mark", request, PROPERTIES_OK, 0, T("\n\xef\xbb\xbf" "a=1\n"));
+    request = request_of(SET_VALUE, T("  a  :  1\r\n"), PROPERTIES_UTF_8);
+    check("set_value without indent", request, PROPERTIES_OK, 0, T("  a  :  1\r\nk : v\r\n"));
 
     request = request_of(EDIT, T("a : 1\nb=2\n"), PROPERTIES_UTF_8);
     check("edit by no edits", request, PROPERTIES_OK, 0, T("a : 1\nb=2\n"));
@@ -464,8 +482,15 @@ static void try_append(void) {
               (long)room);
     }
     list.room = sizeof memory;
-    count(!properties_append(&list, 0, memory, SIZE_MAX, memory, SIZE_MAX), "refused", "append", 0);
-    count(!properties_append(&list, 0, memory, 1, memory, SIZE_MAX), "refused", "append", 0);
+    count(!properties_append(&list, PROPERTIES_PAIR, memory, SIZE_MAX, memory, SIZE_MAX), "refused", "append", 0);
+    count(!properties_append(&list, PROPERTIES_PAIR, memory, 1, memory, SIZE_MAX), "refused", "append", 0);
+
+    /* Null where there are no bytes. */
+    list.length = 0;
+    count(properties_append(&list, PROPERTIES_PAIR, NULL, 0, NULL, 0) && list.length == 32, "appended", "append", 0);
+    list.bytes = NULL;
+    list.room = list.length = 0;
+    count(!properties_append(&list, PROPERTIES_PAIR, NULL, 0, NULL, 0) && list.length == 0, "refused", "append", 0);
 }
 
 /* Encodings that there are not, before all else that is wrong. */
@@ -510,8 +535,8 @@ static void try_texts(void) {
         for (number = 0; number < 4; number++) {
             struct packed list = {{0}, 0};
             struct request request = request_of(number < 2 ? EDIT : WRITE, T("k=\\u1\n"), PROPERTIES_UTF_16LE);
-            put_item(&list, 1, 1, T("k"), number < 2 ? T("") : T("v"));
-            put_item(&list, number < 2 ? 2 : 1, 1, number % 2 ? texts[place] : T("k"),
+            put_item(&list, number < 2 ? 3 : 1, 1, T("k"), number < 2 ? T("") : T("v"));
+            put_item(&list, number < 2 ? 4 : 1, 1, number % 2 ? texts[place] : T("k"),
                      number % 2 ? T("v") : texts[place]);
             request.list = text_of_list(&list);
             refuses(names[request.call], request, PROPERTIES_NOT_UTF_8, 0);
@@ -528,16 +553,17 @@ static void refuses_list(enum call call, struct packed const *list) {
 static void try_lists(void) {
     static enum call const calls[] = {EDIT, WRITE};
     static unsigned long long const numbers[] = {
-        3, 4, 256, 0x100000000ULL, 0x8000000000000000ULL, 0xffffffffffffffffULL,
+        5, 6, 256, 0x100000000ULL, 0x8000000000000000ULL, 0xffffffffffffffffULL,
     };
+    unsigned long long kind;
     size_t place, end;
     int number;
     for (number = 0; number < 2; number++) {
         struct packed list = {{0}, 0};
         size_t first;
-        put_item(&list, 1, 0, T("key"), number == 0 ? T("") : T("value"));
+        put_item(&list, number == 0 ? 3 : 1, 0, T("key"), number == 0 ? T("") : T("value"));
         first = list.length;
-        put_item(&list, 0, 0, number == 0 ? T("k") : T(""), T("v"));
+        put_item(&list, number == 0 ? 2 : 0, 0, number == 0 ? T("k") : T(""), T("v"));
         for (end = 1; end < list.length; end++) {
             struct packed cut = list;
             cut.length = end;
@@ -550,11 +576,20 @@ static void try_lists(void) {
             put_item(&other, numbers[end], 0, T("k"), T("v"));
             refuses_list(calls[number], &other);
         }
+        /* Edits are no lines to write, nor the other way round, alone and after a record that is one. */
+        for (kind = number == 0 ? 0 : 2; kind <= (number == 0 ? 1u : 4u); kind++) {
+            struct packed other = {{0}, 0};
+            struct packed after = list;
+            put_item(&other, kind, 0, kind == 0 ? T("") : T("k"), kind == 3 ? T("") : T("v"));
+            refuses_list(calls[number], &other);
+            put_text(&after, text_of_list(&other));
+            refuses_list(calls[number], &after);
+        }
         /* Lengths that are more than what is left, alone and together. */
         for (place = 0; place < 2; place++) {
             for (end = 1; end < sizeof numbers / sizeof *numbers; end++) {
                 struct packed other = {{0}, 0};
-                put_number(&other, 1);
+                put_number(&other, number == 0 ? 4 : 1);
                 put_number(&other, 0);
                 put_number(&other, place == 0 ? numbers[end] : 1);
                 put_number(&other, place == 0 ? 1 : numbers[end]);
@@ -565,9 +600,6 @@ static void try_lists(void) {
     }
     {
         struct packed list = {{0}, 0};
-        put_item(&list, 2, 0, T("k"), T("v"));
-        refuses_list(WRITE, &list);
-        list.length = 0;
         put_item(&list, PROPERTIES_EDIT_REMOVE_KEY, 0, T("k"), T("v"));
         refuses_list(EDIT, &list);
         list.length = 0;
@@ -614,39 +646,88 @@ static void try_unsupported(void) {
     }
 }
 
-/* Each allocation is refused in turn, until the call needs no more. */
+/* Each allocation of a call is refused in turn, until it needs no more. Then this comes. */
+static void refuse_each(char const *name, struct request request, int wanted, size_t wanted_line, struct text result) {
+    uint8_t out[300];
+    size_t length, line;
+    int status;
+    long number = 0;
+    do {
+        number++;
+        length = line = UNSET;
+        memset(out, PATTERN, sizeof out);
+        blocks = allocations = 0;
+        refuse_at = number;
+        status = make_call(&request, out, sizeof out, &length, &line);
+        refuse_at = 0;
+        count(blocks == 0, "all memory freed", name, number);
+        if (allocations >= number) {
+            count(status == PROPERTIES_NO_MEMORY, "refused", name, number);
+            count(length == 0 && line == 0, "without length and line", name, number);
+            count(is_untouched(out, sizeof out), "as it was", name, number);
+        }
+    } while (allocations >= number && number < 1000);
+    count(status == wanted && line == wanted_line, "done in the end", name, number);
+    count(length == result.length && memcmp(out, result.bytes, length) == 0, "the bytes", name, number);
+    count(number > 1, "taking memory", name, number);
+}
+
 static void try_memory(void) {
     struct packed edits = {{0}, 0};
     struct packed lines = {{0}, 0};
-    int call;
-    put_item(&edits, PROPERTIES_EDIT_SET_KEY, 0, T("a"), T("1"));
+    struct packed items = {{0}, 0};
+    struct packed findings = {{0}, 0};
+    struct packed before = {{0}, 0};
+    struct text results[CALLS][2];
+    int call, ascii_only;
+    put_item(&edits, PROPERTIES_EDIT_SET_KEY, 0, T("a"), T("\xc3\xa9"));
     put_item(&edits, PROPERTIES_EDIT_SET_VALUE, 0, T("k"), T("12"));
     put_item(&edits, PROPERTIES_EDIT_REMOVE_KEY, 0, T("a"), T(""));
+    put_item(&edits, PROPERTIES_EDIT_SET_VALUE, 0, T("b"), T("\xc3\xa9"));
     put_item(&lines, PROPERTIES_COMMENT, 0, T(""), T("c"));
-    put_item(&lines, PROPERTIES_PAIR, 0, T("k"), T("v"));
+    put_item(&lines, PROPERTIES_PAIR, 0, T("k"), T("\xc3\xa9"));
+    put_item(&items, PROPERTIES_COMMENT, 1, T(""), T("c"));
+    put_item(&items, PROPERTIES_PAIR, 2, T("k"), T("1"));
+    before = items;
+    put_item(&items, PROPERTIES_PAIR, 3, T("k"), T("2"));
+    put_finding(&findings, PROPERTIES_FOUND_REPEATED_KEY, 3, 2, T("k"));
+    results[GET][0] = results[GET][1] = T("2");
+    results[ITEMS][0] = results[ITEMS][1] = text_of_list(&items);
+    results[FINDINGS][0] = results[FINDINGS][1] = text_of_list(&findings);
+    results[SET_VALUE][0] = results[SET_KEY][0] = T("# c\nk : \\u0031\nk=\xc3\xa9\n");
+    results[SET_VALUE][1] = results[SET_KEY][1] = T("# c\nk : \\u0031\nk=\\u00e9\n");
+    results[REMOVE_KEY][0] = results[REMOVE_KEY][1] = T("# c\n");
+    results[EDIT][0] = T("# c\nk : \\u0031\nk=12\nb=\xc3\xa9\n");
+    results[EDIT][1] = T("# c\nk : \\u0031\nk=12\nb=\\u00e9\n");
+    results[WRITE][0] = T("# c\nk=\xc3\xa9\n");
+    results[WRITE][1] = T("# c\nk=\\u00e9\n");
     for (call = 0; call < CALLS; call++) {
-        struct request request = request_of((enum call)call, T("# c\nk : \\u0031\nk=2\n"), PROPERTIES_UTF_8);
-        uint8_t out[300];
-        size_t length, line;
-        int status;
-        long number = 0;
-        request.list = text_of_list(call == WRITE ? &lines : &edits);
-        do {
-            number++;
-            length = line = UNSET;
-            memset(out, PATTERN, sizeof out);
-            blocks = allocations = 0;
-            refuse_at = number;
-            status = make_call(&request, out, sizeof out, &length, &line);
-            refuse_at = 0;
-            count(blocks == 0, "all memory freed", names[call], number);
-            if (status != PROPERTIES_OK) {
-                count(status == PROPERTIES_NO_MEMORY, "refused", names[call], number);
-                count(length == 0 && line == 0, "without length and line", names[call], number);
-                count(is_untouched(out, sizeof out), "as it was", names[call], number);
+        for (ascii_only = 0; ascii_only < 2; ascii_only++) {
+            struct packed list = call == WRITE ? lines : edits;
+            struct request request = request_of((enum call)call, T("# c\nk : \\u0031\nk=2\n"), PROPERTIES_UTF_8);
+            request.ascii_only = ascii_only == 1;
+            request.value = T("\xc3\xa9");
+            request.list = text_of_list(&list);
+            refuse_each(names[call], request, PROPERTIES_OK, 0, results[call][ascii_only]);
+
+            /* A malformed escape, before which there are items. */
+            if (call != FINDINGS && call != WRITE) {
+                request.source = T("# c\nk = 1\nb=\\u12\n");
+                refuse_each(names[call], request, PROPERTIES_NOT_ENOUGH_DIGITS, 3,
+                            call == ITEMS ? text_of_list(&before) : T(""));
             }
-        } while (status != PROPERTIES_OK && number < 1000);
-        count(status == PROPERTIES_OK && number > 1, "done in the end", names[call], number);
+
+            /* Lists that are refused after their first records. */
+            if (call == EDIT || call == WRITE) {
+                put_item(&list, 9, 0, T(""), T(""));
+                request.list = text_of_list(&list);
+                refuse_each(names[call], request, PROPERTIES_BAD_LIST, 0, T(""));
+                list.length -= 32;
+                put_item(&list, call == EDIT ? 4 : 1, 0, T("k"), T("\xff"));
+                request.list = text_of_list(&list);
+                refuse_each(names[call], request, PROPERTIES_NOT_UTF_8, 0, T(""));
+            }
+        }
     }
 }
 

@@ -9,15 +9,17 @@ r"""Reads, checks, edits and writes Java .properties files, by the library of wh
 
 Files are bytes, keys and values are str. Encodings have Python's labels. The default is iso-8859-1, in which Java's
 `Properties.load(InputStream)` reads; others are cp1252, utf-8, utf-16, utf-16-le and utf-16-be. iso-8859-1 is taken as
-cp1252, as browsers take it: they differ in 27 of the bytes from 80 to 9F, which files in ISO 8859-1 don't have. A byte
+cp1252, as browsers take it: they differ in 27 of the bytes from 80 to 9F, which files in ISO 8859-1 rarely have. A byte
 order mark in the data overrides the encoding. Bytes that aren't text of the encoding are read as U+FFFD.
 
 What is written is ASCII alone, with escapes for other characters, as Java's `Properties.store` and `json.dumps` write
-it, so that it reads the same in iso-8859-1, cp1252 and utf-8. With ascii_only=False only those characters are escapes
-that the encoding lacks.
+it, so that it reads the same in iso-8859-1, cp1252 and utf-8. With ascii_only=False a character past ASCII is an escape
+only if the encoding lacks it, or if it is the first one of a key at the front of a file that would begin like a byte
+order mark. iso-8859-1 is cp1252 there too: the euro sign is written as the byte 80, which Java's
+`Properties.load(InputStream)` reads as U+0080.
 
-Any thread may call the functions at any time. They need the shared object libproperties.so, beside this file or at the
-path that the environment variable PROPERTIES_LIBRARY has.
+Any thread may call the functions at any time. They need Python 3.9 or later, and the shared object libproperties.so,
+beside this file or at the path that the environment variable PROPERTIES_LIBRARY has.
 """
 
 from __future__ import annotations
@@ -138,10 +140,11 @@ class FindingKind(enum.IntEnum):
 
 
 class Finding(NamedTuple):
-    """What is wrong in a line. Repeated keys alone have a `key`, and as `first` the line of the first pair with it."""
+    """What is wrong in a line. Repeated keys alone have a `key`, and as `first` the line of the first pair with it. A
+    `kind` that is no FindingKind comes only from a library that is newer than this module."""
 
     line: int
-    kind: FindingKind
+    kind: Union[FindingKind, int]
     key: Optional[str] = None
     first: Optional[int] = None
 
@@ -154,11 +157,14 @@ class Finding(NamedTuple):
         """
         if self.kind == FindingKind.REPEATED_KEY:
             return f"repeats the key of line {self.first}"
+        if not isinstance(self.kind, FindingKind):
+            return "Unknown kind of finding."
         return _REASONS[Status[self.kind.name]]
 
 
 class PropertiesError(ValueError):
-    r"""Why a call failed: a status, the reason in words, and the number of a line, or None.
+    r"""Why a call failed: a status, the reason in words, and the number of a line, or None. A status that is no Status
+    comes only from a library that is newer than this module.
 
     >>> try:
     ...     load(b"a=1\nb=\\u12")
@@ -167,14 +173,14 @@ class PropertiesError(ValueError):
     2 Malformed \uxxxx encoding: not enough digits.
     """
 
-    def __init__(self, status: Status, line: Optional[int] = None) -> None:
+    def __init__(self, status: Union[Status, int], line: Optional[int] = None) -> None:
         self.status = status
         self.line = line
-        self.reason = _REASONS[status]
+        self.reason = _REASONS.get(status, "Unknown status.")
         super().__init__(self.reason if line is None else f"line {line}: {self.reason}")
 
     def __reduce__(self) -> tuple:
-        return type(self), (self.status, self.line)
+        return type(self), (self.status, self.line), self.__dict__
 
 
 class MalformedEscape(PropertiesError):
@@ -187,7 +193,7 @@ class MalformedEscape(PropertiesError):
     properties.MalformedEscape: line 1: Malformed \uxxxx encoding: not hex.
     """
 
-    def __init__(self, status: Status, line: Optional[int] = None) -> None:
+    def __init__(self, status: Union[Status, int], line: Optional[int] = None) -> None:
         super().__init__(status, line)
         #: If `items` raised the error, the items before the line.
         self.items: List[Item] = []
@@ -239,7 +245,15 @@ def _library() -> ctypes.CDLL:
 _LIBRARY = _library()
 
 
-def _answer(name: str, room: int, *inputs: Union[bytes, int]) -> Tuple[Status, bytes, Optional[int]]:
+def _named(numbers: type, number: int) -> int:
+    """Returns the member of an enum, or a number that it doesn't have as it is."""
+    try:
+        return numbers(number)
+    except ValueError:
+        return number
+
+
+def _answer(name: str, room: int, *inputs: Union[bytes, int]) -> Tuple[int, bytes, Optional[int]]:
     """Makes a call, again if the room is too small, and returns its status, what it wrote, and a line."""
     arguments: List[Union[bytes, int]] = []
     for given in inputs:
@@ -247,13 +261,14 @@ def _answer(name: str, room: int, *inputs: Union[bytes, int]) -> Tuple[Status, b
     length, line = ctypes.c_size_t(), ctypes.c_size_t()
     while True:
         out = ctypes.create_string_buffer(max(room, 1))
-        status = Status(getattr(_LIBRARY, name)(*arguments, out, room, ctypes.byref(length), ctypes.byref(line)))
+        status = getattr(_LIBRARY, name)(*arguments, out, room, ctypes.byref(length), ctypes.byref(line))
         if status != Status.NO_ROOM:
-            return status, ctypes.string_at(out, length.value), line.value or None
+            # string_at takes its length as an int of C in older Pythons.
+            return _named(Status, status), bytes(memoryview(out)[: length.value]), line.value or None
         room = length.value
 
 
-def _error(status: Status, line: Optional[int]) -> Exception:
+def _error(status: int, line: Optional[int]) -> Exception:
     if status == Status.NO_MEMORY:
         return MemoryError()
     if status in (Status.NOT_ENOUGH_DIGITS, Status.NOT_HEX, Status.INVALID_CHARACTER):
@@ -416,11 +431,11 @@ def edit(data: Bytes, edits: Iterable[Edit], *, encoding: str = "iso-8859-1", as
 
 def _edit_record(each: Edit) -> bytes:
     if isinstance(each, SetKey):
-        return _record(0, each.key, each.value)
-    if isinstance(each, RemoveKey):
-        return _record(1, each.key, "")
-    if isinstance(each, SetValue):
         return _record(2, each.key, each.value)
+    if isinstance(each, RemoveKey):
+        return _record(3, each.key, "")
+    if isinstance(each, SetValue):
+        return _record(4, each.key, each.value)
     raise TypeError(f"an edit is a SetValue, a SetKey or a RemoveKey, not {type(each).__name__}")
 
 
@@ -446,7 +461,7 @@ def dumps(
 def _line_record(line: Union[Item, Tuple[str, str]]) -> bytes:
     if isinstance(line, Comment):
         return _record(0, "", line.text)
-    if isinstance(line, tuple) and len(line) >= 2:
+    if isinstance(line, Pair) or (type(line) is tuple and len(line) == 2):
         return _record(1, line[0], line[1])
     raise TypeError(f"a line is a Comment, a Pair or a tuple of a key and a value, not {line!r}")
 
@@ -454,6 +469,10 @@ def _line_record(line: Union[Item, Tuple[str, str]]) -> bytes:
 def findings(data: Bytes, encoding: str = "iso-8859-1") -> List[Finding]:
     r"""Returns what is wrong, in the order of the lines: the first malformed escape of each, and each pair whose key an
     earlier pair has. Unlike the other functions it goes on after a malformed escape.
+
+    Lines that aren't text of the encoding aren't reported. In them, what isn't text is read as U+FFFD, so keys that
+    differ in their bytes may read as one key, which then counts as repeated. In iso-8859-1 and cp1252 all bytes are
+    text.
 
     >>> for finding in findings(b"a = 1\nb = \\u12\na = 2\n"):
     ...     print(finding.line, finding.reason)
@@ -471,5 +490,5 @@ def findings(data: Bytes, encoding: str = "iso-8859-1") -> List[Finding]:
         place += key_length
         is_repeated = kind == FindingKind.REPEATED_KEY
         more = (key, first) if is_repeated else ()
-        found.append(Finding(line, FindingKind(kind), *more))
+        found.append(Finding(line, _named(FindingKind, kind), *more))
     return sorted(found, key=lambda finding: finding.line)

@@ -7,6 +7,7 @@ It prints what doesn't hold, how many rows are left out and why, and last how ma
 "Rows of tables", has the notation.
 """
 import contextlib
+import ctypes
 import doctest
 import io
 import itertools
@@ -14,6 +15,7 @@ import pathlib
 import pickle
 import random
 import re
+import struct
 import sys
 import threading
 
@@ -386,6 +388,11 @@ def try_arguments(count):
         count.check(isinstance(raised(properties.dumps, {"a": wrong}), TypeError), f"dumps of {wrong!r}")
         count.check(isinstance(raised(properties.dumps, [wrong]), TypeError), f"dumps of {wrong!r}")
         count.check(isinstance(raised(properties.edit, b"", [wrong]), TypeError), f"edit of {wrong!r}")
+    for wrong in (("a",), ("a", "b", "c"), ["a", "b"], "ab", SetKey("a", "b"), SetValue("a", "b"), RemoveKey("a")):
+        count.check(isinstance(raised(properties.dumps, [wrong]), TypeError), f"dumps of {wrong!r}")
+    for wrong in (("a", "b"), Pair("a", "b"), Comment("a")):
+        count.check(isinstance(raised(properties.edit, b"", [wrong]), TypeError), f"edit of {wrong!r}")
+    count.check(properties.dumps([("a", "b"), Pair("c", "d", 7), Comment("e")]) == b"a=b\nc=d\n# e\n", "dumps of lines")
     count.check(isinstance(raised(properties.set_value, b"", "a", "\ud83d"), UnicodeEncodeError), "a surrogate alone")
     count.check(isinstance(raised(properties.dumps, {}, encoding="koi8-r"), LookupError), "dumps in koi8-r")
 
@@ -398,8 +405,64 @@ def try_errors(count):
     count.check(str(error) == r"line 4: Malformed \uxxxx encoding: not enough digits.", str(error))
     other = pickle.loads(pickle.dumps(error))
     count.check((type(other), other.line, str(other)) == (type(error), error.line, str(error)), "an error that is pickled")
+    count.check((other.status, other.items) == (error.status, error.items), "the items of an error that is pickled")
     error = raised(properties.set_key, b"", "a", "b", encoding="utf-16")
     count.check(type(error) is PropertiesError and error.line is None and str(error) == "Encoding can't be edited.", repr(error))
+
+
+def try_lists(count):
+    """A list of items is no list of edits, nor the other way round."""
+    item = properties._record(1, "a", "b")
+    edits = [properties._edit_record(each) for each in (SetKey("a", "b"), SetValue("a", "b"), RemoveKey("a"))]
+    calls = [("properties_write", [0, False], packed) for packed in edits + [item + edits[0]]]
+    calls += [("properties_edit", [b"a=1", 0, False], packed) for packed in (item, edits[0] + item)]
+    for name, more, packed in calls:
+        arguments = [packed, *more] if name == "properties_write" else [*more, packed]
+        count.check(properties._answer(name, 100, *arguments) == (Status.BAD_LIST, b"", None), f"{name} of {packed!r}")
+
+
+class Newer:
+    """A library that gives a status and a finding that the module doesn't know."""
+
+    def __init__(self, status, bytes_given):
+        self.status = status
+        self.given = bytes_given
+
+    def properties_findings(self, source, source_length, encoding, out, room, length, line):
+        length._obj.value = len(self.given)
+        line._obj.value = 3 if self.status else 0
+        out[: len(self.given)] = self.given
+        return self.status
+
+
+def try_newer(count):
+    library = properties._LIBRARY
+    try:
+        properties._LIBRARY = Newer(12, b"")
+        error = raised(properties.findings, b"")
+        count.check((type(error), str(error)) == (PropertiesError, "line 3: Unknown status."), repr(error))
+        count.check(error.status == 12 and str(pickle.loads(pickle.dumps(error))) == str(error), repr(error))
+        properties._LIBRARY = Newer(0, struct.pack("<4Q", 4, 3, 0, 1) + b"a")
+        found = properties.findings(b"")
+        count.check(found == [(3, 4, None, None)] and found[0].reason == "Unknown kind of finding.", repr(found))
+    finally:
+        properties._LIBRARY = library
+
+
+def try_room(count):
+    """No source needs more room for its items than docs/C.md says. It is most if each other byte is a line ending."""
+    most = {}
+    for encoding in ("cp1252", "utf-8", "utf-16-le", "utf-16-be"):
+        number = properties._number(encoding)
+        for size in range(6):
+            for pieces in itertools.product((b"a", b"=", b"#", b"\\", b" ", b"\n", b"\r", b"\0", b"\x80", b"\xff"), repeat=size):
+                source = b"".join(pieces)
+                length, line = ctypes.c_size_t(), ctypes.c_size_t()
+                arguments = (source, size, number, b"", 0, ctypes.byref(length), ctypes.byref(line))
+                properties._LIBRARY.properties_items(*arguments)
+                most[size] = max(most.get(size, 0), length.value)
+    count.check(most == {size: 35 * ((size + 1) // 2) + (size % 2 == 0 and size > 0) * 3 for size in range(6)}, f"room: {most}")
+    count.check(all(most[size] <= 18 * size + 18 for size in most), f"room: {most}")
 
 
 def try_findings(count):
@@ -415,6 +478,9 @@ def try_findings(count):
     ]
     count.check(found == wanted, f"findings: {found}")
     count.check(properties.findings(b"") == [], "findings of nothing")
+    mixed = b"\xe4=1\n\xf6=2\n"
+    found = [(finding.line, finding.key, finding.first) for finding in properties.findings(mixed, "utf-8")]
+    count.check(found == [(2, "\ufffd", 1)] and properties.findings(mixed) == [], f"findings in what isn't UTF-8: {found}")
     many = b"".join(b"%d=1\n" % (number % 100) for number in range(2000))
     count.check(len(properties.findings(many)) == 1900, "many findings")
 
@@ -509,6 +575,10 @@ def try_header(count):
     for status, reason in properties._REASONS.items():
         count.check(words[status.name].replace("\\\\", "\\") == reason, status.name)
     count.check(f"PROPERTIES_VERSION {properties.VERSION}\n" in header, "the version")
+    for each, name in ((SetKey("", ""), "SET_KEY"), (RemoveKey(""), "REMOVE_KEY"), (SetValue("", ""), "SET_VALUE")):
+        count.check(numbers["EDIT_" + name] == properties._edit_record(each)[0], name)
+    for line, name in ((Comment(""), "COMMENT"), (Pair("", ""), "PAIR")):
+        count.check(numbers[name] == properties._line_record(line)[0], name)
     for name in properties._ARGUMENTS:
         count.check(f"int {name}(" in header, name)
 
@@ -534,7 +604,8 @@ def main():
     count = Count()
     run_tables(count)
     for test in (
-        try_arguments, try_errors, try_findings, try_round_trips, try_random, try_threads, try_header, try_examples, try_page,
+        try_arguments, try_errors, try_lists, try_newer, try_room, try_findings, try_round_trips, try_random, try_threads,
+        try_header, try_examples, try_page,
     ):
         try:
             test(count)
