@@ -337,6 +337,11 @@ gives 2 '' 'propedit: app.properties: UTF-16 can be read but not edited; convert
 given '\xff\xfea\0=\0\xe9\0'
 run get a
 gives 0 'é\n' ''
+given 'a=\xc3\xa9'
+for label in UTF-8 Utf8 unicode-1-1-utf-8; do
+    run -e $label get a
+    gives 0 'é\n' ''
+done
 given '\xef\xbb\xbfa=\xc3\xa9'
 run -e windows-1252 get a
 gives 0 'é\n' ''
@@ -363,16 +368,31 @@ run -a -i app.properties -e windows-1252 set ñ '"'
 gives 0 '' ''
 holds app.properties '# \xe9\n\xe9 : \x80\n\\u00f1 : "\n'
 
-# Java, which takes each byte of a stream for a character, reads the texts that were put in.
+# Java reads the texts that were put in: from a stream, of which it takes each byte for a character, from a reader, and as
+# a resource bundle.
 cat >../Load.java <<'JAVA'
+import java.io.InputStreamReader;
 import java.io.PrintStream;
 import java.util.Properties;
+import java.util.PropertyResourceBundle;
 import java.util.TreeSet;
 
 class Load {
     public static void main(String[] arguments) throws Exception {
         Properties pairs = new Properties();
-        pairs.load(System.in);
+        switch (arguments[0]) {
+            case "stream":
+                pairs.load(System.in);
+                break;
+            case "reader":
+                pairs.load(new InputStreamReader(System.in, "UTF-8"));
+                break;
+            default:
+                PropertyResourceBundle bundle = new PropertyResourceBundle(System.in);
+                for (String key : bundle.keySet()) {
+                    pairs.setProperty(key, bundle.getString(key));
+                }
+        }
         PrintStream output = new PrintStream(System.out, false, "UTF-8");
         for (String key : new TreeSet<>(pairs.stringPropertyNames())) {
             output.print(key + "|" + pairs.getProperty(key) + "\n");
@@ -384,11 +404,14 @@ JAVA
 if javac -d .. ../Load.java 2>../errors; then
     given 'price  = 4\n'
     run -a set price ' 5 € \é 🐞 ' set 'żółw: #' $'\t=\x7f\xc2\x80\n' set 'ÿ' ''
-    cp ../output ../input
-    command='java Load'
-    java -cp .. Load <../input >../output 2>../errors
-    status=$?
-    gives 0 'price| 5 € \\é 🐞 \nÿ|\nżółw: #|\t=\x7f\xc2\x80\n\n' ''
+    cp ../output ../edited
+    for way in stream reader bundle; do
+        cp ../edited ../input
+        command="java Load $way"
+        java -cp .. Load $way <../input >../output 2>../errors
+        status=$?
+        gives 0 'price| 5 € \\é 🐞 \nÿ|\nżółw: #|\t=\x7f\xc2\x80\n\n' ''
+    done
 else
     echo 'try_propedit.sh: no JDK: Java reads nothing' >&2
 fi
