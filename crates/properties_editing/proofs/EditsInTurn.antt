@@ -1,14 +1,18 @@
 -- Edits made one after another, each to the bytes that the one before it gave.
-use Rattle.std.proofs.Common.{◌≡◌, ℕ, Bool, List, [], ◌∷◌, ◌++◌, refl, sym, ◌∙◌, subst}
+use Rattle.std.proofs.Common.{◌≡◌, ℕ, Bool, List, [], ◌∷◌, ◌++◌, refl, sym, ◌∙◌, subst, inl, inr}
+use Rattle.std.specs.Prelude.{◌↔◌, Result, Ok, Err}
+use Rattle.std.specs.Global.{Vec}
 use Rattle.properties_format.specs.Encoding.{Encoding}
-use Rattle.properties_format.specs.Edited.{edited, IsEditResult}
-use Rattle.properties_format.specs.Edits.{Edit, IsEdited, AreEdited, AreScalarEdits, IsEditAllResult}
+use Rattle.properties_format.specs.Edited.{EditResult, edited, unsupported, unreadable, IsEditResult}
+use Rattle.properties_format.specs.Edits.{Edit, put, remove, set_value, IsEdited, AreEdited, AreScalarEdits, IsEditAllResult}
 use Rattle.properties_format.specs.Computed.Edits.{edit_all_result}
 use Rattle.properties_format.proofs.Edits.Results.{edit_all_result-meets, edit_all_result-only}
 use Rattle.properties_format.proofs.Edits.Contents.{edit_all-reads}
 use Rattle.properties_format.proofs.Edits.InAscii.{edit_all-in_ascii}
 use Rattle.properties_format.proofs.Edits.Kept.{edit_all-kept}
-use Rattle.properties_editing.specs.Editing.{AreMade}
+use Rattle.properties_format.proofs.EditLaws.{one_edit-call}
+use Rattle.properties_items.specs.declared.error.PropertiesError.{PropertiesError}
+use Rattle.properties_editing.specs.Editing.{AreMade, IsRefusal, MakesEdits, MakesSet, MakesValueSet, RemovesKey}
 
 -- One more edit is made.
 edited-more : (e : Encoding) (only : Bool) (source : List ℕ) (edits : List Edit) (edit : Edit) (middle result : List ℕ) → AreEdited e only source edits middle → IsEdited e only middle edit result
@@ -38,3 +42,29 @@ result-made {e} {only} {source} {bytes} edits scalar h = record {
 pub made-edits : {e : Encoding} {only : Bool} {source bytes : List ℕ} (edits : List Edit) → AreScalarEdits edits → edit_all_result e only source edits ≡ edited bytes
     → AreMade e only source edits bytes
 made-edits {e} {only} {source} edits scalar is = result-made edits scalar (subst (IsEditAllResult e only source edits) is (edit_all_result-meets e only source edits))
+
+-- ---- one edit
+
+-- What is refused is refused by any definition that has the same results.
+refusal-same : {Is Other : EditResult → Type 0} → ((result : EditResult) → Is result ↔ Other result) → (error : PropertiesError) → IsRefusal Other error → IsRefusal Is error
+refusal-same same error (inl u) = inl ((same unsupported).1 u.0, u.1)
+refusal-same same error (inr (inl w)) = inr (inl (w.0, w.1, (same (unreadable w.0 w.1)).1 w.2, w.3))
+refusal-same same error (inr (inr m)) = inr (inr ((λ h. m.0 ((same unsupported).0 h)), m.1))
+
+-- What a call for one edit returns is what a list of that edit does.
+pub set-once : (e : Encoding) (only : Bool) (source key value : List ℕ) → AreScalarEdits (put key value ∷ [])
+    → (result : Result (Vec ℕ) PropertiesError) → MakesSet e only source key value result → MakesEdits e only source (put key value ∷ []) result
+set-once e only source key value scalar (Ok bytes) h =
+    result-made (put key value ∷ []) scalar ((one_edit-call e only source (put key value) (edited bytes.items)).1 h.edit.result)
+set-once e only source key value scalar (Err error) h = refusal-same (one_edit-call e only source (put key value)) error h
+
+pub value-once : (e : Encoding) (only : Bool) (source key value : List ℕ) → AreScalarEdits (set_value key value ∷ [])
+    → (result : Result (Vec ℕ) PropertiesError) → MakesValueSet e only source key value result → MakesEdits e only source (set_value key value ∷ []) result
+value-once e only source key value scalar (Ok bytes) h =
+    result-made (set_value key value ∷ []) scalar ((one_edit-call e only source (set_value key value) (edited bytes.items)).1 h.edit.result)
+value-once e only source key value scalar (Err error) h = refusal-same (one_edit-call e only source (set_value key value)) error h
+
+pub removed-once : (e : Encoding) (only : Bool) (source key : List ℕ) (result : Result (Vec ℕ) PropertiesError) → RemovesKey e source key result
+    → MakesEdits e only source (remove key ∷ []) result
+removed-once e only source key (Ok bytes) h = result-made (remove key ∷ []) (tt, tt) ((one_edit-call e only source (remove key) (edited bytes.items)).1 h.edit.result)
+removed-once e only source key (Err error) h = refusal-same (one_edit-call e only source (remove key)) error h

@@ -38,9 +38,12 @@ pub record IsSet (e : Encoding) (only : Bool) (source key value bytes : List ℕ
   pub keeps : KeepsOthers (AreOthersThanLast key) e source bytes
   pub ascii : only ≡ true → IsInAscii source bytes
 
+abbrev pub MakesSet : Encoding → Bool → List ℕ → List ℕ → List ℕ → Result (Vec ℕ) PropertiesError → Type 0
+MakesSet e only source key value (Ok bytes) = IsSet e only source key value bytes.items
+MakesSet e only source key value (Err error) = IsRefusal (IsSetKeyResult e only source key value) error
+
 abbrev pub SetsKey : Encoding → List ℕ → List ℕ → List ℕ → Result (Vec ℕ) PropertiesError → Type 0
-SetsKey e source key value (Ok bytes) = IsSet e false source key value bytes.items
-SetsKey e source key value (Err error) = IsRefusal (IsSetKeyResult e false source key value) error
+SetsKey e source key value result = MakesSet e false source key value result
 
 -- The source with the value of a key set, in ASCII alone or not: its result, how it reads, that it keeps every group but
 -- the last pair with the key, that it keeps every byte outside that pair's value, and that in ASCII alone only ASCII is
@@ -51,9 +54,12 @@ pub record HasValueSet (e : Encoding) (only : Bool) (source key value bytes : Li
   pub keeps_front : KeepsFront e source key bytes
   pub ascii : only ≡ true → IsInAscii source bytes
 
+abbrev pub MakesValueSet : Encoding → Bool → List ℕ → List ℕ → List ℕ → Result (Vec ℕ) PropertiesError → Type 0
+MakesValueSet e only source key value (Ok bytes) = HasValueSet e only source key value bytes.items
+MakesValueSet e only source key value (Err error) = IsRefusal (IsSetValueResult e only source key value) error
+
 abbrev pub SetsValue : Encoding → List ℕ → List ℕ → List ℕ → Result (Vec ℕ) PropertiesError → Type 0
-SetsValue e source key value (Ok bytes) = HasValueSet e false source key value bytes.items
-SetsValue e source key value (Err error) = IsRefusal (IsSetValueResult e false source key value) error
+SetsValue e source key value result = MakesValueSet e false source key value result
 
 -- The source without a key: its result, how it reads, and that it keeps every group that isn't a pair with the key.
 pub record IsRemoved (e : Encoding) (source key bytes : List ℕ) : Type 0 where

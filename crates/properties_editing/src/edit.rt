@@ -1,6 +1,6 @@
 //! Sets and removes keys of a file, and keeps every other byte.
 
-ghost use Rattle.std.specs.Prelude.{◌≡◌, ◌≤◌, true, drop, length, OnOk};
+ghost use Rattle.std.specs.Prelude.{◌≡◌, ◌≤◌, true, drop, length, OnOk, [], ◌∷◌};
 ghost use Rattle.std.specs.Str.{chars};
 ghost use Rattle.properties_format.specs.Laws.{SplittingCommutes};
 ghost use Rattle.properties_text.specs.Encoding.{encoding_of};
@@ -8,7 +8,7 @@ ghost use Rattle.properties_format.specs.Edited.{is_editable};
 ghost use Rattle.properties_format.specs.Computed.Body.{held_groups_of};
 ghost use Rattle.properties_format.specs.Computed.Edited.{AreSound};
 ghost use Rattle.properties_editing.specs.Private.BodyIndex.{IsIndex, MakesEdit};
-ghost use Rattle.properties_editing.specs.Editing.{EditsAll, EditsAllAscii, MakesEdits, RemovesKey, SetsKey, SetsValue, edit_in, edits_in};
+ghost use Rattle.properties_editing.specs.Editing.{EditsAll, EditsAllAscii, MakesEdits, MakesSet, MakesValueSet, RemovesKey, SetsKey, SetsValue, edit_in, edits_in};
 
 mod append;
 mod document;
@@ -62,8 +62,22 @@ pub fn set_key(
     ensures sets { SetsKey (encoding_of encoding) source.now (chars key.now) (chars value.now) result }
     ensures splitting { SplittingCommutes (encoding_of encoding) source.now }
 {
+    set_key_with(alloc, source, encoding, false, key, value)
+}
+
+// Returns the source with a key set to a value, which are written in ASCII alone or not.
+fn set_key_with(
+    alloc: Global,
+    source: &[u8],
+    encoding: Encoding,
+    ascii_only: bool,
+    key: &str,
+    value: &str,
+) -> Result<Vec<u8>, PropertiesError>
+    ensures { MakesSet (encoding_of encoding) ascii_only source.now (chars key.now) (chars value.now) result }
+{
     // UTF-16 is refused before any line is read.
-    let opened = BodyStart::open(source, encoding, false)?;
+    let opened = BodyStart::open(source, encoding, ascii_only)?;
     let place = find_key(alloc, opened.encoding, &source[opened.start..], key)?;
     let bytes = match place.pair {
         Some(pair) => replaced(alloc, source, opened, pair, key, value)?,
@@ -110,7 +124,21 @@ pub fn set_value(
     ensures sets { SetsValue (encoding_of encoding) source.now (chars key.now) (chars value.now) result }
     ensures splitting { SplittingCommutes (encoding_of encoding) source.now }
 {
-    let opened = BodyStart::open(source, encoding, false)?;
+    set_value_with(alloc, source, encoding, false, key, value)
+}
+
+// Returns the source with the value of a key set, which is written in ASCII alone or not.
+fn set_value_with(
+    alloc: Global,
+    source: &[u8],
+    encoding: Encoding,
+    ascii_only: bool,
+    key: &str,
+    value: &str,
+) -> Result<Vec<u8>, PropertiesError>
+    ensures { MakesValueSet (encoding_of encoding) ascii_only source.now (chars key.now) (chars value.now) result }
+{
+    let opened = BodyStart::open(source, encoding, ascii_only)?;
     let body = &source[opened.start..];
     let place = find_key(alloc, opened.encoding, body, key)?;
     let bytes = match place.pair {
@@ -215,6 +243,42 @@ pub fn edit_all_ascii(
 
 // Returns the source after these edits, which are written in ASCII alone or not.
 fn edit_all_with(
+    alloc: Global,
+    source: &[u8],
+    encoding: Encoding,
+    ascii_only: bool,
+    edits: &[Edit],
+) -> Result<Vec<u8>, PropertiesError>
+    ensures { MakesEdits (encoding_of encoding) ascii_only source.now (edits_in edits.now) result }
+{
+    match edits {
+        // One edit needs no index, which takes several times the memory of a source of short pairs.
+        [edit] => edit_once(alloc, source, encoding, ascii_only, edit),
+        _ => edit_in_turn(alloc, source, encoding, ascii_only, edits),
+    }
+}
+
+// Returns the source after one edit, by the call for it.
+fn edit_once(
+    alloc: Global,
+    source: &[u8],
+    encoding: Encoding,
+    ascii_only: bool,
+    edit: &Edit,
+) -> Result<Vec<u8>, PropertiesError>
+    ensures { MakesEdits (encoding_of encoding) ascii_only source.now (edit_in edit.now ∷ []) result }
+{
+    match edit {
+        Edit::Put(key, value) => set_key_with(alloc, source, encoding, ascii_only, key, value),
+        Edit::Remove(key) => remove_key(alloc, source, encoding, key),
+        Edit::SetValue(key, value) => {
+            set_value_with(alloc, source, encoding, ascii_only, key, value)
+        }
+    }
+}
+
+// Returns the source after these edits, by an index of it.
+fn edit_in_turn(
     alloc: Global,
     source: &[u8],
     encoding: Encoding,

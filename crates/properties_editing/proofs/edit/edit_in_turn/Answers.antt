@@ -9,7 +9,7 @@ use Rattle.properties_editing.specs.Editing.{AreMade, edit_in, edits_in}
 use Rattle.properties_editing.proofs.Editing.{edits_in-more, edits-scalars, refusal}
 use Rattle.properties_editing.proofs.Editing as editing
 use Rattle.properties_editing.proofs.EditsInTurn.{result-made, result-more}
-use Rattle.properties_editing.proofs.edit.edit_all_with.Goals as goal
+use Rattle.properties_editing.proofs.edit.edit_in_turn.Goals as goal
 
 pub returns-in_err-index : goal.returns-in_err-index
 returns-in_err-index c =
