@@ -4,4 +4,4 @@ use Rattle.properties_c.proofs.edit.with_key.Goals as goal
 pub returns-then-not-ascii_only : goal.returns-then-not-ascii_only
 returns-then-not-ascii_only c =
     let off : c.args.ascii_only ≡ false = search rules in
-    rw off c.set_key.ensures.sets
+    rw off (search rules)
