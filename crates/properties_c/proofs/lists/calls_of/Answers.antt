@@ -1,8 +1,11 @@
 use Rattle.std.proofs.Common.{◌≡◌, [], ◌∷◌, ◌++◌, rules, arith}
 use Rattle.std.proofs.lemmas.Bool.Decides.{nat_tests}
 use Rattle.properties_c.proofs.OneReading.{lines-read}
-use Rattle.properties_c.proofs.TakenApart.{HasCalls-more, IsFirst-shorter}
+use Rattle.properties_c.proofs.TakenApart.{HasCalls-none, HasCalls-more, IsFirst-shorter}
 use Rattle.properties_c.proofs.lists.calls_of.Goals as goal
+
+pub loop-rest-init : goal.loop-rest-init
+loop-rest-init c = HasCalls-none c.args.list.now c.args.ascii_only c.in_ok-calls.calls.items c.in_ok-calls.ensures
 
 pub loop-rest-smaller : goal.loop-rest-smaller
 loop-rest-smaller c = IsFirst-shorter c.in-Ok.ensures.1
