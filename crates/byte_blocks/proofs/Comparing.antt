@@ -1,13 +1,12 @@
 -- What a comparison of sixteen bytes with others says about each byte.
-use Rattle.std.proofs.Common.{◌≡◌, ◌<◌, ◌≤◌, ◌+◌, ◌-◌, ◌%◌, ◌^◌, ◌&&◌, ℕ, Bool, false, cond, eqb, leb, ltb, nat_le, inl, inr, List, [], ◌∷◌, length, get_or, map, replicate, bit_and, w8, Fits, refl, sym, ap, ap₂, ◌∙◌, arith}
+use Rattle.std.proofs.Common.{◌≡◌, ◌<◌, ◌≤◌, ◌+◌, ◌-◌, ◌%◌, ◌^◌, ◌&&◌, ℕ, Bool, true, false, cond, eqb, leb, ltb, nat_le, inl, inr, List, [], ◌∷◌, length, get_or, map, replicate, bit_and, w8, Fits, refl, sym, ap, ap₂, ◌∙◌, arith}
 use Rattle.std.specs.Simd.Lanes.{zip2, mask_l, top, pick_l, Each1}
-use Rattle.std.proofs.lemmas.Bool.{agree_below_at, and_left, and_right, cases_lt, le-leb, lt-leb}
+use Rattle.std.proofs.lemmas.Bool.{agree_below, agree_below_at, and_left, and_right, cases_lt, le-leb, lt-leb}
 use Rattle.std.proofs.lemmas.List.{length-map, map-id, ext_get_or, get_or-map}
 use Rattle.std.proofs.lemmas.Nat.{and_mask, and_le_r}
 use Rattle.std.proofs.lemmas.Simd.{bitmask_splat, tops_compared, mask_l-mod, zip2_splat, zip2_splat_left, zip2_of_maps, splat_is_map, length-zip2, map-map, swz_l, SwzOk, SwzOk-from_below, Each1-get_or, Each1-all, Each1-zip2, Each2-splat, length-swz_l, get_or-swz_l_below}
 use Rattle.byte_blocks.specs.Marks.{lowest_bits}
-use Rattle.byte_blocks.specs.Classes.{matches_table, is_line_end, is_plain_end, is_blank, is_special}
-use Rattle.byte_blocks.specs.declared.classes.TheConstants.{LINE_ENDS, PLAIN_ENDS, BLANKS, SPECIALS}
+use Rattle.byte_blocks.specs.Classes.{matches_table}
 
 -- Two tests that agree on every byte give the same marks.
 pub each-same : (p q : ℕ → Bool) (block : List ℕ) → ((b : ℕ) → b < 256 → p b ≡ q b) → Each1 (Fits w8) block → map p block ≡ map q block
@@ -114,16 +113,7 @@ table-bits table block long =
     masked [] = refl
     masked (b ∷ block) = ap₂ (λ x xs. x ∷ xs) (and_mask b 4) (masked block)
 
--- ---- which bytes the tables contain
-
-pub line_ends-table : (block : List ℕ) → Each1 (Fits w8) block → map (matches_table LINE_ENDS) block ≡ map is_line_end block
-line_ends-table block = each-same (matches_table LINE_ENDS) is_line_end block (λ b small. agree_below_at (matches_table LINE_ENDS) is_line_end 256 b refl small)
-
-pub plain_ends-table : (block : List ℕ) → Each1 (Fits w8) block → map (matches_table PLAIN_ENDS) block ≡ map is_plain_end block
-plain_ends-table block = each-same (matches_table PLAIN_ENDS) is_plain_end block (λ b small. agree_below_at (matches_table PLAIN_ENDS) is_plain_end 256 b refl small)
-
-pub blanks-table : (block : List ℕ) → Each1 (Fits w8) block → map (matches_table BLANKS) block ≡ map is_blank block
-blanks-table block = each-same (matches_table BLANKS) is_blank block (λ b small. agree_below_at (matches_table BLANKS) is_blank 256 b refl small)
-
-pub specials-table : (block : List ℕ) → Each1 (Fits w8) block → map (matches_table SPECIALS) block ≡ map is_special block
-specials-table block = each-same (matches_table SPECIALS) is_special block (λ b small. agree_below_at (matches_table SPECIALS) is_special 256 b refl small)
+-- A table is that of a class if both have the same bytes.
+pub table-is : (table : List ℕ) (class : ℕ → Bool) (block : List ℕ) → agree_below (matches_table table) class 256 ≡ true → Each1 (Fits w8) block
+    → map (matches_table table) block ≡ map class block
+table-is table class block same fits = each-same (matches_table table) class block (λ b small. agree_below_at (matches_table table) class 256 b same small) fits

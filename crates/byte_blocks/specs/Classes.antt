@@ -1,15 +1,9 @@
--- Which bytes belong to the classes. Blanks, and the characters with a special meaning, are those of the format.
+-- Which bytes belong to the classes.
 use Rattle.std.specs.Prelude.{ℕ, ◌==◌, ◌||◌, ◌%◌, nat_le, nat_lt, Bool, List, get_or}
-pub use Rattle.properties_format.specs.Text.{is_blank}
-pub use Rattle.properties_format.specs.Printing.{is_special}
 
 -- a CR or an LF
 abbrev pub is_line_end : ℕ → Bool
 is_line_end b = b == 0x0a || b == 0x0d
-
--- a line end or a backslash
-abbrev pub is_plain_end : ℕ → Bool
-is_plain_end b = is_line_end b || b == 0x5c
 
 -- a byte below the space
 abbrev pub is_control : ℕ → Bool

@@ -1,7 +1,7 @@
 // Classes of bytes.
 
 ghost use Rattle.std.specs.Prelude.{◌≡◌, ◌==◌, ◌||◌, ◌&&◌, ℕ, nat_le, Bool, not, map};
-ghost use Rattle.byte_blocks.specs.Classes.{is_line_end, is_plain_end, is_blank, is_special, is_control, is_past_ascii, matches_table};
+ghost use Rattle.byte_blocks.specs.Classes.{is_line_end, is_control, is_past_ascii, matches_table};
 
 use super::marks::Marks;
 use std::marker::PhantomData;
@@ -91,66 +91,6 @@ impl ByteClass for LineEnds {
     #[inline(always)]
     fn contains(byte: u8) -> bool {
         matches!(byte, b'\n' | b'\r')
-    }
-}
-
-/// CR, LF and the backslash.
-pub struct PlainEnds;
-
-static PLAIN_ENDS: [u8; 16] = [1, 0, 0, 0, 0, 0, 0, 0, 0, 0, b'\n', 0, b'\\', b'\r', 0, 0];
-
-impl ByteClass for PlainEnds {
-    ghost holds = { is_plain_end };
-
-    #[inline(always)]
-    fn marks(block: u8x16) -> Marks {
-        table_marks(block, PLAIN_ENDS)
-    }
-
-    #[inline(always)]
-    fn contains(byte: u8) -> bool {
-        matches!(byte, b'\n' | b'\r' | b'\\')
-    }
-}
-
-/// The space, the tab and the form feed.
-pub struct Blanks;
-
-static BLANKS: [u8; 16] = [b' ', 0, 0, 0, 0, 0, 0, 0, 0, b'\t', 0, 0, b'\x0c', 0, 0, 0];
-
-impl ByteClass for Blanks {
-    ghost holds = { is_blank };
-
-    #[inline(always)]
-    fn marks(block: u8x16) -> Marks {
-        table_marks(block, BLANKS)
-    }
-
-    #[inline(always)]
-    fn contains(byte: u8) -> bool {
-        matches!(byte, b' ' | b'\t' | b'\x0c')
-    }
-}
-
-/// The printable characters with a special meaning in a properties file: the space, `!`, `#`, `:`, `=` and the
-/// backslash.
-pub struct Specials;
-
-static SPECIALS: [u8; 16] = [
-    b' ', b'!', 0, b'#', 0, 0, 0, 0, 0, 0, b':', 0, b'\\', b'=', 0, 0,
-];
-
-impl ByteClass for Specials {
-    ghost holds = { is_special };
-
-    #[inline(always)]
-    fn marks(block: u8x16) -> Marks {
-        table_marks(block, SPECIALS)
-    }
-
-    #[inline(always)]
-    fn contains(byte: u8) -> bool {
-        matches!(byte, b' ' | b'!' | b'#' | b':' | b'=' | b'\\')
     }
 }
 

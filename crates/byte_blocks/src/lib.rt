@@ -1,8 +1,9 @@
 //! Classes of bytes, tested sixteen bytes at a time: which bytes belong to a class, and where the first of them is.
 //!
-//! A [`ByteClass`] tests one byte, or a block of sixteen. [`Byte`] is the class of one byte; line ends, blanks, control
-//! characters and others have classes of their own; [`Either`] and [`Except`] combine classes, and a class of your own
-//! takes one call of [`table_marks`]. For example, a reader of CSV finds the end of a field:
+//! A [`ByteClass`] tests one byte, or a block of sixteen. [`Byte`] is the class of one byte, and [`Within`] that of a
+//! range; line ends, control characters and the bytes past ASCII have classes of their own; [`Either`] and [`Except`]
+//! combine classes, and a class of your own takes one call of [`table_marks`]. For example, a reader of CSV finds the
+//! end of a field:
 //!
 //! ```text
 //! type FieldEnds = Either<Byte<b','>, LineEnds>;
@@ -24,8 +25,7 @@ mod short;
 mod spread;
 
 pub use classes::{
-    Blanks, Byte, ByteClass, Controls, Either, Except, LineEnds, PastAscii, PlainEnds, Specials,
-    Within, table_marks,
+    Byte, ByteClass, Controls, Either, Except, LineEnds, PastAscii, Within, table_marks,
 };
 pub use marks::Marks;
 pub use search::{find, find_in_block};

@@ -9,7 +9,7 @@ use Rattle.std.proofs.lemmas.Bool.{cases_Bool, or_from, or_parts, false_from_ne_
 use Rattle.std.proofs.lemmas.List.{drop-drop, length-take-le, get_or-take, get_or-drop, length-map, take-take}
 use Rattle.std.proofs.lemmas.List.Elements.{All-get_or, All-head, All-tail, All-take, All-weaker}
 use Rattle.std.proofs.lemmas.Str.Ascii.{IsAscii-from_all, All-from_ascii}
-use Rattle.byte_blocks.specs.Classes.{is_past_ascii, is_plain_end}
+use Rattle.byte_blocks.specs.Classes.{is_past_ascii}
 use Rattle.byte_blocks.specs.Marks.{clear_front}
 use Rattle.byte_blocks.proofs.Marking.{clear-before, more-of, first-byte}
 use Rattle.byte_blocks.proofs.Searching.{long-block}
@@ -31,6 +31,7 @@ use Rattle.properties_text.proofs.Blocks.{ascii-before}
 use Rattle.properties_lines.specs.LineSearch.{unit_size, IsFirstLineEnd, end_character}
 use Rattle.properties_lines.specs.Scanner.{scanner_state, HasRightFlags, EndsWhole, bytes_of, line_of, IsReady, IsFresh, IsBefore, FindsByte, TakesLine, SkipsFeed, feed_size, Searches, is_decided}
 use Rattle.properties_lines.specs.Scanner.{after_cr}
+use Rattle.properties_lines.specs.Private.PlainEnds.{is_plain_end}
 use Rattle.properties_lines.specs.declared.search.LineEnd.{LineEnd}
 use Rattle.properties_lines.specs.declared.scanner.Front.{Front}
 use Rattle.properties_lines.specs.declared.scanner.Front.TheVariants.{Feed, Nothing}

@@ -1,3 +1,4 @@
 pub mod InputBuffer
+pub mod PlainEnds
 pub mod HeldLines
 pub mod Tested

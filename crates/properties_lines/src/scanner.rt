@@ -11,11 +11,12 @@ ghost use Rattle.properties_text.specs.Encoding.{encoding_of};
 ghost use Rattle.properties_text.specs.Decoding.{FindsByteOrderMark};
 ghost use Rattle.properties_text.specs.Escaping.{holds_backslash};
 ghost use Rattle.properties_lines.specs.LineSearch.{unit_size, IsFirstLineEnd};
+ghost use Rattle.properties_lines.specs.Private.PlainEnds.{is_plain_end};
 ghost use Rattle.properties_lines.specs.Scanner.{Fits, Scans, Settles, SkipsFeed, IsReady, IsFresh, IsBefore, FindsByte, Searches, TakesLine, TakesLast, scanner_state, is_undecided};
 ghost use Rattle.properties_lines.specs.declared.scanner.Front.TheVariants.{Mark, Nothing};
 
 use crate::search::{LineEnd, find_line_end, unit_size, whole_units};
-use byte_blocks::{ByteClass, LineEnds, PastAscii, PlainEnds};
+use byte_blocks::{ByteClass, LineEnds, Marks, PastAscii, table_marks};
 use memchr::memchr;
 use properties_text::characters::is_line_end;
 use properties_text::encoding::Encoding;
@@ -408,6 +409,25 @@ impl Scanner {
         };
         self.passed += 1;
         self.at = next;
+    }
+}
+
+// CR, LF and the backslash.
+struct PlainEnds;
+
+static PLAIN_ENDS: [u8; 16] = [1, 0, 0, 0, 0, 0, 0, 0, 0, 0, b'\n', 0, b'\\', b'\r', 0, 0];
+
+impl ByteClass for PlainEnds {
+    ghost holds = { is_plain_end };
+
+    #[inline(always)]
+    fn marks(block: u8x16) -> Marks {
+        table_marks(block, PLAIN_ENDS)
+    }
+
+    #[inline(always)]
+    fn contains(byte: u8) -> bool {
+        matches!(byte, b'\n' | b'\r' | b'\\')
     }
 }
 

@@ -7,6 +7,7 @@
 #![tactic(auto)]
 
 pub mod characters;
+mod classes;
 pub mod encoding;
 pub mod escape;
 mod line_buffer;

@@ -9,7 +9,8 @@ ghost use Rattle.properties_format.specs.Computed.Split.{without_trailing_blanks
 ghost use Rattle.properties_text.specs.Parsing.{stays_in_key, may_end, bytes_in, spanned, in_characters, IsSpan, AreSpans, AreInPlace, AreFoundInText};
 
 use crate::characters::{is_blank, is_comment_sign, is_separator};
-use byte_blocks::{Blanks, Controls, Either, Except, Specials, find_in_block};
+use crate::classes::{Blanks, Specials};
+use byte_blocks::{Controls, Either, Except, find_in_block};
 
 /// The position of a part of a line, in bytes from the start of the line.
 #[derive(Clone, Copy, Debug)]

@@ -2,8 +2,8 @@
 
 use crate::same::same;
 use byte_blocks::{
-    Blanks, Byte, ByteClass, Controls, Either, Except, LineEnds, Marks, PastAscii, PlainEnds,
-    Specials, Within, find, find_in_block, table_marks,
+    Byte, ByteClass, Controls, Either, Except, LineEnds, Marks, PastAscii, Within, find,
+    find_in_block, table_marks,
 };
 use std::simd::prelude::*;
 
@@ -28,9 +28,6 @@ fn classes_mark_their_bytes(rt: HostRuntime) {
     let rows = [
         (marked::<Byte<b','>>(), 0b0000_0000_1000_0000),
         (marked::<LineEnds>(), 0b0000_0011_0000_0000),
-        (marked::<PlainEnds>(), 0b0000_1011_0000_0000),
-        (marked::<Blanks>(), 0b0010_0100_0000_1010),
-        (marked::<Specials>(), 0b1111_1000_0000_1100),
         (marked::<Controls>(), 0b0000_0111_0000_0010),
         (marked::<PastAscii>(), 0b0000_0000_0111_0000),
         (marked::<Within<0x20, 0x3d>>(), 0b1111_0000_1000_1100),

@@ -4,7 +4,8 @@ ghost use Rattle.std.specs.Prelude.{◌≡◌, ◌+◌, ◌*◌, ◌<◌, ◌≤
 ghost use Rattle.properties_text.specs.Printing.{printed_byte, with_backslashes, backslashes_before, last_of};
 
 use super::escapes::put_unit;
-use byte_blocks::{ByteClass, Specials, put_spread};
+use crate::classes::Specials;
+use byte_blocks::{ByteClass, put_spread};
 use std::simd::prelude::*;
 
 // For each byte, the number of backslashes before the last byte that is printed for it, or 2 if a longer escape is
