@@ -1,11 +1,10 @@
 -- How a scanner searches for the end of a line, and takes the line up to it.
-use Rattle.std.proofs.Common.{inl, inr, ◌≡◌, ◌↔◌, ◌<◌, ◌≤◌, ◌+◌, ◌-◌, ◌==◌, ◌||◌, ℕ, zero, suc, Bool, true, false, List, [], ◌∷◌, ◌++◌, take, drop, length, get_or, map, refl, sym, ap, ap₂, subst, ◌∙◌, append_assoc, length-append, length-drop, arith}
-use Rattle.std.specs.Prelude.{Option, Some, None, is_some, Result, Ok, Err, IfOk}
+use Rattle.std.proofs.Common.{inl, inr, ◌≡◌, ◌↔◌, ◌<◌, ◌≤◌, ◌+◌, ◌-◌, ◌==◌, ◌||◌, ℕ, Bool, true, false, List, [], ◌∷◌, ◌++◌, take, drop, length, get_or, map, refl, sym, ap, ap₂, subst, ◌∙◌, append_assoc, length-append, length-drop, arith}
+use Rattle.std.specs.Prelude.{Some, Result, Ok, Err, IfOk}
 use Rattle.std.specs.Str.{IsAscii}
 use Rattle.std.specs.List.{All}
-use Rattle.std.proofs.Math.Bool.{or-true}
 use Rattle.std.proofs.Math.Seq.{drop-append_seam}
-use Rattle.std.proofs.lemmas.Bool.{cases_Bool, or_from, or_parts, false_from_ne_true, eq-eqb, eqb-true, leb-true, cases_lt}
+use Rattle.std.proofs.lemmas.Bool.{cases_Bool, or_from, or_parts, eqb-true, leb-true, cases_lt}
 use Rattle.std.proofs.lemmas.List.{drop-drop, length-take-le, get_or-take, get_or-drop, length-map, take-take}
 use Rattle.std.proofs.lemmas.List.Elements.{All-get_or, All-head, All-tail, All-take, All-weaker}
 use Rattle.std.proofs.lemmas.Str.Ascii.{IsAscii-from_all, All-from_ascii}
@@ -13,7 +12,7 @@ use Rattle.byte_blocks.specs.Classes.{is_past_ascii}
 use Rattle.byte_blocks.specs.Marks.{clear_front}
 use Rattle.byte_blocks.proofs.Marking.{clear-before, more-of, first-byte}
 use Rattle.byte_blocks.proofs.Searching.{long-block}
-use Rattle.memchr.specs.Find.{Nowhere, Passes, IsFirstByte, is_byte}
+use Rattle.memchr.specs.Find.{Nowhere, Passes}
 use Rattle.properties_format.specs.Text as text
 use Rattle.properties_format.specs.Text.{line_feed, carriage_return, backslash, is_line_end}
 use Rattle.properties_format.specs.Encoding.{Encoding, windows_1252, utf_8, utf_16le, utf_16be, ascii_bytes, IsAligned}
@@ -28,6 +27,7 @@ use Rattle.properties_format.proofs.ItemsToCome.Steps.{lines-then, lines-take, l
 use Rattle.properties_text.specs.Encoding.{encoding_of}
 use Rattle.properties_text.specs.Escaping.{holds_backslash}
 use Rattle.properties_text.proofs.Blocks.{ascii-before}
+use Rattle.properties_text.proofs.Texts.Resolving.{holds-at}
 use Rattle.properties_lines.specs.LineSearch.{unit_size, IsFirstLineEnd, end_character}
 use Rattle.properties_lines.specs.Scanner.{scanner_state, HasRightFlags, EndsWhole, bytes_of, line_of, IsReady, IsFresh, IsBefore, FindsByte, TakesLine, SkipsFeed, feed_size, Searches, is_decided}
 use Rattle.properties_lines.specs.Scanner.{after_cr}
@@ -39,24 +39,6 @@ use Rattle.properties_lines.specs.declared.scanner.RawLine.{RawLine}
 use Rattle.properties_lines.specs.declared.scanner.Scanner.{Scanner}
 use Rattle.properties_lines.proofs.ScannerFront.{some-units, feed-first}
 use Rattle.properties_lines.proofs.LineSearch.{nothing_searched, length-ascii_bytes, found-byte, searched-bytes}
-
--- ---- what is known of a line
-
-none-holds : (bytes : List ℕ) → Nowhere (Passes (is_byte backslash) bytes) 0 (length bytes) → holds_backslash bytes ≡ false
-none-holds [] h = refl
-none-holds (b ∷ bytes) h =
-    or_from (b == backslash) (holds_backslash bytes) (false_from_ne_true (b == backslash) (h 0 (omega arith) (omega arith)))
-    (none-holds bytes (λ k low high. h (suc k) (omega arith) (omega arith)))
-
-one-holds : (bytes : List ℕ) (k : ℕ) → k < length bytes → (get_or bytes k 0 == backslash) ≡ true → holds_backslash bytes ≡ true
-one-holds [] k h e = absurd (omega arith)
-one-holds (b ∷ bytes) zero h e = ap (λ v. v || holds_backslash bytes) e
-one-holds (b ∷ bytes) (suc k) h e = ap (λ v. (b == backslash) || v) (one-holds bytes k (omega arith) e) ∙ or-true (b == backslash)
-
--- what a search for a backslash tells
-pub found-backslash : (bytes : List ℕ) (found : Option ℕ) → IsFirstByte (is_byte backslash) bytes found → is_some found ≡ holds_backslash bytes
-found-backslash bytes None h = sym (none-holds bytes h)
-found-backslash bytes (Some k) h = sym (one-holds bytes k h.0.high h.1)
 
 -- ---- what the reader does
 
@@ -426,8 +408,7 @@ past-escape bytes from at le escaped ends = elim (cases_lt from at) [
 -- it is of the line
 holds-escape : (bytes : List ℕ) (from at : ℕ) → from < at → at ≤ length bytes → get_or bytes from 0 ≡ backslash → true ≡ holds_backslash (take at bytes)
 holds-escape bytes from at low within escaped =
-    let here : get_or (take at bytes) from 0 ≡ backslash = get_or-take at bytes from 0 low ∙ escaped in
-    sym (one-holds (take at bytes) from (omega (arith, low, length-take-le at bytes within)) (eq-eqb (get_or (take at bytes) from 0) backslash here))
+    sym (holds-at (take at bytes) from (omega (arith, low, length-take-le at bytes within)) (get_or-take at bytes from 0 low ∙ escaped))
 
 -- up to the line end after it
 pub flags-escaped : (bytes : List ℕ) (from : ℕ) (found : Result (ℕ × Bool) ℕ) → FindsByte is_line_end bytes found → IfOk found (λ end. from ≤ end.0)

@@ -16,9 +16,9 @@ use crate::error::LineError;
 use crate::join::is_open;
 use crate::logical::LogicalLine;
 use crate::reader::LineReader;
-use crate::scanner;
 use counted_io::CountedRead;
 use properties_text::encoding::{Encoding, LineEncoding};
+use properties_text::escape;
 use std::alloc::Global;
 use std::marker::Model;
 
@@ -195,7 +195,7 @@ fn read_rest<R: CountedRead>(
             if !join_lines(lines, line, reader) {
                 return None;
             }
-            *has_backslash = scanner::has_backslash(line.bytes(lines.line()));
+            *has_backslash = escape::has_backslash(line.bytes(lines.line()));
             Some(number)
         }
         Err(_) => {

@@ -17,10 +17,10 @@ ghost use Rattle.properties_lines.specs.declared.scanner.Front.TheVariants.{Mark
 
 use crate::search::{LineEnd, find_line_end, unit_size, whole_units};
 use byte_blocks::{ByteClass, LineEnds, Marks, PastAscii, table_marks};
-use memchr::memchr;
 use properties_text::characters::is_line_end;
-use properties_text::encoding::Encoding;
 use properties_text::encoding::byte_order_mark::{ByteOrderMark, byte_order_mark};
+use properties_text::encoding::{Encoding, is_ascii};
+use properties_text::escape::has_backslash;
 use std::simd::prelude::*;
 
 /// The result of a scan.
@@ -357,7 +357,7 @@ impl Scanner {
         };
         let line = &bytes[..end.at];
         let unit = unit_size(self.encoding);
-        let is_ascii = is_ascii(self.encoding, line);
+        let is_ascii = is_ascii_in(self.encoding, line);
         self.searched = 0;
         self.take(held, end, unit, is_ascii, has_backslash(line));
         true
@@ -389,7 +389,7 @@ impl Scanner {
     {
         let line = &held[self.at..];
         let end = held.len();
-        let is_ascii = is_ascii(self.encoding, line);
+        let is_ascii = is_ascii_in(self.encoding, line);
         self.take_line(end, end, is_ascii, has_backslash(line));
         self.searched = 0;
         self.is_done = true;
@@ -459,18 +459,12 @@ fn search_blocks<C: ByteClass>(
     Err(at)
 }
 
-/// Returns whether one of the bytes is that of a backslash.
-pub(crate) fn has_backslash(bytes: &[u8]) -> bool
-    ensures { result ≡ holds_backslash bytes.now }
-{
-    memchr(b'\\', bytes).is_some()
-}
-
-fn is_ascii(encoding: Encoding, bytes: &[u8]) -> bool
+// Returns whether the bytes are ASCII characters of one byte each.
+fn is_ascii_in(encoding: Encoding, bytes: &[u8]) -> bool
     ensures { (result ≡ true) ↔ (unit_size (encoding_of encoding) ≡ 1) × IsAscii bytes.now }
 {
     match encoding {
-        Encoding::WINDOWS_1252 | Encoding::UTF_8 => byte_blocks::find::<PastAscii>(bytes).is_none(),
+        Encoding::WINDOWS_1252 | Encoding::UTF_8 => is_ascii(bytes),
         Encoding::UTF_16LE | Encoding::UTF_16BE => false,
     }
 }

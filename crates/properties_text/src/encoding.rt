@@ -19,12 +19,14 @@ mod utf_16;
 mod utf_8;
 mod windows_1252;
 
+pub use ascii::is_ascii;
 pub use decode::as_text;
 pub(crate) use decode::put_character;
 pub use line::{LineEncoding, Spelt};
 use std::fmt;
 pub use text_buffer::TextBuffer;
 pub use utf_8::well_formed_length;
+pub(crate) use utf_16::pair_character;
 pub(crate) use windows_1252::byte_of;
 
 /// The encodings of properties files, named as in the WHATWG Encoding Standard.

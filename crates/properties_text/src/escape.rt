@@ -73,11 +73,11 @@ pub fn unescape(alloc: Global, s: &str) -> Result<CowStr<'_>, UnescapeError>
     Ok(CowStr::Owned(text))
 }
 
-/// Returns whether the text contains a backslash.
-pub fn has_backslash(s: &str) -> bool
-    ensures { result ≡ holds_backslash (chars s.now) }
+/// Returns whether one of the bytes is that of a backslash.
+pub fn has_backslash(bytes: &[u8]) -> bool
+    ensures { result ≡ holds_backslash bytes.now }
 {
-    find_backslash(s.as_bytes()).is_some()
+    find_backslash(bytes).is_some()
 }
 
 // How many bytes of resolved characters are collected before they are appended.

@@ -27,7 +27,7 @@ pub fn has_key(
 ) -> Result<Option<bool>, PropertiesError>
     ensures { ChecksKeyOfLine (chars line.now) (chars key.now) number result }
 {
-    if !has_backslash(line) {
+    if !has_backslash(line.as_bytes()) {
         return Ok(has_plain_key(line, key));
     }
     match find_resolved(alloc, number, line)? {
@@ -86,7 +86,7 @@ pub fn pair_of(
 fn find_item(alloc: Global, number: usize, line: &str) -> Result<Option<Found>, PropertiesError>
     ensures { FindsItem line.now number result }
 {
-    if !has_backslash(line) {
+    if !has_backslash(line.as_bytes()) {
         return Ok(find_plain(number, line));
     }
     find_resolved(alloc, number, line)

@@ -56,12 +56,20 @@ holds-append (x ∷ xs) ys = elim (cases_Bool (x == backslash)) [
   | inr e ↦ rw e (holds-append xs ys)
 ]
 
+backslash-at : (xs : List ℕ) (at : ℕ) → at < length xs → get_or xs at 0 ≡ backslash → drop at xs ≡ backslash ∷ drop (at + 1) xs
+backslash-at xs at inside is = drop_more xs at 0 inside ∙ ap (λ v. v ∷ drop (at + 1) xs) is
+
+pub holds-at : (xs : List ℕ) (at : ℕ) → at < length xs → get_or xs at 0 ≡ backslash → holds_backslash xs ≡ true
+holds-at xs at inside is =
+    ap holds_backslash (sym (take-append-drop at xs) ∙ ap (λ v. take at xs ++ v) (backslash-at xs at inside is)) ∙ holds-append (take at xs) (drop (at + 1) xs)
+
 -- The first backslash of these bytes has this index.
 pub record IsFirstBackslash (bs : List ℕ) (at : ℕ) : Type 0 where
   pub inside : at < length bs
   pub plain : holds_backslash (take at bs) ≡ false
   pub there : drop at bs ≡ backslash ∷ drop (at + 1) bs
   pub byte : get_or bs at 0 ≡ backslash
+  pub holds : holds_backslash bs ≡ true
 
 pub found_some : (bs : List ℕ) (at : ℕ) → IsFirstByte (is_byte backslash) bs (Some at) → IsFirstBackslash bs at
 found_some bs at h =
@@ -72,12 +80,18 @@ found_some bs at h =
       plain = nowhere (take at bs) (λ k l e.
           let m : k < at = omega (arith, length-take-le at bs (omega arith)) in
           h.0.before k (omega arith) m (ap (λ v. v == backslash) (sym (get_or-take at bs k 0 m)) ∙ e));
-      there = drop_more bs at 0 inside ∙ ap (λ v. v ∷ drop (at + 1) bs) is;
+      there = backslash-at bs at inside is;
       byte = is;
+      holds = holds-at bs at inside is;
     }
 
 pub found_none : (bs : List ℕ) → IsFirstByte (is_byte backslash) bs None → holds_backslash bs ≡ false
 found_none bs h = nowhere bs (λ k l e. h k (omega arith) l e)
+
+-- What a search says about backslashes.
+pub tells_backslash : (bs : List ℕ) (found : Option ℕ) → IsFirstByte (is_byte backslash) bs found → is_some found ≡ holds_backslash bs
+tells_backslash bs (Some at) h = sym (found_some bs at h).holds
+tells_backslash bs None h = sym (found_none bs h)
 
 -- A text up to its first backslash, and the text after that.
 pub record IsSplitAt (bs : List ℕ) (at : ℕ) : Type 0 where
@@ -100,7 +114,7 @@ split_at bytes bs at u same h =
       front_utf8 = front;
       rest_utf8 = rest;
       boundary = here;
-      holds = holds_backslash-text bs u ∙ ap holds_backslash (whole ∙ ap (λ v. take at bs ++ v) f.there) ∙ holds-append (take at bs) (drop (at + 1) bs);
+      holds = holds_backslash-text bs u ∙ f.holds;
       meaning = ap meaning_of (ap chars whole ∙ chars-append (take at bs) (drop at bs) front)
           ∙ meaning_of-plain_front (chars (take at bs)) (chars (drop at bs)) plain;
     }
@@ -115,12 +129,6 @@ pub plain : (bytes bs : List ℕ) → IsUtf8 bs → bytes ≡ bs → IsFirstByte
 plain bytes bs u same h =
     let none = holds_backslash-text bs u ∙ found_none bs (subst (λ v. IsFirstByte (is_byte backslash) v None) same h) in
     record { holds = none; meaning = meaning_of-plain (chars bs) (no_backslash (chars bs) none) }
-
--- What a search says about backslashes.
-pub tells_backslash : (bytes bs : List ℕ) (found : Option ℕ) → IsUtf8 bs → bytes ≡ bs → IsFirstByte (is_byte backslash) bytes found
-    → is_some found ≡ holds_backslash (chars bs)
-tells_backslash bytes bs (Some at) u same h = sym (split_at bytes bs at u same h).holds
-tells_backslash bytes bs None u same h = sym (plain bytes bs u same h).holds
 
 -- A part of a text without a backslash contains none.
 pub holds-part : (xs ys zs : List ℕ) → holds_backslash (xs ++ (ys ++ zs)) ≡ false → holds_backslash ys ≡ false

@@ -55,17 +55,20 @@ fn high_piece(order: ByteOrder, high: u16, after: &[u8]) -> FirstPiece
         [] => FirstPiece::broken(2, true),
         [_] => FirstPiece::broken(3, true),
         [third, fourth, ..] => match order.unit(*third, *fourth) {
-            low @ 0xdc00..=0xdfff => FirstPiece::whole(pair_character(high, low), 4),
+            low @ 0xdc00..=0xdfff => FirstPiece::whole(
+                pair_character(u32::from(high), u32::from(low)),
+                4,
+            ),
             _ => FirstPiece::broken(2, false),
         },
     }
 }
 
-// The character of a high and a low surrogate.
-fn pair_character(high: u16, low: u16) -> u32
+/// Returns the character of a high and a low surrogate.
+pub fn pair_character(high: u32, low: u32) -> u32
     requires high { is_high high ≡ true }
     requires low { is_low low ≡ true }
     ensures { result ≡ pair_character high low }
 {
-    0x1_0000 + u32::from(high - 0xd800) * 0x400 + u32::from(low - 0xdc00)
+    0x1_0000 + (high - 0xd800) * 0x400 + (low - 0xdc00)
 }

@@ -8,7 +8,7 @@ ghost use Rattle.properties_text.specs.Escaping.{digit_value};
 ghost use Rattle.properties_text.specs.Spelt.{IsWell, IsRead, Reads, BeginsUnit, HasDigits, LacksDigits, HasLow, LacksLow, CountsFour};
 
 use super::Malformed;
-use crate::encoding::{LineEncoding, Spelt};
+use crate::encoding::{LineEncoding, Spelt, pair_character};
 
 // A value that no four digits have.
 const NONE: u32 = 0x1_0000;
@@ -146,7 +146,7 @@ fn join_surrogates(high: u32, low: u32) -> Option<char>
     if high >= 0xdc00 || low < 0xdc00 || low >= 0xe000 {
         return None;
     }
-    char::from_u32(0x1_0000 + (high - 0xd800) * 0x400 + (low - 0xdc00))
+    char::from_u32(pair_character(high, low))
 }
 
 // The value of the four hexadecimal digits after the first two bytes, if there are four.
