@@ -21,7 +21,7 @@ use Rattle.properties_text.specs.Decoding.{FindsByteOrderMark}
 use Rattle.properties_text.specs.declared.encoding.byte_order_mark.ByteOrderMark.{ByteOrderMark}
 use Rattle.properties_text.specs.declared.encoding.byte_order_mark.ByteOrderMark.TheVariants.{Present, Absent, Undecided}
 use Rattle.properties_lines.specs.LineSearch.{unit_size, IsSearched}
-use Rattle.properties_lines.specs.Scanner.{is_decided, after_cr, scanner_state, front_of, without_feed, Fits, Comes, IsAlike, Settles, SkipsFeed, feed_size, is_undecided}
+use Rattle.properties_lines.specs.Scanner.{is_decided, after_cr, scanner_state, front_of, without_feed, Fits, Comes, IsAlike, SkipsFront, SkipsFeed, feed_size, is_undecided}
 use Rattle.properties_lines.specs.declared.scanner.Front.TheVariants.{Mark, Feed, Nothing}
 use Rattle.properties_lines.specs.declared.scanner.Scanner.{Scanner}
 use Rattle.properties_lines.proofs.LineSearch.{nothing_searched, searched-grown, length-ascii_bytes, half-unit}
@@ -170,10 +170,10 @@ front-undecided : (s : ReaderState) → s.is_decided ≡ false → front_of s �
 front-undecided s h = rw h refl
 
 -- it is passed
-pub decides : (old new : Scanner) (held : List ℕ) (ended : Bool) → Fits old held → old.front ≡ Mark → (ended ≡ false → awaits_bom (drop old.at held) ≡ false)
+pub skips-mark : (old new : Scanner) (held : List ℕ) (ended : Bool) → Fits old held → old.front ≡ Mark → (ended ≡ false → awaits_bom (drop old.at held) ≡ false)
     → scanner_state new held ≡ after_decided (scanner_state old held) → new.at ≤ length held → new ≡ record old { encoding = new.encoding; front = Nothing; at = new.at }
     → IsAlike old held ended new
-decides old new held ended h d waits is le same =
+skips-mark old new held ended h d waits is le same =
     let s = scanner_state old held in
     let P : ReaderState → Type 0 = λ v. Comes ended s [] v in
     let undecided : s.is_decided ≡ false = ap is_decided d in
@@ -244,11 +244,11 @@ passes-feed old held ended h a k =
     }
 
 -- unless more bytes decide whether it comes
-pub settles-feed : (old new : Scanner) (held : List ℕ) (ended passed : Bool) → Fits old held → old.is_done ≡ false → old.front ≡ Feed
-    → SkipsFeed (record old { front = Nothing }) held ended passed new → Settles old held ended passed new
-settles-feed old new held ended true h g a k =
+pub skips-feed : (old new : Scanner) (held : List ℕ) (ended passed : Bool) → Fits old held → old.is_done ≡ false → old.front ≡ Feed
+    → SkipsFeed (record old { front = Nothing }) held ended passed new → SkipsFront old held ended passed new
+skips-feed old new held ended true h g a k =
     let P : Scanner → Type 0 = λ v. IsAlike old held ended v in
     subst P (sym k.1) (passes-feed old held ended h a k.0)
-settles-feed old new held ended false h g a k =
+skips-feed old new held ended false h g a k =
     let same : new ≡ old = k.2 ∙ ap (λ v. let w : Scanner = record old { front = v } in w) (sym a) in
     (k.0, same, awaits-unit old held g a k.1, λ w. absurd (cc (a, w)))

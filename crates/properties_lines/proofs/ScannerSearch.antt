@@ -1,6 +1,6 @@
 -- How a scanner searches for the end of a line, and takes the line up to it.
-use Rattle.std.proofs.Common.{inl, inr, ◌≡◌, ◌↔◌, ◌<◌, ◌≤◌, ◌+◌, ◌-◌, ◌==◌, ◌||◌, ℕ, Bool, true, false, List, [], ◌∷◌, ◌++◌, take, drop, length, get_or, map, refl, sym, ap, ap₂, subst, ◌∙◌, append_assoc, length-append, length-drop, arith}
-use Rattle.std.specs.Prelude.{Some, Result, Ok, Err, IfOk}
+use Rattle.std.proofs.Common.{inl, inr, ◌≡◌, ◌↔◌, ◌<◌, ◌≤◌, ◌+◌, ◌-◌, ◌==◌, ◌||◌, ℕ, zero, suc, Bool, true, false, List, [], ◌∷◌, ◌++◌, take, drop, length, get_or, map, refl, sym, ap, ap₂, subst, ◌∙◌, append_assoc, length-append, length-drop, arith}
+use Rattle.std.specs.Prelude.{Option, Some, None, is_some}
 use Rattle.std.specs.Str.{IsAscii}
 use Rattle.std.specs.List.{All}
 use Rattle.std.proofs.Math.Seq.{drop-append_seam}
@@ -29,10 +29,12 @@ use Rattle.properties_text.specs.Escaping.{holds_backslash}
 use Rattle.properties_text.proofs.Blocks.{ascii-before}
 use Rattle.properties_text.proofs.Texts.Resolving.{holds-at}
 use Rattle.properties_lines.specs.LineSearch.{unit_size, IsFirstLineEnd, end_character}
-use Rattle.properties_lines.specs.Scanner.{scanner_state, HasRightFlags, EndsWhole, bytes_of, line_of, IsReady, IsFresh, IsBefore, FindsByte, TakesLine, SkipsFeed, feed_size, Searches, is_decided}
+use Rattle.properties_lines.specs.Scanner.{scanner_state, HasRightFlags, EndsWhole, bytes_of, line_of, IsReady, IsFresh, IsBefore, FindsByte, IsSearchedFrom, TellsBackslash, TakesLine, SkipsFeed, feed_size, Searches, is_decided}
 use Rattle.properties_lines.specs.Scanner.{after_cr}
 use Rattle.properties_lines.specs.Private.PlainEnds.{is_plain_end}
 use Rattle.properties_lines.specs.declared.search.LineEnd.{LineEnd}
+use Rattle.properties_lines.specs.declared.scanner.BlockSearch.{BlockSearch}
+use Rattle.properties_lines.specs.declared.scanner.BlockSearch.TheVariants.{Found, Searched}
 use Rattle.properties_lines.specs.declared.scanner.Front.{Front}
 use Rattle.properties_lines.specs.declared.scanner.Front.TheVariants.{Feed, Nothing}
 use Rattle.properties_lines.specs.declared.scanner.RawLine.{RawLine}
@@ -411,15 +413,14 @@ holds-escape bytes from at low within escaped =
     sym (holds-at (take at bytes) from (omega (arith, low, length-take-le at bytes within)) (get_or-take at bytes from 0 low ∙ escaped))
 
 -- up to the line end after it
-pub flags-escaped : (bytes : List ℕ) (from : ℕ) (found : Result (ℕ × Bool) ℕ) → FindsByte is_line_end bytes found → IfOk found (λ end. from ≤ end.0)
-    → get_or bytes from 0 ≡ backslash → IfOk found (λ end. true ≡ holds_backslash (take end.0 bytes))
-flags-escaped bytes from (Ok end) h le escaped =
-    holds-escape bytes from end.0 (past-escape bytes from end.0 le escaped h.2) (omega (arith, h.1)) escaped
-flags-escaped bytes from (Err searched) h le escaped = tt
+pub tells-escaped : (bytes : List ℕ) (from : ℕ) (found : BlockSearch) → FindsByte is_line_end bytes found → IsSearchedFrom from (length bytes) found
+    → get_or bytes from 0 ≡ backslash → TellsBackslash bytes found true
+tells-escaped bytes from (Found size is_ascii) h le escaped = holds-escape bytes from size (past-escape bytes from size le escaped h.2) (omega (arith, h.1)) escaped
+tells-escaped bytes from (Searched count) h le escaped = tt
 
 -- ---- before the first byte that ends a plain text
 
-plain-clear : (text : List ℕ) → All (λ b. is_plain_end b ≡ false) text → All (λ b. is_line_end b ≡ false) text
+pub plain-clear : (text : List ℕ) → All (λ b. is_plain_end b ≡ false) text → All (λ b. is_line_end b ≡ false) text
 plain-clear text h = All-weaker (λ b. is_plain_end b ≡ false) (λ b. is_line_end b ≡ false) (λ b e. (or_parts (is_line_end b) (b == backslash) e).0) text h
 
 pub plain-unescaped : (text : List ℕ) → All (λ b. is_plain_end b ≡ false) text → holds_backslash text ≡ false
@@ -432,8 +433,8 @@ pub plain-before : (bytes : List ℕ) (n : ℕ) (is_ascii : Bool) → IsBefore i
 plain-before bytes n is_ascii h = record { within = h.within; clear = plain-clear (take n bytes) h.clear; ascii = h.ascii }
 
 -- where it isn't a backslash, it ends the line
-pub plain-found : (bytes : List ℕ) (n : ℕ) (is_ascii : Bool) → FindsByte is_plain_end bytes (Ok (n, is_ascii)) → (get_or bytes n 0 ≡ backslash → ⊥)
-    → FindsByte is_line_end bytes (Ok (n, is_ascii))
+pub plain-found : (bytes : List ℕ) (n : ℕ) (is_ascii : Bool) → FindsByte is_plain_end bytes (Found n is_ascii) → (get_or bytes n 0 ≡ backslash → ⊥)
+    → FindsByte is_line_end bytes (Found n is_ascii)
 plain-found bytes n is_ascii h other =
     let b = get_or bytes n 0 in
     let either : (is_line_end b || (b == backslash)) ≡ true = h.2 in (

@@ -2,7 +2,7 @@
 --
 -- A scanner holds no bytes. Together with the bytes that its caller holds, it has the state of a reader, and the format
 -- says what comes next in that state.
-use Rattle.std.specs.Prelude.{◌≡◌, ◌≢◌, ◌⊎◌, ◌↔◌, ℕ, ◌+◌, ◌-◌, ◌^◌, ◌<◌, ◌≤◌, Bool, true, false, if◌then◌else◌, List, [], ◌∷◌, ◌++◌, take, drop, length, get_or, Option, Some, None, Result, Ok, Err}
+use Rattle.std.specs.Prelude.{◌≡◌, ◌≢◌, ◌⊎◌, ◌↔◌, ℕ, ◌+◌, ◌-◌, ◌^◌, ◌<◌, ◌≤◌, Bool, true, false, if◌then◌else◌, List, [], ◌∷◌, ◌++◌, take, drop, length, get_or, Option, Some, None}
 use Rattle.std.specs.List.{All}
 use Rattle.std.specs.Str.{IsAscii}
 use Rattle.properties_format.specs.Text as text
@@ -20,6 +20,8 @@ use Rattle.properties_text.specs.Escaping.{holds_backslash}
 use Rattle.properties_text.specs.declared.encoding.byte_order_mark.ByteOrderMark.{ByteOrderMark}
 use Rattle.properties_text.specs.declared.encoding.byte_order_mark.ByteOrderMark.TheVariants.{Present, Absent, Undecided}
 use Rattle.properties_lines.specs.LineSearch.{unit_size, whole_units, IsSearched}
+use Rattle.properties_lines.specs.declared.scanner.BlockSearch.{BlockSearch}
+use Rattle.properties_lines.specs.declared.scanner.BlockSearch.TheVariants.{Found, Searched}
 use Rattle.properties_lines.specs.declared.scanner.Front.{Front}
 use Rattle.properties_lines.specs.declared.scanner.Front.TheVariants.{Mark, Feed, Nothing}
 use Rattle.properties_lines.specs.declared.scanner.RawLine.{RawLine}
@@ -175,9 +177,9 @@ pub record IsAlike (old : Scanner) (held : List ℕ) (ended : Bool) (new : Scann
   pub fits : Fits new held
   pub front : front_of (scanner_state old held) ≡ record { encoding = encoding_of new.encoding; body = drop new.at held }
 
-abbrev pub Settles : Scanner → List ℕ → Bool → Bool → Scanner → Type 0
-Settles old held ended true new = IsAlike old held ended new
-Settles old held ended false new = (ended ≡ false) × (new ≡ old) × (natural_to_come (scanner_state old held) [] more ≡ []) × (old.front ≢ Nothing)
+abbrev pub SkipsFront : Scanner → List ℕ → Bool → Bool → Scanner → Type 0
+SkipsFront old held ended true new = IsAlike old held ended new
+SkipsFront old held ended false new = (ended ≡ false) × (new ≡ old) × (natural_to_come (scanner_state old held) [] more ≡ []) × (old.front ≢ Nothing)
 
 -- the size of an LF at the front, or 0 if there is none
 abbrev pub feed_size : Encoding → List ℕ → ℕ
@@ -240,11 +242,21 @@ pub record IsBefore (test : ℕ → Bool) (bytes : List ℕ) (at : ℕ) (is_asci
   pub clear : All (λ b. test b ≡ false) (take at bytes)
   pub ascii : (is_ascii ≡ true) ↔ All (λ b. b < 0x80) (take at bytes)
 
--- The first byte that passes the test is at this place, and the result says whether those before it are ASCII; or no
+-- The first byte that passes the test is at this place, and `is_ascii` says whether those before it are ASCII; or no
 -- byte before this place passes it.
-abbrev pub FindsByte : (ℕ → Bool) → List ℕ → Result (ℕ × Bool) ℕ → Type 0
-FindsByte test bytes (Ok found) = IsBefore test bytes found.0 found.1 × (found.0 < length bytes) × (test (get_or bytes found.0 0) ≡ true)
-FindsByte test bytes (Err searched) = (searched ≤ length bytes) × All (λ b. test b ≡ false) (take searched bytes)
+abbrev pub FindsByte : (ℕ → Bool) → List ℕ → BlockSearch → Type 0
+FindsByte test bytes (Found size is_ascii) = IsBefore test bytes size is_ascii × (size < length bytes) × (test (get_or bytes size 0) ≡ true)
+FindsByte test bytes (Searched count) = (count ≤ length bytes) × All (λ b. test b ≡ false) (take count bytes)
+
+-- The search began at a place among this many bytes, and went on until fewer than sixteen were left.
+abbrev pub IsSearchedFrom : ℕ → ℕ → BlockSearch → Type 0
+IsSearchedFrom from total (Found size is_ascii) = from ≤ size
+IsSearchedFrom from total (Searched count) = total < count + 16
+
+-- whether a byte before the place that was found is a backslash
+abbrev pub TellsBackslash : List ℕ → BlockSearch → Bool → Type 0
+TellsBackslash bytes (Found size is_ascii) has_backslash = has_backslash ≡ holds_backslash (take size bytes)
+TellsBackslash bytes (Searched count) has_backslash = Unit {0}
 
 -- whether more bytes are needed to decide if there is a byte order mark
 abbrev pub is_undecided : ByteOrderMark → Bool

@@ -1,6 +1,6 @@
 //! Finds natural lines among bytes that the caller holds. It reads nothing, allocates nothing and can't fail.
 
-ghost use Rattle.std.specs.Prelude.{List, ℕ, ◌≡◌, ◌↔◌, ◌+◌, ◌-◌, ◌<◌, ◌≤◌, ◌^◌, true, false, [], length, take, drop, get_or, IfErr, IfOk};
+ghost use Rattle.std.specs.Prelude.{List, ℕ, ◌≡◌, ◌↔◌, ◌+◌, ◌-◌, ◌<◌, ◌≤◌, ◌^◌, true, false, [], length, take, drop, get_or};
 ghost use Rattle.std.specs.Str.{IsAscii};
 ghost use Rattle.properties_format.specs.Text.{backslash, is_line_end};
 ghost use Rattle.properties_format.specs.Cut.{units};
@@ -12,7 +12,7 @@ ghost use Rattle.properties_text.specs.Decoding.{FindsByteOrderMark};
 ghost use Rattle.properties_text.specs.Escaping.{holds_backslash};
 ghost use Rattle.properties_lines.specs.LineSearch.{unit_size, IsFirstLineEnd};
 ghost use Rattle.properties_lines.specs.Private.PlainEnds.{is_plain_end};
-ghost use Rattle.properties_lines.specs.Scanner.{Fits, Scans, Settles, SkipsFeed, IsReady, IsFresh, IsBefore, FindsByte, Searches, TakesLine, TakesLast, scanner_state, is_undecided};
+ghost use Rattle.properties_lines.specs.Scanner.{Fits, Scans, SkipsFront, SkipsFeed, IsReady, IsFresh, IsBefore, FindsByte, Searches, IsSearchedFrom, TellsBackslash, TakesLine, TakesLast, scanner_state, is_undecided};
 ghost use Rattle.properties_lines.specs.declared.scanner.Front.TheVariants.{Mark, Nothing};
 
 use crate::search::{LineEnd, find_line_end, unit_size, whole_units};
@@ -58,6 +58,15 @@ pub struct RawLine {
     pub is_ascii: bool,
     /// Whether one of its bytes is the byte of a backslash.
     pub has_backslash: bool,
+}
+
+// The result of a search among blocks of bytes.
+#[derive(Clone, Copy)]
+enum BlockSearch {
+    // This many bytes come before the byte that was sought. `is_ascii` says whether they are ASCII.
+    Found { size: usize, is_ascii: bool },
+    // It isn't among this many bytes at the front.
+    Searched(usize),
 }
 
 /// The state of a scan between two lines. The bytes that are held are passed to each call that needs them.
@@ -174,7 +183,7 @@ impl Scanner {
         if self.passed == usize::MAX {
             return Scan::TooMany;
         }
-        if !self.settle(held, ended) {
+        if !self.skip_front(held, ended) {
             return Scan::More;
         }
         if self.search(held) {
@@ -189,26 +198,26 @@ impl Scanner {
 
     // Skips the byte order mark, or the LF after a CR. Returns `false` if more bytes are needed to decide.
     #[inline(always)]
-    fn settle(&mut self, held: &[u8], ended: bool) -> bool
+    fn skip_front(&mut self, held: &[u8], ended: bool) -> bool
         requires fits { Fits self.old held.now }
         requires live { self.old.is_done ≡ false }
-        ensures { Settles self.old held.now ended result self.new }
+        ensures { SkipsFront self.old held.now ended result self.new }
     {
         if let Front::Nothing = self.front {
             return true;
         }
-        self.skip_front(held, ended)
+        self.skip_mark_or_feed(held, ended)
     }
 
     #[inline(never)]
-    fn skip_front(&mut self, held: &[u8], ended: bool) -> bool
+    fn skip_mark_or_feed(&mut self, held: &[u8], ended: bool) -> bool
         requires fits { Fits self.old held.now }
         requires live { self.old.is_done ≡ false }
-        ensures { Settles self.old held.now ended result self.new }
+        ensures { SkipsFront self.old held.now ended result self.new }
     {
         match self.front {
             Front::Nothing => true,
-            Front::Mark => self.decide(held, ended),
+            Front::Mark => self.skip_mark(held, ended),
             Front::Feed => {
                 self.front = Front::Nothing;
                 self.skip_feed(held, unit_size(self.encoding), ended)
@@ -216,11 +225,12 @@ impl Scanner {
         }
     }
 
-    fn decide(&mut self, held: &[u8], ended: bool) -> bool
+    // Skips the byte order mark, if there is one. Returns `false` if more bytes are needed to decide.
+    fn skip_mark(&mut self, held: &[u8], ended: bool) -> bool
         requires fits { Fits self.old held.now }
         requires live { self.old.is_done ≡ false }
         requires mark { self.old.front ≡ Mark }
-        ensures { Settles self.old held.now ended result self.new }
+        ensures { SkipsFront self.old held.now ended result self.new }
     {
         let mark = byte_order_mark(&held[self.at..]);
         if !ended && is_undecided(mark) {
@@ -230,7 +240,7 @@ impl Scanner {
         true
     }
 
-    // Skips the byte order mark, if there is one.
+    // Skips this byte order mark, if it is one.
     fn take_mark(&mut self, held: &[u8], mark: ByteOrderMark)
         requires fits { Fits self.old held.now }
         requires front { self.old.front ≡ Mark }
@@ -239,6 +249,7 @@ impl Scanner {
         ensures within { self.new.at ≤ length held.now }
         ensures same { self.new ≡ record self.old { encoding = self.new.encoding; front = Nothing; at = self.new.at } }
     {
+        // It tells the prover that a length fits a `usize`.
         let _length = held.len();
         if let ByteOrderMark::Present(encoding, length) = mark {
             self.encoding = encoding;
@@ -288,17 +299,20 @@ impl Scanner {
         ensures { Searches self.old held.now result self.new }
     {
         let bytes = &held[self.at..];
-        // The processor predicts this branch, so it needn't wait for a blank line's end before it continues with the
-        // next line.
+        // This test of one byte finds the end of a blank line sooner than a search of sixteen bytes.
         if !bytes.is_empty() && is_line_end(char::from(bytes[0])) {
-            return self.take_found(held, Ok((0, true)), false);
+            let found = BlockSearch::Found {
+                size: 0,
+                is_ascii: true,
+            };
+            return self.take_found(held, found, false);
         }
-        match search_blocks::<PlainEnds>(bytes, 0, true) {
-            Ok((size, is_ascii)) if bytes[size] == b'\\' => self.search_escaped(
+        let found = search_blocks::<PlainEnds>(bytes, 0, true);
+        match found {
+            BlockSearch::Found { size, is_ascii } if bytes[size] == b'\\' => self.search_escaped(
                 held, size, is_ascii,
             ),
-            Ok(end) => self.take_found(held, Ok(end), false),
-            Err(searched) => self.take_found(held, Err(searched), false),
+            _ => self.take_found(held, found, false),
         }
     }
 
@@ -318,27 +332,22 @@ impl Scanner {
 
     // Takes the line up to the end that was found, or continues to search, where units are one byte long.
     #[inline(always)]
-    fn take_found(
-        &mut self,
-        held: &[u8],
-        found: Result<(usize, bool), usize>,
-        has_backslash: bool,
-    ) -> bool
+    fn take_found(&mut self, held: &[u8], found: BlockSearch, has_backslash: bool) -> bool
         requires ready { IsReady self.old held.now }
         requires fresh { IsFresh self.old }
         requires found { FindsByte is_line_end (drop self.old.at held.now) found }
-        requires flags { IfOk found (λ end. has_backslash ≡ holds_backslash (take end.0 (drop self.old.at held.now))) }
+        requires backslash { TellsBackslash (drop self.old.at held.now) found has_backslash }
         ensures { Searches self.old held.now result self.new }
     {
         match found {
-            Ok((size, is_ascii)) => {
+            BlockSearch::Found { size, is_ascii } => {
                 let is_cr = held[self.at + size] == b'\r';
                 let end = LineEnd { at: size, is_cr };
                 self.take(held, end, 1, is_ascii, has_backslash);
                 true
             }
-            Err(searched) => {
-                self.searched = searched;
+            BlockSearch::Searched(count) => {
+                self.searched = count;
                 self.search_on(held)
             }
         }
@@ -431,18 +440,12 @@ impl ByteClass for PlainEnds {
     }
 }
 
-// Finds the first byte of the class, sixteen bytes at a time. Returns how many bytes come before it and whether they
-// are ASCII; or, as an error, a number of bytes at the front among which there is none. Fewer than sixteen are left then.
+// Finds the first byte of the class, sixteen bytes at a time, until fewer than sixteen are left.
 #[inline(always)]
-fn search_blocks<C: ByteClass>(
-    bytes: &[u8],
-    from: usize,
-    is_ascii_before: bool,
-) -> Result<(usize, bool), usize>
+fn search_blocks<C: ByteClass>(bytes: &[u8], from: usize, is_ascii_before: bool) -> BlockSearch
     requires { IsBefore C.holds bytes.now from is_ascii_before }
     ensures finds { FindsByte C.holds bytes.now result }
-    ensures on { IfOk result (λ end. from ≤ end.0) }
-    ensures few { IfErr result (λ end. length bytes.now < end + 16) }
+    ensures from { IsSearchedFrom from (length bytes.now) result }
 {
     let mut at = from;
     let mut is_ascii = is_ascii_before;
@@ -451,12 +454,15 @@ fn search_blocks<C: ByteClass>(
         let past = PastAscii::marks(v);
         if let Some(first) = C::marks(v).first() {
             let is_ascii = is_ascii && past.is_clear_before(first);
-            return Ok((at + first, is_ascii));
+            return BlockSearch::Found {
+                size: at + first,
+                is_ascii,
+            };
         }
         is_ascii = is_ascii && past.is_clear();
         at += 16;
     }
-    Err(at)
+    BlockSearch::Searched(at)
 }
 
 // Returns whether the bytes are ASCII characters of one byte each.

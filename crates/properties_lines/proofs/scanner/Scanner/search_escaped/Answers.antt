@@ -1,6 +1,6 @@
 use Rattle.std.proofs.Common.{drop}
 use Rattle.std.proofs.lemmas.List.{take_rest}
-use Rattle.properties_lines.proofs.ScannerSearch.{flags-escaped}
+use Rattle.properties_lines.proofs.ScannerSearch.{tells-escaped}
 use Rattle.properties_lines.proofs.scanner.Scanner.search_escaped.Goals as goal
 
 pub search_blocks-found-requires : goal.search_blocks-found-requires
@@ -9,8 +9,10 @@ search_blocks-found-requires c = rw (take_rest c.args.held.now c.args.self.now.a
 pub take_found-requires-clause-found : goal.take_found-requires-clause-found
 take_found-requires-clause-found c = rw (take_rest c.args.held.now c.args.self.now.at) at c.search_blocks-found.ensures.finds
 
-pub take_found-requires-clause-flags : goal.take_found-requires-clause-flags
-take_found-requires-clause-flags c =
+pub take_found-requires-clause-backslash : goal.take_found-requires-clause-backslash
+take_found-requires-clause-backslash c =
     let s = c.args.self.now in
-    let finds = rw (take_rest c.args.held.now s.at) at c.search_blocks-found.ensures.finds in
-    flags-escaped (drop s.at c.args.held.now) c.args.from c.search_blocks-found.result finds c.search_blocks-found.ensures.on c.requires.escaped
+    let rest = take_rest c.args.held.now s.at in
+    let finds = rw rest at c.search_blocks-found.ensures.finds in
+    let from = rw rest at c.search_blocks-found.ensures.from in
+    tells-escaped (drop s.at c.args.held.now) c.args.from c.search_blocks-found.result finds from c.requires.escaped
