@@ -2,9 +2,9 @@
 use Rattle.std.specs.Prelude.{◌≡◌, ◌⊎◌, ◌≤◌, ◌<◌, ◌+◌, ◌*◌, ℕ, nat_le, nat_lt, ◌&&◌, Bool, not, true, false, if◌then◌else◌, List, [], ◌∷◌, ◌++◌, length, take, drop, get_or, Result, Ok, Err}
 use Rattle.properties_format.specs.Escapes as format_escapes
 use Rattle.properties_format.specs.Escapes.{Meaning, means, breaks}
-use Rattle.properties_format.specs.Computed.Escapes.{meaning_of, in_front, text_in_front}
+use Rattle.properties_format.specs.Computed.Escapes.{meaning_of, text_in_front}
 use Rattle.properties_text.specs.Escaping.{malformed_in}
-use Rattle.properties_text.specs.Spelt.{text_in, IsWell}
+use Rattle.properties_text.specs.Spelt.{text_in, IsWell, Spells}
 use Rattle.properties_text.specs.Printing.{puts_of, key_bytes, printed_bytes}
 use Rattle.properties_text.specs.declared.encoding.line.Spelt.{Spelt}
 use Rattle.properties_text.specs.declared.escape.Malformed.{Malformed}
@@ -107,11 +107,16 @@ Prints m bytes old at new (Err error.Memory) = Unit {0}
 
 -- ---- reading
 
+-- So many bytes at the front spell this character, or are it if a backslash stands for itself.
+abbrev pub StandsBy : Bool → LineEncoding → List ℕ → Spelt → Type 0
+StandsBy true e bytes spelt = Spells e bytes spelt
+StandsBy false e bytes spelt = text_in e bytes ≡ spelt.character ∷ text_in e (drop spelt.length bytes)
+
 -- The bytes begin with so many that are this character, or spell it.
 pub record IsReadBy (escaped : Bool) (e : LineEncoding) (bytes : List ℕ) (spelt : Spelt) : Type 0 where
   pub some : 0 < spelt.length
   pub within : spelt.length ≤ length bytes
-  pub meaning : meaning_in e escaped bytes ≡ in_front spelt.character (meaning_in e escaped (drop spelt.length bytes))
+  pub stands : StandsBy escaped e bytes spelt
   pub well : IsWell e (drop spelt.length bytes)
 
 -- The result of reading the first character of bytes.

@@ -1,10 +1,10 @@
 -- Characters and escapes that are read from the bytes of a line, in either encoding.
-use Rattle.std.specs.Prelude.{◌≡◌, ◌<◌, ◌≤◌, ◌⊎◌, ℕ, nat_lt, true, false, if◌then◌else◌, List, ◌∷◌, length, drop, get_or, Result, Ok, Err}
+use Rattle.std.specs.Prelude.{◌≡◌, ◌<◌, ◌≤◌, ◌⊎◌, ℕ, nat_lt, true, false, if◌then◌else◌, List, ◌∷◌, ◌++◌, length, drop, get_or, Result, Ok, Err}
 use Rattle.std.specs.Char.{IsScalar}
 use Rattle.std.specs.Str.{IsUtf8, chars}
 use Rattle.properties_format.specs.Text.{backslash}
-use Rattle.properties_format.specs.Escapes.{letter_u, NoSpelling, are_hexadecimal, code_unit, is_high, is_low, pair_character, means, breaks, Four}
-use Rattle.properties_format.specs.Computed.Escapes.{in_front, meaning_of}
+use Rattle.properties_format.specs.Escapes.{letter_u, Spelling, spelling_text, spelling_character, IsSpelling, NoSpelling, are_hexadecimal, code_unit, is_high, is_low, pair_character, means, breaks, Four}
+use Rattle.properties_format.specs.Computed.Escapes.{meaning_of}
 use Rattle.properties_format.specs.Computed.Undecoded.{characters_of}
 use Rattle.properties_text.specs.Escaping.{malformed_in, four_bytes}
 use Rattle.properties_text.specs.declared.encoding.line.LineEncoding.{LineEncoding}
@@ -31,12 +31,19 @@ pub record IsFirst (e : LineEncoding) (bytes : List ℕ) (spelt : Spelt) : Type 
   pub characters : text_in e bytes ≡ spelt.character ∷ text_in e (drop spelt.length bytes)
   pub well : IsWell e (drop spelt.length bytes)
 
+-- So many bytes at the front are a spelling of this character.
+pub record Spells (e : LineEncoding) (bytes : List ℕ) (spelt : Spelt) : Type 0 where
+  pub spelling : Spelling
+  pub whole : text_in e bytes ≡ spelling_text spelling ++ text_in e (drop spelt.length bytes)
+  pub stands : IsSpelling spelling (text_in e (drop spelt.length bytes))
+  pub character : spelt.character ≡ spelling_character spelling
+
 -- The bytes begin with so many that spell this character.
 pub record IsRead (e : LineEncoding) (bytes : List ℕ) (spelt : Spelt) : Type 0 where
   pub some : 0 < spelt.length
   pub within : spelt.length ≤ length bytes
   pub scalar : IsScalar spelt.character
-  pub meaning : meaning_of (text_in e bytes) ≡ in_front spelt.character (meaning_of (text_in e (drop spelt.length bytes)))
+  pub spells : Spells e bytes spelt
   pub well : IsWell e (drop spelt.length bytes)
 
 -- The bytes begin with a spelling; or with none, and the error says how they are malformed.

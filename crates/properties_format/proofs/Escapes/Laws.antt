@@ -1,7 +1,7 @@
 -- What a text means, given what it begins with.
 use Rattle.std.proofs.Common.{◌≡◌, ℕ, ◌==◌, ◌<◌, length, true, false, List, [], ◌∷◌, ◌++◌, map, None, refl, ap, ◌∙◌, append-nil, arith}
 use Rattle.properties_format.specs.Text.{backslash}
-use Rattle.properties_format.specs.Escapes.{Malformed, letter_u, escaped_character, Four, four_text, are_hexadecimal, code_unit, is_high, is_low, is_surrogate, pair_character, Spelling, itself, escaped, unicode, surrogates, last, spelling_character, IsSpelling, spellings_before, AreSpellings, NoSpelling, not_enough_digits, not_hex, invalid_character, malformed_by, means, breaks}
+use Rattle.properties_format.specs.Escapes.{Malformed, letter_u, Four, four_text, are_hexadecimal, code_unit, is_high, is_low, Spelling, itself, escaped, unicode, surrogates, last, spelling_character, IsSpelling, spellings_before, AreSpellings, NoSpelling, not_enough_digits, not_hex, invalid_character, malformed_by, means, breaks}
 use Rattle.properties_format.specs.Computed.Escapes.{with_low, after_u, in_front, text_in_front, meaning_of}
 use Rattle.properties_format.specs.Writing.{HoldsNoBackslash}
 use Rattle.properties_format.proofs.Escapes.First.{spelling_of-none}
@@ -12,25 +12,6 @@ use Rattle.properties_format.proofs.Escapes.Unique.{text_in_front-means, meaning
 -- a character that isn't a backslash
 pub meaning_of-itself : (c : ℕ) (rest : List ℕ) → (c == backslash) ≡ false → meaning_of (c ∷ rest) ≡ in_front c (meaning_of rest)
 meaning_of-itself c rest h = meaning_of-spelling (itself c) rest h
-
--- a backslash and a character other than u
-pub meaning_of-escaped : (c : ℕ) (rest : List ℕ) → (c == letter_u) ≡ false → meaning_of (backslash ∷ c ∷ rest) ≡ in_front (escaped_character c) (meaning_of rest)
-meaning_of-escaped c rest h = meaning_of-spelling (escaped c) rest h
-
--- a `\u` escape that isn't a surrogate
-pub meaning_of-unicode : (d : Four) (rest : List ℕ) → are_hexadecimal d ≡ true → is_surrogate (code_unit d) ≡ false
-    → meaning_of (backslash ∷ letter_u ∷ four_text d ++ rest) ≡ in_front (code_unit d) (meaning_of rest)
-meaning_of-unicode d rest h k = meaning_of-spelling (unicode d) rest (h, k)
-
--- two `\u` escapes, of a high surrogate and of a low one
-pub meaning_of-surrogates : (high low : Four) (rest : List ℕ) → are_hexadecimal high ≡ true → is_high (code_unit high) ≡ true
-    → are_hexadecimal low ≡ true → is_low (code_unit low) ≡ true
-    → meaning_of (backslash ∷ letter_u ∷ four_text high ++ (backslash ∷ letter_u ∷ four_text low ++ rest)) ≡ in_front (pair_character (code_unit high) (code_unit low)) (meaning_of rest)
-meaning_of-surrogates high low rest h k l m = meaning_of-spelling (surrogates high low) rest (h, k, l, m)
-
--- a backslash at the end of the text
-pub meaning_of-last : meaning_of (backslash ∷ []) ≡ means (0 ∷ [])
-meaning_of-last = meaning_of-spelling last [] refl ∙ ap (in_front 0) meaning_of-empty
 
 -- ---- a text without a backslash means itself
 

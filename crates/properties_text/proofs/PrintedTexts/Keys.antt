@@ -18,7 +18,7 @@ use Rattle.properties_text.specs.declared.print.Pair.{Pair}
 use Rattle.properties_text.specs.declared.print.Repertoire.{Repertoire}
 use Rattle.properties_text.proofs.Printing.Characters.{first_escaped_more}
 use Rattle.properties_text.proofs.TextFronts.{taken-rest}
-use Rattle.properties_text.proofs.PrintedTexts.Runs.{front-kept}
+use Rattle.properties_text.proofs.PrintedTexts.Runs.{read-meaning, front-kept}
 use Rattle.properties_text.proofs.Spelt.Escapes.{no-text}
 
 -- ---- what was put
@@ -123,14 +123,14 @@ pub escaped-rest : (e : LineEncoding) (r : Repertoire) (escaped : Bool) (text ol
 escaped-rest e r escaped text old at mid new rest between first (Ok end) read is put h = record {
   within = h.within;
   meant = first.character ∷ h.meant;
-  meaning = read.meaning ∙ ap (λ v. in_front first.character (meaning_in e escaped v)) (sym is) ∙ ap (in_front first.character) h.meaning;
+  meaning = read-meaning escaped e text first read.stands ∙ ap (λ v. in_front first.character (meaning_in e escaped v)) (sym is) ∙ ap (in_front first.character) h.meaning;
   printed =
       h.printed
       ∙ ap (λ v. v ++ puts_of r h.meant) put
       ∙ first_escaped_more (encoding_in r) (only_in r) in_key_or_value (take at old) h.meant first.character;
 }
 escaped-rest e r escaped text old at mid new rest between first (Err (error.Malformed kind)) read is put h =
-    read.meaning ∙ ap (λ v. in_front first.character (meaning_in e escaped v)) (sym is) ∙ ap (in_front first.character) h
+    read-meaning escaped e text first read.stands ∙ ap (λ v. in_front first.character (meaning_in e escaped v)) (sym is) ∙ ap (in_front first.character) h
 escaped-rest e r escaped text old at mid new rest between first (Err error.Memory) read is put h = tt
 
 -- ---- pairs

@@ -11,12 +11,11 @@ use Rattle.properties_format.specs.Text.{backslash}
 use Rattle.properties_format.specs.Escapes as format
 use Rattle.properties_format.specs.Escapes.{Meaning, means, breaks}
 use Rattle.properties_format.specs.Computed.Escapes.{in_front, text_in_front}
-use Rattle.properties_format.proofs.Escapes.Laws.{meaning_of-itself}
 use Rattle.properties_format.proofs.Escapes.Unique.{text_in_front-means, text_in_front-breaks, meaning_of-empty}
 use Rattle.properties_text.specs.Escaping.{malformed_in}
 use Rattle.properties_text.specs.Printing.{printed_byte, printed_bytes, with_backslashes, put_of, puts_of}
 use Rattle.properties_text.specs.Spelt.{text_in, IsWell, IsFirst, Reads}
-use Rattle.properties_text.specs.PrintedTexts.{meaning_by, meaning_in, printed_by, printed_in, is_inside, past_in, rest_in, StopsIn, ArePut, IsReadBy, ReadsBy, from_on, PutsStops, PrintsRest, IsRunPut, IsPut, Prints}
+use Rattle.properties_text.specs.PrintedTexts.{meaning_by, meaning_in, printed_by, printed_in, is_inside, past_in, rest_in, StopsIn, ArePut, StandsBy, IsReadBy, ReadsBy, from_on, PutsStops, PrintsRest, IsRunPut, IsPut, Prints}
 use Rattle.properties_text.specs.declared.encoding.line.LineEncoding.{LineEncoding}
 use Rattle.properties_text.specs.declared.encoding.line.LineEncoding.TheVariants.{Windows1252, Utf8}
 use Rattle.properties_text.specs.declared.encoding.line.Spelt.{Spelt}
@@ -33,7 +32,7 @@ use Rattle.properties_text.specs.declared.print.Repertoire.TheVariants as repert
 use Rattle.properties_text.specs.declared.print.text.Put.{Put}
 use Rattle.properties_text.proofs.Texts.Resolving.{text_in_front-append}
 use Rattle.properties_text.proofs.Spelt.First.{ascii-back}
-use Rattle.properties_text.proofs.Spelt.Escapes.{no-text}
+use Rattle.properties_text.proofs.Spelt.Escapes.{no-text, spells-meaning}
 use Rattle.properties_text.proofs.Printing.Bytes.{printed_bytes-append}
 use Rattle.properties_text.proofs.PrintedTexts.Steps.{printed-one, rest-well, past-well, run-of, not-inside}
 
@@ -41,7 +40,7 @@ use Rattle.properties_text.proofs.PrintedTexts.Steps.{printed-one, rest-well, pa
 
 -- What a backslash at a stop spells is read.
 pub reads-escape : (escaped : Bool) (e : LineEncoding) (bs : List ℕ) (r : Result Spelt Malformed) → escaped ≡ true → Reads e bs r → ReadsBy escaped e bs r
-reads-escape true e bs (Ok spelt) on h = record { some = h.some; within = h.within; meaning = h.meaning; well = h.well }
+reads-escape true e bs (Ok spelt) on h = record { some = h.some; within = h.within; stands = h.spells; well = h.well }
 reads-escape true e bs (Err m) on h = h.1
 reads-escape false e bs r on h = absurd (cc)
 
@@ -51,7 +50,7 @@ pub reads-itself : (escaped : Bool) (e : LineEncoding) (bs : List ℕ) (spelt : 
 reads-itself escaped e bs spelt w other h = record {
   some = h.some;
   within = h.within;
-  meaning = ap (meaning_by escaped) h.characters ∙ by escaped other;
+  stands = by escaped other;
   well = h.well;
 }
   where
@@ -61,10 +60,20 @@ reads-itself escaped e bs spelt w other h = record {
         let both : true ≡ false = other (ap (λ v. get_or v 0 0) back.1 ∙ q) in
         cc
 
-    by : (escaped : Bool) → (get_or bs 0 0 ≡ backslash → escaped ≡ false) → meaning_by escaped (spelt.character ∷ text_in e (drop spelt.length bs)) ≡ in_front
-        spelt.character (meaning_in e escaped (drop spelt.length bs))
-    by true other = meaning_of-itself spelt.character (text_in e (drop spelt.length bs)) (ne_eqb spelt.character backslash (not-one other))
-    by false other = refl
+    by : (escaped : Bool) → (get_or bs 0 0 ≡ backslash → escaped ≡ false) → StandsBy escaped e bs spelt
+    by true other = record {
+      spelling = format.itself spelt.character;
+      whole = h.characters;
+      stands = ne_eqb spelt.character backslash (not-one other);
+      character = refl;
+    }
+    by false other = h.characters
+
+-- So bytes mean the character and what is after it.
+pub read-meaning : (escaped : Bool) (e : LineEncoding) (bs : List ℕ) (spelt : Spelt) → StandsBy escaped e bs spelt
+    → meaning_in e escaped bs ≡ in_front spelt.character (meaning_in e escaped (drop spelt.length bs))
+read-meaning true e bs spelt h = spells-meaning e bs spelt h
+read-meaning false e bs spelt h = ap means h
 
 -- ---- one more is put
 
@@ -116,7 +125,7 @@ module _ (holds : ℕ → Bool) (e : LineEncoding) (t : Repertoire) (whole : Mea
       (
       ap (rest_in e t (holds backslash)) (sym is)
       ∙ rest-well e t (holds backslash) bs own
-      ∙ ap (printed_by t) h.meaning
+      ∙ ap (printed_by t) (read-meaning (holds backslash) e bs spelt h.stands)
       ∙ printed-one t spelt.character (meaning_in e (holds backslash) (drop spelt.length bs))
       ∙ ap (λ v. text_in_front (put_of t spelt.character) (printed_in e t (holds backslash) v)) left
       ∙ ap (text_in_front (put_of t spelt.character)) (sym (rest-well e t (holds backslash) (drop put.read text) well))

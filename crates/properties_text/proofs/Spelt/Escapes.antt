@@ -9,19 +9,19 @@ use Rattle.std.proofs.lemmas.Str.{encodes-chars, chars-nil}
 use Rattle.std.proofs.lemmas.List.{get_or-drop, drop-drop, length-drop}
 use Rattle.properties_format.specs.Text.{backslash}
 use Rattle.properties_format.specs.Windows1252.{windows_1252_character}
-use Rattle.properties_format.specs.Escapes.{letter_u, NoSpelling, are_hexadecimal, code_unit, is_low, escaped_character, breaks, Four, four_text}
+use Rattle.properties_format.specs.Escapes.{letter_u, escaped, unicode, surrogates, last, spelling_text, NoSpelling, are_hexadecimal, code_unit, is_high, is_low, is_surrogate, pair_character, escaped_character, breaks, Four, four_text}
 use Rattle.properties_format.specs.Computed.Escapes.{in_front, with_low, meaning_of}
 use Rattle.properties_format.proofs.Encodings.Windows1252.{windows_1252-ascii}
-use Rattle.properties_format.proofs.Escapes.Laws.{meaning_of-escaped, meaning_of-last, IsMalformedUnit}
-use Rattle.properties_format.proofs.Escapes.Unique.{meaning_of-empty}
+use Rattle.properties_format.proofs.Escapes.Laws.{IsMalformedUnit}
+use Rattle.properties_format.proofs.Escapes.Unique.{meaning_of-spelling}
 use Rattle.properties_text.specs.Escaping.{malformed_in}
-use Rattle.properties_text.specs.Spelt.{text_in, IsWell, IsFirst, IsRead, Reads, digits_in, BeginsUnit, HasDigits, LacksDigits, HasLow, LacksLow, CountsFour}
+use Rattle.properties_text.specs.Spelt.{text_in, IsWell, IsFirst, Spells, IsRead, Reads, digits_in, BeginsUnit, HasDigits, LacksDigits, HasLow, LacksLow, CountsFour}
 use Rattle.properties_text.specs.declared.encoding.line.LineEncoding.{LineEncoding}
 use Rattle.properties_text.specs.declared.encoding.line.LineEncoding.TheVariants.{Windows1252, Utf8}
 use Rattle.properties_text.specs.declared.encoding.line.Spelt.{Spelt}
 use Rattle.properties_text.specs.declared.escape.Malformed.{Malformed}
 use Rattle.properties_text.specs.declared.escape.Malformed.TheVariants.{NotEnoughDigits, NotHex, InvalidCharacter}
-use Rattle.properties_text.proofs.Texts.Escapes.{IsUnit, IsUnread, malformed-unread, malformed-unpaired, scalar-unit, surrogate-unit, meaning-unit, meaning-pair, other-character}
+use Rattle.properties_text.proofs.Texts.Escapes.{IsUnit, IsUnread, malformed-unread, malformed-unpaired, scalar-unit, surrogate-unit, other-character}
 use Rattle.properties_text.proofs.Texts.Units.{ascii-digits, unit-bytes}
 use Rattle.properties_text.proofs.Spelt.First.{ascii-first, ascii-back}
 
@@ -208,6 +208,13 @@ reads-unpaired e bs high w b h out none =
 
 -- ---- what is
 
+-- What is spelt means the character and what is after it.
+pub spells-meaning : (e : LineEncoding) (bs : List ℕ) (spelt : Spelt) → Spells e bs spelt
+    → meaning_of (text_in e bs) ≡ in_front spelt.character (meaning_of (text_in e (drop spelt.length bs)))
+spells-meaning e bs spelt s =
+    let rest = text_in e (drop spelt.length bs) in
+    ap meaning_of s.whole ∙ meaning_of-spelling s.spelling rest s.stands ∙ ap (λ v. in_front v (meaning_of rest)) (sym s.character)
+
 -- One `\u` escape was read.
 pub reads-unit : (e : LineEncoding) (bs : List ℕ) (value c : ℕ) → IsWell e bs → BeginsUnit bs → HasDigits bs value → InScalarRange value → c ≡ value
     → IsScalar c → IsRead e bs record { character = c; length = 6 }
@@ -218,8 +225,12 @@ reads-unit e bs value c w b h in_range is s =
       some = omega arith;
       within = h.within;
       scalar = s;
-      meaning = ap meaning_of a.characters ∙ meaning-unit (text_in e (drop 2 bs)) (text_in e (drop 6 bs)) value u.0 (scalar-unit value in_range)
-          ∙ ap (λ v. in_front v (meaning_of (text_in e (drop 6 bs)))) (sym is);
+      spells = record {
+        spelling = unicode u.0.digits;
+        whole = a.characters ∙ ap (λ v. backslash ∷ letter_u ∷ v) u.0.whole;
+        stands = (u.0.hexadecimal, sym (ap is_surrogate u.0.writes) ∙ scalar-unit value in_range);
+        character = is ∙ u.0.writes;
+      };
       well = u.1;
     }
 
@@ -237,10 +248,14 @@ reads-pair e bs high c w b h l s =
       some = omega arith;
       within = omega (arith, l.digits.within, length-drop 6 bs);
       scalar = s;
-      meaning = ap meaning_of a.characters
-          ∙ meaning-pair (text_in e (drop 2 bs)) (text_in e (drop 2 (drop 6 bs))) (text_in e (drop 6 (drop 6 bs))) high low
-          (subst (IsUnit (text_in e (drop 2 bs)) high) a'.characters u.0) v.0 l.is_high l.is_low
-          ∙ ap₂ (λ x y. in_front x (meaning_of (text_in e y))) (sym l.is) twelve;
+      spells = record {
+        spelling = surrogates u.0.digits v.0.digits;
+        whole = a.characters
+            ∙ ap (λ x. backslash ∷ letter_u ∷ x) (u.0.whole ∙ ap (λ x. four_text u.0.digits ++ x) (a'.characters ∙ ap (λ x. backslash ∷ letter_u ∷ x) v.0.whole))
+            ∙ ap (λ x. spelling_text (surrogates u.0.digits v.0.digits) ++ text_in e x) twelve;
+        stands = (u.0.hexadecimal, sym (ap is_high u.0.writes) ∙ l.is_high, v.0.hexadecimal, sym (ap is_low v.0.writes) ∙ l.is_low);
+        character = l.is ∙ ap₂ pair_character u.0.writes v.0.writes;
+      };
       well = subst (IsWell e) twelve v.1;
     }
 
@@ -255,9 +270,12 @@ reads-ascii e bs c w some b other small is s =
       some = omega arith;
       within = some;
       scalar = s;
-      meaning = ap meaning_of (a.characters ∙ ap (λ v. v ∷ x ∷ text_in e (drop 2 bs)) b)
-          ∙ meaning_of-escaped x (text_in e (drop 2 bs)) (ne_eqb x letter_u other)
-          ∙ ap (λ v. in_front v (meaning_of (text_in e (drop 2 bs)))) (sym is);
+      spells = record {
+        spelling = escaped x;
+        whole = a.characters ∙ ap (λ v. v ∷ x ∷ text_in e (drop 2 bs)) b;
+        stands = ne_eqb x letter_u other;
+        character = is;
+      };
       well = a.well;
     }
 
@@ -271,12 +289,16 @@ no-text e (b ∷ bs) h = absurd (omega arith)
 pub reads-end : (e : LineEncoding) (bs : List ℕ) → IsWell e bs → length bs ≡ 1 → get_or bs 0 0 ≡ backslash → IsRead e bs record { character = 0; length = 1 }
 reads-end e bs w one b =
     let a = after-one e bs w (omega arith) (omega (arith, b)) in
-    let none : text_in e (drop 1 bs) ≡ [] = no-text e (drop 1 bs) (omega (arith, length-drop 1 bs)) in
     record {
       some = omega arith;
       within = omega arith;
       scalar = refl;
-      meaning = ap meaning_of (a.characters ∙ ap₂ (λ x v. x ∷ v) b none) ∙ meaning_of-last ∙ ap (in_front 0) (sym (ap meaning_of none ∙ meaning_of-empty));
+      spells = record {
+        spelling = last;
+        whole = a.characters ∙ ap (λ v. v ∷ text_in e (drop 1 bs)) b;
+        stands = no-text e (drop 1 bs) (omega (arith, length-drop 1 bs));
+        character = refl;
+      };
       well = a.well;
     }
 
@@ -298,7 +320,11 @@ reads-past e bs first w some b past f =
       some = omega arith;
       within = omega (arith, f.within, length-drop 1 bs);
       scalar = f.scalar;
-      meaning = ap meaning_of (a.characters ∙ ap₂ (λ x v. x ∷ v) b f.characters) ∙ meaning_of-escaped c rest (ne_eqb c letter_u (λ q. absurd (omega arith)))
-          ∙ ap₂ (λ x v. in_front x (meaning_of (text_in e v))) (other-character c (λ q. absurd (omega arith)) (λ q. absurd (omega arith)) (λ q. absurd (omega arith)) (λ q. absurd (omega arith))) left;
+      spells = record {
+        spelling = escaped c;
+        whole = a.characters ∙ ap₂ (λ x v. x ∷ v) b f.characters ∙ ap (λ v. backslash ∷ c ∷ text_in e v) left;
+        stands = ne_eqb c letter_u (λ q. absurd (omega arith));
+        character = sym (other-character c (λ q. absurd (omega arith)) (λ q. absurd (omega arith)) (λ q. absurd (omega arith)) (λ q. absurd (omega arith)));
+      };
       well = subst (IsWell e) left f.well;
     }

@@ -19,6 +19,7 @@ use Rattle.properties_text.specs.Spelt.{text_in, IsWell, IsRead}
 use Rattle.properties_text.specs.declared.encoding.line.LineEncoding.{LineEncoding}
 use Rattle.properties_text.specs.declared.encoding.line.LineEncoding.TheVariants.{Windows1252, Utf8}
 use Rattle.properties_text.specs.declared.encoding.line.Spelt.{Spelt}
+use Rattle.properties_text.proofs.Spelt.Escapes.{spells-meaning}
 use Rattle.properties_text.proofs.Texts.Resolving.{found_some, found_none, split_at, plain, text_in_front-append}
 
 -- ---- windows-1252
@@ -91,7 +92,7 @@ module _ (e : LineEncoding) (text rest : List ℕ) (at : ℕ) (held : IsReadTo e
         well = r.well;
         done = held.done ++ (s.front ++ spelt.character ∷ []);
         meaning = held.meaning
-            ∙ ap (text_in_front held.done) (s.meaning ∙ ap (text_in_front s.front) r.meaning ∙ sym (text_in_front-append s.front (spelt.character ∷ []) after))
+            ∙ ap (text_in_front held.done) (s.meaning ∙ ap (text_in_front s.front) (spells-meaning e (drop at rest) spelt r.spells) ∙ sym (text_in_front-append s.front (spelt.character ∷ []) after))
             ∙ sym (text_in_front-append held.done (s.front ++ spelt.character ∷ []) after);
       }
 

@@ -1,13 +1,12 @@
 -- Escapes at the front of a text.
-use Rattle.std.proofs.Common.{◌≡◌, ℕ, ◌<◌, ◌≤◌, true, false, List, ◌∷◌, ◌++◌, length, refl, ap, ◌≢◌, sym, ◌∙◌, subst, inl, inr, arith}
+use Rattle.std.proofs.Common.{◌≡◌, ℕ, ◌<◌, ◌≤◌, true, false, List, ◌++◌, length, refl, ap, ◌≢◌, sym, ◌∙◌, subst, inl, inr, arith}
 use Rattle.std.specs.Prelude.{None}
 use Rattle.std.proofs.lemmas.Bool.{cases_Bool, ne_eqb}
 use Rattle.std.proofs.lemmas.Bool.Decides.{nat_tests}
 use Rattle.std.specs.Char.{InScalarRange, OutOfScalarRange}
-use Rattle.properties_format.specs.Text.{backslash}
-use Rattle.properties_format.specs.Escapes.{letter_u, Four, four_text, are_hexadecimal, code_unit, is_high, is_low, is_surrogate, pair_character, escaped_character, not_hex, invalid_character}
-use Rattle.properties_format.specs.Computed.Escapes.{in_front, with_low, meaning_of}
-use Rattle.properties_format.proofs.Escapes.Laws.{meaning_of-unicode, meaning_of-surrogates, IsMalformedUnit, malformed-short, malformed-not_hex, malformed-lone_low, malformed-lone_high}
+use Rattle.properties_format.specs.Escapes.{Four, four_text, are_hexadecimal, code_unit, is_high, is_low, is_surrogate, escaped_character, not_hex, invalid_character}
+use Rattle.properties_format.specs.Computed.Escapes.{with_low}
+use Rattle.properties_format.proofs.Escapes.Laws.{IsMalformedUnit, malformed-short, malformed-not_hex, malformed-lone_low, malformed-lone_high}
 use Rattle.properties_format.proofs.Escapes.Scalars.{code_unit-below}
 use Rattle.properties_text.specs.Escaping.{malformed_in}
 use Rattle.properties_text.specs.declared.escape.Malformed.{Malformed}
@@ -34,23 +33,6 @@ abbrev pub IsUnread : List ℕ → Malformed → Type 0
 IsUnread text NotEnoughDigits = length text < 4
 IsUnread text NotHex = LacksDigit text
 IsUnread text InvalidCharacter = ⊥
-
--- ---- meanings
-
-pub meaning-unit : (text rest : List ℕ) (value : ℕ) → IsUnit text value rest → is_surrogate value ≡ false
-    → meaning_of (backslash ∷ letter_u ∷ text) ≡ in_front value (meaning_of rest)
-meaning-unit text rest value u s =
-    ap (λ v. meaning_of (backslash ∷ letter_u ∷ v)) u.whole
-    ∙ meaning_of-unicode u.digits rest u.hexadecimal (sym (ap is_surrogate u.writes) ∙ s)
-    ∙ ap (λ v. in_front v (meaning_of rest)) (sym u.writes)
-
--- The escape of a high surrogate with a low one after it.
-pub meaning-pair : (text rest after : List ℕ) (high low : ℕ) → IsUnit text high (backslash ∷ letter_u ∷ rest) → IsUnit rest low after
-    → is_high high ≡ true → is_low low ≡ true → meaning_of (backslash ∷ letter_u ∷ text) ≡ in_front (pair_character high low) (meaning_of after)
-meaning-pair text rest after high low u w h l =
-    ap (λ v. meaning_of (backslash ∷ letter_u ∷ v)) (u.whole ∙ ap (λ v. four_text u.digits ++ (backslash ∷ letter_u ∷ v)) w.whole)
-    ∙ meaning_of-surrogates u.digits w.digits after u.hexadecimal (sym (ap is_high u.writes) ∙ h) w.hexadecimal (sym (ap is_low w.writes) ∙ l)
-    ∙ rw (u.writes, w.writes) refl
 
 -- ---- units of surrogates
 

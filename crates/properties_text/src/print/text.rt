@@ -357,6 +357,7 @@ fn put_block<Stops: ByteClass>(
     ensures run { IsRunPut Stops.holds out.old so_far.end (take size bytes.now) so_far.read result out.new }
     ensures stops { result.read < so_far.read + 16 → result.read < size
         → Stops.holds (get_or (take size bytes.now) result.read 0) ≡ true }
+    ensures block { result.read ≤ so_far.read + 16 }
 {
     let kept = Stops::marks(v).clear_front().min(size - so_far.read);
     let end = put_with_backslashes(out, so_far.end, v, kept);

@@ -6,7 +6,9 @@ use Rattle.std.proofs.lemmas.List.{length-drop}
 use Rattle.properties_format.specs.Computed.Escapes.{in_front, meaning_of, text_in_front}
 use Rattle.properties_format.proofs.Escapes.Unique.{text_in_front-breaks}
 use Rattle.properties_text.specs.Escaping.{malformed_in}
+use Rattle.properties_text.specs.declared.encoding.line.LineEncoding.TheVariants.{Utf8}
 use Rattle.properties_text.proofs.Texts.Units.{units-more}
+use Rattle.properties_text.proofs.Spelt.Escapes.{spells-meaning}
 use Rattle.properties_text.proofs.escape.put_escapes.Goals as goal
 
 pub loop-run-init : goal.loop-run-init
@@ -45,7 +47,7 @@ loop-run-preserved c =
     let left = c.range_from-rest.ensures.value in
     let means : meaning_of (chars rest) ≡ in_front escape.character (meaning_of (chars c.range_from-rest.result.now)) =
     ap (λ v. meaning_of (chars v)) (sym c.as_bytes.ensures.value)
-    ∙ c.in_ok-escape.ensures.meaning
+    ∙ spells-meaning Utf8 _ escape c.in_ok-escape.ensures.spells
     ∙ ap (λ v. in_front escape.character (meaning_of (chars v))) (ap (λ v. drop escape.length v) c.as_bytes.ensures.value ∙ sym left) in
     let more = units-more c.args.text.now c.loop-run.run c.put_character-end.new.run (chars rest) (chars c.range_from-rest.result.now)
     c.loop-run.end c.put_character-end.result escape.character held.is_text c.in_ok-escape.ensures.scalar put.text held.meaning means in
