@@ -230,6 +230,9 @@ def section(crate, level, shown):
         if kinds:
             out.append("// " + name + ": " + ", ".join(kinds))
         out.append("")
+    if out[-1] == "```rust":
+        # All of it is shown elsewhere.
+        return out[:-2]
     out[-1] = "```"
     return out
 
