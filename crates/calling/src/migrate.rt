@@ -12,7 +12,7 @@ pub fn migrate(alloc: Global, file: &[u8]) -> Result<Vec<u8>, PropertiesError> {
     if !document.contains_key("retries") {
         document.put("retries", "3")?;
     }
-    Ok(document.to_bytes(alloc)?)
+    Ok(document.to_bytes()?)
 }
 
 // Puts the value of a key under another key, where it has one.

@@ -113,8 +113,8 @@ fn check_document(
     for key in KEYS {
         check_value(rt, document.get(key), opened.get(key));
     }
-    let keys = document.keys(alloc)?;
-    let others = opened.keys(alloc)?;
+    let keys = document.keys()?;
+    let others = opened.keys()?;
     check_keys(rt, &keys, &others);
     Ok(())
 }

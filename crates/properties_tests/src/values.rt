@@ -2,7 +2,7 @@
 
 use crate::printed::check_debugged;
 use crate::same::same;
-use java_properties::{Call, Edit, Encoding, Line, LineContent, LineEnding, read_lines};
+use java_properties::{Call, Document, Edit, Encoding, Line, LineContent, LineEnding, read_lines};
 use std::alloc::Global;
 use std::collections::HashMap;
 use std::fmt::Debug;
@@ -49,6 +49,15 @@ fn edits_are_compared_copied_and_debugged(rt: HostRuntime) -> Result<(), Fail> {
         (value_set(rt, alloc, "a", "\n"), r#"SetValue("a", "\n")"#),
     ];
     check_values(rt, alloc, rows.as_slice())
+}
+
+#[test]
+fn a_document_is_debugged(rt: HostRuntime) -> Result<(), Fail> {
+    let (rt, alloc) = (&rt, rt.alloc());
+    let source = b"\xef\xbb\xbfa=1\nb=2\na=3";
+    let document = Document::parse(alloc, source, Encoding::WINDOWS_1252)?;
+    let wanted = "Document { encoding: UTF_8, bytes: 14, keys: 2, .. }";
+    check_debugged(rt, alloc, &document, wanted)
 }
 
 fn put(rt: &impl Abort, alloc: Global, key: &str, value: &str) -> Edit {

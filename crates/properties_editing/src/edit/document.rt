@@ -12,6 +12,7 @@ use crate::edit::source::BodyStart;
 use properties_items::error::PropertiesError;
 use properties_text::encoding::Encoding;
 use std::alloc::{AllocError, Global};
+use std::fmt;
 use std::marker::Model;
 
 /// A source that is kept open for edits.
@@ -25,7 +26,7 @@ use std::marker::Model;
 /// assert_eq!(rt; document.get("port"), Some("80"));
 /// document.put("port", "8080")?;
 /// assert!(rt; !document.remove("host"));
-/// let bytes = document.to_bytes(alloc)?;
+/// let bytes = document.to_bytes()?;
 /// // They are `# the front door`, a line feed, `port=8080` and a line feed.
 /// ```
 #[derive(Drop)]
@@ -101,13 +102,13 @@ impl Document {
     ///
     /// ```text
     /// let document = Document::parse(alloc, b"b = 1\na = 2\nb = 3\n", Encoding::UTF_8)?;
-    /// let keys = document.keys(alloc)?;
+    /// let keys = document.keys()?;
     /// assert!(rt; keys.as_slice() == ["b", "a"].as_slice());
     /// ```
-    pub fn keys(&self, alloc: Global) -> Result<Vec<&str>, AllocError>
+    pub fn keys(&self) -> Result<Vec<&str>, AllocError>
         ensures { IfOk result (λ keys. HasKeysInOrder self.now keys.items) }
     {
-        self.index.keys(alloc)
+        self.index.keys(self.alloc)
     }
 
     /// Whether the calls after this one write ASCII alone, as [`edit_all_ascii`](crate::edit_all_ascii) does. They don't
@@ -117,7 +118,7 @@ impl Document {
     /// let mut document = Document::parse(alloc, b"price = 4\n", Encoding::UTF_8)?;
     /// document.set_ascii_only(true);
     /// document.set_value("price", "5 \u{20ac}")?;
-    /// let bytes = document.to_bytes(alloc)?;
+    /// let bytes = document.to_bytes()?;
     /// // They are `price = 5 \u20ac` and a line feed.
     /// ```
     pub fn set_ascii_only(&mut self, ascii_only: bool)
@@ -146,7 +147,7 @@ impl Document {
     /// ```text
     /// let mut document = Document::parse(alloc, b"port  = 80\n", Encoding::UTF_8)?;
     /// document.set_value("port", "8080")?;
-    /// let bytes = document.to_bytes(alloc)?;
+    /// let bytes = document.to_bytes()?;
     /// // They are `port  = 8080` and a line feed.
     /// ```
     pub fn set_value(&mut self, key: &str, value: &str) -> Result<(), AllocError>
@@ -177,9 +178,20 @@ impl Document {
     }
 
     /// Returns the file after the edits. What wasn't edited is unchanged.
-    pub fn to_bytes(&self, alloc: Global) -> Result<Vec<u8>, AllocError>
+    pub fn to_bytes(&self) -> Result<Vec<u8>, AllocError>
         ensures { IfOk result (λ bytes. bytes.items ≡ self.now.bytes) }
     {
-        self.source().to_vec(alloc)
+        self.source().to_vec(self.alloc)
+    }
+}
+
+impl fmt::Debug for Document {
+    // The bytes are text in an encoding of many, and the index is private: their sizes tell documents apart.
+    fn fmt<W: fmt::Write>(&self, f: &mut fmt::Formatter<W>) -> fmt::Result {
+        f.debug_struct("Document")
+            .field("encoding", &self.opened.encoding)
+            .field("bytes", &self.source.len())
+            .field("keys", &self.index.pairs.len())
+            .finish_non_exhaustive()
     }
 }

@@ -23,7 +23,7 @@ pub fn check_document(
             compare(alloc, outcome, "by a document", came.as_str())?;
         }
         Ok(mut document) => {
-            if document.to_bytes(alloc)?.as_slice() != source {
+            if document.to_bytes()?.as_slice() != source {
                 outcome.fail(String::from_str(alloc, "a document isn't its source")?);
             }
             check_values(alloc, encoding, &document, outcome)?;
@@ -31,7 +31,7 @@ pub fn check_document(
                 take_step(alloc, &mut document, step, &mut seen, outcome)?;
                 check_values(alloc, encoding, &document, outcome)?;
             }
-            let bytes = document.to_bytes(alloc)?;
+            let bytes = document.to_bytes()?;
             for step in steps {
                 if let Some(encoding) = reading_of(step.word.as_str()) {
                     let items = items_after(alloc, encoding, bytes.as_slice())?;
@@ -81,7 +81,7 @@ fn check_values(
     document: &Document,
     outcome: &mut Outcome,
 ) -> Result<(), AllocError> {
-    let bytes = document.to_bytes(alloc)?;
+    let bytes = document.to_bytes()?;
     let mut input = bytes.as_slice();
     match read_sorted(alloc, &mut input, encoding) {
         Ok(map) => {
@@ -91,7 +91,7 @@ fn check_values(
                 }
             }
             let wanted = keys_of(alloc, encoding, bytes.as_slice())?;
-            let keys = document.keys(alloc)?;
+            let keys = document.keys()?;
             let mut both = keys.iter().zip(&wanted);
             if keys.len() != wanted.len() || both.any(|(key, wanted)| *key != wanted.as_str()) {
                 outcome.fail(String::from_str(alloc, "a document has other keys")?);
