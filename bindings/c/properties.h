@@ -15,9 +15,10 @@
  * - If several errors could be reported, it is the first of these: the encoding, a key or a value that isn't UTF-8, the
  *   packed list, from its front on, and then the rest.
  *
- * How much room: try four times the length of the source for items, once the length of the source and some more for
- * everything else. If that is too little, the call is to be made again with the room that *length says; it then does
- * all its work again. A call with room for 0 bytes asks for the length; `out` is then any pointer that isn't null.
+ * How much room: try four times the length of the source for items, the length of the list and some more for what is
+ * written, and once the length of the source and some more for everything else. If that is too little, the call is to
+ * be made again with the room that *length says; it then does all its work again. A call with room for 0 bytes asks for
+ * the length; `out` is then any pointer that isn't null.
  *
  * What the caller owes:
  *

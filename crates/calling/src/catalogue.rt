@@ -33,7 +33,7 @@ impl Catalogue {
         Ok(())
     }
 
-    /// The message of this key, or the key where it has none.
+    /// Returns the message of this key, or the key if it has none.
     pub fn message<'a>(&'a self, key: &'a str) -> &'a str {
         match self.messages.get(key) {
             Some(message) => message.as_str(),

@@ -4,8 +4,8 @@ use counted_io::{CountedRead, CountedWrite};
 use java_properties::{Encoding, LineContent, PropertiesError, PropertiesWriter, read_lines};
 use std::alloc::Global;
 
-/// Reads comments and pairs in one encoding, and writes them in another. Nothing is written where the input can't
-/// be read to its end.
+/// Reads comments and pairs in one encoding, and writes them in another. If the input can't be read to its end,
+/// nothing is written.
 pub fn convert<R: CountedRead, W: CountedWrite>(
     alloc: Global,
     input: &mut R,
@@ -13,10 +13,7 @@ pub fn convert<R: CountedRead, W: CountedWrite>(
     output: &mut W,
     to: Encoding,
 ) -> Result<(), PropertiesError> {
-    let lines = match read_lines(alloc, input, from) {
-        Ok(lines) => lines,
-        Err(stopped) => return Err(stopped.error),
-    };
+    let lines = read_lines(alloc, input, from)?;
     let mut writer = PropertiesWriter::new_with_encoding(alloc, output, to)?;
     for line in &lines {
         match line.content() {

@@ -6,7 +6,7 @@ ghost use Rattle.java_properties.specs.Documents.{HasValueAt};
 
 use java_properties::Document;
 
-/// The value of a key, or this default where no pair has it.
+/// Returns the value of a key, or this default if no pair has it.
 pub fn value_or<'a>(document: &'a Document, key: &str, default: &'a str) -> &'a str
     ensures { HasValueAt document.now (chars key.now) (Some (chars result.now)) ⊎
         HasValueAt document.now (chars key.now) None × (result.now ≡ default.now) }

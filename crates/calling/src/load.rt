@@ -38,13 +38,7 @@ impl LoadError {
         match self {
             LoadError::UnknownKey(number) => format!(in alloc; "{name}:{number}: unknown key"),
             LoadError::BadPort(number) => format!(in alloc; "{name}:{number}: port is no number"),
-            LoadError::Unreadable(error) => {
-                let reason = error.reason();
-                match error.line_number() {
-                    Some(number) => format!(in alloc; "{name}:{number}: {reason}"),
-                    None => format!(in alloc; "{name}: {reason}"),
-                }
-            }
+            LoadError::Unreadable(error) => format!(in alloc; "{}", error.at(name)),
         }
     }
 }

@@ -17,7 +17,7 @@ use java_properties::{Encoding, PropertiesError, read, read_sorted};
 use std::alloc::Global;
 use std::collections::{BTreeMap, HashMap};
 
-/// The last value of a key in an input in windows-1252, or `None` where no pair has it.
+/// Returns the last value of a key in an input in windows-1252, or `None` if no pair has it.
 #[tactic(auto, using(java_properties::proofs::TextMaps::Reading::reads_value))]
 pub fn lookup<R: CountedRead>(
     alloc: Global,
@@ -44,7 +44,7 @@ fn value_of<'a>(map: &'a HashMap<String, String>, key: &str) -> Option<&'a Strin
     map.get(key)
 }
 
-/// The last value of a key in an input in this encoding, or `None` where no pair has it.
+/// Returns the last value of a key in an input in this encoding, or `None` if no pair has it.
 #[tactic(auto, using(java_properties::proofs::TextMaps::Reading::reads_value))]
 pub fn lookup_sorted<R: CountedRead>(
     alloc: Global,

@@ -15,7 +15,7 @@ pub fn migrate(alloc: Global, file: &[u8]) -> Result<Vec<u8>, PropertiesError> {
     Ok(document.to_bytes()?)
 }
 
-// Puts the value of a key under another key, where it has one.
+// Puts the value of a key, if it has one, under another key.
 fn rename(alloc: Global, document: &mut Document, from: &str, to: &str) -> Result<(), AllocError> {
     let Some(value) = document.get(from) else {
         return Ok(());

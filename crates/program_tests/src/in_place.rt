@@ -12,7 +12,7 @@ use std::os::unix::fs::{PermissionsExt, symlink};
 use std::process::Abort;
 use std::test::Fail;
 
-// Makes a file of these bytes, where no test that was cut off has left one.
+// Makes a file of these bytes, unless a test that was cut off has left one.
 fn make(rt: &HostRuntime, path: &str, bytes: &[u8]) -> io::Result<()> {
     let _ = fs::remove_file(rt, path);
     File::create_new(rt, path)?.write_all(bytes)
@@ -224,7 +224,7 @@ const EDITS: &[Row] = &[
         "propedit: no such file: No such file or directory (os error 2)\n",
         b"a=1",
     ),
-    // A missing file that is to be made is not made where nothing changes.
+    // A missing file that is to be made isn't made if nothing changes.
     (
         &["-i", "no such file", "--create", "remove", "a"],
         b"a=1",
@@ -282,7 +282,7 @@ fn files_are_edited_whole_or_not_at_all(rt: HostRuntime) -> Result<(), Fail> {
 
 const MADE: &str = "made.properties";
 
-// A missing file is made where it is asked for, and where it is there it is edited.
+// A missing file is made if that is asked for, and a file that is there is edited.
 #[test]
 fn a_missing_file_is_made(rt: HostRuntime) -> Result<(), Fail> {
     let _ = fs::remove_file(&rt, MADE);

@@ -278,7 +278,7 @@ const REFUSED: &[Row] = &[
         b"",
         "propedit: standard input:1: not UTF-8; -e windows-1252 reads it\n",
     ),
-    // No option reads it where a byte order mark says UTF-8.
+    // No option reads it if a byte order mark says UTF-8.
     (
         &["-e", "windows-1252", "get", "b"],
         b"\xef\xbb\xbfa=\xe9\nb=1",
@@ -689,7 +689,7 @@ fn streams_that_fail_are_named(rt: HostRuntime) -> Result<(), Fail> {
     Ok(())
 }
 
-// What `main` prints where it has no arguments, no memory for them, or no file.
+// What `main` prints if it has no arguments, no memory for them, or no file.
 const BEFORE_A_RUN: &[u8] = b"propedit: an argument is not UTF-8\n\
     propedit: Out of memory.\n\
     propedit: app.properties: entity not found\n";

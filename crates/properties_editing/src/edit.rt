@@ -252,7 +252,7 @@ fn edit_all_with(
     ensures { MakesEdits (encoding_of encoding) ascii_only source.now (edits_in edits.now) result }
 {
     match edits {
-        // One edit needs no index, which takes several times the memory of a source of short pairs.
+        // One edit needs no index, which takes eight times the memory of a source, and more if its pairs are short.
         [edit] => edit_once(alloc, source, encoding, ascii_only, edit),
         _ => edit_in_turn(alloc, source, encoding, ascii_only, edits),
     }

@@ -1,4 +1,4 @@
-// Values as they print themselves, for people and for debugging, where no row of a table prints them.
+// Values as they print themselves, for people and for debugging, if no row of a table prints them.
 
 use crate::same::same;
 use counted_io::{Counted, ScriptedReader, ScriptedSink, SinkFault, Tail};

@@ -1,4 +1,4 @@
-// What is read, where no row of a table can say it.
+// What is read, as far as no row of a table can say it.
 
 mod borrowed;
 mod keys;

@@ -28,7 +28,7 @@ fn a_source_is_read_whole_or_fails_as_its_items_do(rt: HostRuntime) -> Result<()
     Ok(())
 }
 
-// These bytes are read, and then the end comes or, where one is wanted, a failure.
+// These bytes are read, and then the end comes or, if one is wanted, a failure.
 fn check_read(
     rt: &impl Abort,
     alloc: Global,

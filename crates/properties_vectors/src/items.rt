@@ -70,7 +70,7 @@ impl Item {
         })
     }
 
-    /// An error of reading: an I/O error, or any other. Its number is 0 where it names no line.
+    /// An error of reading: an I/O error, or any other. Its number is 0 if it names no line.
     pub fn of_error(alloc: Global, error: &PropertiesError) -> Result<Item, AllocError> {
         Ok(Item {
             number: error.line_number().unwrap_or(0),

@@ -36,7 +36,7 @@ fn main(rt: HostRuntime) -> ExitCode {
     ExitCode::from(run(&rt).unwrap_or(2))
 }
 
-// Runs each table, and returns the exit status: 1 where a row doesn't hold, or a table can't be read or understood.
+// Runs each table, and returns the exit status: 1 if a row doesn't hold, or if a table can't be read or understood.
 fn run(rt: &HostRuntime) -> io::Result<u8> {
     let mut status = 0;
     let mut pace = Pace::Thorough;

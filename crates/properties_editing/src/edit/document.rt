@@ -111,7 +111,7 @@ impl Document {
         self.index.keys(self.alloc)
     }
 
-    /// Whether the calls after this one write ASCII alone, as [`edit_all_ascii`](crate::edit_all_ascii) does. They don't
+    /// Sets whether the calls after this one write ASCII alone, as [`edit_all_ascii`](crate::edit_all_ascii) does. They don't
     /// at the start. No byte changes.
     ///
     /// ```text

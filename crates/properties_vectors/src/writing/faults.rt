@@ -58,7 +58,7 @@ fn check_sink(
     Ok(())
 }
 
-// What comes of the calls where a write fails there, reckoned from what came where none fails.
+// What comes of the calls if a write fails there, reckoned from what came when none failed.
 fn wanted(
     alloc: Global,
     clauses: &[Clause],
