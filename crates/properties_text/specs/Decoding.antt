@@ -30,6 +30,11 @@ IsInForce b e n = (asked : format.Encoding) → format.byte_order_mark asked b �
 abbrev pub IsUnmarked : List ℕ → Type 0
 IsUnmarked b = (asked : format.Encoding) → format.byte_order_mark asked b ≡ record { encoding = asked; body = b }
 
+-- If this encoding is requested, the body of the bytes starts at this position, and is in this encoding.
+pub record IsBody (requested : format.Encoding) (b : List ℕ) (e : format.Encoding) (start : ℕ) : Type 0 where
+  pub in_force : format.byte_order_mark requested b ≡ record { encoding = e; body = drop start b }
+  pub within : start ≤ length b
+
 -- The result says whether the bytes begin with a byte order mark, or that more bytes are needed to decide.
 abbrev pub FindsByteOrderMark : List ℕ → ByteOrderMark → Type 0
 FindsByteOrderMark b (Present e n) = IsInForce b (encoding_of e) n × (awaits_bom b ≡ false) × (n ≤ length b)

@@ -1,12 +1,11 @@
 // The part of a source that is edited: the body after the byte order mark, in the encoding in force.
 
-ghost use Rattle.std.specs.Prelude.{◌≡◌};
 ghost use Rattle.properties_text.specs.Encoding.{encoding_of};
-ghost use Rattle.properties_editing.specs.Private.Sources.{IsInForce, OpensSource};
+ghost use Rattle.properties_editing.specs.Private.Sources.{OpensSource};
 
 use properties_items::error::{PropertiesError, make};
 use properties_text::encoding::Encoding;
-use properties_text::encoding::byte_order_mark::{ByteOrderMark, byte_order_mark};
+use properties_text::encoding::byte_order_mark::encoding_in_force;
 
 /// What is known about a source before it is edited, and how new texts are written.
 #[derive(Clone, Copy)]
@@ -28,29 +27,14 @@ impl BodyStart {
     ) -> Result<BodyStart, PropertiesError>
         ensures { OpensSource source.now (encoding_of encoding) ascii_only result }
     {
-        let opened = in_force(source, encoding, ascii_only);
-        match opened.encoding {
-            Encoding::WINDOWS_1252 | Encoding::UTF_8 => Ok(opened),
+        let (encoding, start) = encoding_in_force(source, encoding);
+        match encoding {
+            Encoding::WINDOWS_1252 | Encoding::UTF_8 => Ok(BodyStart {
+                encoding,
+                start,
+                ascii_only,
+            }),
             Encoding::UTF_16LE | Encoding::UTF_16BE => Err(make::unsupported()),
         }
-    }
-}
-
-// Returns the encoding in force and the position where the body starts.
-fn in_force(source: &[u8], encoding: Encoding, ascii_only: bool) -> BodyStart
-    ensures in_force { IsInForce source.now (encoding_of encoding) result }
-    ensures ascii_only { result.ascii_only ≡ ascii_only }
-{
-    match byte_order_mark(source) {
-        ByteOrderMark::Present(encoding, start) => BodyStart {
-            encoding,
-            start,
-            ascii_only,
-        },
-        ByteOrderMark::Absent | ByteOrderMark::Undecided => BodyStart {
-            encoding,
-            start: 0,
-            ascii_only,
-        },
     }
 }

@@ -4,7 +4,7 @@ use super::script;
 use crate::same::same;
 use counted_io::{CountedRead, Tail};
 use properties_text::encoding::Encoding;
-use properties_text::encoding::byte_order_mark::{ByteOrderMark, byte_order_mark};
+use properties_text::encoding::byte_order_mark::encoding_in_force;
 use single_lines::decode::decode_line;
 use single_lines::decode_iter::DecodeIter;
 use std::alloc::{AllocError, Global};
@@ -69,10 +69,7 @@ const ROWS: [(Encoding, &[u8], &str); 24] = [
 
 // The text of a body, whose byte order mark is taken off.
 fn decoded_whole(alloc: Global, asked: Encoding, bytes: &[u8]) -> Result<String, AllocError> {
-    let (encoding, start) = match byte_order_mark(bytes) {
-        ByteOrderMark::Present(encoding, length) => (encoding, length),
-        ByteOrderMark::Absent | ByteOrderMark::Undecided => (asked, 0),
-    };
+    let (encoding, start) = encoding_in_force(bytes, asked);
     let body = bytes.get(start..).unwrap_or(&[]);
     decode_line(alloc, encoding, body)?.into_owned(alloc)
 }

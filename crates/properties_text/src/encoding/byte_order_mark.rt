@@ -2,7 +2,8 @@
 
 ghost use Rattle.std.specs.Prelude.{◌≡◌};
 ghost use Rattle.properties_format.specs.Encoding.{begins_like_bom};
-ghost use Rattle.properties_text.specs.Decoding.{FindsByteOrderMark};
+ghost use Rattle.properties_text.specs.Decoding.{FindsByteOrderMark, IsBody};
+ghost use Rattle.properties_text.specs.Encoding.{encoding_of};
 
 use super::Encoding;
 
@@ -27,6 +28,17 @@ pub fn byte_order_mark(bytes: &[u8]) -> ByteOrderMark
         [0xff, 0xfe, ..] => ByteOrderMark::Present(Encoding::UTF_16LE, 2),
         [] | [0xef] | [0xef, 0xbb] | [0xfe] | [0xff] => ByteOrderMark::Undecided,
         _ => ByteOrderMark::Absent,
+    }
+}
+
+/// Returns the encoding in force and the position where the body starts: a byte order mark selects both. Without one,
+/// the requested encoding applies to all bytes.
+pub fn encoding_in_force(bytes: &[u8], requested: Encoding) -> (Encoding, usize)
+    ensures { IsBody (encoding_of requested) bytes.now (encoding_of result.0) result.1 }
+{
+    match byte_order_mark(bytes) {
+        ByteOrderMark::Present(encoding, start) => (encoding, start),
+        ByteOrderMark::Absent | ByteOrderMark::Undecided => (requested, 0),
     }
 }
 
