@@ -1,5 +1,5 @@
 -- Marks, the number whose bits they are, and the bytes before the first mark.
-use Rattle.std.proofs.Common.{◌≡◌, ◌<◌, ◌≤◌, ◌+◌, ◌-◌, ◌*◌, ◌/◌, ◌%◌, ◌^◌, ◌↔◌, ◌⊎◌, ◌==◌, ◌||◌, ℕ, zero, suc, Bool, true, false, cond, not, eqb, leb, min, max, bit_or, List, [], ◌∷◌, length, take, drop, get_or, map, refl, sym, ap, ap₂, subst, inl, inr, ◌∙◌, arith}
+use Rattle.std.proofs.Common.{◌≡◌, ◌<◌, ◌≤◌, ◌+◌, ◌-◌, ◌*◌, ◌/◌, ◌%◌, ◌^◌, ◌↔◌, ◌⊎◌, ◌==◌, ◌||◌, ℕ, zero, suc, Bool, true, false, cond, not, eqb, leb, max, bit_or, List, [], ◌∷◌, length, take, drop, get_or, map, refl, sym, ap, ap₂, subst, inl, inr, ◌∙◌, arith}
 use Rattle.std.specs.Prelude.{Some, None, Option}
 use Rattle.std.specs.Int.Bits.{or_step}
 use Rattle.std.specs.Int.Count.{count_trailing_zeros, under}
@@ -82,14 +82,6 @@ zeros number marks view small = elim (cases_Bool (eqb number 0)) [
   | inr e ↦
       let at = zeros-first number marks view small (λ z. absurd (cc (e, ap (λ n. eqb n 0) z))) in
       inr (e, sym at.0, omega (arith, at.0, at.1, sixteen number marks view))
-]
-
--- Limited to `count`, the number of trailing zeros equals the number of bytes before the first mark.
-pub zeros-front_of : (number count : ℕ) (marks : List Bool) → lowest_bits 16 number ≡ marks → number < 0x1_0000 → count ≤ 16
-    → min (count_trailing_zeros 64 number) count ≡ min (clear_front marks) count
-zeros-front_of number count marks view small few = elim (zeros number marks view small) [
-  | inl h ↦ omega (arith, few, h.1, h.2)
-  | inr h ↦ omega (arith, h.1, h.2)
 ]
 
 pub zero-is_clear : (number : ℕ) (marks : List Bool) → lowest_bits 16 number ≡ marks → number < 0x1_0000 → (eqb number 0 ≡ true) ↔ (16 ≤ clear_front marks)

@@ -1,6 +1,6 @@
 // The results of testing sixteen bytes.
 
-ghost use Rattle.std.specs.Prelude.{◌≡◌, ◌<◌, ◌≤◌, ◌↔◌, ◌||◌, true, not, min, length, map};
+ghost use Rattle.std.specs.Prelude.{◌≡◌, ◌<◌, ◌≤◌, ◌↔◌, ◌||◌, true, not, length, map};
 ghost use Rattle.std.specs.Simd.Lanes.{mask_l, zip2};
 ghost use Rattle.byte_blocks.specs.Marks.{lowest_bits, clear_front, IsFirstMark};
 
@@ -81,22 +81,11 @@ impl Marks {
 
     /// Returns the number of bytes before the first marked byte, or 16 if no byte is marked.
     #[inline(always)]
-    pub fn front(self) -> usize
+    pub fn clear_front(self) -> usize
         ensures value { result ≡ clear_front self }
         ensures within { result ≤ 16 }
     {
         (self.bits | 0x1_0000).trailing_zeros() as usize
-    }
-
-    /// Returns how many of the first `count` bytes are before the first marked byte.
-    #[inline(always)]
-    pub fn front_of(self, count: usize) -> usize
-        requires { count ≤ 16 }
-        ensures value { result ≡ min (clear_front self) count }
-        ensures within { result ≤ count }
-        ensures clear { result ≤ clear_front self }
-    {
-        (self.bits.trailing_zeros() as usize).min(count)
     }
 
     /// Returns whether no byte is marked.

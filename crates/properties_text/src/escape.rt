@@ -81,13 +81,13 @@ pub fn has_backslash(bytes: &[u8]) -> bool
 }
 
 // How many bytes of resolved characters are collected before they are appended.
-const RUN: usize = 64;
+const RESOLVED_RUN: usize = 64;
 
 // Appends the text with its escapes resolved.
 fn push_resolved(text: &mut String, s: &str) -> Result<(), UnescapeError>
     ensures { Appends (chars s.now) (chars (string_bytes text.old)) result (chars (string_bytes text.new)) }
 {
-    let mut run = [0; RUN];
+    let mut run = [0; RESOLVED_RUN];
     let mut rest = s;
     while let Some(at) = find_next(rest.as_bytes()) {
         push_part(text, &rest[..at])?;

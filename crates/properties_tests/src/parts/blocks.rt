@@ -57,9 +57,8 @@ fn searches_return_the_first_place(rt: HostRuntime) {
         (Marks::from_bits(0).first(), None),
         (marks.or(Marks::from_bits(1)).first(), Some(0)),
         (marks.complement().first(), Some(0)),
-        (Some(marks.front()), Some(5)),
-        (Some(marks.front_of(4)), Some(4)),
-        (Some(Marks::from_bits(0).front()), Some(16)),
+        (Some(marks.clear_front()), Some(5)),
+        (Some(Marks::from_bits(0).clear_front()), Some(16)),
     ];
     for (place, wanted) in rows {
         same(&rt, place, wanted);

@@ -4,7 +4,7 @@ use Rattle.std.specs.Char.{digit_char}
 use Rattle.std.proofs.lemmas.Bool.{and_parts, agree_below_at, leb-true}
 use Rattle.std.proofs.lemmas.List.{take_all}
 use Rattle.byte_blocks.proofs.Rows.{starts, starts-take}
-use Rattle.properties_text.specs.declared.print.escapes.TheConstants.{DIGITS}
+use Rattle.properties_text.specs.declared.print.escapes.TheConstants.{DIGITS_OF_BYTES}
 
 -- ---- the table of digits
 
@@ -14,11 +14,11 @@ digits b = digit_char (b / 0x10) ∷ digit_char (b % 0x10) ∷ []
 abbrev is_row : ℕ → List ℕ → Bool
 is_row b row = starts (digits b) row && leb (length row) 2
 
-rows : (b : ℕ) → b < 256 → is_row b (get_or DIGITS b []) ≡ true
-rows b h = agree_below_at (λ b. is_row b (get_or DIGITS b [])) (λ b. true) 256 b refl h
+rows : (b : ℕ) → b < 256 → is_row b (get_or DIGITS_OF_BYTES b []) ≡ true
+rows b h = agree_below_at (λ b. is_row b (get_or DIGITS_OF_BYTES b [])) (λ b. true) 256 b refl h
 
-pub digits-at : (b : ℕ) → b < 256 → get_or DIGITS b [] ≡ digits b
+pub digits-at : (b : ℕ) → b < 256 → get_or DIGITS_OF_BYTES b [] ≡ digits b
 digits-at b h =
-    let row = get_or DIGITS b [] in
+    let row = get_or DIGITS_OF_BYTES b [] in
     let p = and_parts (starts (digits b) row) (leb (length row) 2) (rows b h) in
     sym (take_all 2 row (leb-true (length row) 2 p.1)) ∙ starts-take (digits b) row p.0

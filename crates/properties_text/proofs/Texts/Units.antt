@@ -10,7 +10,7 @@ use Rattle.std.specs.Char.{IsScalar, encode_utf8}
 use Rattle.properties_format.specs.Escapes.{is_hexadecimal, hexadecimal_value, Four, four_text, are_hexadecimal, code_unit}
 use Rattle.properties_format.specs.Computed.Escapes.{in_front, text_in_front, meaning_of}
 use Rattle.properties_text.specs.Escaping.{digit_value, four_bytes}
-use Rattle.properties_text.specs.declared.escape.read.TheConstants.{DIGITS}
+use Rattle.properties_text.specs.declared.escape.read.TheConstants.{DIGIT_VALUES}
 use Rattle.properties_format.proofs.Encodings.Utf8Characters.{encode-one}
 use Rattle.properties_format.proofs.Escapes.Scalars.{code_unit-below}
 use Rattle.properties_text.proofs.TextFronts.{chars-more}
@@ -18,8 +18,8 @@ use Rattle.properties_text.proofs.Texts.Escapes.{IsUnit}
 use Rattle.properties_text.proofs.Texts.Resolving.{text_in_front-append}
 
 -- Each row of the table.
-pub digit-at : (b : ℕ) → b < 256 → get_or DIGITS b 0 ≡ digit_value b
-digit-at b h = eqb-true _ _ (agree_below_at (λ b. get_or DIGITS b 0 == digit_value b) (λ k. true) 256 b refl h)
+pub digit-at : (b : ℕ) → b < 256 → get_or DIGIT_VALUES b 0 ≡ digit_value b
+digit-at b h = eqb-true _ _ (agree_below_at (λ b. get_or DIGIT_VALUES b 0 == digit_value b) (λ k. true) 256 b refl h)
 
 -- No entry is larger than that of a byte that is no digit.
 pub digit-small : (b : ℕ) → b < 256 → digit_value b ≤ 0x10000

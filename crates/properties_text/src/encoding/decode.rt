@@ -9,7 +9,7 @@ ghost use Rattle.properties_text.specs.Decoding.{IsText, DecodesFront, utf_16_of
 ghost use Rattle.properties_text.specs.declared.encoding.Encoding.TheVariants.{WINDOWS_1252};
 
 use super::first_piece::first_piece;
-use super::latin_1::{put_16, tabled};
+use super::latin_1::{put_latin_1, tabled};
 use super::utf_16::ByteOrder;
 use super::windows_1252::text_of_byte;
 use super::{Encoding, utf_8, windows_1252};
@@ -92,12 +92,12 @@ fn decode_blocks<'a>(run: &mut [u8], start: usize, bytes: &'a [u8]) -> Decoded<'
     while rest.len() >= 16 && run.len() - at >= 64 {
         let v = u8x16::from_slice(rest);
         // The first block may be shorter, so that only whole blocks are left.
-        let odd = (rest.len() - 1) % 16 + 1;
-        if tabled(v).is_clear_before(odd) {
-            at = put_16(run, at, v, odd);
-            rest = &rest[odd..];
+        let block_size = (rest.len() - 1) % 16 + 1;
+        if tabled(v).is_clear_before(block_size) {
+            at = put_latin_1(run, at, v, block_size);
+            rest = &rest[block_size..];
         } else {
-            let each = decode_each(run, at, rest, odd);
+            let each = decode_each(run, at, rest, block_size);
             at = each.end;
             rest = each.rest;
         }
@@ -146,8 +146,8 @@ fn decode_utf_16<'a>(run: &mut [u8], start: usize, order: ByteOrder, bytes: &'a 
             u8x16::from_slice(rest),
             u8x16::from_slice(&rest[16..]),
         );
-        let kept = Except::<Byte<0>>::marks(units.highs).front();
-        at = put_16(run, at, units.lows, kept);
+        let kept = Except::<Byte<0>>::marks(units.highs).clear_front();
+        at = put_latin_1(run, at, units.lows, kept);
         rest = &rest[2 * kept..];
         if kept < 16 {
             let next = first_piece(encoding, rest[0], &rest[1..]);

@@ -19,7 +19,7 @@ pub fn tabled(v: u8x16) -> Marks
 /// Writes the first `kept` characters in UTF-8 at index `at`. Returns the index after them. May overwrite up to 32
 /// bytes.
 #[inline(always)]
-pub fn put_16(run: &mut [u8], at: usize, v: u8x16, kept: usize) -> usize
+pub fn put_latin_1(run: &mut [u8], at: usize, v: u8x16, kept: usize) -> usize
     requires room { at + 32 ≤ length run.old }
     requires kept { kept ≤ 16 }
     ensures same_room { length run.new ≡ length run.old }

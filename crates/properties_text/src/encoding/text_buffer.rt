@@ -11,7 +11,7 @@ use std::alloc::{AllocError, Global};
 use std::marker::Model;
 
 // The least room that a run of decoded text has, in bytes.
-const RUN: usize = 256;
+const DECODED_RUN: usize = 256;
 
 /// A buffer of decoded text. Clearing it keeps its memory for the next text.
 ///
@@ -95,6 +95,7 @@ impl TextBuffer {
         ensures kept { OnErr result (KeepsText self.old (text_of encoding bytes.now) self.new) }
         ensures utf8 { IsUtf8 self.new }
     {
+        // Tells the prover that the text so far is UTF-8.
         let _line = &self.line;
         let mut rest = bytes;
         while !rest.is_empty() {
@@ -141,7 +142,7 @@ impl TextBuffer {
         ensures far { IfOk result (λ rest. length rest.now ≡ 0 ⊎ length self.old + 192 < length self.new) }
         ensures utf8 { IsUtf8 self.new }
     {
-        make_room(&mut self.line.bytes, self.line.filled, RUN)?;
+        make_room(&mut self.line.bytes, self.line.filled, DECODED_RUN)?;
         let decoded = decode_run(&mut self.line.bytes, self.line.filled, encoding, bytes);
         self.line.filled = decoded.end;
         Ok(decoded.rest)

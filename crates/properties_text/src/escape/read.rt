@@ -14,7 +14,7 @@ use crate::encoding::{LineEncoding, Spelt, pair_character};
 const NONE: u32 = 0x1_0000;
 
 // The value of each byte as a hexadecimal digit, or `NONE` if it isn't one.
-static DIGITS: [u32; 256] = [
+static DIGIT_VALUES: [u32; 256] = [
     NONE, NONE, NONE, NONE, NONE, NONE, NONE, NONE, NONE, NONE, NONE, NONE, NONE, NONE, NONE, NONE,
     NONE, NONE, NONE, NONE, NONE, NONE, NONE, NONE, NONE, NONE, NONE, NONE, NONE, NONE, NONE, NONE,
     NONE, NONE, NONE, NONE, NONE, NONE, NONE, NONE, NONE, NONE, NONE, NONE, NONE, NONE, NONE, NONE,
@@ -168,7 +168,7 @@ fn digit_value(byte: u8) -> u32
     ensures value { result ≡ digit_value byte }
     ensures small { result ≤ 0x10000 }
 {
-    DIGITS[usize::from(byte)]
+    DIGIT_VALUES[usize::from(byte)]
 }
 
 // Why a text doesn't begin with four hexadecimal digits.

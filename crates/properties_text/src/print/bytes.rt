@@ -58,7 +58,7 @@ pub fn first_16(bytes: &[u8]) -> u8x16
 /// Prints the first `kept` of sixteen bytes at index `at`, and returns the index after them. Control characters are
 /// copied, not escaped. May overwrite 32 bytes.
 #[inline(always)]
-pub fn put_16(out: &mut [u8], at: usize, v: u8x16, kept: usize) -> usize
+pub fn put_with_backslashes(out: &mut [u8], at: usize, v: u8x16, kept: usize) -> usize
     requires room { at + 32 ≤ length out.old }
     requires kept { kept ≤ 16 }
     ensures length { length out.new ≡ length out.old }

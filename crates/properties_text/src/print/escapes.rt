@@ -8,7 +8,7 @@ ghost use Rattle.properties_format.specs.Printing.{unit_escape, unicode_escape};
 pub const LONGEST: usize = 12;
 
 // The two hexadecimal digits of each byte.
-static DIGITS: [[u8; 2]; 256] = [
+static DIGITS_OF_BYTES: [[u8; 2]; 256] = [
     *b"00", *b"01", *b"02", *b"03", *b"04", *b"05", *b"06", *b"07", *b"08", *b"09", *b"0a", *b"0b",
     *b"0c", *b"0d", *b"0e", *b"0f", *b"10", *b"11", *b"12", *b"13", *b"14", *b"15", *b"16", *b"17",
     *b"18", *b"19", *b"1a", *b"1b", *b"1c", *b"1d", *b"1e", *b"1f", *b"20", *b"21", *b"22", *b"23",
@@ -94,5 +94,5 @@ fn put_two(out: &mut [u8], at: usize, two: [u8; 2]) -> usize
 fn digits_of(byte: u8) -> [u8; 2]
     ensures { result ≡ digit_char (byte / 0x10) ∷ digit_char (byte % 0x10) ∷ [] }
 {
-    DIGITS[usize::from(byte)]
+    DIGITS_OF_BYTES[usize::from(byte)]
 }

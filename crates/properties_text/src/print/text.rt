@@ -10,7 +10,7 @@ ghost use Rattle.properties_text.specs.Printing.{encoding_in, only_in, put_of, p
 ghost use Rattle.properties_text.specs.PrintedTexts.{past_in, ReadsBy, PutsStops, GoesFar, PrintsRest, IsRunPut, StopsIn, meaning_in, Prints};
 
 use super::Repertoire;
-use super::bytes::{first_16, put_16, put_any, put_byte};
+use super::bytes::{first_16, put_any, put_byte, put_with_backslashes};
 use super::escapes::{LONGEST, put_escape};
 use crate::encoding::{LineEncoding, Spelt, byte_of, put_character};
 use crate::escape::{Malformed, UnescapeError, read_escape};
@@ -20,7 +20,7 @@ use std::alloc::AllocError;
 use std::simd::prelude::*;
 
 // The room beyond two bytes for each byte of a text: what a block may overwrite, or a character be printed as.
-const ROOM: usize = 32;
+const ROOM_FOR_BLOCK: usize = 32;
 
 // Up to where a text was read, and up to where its bytes were put.
 #[derive(Clone, Copy)]
@@ -159,10 +159,10 @@ fn make_room_for(out: &mut Vec<u8>, at: usize, size: usize) -> Result<(), AllocE
     ensures same { take at out.new.items ≡ take at out.old.items }
     ensures longer { length out.old.items ≤ length out.new.items }
 {
-    if (out.len() - at) / 2 >= size + ROOM / 2 {
+    if (out.len() - at) / 2 >= size + ROOM_FOR_BLOCK / 2 {
         return Ok(());
     }
-    make_room(out, at, (2 * size).saturating_add(ROOM))
+    make_room(out, at, (2 * size).saturating_add(ROOM_FOR_BLOCK))
 }
 
 // Makes room for a character, and puts the characters at which a run stops, from index `from` on.
@@ -358,8 +358,8 @@ fn put_block<Stops: ByteClass>(
     ensures stops { result.read < so_far.read + 16 → result.read < size
         → Stops.holds (get_or (take size bytes.now) result.read 0) ≡ true }
 {
-    let kept = Stops::marks(v).front().min(size - so_far.read);
-    let end = put_16(out, so_far.end, v, kept);
+    let kept = Stops::marks(v).clear_front().min(size - so_far.read);
+    let end = put_with_backslashes(out, so_far.end, v, kept);
     Put {
         read: so_far.read + kept,
         end,

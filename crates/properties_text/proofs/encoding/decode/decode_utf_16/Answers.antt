@@ -12,20 +12,20 @@ use Rattle.properties_text.proofs.encoding.decode.decode_utf_16.Goals as goal
 pub loop-rest-preserved : goal.loop-rest-preserved
 loop-rest-preserved c =
     let held = c.loop-rest.invariant in
-    let put = c.put_16-at.ensures in
+    let put = c.put_latin_1-at.ensures in
     let units = c.split_units-units in
     let bytes = c.loop-rest.rest.now in
-    let kept = c.front-kept.result in
+    let kept = c.clear_front-kept.result in
     let whole = sym (take-add 16 16 bytes) in
     let front = units-decoded c.args.order units.result.lows units.result.highs c.marks.result kept 32 bytes
     (units.ensures.lows ∙ ap (lows_of c.args.order) whole) (units.ensures.highs ∙ ap (highs_of c.args.order) whole) c.marks.ensures
-    (omega (arith, c.front-kept.ensures.value)) (omega (arith, c.front-kept.ensures.within)) c.loop-rest-test.true units.ensures.small
+    (omega (arith, c.clear_front-kept.ensures.value)) (omega (arith, c.clear_front-kept.ensures.within)) c.loop-rest-test.true units.ensures.small
     _ _ _ held.is_text put.scalars put.text held.text in
     record {
       same_room = put.same_room ∙ held.same_room;
-      within = omega (arith, put.within, put.same_room, c.if-run-at-ge64.true, c.front-kept.ensures.within);
+      within = omega (arith, put.within, put.same_room, c.if-run-at-ge64.true, c.clear_front-kept.ensures.within);
       onwards = omega (arith, held.onwards, put.after);
-      left = rw (taken-rest, length-drop (2 * kept) bytes) (omega (arith, put.within, held.left, c.loop-rest-test.true, c.front-kept.ensures.within));
+      left = rw (taken-rest, length-drop (2 * kept) bytes) (omega (arith, put.within, held.left, c.loop-rest-test.true, c.clear_front-kept.ensures.within));
       is_text = front.0;
       text = rw taken-rest front.1;
     }
@@ -33,17 +33,17 @@ loop-rest-preserved c =
 pub loop-rest-preserved-then-kept-lt16 : goal.loop-rest-preserved-then-kept-lt16
 loop-rest-preserved-then-kept-lt16 c =
     let held = c.loop-rest.invariant in
-    let put = c.put_16-at.ensures in
+    let put = c.put_latin_1-at.ensures in
     let one = c.put_character-at.ensures in
     let next = c.first_piece-next in
     let units = c.split_units-units in
     let bytes = c.loop-rest.rest.now in
-    let kept = c.front-kept.result in
-    let within = c.front-kept.ensures.within in
+    let kept = c.clear_front-kept.result in
+    let within = c.clear_front-kept.ensures.within in
     let whole = sym (take-add 16 16 bytes) in
     let front = units-decoded c.args.order units.result.lows units.result.highs c.marks.result kept 32 bytes
     (units.ensures.lows ∙ ap (lows_of c.args.order) whole) (units.ensures.highs ∙ ap (highs_of c.args.order) whole) c.marks.ensures
-    (omega (arith, c.front-kept.ensures.value)) (omega (arith, within)) c.loop-rest-test.true units.ensures.small
+    (omega (arith, c.clear_front-kept.ensures.value)) (omega (arith, within)) c.loop-rest-test.true units.ensures.small
     _ _ _ held.is_text put.scalars put.text held.text in
     let rest = drop (2 * kept) bytes in
     let first = get_or rest 0 0 in
@@ -51,7 +51,7 @@ loop-rest-preserved-then-kept-lt16 c =
     let split : rest ≡ first ∷ drop 1 rest = drop_more rest 0 0 some in
     let shown = rw (taken-rest (2 * kept) bytes, taken-rest 1 rest, c.utf_16_of-encoding.ensures) at next.ensures.shown in
     let e = encoding_of (utf_16_of c.args.order) in
-    let joins = ap (λ v. chars (take c.put_16-at.result c.put_16-at.new.run) ++ text_of (utf_16_of c.args.order) v) (sym split) ∙ front.1 in
+    let joins = ap (λ v. chars (take c.put_latin_1-at.result c.put_latin_1-at.new.run) ++ text_of (utf_16_of c.args.order) v) (sym split) ∙ front.1 in
     record {
       same_room = one.same_room ∙ put.same_room ∙ held.same_room;
       within = omega (arith, one.within, one.same_room, put.within, put.same_room, c.if-run-at-ge64.true, within);

@@ -1,6 +1,6 @@
 use Rattle.std.proofs.Common.{◌++◌, ◌∙◌, ap, take}
 use Rattle.properties_text.proofs.Printing.Vectors.{first-spread}
-use Rattle.properties_text.proofs.print.bytes.put_16.Goals as goal
+use Rattle.properties_text.proofs.print.bytes.put_with_backslashes.Goals as goal
 
 pub returns-clause-printed : goal.returns-clause-printed
 returns-clause-printed c =

@@ -1,6 +1,6 @@
 use Rattle.std.proofs.Common.{◌++◌, ◌∙◌, ap, take}
 use Rattle.properties_text.proofs.Latin1.{first-scalars, first-spread}
-use Rattle.properties_text.proofs.encoding.latin_1.put_16.Goals as goal
+use Rattle.properties_text.proofs.encoding.latin_1.put_latin_1.Goals as goal
 
 pub returns-clause-scalars : goal.returns-clause-scalars
 returns-clause-scalars c = first-scalars c.args.v c.args.kept c.fits-v.1

@@ -1,6 +1,6 @@
 use Rattle.std.proofs.Common.{arith}
 use Rattle.byte_blocks.proofs.Marking.{zeros-front, front-most}
-use Rattle.byte_blocks.proofs.marks.Marks.front.Goals as goal
+use Rattle.byte_blocks.proofs.marks.Marks.clear_front.Goals as goal
 
 pub returns-clause-value : goal.returns-clause-value
 returns-clause-value c = zeros-front c.self.inside.bits c.args.self c.self.view_is
