@@ -92,12 +92,12 @@ fn decode_blocks<'a>(run: &mut [u8], start: usize, bytes: &'a [u8]) -> Decoded<'
     while rest.len() >= 16 && run.len() - at >= 64 {
         let v = u8x16::from_slice(rest);
         // The first block may be shorter, so that only whole blocks are left.
-        let size = (rest.len() - 1) % 16 + 1;
-        if tabled(v).is_clear_before(size) {
-            at = put_latin_1(run, at, v, size);
-            rest = &rest[size..];
+        let block_size = (rest.len() - 1) % 16 + 1;
+        if tabled(v).is_clear_before(block_size) {
+            at = put_latin_1(run, at, v, block_size);
+            rest = &rest[block_size..];
         } else {
-            let each = decode_each(run, at, rest, size);
+            let each = decode_each(run, at, rest, block_size);
             at = each.end;
             rest = each.rest;
         }
