@@ -8,7 +8,7 @@ use Rattle.properties_format.specs.Items.{given}
 use Rattle.properties_format.specs.ItemsToCome.{ReaderState}
 use Rattle.properties_format.specs.Lines.{Line}
 use Rattle.properties_format.specs.Computed.Items.{outcome_of}
-use Rattle.properties_lines.specs.LineJoiner.{Joining, JoinsLine, JoinsNoLine}
+use Rattle.properties_lines.specs.LineJoiner.{LineJoining, JoinsLine, JoinsNoLine}
 use Rattle.properties_lines.specs.declared.error.LineError.{LineError}
 use Rattle.properties_items.specs.Errors.{IsError, IsLineError, cause_of_write}
 use Rattle.properties_items.specs.FoundItems.{IsNoItem}
@@ -127,13 +127,13 @@ module _ {R W : Type 0} {reader : Reader R} {sink : Sink W} {old : Reading R} {w
         let k = passed-no_item line new h.passed joins none in
         h.along _ _ _ (Copies.stops_reading error refl (record { live = k.0; done = done; why = state-error k.1; same = refl }))
 
-  module _ {to : R} {so_far : Writing W} (before lines : Joining) (next : R) (h : IsCopiedTo reader sink old writer before.at.state to so_far)
+  module _ {to : R} {so_far : Writing W} (before lines : LineJoining) (next : R) (h : IsCopiedTo reader sink old writer before.at.state to so_far)
       (quiet : before.error ≡ None) (joins : JoinsNoLine reader before to lines next) where
     -- no more lines come
     pub copied-all : (bytes : List ℕ) → lines.error ≡ None → Copies reader sink old writer (Ok tt) (record { reader = next; state = lines.at.state; line = bytes }) so_far
     copied-all bytes none =
         let end = ended joins none in
-        let state = ap (λ (l : Joining). l.at.state) end.1 in
+        let state = ap (λ (l : LineJoining). l.at.state) end.1 in
         h.along _ _ _ (Copies.ends refl (record { gives = state-none (passed-none h.passed end.0 state end.2); same = refl }))
 
     -- or the next one couldn't be read
