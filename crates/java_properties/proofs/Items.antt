@@ -23,7 +23,7 @@ use Rattle.properties_items.specs.declared.found.FoundContent.{FoundContent}
 use Rattle.properties_items.specs.declared.found.FoundContent.TheVariants as found
 use Rattle.properties_lines.specs.LineReader.{Passes, PassesSome}
 use Rattle.properties_lines.proofs.LineJoiner.{some-start, some-on, all-on, passes-on}
-use Rattle.properties_lines.specs.LineJoiner.{IsLazyItems, Joins, JoinsError, JoinsLine, Comes, Joiner, Joining}
+use Rattle.properties_lines.specs.LineJoiner.{IsLazyItems, Joins, JoinsError, JoinsLine, Comes, LineState, LineJoining}
 use Rattle.properties_lines.specs.declared.error.LineError.{LineError}
 use Rattle.properties_lines.specs.declared.error.LineError.TheVariants as why
 use Rattle.java_properties.specs.Borrowing.{ComeNext, IsSpelt}
@@ -246,21 +246,21 @@ module _ {R : Type 0} {reader : Reader R} where
   ])
 
   -- an item came, and is owned now, or there was no memory for that
-  pub gives-owned : {s : ReaderState} {from to : R} (found : Found) (old new : Joiner) (answer : Result line.Line PropertiesError)
+  pub gives-owned : {s : ReaderState} {from to : R} (found : Found) (old new : LineState) (answer : Result line.Line PropertiesError)
       → GivesEntry reader s from (found_entry old.line found) old.state to → Owns old found answer new → GivesItem reader s from (Some answer) new.state to
   gives-owned {s} {from} {to} found old new (Ok line) n k =
       let P : Entry → Type 0 = λ v. GivesEntry reader s from v old.state to in
-      let Q : Joiner → Type 0 = λ v. GivesEntry reader s from (entry_of line) v.state to in
+      let Q : LineState → Type 0 = λ v. GivesEntry reader s from (entry_of line) v.state to in
       subst Q (sym k.1) (subst P (sym k.0) n)
-  gives-owned found old new (Err e) n k = (n.live, ap (λ v. let w : Joiner = v in w.state.is_done) k.1, inr (no-room n.bytes n.read n.lazy k.0))
+  gives-owned found old new (Err e) n k = (n.live, ap (λ v. let w : LineState = v in w.state.is_done) k.1, inr (no-room n.bytes n.read n.lazy k.0))
 
 -- ---- no line came
 
-module _ {R : Type 0} {reader : Reader R} {old new : Joining} {from to : R} where
+module _ {R : Type 0} {reader : Reader R} {old new : LineJoining} {from to : R} where
   -- an error is kept, which stopped the reading
   pub stopped : {error : LineError} → Joins reader old from None new to → old.error ≡ None → new.error ≡ Some error
       → (old.at.state.is_done ≡ false) × (new.at.state.is_done ≡ true) × JoinsError reader old.at.state from error new.at.state to
-  stopped (inl k) none kept = let quiet = ap (λ (l : Joining). l.error) k.1 ∙ none in absurd (cc)
+  stopped (inl k) none kept = let quiet = ap (λ (l : LineJoining). l.error) k.1 ∙ none in absurd (cc)
   stopped {error} (inr k) none kept =
       let same : k.error ≡ error = let failed = k.kept in cc in
       (k.live, k.done, subst (λ v. JoinsError reader old.at.state from v new.at.state to) same k.why)

@@ -31,7 +31,7 @@ use Rattle.properties_format.proofs.Groups.Meets.{groups_of-meets}
 use Rattle.properties_format.proofs.Groups.Only.{groups_of-only}
 use Rattle.properties_format.proofs.Items.Unique.{outcome_of-meets, outcome_of-only}
 use Rattle.properties_format.proofs.Changed.Maps.{other-test}
-use Rattle.properties_lines.specs.LineJoiner.{Joiner, JoinsNext, JoinsError}
+use Rattle.properties_lines.specs.LineJoiner.{LineState, JoinsNext, JoinsError}
 use Rattle.properties_lines.specs.declared.error.LineError.{LineError}
 use Rattle.properties_items.specs.Errors.{IsBareError, IsLineError}
 use Rattle.java_properties.specs.MalformedEscapes.{FailsToFind, StopsFinding}
@@ -329,7 +329,7 @@ module _ {R Z : Type 0} {reader : Reader R} where
   keys-start e from found firsts state h i k = rw (h, i, k) (record { groups = []; collected = collected-start e from; entries = refl; kept = λ key. refl })
 
   -- a logical line came
-  pub keys-next : {e : Encoding} {from to next : R} {old found : List code.KeyLine} {firsts firsts' : List (String Z × ℕ)} {s : ReaderState} (number : ℕ) (new : Joiner)
+  pub keys-next : {e : Encoding} {from to next : R} {old found : List code.KeyLine} {firsts firsts' : List (String Z × ℕ)} {s : ReaderState} (number : ℕ) (new : LineState)
       → FoundKeys reader e from old firsts s to → (n : JoinsNext reader s to number new next)
       → PushesKey number (chars new.line) old firsts (Ok tt) found firsts' → FoundKeys reader e from found firsts' new.state next
   keys-next {e} {from} {next = next} {old} {found} {firsts} {firsts'} number new h n a = by (outcome_key (outcome_of (chars new.line))) refl
@@ -405,6 +405,6 @@ module _ {R Z : Type 0} {reader : Reader R} where
   keys-error h live f says = found-error (record { groups = h.groups; collected = h.collected; escapes = refl }) live f says
 
   -- there was no memory for a key
-  pub keys-lost : {e : Encoding} {from to next : R} {found : List code.KeyLine} {firsts : List (String Z × ℕ)} {s : ReaderState} {error : PropertiesError} (number : ℕ) (new : Joiner)
+  pub keys-lost : {e : Encoding} {from to next : R} {found : List code.KeyLine} {firsts : List (String Z × ℕ)} {s : ReaderState} {error : PropertiesError} (number : ℕ) (new : LineState)
       → FoundKeys reader e from found firsts s to → JoinsNext reader s to number new next → IsBareError kind.Memory error → StopsFinding reader e from error next
   keys-lost number new h n is = found-lost number new (record { groups = h.groups; collected = h.collected; escapes = refl }) n is

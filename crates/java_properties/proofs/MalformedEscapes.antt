@@ -25,7 +25,7 @@ use Rattle.properties_format.proofs.Groups.Only.{groups_of-only}
 use Rattle.properties_format.proofs.ItemsToCome.Lines.{natural-done}
 use Rattle.properties_format.proofs.MalformedEscapes.{malformed_escapes_of-meets, malformed_escapes_of-only, escapes_in-groups, escapes_in-push, natural-start, fault-last, cut-line}
 use Rattle.properties_lines.specs.LineReader.{Passes}
-use Rattle.properties_lines.specs.LineJoiner.{Joiner, JoinsNext, JoinsError, JoinsFault}
+use Rattle.properties_lines.specs.LineJoiner.{LineState, JoinsNext, JoinsError, JoinsFault}
 use Rattle.properties_lines.specs.declared.error.LineError.{LineError}
 use Rattle.properties_lines.proofs.LineJoiner.{passes-start, passes-on, some-come, all-on}
 use Rattle.properties_text.specs.Escaping.{malformed_in}
@@ -163,7 +163,7 @@ module _ {R : Type 0} {reader : Reader R} where
   found-start e from found state h k = rw (h, k) (record { groups = []; collected = collected-start e from; escapes = refl })
 
   -- one group more came
-  pub collected-next : {e : Encoding} {from to next : R} {gs : List (List Line)} {s : ReaderState} (number : ℕ) (new : Joiner) → Collected reader e from gs s to
+  pub collected-next : {e : Encoding} {from to next : R} {gs : List (List Line)} {s : ReaderState} (number : ℕ) (new : LineState) → Collected reader e from gs s to
       → (n : JoinsNext reader s to number new next) → Collected reader e from (gs ++ (n.group.first ∷ n.group.others) ∷ []) new.state next
   collected-next {e} {gs = gs} number new h n =
       let group = n.group.first ∷ n.group.others in
@@ -177,7 +177,7 @@ module _ {R : Type 0} {reader : Reader R} where
         ended = n.ended;
       }
 
-  pub found-next : {e : Encoding} {from to next : R} {old : List MalformedEscape} {s : ReaderState} (number : ℕ) (new : Joiner) (found : List MalformedEscape)
+  pub found-next : {e : Encoding} {from to next : R} {old : List MalformedEscape} {s : ReaderState} (number : ℕ) (new : LineState) (found : List MalformedEscape)
       → Found reader e from old s to → (n : JoinsNext reader s to number new next)
       → found ≡ old ++ escape_records (escapes_from number (chars new.line) (outcome_of (chars new.line)) []) → Found reader e from found new.state next
   found-next {old = old} number new found h n k = record {
@@ -250,6 +250,6 @@ module _ {R : Type 0} {reader : Reader R} where
       inr (record { bytes = h.collected.bytes ++ f.bytes; read = read-more h.collected.read f.read; is = inr (subst S f.is says) })
 
   -- there was no memory for an escape
-  pub found-lost : {e : Encoding} {from to next : R} {found : List MalformedEscape} {s : ReaderState} {error : PropertiesError} (number : ℕ) (new : Joiner)
+  pub found-lost : {e : Encoding} {from to next : R} {found : List MalformedEscape} {s : ReaderState} {error : PropertiesError} (number : ℕ) (new : LineState)
       → Found reader e from found s to → JoinsNext reader s to number new next → IsBareError kind.Memory error → StopsFinding reader e from error next
   found-lost number new h n is = record { bytes = h.collected.bytes ++ n.bytes; read = read-more h.collected.read n.read; is = inr is }

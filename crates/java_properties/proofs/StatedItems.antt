@@ -5,8 +5,8 @@ use Rattle.counted_io.specs.Streams.{Reader}
 use Rattle.properties_format.specs.Entries.{Entry}
 use Rattle.properties_format.specs.ItemsToCome.{ReaderState}
 use Rattle.properties_format.proofs.ItemsToCome.Divisions.{are_to_come, to_come_are, comes_first, first_comes, lines_come_first, first_lines_come}
-use Rattle.properties_lines.specs.LineReader as finder
-use Rattle.properties_lines.specs.LineJoiner as joiner
+use Rattle.properties_lines.specs.LineReader as natural
+use Rattle.properties_lines.specs.LineJoiner as logical
 use Rattle.properties_lines.specs.declared.error.LineError.{LineError}
 use Rattle.properties_lines.specs.declared.error.LineError.TheVariants as why
 use Rattle.properties_items.specs.Errors.{IsLineError}
@@ -14,17 +14,17 @@ use Rattle.java_properties.specs.Private.GivenItems as given
 use Rattle.java_properties.specs.Private.GivenItems.{FindsItem}
 use Rattle.java_properties.specs.Borrowing.{AdvancesTo}
 use Rattle.java_properties.specs.PropertiesIter as stated
-use Rattle.java_properties.specs.PropertiesIter.{Reading}
+use Rattle.java_properties.specs.PropertiesIter.{Iteration}
 use Rattle.properties_items.specs.declared.error.PropertiesError.{PropertiesError}
 use Rattle.properties_items.specs.declared.found.Found.{Found}
 use Rattle.properties_items.specs.declared.line.Line.{Line}
 
 -- ---- as the clauses say it
 
-state-some : {old new : ReaderState} {bytes : List ℕ} → finder.PassesSome old bytes new → stated.PassesSome old bytes new
+state-some : {old new : ReaderState} {bytes : List ℕ} → natural.PassesSome old bytes new → stated.PassesSome old bytes new
 state-some h = record { lines = h.lines; first = lines_come_first h.reads }
 
-pub state-all : {old : ReaderState} {bytes : List ℕ} → finder.PassesAll old bytes → stated.PassesAll old bytes
+pub state-all : {old : ReaderState} {bytes : List ℕ} → natural.PassesAll old bytes → stated.PassesAll old bytes
 state-all h = record { last = h.last; passes = state-some h.passes; passed = h.passed }
 
 state-gives : {old new : ReaderState} {bytes : List ℕ} {entry : Entry} → given.Gives old bytes entry new → stated.Gives old bytes entry new
@@ -35,7 +35,7 @@ state-breaks : {old : ReaderState} {bytes : List ℕ} {entry : Entry} {at_end : 
 state-breaks (given.BreaksOff.before_all h) = stated.BreaksOff.before_all (λ d ending. are_to_come (h d ending))
 state-breaks (given.BreaksOff.at_last e h) = stated.BreaksOff.at_last e (are_to_come h)
 
-state-lazy : {R : Type 0} {old : ReaderState} {from to : R} {bytes : List ℕ} → joiner.IsLazyItems old from bytes to → stated.IsLazyItems old from bytes to
+state-lazy : {R : Type 0} {old : ReaderState} {from to : R} {bytes : List ℕ} → logical.IsLazyItems old from bytes to → stated.IsLazyItems old from bytes to
 state-lazy (inl h) = inl h
 state-lazy (inr h) = inr (are_to_come h)
 
@@ -48,7 +48,7 @@ module _ {R : Type 0} {reader : Reader R} {old new : ReaderState} {from to : R} 
   state-none h = record { bytes = h.bytes; read = h.read; items = are_to_come h.items; done = h.done; idle = h.idle; ended = h.ended }
 
 module _ {R : Type 0} {reader : Reader R} {old : ReaderState} {from to : R} where
-  state-line : {e : PropertiesError} {why : LineError} {last : ReaderState} → joiner.JoinsError reader old from why last to → IsLineError why e
+  state-line : {e : PropertiesError} {why : LineError} {last : ReaderState} → logical.JoinsError reader old from why last to → IsLineError why e
       → stated.GivesError reader old from e to
   state-line {e} (inl h) says = inl (record {
     bytes = h.bytes;
@@ -74,7 +74,7 @@ state-item reader old new from to None h = state-none h
 state-item reader old new from to (Some (Ok line)) h = state-entry h
 state-item reader old new from to (Some (Err e)) h = (h.0, h.1, state-error h.2)
 
-pub state-advance : {R : Type 0} (reader : Reader R) (old new : Reading R) (answer : Option (Result Found PropertiesError))
+pub state-advance : {R : Type 0} (reader : Reader R) (old new : Iteration R) (answer : Option (Result Found PropertiesError))
     → FindsItem reader old.state old.reader answer (record { state = new.state; line = new.line }) new.reader → AdvancesTo reader old answer new
 state-advance reader old new None h = state-none h
 state-advance reader old new (Some (Ok found)) h =
@@ -87,10 +87,10 @@ state-advance reader old new (Some (Err e)) h = (h.0, h.1, state-error h.2)
 
 -- ---- as it is computed
 
-compute-some : {old new : ReaderState} {bytes : List ℕ} → stated.PassesSome old bytes new → finder.PassesSome old bytes new
+compute-some : {old new : ReaderState} {bytes : List ℕ} → stated.PassesSome old bytes new → natural.PassesSome old bytes new
 compute-some h = record { lines = h.lines; reads = first_lines_come h.first }
 
-compute-all : {old : ReaderState} {bytes : List ℕ} → stated.PassesAll old bytes → finder.PassesAll old bytes
+compute-all : {old : ReaderState} {bytes : List ℕ} → stated.PassesAll old bytes → natural.PassesAll old bytes
 compute-all h = record { last = h.last; passes = compute-some h.passes; passed = h.passed }
 
 compute-gives : {old new : ReaderState} {bytes : List ℕ} {entry : Entry} → stated.Gives old bytes entry new → given.Gives old bytes entry new
@@ -101,7 +101,7 @@ compute-breaks : {old : ReaderState} {bytes : List ℕ} {entry : Entry} {at_end 
 compute-breaks (stated.BreaksOff.before_all h) = given.BreaksOff.before_all (λ d ending. to_come_are (h d ending))
 compute-breaks (stated.BreaksOff.at_last e h) = given.BreaksOff.at_last e (to_come_are h)
 
-compute-lazy : {R : Type 0} {old : ReaderState} {from to : R} {bytes : List ℕ} → stated.IsLazyItems old from bytes to → joiner.IsLazyItems old from bytes to
+compute-lazy : {R : Type 0} {old : ReaderState} {from to : R} {bytes : List ℕ} → stated.IsLazyItems old from bytes to → logical.IsLazyItems old from bytes to
 compute-lazy (inl h) = inl h
 compute-lazy (inr h) = inr (to_come_are h)
 

@@ -18,15 +18,14 @@ use Rattle.properties_format.proofs.ItemsToCome.Entries.{gives-on, joining-open,
 use Rattle.properties_format.proofs.ItemsToCome.Steps.{lines-start, lines-on, on-start, on-open, logical-comment_line, logical-closed}
 use Rattle.properties_format.specs.Computed.ReaderSteps.{Gives}
 use Rattle.properties_text.specs.Escaping.{holds_backslash}
-use Rattle.properties_lines.specs.LineReader as finder
-use Rattle.properties_lines.specs.LineReader.{Finder, Finds, Passes, PassesSome, PassesAll, IsLazy, HasRightLineFlags, FindsError, found_line}
+use Rattle.properties_lines.specs.LineReader.{LineReading, Finds, FindsNext, Passes, PassesSome, PassesAll, IsLazy, HasRightLineFlags, FindsError, found_line}
 use Rattle.properties_text.specs.Encoding.{line_of}
 use Rattle.properties_text.specs.Spelt.{text_in, IsWell}
 use Rattle.properties_text.specs.declared.encoding.line.LineEncoding.{LineEncoding}
 use Rattle.properties_lines.specs.LogicalLine.{bytes_at, bytes_with, is_natural, IsLineIn, HasText, IsTextOf, IsNotContinued, OpensJoin, unfinished_text}
 use Rattle.properties_lines.specs.declared.logical.Place.{Place}
 use Rattle.properties_lines.specs.declared.logical.Place.TheVariants.{Natural, Decoded, Joined}
-use Rattle.properties_lines.specs.LineJoiner.{line_text, join_of, numbered_bytes, Pends, Closes, AddsOpen, AddsLast, EndJoin, IsLazyJoin, IsLazyItems, GoesOn, JoinsAll, JoinError, JoinsNone, JoinsOn, Joining, Comes, Joins, Advances, JoinsNoLine, JoinsBytes, JoinsGroup, JoinsLine, JoinsError, ReadsWhole, ReadsNone, ReadsRest}
+use Rattle.properties_lines.specs.LineJoiner.{line_text, join_of, numbered_bytes, Pends, Closes, AddsOpen, AddsLast, EndJoin, IsLazyJoin, IsLazyItems, GoesOn, JoinsAll, JoinError, JoinsNone, JoinsOn, LineJoining, Comes, Joins, Advances, JoinsNoLine, JoinsBytes, JoinsGroup, JoinsLine, JoinsError, ReadsWhole, ReadsNone, ReadsRest}
 use Rattle.properties_lines.specs.declared.error.LineError.TheVariants as why
 use Rattle.properties_lines.specs.declared.error.LineError.{LineError}
 use Rattle.properties_lines.specs.declared.logical.LogicalLine.{LogicalLine}
@@ -127,7 +126,7 @@ adds-done : {s t : ReaderState} {old r text : List ℕ} → AddsOpen s old r tex
 adds-done h d = record { lines = h.lines; passes = h.passes; end_join = inr (d, h.are_open); is = h.is }
 
 -- the reading ended for good at this line, for this reason
-abbrev pub failed : Finder → LineError → Finder
+abbrev pub failed : LineReading → LineError → LineReading
 failed found e = record found { state = record found.state { is_done = true }; error = Some e }
 
 -- ---- lines are added to a join
@@ -223,8 +222,8 @@ module _ {R : Type 0} {reader : Reader R} where
   ]
 
   -- an open line came
-  pub goes-more : {s t : ReaderState} {from to next : R} {old r text new : List ℕ} (number : ℕ) (found : Finder) → GoesOn reader s from old r text t to
-      → (h : finder.FindsNext reader t to number found next) → is_open (line_text found) ≡ true → new ≡ text ++ addition (line_text found)
+  pub goes-more : {s t : ReaderState} {from to next : R} {old r text new : List ℕ} (number : ℕ) (found : LineReading) → GoesOn reader s from old r text t to
+      → (h : FindsNext reader t to number found next) → is_open (line_text found) ≡ true → new ≡ text ++ addition (line_text found)
       → GoesOn reader s from old (r ++ h.bytes) new found.state next
   goes-more {s} {t} number found h n o e = record {
     read = read-more h.read n.read;
@@ -239,8 +238,8 @@ module _ {R : Type 0} {reader : Reader R} where
   }
 
   -- another line came
-  pub joins-closed : {s t : ReaderState} {from to next : R} {old r text new : List ℕ} (number : ℕ) (found : Finder) → GoesOn reader s from old r text t to
-      → finder.FindsNext reader t to number found next → is_open (line_text found) ≡ false → new ≡ text ++ addition (line_text found)
+  pub joins-closed : {s t : ReaderState} {from to next : R} {old r text new : List ℕ} (number : ℕ) (found : LineReading) → GoesOn reader s from old r text t to
+      → FindsNext reader t to number found next → is_open (line_text found) ≡ false → new ≡ text ++ addition (line_text found)
       → JoinsAll reader s from old new found.state next
   joins-closed {s} {t} {r = r} number found h n o e = record {
     bytes = r ++ n.bytes;
@@ -272,8 +271,8 @@ module _ {R : Type 0} {reader : Reader R} where
   })
 
   -- memory ran out
-  pub join-no_room : {s t : ReaderState} {from to next : R} {old r text : List ℕ} {e : LineError} (number : ℕ) (found : Finder) (u : ReaderState)
-      → GoesOn reader s from old r text t to → finder.FindsNext reader t to number found next → e ≡ why.Memory → JoinError reader s from old e u next
+  pub join-no_room : {s t : ReaderState} {from to next : R} {old r text : List ℕ} {e : LineError} (number : ℕ) (found : LineReading) (u : ReaderState)
+      → GoesOn reader s from old r text t to → FindsNext reader t to number found next → e ≡ why.Memory → JoinError reader s from old e u next
   join-no_room {r = r} number found u h n is =
       inr (inr (record { bytes = r ++ n.bytes; read = read-more h.read n.read; is = is; lazy = lazy-more h n.live n.lazy }))
 
@@ -304,8 +303,8 @@ module _ {R : Type 0} {reader : Reader R} where
   goes-live {s} h g = elim (cases_Bool s.is_done) [ inl e ↦ let d = h.done e in absurd (cc) | inr e ↦ e ]
 
   -- and so the join couldn't be read to its end
-  pub joins-lost : {from at to : R} {old r text : List ℕ} (before lines found after : Finder) → GoesOn reader before.state from old r text lines.state at
-      → finder.FindsNext reader lines.state at found.state.passed found to → after ≡ failed found why.Memory → JoinsNone reader before from old after to
+  pub joins-lost : {from at to : R} {old r text : List ℕ} (before lines found after : LineReading) → GoesOn reader before.state from old r text lines.state at
+      → FindsNext reader lines.state at found.state.passed found to → after ≡ failed found why.Memory → JoinsNone reader before from old after to
   joins-lost before lines found after h n e = rw e (record {
     live = goes-live h n.live;
     done = refl;
@@ -315,12 +314,12 @@ module _ {R : Type 0} {reader : Reader R} where
   })
 
   -- no more lines came
-  pub joins-over : {from at to : R} {old r text : List ℕ} (before lines after : Finder) (failed : Bool)
+  pub joins-over : {from at to : R} {old r text : List ℕ} (before lines after : LineReading) (failed : Bool)
       → GoesOn reader before.state from old r text lines.state at
       → lines.error ≡ None → Finds reader lines at false after to → failed ≡ is_some after.error → JoinsOn reader before from old (not failed) after to text
   joins-over before lines after failed h e (inl n) f =
-      let state = ap (λ v. let w : Finder = v in w.state) n.1 in
-      let error = ap (λ v. let w : Finder = v in w.error) n.1 ∙ e in
+      let state = ap (λ v. let w : LineReading = v in w.state) n.1 in
+      let error = ap (λ v. let w : LineReading = v in w.error) n.1 ∙ e in
       let none : failed ≡ false = f ∙ ap is_some error in
       rw none (joins-done h n.0 state n.2, error)
   joins-over before lines after failed h e (inr n) f =
@@ -330,7 +329,7 @@ module _ {R : Type 0} {reader : Reader R} where
 -- ---- what is known of a line
 
 -- a line holds no backslash if its flag says so
-pub known-plain : (f : Finder) (has_backslash : Bool) → HasRightLineFlags f → has_backslash ≡ f.has_backslash → has_backslash ≡ false
+pub known-plain : (f : LineReading) (has_backslash : Bool) → HasRightLineFlags f → has_backslash ≡ f.has_backslash → has_backslash ≡ false
     → holds_backslash f.line ≡ false
 known-plain f has_backslash h told k = sym (h 0 0).backslash ∙ sym told ∙ k
 
@@ -421,7 +420,7 @@ lazy-items s (inr h) = inr (items_to_come-pending s [] more ∙ pending-lazy Non
 
 module _ {R : Type 0} {reader : Reader R} where
   -- the line is a logical line
-  line-alone : {s : ReaderState} {from to : R} (number : ℕ) (found : Finder) → finder.FindsNext reader s from number found to → IsNotContinued (line_text found)
+  line-alone : {s : ReaderState} {from to : R} (number : ℕ) (found : LineReading) → FindsNext reader s from number found to → IsNotContinued (line_text found)
       → JoinsLine reader s from (found_line number found) found.state to
   line-alone {s} number found n c = record {
     bytes = n.bytes;
@@ -435,7 +434,7 @@ module _ {R : Type 0} {reader : Reader R} where
   }
 
   -- what was held when a join began, and gave no item
-  lazy-join : {s : ReaderState} {from to next : R} {q : List ℕ} (number : ℕ) (mid : Finder) (n : finder.FindsNext reader s from number mid to)
+  lazy-join : {s : ReaderState} {from to next : R} {q : List ℕ} (number : ℕ) (mid : LineReading) (n : FindsNext reader s from number mid to)
       → is_comment_line (line_text mid) ≡ false → is_open (line_text mid) ≡ true → (mid.state.is_done ≡ true → (q ≡ []) × (next ≡ to))
       → IsLazyJoin mid.state to (without_open_backslash (line_text mid)) q next → IsLazyItems s from (n.bytes ++ q) next
   lazy-join {s} {from} {to} {next} {q} number mid n c o idle lazy = by-find n.lazy
@@ -455,8 +454,8 @@ module _ {R : Type 0} {reader : Reader R} where
       ]
 
   -- the line and those after it are one
-  joins-joined : {s : ReaderState} {from to next : R} (number : ℕ) (mid : Finder) (text : List ℕ) (new : ReaderState)
-      → finder.FindsNext reader s from number mid to
+  joins-joined : {s : ReaderState} {from to next : R} (number : ℕ) (mid : LineReading) (text : List ℕ) (new : ReaderState)
+      → FindsNext reader s from number mid to
       → is_comment_line (line_text mid) ≡ false → is_open (line_text mid) ≡ true
       → JoinsAll reader mid.state to (without_open_backslash (line_text mid)) text new next
       → JoinsLine reader s from (record { number = number; text = text }) new next
@@ -492,7 +491,7 @@ module _ {R : Type 0} {reader : Reader R} where
   joins-refused {s} (inr (inr f)) = inr (inr (record { bytes = f.room.bytes; read = f.room.read; is = f.is; lazy = lazy-items s f.room.lazy }))
 
   -- a join was not read to its end
-  pub joins-broken : {s u : ReaderState} {from to next : R} {e : LineError} (number : ℕ) (mid : Finder) → finder.FindsNext reader s from number mid to
+  pub joins-broken : {s u : ReaderState} {from to next : R} {e : LineError} (number : ℕ) (mid : LineReading) → FindsNext reader s from number mid to
       → is_comment_line (line_text mid) ≡ false → is_open (line_text mid) ≡ true → mid.state.is_done ≡ false
       → JoinError reader mid.state to (without_open_backslash (line_text mid)) e u next → JoinsError reader s from e u next
   joins-broken {s} {from = from} {to = to} number mid n c o g (inl f) = inl (record {
@@ -529,7 +528,7 @@ module _ {R : Type 0} {reader : Reader R} where
       inr (inr (record { bytes = n.bytes ++ f.bytes; read = read-more n.read f.read; is = f.is; lazy = lazy-join number mid n c o (λ e. absurd (cc)) f.lazy }))
 
   -- there was no memory for it
-  pub joins-no_room : {s u : ReaderState} {from to : R} {e : LineError} (number : ℕ) (mid : Finder) → finder.FindsNext reader s from number mid to
+  pub joins-no_room : {s u : ReaderState} {from to : R} {e : LineError} (number : ℕ) (mid : LineReading) → FindsNext reader s from number mid to
       → e ≡ why.Memory → JoinsError reader s from e u to
   joins-no_room {s} number mid n is = inr (inr (record { bytes = n.bytes; read = n.read; is = is; lazy = lazy-items s n.lazy }))
 
@@ -548,7 +547,7 @@ joined-bytes place natural decoded joined h = rw h (refl, refl)
 
 module _ {R : Type 0} {reader : Reader R} where
   -- the line is a logical line
-  pub reads-alone : {from : R} (found : Finder) (line : LogicalLine) (has_backslash : Bool) → IsNotContinued (line_text found)
+  pub reads-alone : {from : R} (found : LineReading) (line : LogicalLine) (has_backslash : Bool) → IsNotContinued (line_text found)
       → HasText line found.line (line_text found)
       → HasRightLineFlags found → (has_backslash ≡ false → holds_backslash found.line ≡ false) → found.error ≡ None
       → ReadsWhole reader found from found.state.passed found line has_backslash from
@@ -567,7 +566,7 @@ module _ {R : Type 0} {reader : Reader R} where
   }
 
   -- and so is it with the lines that are joined to it
-  pub reads-joined : {from to : R} (found lines : Finder) (begun line : LogicalLine) (has_backslash : Bool)
+  pub reads-joined : {from to : R} (found lines : LineReading) (begun line : LogicalLine) (has_backslash : Bool)
       → OpensJoin found.state.encoding (line_text found) begun
       → JoinsAll reader found.state from (unfinished_text begun) (unfinished_text line) lines.state to → lines.error ≡ None → line.place ≡ Joined
       → IsWell line.encoding line.joined
@@ -588,21 +587,21 @@ module _ {R : Type 0} {reader : Reader R} where
       }
 
   -- these can't be read to their end
-  pub reads-broken : {from to : R} (found lines : Finder) (begun : LogicalLine) → OpensJoin found.state.encoding (line_text found) begun
+  pub reads-broken : {from to : R} (found lines : LineReading) (begun : LogicalLine) → OpensJoin found.state.encoding (line_text found) begun
       → JoinsNone reader found from (unfinished_text begun) lines to → ReadsNone reader found from lines to
   reads-broken {from} {to} found lines begun o j =
       let P : List ℕ → Type 0 = λ v. JoinError reader found.state from v j.error lines.state to in
       record { done = j.done; error = j.error; kept = j.kept; why = λ n. joins-broken found.state.passed found n o.other o.opens j.live (subst P o.closed j.why) }
 
   -- there was no memory for its text
-  pub reads-no_room : {from : R} (found lines : Finder) → lines ≡ failed found why.Memory → ReadsNone reader found from lines from
+  pub reads-no_room : {from : R} (found lines : LineReading) → lines ≡ failed found why.Memory → ReadsNone reader found from lines from
   reads-no_room found lines e =
       rw e (record { done = refl; error = why.Memory; kept = refl; why = λ n. joins-no_room found.state.passed found n refl })
 
 -- ---- the next logical line
 
 -- what a contract sees of the joiner of this reader and this line
-abbrev pub joining : Finder → LogicalLine → Bool → Joining
+abbrev pub joining : LineReading → LogicalLine → Bool → LineJoining
 joining lines line has_backslash = record {
   at = record { state = lines.state; line = bytes_with line lines.line };
   encoding = line.encoding;
@@ -613,7 +612,7 @@ joining lines line has_backslash = record {
 
 module _ {R : Type 0} {reader : Reader R} where
   -- no line was found
-  pub joins-none : {from to : R} (before after : Finder) (line : LogicalLine) (has_backslash : Bool) → Finds reader before from false after to
+  pub joins-none : {from to : R} (before after : LineReading) (line : LogicalLine) (has_backslash : Bool) → Finds reader before from false after to
       → JoinsNoLine reader (joining before line has_backslash) from (joining after line has_backslash) to
   joins-none before after line has_backslash (inl h) = inl (h.0, ap (λ v. joining v line has_backslash) h.1, h.2)
   joins-none before after line has_backslash (inr h) = inr (record {
@@ -625,17 +624,17 @@ module _ {R : Type 0} {reader : Reader R} where
   })
 
   -- the rest of it was read
-  pub joins-rest : {from mid : R} (to : R) (old : Joining) (found lines : Finder) (line : LogicalLine) (result : Option ℕ) (has_backslash : Bool)
-      → finder.FindsNext reader old.at.state from found.state.passed found mid → ReadsRest reader found mid result lines line has_backslash to
+  pub joins-rest : {from mid : R} (to : R) (old : LineJoining) (found lines : LineReading) (line : LogicalLine) (result : Option ℕ) (has_backslash : Bool)
+      → FindsNext reader old.at.state from found.state.passed found mid → ReadsRest reader found mid result lines line has_backslash to
       → Advances reader old from result (joining lines line has_backslash) to
   joins-rest {from} {mid} to old found lines line (Some number) has_backslash n h =
-      let P : ℕ → Type 0 = λ v. finder.FindsNext reader old.at.state from v found mid in
+      let P : ℕ → Type 0 = λ v. FindsNext reader old.at.state from v found mid in
       record { joins = h.comes (subst P (sym h.number_is) n); well = h.well; ascii = h.ascii; plain = h.plain; error = h.error }
   joins-rest to old found lines line None has_backslash n h = inr (record { live = n.live; done = h.done; error = h.error; kept = h.kept; why = h.why n })
 
   -- the line is borrowed
-  pub joins-borrowed : {from to : R} (old : Joining) (found : Finder) (line : LogicalLine) (has_backslash : Bool)
-      → finder.FindsNext reader old.at.state from found.state.passed found to × HasRightLineFlags found × (found.error ≡ None)
+  pub joins-borrowed : {from to : R} (old : LineJoining) (found : LineReading) (line : LogicalLine) (has_backslash : Bool)
+      → FindsNext reader old.at.state from found.state.passed found to × HasRightLineFlags found × (found.error ≡ None)
       → has_backslash ≡ found.has_backslash
       → line.place ≡ Natural → line_of line.encoding ≡ output_encoding found.state.encoding → IsLineIn found.state.encoding found.line
       → is_open found.line ≡ false
@@ -652,7 +651,7 @@ module _ {R : Type 0} {reader : Reader R} where
 
 module _ {R : Type 0} {reader : Reader R} where
   -- these bytes are its text
-  pub joins-text : {from to : R} (old new : Joining) (number : ℕ) (encoding : LineEncoding) (is_ascii : Bool) (line : List ℕ)
+  pub joins-text : {from to : R} (old new : LineJoining) (number : ℕ) (encoding : LineEncoding) (is_ascii : Bool) (line : List ℕ)
       → JoinsBytes reader old from number new to
       → IsTextOf (text_in new.encoding new.at.line) line
       → Joins reader old from (Some number) (record new { at = record new.at { line = line }; encoding = encoding; is_ascii = is_ascii }) to
@@ -664,7 +663,7 @@ module _ {R : Type 0} {reader : Reader R} where
       )
 
   -- there was no memory for it
-  pub joins-no_text : {from to : R} (old new failed : Joining) (number : ℕ) → JoinsBytes reader old from number new to → failed.at.state.is_done ≡ true
+  pub joins-no_text : {from to : R} (old new failed : LineJoining) (number : ℕ) → JoinsBytes reader old from number new to → failed.at.state.is_done ≡ true
       → failed.error ≡ Some why.Memory → JoinsNoLine reader old from failed to
   joins-no_text old new failed number h done error = inr (record {
     live = h.joins.live;

@@ -17,7 +17,7 @@ use Rattle.properties_format.proofs.ItemsToCome.Steps.{lines-start, lines-on, li
 use Rattle.properties_text.specs.Encoding.{encoding_of}
 use Rattle.properties_lines.specs.Scanner.{is_decided, after_cr, scanner_state, bytes_of, Fits, Scans, KeepsEncoding}
 use Rattle.properties_lines.specs.LineReader as reading
-use Rattle.properties_lines.specs.LineReader.{Finder, found_line, reads_left, HoldsLine, HoldsNone, ScansHeld, ReleasesOrKeeps}
+use Rattle.properties_lines.specs.LineReader.{LineReading, found_line, reads_left, HoldsLine, HoldsNone, ScansHeld, ReleasesOrKeeps}
 use Rattle.properties_lines.specs.LineReader.{Along, IsAtEnd, ReadsBytes, HasFailedFor, IsReadError, Finds, FindsNext, FindsError}
 use Rattle.properties_lines.specs.declared.error.LineError.{LineError}
 use Rattle.properties_lines.specs.declared.error.LineError.TheVariants as why
@@ -75,8 +75,8 @@ done-end s h = elim (cases_Bool s.is_done) [
 -- ---- a scanner over the bytes that are held
 
 -- what it is as a reader of lines
-abbrev pub finder_of : Scanner → List ℕ → Option LineError → Finder
-finder_of s held error = record {
+abbrev pub reading_of : Scanner → List ℕ → Option LineError → LineReading
+reading_of s held error = record {
   state = scanner_state s held;
   line = bytes_of held s.line;
   is_ascii = s.line.is_ascii;
@@ -91,7 +91,7 @@ awaits-some Feed h = refl
 awaits-some Nothing h = absurd (h refl)
 
 reads-nearer : (s new : Scanner) (held : List ℕ) (error : Option LineError) → (new.at ≡ s.at) × (new.front ≡ s.front) ⊎ (s.front ≢ Nothing) × (new.front ≡ Nothing)
-    → reads_left (finder_of new held error) ≤ reads_left (finder_of s held error)
+    → reads_left (reading_of new held error) ≤ reads_left (reading_of s held error)
 reads-nearer s new held error h = elim h [
   | inl same ↦ rw (same.0, same.1) (omega arith)
   | inr passed ↦ rw (passed.1, awaits-some s.front passed.0) (omega arith)
@@ -102,7 +102,7 @@ no-error None done h k = refl
 no-error (Some e) done h k = let d = h (λ w. absurd (cc)) in absurd (cc)
 
 pub scans-held : (s new : Scanner) (held : List ℕ) (error : Option LineError) (ended : Bool) (scan : Scan) → (error ≢ None → s.is_done ≡ true)
-    → Scans s held ended scan new → ScansHeld (finder_of s held error) ended scan (finder_of new held error)
+    → Scans s held ended scan new → ScansHeld (reading_of s held error) ended scan (reading_of new held error)
 scans-held s new held error ended Line h g = record {
   live = g.live;
   number = g.number;
@@ -132,8 +132,8 @@ scans-held s new held error ended More h (on, g) = (
     line = ap (bytes_of held) g.line;
   },
 )
-scans-held s new held error ended scan.End h (done, same) = (done, ap (λ v. finder_of v held error) same)
-scans-held s new held error ended TooMany h (live, last, same) = (live, last, ap (λ v. finder_of v held error) same)
+scans-held s new held error ended scan.End h (done, same) = (done, ap (λ v. reading_of v held error) same)
+scans-held s new held error ended TooMany h (live, last, same) = (live, last, ap (λ v. reading_of v held error) same)
 
 -- bytes at the front were let go
 pub fits-left : (s new : Scanner) (held rest : List ℕ) (gone : ℕ) → Fits s held → gone ≤ s.at → new ≡ release s gone → rest ≡ drop gone held → Fits new rest
@@ -160,10 +160,10 @@ line-left s new held gone is = rw is refl
 
 -- ---- reading on
 
-pub fails : (old f new : Finder) (e : LineError) → new ≡ record f { state = record f.state { is_done = true }; error = Some e } → ReleasesOrKeeps old f → HasFailedFor old e new
+pub fails : (old f new : LineReading) (e : LineError) → new ≡ record f { state = record f.state { is_done = true }; error = Some e } → ReleasesOrKeeps old f → HasFailedFor old e new
 fails old f new e is line = rw is (record { done = refl; error = refl; line = line })
 
-pub releases-on : (a b c d : Finder) → ReleasesOrKeeps a b → c.line ≡ b.line → ReleasesOrKeeps c d → ReleasesOrKeeps a d
+pub releases-on : (a b c d : LineReading) → ReleasesOrKeeps a b → c.line ≡ b.line → ReleasesOrKeeps c d → ReleasesOrKeeps a d
 releases-on a b c d h e k = elim k [
   | inl same ↦ elim h [
     | inl was ↦ inl (same ∙ e ∙ was)
@@ -186,7 +186,7 @@ module _ {R : Type 0} {reader : Reader R} where
   ]
 
   -- what was held gave no line, and bytes were read
-  along-held : {s : ReaderState} {t u : Finder} {from to next : R} {r : List ℕ} (q : List ℕ) → Along reader s from r t.state to → HoldsNone t u → HasRead reader to q next
+  along-held : {s : ReaderState} {t u : LineReading} {from to next : R} {r : List ℕ} (q : List ℕ) → Along reader s from r t.state to → HoldsNone t u → HasRead reader to q next
       → Along reader s from (r ++ q) (after_read u.state q) next
   along-held {s} {t} {u} q h k m = record {
     read = read-more h.read m;
@@ -197,7 +197,7 @@ module _ {R : Type 0} {reader : Reader R} where
     lazy = inr (along-none h k.none);
   }
 
-  pub along-read : {s : ReaderState} {t u v : Finder} {from to next : R} {r q : List ℕ} → Along reader s from r t.state to → HoldsNone t u → ReadsBytes reader u to q v next
+  pub along-read : {s : ReaderState} {t u v : LineReading} {from to next : R} {r q : List ℕ} → Along reader s from r t.state to → HoldsNone t u → ReadsBytes reader u to q v next
       → Along reader s from (r ++ q) v.state next
   along-read {s} {from = from} {next = next} {r = r} {q = q} h k m =
       let P : ReaderState → Type 0 = λ w. Along reader s from (r ++ q) w next in
@@ -205,7 +205,7 @@ module _ {R : Type 0} {reader : Reader R} where
 
   -- ---- a line is found
 
-  pub found : {s : ReaderState} {t : Finder} {from to : R} {r : List ℕ} (ended : Bool) (new : Finder) → Along reader s from r t.state to → (ended ≡ true → IsAtEnd reader t.state to)
+  pub found : {s : ReaderState} {t : LineReading} {from to : R} {r : List ℕ} (ended : Bool) (new : LineReading) → Along reader s from r t.state to → (ended ≡ true → IsAtEnd reader t.state to)
       → HoldsLine t ended new → FindsNext reader s from new.state.passed new to
   found {s} {t} {r = r} false new h last k = record {
     bytes = r;
@@ -248,7 +248,7 @@ module _ {R : Type 0} {reader : Reader R} where
 
   -- ---- none is
 
-  pub refused : {s : ReaderState} {t u : Finder} {from to : R} {r : List ℕ} (next : R) (new : ReaderState) (e : LineError) → Along reader s from r t.state to → HoldsNone t u
+  pub refused : {s : ReaderState} {t u : LineReading} {from to : R} {r : List ℕ} (next : R) (new : ReaderState) (e : LineError) → Along reader s from r t.state to → HoldsNone t u
       → IsReadError reader u to e next → FindsError reader s from e new next
   refused {r = r} next new why.Memory h k same =
       inr (inr (record {

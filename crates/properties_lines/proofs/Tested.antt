@@ -14,7 +14,7 @@ use Rattle.properties_text.specs.Encoding.{encoding_of}
 use Rattle.properties_text.specs.Decoding.{IsLongestText}
 use Rattle.properties_lines.specs.Scanner.{is_decided, after_cr, bytes_of, scanner_state, front_of, without_feed, ending_bytes, EndsWhole, Fits, IsCutOff, GivesLine, AsksForMore, Scans}
 use Rattle.properties_lines.specs.LineSearch.{unit_size}
-use Rattle.properties_lines.specs.LineReader.{Finder, HasRightLineFlags}
+use Rattle.properties_lines.specs.LineReader.{LineReading, HasRightLineFlags}
 use Rattle.properties_lines.specs.LogicalLine.{IsLineIn, TellsLine}
 use Rattle.properties_lines.specs.Private.Tested.{between, IsApart, KnowsText, IsTested}
 use Rattle.properties_lines.specs.declared.scanner.RawLine.{RawLine}
@@ -459,7 +459,7 @@ ascii-line utf_16le bytes h a = absurd (omega (arith, h))
 ascii-line utf_16be bytes h a = absurd (omega (arith, h))
 
 -- A line that isn't ASCII has a byte.
-pub some-byte : (f : Finder) → HasRightLineFlags f → f.state.encoding ≡ utf_8 → f.is_ascii ≡ false → 0 < length f.line
+pub some-byte : (f : LineReading) → HasRightLineFlags f → f.state.encoding ≡ utf_8 → f.is_ascii ≡ false → 0 < length f.line
 some-byte f flags e not = elim (cases_lt 0 (length f.line)) [
   | inl some ↦ some
   | inr none ↦

@@ -15,39 +15,38 @@ use Rattle.properties_format.specs.Computed.ReaderSteps.{ReadsLogical}
 use Rattle.properties_text.specs.Escaping.{holds_backslash}
 use Rattle.properties_text.specs.Spelt.{text_in, IsWell}
 use Rattle.properties_text.specs.declared.encoding.line.LineEncoding.{LineEncoding}
-use Rattle.properties_lines.specs.LineReader as finder
-use Rattle.properties_lines.specs.LineReader.{Finder, Passes, PassesSome, PassesAll}
+use Rattle.properties_lines.specs.LineReader.{LineReading, FindsNext, Passes, PassesSome, PassesAll}
 use Rattle.properties_lines.specs.Scanner.{KeepsEncoding}
 use Rattle.properties_lines.specs.LogicalLine.{bytes_with, is_natural}
 use Rattle.properties_lines.specs.declared.logical.LogicalLine.{LogicalLine}
 use Rattle.properties_lines.specs.declared.error.LineError.TheVariants as why
 use Rattle.properties_lines.specs.declared.error.LineError.{LineError}
 
--- its state, and the bytes of the line that was joined last
-pub record Joiner : Type 0 where
+-- how far an input was read: the reader's state, and the bytes of the line that was joined last
+pub record LineState : Type 0 where
   pub state : ReaderState
   pub line : List ℕ
 
--- the joiner, the encoding of that line, whether it is known to be ASCII, whether it may contain a backslash, and the
--- error that is kept
-pub record Joining : Type 0 where
-  pub at : Joiner
+-- a joiner: how far it read, the encoding of that line, whether it is known to be ASCII, whether it may contain a
+-- backslash, and the error that is kept
+pub record LineJoining : Type 0 where
+  pub at : LineState
   pub encoding : LineEncoding
   pub is_ascii : Bool
   pub has_backslash : Bool
   pub error : Option LineError
 
 -- that line with a number, if it is in UTF-8
-abbrev pub numbered_line : ℕ → Joiner → format.Line
-numbered_line number joiner = record { number = number; text = chars joiner.line }
+abbrev pub numbered_line : ℕ → LineState → format.Line
+numbered_line number lines = record { number = number; text = chars lines.line }
 
 -- that line with a number
 abbrev pub numbered_bytes : ℕ → LineEncoding → List ℕ → format.Line
 numbered_bytes number encoding bytes = record { number = number; text = text_in encoding bytes }
 
 -- the text of the line that was found, decoded
-abbrev pub line_text : Finder → List ℕ
-line_text finder = decoded_line finder.state.encoding finder.line
+abbrev pub line_text : LineReading → List ℕ
+line_text lines = decoded_line lines.state.encoding lines.line
 
 -- ---- logical lines
 
@@ -188,7 +187,7 @@ JoinError reader old from old_text e new to =
     JoinFault reader old from old_text e to ⊎ (JoinTooMany reader old from old_text e new to ⊎ JoinNoRoom reader old from old_text e to)
 
 -- The line couldn't be read to its end. The reading ended permanently, and the error is kept.
-pub record JoinsNone {R : Type 0} (reader : Reader R) (old : Finder) (from : R) (old_text : List ℕ) (new : Finder) (to : R) : Type 0 where
+pub record JoinsNone {R : Type 0} (reader : Reader R) (old : LineReading) (from : R) (old_text : List ℕ) (new : LineReading) (to : R) : Type 0 where
   pub live : old.state.is_done ≡ false
   pub done : new.state.is_done ≡ true
   pub error : LineError
@@ -196,7 +195,7 @@ pub record JoinsNone {R : Type 0} (reader : Reader R) (old : Finder) (from : R) 
   pub why : JoinError reader old.state from old_text error new.state to
 
 -- the effect of reading a logical line to its end
-abbrev pub JoinsOn : {R : Type 0} → Reader R → Finder → R → List ℕ → Bool → Finder → R → List ℕ → Type 0
+abbrev pub JoinsOn : {R : Type 0} → Reader R → LineReading → R → List ℕ → Bool → LineReading → R → List ℕ → Type 0
 JoinsOn reader old from old_text true new to text = JoinsAll reader old.state from old_text text new.state to × (new.error ≡ None)
 JoinsOn reader old from old_text false new to text = JoinsNone reader old from old_text new to
 
@@ -222,11 +221,11 @@ pub record JoinsLine {R : Type 0} (reader : Reader R) (old : ReaderState) (from 
   pub lazy : IsLazyItems old from bytes to
 
 -- A logical line was returned.
-abbrev pub JoinsNext : {R : Type 0} → Reader R → ReaderState → R → ℕ → Joiner → R → Type 0
+abbrev pub JoinsNext : {R : Type 0} → Reader R → ReaderState → R → ℕ → LineState → R → Type 0
 JoinsNext reader old from number new to = JoinsLine reader old from (numbered_line number new) new.state to
 
 -- No line was returned, and the reading ended permanently. The error is kept until it is returned.
-pub record StopsJoining {R : Type 0} (reader : Reader R) (old : Joining) (from : R) (new : Joining) (to : R) : Type 0 where
+pub record StopsJoining {R : Type 0} (reader : Reader R) (old : LineJoining) (from : R) (new : LineJoining) (to : R) : Type 0 where
   pub live : old.at.state.is_done ≡ false
   pub done : new.at.state.is_done ≡ true
   pub error : LineError
@@ -234,18 +233,18 @@ pub record StopsJoining {R : Type 0} (reader : Reader R) (old : Joining) (from :
   pub why : JoinsError reader old.at.state from error new.at.state to
 
 -- No line was returned. After the permanent end, nothing is read.
-abbrev pub JoinsNoLine : {R : Type 0} → Reader R → Joining → R → Joining → R → Type 0
+abbrev pub JoinsNoLine : {R : Type 0} → Reader R → LineJoining → R → LineJoining → R → Type 0
 JoinsNoLine reader old from new to = (old.at.state.is_done ≡ true) × (new ≡ old) × (to ≡ from) ⊎ StopsJoining reader old from new to
 
 -- The effect of advancing to the next logical line as a text.
-abbrev pub Joins : {R : Type 0} → Reader R → Joining → R → Option ℕ → Joining → R → Type 0
+abbrev pub Joins : {R : Type 0} → Reader R → LineJoining → R → Option ℕ → LineJoining → R → Type 0
 Joins reader old from None new to = JoinsNoLine reader old from new to
 Joins reader old from (Some number) new to =
     JoinsNext reader old.at.state from number new.at to × (new.has_backslash ≡ false → holds_backslash (chars new.at.line) ≡ false)
     × (new.error ≡ None)
 
 -- A logical line was returned, in windows-1252 or in well-formed UTF-8.
-pub record JoinsBytes {R : Type 0} (reader : Reader R) (old : Joining) (from : R) (number : ℕ) (new : Joining) (to : R) : Type 0 where
+pub record JoinsBytes {R : Type 0} (reader : Reader R) (old : LineJoining) (from : R) (number : ℕ) (new : LineJoining) (to : R) : Type 0 where
   pub joins : JoinsLine reader old.at.state from (numbered_bytes number new.encoding new.at.line) new.at.state to
   pub well : IsWell new.encoding new.at.line
   pub ascii : new.is_ascii ≡ true → IsAscii new.at.line
@@ -253,7 +252,7 @@ pub record JoinsBytes {R : Type 0} (reader : Reader R) (old : Joining) (from : R
   pub error : new.error ≡ None
 
 -- The effect of advancing to the next logical line.
-abbrev pub Advances : {R : Type 0} → Reader R → Joining → R → Option ℕ → Joining → R → Type 0
+abbrev pub Advances : {R : Type 0} → Reader R → LineJoining → R → Option ℕ → LineJoining → R → Type 0
 Advances reader old from None new to = JoinsNoLine reader old from new to
 Advances reader old from (Some number) new to = JoinsBytes reader old from number new to
 
@@ -261,22 +260,22 @@ Advances reader old from (Some number) new to = JoinsBytes reader old from numbe
 
 -- The natural line that was found, with this number, is a logical line on its own or with the lines that were joined to
 -- it.
-pub record ReadsWhole {R : Type 0} (reader : Reader R) (old : Finder) (from : R) (number : ℕ) (lines : Finder) (line : LogicalLine) (has_backslash : Bool) (to : R) : Type 0 where
+pub record ReadsWhole {R : Type 0} (reader : Reader R) (old : LineReading) (from : R) (number : ℕ) (lines : LineReading) (line : LogicalLine) (has_backslash : Bool) (to : R) : Type 0 where
   pub number_is : number ≡ old.state.passed
   pub error : lines.error ≡ None
   pub well : IsWell line.encoding (bytes_with line lines.line)
-  pub comes : {S : ReaderState} {start : R} → finder.FindsNext reader S start number old from
+  pub comes : {S : ReaderState} {start : R} → FindsNext reader S start number old from
       → JoinsLine reader S start (numbered_bytes number line.encoding (bytes_with line lines.line)) lines.state to
   pub ascii : (lines.is_ascii && is_natural line.place) ≡ true → IsAscii (bytes_with line lines.line)
   pub plain : has_backslash ≡ false → holds_backslash (bytes_with line lines.line) ≡ false
 
 -- It isn't, and the reading ended permanently.
-pub record ReadsNone {R : Type 0} (reader : Reader R) (old : Finder) (from : R) (lines : Finder) (to : R) : Type 0 where
+pub record ReadsNone {R : Type 0} (reader : Reader R) (old : LineReading) (from : R) (lines : LineReading) (to : R) : Type 0 where
   pub done : lines.state.is_done ≡ true
   pub error : LineError
   pub kept : lines.error ≡ Some error
-  pub why : {S : ReaderState} {start : R} → finder.FindsNext reader S start old.state.passed old from → JoinsError reader S start error lines.state to
+  pub why : {S : ReaderState} {start : R} → FindsNext reader S start old.state.passed old from → JoinsError reader S start error lines.state to
 
-abbrev pub ReadsRest : {R : Type 0} → Reader R → Finder → R → Option ℕ → Finder → LogicalLine → Bool → R → Type 0
+abbrev pub ReadsRest : {R : Type 0} → Reader R → LineReading → R → Option ℕ → LineReading → LogicalLine → Bool → R → Type 0
 ReadsRest reader old from (Some number) lines line has_backslash to = ReadsWhole reader old from number lines line has_backslash to
 ReadsRest reader old from None lines line has_backslash to = ReadsNone reader old from lines to

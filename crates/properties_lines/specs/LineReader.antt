@@ -19,9 +19,9 @@ use Rattle.properties_lines.specs.declared.scanner.Scan.{Scan}
 use Rattle.properties_lines.specs.declared.scanner.Scan.TheVariants as scan
 use Rattle.properties_lines.specs.declared.scanner.Scan.TheVariants.{Line, More, TooMany}
 
--- its state, the bytes of the line that it found last and what is known of them, how many bytes were read but not
--- passed, and the error that is kept
-pub record Finder : Type 0 where
+-- a reader: its state, the bytes of the line that it found last and what is known of them, how many bytes were read but
+-- not passed, and the error that is kept
+pub record LineReading : Type 0 where
   pub state : ReaderState
   pub line : List ℕ
   pub is_ascii : Bool
@@ -30,7 +30,7 @@ pub record Finder : Type 0 where
   pub error : Option LineError
 
 -- What is known of that line is true.
-abbrev pub HasRightLineFlags : Finder → Type 0
+abbrev pub HasRightLineFlags : LineReading → Type 0
 HasRightLineFlags f = (start end : ℕ) → HasRightFlags f.state.encoding f.line (record { start = start; end = end; is_ascii = f.is_ascii; has_backslash = f.has_backslash })
 
 -- an upper bound for the number of lines to come: the line numbers that are left
@@ -43,7 +43,7 @@ awaits_front s = if s.is_decided then s.after_cr else true
 
 -- an upper bound for the number of reads before the next line: memory can't hold more waiting bytes, and what may come
 -- before the line is skipped only once
-abbrev pub reads_left : Finder → ℕ
+abbrev pub reads_left : LineReading → ℕ
 reads_left f = (if awaits_front f.state then 2 ^ 64 else 0) + (2 ^ 64 - f.waiting)
 
 -- ---- reading on
@@ -77,11 +77,11 @@ pub record HasNoRoom {R : Type 0} (reader : Reader R) (old : ReaderState) (from 
 -- ---- one read
 
 -- The line that was found last is released or kept.
-abbrev pub ReleasesOrKeeps : Finder → Finder → Type 0
+abbrev pub ReleasesOrKeeps : LineReading → LineReading → Type 0
 ReleasesOrKeeps old new = (new.line ≡ old.line) ⊎ (new.line ≡ [])
 
 -- These bytes were read, and are held after the others.
-pub record ReadsBytes {R : Type 0} (reader : Reader R) (old : Finder) (from : R) (bytes : List ℕ) (new : Finder) (to : R) : Type 0 where
+pub record ReadsBytes {R : Type 0} (reader : Reader R) (old : LineReading) (from : R) (bytes : List ℕ) (new : LineReading) (to : R) : Type 0 where
   pub read : HasRead reader from bytes to
   pub state : new.state ≡ record old.state { held = old.state.held ++ bytes }
   pub waiting : new.waiting ≡ old.waiting + length bytes
@@ -89,19 +89,19 @@ pub record ReadsBytes {R : Type 0} (reader : Reader R) (old : Finder) (from : R)
   pub line : ReleasesOrKeeps old new
 
 -- The reading ended permanently, with this error.
-pub record HasFailedFor (old : Finder) (e : LineError) (new : Finder) : Type 0 where
+pub record HasFailedFor (old : LineReading) (e : LineError) (new : LineReading) : Type 0 where
   pub done : new.state.is_done ≡ true
   pub error : new.error ≡ Some e
   pub line : ReleasesOrKeeps old new
 
 -- why a read returned nothing: it failed in the line that is held so far, or memory for it ran out
-abbrev pub IsReadError : {R : Type 0} → Reader R → Finder → R → LineError → R → Type 0
+abbrev pub IsReadError : {R : Type 0} → Reader R → LineReading → R → LineError → R → Type 0
 IsReadError reader old from (why.Io number error) to = (number ≡ old.state.passed + 1) × HasFailed reader from [] error to
 IsReadError reader old from why.TooManyLines to = ⊥
 IsReadError reader old from why.Memory to = to ≡ from
 
 -- The result of a read: some bytes, the end of the input, or an error.
-abbrev pub Reads : {R : Type 0} → Reader R → Finder → R → Read → Finder → R → Type 0
+abbrev pub Reads : {R : Type 0} → Reader R → LineReading → R → Read → LineReading → R → Type 0
 Reads reader old from Bytes new to = (bytes : List ℕ) × (0 < length bytes) × ReadsBytes reader old from bytes new to
 Reads reader old from End new to = ReadsBytes reader old from [] new to × (reader.at_end to ≡ true)
 Reads reader old from Failed new to = (e : LineError) × IsReadError reader old from e to × HasFailedFor old e new
@@ -126,11 +126,11 @@ pub record PassesAll (old : ReaderState) (bytes : List ℕ) : Type 0 where
   pub passed : last.passed + 1 ≡ 2 ^ 64
 
 -- the line that was found, decoded, with this number
-abbrev pub found_line : ℕ → Finder → format.Line
-found_line number finder = record { number = number; text = characters (pieces_of finder.state.encoding finder.line) }
+abbrev pub found_line : ℕ → LineReading → format.Line
+found_line number lines = record { number = number; text = characters (pieces_of lines.state.encoding lines.line) }
 
 -- A line was found.
-pub record FindsNext {R : Type 0} (reader : Reader R) (old : ReaderState) (from : R) (number : ℕ) (new : Finder) (to : R) : Type 0 where
+pub record FindsNext {R : Type 0} (reader : Reader R) (old : ReaderState) (from : R) (number : ℕ) (new : LineReading) (to : R) : Type 0 where
   pub bytes : List ℕ
   pub read : HasRead reader from bytes to
   pub live : old.is_done ≡ false
@@ -170,21 +170,21 @@ abbrev pub FindsError : {R : Type 0} → Reader R → ReaderState → R → Line
 FindsError reader old from e new to = FindsFault reader old from e to ⊎ (FindsTooMany old from e new to ⊎ FindsNoRoom reader old from e to)
 
 -- No line was found, and the reading ended permanently. The error is kept until it is returned.
-pub record FindsNone {R : Type 0} (reader : Reader R) (old : Finder) (from : R) (new : Finder) (to : R) : Type 0 where
+pub record FindsNone {R : Type 0} (reader : Reader R) (old : LineReading) (from : R) (new : LineReading) (to : R) : Type 0 where
   pub live : old.state.is_done ≡ false
   pub error : LineError
   pub why : FindsError reader old.state from error new.state to
   pub failed : HasFailedFor old error new
 
 -- The effect of finding the next line. After the permanent end, nothing is read.
-abbrev pub Finds : {R : Type 0} → Reader R → Finder → R → Bool → Finder → R → Type 0
+abbrev pub Finds : {R : Type 0} → Reader R → LineReading → R → Bool → LineReading → R → Type 0
 Finds reader old from true new to = FindsNext reader old.state from new.state.passed new to × HasRightLineFlags new × (new.error ≡ None)
 Finds reader old from false new to = (old.state.is_done ≡ true) × (new ≡ old) × (to ≡ from) ⊎ FindsNone reader old from new to
 
 -- ---- searching the bytes that are held
 
 -- A line is held with its end, or as the last line of the input.
-pub record HoldsLine (old : Finder) (ended : Bool) (new : Finder) : Type 0 where
+pub record HoldsLine (old : LineReading) (ended : Bool) (new : LineReading) : Type 0 where
   pub live : old.state.is_done ≡ false
   pub number : new.state.passed ≡ old.state.passed + 1
   pub comes : Comes ended old.state (found_line new.state.passed new ∷ []) new.state
@@ -196,7 +196,7 @@ pub record HoldsLine (old : Finder) (ended : Bool) (new : Finder) : Type 0 where
   pub error : new.error ≡ None
 
 -- No line is held with its end.
-pub record HoldsNone (old new : Finder) : Type 0 where
+pub record HoldsNone (old new : LineReading) : Type 0 where
   pub live : old.state.is_done ≡ false
   pub numbered : old.state.passed + 1 < 2 ^ 64
   pub none : natural_to_come old.state [] more ≡ []
@@ -208,7 +208,7 @@ pub record HoldsNone (old new : Finder) : Type 0 where
   pub error : new.error ≡ old.error
   pub line : new.line ≡ old.line
 
-abbrev pub ScansHeld : Finder → Bool → Scan → Finder → Type 0
+abbrev pub ScansHeld : LineReading → Bool → Scan → LineReading → Type 0
 ScansHeld old ended Line new = HoldsLine old ended new
 ScansHeld old ended More new = (ended ≡ false) × HoldsNone old new
 ScansHeld old ended scan.End new = (old.state.is_done ≡ true) × (new ≡ old)

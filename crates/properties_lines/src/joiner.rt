@@ -9,7 +9,7 @@ ghost use Rattle.properties_text.specs.Escaping.{holds_backslash};
 ghost use Rattle.properties_text.specs.Spelt.{IsWell};
 ghost use Rattle.properties_lines.specs.LineReader.{lines_left, HasRightLineFlags};
 ghost use Rattle.properties_lines.specs.LogicalLine.{BeginsWith, IsSound, IsUnfinished, unfinished_text};
-ghost use Rattle.properties_lines.specs.LineJoiner.{Joining, Joins, Advances, JoinsOn, ReadsRest};
+ghost use Rattle.properties_lines.specs.LineJoiner.{LineJoining, Joins, Advances, JoinsOn, ReadsRest};
 ghost use Rattle.properties_lines.specs.declared.logical.Place.TheVariants.{Joined};
 
 use crate::error::LineError;
@@ -36,10 +36,10 @@ pub struct LineJoiner {
 
 impl Model for LineJoiner {
     ghost use Rattle.std.specs.Prelude.{◌&&◌};
-    ghost use Rattle.properties_lines.specs.LineJoiner.{Joining};
+    ghost use Rattle.properties_lines.specs.LineJoiner.{LineJoining};
     ghost use Rattle.properties_lines.specs.LogicalLine.{bytes_with, is_natural, IsSound};
 
-    ghost Value = { Joining };
+    ghost Value = { LineJoining };
 
     ghost view = { λ s. record {
       at = record { state = s.lines.state; line = bytes_with s.line s.lines.line };

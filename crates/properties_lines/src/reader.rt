@@ -44,10 +44,10 @@ pub struct LineReader {
 impl Model for LineReader {
     ghost use Rattle.std.specs.Prelude.{◌≡◌, ◌≢◌, ◌-◌, true, None, length};
     ghost use Rattle.properties_lines.specs.Scanner.{scanner_state, bytes_of, Fits};
-    ghost use Rattle.properties_lines.specs.LineReader.{Finder};
+    ghost use Rattle.properties_lines.specs.LineReader.{LineReading};
     ghost use Rattle.properties_lines.specs.Private.Tested.{IsTested};
 
-    ghost Value = { Finder };
+    ghost Value = { LineReading };
 
     ghost view = { λ s. record {
       state = scanner_state s.scanner s.input.held;

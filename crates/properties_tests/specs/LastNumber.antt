@@ -2,7 +2,7 @@
 use Rattle.std.specs.Prelude.{◌≡◌, ℕ, ◌+◌, ◌^◌, true, false, Option, Some, Result, IsNone, IsErrAnd, IfErr}
 use Rattle.counted_io.specs.Streams.{Sink}
 use Rattle.properties_format.specs.ItemsToCome.{ReaderState}
-use Rattle.properties_lines.specs.LineReader.{Finder}
+use Rattle.properties_lines.specs.LineReader.{LineReading}
 use Rattle.properties_lines.specs.declared.error.LineError.TheVariants as why
 use Rattle.java_properties.specs.Errors.{IsBareError}
 use Rattle.java_properties.specs.PropertiesWriter.{Writing, Flushes, FailsInFlush}
@@ -27,14 +27,14 @@ pub record IsLastNumber (number : ℕ) (s : ReaderState) : Type 0 where
   pub left : s.is_done ≡ false → HasNoLineLeft s
 
 -- There is no line for want of a number. Nothing was read, and the reading ended permanently.
-pub record StopsForNumber {R : Type 0} (from : R) (result : Option ℕ) (new : Finder) (to : R) : Type 0 where
+pub record StopsForNumber {R : Type 0} (from : R) (result : Option ℕ) (new : LineReading) (to : R) : Type 0 where
   pub none : IsNone result
   pub error : new.error ≡ Some why.TooManyLines
   pub done : new.state.is_done ≡ true
   pub untouched : to ≡ from
 
 -- There is no line, and nothing was read or changed.
-pub record FindsNothing {R : Type 0} (old : Finder) (from : R) (result : Option ℕ) (new : Finder) (to : R) : Type 0 where
+pub record FindsNothing {R : Type 0} (old : LineReading) (from : R) (result : Option ℕ) (new : LineReading) (to : R) : Type 0 where
   pub none : IsNone result
   pub same : new ≡ old
   pub untouched : to ≡ from

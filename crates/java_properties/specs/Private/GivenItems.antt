@@ -11,7 +11,7 @@ use Rattle.properties_format.specs.Computed.ItemsToCome.{items_to_come}
 use Rattle.properties_format.specs.Computed.ReaderSteps.{ReadsEntry}
 use Rattle.properties_items.specs.Errors.{IsBareError, IsLineError, IsMalformed}
 use Rattle.properties_lines.specs.LineReader.{PassesSome}
-use Rattle.properties_lines.specs.LineJoiner.{IsLazyItems, Joiner, JoinsError}
+use Rattle.properties_lines.specs.LineJoiner.{IsLazyItems, LineState, JoinsError}
 use Rattle.properties_lines.specs.declared.error.LineError.{LineError}
 use Rattle.properties_items.specs.BorrowedItems.{found_entry, IsFoundIn}
 use Rattle.java_properties.specs.PropertiesIter.{entry_of}
@@ -26,8 +26,8 @@ unfoldable pub in_utf_8 : List ℕ → List ℕ
 in_utf_8 bytes = if is_utf8 bytes then bytes else []
 
 -- a joiner with its line as a text
-abbrev pub as_text : Joiner → Joiner
-as_text joiner = record { state = joiner.state; line = in_utf_8 joiner.line }
+abbrev pub as_text : LineState → LineState
+as_text lines = record { state = lines.state; line = in_utf_8 lines.line }
 
 -- The bytes that were read give this entry first, whatever comes after them, and then what the new state gives; or it
 -- is the last entry, and the input ended.
@@ -84,13 +84,13 @@ GivesItem reader old from (Some (Err e)) new to =
     (old.is_done ≡ false) × (new.is_done ≡ true) × (GivesMalformed reader old from e to ⊎ GivesError reader old from e to)
 
 -- What was found is now an owned item; or memory for it ran out, and the reading ended.
-abbrev pub Owns : Joiner → Found → Result Line PropertiesError → Joiner → Type 0
+abbrev pub Owns : LineState → Found → Result Line PropertiesError → LineState → Type 0
 Owns old found (Ok line) new = (entry_of line ≡ found_entry old.line found) × (new ≡ old)
 Owns old found (Err e) new = IsBareError kind.Memory e × (new ≡ record old { state = record old.state { is_done = true } })
 
 -- The next item as it is found, and the state after searching for it. After `None` and after an error the iterator is
 -- at its end.
-abbrev pub FindsItem : {R : Type 0} → Reader R → ReaderState → R → Option (Result Found PropertiesError) → Joiner → R → Type 0
+abbrev pub FindsItem : {R : Type 0} → Reader R → ReaderState → R → Option (Result Found PropertiesError) → LineState → R → Type 0
 FindsItem reader old from None new to = GivesNone reader old from new.state to
 FindsItem reader old from (Some (Ok found)) new to =
     (entry : GivesEntry reader old from (found_entry new.line found) new.state to)

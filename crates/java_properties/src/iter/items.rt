@@ -6,7 +6,7 @@ ghost use Rattle.counted_io.specs.Streams.{IsSameReader};
 ghost use Rattle.properties_format.specs.ItemsToCome.{start};
 ghost use Rattle.properties_text.specs.Encoding.{encoding_of};
 ghost use Rattle.properties_lines.specs.LineReader.{lines_left};
-ghost use Rattle.properties_lines.specs.LineJoiner.{Joiner};
+ghost use Rattle.properties_lines.specs.LineJoiner.{LineState};
 ghost use Rattle.properties_items.specs.BorrowedItems.{borrowed_entry, found_entry, BorrowsPlain, IsFoundIn};
 ghost use Rattle.java_properties.specs.Private.GivenItems.{as_text, FindsItem, GivesItem, Owns};
 
@@ -28,7 +28,7 @@ pub struct ItemReader {
 }
 
 impl Model for ItemReader {
-    ghost Value = { Joiner };
+    ghost Value = { LineState };
 
     ghost view = { λ s. as_text s.lines.at };
 

@@ -1,9 +1,9 @@
 use Rattle.std.proofs.Common.{refl, sym, ap, ◌∙◌, subst}
 use Rattle.std.specs.Prelude.{Ok, Err}
 use Rattle.counted_io.specs.Streams.{reader, sink}
-use Rattle.properties_lines.specs.LineJoiner.{Joining}
+use Rattle.properties_lines.specs.LineJoiner.{LineJoining}
 use Rattle.java_properties.specs.Copying.{Copies}
-use Rattle.java_properties.specs.Private.CopiedLines.{reading}
+use Rattle.java_properties.specs.Private.CopiedLines.{iteration}
 use Rattle.java_properties.specs.Private.Engine.{writing}
 use Rattle.java_properties.specs.Private.GivenItems.{in_utf_8}
 use Rattle.java_properties.specs.declared.copy.CopyError.TheVariants.{Read}
@@ -66,7 +66,7 @@ returns-in-Err-clause-copies g c =
     let h = copied-same c.loop-number.engine w c.build_line.ensures.same c.loop-number.invariant.copied in
     let error = c.unresolved.result in
     let last = c.end.new.self.at in
-    let done = ap (λ (l : Joining). l.at.state.is_done) c.end.ensures in
+    let done = ap (λ (l : LineJoining). l.at.state.is_done) c.end.ensures in
     copied-unread h c.in-Some.ensures.advances.joins (in_utf_8 last.line) error last.state done
     (unbuilt-no_item _ _ c.in-Err.error w error c.in-Err.ensures.builds c.unresolved.ensures)
 
@@ -77,9 +77,9 @@ returns-in-None-clause-copies g c =
     let held = c.loop-number.invariant in
     let so_far = writing c.loop-number.engine c.loop-number.sink in
     let quiet = sym c.take_error.ensures.error ∙ c.in-None.is in
-    let P : Joining → Type 0 = λ l.
-    Copies (reader g.R.Read g.R.CountedRead) (sink g.W.Write g.W.CountedWrite) (reading c.args.lines.now.at c.args.reader.now) (writing c.args.engine.now c.args.sink.now)
-    (Ok tt) (reading l.at next) so_far in
+    let P : LineJoining → Type 0 = λ l.
+    Copies (reader g.R.Read g.R.CountedRead) (sink g.W.Write g.W.CountedWrite) (iteration c.args.lines.now.at c.args.reader.now) (writing c.args.engine.now c.args.sink.now)
+    (Ok tt) (iteration l.at next) so_far in
     subst P (sym c.take_error.ensures.taken) (copied-all c.loop-number.lines new next held.copied held.error c.in_default.ensures.advances (in_utf_8 new.at.line) quiet)
 
 pub returns-in-Some-take_error-clause-copies : goal.returns-in-Some-take_error-clause-copies
@@ -89,8 +89,8 @@ returns-in-Some-take_error-clause-copies g c =
     let held = c.loop-number.invariant in
     let so_far = writing c.loop-number.engine c.loop-number.sink in
     let kept = sym c.take_error.ensures.error ∙ c.in-Some-take_error.is in
-    let P : Joining → Type 0 = λ l.
-    Copies (reader g.R.Read g.R.CountedRead) (sink g.W.Write g.W.CountedWrite) (reading c.args.lines.now.at c.args.reader.now) (writing c.args.engine.now c.args.sink.now)
-    (Err (Read c.from.result)) (reading l.at next) so_far in
+    let P : LineJoining → Type 0 = λ l.
+    Copies (reader g.R.Read g.R.CountedRead) (sink g.W.Write g.W.CountedWrite) (iteration c.args.lines.now.at c.args.reader.now) (writing c.args.engine.now c.args.sink.now)
+    (Err (Read c.from.result)) (iteration l.at next) so_far in
     subst P (sym c.take_error.ensures.taken)
     (copied-error c.loop-number.lines new next held.copied held.error c.in_default.ensures.advances (in_utf_8 new.at.line) c.in-Some-take_error.error c.from.result kept c.from.ensures)

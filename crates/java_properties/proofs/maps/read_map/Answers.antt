@@ -3,7 +3,7 @@ use Rattle.std.proofs.lemmas.Result.{err_from_is_err_and}
 use Rattle.properties_format.specs.Encoding.{windows_1252}
 use Rattle.properties_format.specs.ItemsToCome.{ReaderState}
 use Rattle.counted_io.specs.Streams.{reader}
-use Rattle.properties_lines.specs.LineJoiner.{Joiner}
+use Rattle.properties_lines.specs.LineJoiner.{LineState}
 use Rattle.java_properties.proofs.TextMaps.Reading.{HasPassed, passed-none, passed-more, passed-lost, passed-error, passed-all}
 use Rattle.java_properties.proofs.maps.read.Goals as goal
 
@@ -12,7 +12,7 @@ loop-item-init g c =
     let r = reader g.R.Read g.R.CountedRead in
     let P : ReaderState → Type 0 = λ v. HasPassed r windows_1252 c.args.input.now c.new-map.result.entries v c.args.input.now in
     record {
-      passed = subst P (sym (ap (λ v. let w : Joiner = v in w.state) c.new-items.ensures)) (passed-none {reader = r} c.args.input.now c.new-map.result.entries c.new-map.ensures.empty);
+      passed = subst P (sym (ap (λ v. let w : LineState = v in w.state) c.new-items.ensures)) (passed-none {reader = r} c.args.input.now c.new-map.result.entries c.new-map.ensures.empty);
       same_reader = refl;
     }
 

@@ -1,11 +1,11 @@
 use Rattle.std.proofs.Common.{ap}
 use Rattle.std.proofs.lemmas.Result.{err_from_is_err_and}
-use Rattle.properties_lines.specs.LineJoiner.{Joiner}
+use Rattle.properties_lines.specs.LineJoiner.{LineState}
 use Rattle.java_properties.proofs.Readings.{collected-none, collected-stops, dropped-none, dropped-more}
 use Rattle.java_properties.proofs.streams.read_all_items.Goals as goal
 
 pub loop-item-init : goal.loop-item-init
-loop-item-init g c = dropped-none c.args.reader.now c.new-items.result.state (ap (λ v. let w : Joiner = v in w.state) c.new-items.ensures)
+loop-item-init g c = dropped-none c.args.reader.now c.new-items.result.state (ap (λ v. let w : LineState = v in w.state) c.new-items.ensures)
 
 pub returns-in_err-line : goal.returns-in_err-line
 returns-in_err-line g c =

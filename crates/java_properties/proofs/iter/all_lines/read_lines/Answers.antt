@@ -4,7 +4,7 @@ use Rattle.properties_format.specs.ItemsToCome.{ReaderState}
 use Rattle.counted_io.specs.Streams.{reader}
 use Rattle.properties_text.specs.Encoding.{encoding_of}
 use Rattle.java_properties.specs.ReadLines.{entries_in, StopsEarly}
-use Rattle.properties_lines.specs.LineJoiner.{Joiner}
+use Rattle.properties_lines.specs.LineJoiner.{LineState}
 use Rattle.java_properties.specs.PropertiesIter.{entry_of}
 use Rattle.std.proofs.lemmas.List.{map-append}
 use Rattle.java_properties.proofs.Readings.{Collected, collected-start, collected-next, collected-none, collected-lost, collected-malformed, collected-error}
@@ -16,7 +16,7 @@ loop-item-init g c =
     let P : ReaderState → Type 0 = λ v. Collected (reader g.R.Read g.R.CountedRead) e c.args.input.now [] [] v c.args.input.now in
     let Q : List Entry → Type 0 = λ v. Collected (reader g.R.Read g.R.CountedRead) e c.args.input.now [] v c.new-items.result.state c.args.input.now in
     record {
-      collected = ([], subst Q (sym (ap entries_in c.new-lines.ensures.items)) (subst P (sym (ap (λ v. let w : Joiner = v in w.state) c.new-items.ensures)) (collected-start e c.args.input.now)));
+      collected = ([], subst Q (sym (ap entries_in c.new-lines.ensures.items)) (subst P (sym (ap (λ v. let w : LineState = v in w.state) c.new-items.ensures)) (collected-start e c.args.input.now)));
       same_reader = refl;
     }
 

@@ -1,7 +1,7 @@
 use Rattle.std.proofs.Common.{◌∙◌, refl, ap, sym, subst, inr}
 use Rattle.std.proofs.lemmas.Result.{err_from_is_err_and}
 use Rattle.properties_text.specs.Encoding.{encoding_of}
-use Rattle.properties_lines.specs.LineJoiner.{Joiner}
+use Rattle.properties_lines.specs.LineJoiner.{LineState}
 use Rattle.properties_items.specs.Errors.{IsBareError}
 use Rattle.properties_items.specs.declared.error.ErrorKind.TheVariants.{Memory}
 use Rattle.properties_items.specs.declared.error.PropertiesError.{PropertiesError}
@@ -11,7 +11,7 @@ use Rattle.java_properties.proofs.iter.malformed_lines.malformed_escapes.Goals a
 
 pub loop-number-init : goal.loop-number-init
 loop-number-init g c = record {
-  found = found-start (encoding_of c.args.encoding) c.args.input.now _ _ c.new-escapes.ensures.items (ap (λ v. let w : Joiner = v in w.state) c.new-lines.ensures.at);
+  found = found-start (encoding_of c.args.encoding) c.args.input.now _ _ c.new-escapes.ensures.items (ap (λ v. let w : LineState = v in w.state) c.new-lines.ensures.at);
   error = c.new-lines.ensures.error;
   same_reader = refl;
 }

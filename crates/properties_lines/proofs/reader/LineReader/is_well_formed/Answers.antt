@@ -1,6 +1,6 @@
 use Rattle.std.proofs.Common.{◌∙◌, leb, arith, sym, ap, subst}
 use Rattle.std.proofs.lemmas.Bool.{leb-false}
-use Rattle.properties_lines.specs.LineReader.{Finder}
+use Rattle.properties_lines.specs.LineReader.{LineReading}
 use Rattle.properties_lines.specs.LogicalLine.{TellsLine}
 use Rattle.properties_lines.specs.declared.scanner.RawLine.{RawLine}
 use Rattle.properties_lines.proofs.Tested.{ascii-line, some-byte, known-text}
@@ -19,10 +19,10 @@ pub returns-then-line-self-clause-tells : goal.returns-then-line-self-clause-tel
 returns-then-line-self-clause-tells c =
     let s = c.self.inside.scanner in
     let held = c.self.inside.input.held in
-    let decided = ap (λ v. let w : Finder = v in w.state.is_decided) c.self.view_is ∙ c.requires.decided in
-    let encoding = ap (λ v. let w : Finder = v in w.state.encoding) c.self.view_is ∙ sym c.in-UTF_8.ensures in
+    let decided = ap (λ v. let w : LineReading = v in w.state.is_decided) c.self.view_is ∙ c.requires.decided in
+    let encoding = ap (λ v. let w : LineReading = v in w.state.encoding) c.self.view_is ∙ sym c.in-UTF_8.ensures in
     let w = c.self.inside.well_formed in
     let is = ap (λ v. let x : RawLine = v in x.end) c.line.ensures in
     let told = known-text s held w c.args.self.now.state.encoding (leb c.line.result.now.end w) c.self.invariant.2 decided encoding (sym c.in-UTF_8.ensures)
     (omega (arith, is, c.if-line-self.true)) (λ h. absurd (omega (arith, c.if-line-self.true, leb-false c.line.result.now.end w h))) in
-    subst (λ v. TellsLine c.args.self.now.state.encoding v (leb c.line.result.now.end w)) (ap (λ v. let x : Finder = v in x.line) c.self.view_is) told
+    subst (λ v. TellsLine c.args.self.now.state.encoding v (leb c.line.result.now.end w)) (ap (λ v. let x : LineReading = v in x.line) c.self.view_is) told

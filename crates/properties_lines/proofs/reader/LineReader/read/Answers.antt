@@ -1,12 +1,12 @@
 use Rattle.std.proofs.Common.{inr, ◌≡◌, ◌≢◌, ◌≤◌, ◌+◌, ◌-◌, ◌∙◌, ℕ, true, List, [], ◌++◌, drop, append-nil, sym, subst, ap, arith}
 use Rattle.std.specs.Prelude.{Option, None}
-use Rattle.properties_lines.specs.LineReader.{Finder}
+use Rattle.properties_lines.specs.LineReader.{LineReading}
 use Rattle.properties_lines.specs.Scanner.{Fits}
 use Rattle.properties_lines.specs.Private.Tested.{IsTested}
 use Rattle.properties_lines.specs.declared.error.LineError.{LineError}
 use Rattle.properties_lines.specs.declared.error.LineError.TheVariants as why
 use Rattle.properties_lines.specs.declared.scanner.Scanner.{Scanner}
-use Rattle.properties_lines.proofs.LineReaders.{finder_of, fits-left, fits-filled, done-left, passed-left, line-left, fails}
+use Rattle.properties_lines.proofs.LineReaders.{reading_of, fits-left, fits-filled, done-left, passed-left, line-left, fails}
 use Rattle.properties_lines.proofs.ScannerFront.{release}
 use Rattle.properties_lines.proofs.Tested.{tested-left, tested-filled, released-empty}
 use Rattle.properties_lines.proofs.reader.LineReader.read.Goals as goal
@@ -52,7 +52,7 @@ returns-in-Err-clause-reads g c =
     let held = c.fill.new.self.held in
     let old = c.args.self.now in
     let e = why.Io (c.number-number.result + 1) c.in-Err.error in
-    let here = ap (λ v. let x : Finder = v in x.state.passed) c.self.view_is in
+    let here = ap (λ v. let x : LineReading = v in x.state.passed) c.self.view_is in
     let number : c.number-number.result + 1 ≡ old.state.passed + 1 = omega (arith, c.number-number.ensures, passed-left s new gone c.release.ensures, here) in
-    let failed = fails old (finder_of new held c.self.inside.error) c.fail-in-Err.new.self e c.fail-in-Err.ensures (inr (line-left s new held gone c.release.ensures)) in
+    let failed = fails old (reading_of new held c.self.inside.error) c.fail-in-Err.new.self e c.fail-in-Err.ensures (inr (line-left s new held gone c.release.ensures)) in
     (e, (number, c.in-Err.ensures.fills.1), failed)

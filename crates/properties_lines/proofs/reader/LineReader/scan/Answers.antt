@@ -1,7 +1,7 @@
 use Rattle.std.proofs.Common.{List, ℕ, subst}
 use Rattle.properties_lines.specs.Scanner.{Scans}
-use Rattle.properties_lines.specs.LineReader.{Finder, ScansHeld}
-use Rattle.properties_lines.proofs.LineReaders.{finder_of, scans-held}
+use Rattle.properties_lines.specs.LineReader.{LineReading, ScansHeld}
+use Rattle.properties_lines.proofs.LineReaders.{reading_of, scans-held}
 use Rattle.properties_lines.proofs.Tested.{fits-scan, done-scan, tested-scan}
 use Rattle.properties_lines.proofs.reader.LineReader.scan.Goals as goal
 
@@ -12,7 +12,7 @@ returns c =
     let held = c.self.inside.input.held in
     let error = c.self.inside.error in
     let S : List ℕ → Type 0 = λ v. Scans s v c.args.ended c.next.result new in
-    let T : Finder → Type 0 = λ v. ScansHeld v c.args.ended c.next.result (finder_of new held error) in
+    let T : LineReading → Type 0 = λ v. ScansHeld v c.args.ended c.next.result (reading_of new held error) in
     subst T c.self.view_is (scans-held s new held error c.args.ended c.next.result c.self.invariant.1 (subst S c.held.ensures c.next.ensures))
 
 pub invariant_of-self : goal.invariant_of-self

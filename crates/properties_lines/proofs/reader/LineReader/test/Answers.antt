@@ -3,7 +3,7 @@ use Rattle.std.proofs.lemmas.Bool.{leb-true, leb-false}
 use Rattle.properties_format.specs.Encoding.{utf_8}
 use Rattle.properties_text.specs.Encoding.{encoding_of}
 use Rattle.properties_lines.specs.Scanner.{is_decided}
-use Rattle.properties_lines.specs.LineReader.{Finder}
+use Rattle.properties_lines.specs.LineReader.{LineReading}
 use Rattle.properties_lines.specs.LogicalLine.{TellsLine}
 use Rattle.properties_lines.specs.declared.scanner.RawLine.{RawLine}
 use Rattle.properties_lines.proofs.Tested.{between-length, tested-now, tells-text}
@@ -11,17 +11,17 @@ use Rattle.properties_lines.proofs.reader.LineReader.test.Goals as goal
 use Rattle.properties_lines.proofs.reader.LineReader.test.Goals.{After-well_formed_length}
 
 decided : (c : After-well_formed_length) → is_decided c.self.inside.scanner.front ≡ true
-decided c = ap (λ v. let w : Finder = v in w.state.is_decided) c.self.view_is ∙ c.requires.decided
+decided c = ap (λ v. let w : LineReading = v in w.state.is_decided) c.self.view_is ∙ c.requires.decided
 
 utf_8-in : (c : After-well_formed_length) → encoding_of c.self.inside.scanner.encoding ≡ utf_8
-utf_8-in c = ap (λ v. let w : Finder = v in w.state.encoding) c.self.view_is ∙ c.requires.encoding
+utf_8-in c = ap (λ v. let w : LineReading = v in w.state.encoding) c.self.view_is ∙ c.requires.encoding
 
 some : (c : After-well_formed_length) → c.self.inside.scanner.line.start < c.self.inside.scanner.line.end
 some c =
     let line = c.self.inside.scanner.line in
     let held = c.self.inside.input.held in
     let long = c.self.invariant.0.line.1 in
-    let same = ap (λ v. let w : Finder = v in length w.line) c.self.view_is in
+    let same = ap (λ v. let w : LineReading = v in length w.line) c.self.view_is in
     omega (arith, c.requires.some, same, between-length line.start line.end held long)
 
 within : (c : After-well_formed_length) → c.min-end.result ≤ length c.self.inside.input.held
@@ -51,4 +51,4 @@ returns-clause-tells c =
     let found = rw (c.line-line.ensures, c.held-held.ensures) at c.well_formed_length.ensures in
     let told = tells-text s held c.self.inside.well_formed c.min-end.result n kept.2 (decided c) (utf_8-in c) (some c) kept.0.line.1 (within c) (reaches c) found
     (leb s.line.end (s.line.start + n)) (leb-true s.line.end (s.line.start + n)) (leb-false s.line.end (s.line.start + n)) in
-    rw c.line-line.ensures (subst (λ v. TellsLine utf_8 v (leb s.line.end (s.line.start + n))) (ap (λ v. let w : Finder = v in w.line) c.self.view_is) told)
+    rw c.line-line.ensures (subst (λ v. TellsLine utf_8 v (leb s.line.end (s.line.start + n))) (ap (λ v. let w : LineReading = v in w.line) c.self.view_is) told)

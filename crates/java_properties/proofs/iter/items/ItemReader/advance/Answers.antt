@@ -7,7 +7,7 @@ use Rattle.properties_format.specs.Computed.Items.{outcome_of}
 use Rattle.properties_format.specs.ItemsToCome.{ReaderState}
 use Rattle.counted_io.specs.Streams.{reader}
 use Rattle.properties_lines.specs.LineReader.{lines_left}
-use Rattle.properties_lines.specs.LineJoiner.{Joiner, Joining, numbered_line}
+use Rattle.properties_lines.specs.LineJoiner.{LineState, LineJoining, numbered_line}
 use Rattle.properties_items.specs.BorrowedItems.{found_content, IsFoundIn}
 use Rattle.java_properties.specs.Borrowing.{logical_line, IsSpelt}
 use Rattle.java_properties.specs.Private.GivenItems.{as_text, FindsItem, GivesEntry}
@@ -21,7 +21,7 @@ use Rattle.java_properties.proofs.iter.items.ItemReader.advance.Goals.{After-lin
 
 pub loop-number-init : goal.loop-number-init
 loop-number-init g c =
-    let state = ap (λ v. let w : Joiner = v in w.state) c.self.view_is in
+    let state = ap (λ v. let w : LineState = v in w.state) c.self.view_is in
     let P : ReaderState → Type 0 = λ v. Passed (reader g.R.Read g.R.CountedRead) c.args.self.now.state c.args.reader.now [] v c.args.reader.now in
     record {
       passed = ([], subst P (sym state) (passed-start c.args.self.now.state c.args.reader.now));
@@ -35,7 +35,7 @@ gives-found : (g : Over) (c : After-line-line g) (item : Found) → (item.line_n
     → FindsItem (reader g.R.Read g.R.CountedRead) c.args.self.now.state c.args.reader.now (Some (Ok item)) (as_text c.next_text.new.self.at) c.next_text.new.reader
 gives-found g c item found =
     let new = c.next_text.new.self.at in
-    let kept : List ℕ → Joiner = λ v. record { state = new.state; line = v } in
+    let kept : List ℕ → LineState = λ v. record { state = new.state; line = v } in
     let Q : List ℕ → Type 0 = λ v. FindsItem (reader g.R.Read g.R.CountedRead) c.args.self.now.state c.args.reader.now (Some (Ok item)) (kept v) c.next_text.new.reader in
     let P : List ℕ → Type 0 = λ v. (item.line_number ≡ c.in-Some.number) × IsFoundIn v item in
     let is = subst P c.line-line.ensures found in
@@ -87,21 +87,21 @@ returns-in-Err-clause-finds g c =
     let next = c.in-Some.ensures.joins.0 in
     let Q : List ℕ → Type 0 = λ v. IsNoItem c.in-Some.number (chars v) c.unresolved.result in
     let none = subst Q c.line-line.ensures (c.in-Err.ensures c.in-Some.number c.unresolved.result c.unresolved.ensures) in
-    let done = ap (λ v. let w : Joining = v in w.at.state.is_done) c.end.ensures in
+    let done = ap (λ v. let w : LineJoining = v in w.at.state.is_done) c.end.ensures in
     let k = passed-no_item (numbered_line c.in-Some.number c.next_text.new.self.at) c.next_text.new.self.at.state c.loop-number.invariant.passed.1 next none in
     (k.0, done, k.1)
 
 pub returns-clause-finds : goal.returns-clause-finds
 returns-clause-finds g c =
     let stop = stopped c.in_default.ensures.joins c.loop-number.invariant.error (sym c.take_error.ensures.error ∙ c.in_ok-error.was) in
-    let done = ap (λ v. let w : Joining = v in w.at.state.is_done) c.take_error.ensures.taken ∙ stop.1 in
+    let done = ap (λ v. let w : LineJoining = v in w.at.state.is_done) c.take_error.ensures.taken ∙ stop.1 in
     let p = passed-error c.loop-number.invariant.passed.1 stop.0 (record { why = c.in_ok-error.error; last = _; joins = stop.2; is = c.from.ensures }) in
     (p.0, done, inr p.1)
 
 pub returns-clause-nearer : goal.returns-clause-nearer
 returns-clause-nearer g c =
     let stop = stopped c.in_default.ensures.joins c.loop-number.invariant.error (sym c.take_error.ensures.error ∙ c.in_ok-error.was) in
-    let done = ap (λ v. let w : Joining = v in w.at.state.is_done) c.take_error.ensures.taken ∙ stop.1 in
+    let done = ap (λ v. let w : LineJoining = v in w.at.state.is_done) c.take_error.ensures.taken ∙ stop.1 in
     let left : lines_left c.take_error.new.self.at.state ≡ 0 = rw done refl in
     let all : lines_left c.loop-number.self-inside.lines.at.state ≡ 2 ^ 64 - c.loop-number.self-inside.lines.at.state.passed = rw stop.0 refl in
     omega (arith, left, all, c.next_text.ensures.fits, c.loop-number.invariant.left)

@@ -2,21 +2,21 @@ use Rattle.std.proofs.Common.{◌≡◌, ◌∙◌, ap, sym, subst, List, ℕ}
 use Rattle.std.specs.Str.{IsUtf8, chars}
 use Rattle.properties_items.specs.BorrowedItems.{IsFoundIn, BorrowsPlain, found_entry}
 use Rattle.properties_items.specs.declared.found.Found.{Found}
-use Rattle.properties_lines.specs.LineJoiner.{Joiner}
+use Rattle.properties_lines.specs.LineJoiner.{LineState}
 use Rattle.java_properties.specs.Private.GivenItems.{as_text}
 use Rattle.java_properties.proofs.Items.{found-utf8, kept-utf8}
 use Rattle.java_properties.proofs.iter.items.ItemReader.get.Goals as goal
 
 -- The line in which the item was found is text,
-is-text : (lines seen : Joiner) (found : Found) → as_text lines ≡ seen → IsFoundIn seen.line found → IsUtf8 lines.line
+is-text : (lines seen : LineState) (found : Found) → as_text lines ≡ seen → IsFoundIn seen.line found → IsUtf8 lines.line
 is-text lines seen found same h =
-    let P : Joiner → Type 0 = λ v. IsFoundIn v.line found in
+    let P : LineState → Type 0 = λ v. IsFoundIn v.line found in
     found-utf8 lines.line found (subst P (sym same) h)
 
 -- and so it is the line that the reader shows.
-shown : (lines seen : Joiner) (found : Found) → as_text lines ≡ seen → IsFoundIn seen.line found → (text : List ℕ) → text ≡ lines.line → text ≡ seen.line
+shown : (lines seen : LineState) (found : Found) → as_text lines ≡ seen → IsFoundIn seen.line found → (text : List ℕ) → text ≡ lines.line → text ≡ seen.line
 shown lines seen found same h text is =
-    is ∙ sym (kept-utf8 lines.line (is-text lines seen found same h)) ∙ ap (λ v. let w : Joiner = v in w.line) same
+    is ∙ sym (kept-utf8 lines.line (is-text lines seen found same h)) ∙ ap (λ v. let w : LineState = v in w.line) same
 
 pub line-requires : goal.line-requires
 line-requires c = is-text c.self.inside.lines.at c.args.self.now c.args.found c.self.view_is c.requires
