@@ -26,20 +26,9 @@ use Rattle.properties_items.specs.declared.error.ErrorKind.TheVariants as kind
 use Rattle.properties_items.specs.declared.error.PropertiesError.{PropertiesError}
 use Rattle.properties_items.specs.declared.found.Found.{Found}
 
--- What was found in a logical line, or `None` if it is blank; or an error in the line with this number.
-abbrev pub FindsItem : List ℕ → ℕ → Result (Option Found) PropertiesError → Type 0
-FindsItem line number (Ok None) = outcome_of (chars line) ≡ ignored
-FindsItem line number (Ok (Some found)) = IsFoundIn line found
-FindsItem line number (Err e) = IsNoItem number (chars line) e
-
 -- whether a pair has this key, if the outcome is a pair
 abbrev pub key_told : List ℕ → Outcome → Option Bool
 key_told key outcome = option_map (λ k. bytes_eq k key) (outcome_key outcome)
-
--- The result says whether the pair that is a logical line has this key; or there is an error in the line with this number.
-abbrev pub ChecksKeyOfLine : List ℕ → List ℕ → ℕ → Result (Option Bool) PropertiesError → Type 0
-ChecksKeyOfLine line key number (Ok answer) = IsSound (outcome_of line) × (answer ≡ key_told key (outcome_of line))
-ChecksKeyOfLine line key number (Err e) = IsNoItem number line e
 
 -- ---- the first malformed escape of a body
 

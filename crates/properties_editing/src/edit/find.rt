@@ -11,8 +11,8 @@ ghost use Rattle.properties_items.specs.LineEndings.{ending_of};
 ghost use Rattle.properties_editing.specs.Private.BodyKeys.{FindsKey, closing_of, found_after, closing_bytes};
 
 use crate::edit::groups::{Group, GroupReader};
-use crate::edit::pairs::has_key;
 use properties_items::error::PropertiesError;
+use properties_items::found::{find_item, item_has_key};
 use properties_items::line::LineEnding;
 use properties_text::encoding::Encoding;
 use std::alloc::Global;
@@ -65,8 +65,11 @@ pub fn find_key(
         closing: Closing::Nothing,
     };
     while let Some(group) = groups.next(body)? {
-        let number = group.number;
-        let has_key = has_key(alloc, number, groups.line(body, group), key)?;
+        let line = groups.line(body, group);
+        let has_key = match find_item(alloc, group.number, line)? {
+            Some(item) => item_has_key(&item, line, key),
+            None => None,
+        };
         place = place.after(group, has_key);
     }
     Ok(place)

@@ -22,11 +22,11 @@ ghost use Rattle.properties_editing.specs.Private.BodyKeys.{IsPlaceOf};
 use crate::edit::append::{layout_at, printed_new_pair};
 use crate::edit::find::{BodySpan, Closing, closing_after, closing_bytes, separation_after};
 use crate::edit::groups::{Group, GroupReader};
-use crate::edit::pairs::pair_of;
 use crate::edit::replace::{are_empty, concatenated, printed_pair, replaced};
 use crate::edit::source::BodyStart;
 use crate::edit::value::new_value;
 use properties_items::error::PropertiesError;
+use properties_items::found::{find_item, item_pair};
 use properties_items::line::LineEnding;
 use properties_text::encoding::Encoding;
 use properties_text::encoding::byte_order_mark::begins_like_mark;
@@ -82,7 +82,11 @@ impl Index {
             closing: Closing::Nothing,
         };
         while let Some(group) = groups.next(body)? {
-            let pair = pair_of(alloc, group.number, groups.line(body, group))?;
+            let line = groups.line(body, group);
+            let pair = match find_item(alloc, group.number, line)? {
+                Some(item) => item_pair(alloc, &item, line)?,
+                None => None,
+            };
             index.add(alloc, group, pair)?;
         }
         Ok(index)

@@ -8,8 +8,8 @@ ghost use Rattle.properties_editing.specs.Private.BodyKeys.{FindsOthers};
 
 use crate::edit::find::BodySpan;
 use crate::edit::groups::GroupReader;
-use crate::edit::pairs::has_key;
 use properties_items::error::PropertiesError;
+use properties_items::found::{find_item, item_has_key};
 use properties_text::encoding::Encoding;
 use std::alloc::Global;
 
@@ -28,8 +28,12 @@ pub fn spans_without_key(
     let mut others = Vec::new(alloc);
     let mut start = 0;
     while let Some(group) = groups.next(body)? {
-        let number = group.number;
-        if has_key(alloc, number, groups.line(body, group), key)?.unwrap_or(false) {
+        let line = groups.line(body, group);
+        let has_key = match find_item(alloc, group.number, line)? {
+            Some(item) => item_has_key(&item, line, key),
+            None => None,
+        };
+        if has_key.unwrap_or(false) {
             let end = group.start;
             others.push(BodySpan { start, end })?;
             start = groups.place();
