@@ -53,7 +53,7 @@ use Rattle.properties_format.proofs.Valued.Read.{front-unended}
 use Rattle.properties_format.proofs.Valued.Walks.{front-within}
 use Rattle.properties_editing.specs.Private.BodyGroups.{text_of}
 use Rattle.properties_editing.specs.Private.BodyValues.{IsBeforeValue, IsFrontSize, IsPairAlone, IsNewValue, IsGroupAlone, revalued_in}
-use Rattle.properties_editing.specs.declared.edit.value.NewValue.{NewValue}
+use Rattle.properties_editing.specs.declared.edit.new_value.NewValue.{NewValue}
 use Rattle.std.proofs.Common.{take-add}
 use Rattle.std.proofs.lemmas.List.{length-take}
 use Rattle.properties_format.specs.Computed.Valued.{has_value}

@@ -16,7 +16,7 @@ use std::alloc::{AllocError, Global};
 
 /// Returns what separates the key and the value of a logical line, or `None` if the line isn't a pair. The value begins
 /// where the separator ends.
-pub fn between(line: &str) -> Option<Span>
+pub fn separator_span(line: &str) -> Option<Span>
     ensures { IsBetweenIn line.now result }
 {
     match parse_spans(line)? {
@@ -43,7 +43,7 @@ pub fn front_size(
 {
     let mut lines = GroupReader::new(alloc, encoding);
     let mut text = TextBuffer::new(alloc);
-    let mut left = before;
+    let mut wanted = before;
     let mut is_first = true;
     while lines.find_line(pair)? {
         let line = lines.raw_line();
@@ -51,10 +51,10 @@ pub fn front_size(
         text.clear();
         text.push_decoded(encoding, bytes)?;
         let added = added_by(is_first, text.as_str().as_bytes()).len();
-        if left <= added {
-            return Ok(line.start + head_size(bytes, text.as_str(), added, left));
+        if wanted <= added {
+            return Ok(line.start + kept_bytes(bytes, text.as_str(), added, wanted));
         }
-        left -= added;
+        wanted -= added;
         is_first = false;
     }
     // The front ends in one of the lines.
@@ -75,7 +75,7 @@ fn added_by(is_first: bool, text: &[u8]) -> &[u8]
 }
 
 // Returns how many bytes of a line, which has this text, come before the last `added - left` bytes of what it adds.
-fn head_size(bytes: &[u8], text: &str, added: usize, left: usize) -> usize
+fn kept_bytes(bytes: &[u8], text: &str, added: usize, left: usize) -> usize
     requires left { left ≤ added }
     requires added { added + (if is_open (chars text.now) then 1 else 0) ≤ length text.now }
     requires backslash { (if is_open (chars text.now) then 1 else 0) ≤ length bytes.now }
