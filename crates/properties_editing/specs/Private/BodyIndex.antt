@@ -37,6 +37,11 @@ use Rattle.properties_editing.specs.declared.edit.find.Closing.TheVariants as cl
 use Rattle.properties_editing.specs.declared.edit.source.BodyStart.{BodyStart}
 use Rattle.properties_items.specs.declared.error.PropertiesError.{PropertiesError}
 
+-- The pair that a logical line is, if it is one, was returned; or an error in the line with this number.
+abbrev pub FindsPairOfLine : {Y Z : Type 0} → List ℕ → ℕ → Result (Option (String Y × String Z)) PropertiesError → Type 0
+FindsPairOfLine line number (Ok answer) = IsSound (outcome_of line) × (option_map pair_characters answer ≡ outcome_pair (outcome_of line))
+FindsPairOfLine line number (Err e) = IsNoItem number line e
+
 -- ---- the parts of groups
 
 -- what a group says

@@ -30,6 +30,11 @@ use Rattle.properties_items.specs.declared.found.Found.{Found}
 abbrev pub key_told : List ℕ → Outcome → Option Bool
 key_told key outcome = option_map (λ k. bytes_eq k key) (outcome_key outcome)
 
+-- The result says whether the pair that is a logical line has this key; or there is an error in the line with this number.
+abbrev pub ChecksKeyOfLine : List ℕ → List ℕ → ℕ → Result (Option Bool) PropertiesError → Type 0
+ChecksKeyOfLine line key number (Ok answer) = IsSound (outcome_of line) × (answer ≡ key_told key (outcome_of line))
+ChecksKeyOfLine line key number (Err e) = IsNoItem number line e
+
 -- ---- the first malformed escape of a body
 
 -- The first malformed escape of these groups is malformed in some way, and the error reports how and in which line; or

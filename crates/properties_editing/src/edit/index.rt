@@ -9,7 +9,7 @@ ghost use Rattle.properties_items.specs.Texts.{characters};
 ghost use Rattle.std.specs.Str.{chars};
 ghost use Rattle.properties_text.specs.Encoding.{encoding_of};
 ghost use Rattle.properties_editing.specs.declared.edit.index.Shift.TheVariants as shift;
-ghost use Rattle.properties_editing.specs.Private.BodyIndex.{AddsGroup, FollowsPair, GrowsIndex, KeepsNothing, KeepsPair, ParsesIndex, all_shifted, found_span, last_live, lengthened_span, moved_span, moved_to, places_of, shifted, span_at, stored_at};
+ghost use Rattle.properties_editing.specs.Private.BodyIndex.{AddsGroup, FindsPairOfLine, FollowsPair, GrowsIndex, KeepsNothing, KeepsPair, ParsesIndex, all_shifted, found_span, last_live, lengthened_span, moved_span, moved_to, places_of, shifted, span_at, stored_at};
 ghost use Rattle.properties_items.specs.FoundItems.{pair_characters};
 
 use crate::edit::find::{BodySpan, Closing, closing_after};
@@ -70,11 +70,7 @@ impl Index {
             closing: Closing::Nothing,
         };
         while let Some(group) = groups.next(body)? {
-            let line = groups.line(body, group);
-            let pair = match find_item(alloc, group.number, line)? {
-                Some(item) => item_pair(alloc, &item, line)?,
-                None => None,
-            };
+            let pair = pair_of(alloc, group.number, groups.line(body, group))?;
             index.add_group(alloc, group, pair)?;
         }
         Ok(index)
@@ -197,6 +193,21 @@ fn closing_if(is_changed: bool, new: Closing, old: Closing) -> Closing
     ensures { result ≡ (if is_changed then new else old) }
 {
     if is_changed { new } else { old }
+}
+
+// Returns the key and value of a logical line, or `None` if it isn't a pair. Fails if an escape in the line, which has
+// this number, is malformed, or if memory runs out.
+fn pair_of(
+    alloc: Global,
+    number: usize,
+    line: &str,
+) -> Result<Option<(String, String)>, PropertiesError>
+    ensures { FindsPairOfLine (chars line.now) number result }
+{
+    match find_item(alloc, number, line)? {
+        Some(found) => Ok(item_pair(alloc, &found, line)?),
+        None => Ok(None),
+    }
 }
 
 // Returns the places of the pairs with a key, in order.

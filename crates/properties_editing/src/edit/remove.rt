@@ -6,10 +6,9 @@ ghost use Rattle.properties_text.specs.Encoding.{encoding_of};
 ghost use Rattle.properties_lines.specs.LineSearch.{unit_size};
 ghost use Rattle.properties_editing.specs.Private.BodyKeys.{FindsOthers};
 
-use crate::edit::find::BodySpan;
+use crate::edit::find::{BodySpan, has_key};
 use crate::edit::groups::GroupReader;
 use properties_items::error::PropertiesError;
-use properties_items::found::{find_item, item_has_key};
 use properties_text::encoding::Encoding;
 use std::alloc::Global;
 
@@ -28,12 +27,8 @@ pub fn spans_without_key(
     let mut others = Vec::new(alloc);
     let mut start = 0;
     while let Some(group) = groups.next(body)? {
-        let line = groups.line(body, group);
-        let has_key = match find_item(alloc, group.number, line)? {
-            Some(item) => item_has_key(&item, line, key),
-            None => None,
-        };
-        if has_key.unwrap_or(false) {
+        let number = group.number;
+        if has_key(alloc, number, groups.line(body, group), key)?.unwrap_or(false) {
             let end = group.start;
             others.push(BodySpan { start, end })?;
             start = groups.place();
