@@ -21,8 +21,8 @@ ghost use Rattle.properties_editing.specs.Private.BodyValues.{FindsLastPair, IsG
 use crate::edit::endings::{last_ending, push_closing, push_ending};
 use crate::edit::find::{BodySpan, Closing};
 use crate::edit::groups::first_group;
-use crate::edit::layout::between;
-use crate::edit::replace::{concatenated, is_first, part, repertoire_of};
+use crate::edit::layout::separator_span;
+use crate::edit::replace::{bytes_at, concatenated, is_first, repertoire_of};
 use crate::edit::source::BodyStart;
 use properties_items::line::LineEnding;
 use properties_text::characters::is_blank;
@@ -76,7 +76,7 @@ fn separator_at(
     ensures { IfOk result (λ text. characters text ≡ separator_by (chars key.now) (last_between (held_groups_of (encoding_of encoding) body.now))) }
 {
     let separator = match last {
-        Some(pair) => separator_like(alloc, encoding, part(body, pair), key)?,
+        Some(pair) => separator_like(alloc, encoding, bytes_at(body, pair), key)?,
         None => None,
     };
     match separator {
@@ -100,7 +100,7 @@ pub fn separator_like(
 {
     let (groups, group) = first_group(alloc, encoding, bytes)?;
     let line = groups.line(bytes, group);
-    match between(line) {
+    match separator_span(line) {
         Some(span) => Ok(Some(separator_for(alloc, span.cut(line), key)?)),
         None => Ok(None),
     }

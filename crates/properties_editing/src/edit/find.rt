@@ -4,11 +4,11 @@ ghost use Rattle.std.specs.Prelude.{◌≡◌};
 ghost use Rattle.std.specs.Str.{chars};
 ghost use Rattle.properties_text.specs.Encoding.{encoding_of};
 ghost use Rattle.properties_lines.specs.LineSearch.{unit_size};
-ghost use Rattle.properties_editing.specs.Private.BodyKeys.{FindsKey, closing_of, places_with};
+ghost use Rattle.properties_editing.specs.Private.BodyKeys.{ChecksKeyOfLine, FindsKey, closing_of, places_with};
 
 use crate::edit::groups::{Group, GroupReader};
-use crate::edit::pairs::has_key;
 use properties_items::error::PropertiesError;
+use properties_items::found::{find_item, item_has_key};
 use properties_text::encoding::Encoding;
 use std::alloc::Global;
 
@@ -64,6 +64,23 @@ pub fn find_key(
         places = places.with_group(group, has_key);
     }
     Ok(places)
+}
+
+/// Returns whether the pair that is a logical line has this key, or `None` if the line isn't a pair. Fails if an escape in
+/// the line, which has this number, is malformed, or if memory runs out.
+#[inline(always)]
+pub fn has_key(
+    alloc: Global,
+    number: usize,
+    line: &str,
+    key: &str,
+) -> Result<Option<bool>, PropertiesError>
+    ensures { ChecksKeyOfLine (chars line.now) (chars key.now) number result }
+{
+    match find_item(alloc, number, line)? {
+        Some(found) => Ok(item_has_key(&found, line, key)),
+        None => Ok(None),
+    }
 }
 
 impl PairPlaces {

@@ -17,12 +17,14 @@ returns-in_err-place c =
     let key = chars c.args.key.now in
     let value = chars c.args.value.now in
     let opened = c.in_ok-opened.ensures in
-    let refused = refusal c.from_residual-in_err-place.result (IsKeySet e c.args.ascii_only source key value) (key_set e c.args.ascii_only source key value) opened.0 opened.1 (set_key_result-meets e c.args.ascii_only source key value)
+    let only = c.args.ascii_only in
+    let meets = set_key_result-meets e only source key value in
+    let refused = refusal c.from_residual-in_err-place.result (IsKeySet e only source key value) (key_set e only source key value) opened.0 opened.1 meets
     c.in_err-place.ensures c.from_residual-in_err-place.ensures.1 in
     rw refused.1 refused.2
 
-pub replaced-requires-clause-within : goal.replaced-requires-clause-within
-replaced-requires-clause-within c =
+pub with_pair_replaced-requires-clause-within : goal.with_pair_replaced-requires-clause-within
+with_pair_replaced-requires-clause-within c =
     let found = (rw (take_rest c.args.source.now c.in_ok-opened.opened.start) at c.in_ok-place.ensures).0 in
     span-within c.in-Some.pair c.in_ok-opened.ensures.0 c.in_ok-opened.ensures.1 found c.in-Some.is
 
