@@ -1,15 +1,9 @@
 use Rattle.std.proofs.Common.{ap, sym, ◌∙◌, subst}
 use Rattle.std.specs.Str.{chars}
 use Rattle.properties_format.specs.Computed.Edited.{IsSound}
-use Rattle.properties_text.specs.Escaping.{holds_backslash}
-use Rattle.properties_text.proofs.Texts.Resolving.{holds_backslash-text}
 use Rattle.properties_editing.specs.Private.BodyKeys.{key_told}
 use Rattle.properties_items.proofs.FoundItems.{found-item}
 use Rattle.properties_editing.proofs.edit.find.has_key.Goals as goal
-
-pub has_plain_key-requires : goal.has_plain_key-requires
-has_plain_key-requires c =
-    holds_backslash-text c.args.line.now c.utf8.line ∙ ap holds_backslash (sym c.as_bytes.ensures.value) ∙ sym c.has_backslash.ensures ∙ c.if-not-has_backslash.true
 
 pub returns-in-Some : goal.returns-in-Some
 returns-in-Some c =
