@@ -5,12 +5,7 @@ use Rattle.std.proofs.lemmas.Result.{err_from_is_err_and}
 use Rattle.properties_format.specs.ItemsToCome.{ReaderState}
 use Rattle.properties_text.specs.Encoding.{encoding_of}
 use Rattle.counted_io.specs.Streams.{reader}
-<<<<<<< ours
 use Rattle.properties_lines.specs.LineJoiner.{LineState}
-use Rattle.java_properties.proofs.TextMaps.Reading.{HasPassed, passed-none, passed-more, passed-lost, passed-error, passed-all}
-use Rattle.java_properties.proofs.maps.read.Goals as goal
-=======
-use Rattle.properties_lines.specs.LineJoiner.{Joiner}
 use Rattle.properties_items.specs.Line.{content_of}
 use Rattle.properties_items.specs.Texts.{Entries}
 use Rattle.properties_items.specs.declared.line.LineContent.{LineContent}
@@ -23,19 +18,14 @@ use Rattle.java_properties.proofs.maps.read_map.Goals as goal
 takes-other : (m : Entries Global Global) (content : LineContent) → ((key value : String Global) → content ≡ KVPair key value → ⊥) → Takes m (format_content content) m
 takes-other m (Comment text) other = refl
 takes-other m (KVPair key value) other = absurd (other key value refl)
->>>>>>> theirs
 
 pub loop-item-init : goal.loop-item-init
 loop-item-init g c =
     let r = reader g.R.Read g.R.CountedRead in
     let P : ReaderState → Type 0 = λ v. HasPassed r (encoding_of c.args.encoding) c.args.input.now (g.M.TextMap.entries c.args.map) v c.args.input.now in
     record {
-<<<<<<< ours
-      passed = subst P (sym (ap (λ v. let w : LineState = v in w.state) c.new-items.ensures)) (passed-none {reader = r} c.args.input.now c.new-map.result.entries c.new-map.ensures.empty);
-=======
-      passed = subst P (sym (ap (λ v. let w : Joiner = v in w.state) c.new-items.ensures)) (passed-none {reader = r} c.args.input.now _ c.requires.empty);
+      passed = subst P (sym (ap (λ v. let w : LineState = v in w.state) c.new-items.ensures)) (passed-none {reader = r} c.args.input.now _ c.requires.empty);
       ordered = c.requires.ordered;
->>>>>>> theirs
       same_reader = refl;
     }
 
