@@ -195,36 +195,6 @@ pub between-none : (line : List ℕ) (what : split.Logical) → IsSplit (chars l
     → between_if_pair (split_of (chars line)) (chars line) ≡ None
 between-none line what h none = ap (λ s. between_if_pair s (chars line)) (sym (split_of-only (chars line) what h)) ∙ none
 
--- ---- texts of blanks
-
-blanks-empty : (xs : List ℕ) → is_blanks xs ≡ is_empty (without_leading_blanks xs)
-blanks-empty [] = refl
-blanks-empty (c ∷ xs) = elim (cases_Bool (is_blank c)) [
-  | inl k ↦ rw k (blanks-empty xs)
-  | inr k ↦ rw k refl
-]
-
-empty-text : (x : List ℕ) → IsUtf8 x → is_empty (chars x) ≡ is_empty x
-empty-text [] u = ap is_empty chars-nil
-empty-text (b ∷ x) u = some-characters (chars (b ∷ x)) (encodes-chars (b ∷ x) u)
-  where
-    some-characters : (cs : List ℕ) → encode_utf8_all cs ≡ b ∷ x → is_empty cs ≡ false
-    some-characters [] h = absurd (cc)
-    some-characters (c ∷ cs) h = refl
-
--- A text is blanks where so many lead it.
-pub blanks-text : (x : List ℕ) (n : ℕ) → IsUtf8 x → n ≤ length x → drop n x ≡ without_leading_blanks x → (n == length x) ≡ is_blanks (chars x)
-blanks-text x n u l h =
-    let part = without_leading_blanks-part x u in
-    let left : length (drop n x) ≡ length x - n = length-drop n x in
-    let test : (n == length x) ≡ (length (drop n x) == 0) = grind (arith, nat_tests) in
-    test
-    ∙ no-bytes (drop n x)
-    ∙ ap is_empty h
-    ∙ sym (empty-text (without_leading_blanks x) part.utf8)
-    ∙ ap is_empty part.same
-    ∙ sym (blanks-empty (chars x))
-
 -- ---- the first group
 
 pub first-group : {body : List ℕ} {s t : GroupReader} {group : Group} → s.scanner.at ≡ 0 → s.scanner.is_done ≡ false → TakesGroup body s group t

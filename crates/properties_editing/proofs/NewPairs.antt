@@ -13,8 +13,8 @@ use Rattle.properties_format.specs.Valued.{value_text, printed_value, new_pair_b
 use Rattle.properties_format.proofs.Printing.Characters.{encoded-ascii, encoded_text-append, encoded_text-ascii, line_end-ascii}
 use Rattle.std.specs.Char.{IsScalar, encode_utf8}
 use Rattle.properties_text.proofs.TextFronts.{chars-more}
+use Rattle.properties_text.proofs.Texts.Characters.{is_empty-chars}
 use Rattle.properties_items.proofs.RawTexts.{line_ending-bytes}
-use Rattle.properties_editing.proofs.BodyGroups.{no-bytes}
 
 -- ---- a value after its separator
 
@@ -32,16 +32,9 @@ pub value-separated : (e : Encoding) (only : Bool) (separator value : List ℕ) 
 value-separated e only [] value some = absurd (some refl)
 value-separated e only (c ∷ cs) value some = refl
 
--- a text without bytes has no characters, and one with bytes has some
-pub text-empty : (x : List ℕ) → true ≡ (length x == 0) → chars x ≡ []
-text-empty [] h = chars-nil
-text-empty (b ∷ x) h = let q : true ≡ false = h ∙ no-bytes (b ∷ x) in absurd (cc)
-
+-- a text with bytes has characters
 pub text-some : (x : List ℕ) → IsUtf8 x → false ≡ (length x == 0) → chars x ≢ []
-text-some [] u h none = let q : false ≡ true = h ∙ no-bytes [] in absurd (cc)
-text-some (b ∷ x) u h none =
-    let all : encode_utf8_all [] ≡ b ∷ x = ap encode_utf8_all (sym none) ∙ encodes-chars (b ∷ x) u in
-    absurd (cc)
+text-some x u h none = let q : true ≡ false = sym (ap is_empty none) ∙ is_empty-chars x u ∙ sym h in absurd (cc)
 
 -- ---- a separator
 
@@ -112,21 +105,13 @@ pub equals-text : chars (equals_sign ∷ []) ≡ equals_sign ∷ []
 unfolding chars
 equals-text = refl
 
-empty-chars : (x : List ℕ) → IsUtf8 x → (b : Bool) → b ≡ (length x == 0) → is_empty (chars x) ≡ b
-empty-chars x u true h = ap is_empty (text-empty x h)
-empty-chars x u false h = full (chars x) (text-some x u h)
-  where
-    full : (y : List ℕ) → y ≢ [] → is_empty y ≡ false
-    full [] some = absurd (some refl)
-    full (c ∷ y) some = refl
-
 -- blanks after an empty key
 pub indent-empty : (key separator : List ℕ) (told : Bool) → IsUtf8 key → true ≡ (length key == 0) → told ≡ is_blanks (chars separator)
     → told ≡ (is_empty (chars key) && is_blanks (chars separator))
-indent-empty key separator told u h k = k ∙ ap (λ b. b && is_blanks (chars separator)) (sym (empty-chars key u true h))
+indent-empty key separator told u h k = k ∙ ap (λ b. b && is_blanks (chars separator)) (h ∙ sym (is_empty-chars key u))
 
 pub indent-full : (key separator : List ℕ) → IsUtf8 key → false ≡ (length key == 0) → false ≡ (is_empty (chars key) && is_blanks (chars separator))
-indent-full key separator u h = ap (λ b. b && is_blanks (chars separator)) (sym (empty-chars key u false h))
+indent-full key separator u h = ap (λ b. b && is_blanks (chars separator)) (h ∙ sym (is_empty-chars key u))
 
 -- an equals sign where nothing separates the pair, or where blanks would be an indent
 pub separator_for-none : (key separator : List ℕ) → separator ≡ [] → equals_sign ∷ [] ≡ separator_after key separator

@@ -3,7 +3,7 @@
 ghost use Rattle.std.specs.Prelude.{◌≡◌, ◌+◌, ◌<◌, ◌≤◌, ◌⊎◌, get_or, Some, true, false, length, take, drop, slice_index};
 ghost use Rattle.std.specs.List.{All};
 ghost use Rattle.std.specs.Str.{IsUtf8, chars};
-ghost use Rattle.properties_format.specs.Text.{is_blank, without_leading_blanks};
+ghost use Rattle.properties_format.specs.Text.{is_blank, is_blanks, without_leading_blanks};
 ghost use Rattle.properties_format.specs.Split.{IsSplit};
 ghost use Rattle.properties_format.specs.Computed.Split.{without_trailing_blanks, trimmed, ends_key, cut_key, past_separator};
 ghost use Rattle.properties_text.specs.Parsing.{stays_in_key, may_end, bytes_in, spanned, in_characters, IsSpan, AreSpans, AreInPlace, AreFoundInText};
@@ -98,6 +98,13 @@ pub fn leading_blanks(text: &[u8]) -> usize
     ensures rest { drop result text.now ≡ without_leading_blanks text.now }
 {
     past_blanks(text, 0)
+}
+
+/// Returns whether a text is blanks and nothing else.
+pub fn are_blanks(text: &str) -> bool
+    ensures { result ≡ is_blanks (chars text.now) }
+{
+    leading_blanks(text.as_bytes()) == text.len()
 }
 
 // The index of the first byte from `from` on that isn't a blank. Usually there are no blanks or one, which takes no

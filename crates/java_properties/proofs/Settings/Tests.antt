@@ -82,25 +82,6 @@ separator_left-other false c cs s e =
     ap (λ v. (if v then is_signed_separator cs else is_separator c && is_blanks cs) || (v && is_blanks cs)) e
     ∙ ap (λ v. (v && is_blanks cs) || false) (sym (and-true (is_separator c)) ∙ s)
 
-above_zero : (n : ℕ) → 0 < n → (n == 0) ≡ false
-above_zero n h = search (rules, tests)
-
-holds_some-encoded : (cs bs : List ℕ) → encodes cs ≡ bs → holds_some cs ≡ not (length bs == 0)
-holds_some-encoded [] bs e = ap (λ v. not (length v == 0)) e
-holds_some-encoded (c ∷ cs) bs e = sym (ap not (above_zero (length bs) (omega (arith, length-le-encodes (c ∷ cs), ap length e))))
-
--- a text holds some character where it holds some byte
-pub holds_some-chars : (bs : List ℕ) → IsUtf8 bs → holds_some (chars bs) ≡ not (length bs == 0)
-holds_some-chars bs u = holds_some-encoded (chars bs) bs (encodes-chars bs u)
-
--- and none where it holds no byte
-pub is_empty-chars : (bs : List ℕ) → IsUtf8 bs → is_empty (chars bs) ≡ (length bs == 0)
-is_empty-chars bs u = sym (not-not (is_empty (chars bs))) ∙ ap not (holds_some-chars bs u) ∙ not-not (length bs == 0)
-  where
-    not-not : (b : Bool) → not (not b) ≡ b
-    not-not true = refl
-    not-not false = refl
-
 -- ---- what a test that fails says
 
 pub bad_prefix : (prefix : List ℕ) → is_good_prefix prefix ≡ false → IsGoodPrefix prefix → ⊥

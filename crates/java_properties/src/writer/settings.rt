@@ -12,6 +12,7 @@ ghost use Rattle.properties_items.specs.LineEndings.{ending_of};
 use properties_items::error::{PropertiesError, make};
 use properties_items::line::LineEnding;
 use properties_text::characters::{is_blank, is_comment_sign, is_line_end, is_separator};
+use properties_text::parse::are_blanks;
 use std::alloc::Global;
 use std::marker::Model;
 
@@ -182,15 +183,4 @@ pub(crate) fn is_good_separator(text: &str) -> bool
         }
     }
     !text.is_empty()
-}
-
-fn are_blanks(text: &str) -> bool
-    ensures { result ≡ is_blanks (chars text.now) }
-{
-    for character in text.chars() {
-        if !is_blank(character) {
-            return false;
-        }
-    }
-    true
 }

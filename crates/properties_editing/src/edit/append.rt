@@ -25,10 +25,10 @@ use crate::edit::groups::first_group;
 use crate::edit::layout::between;
 use crate::edit::replace::{are_empty, concatenated, part, repertoire_of};
 use crate::edit::source::BodyStart;
-use crate::edit::value::are_blanks;
 use properties_items::line::{LineEnding, ending_text};
 use properties_text::characters::is_blank;
 use properties_text::encoding::Encoding;
+use properties_text::parse::are_blanks;
 use properties_text::print::{LineBuffer, print_key, print_value};
 use std::alloc::{AllocError, Global};
 

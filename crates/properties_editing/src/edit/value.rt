@@ -2,7 +2,6 @@
 
 ghost use Rattle.std.specs.Prelude.{◌≡◌, ◌≤◌, ◌+◌, ◌-◌, take, drop, length, false, IfOk};
 ghost use Rattle.std.specs.Str.{chars};
-ghost use Rattle.properties_format.specs.Text.{is_blanks};
 ghost use Rattle.properties_format.specs.Encoding.{output_encoding};
 ghost use Rattle.properties_format.specs.Printing.{encoded_text};
 ghost use Rattle.properties_format.specs.Valued.{value_text};
@@ -17,7 +16,7 @@ use crate::edit::layout::{between, front_size};
 use crate::edit::pairs::has_value;
 use crate::edit::replace::{concatenated, repertoire_of};
 use crate::edit::source::BodyStart;
-use properties_text::parse::leading_blanks;
+use properties_text::parse::are_blanks;
 use properties_text::print::{LineBuffer, print_value};
 use std::alloc::{AllocError, Global};
 
@@ -98,11 +97,4 @@ fn print_value_after(
         return print_value(line, repertoire, false, value);
     }
     print_value(line, repertoire, are_blanks(separator), value)
-}
-
-/// Returns whether a text is blanks and nothing else.
-pub fn are_blanks(text: &str) -> bool
-    ensures { result ≡ is_blanks (chars text.now) }
-{
-    leading_blanks(text.as_bytes()) == text.len()
 }

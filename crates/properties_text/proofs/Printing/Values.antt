@@ -96,20 +96,6 @@ last_space e only c k =
     ∙ encoded_text-ascii e (unicode_escape space) (unicode_escape-ascii space)
     ∙ ap unicode_escape (sym k)
 
--- A text without characters has no bytes.
-no-characters : (x : List ℕ) → IsUtf8 x → chars x ≡ [] → x ≡ []
-no-characters x u h =
-    nothing-decoded utf_8 x
-    (ap (λ v. characters (pieces_of utf_8 v)) (sym (append-nil x)) ∙ characters-text x [] u ∙ ap₂ (λ v w. v ++ w) h (ap characters (pieces_of-nil utf_8)))
-
--- A text with bytes has characters.
-pub some-characters : (x : List ℕ) → IsUtf8 x → (length x == 0) ≡ false → is_empty (chars x) ≡ false
-some-characters x u h = of-chars (chars x) refl
-  where
-    of-chars : (cs : List ℕ) → chars x ≡ cs → is_empty (chars x) ≡ false
-    of-chars [] s = let m : (length x == 0) ≡ true = ap (λ v. length v == 0) (no-characters x u s) in absurd (cc)
-    of-chars (c ∷ cs) s = ap is_empty s
-
 -- A text without bytes has no characters.
 pub none-left : (x : List ℕ) → (length x == 0) ≡ true → chars x ≡ []
 none-left [] h = chars-nil

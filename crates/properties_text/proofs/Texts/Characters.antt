@@ -1,11 +1,13 @@
 -- How the bytes of a character relate to it: an ASCII character is its own byte, and no other byte is ASCII.
-use Rattle.std.proofs.Common.{◌≡◌, ℕ, ◌<◌, ◌≤◌, ◌==◌, true, false, List, [], ◌∷◌, ◌++◌, refl, ap, sym, ◌∙◌, inl, inr, arith}
+use Rattle.std.proofs.Common.{◌≡◌, ℕ, ◌<◌, ◌≤◌, ◌==◌, true, false, List, [], ◌∷◌, ◌++◌, length, refl, ap, sym, ◌∙◌, inl, inr, arith}
 use lib.Utf8.{encode, encodes, scalars, scalar}
 use Rattle.std.specs.Str.{IsUtf8, chars}
-use Rattle.std.proofs.lemmas.Str.{chars-encodes, chars_past_char, IsUtf8-past_char}
+use Rattle.std.proofs.lemmas.Str.{chars-encodes, chars_past_char, encodes-chars, length-le-encodes, IsUtf8-past_char}
+use Rattle.std.proofs.lemmas.Bool.Decides.{nat_tests}
 use Rattle.std.proofs.lemmas.Bool.{cases_lt, and_parts, and_from, ne_eqb}
 use Rattle.properties_format.specs.Text.{backslash, is_blank, is_separator, is_comment_sign}
 use Rattle.properties_format.specs.Computed.Split.{ends_key}
+use Rattle.properties_format.specs.Writing.{is_empty}
 use Rattle.properties_format.proofs.Encodings.Utf8Characters.{encode-one, encode-two, encode-three, encode-four}
 
 -- ---- bytes that are not ASCII
@@ -82,3 +84,16 @@ character_and bs rest c u e = record { characters = chars_past_char bs rest c u 
 
 pub first_ascii : (b : ℕ) (rest : List ℕ) → b < 128 → IsUtf8 (b ∷ rest) → IsCharacterAnd (b ∷ rest) b rest
 first_ascii b rest h u = character_and (b ∷ rest) rest b u (ap (λ v. v ++ rest) (sym (encode-one b h)))
+
+-- ---- texts without characters
+
+-- A text has no characters where it has no bytes.
+pub is_empty-chars : (x : List ℕ) → IsUtf8 x → is_empty (chars x) ≡ (length x == 0)
+is_empty-chars x u = by_characters (chars x) (encodes-chars x u)
+  where
+    by_characters : (cs : List ℕ) → encodes cs ≡ x → is_empty cs ≡ (length x == 0)
+    by_characters [] h = ap (λ v. length v == 0) h
+    by_characters (c ∷ cs) h =
+        let some = length-le-encodes (c ∷ cs) in
+        let same = ap length h in
+        grind (arith, nat_tests)

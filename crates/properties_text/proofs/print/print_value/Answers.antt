@@ -7,7 +7,8 @@ use Rattle.properties_format.specs.Printing.{encoded_text}
 use Rattle.properties_format.specs.Writing.{is_empty}
 use Rattle.properties_format.specs.Valued.{printed_value}
 use Rattle.properties_text.specs.Printing.{encoding_in, only_in}
-use Rattle.properties_text.proofs.Printing.Values.{space-alone, value-after, some-characters, none-left}
+use Rattle.properties_text.proofs.Printing.Values.{space-alone, value-after, none-left}
+use Rattle.properties_text.proofs.Texts.Characters.{is_empty-chars}
 use Rattle.properties_text.proofs.print.print_value.Goals as goal
 use Rattle.properties_text.proofs.print.print_value.Goals.{else-is_empty-via-then-is_empty+else-first-eq32, else-is_empty-via-else-is_empty}
 
@@ -39,7 +40,7 @@ returns c =
           and_right (is_empty (chars rest)) (c.in-Some.first == 0x20) (false_from_ne_true (c.in-Some.first == 0x20)
           (λ t. w.if-first-eq32.false (eqb-true c.in-Some.first 0x20 t)))
       | else-is_empty-via-else-is_empty w ↦
-          and_left (is_empty (chars rest)) (c.in-Some.first == 0x20) (some-characters rest c.as_str-rest.utf8 (sym c.is_empty.ensures ∙ w.if-is_empty.false))
+          and_left (is_empty (chars rest)) (c.in-Some.first == 0x20) (is_empty-chars rest c.as_str-rest.utf8 ∙ sym c.is_empty.ensures ∙ w.if-is_empty.false)
     ] in
     on_ok_weaker c.print_rest_of_value.result
     (λ h.

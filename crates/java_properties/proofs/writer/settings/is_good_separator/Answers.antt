@@ -5,7 +5,8 @@ use Rattle.std.specs.Str.Iter.{chars_rest}
 use Rattle.std.proofs.lemmas.Str.{IsUtf8-past_char}
 use Rattle.properties_format.specs.Text.{is_separator}
 use Rattle.properties_format.specs.Computed.Settings.{is_good_separator}
-use Rattle.java_properties.proofs.Settings.Tests.{holds_some, separator_left, past_first, past_last, separator_left-end, separator_left-sign, separator_left-blank, separator_left-other, holds_some-chars}
+use Rattle.properties_text.proofs.Texts.Characters.{is_empty-chars}
+use Rattle.java_properties.proofs.Settings.Tests.{holds_some, separator_left, past_first, past_last, separator_left-end, separator_left-sign, separator_left-blank, separator_left-other}
 use Rattle.java_properties.proofs.writer.settings.is_good_separator.Goals as goal
 use Rattle.java_properties.proofs.writer.settings.is_good_separator.Goals.{In-Some, else-is_separator-via-then-is_separator+else-not-signed, else-is_separator-via-else-is_separator}
 
@@ -53,4 +54,4 @@ returns c =
     let signed = c.loop-character.signed in
     let some = holds_some (chars c.args.text.now) in
     past_last (λ cs. some && separator_left signed cs) _ (not c.is_empty.result) _ c.in-None.ensures.steps.0.0 c.loop-character.invariant.same
-    (ap (λ v. some && v) (separator_left-end signed) ∙ and-true some ∙ holds_some-chars c.args.text.now c.utf8.text ∙ ap not (sym c.is_empty.ensures))
+    (ap (λ v. some && v) (separator_left-end signed) ∙ and-true some ∙ ap not (is_empty-chars c.args.text.now c.utf8.text ∙ sym c.is_empty.ensures))

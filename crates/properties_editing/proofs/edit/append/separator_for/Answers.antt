@@ -3,7 +3,8 @@ use Rattle.std.specs.Str.{chars}
 use Rattle.std.proofs.lemmas.Result.{IfOk-weaker}
 use Rattle.properties_format.specs.Text.{equals_sign}
 use Rattle.properties_format.specs.Valued.{separator_after}
-use Rattle.properties_editing.proofs.NewPairs.{equals-text, separator_for-none, separator_for-indent, separator_for-other, text-empty, text-some}
+use Rattle.properties_text.proofs.Printing.Values.{none-left}
+use Rattle.properties_editing.proofs.NewPairs.{equals-text, separator_for-none, separator_for-indent, separator_for-other, text-some}
 use Rattle.properties_editing.proofs.edit.append.separator_for.Goals as goal
 use Rattle.properties_editing.proofs.edit.append.separator_for.Goals.{then-is_empty-via-then-is_empty, then-is_empty-via-else-is_empty+then-is_indent}
 
@@ -13,7 +14,7 @@ returns-then-is_empty c =
     let separator = chars c.args.separator.now in
     let is : equals_sign ∷ [] ≡ separator_after key separator =
     elim c.then-is_empty.branch [
-      | then-is_empty-via-then-is_empty w ↦ separator_for-none key separator (text-empty c.args.separator.now w.if-is_empty.ensures)
+      | then-is_empty-via-then-is_empty w ↦ separator_for-none key separator (none-left c.args.separator.now (sym w.if-is_empty.ensures))
       | then-is_empty-via-else-is_empty+then-is_indent w ↦ separator_for-indent key separator (sym w.if-is_indent.ensures)
     ] in
     IfOk-weaker c.from_str.result _ _ (λ text h. ap chars h ∙ equals-text ∙ is) c.from_str.ensures.ok

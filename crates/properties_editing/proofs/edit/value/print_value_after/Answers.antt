@@ -1,10 +1,11 @@
-use Rattle.std.proofs.Common.{◌++◌, ◌∙◌, ap, false}
+use Rattle.std.proofs.Common.{◌++◌, ◌∙◌, ap, sym, false}
 use Rattle.std.specs.Str.{chars}
 use Rattle.std.proofs.lemmas.Result.{on_ok_weaker}
 use Rattle.properties_format.specs.Printing.{encoded_text}
 use Rattle.properties_format.specs.Encoding.{output_encoding}
 use Rattle.properties_text.specs.Encoding.{encoding_of}
-use Rattle.properties_editing.proofs.NewPairs.{value-unseparated, value-separated, text-empty, text-some}
+use Rattle.properties_text.proofs.Printing.Values.{none-left}
+use Rattle.properties_editing.proofs.NewPairs.{value-unseparated, value-separated, text-some}
 use Rattle.properties_editing.proofs.edit.value.print_value_after.Goals as goal
 
 pub returns-then-is_empty : goal.returns-then-is_empty
@@ -14,7 +15,7 @@ returns-then-is_empty c =
     let printed = rw (c.repertoire_of-repertoire.ensures.values false (chars c.args.value.now)) at c.print_value.ensures in
     on_ok_weaker c.print_value.result
     (λ h. value-unseparated e only c.args.line.now c.extend.new.self c.print_value.new.line (chars c.args.separator.now) (chars c.args.value.now)
-    (text-empty c.args.separator.now c.if-is_empty.ensures) c.in_ok-extend.ensures.appended h)
+    (none-left c.args.separator.now (sym c.if-is_empty.ensures)) c.in_ok-extend.ensures.appended h)
     printed
 
 pub returns : goal.returns

@@ -3,7 +3,7 @@ use Rattle.std.specs.Str.{chars}
 use Rattle.properties_format.specs.Settings.{Settings}
 use Rattle.properties_format.specs.Writing.{is_empty}
 use Rattle.properties_format.specs.Text.{is_blanks}
-use Rattle.java_properties.proofs.Settings.Tests.{is_empty-chars}
+use Rattle.properties_text.proofs.Texts.Characters.{is_empty-chars}
 use Rattle.java_properties.proofs.writer.settings.Settings.takes_key.Goals as goal
 
 pub returns-then-not-is_empty : goal.returns-then-not-is_empty
