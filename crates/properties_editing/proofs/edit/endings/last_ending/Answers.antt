@@ -10,7 +10,7 @@ returns-in-10 c =
 pub returns-in-10-2 : goal.returns-in-10-2
 returns-in-10-2 c =
     let inv = c.loop-end.invariant in
-    last-feed c.args.body.now c.loop-end.end c.loop-end-test.true inv.within c.in-10-2.is inv.plain (sym c.ends_in_cr.ensures ∙ c.if-ends_in_cr.false)
+    last-feed c.args.body.now c.loop-end.end c.loop-end-test.true inv.within c.in-10.is inv.plain (sym c.ends_in_cr.ensures ∙ c.if-ends_in_cr.false)
 
 pub returns-in-13 : goal.returns-in-13
 returns-in-13 c =
