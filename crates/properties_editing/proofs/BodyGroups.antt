@@ -18,7 +18,7 @@ use Rattle.properties_format.specs.Computed.Body.{held_groups_after, held_groups
 use Rattle.properties_format.specs.Computed.Parts.{unended_bytes}
 use Rattle.properties_format.proofs.Body.Groups.{as_lines-append, groups-close, groups-leave, group_bytes-append}
 use Rattle.properties_format.proofs.Cut.Only.{ending-windows_1252, ending-utf_8}
-use Rattle.properties_format.proofs.Edited.Steps.{last_ending-push, is_left_open-push, is_empty_line-push}
+use Rattle.properties_format.proofs.Edited.Steps.{is_left_open-push, is_empty_line-push}
 use Rattle.properties_format.proofs.Groups.Joined.{joined-push, joined-one, joined-closed, joined-comment_line}
 use Rattle.properties_format.proofs.Edited.Parts.{unended-kept}
 use Rattle.properties_text.specs.Encoding.{encoding_of}
@@ -33,9 +33,7 @@ use Rattle.properties_lines.specs.declared.scanner.Scanner.{Scanner}
 use Rattle.properties_lines.proofs.Tested.{ascii-line}
 use Rattle.properties_text.specs.Spelt.{text_in, IsWell}
 use Rattle.properties_lines.proofs.HeldLines.{body-next, body-after, body-lines_left}
-use Rattle.properties_editing.specs.Private.BodyLines.{ending_in}
 use Rattle.properties_editing.specs.Private.BodyGroups.{IsWithin, groups_left, IsBegun, TakesLine, IsSpanOf, TakesGroup, groups_from, ReadsGroup, bytes_at}
-use Rattle.properties_items.specs.declared.line.LineEnding.{LineEnding}
 use Rattle.properties_editing.specs.declared.edit.groups.Group.{Group}
 use Rattle.properties_editing.specs.declared.edit.groups.GroupReader.{GroupReader}
 
@@ -136,11 +134,11 @@ has-sizes body old new k =
 
 -- the span of its line
 span-one : (body : List ℕ) (old new : GroupReader) (group : Group) (k : TakesLine body old new)
-    → group.start ≡ new.scanner.line.start → group.end ≡ new.scanner.line.end → ending_in group.ending ≡ k.ending
+    → group.start ≡ new.scanner.line.start → group.end ≡ new.scanner.line.end
     → let h = held_line (encoding_of old.scanner.encoding) body new.scanner.line k.ending in
     group.is_open ≡ (not (is_comment_line h.text) && is_open h.text) → group.is_empty ≡ (new.scanner.line.start == new.scanner.line.end)
     → IsSpanOf (h ∷ []) group new.scanner.at
-span-one body old new group k starts ends ending opens empty =
+span-one body old new group k starts ends opens empty =
     let line = new.scanner.line in
     let bytes = bytes_of body line in
     let by = ending_bytes k.ending in
@@ -152,7 +150,6 @@ span-one body old new group k starts ends ending opens empty =
     let all : length (bytes ++ (by ++ [])) ≡ length bytes + length by = ap (λ v. length (bytes ++ v)) (append-nil by) ∙ length-append bytes by in
     record {
       unended = omega arith;
-      ending = ending;
       next = omega arith;
       opens = opens;
       empty = empty ∙ same-place line.start line.end (length bytes) ordered size ∙ no-bytes bytes;
@@ -212,9 +209,9 @@ group-begun E body old found l group told k begins sound starts ends opens =
 pub group-first : (E : Type 0) (body : List ℕ) (old found : GroupReader) (l : LogicalLine) (group : Group) (told : Bool) (k : TakesLine body old found)
     → Begins {E = E} (encoding_of found.scanner.encoding) (bytes_of body found.scanner.line) (Ok told) l
     → group.number ≡ found.scanner.passed → group.start ≡ found.scanner.line.start → group.end ≡ found.scanner.line.end
-    → ending_in group.ending ≡ k.ending → group.is_open ≡ told → group.is_empty ≡ (found.scanner.line.start == found.scanner.line.end)
+    → group.is_open ≡ told → group.is_empty ≡ (found.scanner.line.start == found.scanner.line.end)
     → ReadsGroup body old group (record found { line = l })
-group-first E body old found l group false k begins number starts ends ending opens empty =
+group-first E body old found l group false k begins number starts ends opens empty =
     let e = encoding_of old.scanner.encoding in
     let bytes = bytes_of body found.scanner.line in
     let h : HeldLine = held_line e body found.scanner.line k.ending in
@@ -234,12 +231,12 @@ group-first E body old found l group false k begins number starts ends ending op
       starts = starts ∙ k.starts;
       number = number ∙ k.passed;
       passed = k.passed;
-      span = span-one body old found group k starts ends ending (opens ∙ sym alone) empty;
+      span = span-one body old found group k starts ends (opens ∙ sym alone) empty;
       encoding = k.encoding;
       opened = λ n. absurd (cc);
       text = subst (λ v. HasText l v (joined (line ∷ []))) (sym same) (subst (HasText l bytes) (sym (joined-alone line alone)) b.1);
     }
-group-first E body old found l group true k begins number starts ends ending opens empty =
+group-first E body old found l group true k begins number starts ends opens empty =
     let e = encoding_of old.scanner.encoding in
     let bytes = bytes_of body found.scanner.line in
     let h : HeldLine = held_line e body found.scanner.line k.ending in
@@ -261,7 +258,7 @@ group-first E body old found l group true k begins number starts ends ending ope
       starts = starts ∙ k.starts;
       number = number ∙ k.passed;
       passed = k.passed;
-      span = span-one body old found group k starts ends ending (opens ∙ sym left) empty;
+      span = span-one body old found group k starts ends (opens ∙ sym left) empty;
       encoding = k.encoding;
       opened = λ n. other;
       text = unfinished-has e l _ (joined (line ∷ [])) b.unfinished (b.closed ∙ sym (joined-one line other));
@@ -277,11 +274,11 @@ from-more false g rest h first more is k =
     groups-close g h rest (rw (is, ← k) refl)
 
 -- A line is joined to a group that is open.
-pub group-more : (E : Type 0) (body : List ℕ) (before : GroupReader) (group : Group) (mid found : GroupReader) (l : LogicalLine) (stop : ℕ) (ending : Option LineEnding) (told : Bool)
+pub group-more : (E : Type 0) (body : List ℕ) (before : GroupReader) (group : Group) (mid found : GroupReader) (l : LogicalLine) (stop : ℕ) (told : Bool)
     → ReadsGroup body before group mid → group.is_open ≡ true → (k : TakesLine body mid found) → IsUnfinished (encoding_of mid.scanner.encoding) mid.line
-    → AddsLine {E = E} (encoding_of found.scanner.encoding) (bytes_of body found.scanner.line) found.line (Ok told) l → stop ≡ found.scanner.line.end → ending_in ending ≡ k.ending
-    → ReadsGroup body before (record group { end = stop; ending = ending; is_open = told; is_empty = false }) (record found { line = l })
-group-more E body before group mid found l stop ending told j opened k unfinished added stops ends =
+    → AddsLine {E = E} (encoding_of found.scanner.encoding) (bytes_of body found.scanner.line) found.line (Ok told) l → stop ≡ found.scanner.line.end
+    → ReadsGroup body before (record group { end = stop; is_open = told; is_empty = false }) (record found { line = l })
+group-more E body before group mid found l stop told j opened k unfinished added stops =
     let e = encoding_of mid.scanner.encoding in
     let bytes = bytes_of body found.scanner.line in
     let h : HeldLine = held_line e body found.scanner.line k.ending in
@@ -324,7 +321,6 @@ group-more E body before group mid found l stop ending told j opened k unfinishe
       passed = omega arith;
       span = record {
         unended = omega arith;
-        ending = ends ∙ sym (last_ending-push g h);
         next = omega arith;
         opens = opens ∙ sym (is_left_open-push j.first j.more h ∙ rw other refl);
         empty = sym (is_empty_line-push j.first j.more h);

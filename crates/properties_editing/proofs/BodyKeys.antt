@@ -13,7 +13,7 @@ use Rattle.properties_format.specs.Edited.{is_editable}
 use Rattle.properties_format.specs.Computed.Edited.{without}
 use Rattle.properties_format.proofs.Body.Groups.{held-body, held_groups_of-meets}
 use Rattle.properties_format.proofs.Edited.Steps.{without-append}
-use Rattle.properties_editing.specs.Private.BodyKeys.{spans_bytes, AreWithin, AreOthersFound, IsErrorOfGroups, IsPlace, closing_of, closing_bytes, IsKeyFound, found_after, key_told}
+use Rattle.properties_editing.specs.Private.BodyKeys.{spans_bytes, AreWithin, AreOthersFound, IsErrorOfGroups, IsPlace, closing_of, closing_bytes, IsKeyFound, places_with, key_told}
 use Rattle.properties_editing.specs.Private.BodyIndex.{is_pair}
 use Rattle.properties_editing.specs.Private.BodyValues.{IsLastPair, FindsLastPair}
 use Rattle.properties_editing.proofs.LastPairs.{last-after}
@@ -42,7 +42,7 @@ use Rattle.properties_items.specs.FoundItems.{IsNoItem}
 use Rattle.properties_editing.specs.declared.edit.groups.Group.{Group}
 use Rattle.properties_editing.specs.declared.edit.groups.GroupReader.{GroupReader}
 use Rattle.properties_editing.specs.declared.edit.find.BodySpan.{BodySpan}
-use Rattle.properties_editing.specs.declared.edit.find.KeyPlace as place
+use Rattle.properties_editing.specs.declared.edit.find.PairPlaces.{PairPlaces}
 use Rattle.properties_items.specs.declared.error.PropertiesError.{PropertiesError}
 
 -- ---- the groups that were read
@@ -124,7 +124,7 @@ read-fault error h k (inr is) = inr is
 -- ---- where the key is
 
 -- After these groups it is known where the key is.
-pub record HasLooked (e : Encoding) (body key : List ℕ) (s : GroupReader) (found : place.KeyPlace) : Type 0 where
+pub record HasLooked (e : Encoding) (body key : List ℕ) (s : GroupReader) (found : PairPlaces) : Type 0 where
   pub groups : List (List HeldLine)
   pub read : HasRead e body groups s
   pub pair : IsPlace key groups found.pair
@@ -180,9 +180,9 @@ told-pair key (given (content.pair k v)) = refl
 told-pair key (broken kind) = refl
 
 -- one more group was looked at
-pub looked-more : {e : Encoding} {body key : List ℕ} {s t : GroupReader} {found : place.KeyPlace} {group : Group} (told : Option Bool) → HasLooked e body key s found
+pub looked-more : {e : Encoding} {body key : List ℕ} {s t : GroupReader} {found : PairPlaces} {group : Group} (told : Option Bool) → HasLooked e body key s found
     → TakesGroup body s group t → IsSound (outcome_of (chars (text_of body t group))) → told ≡ key_told key (outcome_of (chars (text_of body t group)))
-    → HasLooked e body key t (found_after found group told)
+    → HasLooked e body key t (places_with found group told)
 looked-more {e} {body} {key} {s} {t} {found} {group} told h k sound is = record {
   groups = h.groups ++ k.held ∷ [];
   read = read-more h.read k sound;
@@ -217,7 +217,7 @@ unfolding held_groups_of
 some-groups e body h = some-after [] (held_lines_of e body) (λ none. some-lines e (cut_of e body).ended (cut_of e body).last) h
 
 -- all groups were looked at
-pub looked-all : {e : Encoding} {body key : List ℕ} {s : GroupReader} {found : place.KeyPlace} → HasLooked e body key s found → s.scanner.is_done ≡ true
+pub looked-all : {e : Encoding} {body key : List ℕ} {s : GroupReader} {found : PairPlaces} → HasLooked e body key s found → s.scanner.is_done ≡ true
     → IsKeyFound e body key found × FindsLastPair e body found.last
 looked-all {e} {body} {key} {s} {found} h done =
     let all = read-all h.read done in (

@@ -5,7 +5,7 @@ use Rattle.std.proofs.Math.Seq.{drop-append_seam}
 use Rattle.std.proofs.lemmas.List.{length-take-le, drop-drop, take_rest, take_more, map-append}
 use Rattle.std.proofs.lemmas.Result.{err_from_is_err_and}
 use Rattle.std.proofs.lemmas.Bool.{cases_Bool, cond-true}
-use Rattle.properties_format.specs.Text.{scalar, line_feed, equals_sign}
+use Rattle.properties_format.specs.Text.{LineEnding, lf, cr, crlf, line_ending_text, scalar, line_feed, equals_sign}
 use Rattle.properties_format.specs.Printing.{in_key_or_value, printed_key, printed_characters, encoded_text}
 use Rattle.properties_format.proofs.Printing.Characters.{encoded-ascii, encoded_text-append}
 use Rattle.properties_format.specs.Encoding.{Encoding, InForce, byte_order_mark, begins_with, begins_like_bom, utf_8_bom, utf_16be_bom, utf_16le_bom, output_encoding}
@@ -37,7 +37,7 @@ use Rattle.properties_editing.specs.Private.BodyKeys.{IsErrorOfGroups, IsPlaceOf
 use Rattle.properties_editing.specs.Private.Sources.{IsInForce}
 use Rattle.properties_editing.proofs.BodyGroups.{front-of, no-bytes}
 use Rattle.properties_editing.specs.declared.edit.find.BodySpan.{BodySpan}
-use Rattle.properties_editing.specs.declared.edit.find.KeyPlace as place
+use Rattle.properties_editing.specs.declared.edit.find.PairPlaces.{PairPlaces}
 use Rattle.properties_editing.specs.declared.edit.source.BodyStart.{BodyStart}
 use Rattle.properties_items.specs.declared.error.PropertiesError.{PropertiesError}
 
@@ -120,19 +120,27 @@ pair-appended e only first key value start all h =
 
 -- ---- whether it is the first
 
-pub is_empty-append : (x y : List ℕ) → is_empty (x ++ y) ≡ (is_empty x && is_empty y)
-is_empty-append [] y = refl
-is_empty-append (c ∷ x) y = refl
+pub not_first : (x y : List ℕ) → false ≡ is_empty y → false ≡ is_empty (x ++ y)
+not_first [] y h = h
+not_first (c ∷ x) y h = refl
 
-pub are_empty : (x y : List ℕ) (a b : Bool) → a ≡ (length x == 0) → b ≡ (length y == 0) → (a && b) ≡ is_empty (x ++ y)
-are_empty x y a b h k = ap₂ (λ v w. v && w) (h ∙ no-bytes x) (k ∙ no-bytes y) ∙ sym (is_empty-append x y)
+-- what separates a new pair has bytes, unless it is nothing
+pub one-ending : (by : LineEnding) → false ≡ is_empty (line_ending_text by)
+one-ending lf = refl
+one-ending cr = refl
+one-ending crlf = refl
 
--- a pair at the end is printed and ended
-pub appended : (e : Encoding) (only : Bool) (source separation all : List ℕ) (first other : Bool) (key value start paired ended : List ℕ) → start ≡ []
-    → paired ≡ start ++ pair_bytes e only first key value → ended ≡ paired ++ line_feed ∷ [] → all ≡ source ++ (separation ++ ended) → first ≡ other
-    → all ≡ source ++ (separation ++ (pair_bytes e only other key value ++ line_feed ∷ []))
-appended e only source separation all first other key value start paired ended none h k m is =
-    m ∙ ap (λ v. source ++ (separation ++ v)) (k ∙ ap (λ v. v ++ line_feed ∷ []) (h ∙ ap₂ (λ v b. v ++ pair_bytes e only b key value) none is))
+pub two-endings : (by : LineEnding) → false ≡ is_empty (line_ending_text by ++ line_ending_text by)
+two-endings lf = refl
+two-endings cr = refl
+two-endings crlf = refl
+
+-- a pair at the end is printed after what separates it, and ended
+pub appended : (source start separation closed pair printed ending ended all : List ℕ) → start ≡ [] → closed ≡ start ++ separation → printed ≡ closed ++ pair
+    → ended ≡ printed ++ ending → all ≡ source ++ (ended ++ []) → all ≡ source ++ (separation ++ (pair ++ ending))
+appended source start separation closed pair printed ending ended all h i j k m =
+    m ∙ ap (λ v. source ++ v) (append-nil ended ∙ k ∙ ap (λ v. v ++ ending) (j ∙ ap (λ v. v ++ pair) (i ∙ ap (λ v. v ++ separation) h))
+    ∙ append_assoc separation pair ending)
 
 -- ---- a pair is replaced
 
@@ -183,7 +191,7 @@ start-first : (body : List ℕ) (start : ℕ) → start ≤ length body → (sta
 start-first body start h = ap (λ n. n == 0) (sym (length-take-le start body h)) ∙ no-bytes (take start body)
 
 -- The source with the pair replaced is its result.
-pub replaced-result : {source : List ℕ} {e : Encoding} {opened : BodyStart} {found : place.KeyPlace} (key value bytes : List ℕ) (pair : BodySpan) → IsInForce source e opened
+pub replaced-result : {source : List ℕ} {e : Encoding} {opened : BodyStart} {found : PairPlaces} (key value bytes : List ℕ) (pair : BodySpan) → IsInForce source e opened
     → is_editable (encoding_of opened.encoding) ≡ true → IsKeyFound (encoding_of opened.encoding) (drop opened.start source) key found → found.pair ≡ Some pair
     → bytes ≡ take (opened.start + pair.start) source
     ++ (pair_bytes (output_encoding (encoding_of opened.encoding)) opened.ascii_only (pair.start == 0) key value ++ drop (opened.start + pair.end) source)
@@ -214,7 +222,7 @@ replaced-result {source} {e} {opened} {found} key value bytes pair h ok k is mad
 -- ---- a pair is appended
 
 -- The source with the pair at its end is its result.
-pub appended-result : {source : List ℕ} {e : Encoding} {opened : BodyStart} {found : place.KeyPlace} (key value bytes : List ℕ) → IsInForce source e opened
+pub appended-result : {source : List ℕ} {e : Encoding} {opened : BodyStart} {found : PairPlaces} (key value bytes : List ℕ) → IsInForce source e opened
     → is_editable (encoding_of opened.encoding) ≡ true → IsKeyFound (encoding_of opened.encoding) (drop opened.start source) key found → found.pair ≡ None
     → let separation = closing_bytes (added_ending source) found.closing in
     bytes ≡ source ++ (separation ++ (pair_bytes (output_encoding (encoding_of opened.encoding)) opened.ascii_only (is_empty (drop opened.start source ++ separation)) key value ++ line_feed ∷ []))
@@ -242,7 +250,7 @@ appended-result {source} {e} {opened} {found} key value bytes h ok k none made =
 -- ---- the law of the source
 
 -- a pair of a body is within the source
-pub span-within : {source : List ℕ} {e : Encoding} {opened : BodyStart} {found : place.KeyPlace} {key : List ℕ} (pair : BodySpan) → IsInForce source e opened
+pub span-within : {source : List ℕ} {e : Encoding} {opened : BodyStart} {found : PairPlaces} {key : List ℕ} (pair : BodySpan) → IsInForce source e opened
     → is_editable (encoding_of opened.encoding) ≡ true → IsKeyFound (encoding_of opened.encoding) (drop opened.start source) key found → found.pair ≡ Some pair
     → opened.start + pair.end ≤ length source
 span-within {source} {e} {opened} {found} {key} pair h ok k is =

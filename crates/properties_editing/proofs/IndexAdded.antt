@@ -34,7 +34,7 @@ use Rattle.properties_format.specs.Edited.{added_ending}
 use Rattle.properties_format.specs.Writing.{is_empty}
 use Rattle.properties_format.proofs.Edited.Pair.{editable-own}
 use Rattle.properties_text.specs.Encoding.{encoding_of}
-use Rattle.properties_editing.specs.Private.BodyIndex.{AddsKey, AddsValue, AppendsPair, IsKeyAdded, GrowsIndex, IsIndex, IsPairAppended, IsValueAdded, PutsPair, PutsValue, last_span, opened_closing, stored_at}
+use Rattle.properties_editing.specs.Private.BodyIndex.{AddsKey, AddsValue, AppendsPair, IsKeyAdded, GrowsIndex, IsIndex, IsPairAppended, IsValueAdded, PutsPair, PutsValue, last_span, opened_bytes, stored_at}
 use Rattle.properties_editing.specs.Private.BodyKeys.{IsKeyFound, IsPlace, closing_bytes, closing_of}
 use Rattle.properties_editing.specs.Private.BodyValues.{IsLayoutAfter, unended_pair}
 use Rattle.properties_items.specs.Texts.{characters}
@@ -64,12 +64,12 @@ separated ending false true = refl
 separated ending false false = refl
 
 opened : (ending : List ℕ) (empty opens : Bool)
-    → closing_bytes ending (opened_closing (closing_of empty opens)) ≡ (if empty then [] else (if opens then ending else []))
+    → opened_bytes ending (closing_of empty opens) ≡ (if empty then [] else (if opens then ending else []))
 opened ending true opens = refl
 opened ending false true = refl
 opened ending false false = refl
 
-opened-fits : (ending : List ℕ) (c : Closing) → length (closing_bytes ending (opened_closing c)) ≤ length (closing_bytes ending c)
+opened-fits : (ending : List ℕ) (c : Closing) → length (opened_bytes ending c) ≤ length (closing_bytes ending c)
 opened-fits ending closing.Nothing = omega arith
 opened-fits ending closing.OneEnding = omega arith
 opened-fits ending closing.TwoEndings = let size = length-append ending ending in omega arith
@@ -85,7 +85,7 @@ pub added-index : (e : Encoding) (by second : LineEnding) (body key value pb add
     → length added < 2 ^ 64
     → added ≡ body ++ (closing_bytes (line_ending_text by) old.closing ++ (pb ++ line_ending_text second))
     → (let start = length body + length (closing_bytes (line_ending_text by) old.closing) in
-    GrowsIndex key value (record { start = start; end = start + length pb }) (length body) (length (closing_bytes (line_ending_text by) (opened_closing old.closing))) old new)
+    GrowsIndex key value (record { start = start; end = start + length pb }) (length body) (length (opened_bytes (line_ending_text by) old.closing)) old new)
     → AreSound (held_groups_of e added) × IsIndex (held_groups_of e added) new
 added-index e by second body key value pb added old new ok seam plain some whole outcome sounds h fits is grows =
     let gs = held_groups_of e body in
@@ -95,8 +95,8 @@ added-index e by second body key value pb added old new ok seam plain some whole
     let told : old.closing ≡ closing_of (is_empty_line k.final) (is_left_open k.final) =
     elim h.closing [ inl none ↦ absurd (some-groups e body none) | inr stored ↦ stored ∙ ap (λ v. closing_of (is_empty_line v) (is_left_open v)) final ] in
     let sep : closing_bytes ending old.closing ≡ separation_by ending k.final = ap (closing_bytes ending) told ∙ separated ending (is_empty_line k.final) (is_left_open k.final) in
-    let extra : closing_bytes ending (opened_closing old.closing) ≡ opened_by ending k.final =
-    ap (λ c. closing_bytes ending (opened_closing c)) told ∙ opened ending (is_empty_line k.final) (is_left_open k.final) in
+    let extra : opened_bytes ending old.closing ≡ opened_by ending k.final =
+    ap (opened_bytes ending) told ∙ opened ending (is_empty_line k.final) (is_left_open k.final) in
     let all : groups_bytes gs ≡ body = held-body e body gs ok (held_groups_of-meets e body) in
     let bytes : added ≡ (groups_bytes gs ++ separation_by ending k.final) ++ (pb ++ line_ending_text second) =
     is ∙ sym (append_assoc body (closing_bytes ending old.closing) (pb ++ line_ending_text second)) ∙ ap₂ (λ v w. (v ++ w) ++ (pb ++ line_ending_text second)) (sym all) sep in
@@ -109,14 +109,14 @@ added-index e by second body key value pb added old new ok seam plain some whole
     let more_size = opened-fits ending old.closing in
     let added_size = ap length is ∙ length-append body (closing_bytes ending old.closing ++ (pb ++ line_ending_text second))
     ∙ ap (λ n. length body + n) (length-append (closing_bytes ending old.closing) (pb ++ line_ending_text second)) in
-    let place_fits : length (groups_bytes gs) + length (closing_bytes ending (opened_closing old.closing)) < 2 ^ 64 = omega arith in
+    let place_fits : length (groups_bytes gs) + length (opened_bytes ending old.closing) < 2 ^ 64 = omega arith in
     let grows_at = subst (λ n. GrowsIndex key value (record { start = length body + length (closing_bytes ending old.closing); end = length body + length (closing_bytes ending old.closing) + length pb }) n
-    (length (closing_bytes ending (opened_closing old.closing))) old new) (sym body_size) grows in
+    (length (opened_bytes ending old.closing)) old new) (sym body_size) grows in
     let groups : appended_groups e by second gs key value pb ok k plain some whole outcome ≡ held_groups_of e added =
     appended-held e by second gs key value pb ok k plain some whole outcome added bytes in (
       subst AreSound groups (appended-sound e by second gs key value pb ok k plain some whole outcome sounds),
       subst (λ v. IsIndex v new) groups
-          (appended-index e by second gs key value pb ok k plain some whole outcome (length body + length (closing_bytes ending old.closing)) (length (closing_bytes ending (opened_closing old.closing)))
+          (appended-index e by second gs key value pb ok k plain some whole outcome (length body + length (closing_bytes ending old.closing)) (length (opened_bytes ending old.closing))
           old new h (ap length extra) start behind place_fits grows_at),
     )
 
@@ -129,7 +129,7 @@ pub value-added : (e : Encoding) (only : Bool) (by : LineEnding) (body key value
     → (let pb = added_bytes e only first key (separator_by key (last_between (held_groups_of e body))) value in
     let start = length body + length (closing_bytes (line_ending_text by) old.closing) in
     (added ≡ body ++ (closing_bytes (line_ending_text by) old.closing ++ (pb ++ line_ending_text by)))
-    × GrowsIndex key value (record { start = start; end = start + length pb }) (length body) (length (closing_bytes (line_ending_text by) (opened_closing old.closing))) old new)
+    × GrowsIndex key value (record { start = start; end = start + length pb }) (length body) (length (opened_bytes (line_ending_text by) old.closing)) old new)
     → AreSound (held_groups_of e added) × IsIndex (held_groups_of e added) new
 value-added e only by body key value added first old new ok k v sounds h is fits made =
     let gs = held_groups_of e body in
@@ -145,7 +145,7 @@ pub put-added : (e : Encoding) (only : Bool) (by : LineEnding) (body key value a
     → (let pb = pair_bytes e only first key value in
     let start = length body + length (closing_bytes (line_ending_text by) old.closing) in
     (added ≡ body ++ (closing_bytes (line_ending_text by) old.closing ++ (pb ++ line_ending_text lf)))
-    × GrowsIndex key value (record { start = start; end = start + length pb }) (length body) (length (closing_bytes (line_ending_text by) (opened_closing old.closing))) old new)
+    × GrowsIndex key value (record { start = start; end = start + length pb }) (length body) (length (opened_bytes (line_ending_text by) old.closing)) old new)
     → AreSound (held_groups_of e added) × IsIndex (held_groups_of e added) new
 put-added e only by body key value added first old new ok k v sounds h is fits made =
     let gs = held_groups_of e body in

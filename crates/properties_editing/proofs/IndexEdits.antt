@@ -30,7 +30,7 @@ use Rattle.properties_editing.specs.Private.BodyValues.{IsPairAlone, revalued_in
 use Rattle.properties_editing.specs.Private.Sources.{IsInForce}
 use Rattle.properties_editing.specs.declared.edit.index.Index.{Index}
 use Rattle.properties_editing.specs.declared.edit.find.BodySpan.{BodySpan}
-use Rattle.properties_editing.specs.declared.edit.find.KeyPlace as place
+use Rattle.properties_editing.specs.declared.edit.find.PairPlaces.{PairPlaces}
 use Rattle.properties_editing.specs.declared.edit.source.BodyStart.{BodyStart}
 use Rattle.properties_editing.proofs.Editing.{bom-front, place-split, replaced-result, result-made, set-edits}
 use Rattle.properties_editing.proofs.SetValues.{alone-value, value-edits, revalued-result, found-alone}
@@ -47,7 +47,7 @@ closes source false true = refl
 closes source false false = refl
 
 -- what is known of a key in a place that is known
-abbrev pub found_at : List (List HeldLine) → BodySpan → place.KeyPlace
+abbrev pub found_at : List (List HeldLine) → BodySpan → PairPlaces
 found_at gs pair = record { pair = Some pair; last = None; closing = closing_of (is_empty_line (final_group gs)) (is_left_open (final_group gs)) }
 
 pub found-at : (e : Encoding) (body key : List ℕ) (pair : BodySpan) → AreSound (held_groups_of e body) → IsPlaceOf key (held_groups_of e body) pair

@@ -2,7 +2,6 @@
 use Rattle.std.proofs.Common.{◌≡◌, ◌<◌, ◌≤◌, ℕ, ◌+◌, ◌-◌, Bool, true, false, List, [], ◌∷◌, ◌++◌, length, take, drop, get_or, refl, inl, inr, ap, ap₂, sym, ◌∙◌, subst, arith, append_assoc, length-append}
 use Rattle.std.specs.Prelude.{Option, Some, None, if◌then◌else◌, unwrap_or}
 use Rattle.std.specs.Option.{option_map}
-use Rattle.std.proofs.lemmas.Bool.{cases_Bool, cond-true, cond-false}
 use Rattle.std.proofs.lemmas.List.{drop_more, take-append-drop}
 use borrow.Author.Tests.{eqb-true}
 use Rattle.properties_format.specs.Text as text
@@ -21,11 +20,10 @@ use Rattle.properties_format.proofs.Body.Decoded.{IsCut-lines}
 use Rattle.properties_format.proofs.Body.Groups.{held_of-only}
 use Rattle.properties_format.proofs.Valued.Lined.{last_by, last_by-append}
 use Rattle.properties_format.proofs.Valued.Added.{ending-held}
-use Rattle.properties_editing.specs.Private.BodyLines.{ending_in}
 use Rattle.properties_items.specs.LineEndings.{ending_of}
-use Rattle.properties_editing.specs.Private.BodyValues.{IsEndingWithin, IsLastEnding, IsLastPairOf, IsGroupAlone, IsLastPair}
+use Rattle.properties_editing.specs.Private.BodyValues.{IsLastEnding, IsLastPairOf, IsGroupAlone, IsLastPair}
 use Rattle.properties_items.specs.declared.line.LineEnding.{LineEnding}
-use Rattle.properties_items.specs.declared.line.LineEnding.TheVariants.{CR, LF}
+use Rattle.properties_items.specs.declared.line.LineEnding.TheVariants.{CR, LF, CRLF}
 use Rattle.std.proofs.Math.Seq.{take-append_seam, drop-append_seam}
 use Rattle.properties_format.specs.Settings.{IsGoodSeparator}
 use Rattle.properties_format.specs.Body.{ending_bytes, last_ending, AreGroupsOf}
@@ -139,9 +137,9 @@ ending-lines e body gs by ok h =
     ∙ ending-held e by h.cut.ended h.cut.last
     ∙ ap (λ v. let w : Lines = v in unwrap_or (last_by w.ended) by) (lines_of-only body h.cut (IsCut-lines e body h.cut ok h.is_cut))
 
--- so a body has the last line ending that its lines have
-within-lines : (body : List ℕ) (o : Option LineEnding) → last_by (lines_of body).ended ≡ ending_in o → IsEndingWithin body o
-within-lines body o s e gs ok are by = ending-lines e body gs by ok are ∙ ap (λ v. unwrap_or v by) s
+-- so a body has the last line ending that its lines have, or an LF
+last-lines : (body : List ℕ) (by : LineEnding) → unwrap_or (last_by (lines_of body).ended) text.lf ≡ ending_of by → IsLastEnding body by
+last-lines body by s e gs ok are = sym (ending-lines e body gs text.lf ok are ∙ s)
 
 -- a cut before a line ending separates no CR from an LF
 parts-none : (front : List ℕ) (by : text.LineEnding) (rest : List ℕ) → (by ≡ text.lf → ends_in_cr front ≡ false) → PartsNoEnd front (line_ending_text by ++ rest)
@@ -149,50 +147,43 @@ parts-none front text.lf rest h q = let m = h refl in absurd (cc)
 parts-none front text.cr rest h q = refl
 parts-none front text.crlf rest h q = refl
 
--- a line ending that no other follows
-last-by : (body front : List ℕ) (by : text.LineEnding) (rest : List ℕ) → body ≡ front ++ (line_ending_text by ++ rest) → HoldsNoLineEnd rest
-    → (by ≡ text.lf → ends_in_cr front ≡ false) → last_by (lines_of body).ended ≡ Some by
+-- A line ending that no other follows is the last one.
+last-by : (body front : List ℕ) (by : LineEnding) (rest : List ℕ) → body ≡ front ++ (line_ending_text (ending_of by) ++ rest) → HoldsNoLineEnd rest
+    → (ending_of by ≡ text.lf → ends_in_cr front ≡ false) → IsLastEnding body by
 last-by body front by rest s plain alone =
-    let l : Ended = record { text = (lines_of front).last; by = by } in
+    let end = ending_of by in
+    let l : Ended = record { text = (lines_of front).last; by = end } in
     let lines : (lines_of body).ended ≡ (lines_of front).ended ++ l ∷ [] =
     ap (λ v. (lines_of v).ended) s
-    ∙ ap (λ v. let w : Lines = v in w.ended) (lines_of-append front (line_ending_text by ++ rest) (parts-none front by rest alone))
-    ∙ ap (λ v. let w : Lines = v in (lines_of front).ended ++ w.ended) (lines_of-line (lines_of front).last by rest (last-plain front) (λ q. plain-no_lf rest plain))
+    ∙ ap (λ v. let w : Lines = v in w.ended) (lines_of-append front (line_ending_text end ++ rest) (parts-none front end rest alone))
+    ∙ ap (λ v. let w : Lines = v in (lines_of front).ended ++ w.ended) (lines_of-line (lines_of front).last end rest (last-plain front) (λ q. plain-no_lf rest plain))
     ∙ ap (λ v. let w : Lines = v in (lines_of front).ended ++ l ∷ w.ended) (lines_of-plain rest plain) in
-    ap last_by lines ∙ last_by-append (lines_of front).ended (l ∷ []) (λ q. absurd (cc))
+    last-lines body by (ap (λ v. unwrap_or v text.lf) (ap last_by lines ∙ last_by-append (lines_of front).ended (l ∷ []) (λ q. absurd (cc))))
 
--- An LF after which no line ending comes.
-pub within-feed : (body : List ℕ) (at : ℕ) (by : LineEnding) → 0 < at → at ≤ length body → get_or body (at - 1) 0 ≡ line_feed → HoldsNoLineEnd (drop at body)
-    → ending_of by ≡ (if ends_in_cr (take (at - 1) body) then text.crlf else text.lf) → IsEndingWithin body (Some by)
-within-feed body at by some within is plain h =
-    let front = take (at - 1) body in
-    let whole = at-byte body at line_feed some within is in
-    within-lines body (Some by)
-    (elim (cases_Bool (ends_in_cr front)) [
-      | inl k ↦
-          let m = cr-last front k in
-          let both : body ≡ m.0 ++ (line_ending_text text.crlf ++ drop at body) =
-          whole ∙ ap (λ v. v ++ line_feed ∷ drop at body) m.1 ∙ append_assoc m.0 (carriage_return ∷ []) (line_feed ∷ drop at body) in
-          last-by body m.0 text.crlf (drop at body) both plain (λ q. absurd (cc)) ∙ ap Some (sym (h ∙ cond-true (ends_in_cr front) text.crlf text.lf k))
-      | inr k ↦
-          last-by body front text.lf (drop at body) whole plain (λ q. k) ∙ ap Some (sym (h ∙ cond-false (ends_in_cr front) text.crlf text.lf k))
-    ])
+-- An LF after a CR.
+pub last-both : (body : List ℕ) (at : ℕ) → 0 < at → at ≤ length body → get_or body (at - 1) 0 ≡ line_feed → HoldsNoLineEnd (drop at body)
+    → ends_in_cr (take (at - 1) body) ≡ true → IsLastEnding body CRLF
+last-both body at some within is plain h =
+    let m = cr-last (take (at - 1) body) h in
+    last-by body m.0 CRLF (drop at body)
+    (at-byte body at line_feed some within is ∙ ap (λ v. v ++ line_feed ∷ drop at body) m.1 ∙ append_assoc m.0 (carriage_return ∷ []) (line_feed ∷ drop at body))
+    plain (λ q. absurd (cc))
 
--- A CR after which none comes.
-pub within-return : (body : List ℕ) (at : ℕ) → 0 < at → at ≤ length body → get_or body (at - 1) 0 ≡ carriage_return → HoldsNoLineEnd (drop at body)
-    → IsEndingWithin body (Some CR)
-within-return body at some within is plain =
-    within-lines body (Some CR) (last-by body (take (at - 1) body) text.cr (drop at body) (at-byte body at carriage_return some within is) plain (λ q. absurd (cc)))
+-- An LF alone.
+pub last-feed : (body : List ℕ) (at : ℕ) → 0 < at → at ≤ length body → get_or body (at - 1) 0 ≡ line_feed → HoldsNoLineEnd (drop at body)
+    → ends_in_cr (take (at - 1) body) ≡ false → IsLastEnding body LF
+last-feed body at some within is plain h = last-by body (take (at - 1) body) LF (drop at body) (at-byte body at line_feed some within is) plain (λ q. h)
+
+-- A CR.
+pub last-return : (body : List ℕ) (at : ℕ) → 0 < at → at ≤ length body → get_or body (at - 1) 0 ≡ carriage_return → HoldsNoLineEnd (drop at body)
+    → IsLastEnding body CR
+last-return body at some within is plain =
+    last-by body (take (at - 1) body) CR (drop at body) (at-byte body at carriage_return some within is) plain (λ q. absurd (cc))
 
 -- No line ending at all.
-pub within-none : (body : List ℕ) (at : ℕ) → at ≡ 0 → HoldsNoLineEnd (drop at body) → IsEndingWithin body None
-within-none body at none plain =
-    within-lines body None (ap (λ v. let w : Lines = v in last_by w.ended) (lines_of-plain body (subst (λ n. HoldsNoLineEnd (drop n body)) none plain)))
-
--- The last line ending, or an LF.
-pub within-last : (body : List ℕ) (o : Option LineEnding) → IsEndingWithin body o → IsLastEnding body (unwrap_or o LF)
-within-last body None w e gs ok are = sym (w e gs ok are text.lf)
-within-last body (Some by) w e gs ok are = sym (w e gs ok are text.lf)
+pub last-none : (body : List ℕ) (at : ℕ) → at ≡ 0 → HoldsNoLineEnd (drop at body) → IsLastEnding body LF
+last-none body at none plain =
+    last-lines body LF (ap (λ v. let w : Lines = v in unwrap_or (last_by w.ended) text.lf) (lines_of-plain body (subst (λ n. HoldsNoLineEnd (drop n body)) none plain)))
 
 -- ---- the bytes of a pair
 

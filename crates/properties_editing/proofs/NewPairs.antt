@@ -87,24 +87,6 @@ new_pair-unended e only start keyed separated valued separator separator_bytes k
     ∙ append_assoc start (encoded_text e key) (encoded_text e separator ++ encoded_text e back)
     ∙ ap (λ v. start ++ v) (sym parts)
 
--- They are followed by a line ending.
-pub new_pair-ended : (e : Encoding) (only : Bool) (start printed all separator key value ending_bytes : List ℕ) (first : Bool) (by : LineEnding)
-    → printed ≡ start ++ encoded_text e (printed_key e only first key ++ (separator ++ printed_value e only (is_blanks separator) value))
-    → all ≡ printed ++ ending_bytes → ending_bytes ≡ line_ending_text by
-    → all ≡ start ++ (encoded_text e (printed_key e only first key ++ (separator ++ printed_value e only (is_blanks separator) value)) ++ line_ending_text by)
-new_pair-ended e only start printed all separator key value ending_bytes first by h m n =
-    m ∙ ap₂ (λ v w. v ++ w) h n
-    ∙ append_assoc start (encoded_text e (printed_key e only first key ++ (separator ++ printed_value e only (is_blanks separator) value))) (line_ending_text by)
-
--- A new pair after a source, and what separates it from the source.
-pub new_pair-appended : (e : Encoding) (only : Bool) (source rest separation raw_separation empty closing_bytes printed all key separator value ending : List ℕ) (first : Bool)
-    → all ≡ source ++ (printed ++ []) → printed ≡ closing_bytes ++ (encoded_text e (printed_key e only first key ++ (separator ++ printed_value e only (is_blanks separator) value)) ++ ending)
-    → closing_bytes ≡ empty ++ raw_separation → empty ≡ [] → raw_separation ≡ separation → first ≡ is_empty (rest ++ separation)
-    → all ≡ source ++ (separation ++ new_pair_bytes e only (rest ++ separation) key separator value ending)
-new_pair-appended e only source rest separation raw_separation empty closing_bytes printed all key separator value ending first h i j k l m =
-    let pair : Bool → List ℕ = λ b. encoded_text e (printed_key e only b key ++ (separator ++ printed_value e only (is_blanks separator) value)) ++ ending in
-    h ∙ ap (λ v. source ++ v) (append-nil printed ∙ i ∙ ap₂ (λ v b. v ++ pair b) (j ∙ ap₂ (λ v w. v ++ w) k l) m)
-
 -- ---- the separator of a new pair
 
 -- an equals sign, as text

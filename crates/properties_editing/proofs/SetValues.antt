@@ -35,7 +35,7 @@ use Rattle.properties_editing.specs.declared.edit.append.Layout.{Layout}
 use Rattle.properties_editing.specs.declared.edit.find.BodySpan.{BodySpan}
 use Rattle.properties_editing.specs.declared.edit.find.Closing.{Closing}
 use Rattle.properties_editing.specs.declared.edit.find.Closing.TheVariants as closing
-use Rattle.properties_editing.specs.declared.edit.find.KeyPlace as place
+use Rattle.properties_editing.specs.declared.edit.find.PairPlaces.{PairPlaces}
 use Rattle.properties_editing.specs.declared.edit.source.BodyStart.{BodyStart}
 use Rattle.properties_editing.proofs.Editing.{bom-front, result-made}
 use Rattle.properties_editing.proofs.LastPairs.{IsPartAt, part-at, part-group}
@@ -100,7 +100,7 @@ alone-value source key value opened pair ok at group alone =
     ap (has_value value) same ∙ unended-value value p.group
 
 -- The source with the value of the pair is its result.
-pub revalued-result : {source : List ℕ} {e : Encoding} {opened : BodyStart} {found : place.KeyPlace} (key value bytes : List ℕ) (pair : BodySpan) → IsInForce source e opened
+pub revalued-result : {source : List ℕ} {e : Encoding} {opened : BodyStart} {found : PairPlaces} (key value bytes : List ℕ) (pair : BodySpan) → IsInForce source e opened
     → is_editable (encoding_of opened.encoding) ≡ true → IsKeyFound (encoding_of opened.encoding) (drop opened.start source) key found → found.pair ≡ Some pair
     → ((group : List HeldLine)
     × (held_groups_of (encoding_of opened.encoding) (take ((opened.start + pair.end) - (opened.start + pair.start)) (drop (opened.start + pair.start) source)) ≡ group ∷ [])
@@ -155,7 +155,7 @@ revalued-result {source} {e} {opened} {found} key value bytes pair h ok k is (gr
     ap (result_of e source) is_made ∙ result-made bytes h ok k.sound
 
 -- The source with a new pair at its end is its result.
-pub new_pair-result : {source : List ℕ} {e : Encoding} {opened : BodyStart} {found : place.KeyPlace} (key value bytes : List ℕ) (layout : Layout) → IsInForce source e opened
+pub new_pair-result : {source : List ℕ} {e : Encoding} {opened : BodyStart} {found : PairPlaces} (key value bytes : List ℕ) (layout : Layout) → IsInForce source e opened
     → is_editable (encoding_of opened.encoding) ≡ true → IsKeyFound (encoding_of opened.encoding) (drop opened.start source) key found → found.pair ≡ None
     → IsLayoutAfter (encoding_of opened.encoding) (drop opened.start source) found.closing key layout
     → let ending = line_ending_text (ending_of layout.ending) in
@@ -204,7 +204,7 @@ value-edits {e} {only} {source} {key} {value} {bytes} k v is =
     }
 
 -- The pair that was found in a source is a pair by itself.
-pub found-alone : (source key : List ℕ) (opened : BodyStart) {found : place.KeyPlace} (pair : BodySpan) → is_editable (encoding_of opened.encoding) ≡ true
+pub found-alone : (source key : List ℕ) (opened : BodyStart) {found : PairPlaces} (pair : BodySpan) → is_editable (encoding_of opened.encoding) ≡ true
     → IsKeyFound (encoding_of opened.encoding) (drop opened.start source) key found → found.pair ≡ Some pair
     → IsPairAlone (encoding_of opened.encoding) (take (pair.end - pair.start) (drop (opened.start + pair.start) source))
 found-alone source key opened {found} pair ok k is =

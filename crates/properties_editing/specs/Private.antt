@@ -1,4 +1,3 @@
-pub mod BodyLines
 pub mod BodyGroups
 pub mod BodyKeys
 pub mod BodyValues

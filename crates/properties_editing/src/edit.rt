@@ -12,6 +12,7 @@ ghost use Rattle.properties_editing.specs.Editing.{EditsAll, EditsAllAscii, Make
 
 mod append;
 mod document;
+mod endings;
 mod find;
 mod groups;
 mod index;

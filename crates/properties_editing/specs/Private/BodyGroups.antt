@@ -5,7 +5,7 @@ use Rattle.std.specs.Str.{chars, IsUtf8}
 use Rattle.properties_format.specs.Text as text
 use Rattle.properties_format.specs.Encoding.{Encoding}
 use Rattle.properties_format.specs.Groups.{is_comment_line, joined}
-use Rattle.properties_format.specs.Body.{HeldLine, as_lines, ending_bytes, group_bytes, last_ending}
+use Rattle.properties_format.specs.Body.{HeldLine, as_lines, ending_bytes, group_bytes}
 use Rattle.properties_format.specs.Edited.{is_empty_line, is_left_open}
 use Rattle.properties_format.specs.Computed.Body.{held_groups_after, held_groups_of}
 use Rattle.properties_format.specs.Computed.Parts.{unended_bytes}
@@ -15,7 +15,6 @@ use Rattle.properties_lines.specs.Scanner.{HasRightFlags, bytes_of}
 use Rattle.properties_lines.specs.Private.HeldLines.{IsInBody, held_line, lines_left}
 use Rattle.properties_text.specs.Spelt.{IsWell}
 use Rattle.properties_lines.specs.LogicalLine.{bytes_with, HasText, IsSound, IsUnfinished}
-use Rattle.properties_editing.specs.Private.BodyLines.{ending_in}
 use Rattle.properties_editing.specs.declared.edit.groups.Group.{Group}
 use Rattle.properties_editing.specs.declared.edit.groups.GroupReader.{GroupReader}
 
@@ -57,7 +56,6 @@ FindsLine body old (Err e) new = Unit {0}
 -- The lines are in this span, and the next group starts after them.
 pub record IsSpanOf (held : List HeldLine) (group : Group) (after : ℕ) : Type 0 where
   pub unended : group.end ≡ group.start + length (unended_bytes held)
-  pub ending : ending_in group.ending ≡ last_ending held
   pub next : after ≡ group.start + length (group_bytes held)
   pub opens : group.is_open ≡ is_left_open held
   pub empty : group.is_empty ≡ is_empty_line held

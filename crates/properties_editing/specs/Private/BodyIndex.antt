@@ -217,17 +217,17 @@ pub record FollowsPair (key value : List ℕ) (old_end new_end : ℕ) (is_last :
   pub ordered : IsOrdered string_cmp new.pairs
 
 -- what a line ending adds to a group that is left open, by what separates a new pair from it
-abbrev pub opened_closing : Closing → Closing
-opened_closing closing.Nothing = closing.Nothing
-opened_closing closing.OneEnding = closing.Nothing
-opened_closing closing.TwoEndings = closing.OneEnding
+abbrev pub opened_bytes : List ℕ → Closing → List ℕ
+opened_bytes ending closing.Nothing = []
+opened_bytes ending closing.OneEnding = []
+opened_bytes ending closing.TwoEndings = ending
 
 -- A pair was appended to a source, as this line, and stored.
 pub record IsPairAppended (opened : BodyStart) (key value by line ending old : List ℕ) (was : Index) (new : List ℕ) (is : Index) : Type 0 where
   pub bytes : new ≡ old ++ (closing_bytes by was.closing ++ (line ++ ending))
   pub index : let place = length old - opened.start in
       let start = place + length (closing_bytes by was.closing) in
-      GrowsIndex key value (record { start = start; end = start + length line }) place (length (closing_bytes by (opened_closing was.closing))) was is
+      GrowsIndex key value (record { start = start; end = start + length line }) place (length (opened_bytes by was.closing)) was is
 
 -- So it is; or memory ran out, and nothing changed that is looked at, if the key is new.
 abbrev pub AppendsPair : {E : Type 0} → BodyStart → List ℕ → List ℕ → List ℕ → List ℕ → List ℕ → List ℕ → Index → Result Unit E → List ℕ → Index → Type 0

@@ -20,7 +20,7 @@ use Rattle.properties_editing.specs.Private.BodyValues.{FindsLastPair}
 use Rattle.properties_editing.specs.declared.edit.groups.Group.{Group}
 use Rattle.properties_editing.specs.declared.edit.find.Closing.{Closing}
 use Rattle.properties_editing.specs.declared.edit.find.Closing.TheVariants as closing
-use Rattle.properties_editing.specs.declared.edit.find.KeyPlace as place
+use Rattle.properties_editing.specs.declared.edit.find.PairPlaces.{PairPlaces}
 use Rattle.properties_editing.specs.declared.edit.find.BodySpan.{BodySpan}
 use Rattle.properties_items.specs.declared.error.ErrorKind.TheVariants as kind
 use Rattle.properties_items.specs.declared.error.PropertiesError.{PropertiesError}
@@ -74,9 +74,9 @@ closing_bytes ending closing.Nothing = []
 closing_bytes ending closing.OneEnding = ending
 closing_bytes ending closing.TwoEndings = ending ++ ending
 
--- what is known of the key after one more group, which says whether it has the key, if it is a pair
-abbrev pub found_after : place.KeyPlace → Group → Option Bool → place.KeyPlace
-found_after found group told =
+-- the places after one more group, which says whether it has the key, if it is a pair
+abbrev pub places_with : PairPlaces → Group → Option Bool → PairPlaces
+places_with found group told =
     let span : BodySpan = record { start = group.start; end = group.end } in
     record {
       pair = if unwrap_or told false then Some span else found.pair;
@@ -85,13 +85,13 @@ found_after found group told =
     }
 
 -- A body without malformed escapes was read, and the place of the key was found.
-pub record IsKeyFound (e : Encoding) (body key : List ℕ) (found : place.KeyPlace) : Type 0 where
+pub record IsKeyFound (e : Encoding) (body key : List ℕ) (found : PairPlaces) : Type 0 where
   pub sound : AreSound (held_groups_of e body)
   pub pair : IsPlace key (held_groups_of e body) found.pair
   pub closing : (source : List ℕ) → separation source (final_group (held_groups_of e body)) ≡ closing_bytes (added_ending source) found.closing
 
 -- the result of searching for a key, and for the last pair
-abbrev pub FindsKey : Encoding → List ℕ → List ℕ → Result place.KeyPlace PropertiesError → Type 0
+abbrev pub FindsKey : Encoding → List ℕ → List ℕ → Result PairPlaces PropertiesError → Type 0
 FindsKey e body key (Ok found) = IsKeyFound e body key found × FindsLastPair e body found.last
 FindsKey e body key (Err error) = IsErrorOfGroups (held_groups_of e body) error
 

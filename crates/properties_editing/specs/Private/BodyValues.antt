@@ -1,6 +1,6 @@
 -- How the value of a key is set in a body that is held in memory: where the value of a pair begins, and how a new pair is
 -- laid out.
-use Rattle.std.specs.Prelude.{◌≡◌, ℕ, ◌+◌, ◌-◌, ◌≤◌, Bool, true, false, if◌then◌else◌, List, [], ◌∷◌, ◌++◌, length, take, drop, Option, Some, None, unwrap_or}
+use Rattle.std.specs.Prelude.{◌≡◌, ℕ, ◌+◌, ◌-◌, ◌≤◌, Bool, true, false, if◌then◌else◌, List, [], ◌∷◌, ◌++◌, length, take, drop, Option, Some, None}
 use Rattle.std.specs.Str.{chars, encode_utf8_all}
 use Rattle.properties_format.specs.Text as text
 use Rattle.properties_format.specs.Encoding.{Encoding}
@@ -23,7 +23,6 @@ use Rattle.properties_text.specs.Parsing.{bytes_in, IsSpan}
 use Rattle.properties_text.specs.declared.parse.Span.{Span}
 use Rattle.properties_items.specs.Texts.{characters}
 use Rattle.properties_items.specs.LineEndings.{ending_of}
-use Rattle.properties_editing.specs.Private.BodyLines.{ending_in}
 use Rattle.properties_items.specs.declared.line.LineEnding.{LineEnding}
 use Rattle.properties_editing.specs.declared.edit.append.Layout.{Layout}
 use Rattle.properties_editing.specs.declared.edit.find.BodySpan.{BodySpan}
@@ -126,12 +125,6 @@ abbrev pub IsLastEnding : List ℕ → LineEnding → Type 0
 IsLastEnding body by =
     (e : Encoding) (groups : List (List HeldLine)) → is_editable e ≡ true → AreGroupsOf e body groups
     → ending_of by ≡ ending_among text.lf (held_in groups)
-
--- This is the last line ending of a body, if it has one.
-abbrev pub IsEndingWithin : List ℕ → Option LineEnding → Type 0
-IsEndingWithin body o =
-    (e : Encoding) (groups : List (List HeldLine)) → is_editable e ≡ true → AreGroupsOf e body groups
-    → (by : text.LineEnding) → ending_among by (held_in groups) ≡ unwrap_or (ending_in o) by
 
 -- the bytes of a new pair without its line ending, in ASCII alone or not, which is the first of the body or not
 abbrev pub unended_pair : Encoding → Bool → Bool → List ℕ → List ℕ → List ℕ → List ℕ

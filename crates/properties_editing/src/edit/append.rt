@@ -3,8 +3,6 @@
 ghost use Rattle.std.specs.Prelude.{◌≡◌, ◌++◌, ◌≤◌, ◌&&◌, [], ◌∷◌, drop, length, if◌then◌else◌, IfOk, OnOk, false, true};
 ghost use Rattle.std.specs.Option.{option_map};
 ghost use Rattle.std.specs.Str.{chars};
-ghost use Rattle.properties_format.specs.Text as text;
-ghost use Rattle.properties_format.specs.Computed.Lines.{ends_in_cr};
 ghost use Rattle.properties_format.specs.Text.{is_blank, is_blanks, line_ending_text};
 ghost use Rattle.properties_format.specs.Encoding.{output_encoding};
 ghost use Rattle.properties_format.specs.Writing.{is_empty};
@@ -18,15 +16,16 @@ ghost use Rattle.properties_lines.specs.LineSearch.{unit_size};
 ghost use Rattle.properties_items.specs.Texts.{characters};
 ghost use Rattle.properties_items.specs.LineEndings.{ending_of};
 ghost use Rattle.properties_editing.specs.Private.BodyKeys.{closing_bytes};
-ghost use Rattle.properties_editing.specs.Private.BodyValues.{FindsLastPair, IsEndingWithin, IsLastEnding, IsGroupAlone, IsLayoutAfter, unended_pair};
+ghost use Rattle.properties_editing.specs.Private.BodyValues.{FindsLastPair, IsGroupAlone, IsLayoutAfter, unended_pair};
 
-use crate::edit::find::{BodySpan, Closing, closing_bytes, ends_in_cr};
+use crate::edit::endings::{last_ending, push_closing, push_ending};
+use crate::edit::find::{BodySpan, Closing};
 use crate::edit::groups::first_group;
 use crate::edit::layout::between;
-use crate::edit::replace::{are_empty, concatenated, part, repertoire_of};
+use crate::edit::replace::{concatenated, is_first, part, repertoire_of};
 use crate::edit::source::BodyStart;
 use crate::edit::value::are_blanks;
-use properties_items::line::{LineEnding, ending_text};
+use properties_items::line::LineEnding;
 use properties_text::characters::is_blank;
 use properties_text::encoding::Encoding;
 use properties_text::print::{LineBuffer, print_key, print_value};
@@ -153,39 +152,6 @@ fn push_shortened(short: &mut String, was_blank: bool, character: char) -> Resul
     Ok(())
 }
 
-/// Returns the last line ending of a body, or an LF if it has none.
-pub fn last_ending(body: &[u8]) -> LineEnding
-    ensures { IsLastEnding body.now result }
-{
-    ending_within(body).unwrap_or(LineEnding::LF)
-}
-
-/// Returns the last line ending of a body, if it has one.
-pub fn ending_within(body: &[u8]) -> Option<LineEnding>
-    ensures { IsEndingWithin body.now result }
-{
-    let mut end = body.len();
-    while end > 0 {
-        match body[end - 1] {
-            b'\n' => return Some(ending_by_lf(&body[..end - 1])),
-            b'\r' => return Some(LineEnding::CR),
-            _ => end -= 1,
-        }
-    }
-    None
-}
-
-// Returns the line ending that an LF after these bytes completes.
-fn ending_by_lf(front: &[u8]) -> LineEnding
-    ensures { ending_of result ≡ (if ends_in_cr front.now then text.crlf else text.lf) }
-{
-    if ends_in_cr(front) {
-        LineEnding::CRLF
-    } else {
-        LineEnding::LF
-    }
-}
-
 /// Returns the source with a new pair at its end.
 pub fn with_new_pair(
     alloc: Global,
@@ -205,37 +171,17 @@ pub fn with_new_pair(
         IfOk result (λ bytes. bytes.items ≡ source.now ++ (separation ++ pair)) }
 {
     let mut line = LineBuffer::new(alloc);
-    let separation = closing_bytes(layout.closing, layout.ending);
-    line.extend(separation.as_bytes())?;
-    let first = are_empty(&source[opened.start..], separation.as_bytes());
+    push_closing(&mut line, layout.closing, layout.ending)?;
+    let first = is_first(&source[opened.start..], layout.closing);
     let separator = layout.separator.as_str();
     print_new_pair(&mut line, opened, first, separator, key, value)?;
-    line.extend(ending_text(layout.ending).as_bytes())?;
+    push_ending(&mut line, layout.ending)?;
     concatenated(alloc, source, line.as_slice(), b"")
 }
 
-/// Returns a new pair as it is printed, without a line ending. A pair that is `first` in a body is printed so that it
-/// isn't taken for a byte order mark.
-pub fn printed_new_pair(
-    alloc: Global,
-    opened: BodyStart,
-    first: bool,
-    separator: &str,
-    key: &str,
-    value: &str,
-) -> Result<Vec<u8>, AllocError>
-    requires { is_good_separator (chars separator.now) ≡ true }
-    ensures { let e = output_encoding (encoding_of opened.encoding) in
-        IfOk result (λ bytes. bytes.items ≡ unended_pair e opened.ascii_only first (chars key.now) (chars separator.now) (chars value.now)) }
-{
-    let mut line = LineBuffer::new(alloc);
-    print_new_pair(&mut line, opened, first, separator, key, value)?;
-    concatenated(alloc, line.as_slice(), b"", b"")
-}
-
-// Appends a new pair without a line ending. A pair that is `first` in a body is printed so that it isn't taken for a
-// byte order mark.
-fn print_new_pair(
+/// Appends a new pair without a line ending. A pair that is `first` in a body is printed so that it isn't taken for a
+/// byte order mark.
+pub fn print_new_pair(
     line: &mut LineBuffer,
     opened: BodyStart,
     first: bool,

@@ -2,29 +2,23 @@
 
 ghost use Rattle.std.specs.Prelude.{◌≡◌};
 ghost use Rattle.std.specs.Str.{chars};
-ghost use Rattle.properties_format.specs.Text.{line_ending_text};
-ghost use Rattle.properties_format.specs.Computed.Lines.{ends_in_cr};
-ghost use Rattle.properties_format.specs.Computed.Parts.{safe_ending};
 ghost use Rattle.properties_text.specs.Encoding.{encoding_of};
 ghost use Rattle.properties_lines.specs.LineSearch.{unit_size};
-ghost use Rattle.properties_items.specs.LineEndings.{ending_of};
-ghost use Rattle.properties_editing.specs.Private.BodyKeys.{FindsKey, closing_of, found_after, closing_bytes};
+ghost use Rattle.properties_editing.specs.Private.BodyKeys.{FindsKey, closing_of, places_with};
 
 use crate::edit::groups::{Group, GroupReader};
 use crate::edit::pairs::has_key;
 use properties_items::error::PropertiesError;
-use properties_items::line::LineEnding;
 use properties_text::encoding::Encoding;
 use std::alloc::Global;
 
-/// The last pair with a key and the last pair of all, if there is one, and how the last group of the body ends.
+/// Where the last pair with a key and the last pair of all are, and what separates a new pair from the last group.
 #[derive(Clone, Copy)]
-pub struct KeyPlace {
-    /// The pair with the key, without its last line ending.
+pub struct PairPlaces {
+    /// The last pair with the key, without its last line ending.
     pub pair: Option<BodySpan>,
     /// The last pair, whatever its key, likewise.
     pub last: Option<BodySpan>,
-    /// What separates a new pair from the last group.
     pub closing: Closing,
 }
 
@@ -54,12 +48,12 @@ pub fn find_key(
     encoding: Encoding,
     body: &[u8],
     key: &str,
-) -> Result<KeyPlace, PropertiesError>
+) -> Result<PairPlaces, PropertiesError>
     requires { unit_size (encoding_of encoding) ≡ 1 }
     ensures { FindsKey (encoding_of encoding) body.now (chars key.now) result }
 {
     let mut groups = GroupReader::new(alloc, encoding);
-    let mut place = KeyPlace {
+    let mut places = PairPlaces {
         pair: None,
         last: None,
         closing: Closing::Nothing,
@@ -67,25 +61,25 @@ pub fn find_key(
     while let Some(group) = groups.next(body)? {
         let number = group.number;
         let has_key = has_key(alloc, number, groups.line(body, group), key)?;
-        place = place.after(group, has_key);
+        places = places.with_group(group, has_key);
     }
-    Ok(place)
+    Ok(places)
 }
 
-impl KeyPlace {
-    // Returns what is known after this group. `has_key` says whether it has the key, if it is a pair.
-    fn after(self, group: Group, has_key: Option<bool>) -> KeyPlace
-        ensures { result ≡ found_after self group has_key }
+impl PairPlaces {
+    // Returns the places after one more group. `has_key` says whether it has the key, if it is a pair.
+    fn with_group(self, group: Group, has_key: Option<bool>) -> PairPlaces
+        ensures { result ≡ places_with self group has_key }
     {
         let closing = closing_after(group);
         match has_key {
-            None => KeyPlace { closing, ..self },
+            None => PairPlaces { closing, ..self },
             Some(has_key) => {
                 let last = Some(BodySpan {
                     start: group.start,
                     end: group.end,
                 });
-                KeyPlace {
+                PairPlaces {
                     pair: if has_key { last } else { self.pair },
                     last,
                     closing,
@@ -106,40 +100,4 @@ pub fn closing_after(group: Group) -> Closing
     } else {
         Closing::OneEnding
     }
-}
-
-/// Returns what separates a new pair from the last group, made of this line ending.
-pub fn closing_bytes(closing: Closing, by: LineEnding) -> &'static str
-    ensures { result.now ≡ closing_bytes (line_ending_text (ending_of by)) closing }
-{
-    match (closing, by) {
-        (Closing::Nothing, _) => "",
-        (Closing::OneEnding, LineEnding::CR) => "\r",
-        (Closing::OneEnding, LineEnding::LF) => "\n",
-        (Closing::OneEnding, LineEnding::CRLF) => "\r\n",
-        (Closing::TwoEndings, LineEnding::CR) => "\r\r",
-        (Closing::TwoEndings, LineEnding::LF) => "\n\n",
-        (Closing::TwoEndings, LineEnding::CRLF) => "\r\n\r\n",
-    }
-}
-
-/// Returns a line ending that doesn't form a CR LF with the end of these bytes.
-pub fn separation_after(bytes: &[u8]) -> LineEnding
-    ensures { ending_of result ≡ safe_ending bytes.now }
-{
-    if ends_in_cr(bytes) {
-        LineEnding::CR
-    } else {
-        LineEnding::LF
-    }
-}
-
-/// Returns whether these bytes end in a CR.
-pub fn ends_in_cr(source: &[u8]) -> bool
-    ensures { result ≡ ends_in_cr source.now }
-{
-    if source.is_empty() {
-        return false;
-    }
-    source[source.len() - 1] == b'\r'
 }

@@ -2,14 +2,12 @@
 
 ghost use Rattle.std.specs.Prelude.{◌≡◌, ℕ, List, false, IfOk};
 ghost use Rattle.properties_lines.specs.Private.HeldLines.{IsInBody};
-ghost use Rattle.properties_editing.specs.Private.BodyLines.{IsEndingOf};
 ghost use Rattle.properties_text.specs.Encoding.{encoding_of};
 ghost use Rattle.properties_lines.specs.LineSearch.{unit_size};
 ghost use Rattle.properties_lines.specs.LogicalLine.{TellsLine};
 ghost use Rattle.properties_lines.specs.Scanner.{HasRightFlags};
 ghost use Rattle.properties_editing.specs.Private.BodyGroups.{IsWithin, FindsLine, GivesGroup, IsBegun, JoinsGroup, IsFirstGroup, text_of, IsTextHeld};
 
-use properties_items::line::LineEnding;
 use properties_lines::logical::{LogicalLine, is_line_in};
 use properties_lines::scanner::{RawLine, Scan, Scanner};
 use properties_text::encoding::Encoding;
@@ -24,8 +22,6 @@ pub struct Group {
     pub start: usize,
     /// The position after the bytes of its last line, where that line's ending begins.
     pub end: usize,
-    /// The line ending of its last line.
-    pub ending: Option<LineEnding>,
     /// Whether it is left open, so that a line after it would be joined to it.
     pub is_open: bool,
     /// Whether it is a single line without bytes.
@@ -104,7 +100,6 @@ impl GroupReader {
             number: self.scanner.number(),
             start: line.start,
             end: line.end,
-            ending: ending_of(&body[line.end..self.scanner.place()]),
             is_open,
             is_empty: line.start == line.end,
         };
@@ -127,7 +122,6 @@ impl GroupReader {
             let is_open = self.line.join(encoding, is_line, bytes)?;
             joined = Group {
                 end: line.end,
-                ending: ending_of(&body[line.end..self.scanner.place()]),
                 is_open,
                 is_empty: false,
                 ..joined
@@ -164,16 +158,4 @@ fn is_line(encoding: Encoding, line: RawLine, bytes: &[u8]) -> bool
     ensures { TellsLine (encoding_of encoding) bytes.now result }
 {
     line.is_ascii || is_line_in(encoding, bytes)
-}
-
-// Returns the line ending that these bytes form.
-fn ending_of(bytes: &[u8]) -> Option<LineEnding>
-    ensures { IsEndingOf bytes.now result }
-{
-    match bytes {
-        [] => None,
-        [b'\n'] => Some(LineEnding::LF),
-        [_] => Some(LineEnding::CR),
-        _ => Some(LineEnding::CRLF),
-    }
 }

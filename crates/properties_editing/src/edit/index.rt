@@ -15,21 +15,25 @@ ghost use Rattle.properties_format.specs.Computed.Body.{held_groups_of};
 ghost use Rattle.properties_format.specs.Computed.Edited.{AreSound};
 ghost use Rattle.properties_text.specs.Encoding.{encoding_of};
 ghost use Rattle.properties_editing.specs.declared.edit.index.Shift.TheVariants as shift;
-ghost use Rattle.properties_editing.specs.Private.BodyIndex.{AddsGroup, CutsOut, IsCutOut, IsInSource, PutsPair, PutsValue, RemovesPairs, ending_size, AddsKey, AddsValue, AppendsPair, FollowsPair, GrowsIndex, GuardsFront, IsIndex, KeepsNothing, KeepsPair, ParsesIndex, PutsFirst, all_shifted, found_span, last_live, lengthened_span, moved_span, moved_to, opened_closing, places_of, shifted, span_at, stored_at};
+ghost use Rattle.properties_editing.specs.Private.BodyIndex.{AddsGroup, CutsOut, IsCutOut, IsInSource, PutsPair, PutsValue, RemovesPairs, AddsKey, AddsValue, AppendsPair, FollowsPair, GrowsIndex, GuardsFront, IsIndex, KeepsNothing, KeepsPair, ParsesIndex, PutsFirst, all_shifted, found_span, last_live, lengthened_span, moved_span, moved_to, places_of, shifted, span_at, stored_at};
 ghost use Rattle.properties_items.specs.FoundItems.{pair_characters};
 ghost use Rattle.properties_editing.specs.Private.BodyKeys.{IsPlaceOf};
 
-use crate::edit::append::{layout_at, printed_new_pair};
-use crate::edit::find::{BodySpan, Closing, closing_after, closing_bytes, separation_after};
+use crate::edit::append::{layout_at, print_new_pair};
+use crate::edit::endings::{
+    ending_size, opened_size, push_closing, push_ending, safe_ending_after,
+};
+use crate::edit::find::{BodySpan, Closing, closing_after};
 use crate::edit::groups::{Group, GroupReader};
 use crate::edit::pairs::pair_of;
-use crate::edit::replace::{are_empty, concatenated, printed_pair, replaced};
+use crate::edit::replace::{concatenated, is_first, print_new, replaced};
 use crate::edit::source::BodyStart;
 use crate::edit::value::new_value;
 use properties_items::error::PropertiesError;
 use properties_items::line::LineEnding;
 use properties_text::encoding::Encoding;
 use properties_text::encoding::byte_order_mark::begins_like_mark;
+use properties_text::print::LineBuffer;
 use std::alloc::{AllocError, Global};
 use std::collections::BTreeMap;
 
@@ -307,18 +311,6 @@ fn put_lf_first(source: &mut Vec<u8>, index: &mut Index)
     }
 }
 
-// Returns the size of the line ending that these bytes begin with.
-fn ending_size(bytes: &[u8]) -> usize
-    ensures size { result ≡ ending_size bytes.now }
-    ensures fits { result ≤ length bytes.now }
-{
-    match bytes {
-        [b'\r', b'\n', ..] => 2,
-        [b'\r' | b'\n', ..] => 1,
-        _ => 0,
-    }
-}
-
 /// Gives the last pair with a key, which is in this part of a source's body, this value. If memory runs out, nothing
 /// changes.
 pub fn revalue(
@@ -415,19 +407,21 @@ fn append_pair(
 {
     let key = String::from_str(alloc, key)?;
     let value = String::from_str(alloc, value)?;
-    let separation = closing_bytes(index.closing, by).as_bytes();
-    let more = closing_bytes(opened_closing(index.closing), by).as_bytes();
-    let ending = closing_bytes(Closing::OneEnding, ending).as_bytes();
-    let tail = concatenated(alloc, separation, line, ending)?;
+    let mut tail = LineBuffer::new(alloc);
+    push_closing(&mut tail, index.closing, by)?;
+    let separation = tail.len();
+    tail.extend(line)?;
+    push_ending(&mut tail, ending)?;
     let size = source.len();
-    source.extend_from_slice(&tail)?;
+    source.extend_from_slice(tail.as_slice())?;
     let place = size - opened.start;
-    let start = place + separation.len();
+    let start = place + separation;
+    let more = opened_size(index.closing, by);
     let span = BodySpan {
         start,
         end: start + line.len(),
     };
-    match index.grow(alloc, key, value, span, place, more.len()) {
+    match index.grow(alloc, key, value, span, place, more) {
         Ok(()) => Ok(()),
         Err(error) => {
             source.truncate(size);
@@ -462,10 +456,10 @@ pub fn add_value(
         index.last(),
         key,
     )?;
-    let separation = closing_bytes(index.closing, layout.ending).as_bytes();
-    let first = are_empty(body, separation);
+    let first = is_first(body, index.closing);
     let separator = layout.separator.as_str();
-    let line = printed_new_pair(alloc, opened, first, separator, key, value)?;
+    let mut line = LineBuffer::new(alloc);
+    print_new_pair(&mut line, opened, first, separator, key, value)?;
     append_pair(
         alloc,
         source,
@@ -474,7 +468,7 @@ pub fn add_value(
         key,
         value,
         layout.ending,
-        &line,
+        line.as_slice(),
         layout.ending,
     )
 }
@@ -495,10 +489,10 @@ pub fn add_key(
     requires is_new { stored_at index.old.pairs.entries (chars key.now) ≡ None }
     ensures { AddsKey opened (chars key.now) (chars value.now) source.old.items index.old result source.new.items index.new }
 {
-    let by = separation_after(source);
-    let separation = closing_bytes(index.closing, by).as_bytes();
-    let first = are_empty(&source[opened.start..], separation);
-    let line = printed_pair(alloc, opened, first, key, value)?;
+    let by = safe_ending_after(source);
+    let first = is_first(&source[opened.start..], index.closing);
+    let mut line = LineBuffer::new(alloc);
+    print_new(&mut line, opened, first, key, value)?;
     append_pair(
         alloc,
         source,
@@ -507,19 +501,9 @@ pub fn add_key(
         key,
         value,
         by,
-        &line,
+        line.as_slice(),
         LineEnding::LF,
     )
-}
-
-// Returns what separates a group from an open one before it, where two line endings close that.
-fn opened_closing(closing: Closing) -> Closing
-    ensures { result ≡ opened_closing closing }
-{
-    match closing {
-        Closing::Nothing | Closing::OneEnding => Closing::Nothing,
-        Closing::TwoEndings => Closing::OneEnding,
-    }
 }
 
 // Returns what separates a new pair from the last group, which has changed or not.

@@ -2,7 +2,8 @@
 
 ghost use Rattle.std.specs.Prelude.{◌≡◌, ◌==◌, ◌≤◌, ◌+◌, ◌-◌, ◌++◌, [], ◌∷◌, take, drop, length, IfOk, OnOk};
 ghost use Rattle.std.specs.Str.{chars};
-ghost use Rattle.properties_format.specs.Text.{line_feed};
+ghost use Rattle.properties_format.specs.Text as text;
+ghost use Rattle.properties_format.specs.Text.{line_ending_text, line_feed};
 ghost use Rattle.properties_format.specs.Writing.{is_empty};
 ghost use Rattle.properties_format.specs.Edited.{added_ending, pair_bytes};
 ghost use Rattle.properties_editing.specs.Private.BodyKeys.{AreWithin, left_bytes, closing_bytes, spans_bytes};
@@ -11,8 +12,10 @@ ghost use Rattle.properties_text.specs.Encoding.{encoding_of};
 ghost use Rattle.properties_text.specs.Printing.{AppendsOnOk};
 ghost use Rattle.properties_editing.specs.Private.Sources.{PrintsIn};
 
-use crate::edit::find::{BodySpan, Closing, closing_bytes, separation_after};
+use crate::edit::endings::{push_closing, push_ending, safe_ending_after};
+use crate::edit::find::{BodySpan, Closing};
 use crate::edit::source::BodyStart;
+use properties_items::line::LineEnding;
 use properties_text::encoding::LineEncoding;
 use properties_text::encoding::byte_order_mark::begins_like_mark;
 use properties_text::print::{LineBuffer, Repertoire, print_texts};
@@ -58,12 +61,12 @@ pub fn appended(
         let line = pair_bytes e opened.ascii_only first (chars key.now) (chars value.now) in
         IfOk result (λ bytes. bytes.items ≡ source.now ++ (separation ++ (line ++ line_feed ∷ []))) }
 {
-    let separation = closing_bytes(closing, separation_after(source)).as_bytes();
-    let first = are_empty(&source[opened.start..], separation);
     let mut line = LineBuffer::new(alloc);
+    push_closing(&mut line, closing, safe_ending_after(source))?;
+    let first = is_first(&source[opened.start..], closing);
     print_new(&mut line, opened, first, key, value)?;
-    line.extend(b"\n")?;
-    concatenated(alloc, source, separation, line.as_slice())
+    push_ending(&mut line, LineEnding::LF)?;
+    concatenated(alloc, source, line.as_slice(), b"")
 }
 
 /// Returns the source with only these parts of its body. An LF comes before them if they would begin like a byte order
@@ -118,16 +121,19 @@ pub fn part(body: &[u8], span: BodySpan) -> &[u8]
     &body[span.start..span.end]
 }
 
-/// Returns whether both slices are empty.
-pub fn are_empty(rest: &[u8], separation: &[u8]) -> bool
-    ensures { result ≡ is_empty (rest.now ++ separation.now) }
+/// Returns whether a new pair at the end of a body is its first line: nothing comes before it.
+pub fn is_first(body: &[u8], closing: Closing) -> bool
+    ensures { (by : text.LineEnding) → result ≡ is_empty (body.now ++ closing_bytes (line_ending_text by) closing) }
 {
-    rest.is_empty() && separation.is_empty()
+    match closing {
+        Closing::Nothing => body.is_empty(),
+        Closing::OneEnding | Closing::TwoEndings => false,
+    }
 }
 
-// Appends a pair without a line ending. A pair that is `first` in a body is printed so that it isn't taken for a byte
-// order mark.
-fn print_new(
+/// Appends a pair without a line ending. A pair that is `first` in a body is printed so that it isn't taken for a byte
+/// order mark.
+pub fn print_new(
     line: &mut LineBuffer,
     opened: BodyStart,
     first: bool,
@@ -138,23 +144,6 @@ fn print_new(
         AppendsOnOk line.old (pair_bytes e opened.ascii_only first (chars key.now) (chars value.now)) result line.new }
 {
     print_texts(line, repertoire_of(opened), first, key, value, "=", "")
-}
-
-/// Returns a pair as it is printed, without a line ending. A pair that is `first` in a body is printed so that it isn't
-/// taken for a byte order mark.
-pub fn printed_pair(
-    alloc: Global,
-    opened: BodyStart,
-    first: bool,
-    key: &str,
-    value: &str,
-) -> Result<Vec<u8>, AllocError>
-    ensures { let e = output_encoding (encoding_of opened.encoding) in
-        IfOk result (λ bytes. bytes.items ≡ pair_bytes e opened.ascii_only first (chars key.now) (chars value.now)) }
-{
-    let mut line = LineBuffer::new(alloc);
-    print_new(&mut line, opened, first, key, value)?;
-    concatenated(alloc, line.as_slice(), b"", b"")
 }
 
 /// Concatenates three slices. Their memory is allocated before the first of them is copied.

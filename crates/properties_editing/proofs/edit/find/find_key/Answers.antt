@@ -13,7 +13,7 @@ pub loop-groups-preserved : goal.loop-groups-preserved
 loop-groups-preserved c =
     let came = rw c.in-Some.is at c.in_ok-group.ensures in
     let told = rw c.line.ensures at c.in_ok-has_key.ensures in
-    rw c.after-place.ensures (looked-more c.in_ok-has_key.has_key c.loop-groups.invariant came told.0 told.1)
+    rw c.with_group-places.ensures (looked-more c.in_ok-has_key.has_key c.loop-groups.invariant came told.0 told.1)
 
 pub returns : goal.returns
 returns c =

@@ -7,6 +7,7 @@ use Rattle.properties_format.specs.Writing.{is_empty}
 use Rattle.properties_text.specs.Encoding.{encoding_of}
 use Rattle.properties_editing.specs.Private.BodyValues.{IsLastPair, unended_pair}
 use Rattle.properties_items.specs.LineEndings.{ending_of}
+use Rattle.properties_editing.specs.Private.BodyKeys.{closing_bytes}
 use Rattle.properties_editing.proofs.BodyKeys.{editable-bytes}
 use Rattle.properties_items.proofs.Scalars.{chars-scalars}
 use Rattle.properties_format.specs.Computed.Body.{held_groups_of}
@@ -34,11 +35,12 @@ returns c =
     let out = output_encoding (encoding_of opened.encoding) in
     let laid = rw (c.deref.ensures.value, take_rest old opened.start) at c.in_ok-layout.ensures in
     let body = ap (λ v. take (length v - opened.start) (drop opened.start v)) c.deref.ensures.value ∙ take_rest old opened.start in
-    let first = c.are_empty-first.ensures ∙ ap₂ (λ v w. is_empty (v ++ w)) body (c.as_bytes-separation.ensures.value ∙ c.closing_bytes.ensures) in
-    let printed = c.deref-2.ensures.value ∙ c.in_ok-line.ensures ∙ ap₂ (λ b s. unended_pair out opened.ascii_only b key (chars s) value) first c.as_str-separator.ensures.value in
+    let first = c.is_first-first.ensures (ending_of layout.ending) ∙ ap (λ v. is_empty (v ++ closing_bytes ending was.closing)) body in
+    let pair = ap₂ (λ b s. unended_pair out opened.ascii_only b key (chars s) value) first c.as_str-separator.ensures.value in
+    let printed = c.as_slice.ensures ∙ c.in_ok-print_new_pair.ensures ∙ ap₂ (λ v w. v ++ w) c.new-line.ensures pair in
     let small = c.append_pair.new.source.small in
     let len = c.append_pair.new.source.ok in
-    adds-value c.append_pair.result opened key value ending c.deref-2.result.now ending old c.append_pair.new.source.items was c.append_pair.new.index
-    (pair-added opened old c.append_pair.new.source.items key value c.deref-2.result.now layout was c.append_pair.new.index (editable-bytes (encoding_of opened.encoding) c.requires.unit)
+    adds-value c.append_pair.result opened key value ending c.as_slice.result.now ending old c.append_pair.new.source.items was c.append_pair.new.index
+    (pair-added opened old c.append_pair.new.source.items key value c.as_slice.result.now layout was c.append_pair.new.index (editable-bytes (encoding_of opened.encoding) c.requires.unit)
     c.requires.start c.requires.sound c.requires.is_index c.requires.is_new (chars-scalars c.args.key.now c.utf8.key) (chars-scalars c.args.value.now c.utf8.value) laid printed (omega arith))
     c.requires.is_new c.append_pair.ensures

@@ -20,12 +20,11 @@ loop-joined-preserved c =
     let taken = rw c.if-branch.true at c.in_ok-find_line.ensures in
     let adds = rw (line, c.encoding-encoding.ensures) at c.in_ok-is_open.ensures.adds in
     let unfinished = mid.invariant.begun.unfinished c.loop-joined-test.true in
-    let ending = c.ending_of.ensures taken.ending (rw (line, c.place.ensures) taken.ends) in
     let ends = ap (λ v. let w : RawLine = v in w.end) line in
     record {
       whole = λ from h.
-          group-more AllocError c.args.body.now from mid.joined mid.self c.find_line.new.self c.join.new.self c.line-line.result.now.end c.ending_of.result
-          c.in_ok-is_open.is_open (mid.invariant.whole from h) c.loop-joined-test.true taken unfinished adds ends ending;
+          group-more AllocError c.args.body.now from mid.joined mid.self c.find_line.new.self c.join.new.self c.line-line.result.now.end
+          c.in_ok-is_open.is_open (mid.invariant.whole from h) c.loop-joined-test.true taken unfinished adds ends;
       begun = more-begun c.args.body.now mid.self c.find_line.new.self c.join.new.self mid.joined _ mid.invariant.begun taken adds.2 c.join.ensures.sound refl ends;
     }
 

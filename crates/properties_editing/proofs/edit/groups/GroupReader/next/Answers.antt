@@ -35,7 +35,6 @@ returns c =
     let taken = rw c.if-not-branch.false at c.in_ok-find_line.ensures in
     let read = subst (λ v. Begins (encoding_of c.encoding-encoding.result) (bytes_of body v) answer c.begin.new.self) line c.in_ok-is_open.ensures.begins in
     let begins = subst (λ v. Begins (encoding_of v) (bytes_of body found.scanner.line) answer c.begin.new.self) c.encoding-encoding.ensures read in
-    let ending = c.ending_of.ensures taken.ending (rw (line, c.place.ensures) taken.ends) in
     c.in_ok-joined.ensures old (group-first AllocError body old found c.begin.new.self _ c.in_ok-is_open.is_open taken begins c.number.ensures
-    (ap (λ v. let w : RawLine = v in w.start) line) (ap (λ v. let w : RawLine = v in w.end) line) ending refl
+    (ap (λ v. let w : RawLine = v in w.start) line) (ap (λ v. let w : RawLine = v in w.end) line) refl
     (ap (λ v. let w : RawLine = v in w.start == w.end) line))

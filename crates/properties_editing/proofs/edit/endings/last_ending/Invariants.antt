@@ -1,6 +1,6 @@
 use Rattle.std.proofs.Common.{◌≤◌, drop, length}
 use Rattle.properties_format.specs.Lines.{HoldsNoLineEnd}
-use Rattle.properties_editing.proofs.edit.append.ending_within.Given as goal
+use Rattle.properties_editing.proofs.edit.endings.last_ending.Given as goal
 
 abbrev pub invariant-loop-end : goal.invariant-loop-end
 invariant-loop-end l = record {
