@@ -25,7 +25,8 @@ use Rattle.properties_format.specs.Groups.{joined}
 use Rattle.properties_format.specs.Computed.Groups.{closes}
 use Rattle.properties_format.specs.Computed.Cut.{cut_of}
 use Rattle.properties_format.specs.Body.{HeldLine, as_lines, held_in, group_bytes, groups_bytes}
-use Rattle.properties_format.specs.Edited.{unreadable, final_group, added_ending, separation, is_empty_line, is_left_open}
+use Rattle.properties_format.specs.Valued.{separation_by}
+use Rattle.properties_format.specs.Edited.{unreadable, final_group, is_empty_line, is_left_open}
 use Rattle.properties_format.specs.Items.{Outcome, ignored, given, broken}
 use Rattle.properties_format.specs.Computed.Items.{outcome_of, followed}
 use Rattle.properties_format.specs.Computed.Body.{is_pair_with, has_key, entries_in, held_of, held_lines_of, held_groups_after, held_groups_of}
@@ -129,18 +130,13 @@ pub record HasLooked (e : Encoding) (body key : List ℕ) (s : GroupReader) (fou
   pub read : HasRead e body groups s
   pub pair : IsPlace key groups found.pair
   pub last : IsLastPair groups found.last
-  pub closing : (groups ≡ []) ⊎ ((source : List ℕ) → separation source (final_group groups) ≡ closing_bytes (added_ending source) found.closing)
+  pub closing : (groups ≡ []) ⊎ ((ending : List ℕ) → separation_by ending (final_group groups) ≡ closing_bytes ending found.closing)
 
--- a group after which a new pair is separated so
-closing_bytes-group : (source : List ℕ) (g : List HeldLine) (group : Group) → group.is_empty ≡ is_empty_line g → group.is_open ≡ is_left_open g
-    → separation source g ≡ closing_bytes (added_ending source) (closing_of group.is_empty group.is_open)
-closing_bytes-group source g group a b = rw (a, b) (closing_bytes-tests source (is_empty_line g) (is_left_open g))
-  where
-    closing_bytes-tests : (source : List ℕ) (empty opens : Bool)
-        → (if empty then [] else (if opens then added_ending source ++ added_ending source else added_ending source)) ≡ closing_bytes (added_ending source) (closing_of empty opens)
-    closing_bytes-tests source true opens = refl
-    closing_bytes-tests source false true = refl
-    closing_bytes-tests source false false = refl
+-- what separates a new pair from a group
+pub separated : (ending : List ℕ) (empty opens : Bool) → (if empty then [] else (if opens then ending ++ ending else ending)) ≡ closing_bytes ending (closing_of empty opens)
+separated ending true opens = refl
+separated ending false true = refl
+separated ending false false = refl
 
 -- the place with one more group after it
 pub place-kept : (key : List ℕ) (groups : List (List HeldLine)) (g : List HeldLine) (pair : Option BodySpan) → IsPlace key groups pair → has_key key g ≡ false
@@ -191,7 +187,9 @@ looked-more {e} {body} {key} {s} {t} {found} {group} told h k sound is = record 
       k.span.unended;
   last = last-after h.groups k.held group (is_some told) found.last h.last (subst (λ v. IsSound (outcome_of v)) k.text sound)
       (ap is_some is ∙ told-pair key (outcome_of (chars (text_of body t group))) ∙ ap (λ v. is_pair (outcome_of v)) k.text) (k.starts ∙ h.read.placed) k.span.unended;
-  closing = inr (λ source. ap (separation source) (final_group-push h.groups k.held) ∙ closing_bytes-group source k.held group k.span.empty k.span.opens);
+  closing = inr (λ ending. ap (separation_by ending) (final_group-push h.groups k.held)
+      ∙ separated ending (is_empty_line k.held) (is_left_open k.held)
+      ∙ ap₂ (λ a b. closing_bytes ending (closing_of a b)) (sym k.span.empty) (sym k.span.opens));
 }
 
 -- each body has lines
@@ -226,7 +224,7 @@ looked-all {e} {body} {key} {s} {found} h done =
         pair = subst (λ v. IsPlace key v found.pair) (sym all) h.pair;
         closing = elim h.closing [
           | inl none ↦ absurd (some-groups e body (all ∙ none))
-          | inr closing ↦ λ source. ap (λ v. separation source (final_group v)) all ∙ closing source
+          | inr closing ↦ λ ending. ap (λ v. separation_by ending (final_group v)) all ∙ closing ending
         ];
       },
       subst (λ v. IsLastPair v found.last) (sym all) h.last,

@@ -233,7 +233,7 @@ appended-result {source} {e} {opened} {found} key value bytes h ok k none made =
     let gs = held_groups_of f body in
     let last : last_place key gs ≡ None = subst (IsPlace key gs) none k.pair in
     let all : groups_bytes gs ≡ body = held-body f body gs ok (held_groups_of-meets f body) in
-    let parts = k.closing source in
+    let parts = k.closing (added_ending source) in
     let by = closing_bytes (added_ending source) found.closing in
     let pair = pair_bytes f opened.ascii_only (is_empty (body ++ by)) key value ++ line_feed ∷ [] in
     let whole : source ≡ bom_of source ++ body = source-whole e source ∙ ap (λ v. let w : InForce = v in bom_of source ++ w.body) h.in_force in

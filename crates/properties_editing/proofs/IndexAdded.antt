@@ -30,7 +30,6 @@ use Rattle.properties_format.proofs.Valued.Separators.{new_separator-fit, added-
 use Rattle.std.proofs.Math.Seq.{drop-append_seam}
 use Rattle.std.proofs.lemmas.List.{length-take-le, take-append-drop}
 use Rattle.properties_format.specs.Encoding.{output_encoding}
-use Rattle.properties_format.specs.Edited.{added_ending}
 use Rattle.properties_format.specs.Writing.{is_empty}
 use Rattle.properties_format.proofs.Edited.Pair.{editable-own}
 use Rattle.properties_text.specs.Encoding.{encoding_of}
@@ -47,7 +46,7 @@ use Rattle.properties_editing.proofs.SetValues.{new_pair-result, value-edits}
 use Rattle.properties_editing.specs.declared.edit.index.Index.{Index}
 use Rattle.properties_editing.specs.declared.edit.find.Closing.{Closing}
 use Rattle.properties_editing.specs.declared.edit.find.Closing.TheVariants as closing
-use Rattle.properties_editing.proofs.BodyKeys.{some-groups}
+use Rattle.properties_editing.proofs.BodyKeys.{separated, some-groups}
 use Rattle.properties_editing.proofs.IndexAppended.{appended-index, appended-sound}
 use Rattle.properties_editing.proofs.IndexFound.{found-place}
 
@@ -56,12 +55,6 @@ some-size [] h = absurd (h refl)
 some-size (c ∷ x) h = omega arith
 
 -- ---- what separates a pair from a group
-
-separated : (ending : List ℕ) (empty opens : Bool)
-    → closing_bytes ending (closing_of empty opens) ≡ (if empty then [] else (if opens then ending ++ ending else ending))
-separated ending true opens = refl
-separated ending false true = refl
-separated ending false false = refl
 
 opened : (ending : List ℕ) (empty opens : Bool)
     → opened_bytes ending (closing_of empty opens) ≡ (if empty then [] else (if opens then ending else []))
@@ -94,7 +87,7 @@ added-index e by second body key value pb added old new ok seam plain some whole
     let final : final_group gs ≡ k.final = ap final_group k.division ∙ final_group-push k.before k.final in
     let told : old.closing ≡ closing_of (is_empty_line k.final) (is_left_open k.final) =
     elim h.closing [ inl none ↦ absurd (some-groups e body none) | inr stored ↦ stored ∙ ap (λ v. closing_of (is_empty_line v) (is_left_open v)) final ] in
-    let sep : closing_bytes ending old.closing ≡ separation_by ending k.final = ap (closing_bytes ending) told ∙ separated ending (is_empty_line k.final) (is_left_open k.final) in
+    let sep : closing_bytes ending old.closing ≡ separation_by ending k.final = ap (closing_bytes ending) told ∙ sym (separated ending (is_empty_line k.final) (is_left_open k.final)) in
     let extra : opened_bytes ending old.closing ≡ opened_by ending k.final =
     ap (opened_bytes ending) told ∙ opened ending (is_empty_line k.final) (is_left_open k.final) in
     let all : groups_bytes gs ≡ body = held-body e body gs ok (held_groups_of-meets e body) in
@@ -169,12 +162,6 @@ drop-front n x y h =
     ∙ ap (λ m. drop m (take n x ++ (drop n x ++ y))) (sym size)
     ∙ drop-append_seam (take n x) (drop n x ++ y)
 
-closes : (source : List ℕ) (empty opens : Bool)
-    → (if empty then [] else (if opens then added_ending source ++ added_ending source else added_ending source)) ≡ closing_bytes (added_ending source) (closing_of empty opens)
-closes source true opens = refl
-closes source false true = refl
-closes source false false = refl
-
 -- What the index says of a key that isn't stored.
 pub found-none : (e : Encoding) (body key : List ℕ) (index : Index) → AreSound (held_groups_of e body) → IsIndex (held_groups_of e body) index
     → stored_at index.pairs.entries key ≡ None → IsKeyFound e body key (record { pair = None; last = None; closing = index.closing })
@@ -183,9 +170,9 @@ found-none e body key index sound h none =
     record {
       sound = sound;
       pair = subst (IsPlace key gs) (ap (last_span index.spans.items) none) (found-place gs index h key);
-      closing = λ source. elim h.closing [
+      closing = λ ending. elim h.closing [
         | inl empty ↦ absurd (some-groups e body empty)
-        | inr told ↦ closes source (is_empty_line (final_group gs)) (is_left_open (final_group gs)) ∙ ap (closing_bytes (added_ending source)) (sym told)
+        | inr told ↦ separated ending (is_empty_line (final_group gs)) (is_left_open (final_group gs)) ∙ ap (closing_bytes ending) (sym told)
       ];
     }
 

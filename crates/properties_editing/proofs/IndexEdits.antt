@@ -1,6 +1,6 @@
 -- A value in place, and the index then.
-use Rattle.std.proofs.Common.{◌≡◌, ◌==◌, ◌<◌, ◌≤◌, ℕ, ◌+◌, ◌-◌, ◌^◌, Bool, true, false, List, [], ◌∷◌, ◌++◌, All, length, take, drop, refl, ap, ap₂, sym, ◌∙◌, subst, inl, inr, length-append, length-drop, arith}
-use Rattle.std.specs.Prelude.{Some, None, if◌then◌else◌}
+use Rattle.std.proofs.Common.{◌≡◌, ◌==◌, ◌<◌, ◌≤◌, ℕ, ◌+◌, ◌-◌, ◌^◌, true, false, List, [], ◌∷◌, ◌++◌, All, length, take, drop, refl, ap, ap₂, sym, ◌∙◌, subst, inl, inr, length-append, length-drop, arith}
+use Rattle.std.specs.Prelude.{Some, None}
 use Rattle.std.proofs.Math.Seq.{drop-append_seam}
 use Rattle.std.proofs.lemmas.Bool.{cases_Bool, cond-true, cond-false}
 use Rattle.std.proofs.lemmas.List.{length-take-le}
@@ -11,7 +11,7 @@ use Rattle.properties_format.specs.Entries as content
 use Rattle.properties_format.specs.Items.{given}
 use Rattle.properties_format.specs.Printing.{encoded_text}
 use Rattle.properties_format.specs.Body.{HeldLine, HasKey, as_lines, groups_bytes, ending_bytes, last_ending}
-use Rattle.properties_format.specs.Edited.{bom_of, added_ending, is_editable, is_empty_line, is_left_open, final_group, edited, pair_bytes}
+use Rattle.properties_format.specs.Edited.{bom_of, is_editable, is_empty_line, is_left_open, final_group, edited, pair_bytes}
 use Rattle.properties_format.specs.Valued.{HasPair, value_text}
 use Rattle.properties_format.specs.Computed.Body.{held_groups_of}
 use Rattle.properties_format.specs.Computed.Edited.{AreSound, key_set, key_set_in, set_at}
@@ -25,13 +25,14 @@ use Rattle.properties_format.proofs.Items.Unique.{outcome_of-only}
 use Rattle.properties_format.proofs.InTurn.Merged.{AreInTurn, in-turn}
 use Rattle.properties_text.specs.Encoding.{encoding_of}
 use Rattle.properties_editing.specs.Private.BodyIndex.{FollowsPair, IsIndex, IsPairPut, IsValuePut, KeepsNothing, outcome}
-use Rattle.properties_editing.specs.Private.BodyKeys.{IsPlaceOf, IsKeyFound, closing_bytes, closing_of}
+use Rattle.properties_editing.specs.Private.BodyKeys.{IsPlaceOf, IsKeyFound, closing_of}
 use Rattle.properties_editing.specs.Private.BodyValues.{IsPairAlone, revalued_in}
 use Rattle.properties_editing.specs.Private.Sources.{IsInForce}
 use Rattle.properties_editing.specs.declared.edit.index.Index.{Index}
 use Rattle.properties_editing.specs.declared.edit.find.BodySpan.{BodySpan}
 use Rattle.properties_editing.specs.declared.edit.find.PairPlaces.{PairPlaces}
 use Rattle.properties_editing.specs.declared.edit.source.BodyStart.{BodyStart}
+use Rattle.properties_editing.proofs.BodyKeys.{separated}
 use Rattle.properties_editing.proofs.Editing.{bom-front, place-split, replaced-result, result-made, set-edits}
 use Rattle.properties_editing.proofs.SetValues.{alone-value, value-edits, revalued-result, found-alone}
 use Rattle.properties_editing.proofs.IndexChanged.{IsLastTold, changed-index, changed-sound, last-told, whole-closed}
@@ -39,12 +40,6 @@ use Rattle.properties_editing.proofs.IndexRevalued.{regrouped}
 use Rattle.properties_editing.proofs.IndexSpans.{size-around}
 
 -- ---- what is found without a search
-
-closes : (source : List ℕ) (empty opens : Bool)
-    → (if empty then [] else (if opens then added_ending source ++ added_ending source else added_ending source)) ≡ closing_bytes (added_ending source) (closing_of empty opens)
-closes source true opens = refl
-closes source false true = refl
-closes source false false = refl
 
 -- what is known of a key in a place that is known
 abbrev pub found_at : List (List HeldLine) → BodySpan → PairPlaces
@@ -55,7 +50,7 @@ pub found-at : (e : Encoding) (body key : List ℕ) (pair : BodySpan) → AreSou
 found-at e body key pair sound at = record {
   sound = sound;
   pair = at;
-  closing = λ source. closes source (is_empty_line (final_group (held_groups_of e body))) (is_left_open (final_group (held_groups_of e body)));
+  closing = λ ending. separated ending (is_empty_line (final_group (held_groups_of e body))) (is_left_open (final_group (held_groups_of e body)));
 }
 
 module _ (opened : BodyStart) (old : List ℕ) (ok : is_editable (encoding_of opened.encoding) ≡ true) (start_in : opened.start ≤ length old)

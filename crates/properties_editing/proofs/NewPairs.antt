@@ -7,9 +7,9 @@ use Rattle.std.proofs.lemmas.Bool.{cases_Bool, cond-true, cond-false}
 use Rattle.std.proofs.lemmas.Str.{encodes-chars, chars-nil}
 use Rattle.properties_format.specs.Text.{LineEnding, line_ending_text, is_blank, is_blanks, equals_sign}
 use Rattle.properties_format.specs.Encoding.{Encoding, windows_1252}
-use Rattle.properties_format.specs.Printing.{encoded_text, printed_key}
+use Rattle.properties_format.specs.Printing.{encoded_text}
 use Rattle.properties_format.specs.Writing.{is_empty}
-use Rattle.properties_format.specs.Valued.{value_text, printed_value, new_pair_bytes, separator_after, shortened_after}
+use Rattle.properties_format.specs.Valued.{value_text, printed_value, separator_after, shortened_after}
 use Rattle.properties_format.proofs.Printing.Characters.{encoded-ascii, encoded_text-append, encoded_text-ascii, line_end-ascii}
 use Rattle.std.specs.Char.{IsScalar, encode_utf8}
 use Rattle.properties_text.proofs.TextFronts.{chars-more}

@@ -1,5 +1,5 @@
 -- The source with the value of a key set.
-use Rattle.std.proofs.Common.{◌≡◌, ℕ, ◌+◌, ◌-◌, Bool, true, false, List, [], ◌∷◌, ◌++◌, All, take, drop, refl, inl, inr, ap, ap₂, sym, ◌∙◌, subst, arith, append_assoc, take-add}
+use Rattle.std.proofs.Common.{◌≡◌, ℕ, ◌+◌, ◌-◌, Bool, true, List, [], ◌∷◌, ◌++◌, All, take, drop, inl, inr, ap, ap₂, sym, ◌∙◌, subst, arith, append_assoc, take-add}
 use Rattle.std.specs.Prelude.{Some, None, if◌then◌else◌}
 use Rattle.std.proofs.lemmas.Bool.{cases_Bool, cond-true, cond-false}
 use Rattle.std.proofs.lemmas.List.{drop-drop}
@@ -7,7 +7,7 @@ use Rattle.properties_format.specs.Text.{scalar, line_ending_text}
 use Rattle.properties_format.specs.Encoding.{Encoding, InForce, output_encoding}
 use Rattle.properties_format.specs.Printing.{encoded_text}
 use Rattle.properties_format.specs.Body.{HeldLine, HasKey, ending_bytes, groups_bytes, last_ending}
-use Rattle.properties_format.specs.Edited.{bom_of, separation, added_ending, is_editable, is_empty_line, is_left_open, final_group, edited}
+use Rattle.properties_format.specs.Edited.{bom_of, is_editable, final_group, edited}
 use Rattle.properties_format.specs.Valued.{value_text, separation_by, ending_in, new_pair_bytes, IsSetValueResult}
 use Rattle.properties_format.specs.Computed.Items.{outcome_of}
 use Rattle.properties_format.specs.Computed.Body.{held_groups_of}
@@ -33,31 +33,12 @@ use Rattle.properties_items.specs.LineEndings.{ending_of}
 use Rattle.properties_editing.specs.Private.Sources.{IsInForce}
 use Rattle.properties_editing.specs.declared.edit.append.Layout.{Layout}
 use Rattle.properties_editing.specs.declared.edit.find.BodySpan.{BodySpan}
-use Rattle.properties_editing.specs.declared.edit.find.Closing.{Closing}
-use Rattle.properties_editing.specs.declared.edit.find.Closing.TheVariants as closing
 use Rattle.properties_editing.specs.declared.edit.find.PairPlaces.{PairPlaces}
 use Rattle.properties_editing.specs.declared.edit.source.BodyStart.{BodyStart}
 use Rattle.properties_editing.proofs.Editing.{bom-front, result-made}
 use Rattle.properties_editing.proofs.LastPairs.{IsPartAt, part-at, part-group}
 
 -- ---- a value is set
-
--- a new pair is separated from the source by as many line endings as a printed pair
-closing_bytes-any : (g : List HeldLine) (how : Closing) → separation [] g ≡ closing_bytes (added_ending []) how → (ending : List ℕ) → separation_by ending g ≡ closing_bytes ending how
-closing_bytes-any g how h ending = tests (is_empty_line g) (is_left_open g) how h
-  where
-    tests : (empty opens : Bool) (how : Closing)
-        → (if empty then [] else (if opens then added_ending [] ++ added_ending [] else added_ending [])) ≡ closing_bytes (added_ending []) how
-        → (if empty then [] else (if opens then ending ++ ending else ending)) ≡ closing_bytes ending how
-    tests true opens closing.Nothing k = refl
-    tests true opens closing.OneEnding k = absurd (cc)
-    tests true opens closing.TwoEndings k = absurd (cc)
-    tests false true closing.Nothing k = absurd (cc)
-    tests false true closing.OneEnding k = absurd (cc)
-    tests false true closing.TwoEndings k = refl
-    tests false false closing.Nothing k = absurd (cc)
-    tests false false closing.OneEnding k = refl
-    tests false false closing.TwoEndings k = absurd (cc)
 
 -- where the last pair with a key is
 value-part : (e : Encoding) (body key : List ℕ) (pair : BodySpan) → is_editable e ≡ true → (k : IsPlaceOf key (held_groups_of e body) pair)
@@ -172,7 +153,7 @@ new_pair-result {source} {e} {opened} {found} key value bytes layout h ok k none
     let all : groups_bytes gs ≡ body = held-body f body gs ok (held_groups_of-meets f body) in
     let ends : ending_in gs ≡ ending = ap line_ending_text (sym (l.ends f gs ok (held_groups_of-meets f body))) in
     let parts : separation_by (ending_in gs) (final_group gs) ≡ by =
-    ap (λ v. separation_by v (final_group gs)) ends ∙ closing_bytes-any (final_group gs) found.closing (k.closing []) ending ∙ ap (closing_bytes ending) (sym l.closes) in
+    ap (λ v. separation_by v (final_group gs)) ends ∙ k.closing ending ∙ ap (closing_bytes ending) (sym l.closes) in
     let separator = separator_by key (last_between gs) in
     let pair = new_pair_bytes f opened.ascii_only (body ++ by) key (characters layout.separator) value ending in
     let whole : source ≡ bom_of source ++ body = source-whole e source ∙ ap (λ v. let w : InForce = v in bom_of source ++ w.body) h.in_force in

@@ -7,8 +7,9 @@ use Rattle.properties_format.specs.Text.{line_feed}
 use Rattle.properties_format.specs.Encoding.{Encoding, begins_like_bom}
 use Rattle.properties_format.specs.Escapes.{Malformed}
 use Rattle.properties_format.specs.Body.{HeldLine, groups_bytes}
-use Rattle.properties_format.specs.Edited.{unreadable, final_group, added_ending, separation}
+use Rattle.properties_format.specs.Edited.{unreadable, final_group}
 use Rattle.properties_format.specs.Items.{Outcome, ignored}
+use Rattle.properties_format.specs.Valued.{separation_by}
 use Rattle.properties_format.specs.Computed.Items.{outcome_of}
 use Rattle.properties_format.specs.Computed.Body.{entries_in, held_groups_of}
 use Rattle.properties_format.specs.Computed.Parts.{outcome_key, unended_bytes}
@@ -88,7 +89,7 @@ places_with found group told =
 pub record IsKeyFound (e : Encoding) (body key : List ℕ) (found : PairPlaces) : Type 0 where
   pub sound : AreSound (held_groups_of e body)
   pub pair : IsPlace key (held_groups_of e body) found.pair
-  pub closing : (source : List ℕ) → separation source (final_group (held_groups_of e body)) ≡ closing_bytes (added_ending source) found.closing
+  pub closing : (ending : List ℕ) → separation_by ending (final_group (held_groups_of e body)) ≡ closing_bytes ending found.closing
 
 -- the result of searching for a key, and for the last pair
 abbrev pub FindsKey : Encoding → List ℕ → List ℕ → Result PairPlaces PropertiesError → Type 0
