@@ -11,7 +11,7 @@ use Rattle.std.specs.Cmp.Lexicographic.{slice_cmp}
 use Rattle.std.specs.declared.string.String.{String}
 use Rattle.counted_io.specs.Streams.{Reader, Sink, HasWritten}
 use Rattle.properties_format.specs.Encoding.{Encoding, windows_1252}
-use Rattle.properties_format.specs.Entries.{Content, comment, pair, Entry}
+use Rattle.properties_format.specs.Entries.{Entry}
 use Rattle.properties_format.specs.Lines.{end}
 use Rattle.properties_format.specs.Items.{IsItems}
 use Rattle.properties_format.specs.Maps.{HasValue, IsMap}
@@ -19,7 +19,7 @@ use Rattle.properties_format.specs.Pairs.{Pair, items_after}
 use Rattle.properties_format.specs.Settings.{default_settings}
 use Rattle.properties_format.specs.Writing.{Call, pair_call, flush_call, wrote}
 use Rattle.java_properties.specs.Calls.{StopsAtCall}
-use Rattle.properties_items.specs.Errors.{IsBareError, Refuses}
+use Rattle.properties_items.specs.Errors.{Refuses}
 use Rattle.java_properties.specs.PropertiesWriter.{Writing, new_writer}
 use Rattle.java_properties.specs.ReadBack.{IsReadBackBefore}
 use Rattle.java_properties.specs.ReadLines.{entries_in, ReadsWhole, StopsReading}

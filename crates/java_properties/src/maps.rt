@@ -118,9 +118,10 @@ fn read_map<M: TextMap, R: CountedRead>(
     let mut items = ItemReader::new(alloc, encoding);
     while let Some(item) = items.next_item(input) {
         let line = item?;
-        if let LineContent::KVPair(key, value) = line.consume_content() {
-            map.put(key, value)?;
-        }
+        let LineContent::KVPair(key, value) = line.consume_content() else {
+            continue;
+        };
+        map.put(key, value)?;
     }
     Ok(map)
 }

@@ -1,5 +1,5 @@
 -- The lines of a body that are not well-formed UTF-8, found one after another.
-use Rattle.std.proofs.Common.{◌≡◌, ◌≢◌, ℕ, ◌+◌, ◌^◌, ◌<◌, Bool, true, false, List, [], ◌∷◌, length}
+use Rattle.std.proofs.Common.{◌≡◌, ◌≢◌, ℕ, ◌+◌, ◌<◌, Bool, true, false, List, [], ◌∷◌, length}
 use Rattle.std.proofs.Common.{refl, sym, ap, subst, ◌∙◌, inl, inr, arith}
 use Rattle.std.specs.Prelude.{if◌then◌else◌, Option, Some, None, Result, Ok, Err}
 use Rattle.std.specs.Result.{is_ok, MatchResult}
@@ -19,7 +19,7 @@ use Rattle.properties_text.specs.Encoding.{encoding_of}
 use Rattle.properties_text.specs.declared.encoding.Encoding as code
 use Rattle.properties_text.specs.declared.encoding.Encoding.TheVariants.{WINDOWS_1252, UTF_8, UTF_16LE, UTF_16BE}
 use Rattle.properties_lines.specs.Private.HeldLines.{lines_left}
-use Rattle.properties_lines.specs.Scanner.{scanner_state, is_decided, after_cr, bytes_of, Fits, GivesLine, HasRightFlags}
+use Rattle.properties_lines.specs.Scanner.{scanner_state, is_decided, after_cr, bytes_of, Fits, GivesLine}
 use Rattle.properties_lines.specs.declared.scanner.Front.TheVariants.{Mark, Feed}
 use Rattle.properties_lines.specs.declared.scanner.RawLine.{RawLine}
 use Rattle.properties_lines.specs.declared.scanner.Scanner.{Scanner}
@@ -123,12 +123,6 @@ scanning-start body s e fits at stands =
       rw (passed, going, e, at) (has-ill_formed body),
     )
 
--- the line that came may be looked at
-pub found-line : (body : List ℕ) (s new : Scanner) → IsScanning body s → GivesLine s body true new → IsFound body new.line
-found-line body s new h g =
-    let e : encoding_of new.encoding ≡ utf_8 = (body-next s new body h.in_body g).0 ∙ h.encoding in
-    record { ordered = g.fits.line.0; within = g.fits.line.1; flags = subst (λ v. HasRightFlags v (bytes_of body new.line) new.line) e g.flags }
-
 -- the scan goes on after it
 pub found-scanning : (body : List ℕ) (s new : Scanner) → IsScanning body s → GivesLine s body true new → IsScanning body new
 found-scanning body s new h g = record {
@@ -158,10 +152,6 @@ found-first body s new (Some number) lines all next =
 -- one line fewer is left
 pub found-fewer : (body : List ℕ) (s new : Scanner) → IsScanning body s → GivesLine s body true new → length (lines_left body new) < length (lines_left body s)
 found-fewer body s new h g = omega (arith, ap length (body-lines_left s new body h.in_body g))
-
--- a slice has a number for each of its lines
-pub found-numbered : (body : List ℕ) (s : Scanner) → IsScanning body s → length body + 2 < 2 ^ 64 → s.passed + 1 ≡ 2 ^ 64 → ⊥
-found-numbered body s h small many = omega (arith, h.few)
 
 -- ---- a line
 

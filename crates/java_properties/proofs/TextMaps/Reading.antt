@@ -1,6 +1,6 @@
 -- A map that is read, item after item.
 use Rattle.std.proofs.Common.{◌≡◌, ℕ, false, List, [], ◌∷◌, ◌++◌, refl, sym, inr, subst}
-use Rattle.std.specs.Prelude.{◌⊎◌, Option, Ok}
+use Rattle.std.specs.Prelude.{◌⊎◌, Option}
 use Rattle.counted_io.specs.Streams.{Reader}
 use Rattle.properties_format.specs.Encoding.{Encoding}
 use Rattle.properties_format.specs.ItemsToCome.{ReaderState, start}
