@@ -1,14 +1,13 @@
 -- The lines of a body that are not well-formed UTF-8, found one after another.
-use Rattle.std.proofs.Common.{◌≡◌, ℕ, ◌+◌, ◌^◌, ◌<◌, ◌≤◌, true, false, List, [], ◌∷◌, ◌++◌, length}
-use Rattle.std.proofs.Common.{refl, sym, ap, subst, ◌∙◌, inl, inr, append_assoc, append-nil, arith}
-use Rattle.std.specs.Prelude.{if◌then◌else◌, Result, Ok, Err}
+use Rattle.std.proofs.Common.{◌≡◌, ◌≢◌, ℕ, ◌+◌, ◌<◌, Bool, true, false, List, [], ◌∷◌, length}
+use Rattle.std.proofs.Common.{refl, sym, ap, subst, ◌∙◌, inl, inr, arith}
+use Rattle.std.specs.Prelude.{if◌then◌else◌, Option, Some, None, Result, Ok, Err}
 use Rattle.std.specs.Result.{is_ok, MatchResult}
 use Rattle.std.specs.Str.{is_utf8, IsUtf8}
 use Rattle.std.proofs.lemmas.Bool.{cases_Bool}
 use Rattle.std.proofs.lemmas.Str.{IsUtf8-from_is_utf8, is_utf8-from_IsUtf8, IsUtf8-from_ascii}
-use Rattle.properties_format.specs.Encoding.{utf_8}
+use Rattle.properties_format.specs.Encoding.{Encoding, InForce, utf_8, byte_order_mark}
 use Rattle.properties_format.specs.Lines.{end, Ended, Line, Lines, numbered}
-use Rattle.properties_format.specs.Body.{HeldLine}
 use Rattle.properties_format.specs.Utf8.{IsWellFormedText}
 use Rattle.properties_format.specs.ItemsToCome.{ReaderState, start}
 use Rattle.properties_format.specs.Computed.Lines.{lines_of}
@@ -17,33 +16,23 @@ use Rattle.properties_format.proofs.Encodings.WellFormed.{IsUtf8-from_well_forme
 use Rattle.properties_format.proofs.Lines.Meets.{lines_of-meets}
 use Rattle.properties_format.proofs.Lines.Only.{lines_of-only}
 use Rattle.properties_text.specs.Encoding.{encoding_of}
-use Rattle.properties_lines.specs.Private.HeldLines.{IsInBody, held_line, lines_left}
-use Rattle.properties_lines.specs.Scanner.{scanner_state, is_decided, after_cr, bytes_of, Fits, GivesLine, HasRightFlags}
+use Rattle.properties_text.specs.declared.encoding.Encoding as code
+use Rattle.properties_text.specs.declared.encoding.Encoding.TheVariants.{WINDOWS_1252, UTF_8, UTF_16LE, UTF_16BE}
+use Rattle.properties_lines.specs.Private.HeldLines.{lines_left}
+use Rattle.properties_lines.specs.Scanner.{scanner_state, is_decided, after_cr, bytes_of, Fits, GivesLine}
 use Rattle.properties_lines.specs.declared.scanner.Front.TheVariants.{Mark, Feed}
 use Rattle.properties_lines.specs.declared.scanner.RawLine.{RawLine}
 use Rattle.properties_lines.specs.declared.scanner.Scanner.{Scanner}
 use Rattle.properties_lines.proofs.HeldLines.{body-next, body-after, body-lines_left}
-use Rattle.properties_tools.specs.Propedit.Lines.{AreIllFormed, AreIllFormedIn, HasIllFormedIn, IsFound}
 use Rattle.java_properties.proofs.FewLines.{few-held}
+use Rattle.properties_tools.specs.Propedit.Lines.{AreIllFormed, AreIllFormedIn, AreIllFormedUnder, HasIllFormed}
+use Rattle.properties_tools.specs.Private.IllFormed.{numbers_from, numbers_left, FindsFirstIllFormed, FindsNext, HasIllFormedIn, HasLinesOf, IsFound, IsScanning}
 
 -- ---- the numbers, computed
-
--- those of the lines after so many that are not UTF-8
-abbrev pub numbers_from : ℕ → List HeldLine → List ℕ
-numbers_from n [] = []
-numbers_from n (h ∷ hs) = if is_utf8 h.bytes then numbers_from (n + 1) hs else (n + 1) ∷ numbers_from (n + 1) hs
 
 -- bytes that are not UTF-8 are not well-formed
 not-well_formed : (d : List ℕ) → is_utf8 d ≡ false → ¬ IsWellFormedText d
 not-well_formed d k w = let t = is_utf8-from_IsUtf8 d (IsUtf8-from_well_formed d w) in cc
-
--- a line that is UTF-8 has no number among them
-numbers-pass : (n : ℕ) (h : HeldLine) (hs : List HeldLine) → is_utf8 h.bytes ≡ true → numbers_from n (h ∷ hs) ≡ numbers_from (n + 1) hs
-numbers-pass n h hs k = rw k refl
-
--- and one that is not has
-numbers-take : (n : ℕ) (h : HeldLine) (hs : List HeldLine) → is_utf8 h.bytes ≡ false → numbers_from n (h ∷ hs) ≡ (n + 1) ∷ numbers_from (n + 1) hs
-numbers-take n h hs k = rw k refl
 
 -- those of the last line
 last-meets : (n : ℕ) (last : List ℕ) → AreIllFormed (numbered n [] last end) (numbers_from n (held_of utf_8 [] last))
@@ -77,115 +66,92 @@ ill_formed-only body a b x y =
     numbers-only (numbered 0 (lines_of body).ended (lines_of body).last end) a b (subst (λ v. P v a) p x.are) (subst (λ v. P v b) q y.are)
 
 -- what is computed are the numbers of a body, and the only ones
-pub has-ill_formed : (body numbers : List ℕ) → numbers ≡ numbers_from 0 (held_lines_of utf_8 body) → HasIllFormedIn body numbers
-has-ill_formed body numbers same =
-    let are : AreIllFormedIn body numbers = record {
+pub has-ill_formed : (body : List ℕ) → HasIllFormedIn body (numbers_from 0 (held_lines_of utf_8 body))
+has-ill_formed body =
+    let are : AreIllFormedIn body (numbers_from 0 (held_lines_of utf_8 body)) = record {
       lines = lines_of body;
       divided = lines_of-meets body;
-      are = rw same (numbers-meet 0 (lines_of body).ended (lines_of body).last);
+      are = numbers-meet 0 (lines_of body).ended (lines_of body).last;
     } in
-    record { are = are; only = λ others h. ill_formed-only body others numbers h are }
+    record { are = are; only = λ others h. ill_formed-only body others _ h are }
+
+-- ---- the body of a source
+
+-- No line of a body in such an encoding is ill-formed.
+abbrev HasNone : Encoding → List ℕ → Type 0
+HasNone f body = AreIllFormedUnder f body [] × ((others : List ℕ) → AreIllFormedUnder f body others → others ≡ [])
+
+other-none : (f : code.Encoding) (body : List ℕ) → f ≢ UTF_8 → HasNone (encoding_of f) body
+other-none WINDOWS_1252 body h = (refl, λ others k. k)
+other-none UTF_8 body h = absurd (h refl)
+other-none UTF_16LE body h = (refl, λ others k. k)
+other-none UTF_16BE body h = (refl, λ others k. k)
+
+-- No bytes are one line, which is well-formed.
+no-bytes : HasIllFormedIn [] []
+no-bytes =
+    let k : is_utf8 [] ≡ true = is_utf8-from_IsUtf8 [] (IsUtf8-from_ascii [] (λ i. omega arith)) in
+    let h : HasIllFormedIn [] (numbers_from 0 (held_lines_of utf_8 [])) = has-ill_formed [] in
+    rw k at h
+
+-- So a source in another encoding than UTF-8 has the lines of no bytes.
+pub lines-none : (e : Encoding) (source body : List ℕ) (f : code.Encoding) → byte_order_mark e source ≡ record { encoding = encoding_of f; body = body } → f ≢ UTF_8
+    → HasLinesOf e source []
+lines-none e source body f is other = λ numbers h.
+    let none = subst (λ v. let w : InForce = v in HasNone w.encoding w.body) (sym is) (other-none f body other) in
+    subst (HasIllFormed e source) (h.only [] no-bytes.are) (record { are = none.0; only = none.1 })
 
 -- ---- line by line
 
--- These were found before the scanner's place: with those that are left they are the numbers of the body. The lines
--- before it and those that are left are at most one more than the bytes of the body.
-pub record HasFound (body : List ℕ) (s : Scanner) (numbers : List ℕ) : Type 0 where
-  pub encoding : encoding_of s.encoding ≡ utf_8
-  pub within_body : IsInBody s body
-  pub all : numbers ++ numbers_from s.passed (lines_left body s) ≡ numbers_from 0 (held_lines_of utf_8 body)
-  pub few : s.passed + length (lines_left body s) ≤ length body + 1
-
 -- at the start
-pub found-none : (body : List ℕ) (s : Scanner) (numbers : List ℕ) → encoding_of s.encoding ≡ utf_8 → Fits s body → s.at ≡ 0
-    → scanner_state s body ≡ record (start utf_8) { is_decided = true; held = body } → numbers ≡ [] → HasFound body s numbers
-found-none body s numbers e fits at stands none =
+pub scanning-start : (body : List ℕ) (s : Scanner) → encoding_of s.encoding ≡ utf_8 → Fits s body → s.at ≡ 0
+    → scanner_state s body ≡ record (start utf_8) { is_decided = true; held = body } → IsScanning body s × HasIllFormedIn body (numbers_left body s)
+scanning-start body s e fits at stands =
     let decided : is_decided s.front ≡ true = ap (λ v. let w : ReaderState = v in w.is_decided) stands in
     let alone : after_cr s.front ≡ false = ap (λ v. let w : ReaderState = v in w.after_cr) stands in
     let passed : s.passed ≡ 0 = ap (λ v. let w : ReaderState = v in w.passed) stands in
-    let going : s.is_done ≡ false = ap (λ v. let w : ReaderState = v in w.is_done) stands in
-    record {
-      encoding = e;
-      within_body = record {
-        fits = fits;
-        decided = λ w. let x : is_decided Mark ≡ true = subst (λ v. is_decided v ≡ true) w decided in absurd (cc);
-        alone = λ w. let x : after_cr Feed ≡ false = subst (λ v. after_cr v ≡ false) w alone in absurd (cc);
-      };
-      all = rw (none, passed, going, e, at) refl;
-      few = rw (passed, going, e, at) (omega (arith, few-held body));
-    }
+    let going : s.is_done ≡ false = ap (λ v. let w : ReaderState = v in w.is_done) stands in (
+      record {
+        encoding = e;
+        in_body = record {
+          fits = fits;
+          decided = λ w. let x : is_decided Mark ≡ true = subst (λ v. is_decided v ≡ true) w decided in absurd (cc);
+          alone = λ w. let x : after_cr Feed ≡ false = subst (λ v. after_cr v ≡ false) w alone in absurd (cc);
+        };
+        few = rw (passed, going, e, at) (omega (arith, few-held body));
+      },
+      rw (passed, going, e, at) (has-ill_formed body),
+    )
 
--- the line that came may be looked at
-pub found-line : (body : List ℕ) (s new : Scanner) (numbers : List ℕ) → HasFound body s numbers → GivesLine s body true new → IsFound body new.line
-found-line body s new numbers h g =
-    let e : encoding_of new.encoding ≡ utf_8 = (body-next s new body h.within_body g).0 ∙ h.encoding in
-    record { ordered = g.fits.line.0; within = g.fits.line.1; flags = subst (λ v. HasRightFlags v (bytes_of body new.line) new.line) e g.flags }
+-- the scan goes on after it
+pub found-scanning : (body : List ℕ) (s new : Scanner) → IsScanning body s → GivesLine s body true new → IsScanning body new
+found-scanning body s new h g = record {
+  encoding = (body-next s new body h.in_body g).0 ∙ h.encoding;
+  in_body = body-after s new body g;
+  few = omega (arith, h.few, g.number, ap length (body-lines_left s new body h.in_body g));
+}
 
--- a line that came is no longer left
-found-few : (body : List ℕ) (s new : Scanner) (numbers : List ℕ) → HasFound body s numbers → GivesLine s body true new
-    → new.passed + length (lines_left body new) ≤ length body + 1
-found-few body s new numbers h g = omega (arith, h.few, g.number, ap length (body-lines_left s new body h.within_body g))
-
--- a line that is UTF-8 came
-found-well : (body : List ℕ) (s new : Scanner) (numbers : List ℕ) → HasFound body s numbers → GivesLine s body true new
-    → is_utf8 (bytes_of body new.line) ≡ true → HasFound body new numbers
-found-well body s new numbers h g k =
-    let left = body-lines_left s new body h.within_body g in
+-- the numbers to come, by the line that came
+pub found-numbers : (body : List ℕ) (s new : Scanner) (is_well_formed : Bool) → IsScanning body s → GivesLine s body true new
+    → is_utf8 (bytes_of body new.line) ≡ is_well_formed
+    → numbers_left body s ≡ (if is_well_formed then numbers_left body new else new.passed ∷ numbers_left body new)
+found-numbers body s new is_well_formed h g k =
     let number : s.passed + 1 ≡ new.passed = sym g.number in
-    let first : numbers_from s.passed (lines_left body s) ≡ numbers_from new.passed (lines_left body new) =
-    ap (numbers_from s.passed) left
-    ∙ numbers-pass s.passed (held_line (encoding_of s.encoding) body new.line g.cut.ending) (lines_left body new) k
-    ∙ ap (λ n. numbers_from n (lines_left body new)) number in
-    record {
-      encoding = (body-next s new body h.within_body g).0 ∙ h.encoding;
-      within_body = body-after s new body g;
-      all = ap (λ v. numbers ++ v) (sym first) ∙ h.all;
-      few = found-few body s new numbers h g;
-    }
+    ap (numbers_from s.passed) (body-lines_left s new body h.in_body g)
+    ∙ ap (λ n. if is_utf8 (bytes_of body new.line) then numbers_from n (lines_left body new) else n ∷ numbers_from n (lines_left body new)) number
+    ∙ ap (λ v. if v then numbers_left body new else new.passed ∷ numbers_left body new) k
 
--- one that is not came, and its number was kept
-found-ill : (body : List ℕ) (s new : Scanner) (numbers numbers' : List ℕ) → HasFound body s numbers → GivesLine s body true new
-    → is_utf8 (bytes_of body new.line) ≡ false → numbers' ≡ numbers ++ (new.passed ∷ []) → HasFound body new numbers'
-found-ill body s new numbers numbers' h g k pushed =
-    let left = body-lines_left s new body h.within_body g in
-    let number : s.passed + 1 ≡ new.passed = sym g.number in
-    let first : numbers_from s.passed (lines_left body s) ≡ new.passed ∷ numbers_from new.passed (lines_left body new) =
-    ap (numbers_from s.passed) left
-    ∙ numbers-take s.passed (held_line (encoding_of s.encoding) body new.line g.cut.ending) (lines_left body new) k
-    ∙ ap (λ n. n ∷ numbers_from n (lines_left body new)) number in
-    record {
-      encoding = (body-next s new body h.within_body g).0 ∙ h.encoding;
-      within_body = body-after s new body g;
-      all =
-          ap (λ v. v ++ numbers_from new.passed (lines_left body new)) pushed
-          ∙ append_assoc numbers (new.passed ∷ []) (numbers_from new.passed (lines_left body new))
-          ∙ ap (λ v. numbers ++ v) (sym first)
-          ∙ h.all;
-      few = found-few body s new numbers h g;
-    }
-
--- a line came, and its number was kept where it is not UTF-8
-pub found-next : (body : List ℕ) (s new : Scanner) (numbers numbers' : List ℕ) → HasFound body s numbers → GivesLine s body true new
-    → numbers' ≡ (if is_utf8 (bytes_of body new.line) then numbers else (numbers ++ (new.passed ∷ []))) → HasFound body new numbers'
-found-next body s new numbers numbers' h g kept = elim (cases_Bool (is_utf8 (bytes_of body new.line))) [
-  | inl k ↦ subst (HasFound body new) (sym (rw k at kept)) (found-well body s new numbers h g k)
-  | inr k ↦ found-ill body s new numbers numbers' h g k (rw k at kept)
-]
+-- The first number to come is that of the source.
+pub found-first : {e : Encoding} {source : List ℕ} (body : List ℕ) (s new : Scanner) (answer : Option ℕ) → HasLinesOf e source body → HasIllFormedIn body (numbers_left body s)
+    → FindsNext body s answer new → FindsFirstIllFormed e source answer
+found-first body s new None lines all none = (lines [] (subst (HasIllFormedIn body) none all)).are
+found-first body s new (Some number) lines all next =
+    let rest = numbers_left body new in
+    (rest, (lines (number ∷ rest) (subst (HasIllFormedIn body) next.1 all)).are)
 
 -- one line fewer is left
-pub found-fewer : (body : List ℕ) (s new : Scanner) (numbers : List ℕ) → HasFound body s numbers → GivesLine s body true new
-    → length (lines_left body new) < length (lines_left body s)
-found-fewer body s new numbers h g = omega (arith, ap length (body-lines_left s new body h.within_body g))
-
--- a slice has a number for each of its lines
-pub found-numbered : (body : List ℕ) (s : Scanner) (numbers : List ℕ) → HasFound body s numbers → length body + 2 < 2 ^ 64 → s.passed + 1 ≡ 2 ^ 64 → ⊥
-found-numbered body s numbers h small many = omega (arith, h.few)
-
--- nothing is left
-pub found-all : (body : List ℕ) (s : Scanner) (numbers : List ℕ) → HasFound body s numbers → s.is_done ≡ true → HasIllFormedIn body numbers
-found-all body s numbers h done =
-    let left : lines_left body s ≡ [] = rw done refl in
-    has-ill_formed body numbers (sym (append-nil numbers) ∙ ap (λ v. numbers ++ v) (sym (ap (numbers_from s.passed) left)) ∙ h.all)
+pub found-fewer : (body : List ℕ) (s new : Scanner) → IsScanning body s → GivesLine s body true new → length (lines_left body new) < length (lines_left body s)
+found-fewer body s new h g = omega (arith, ap length (body-lines_left s new body h.in_body g))
 
 -- ---- a line
 

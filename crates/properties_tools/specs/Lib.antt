@@ -3,3 +3,4 @@ pub mod Messages
 pub mod Filter
 pub mod Propfilter
 pub mod Propedit
+pub mod Private

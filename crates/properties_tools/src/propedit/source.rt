@@ -4,7 +4,7 @@ ghost use Rattle.properties_text.specs.Encoding.{encoding_of};
 ghost use Rattle.properties_tools.specs.Propedit.Sources.{FindsKeysIn, FindsMalformedIn, IsNotUtf8, RefusesUnsound};
 
 use crate::propedit::error::Failure;
-use crate::propedit::lines::ill_formed_lines;
+use crate::propedit::lines::first_ill_formed_line;
 use java_properties::{
     Encoding, KeyLine, MalformedEscape, PropertiesError, key_lines, malformed_escapes,
 };
@@ -15,9 +15,8 @@ use std::alloc::Global;
 pub fn refuse_unsound(alloc: Global, source: &[u8], encoding: Encoding) -> Result<(), Failure>
     ensures { RefusesUnsound (encoding_of encoding) source.now result }
 {
-    let numbers = ill_formed_lines(alloc, source, encoding)?;
-    if let Some(number) = numbers.first() {
-        return Err(not_utf_8(source, *number));
+    if let Some(number) = first_ill_formed_line(source, encoding) {
+        return Err(not_utf_8(source, number));
     }
     let escapes = malformed_in(alloc, source, encoding)?;
     match escapes.first() {

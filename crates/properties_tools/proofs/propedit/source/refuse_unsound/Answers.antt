@@ -5,6 +5,5 @@ use Rattle.properties_tools.proofs.propedit.source.refuse_unsound.Goals as goal
 
 pub returns-in-Some-first : goal.returns-in-Some-first
 returns-in-Some-first c =
-    let none = c.in_default.ensures.value ∙ ap (λ v. slice_get v 0) c.deref.ensures.value in
-    let first = c.in-Some-first.ensures.value ∙ ap (λ v. slice_get v 0) c.deref-2.ensures.value in
-    first-malformed c.in_ok-numbers.numbers.items c.in_ok-escapes.escapes.items c.in-Some-first.escape.now c.in_ok-numbers.ensures none c.in_ok-escapes.ensures first
+    let first = c.in-Some-first.ensures.value ∙ ap (λ v. slice_get v 0) c.deref.ensures.value in
+    first-malformed c.in_ok-escapes.escapes.items c.in-Some-first.escape.now c.in_default.ensures c.in_ok-escapes.ensures first

@@ -1,0 +1,31 @@
+use Rattle.std.proofs.Common.{◌≡◌, ◌∷◌, true, false, sym, ap, ◌∙◌}
+use Rattle.std.specs.Str.{is_utf8}
+use Rattle.properties_lines.specs.Scanner.{bytes_of}
+use Rattle.properties_tools.specs.Private.IllFormed.{numbers_left}
+use Rattle.properties_tools.proofs.IllFormed.{found-scanning, found-numbers, found-fewer}
+use Rattle.properties_tools.proofs.propedit.lines.next_ill_formed.Goals as goal
+
+pub returns-then-not-is_well_formed : goal.returns-then-not-is_well_formed
+returns-then-not-is_well_formed c =
+    let body = c.args.body.now in
+    let s = c.loop-scanner.scanner in
+    let new = c.next.new.self in
+    let h = c.loop-scanner.invariant in
+    let g = c.in-Line.ensures in
+    let k : is_utf8 (bytes_of body new.line) ≡ false = (let line = c.line.ensures in let well = c.is_well_formed.ensures in let test = c.if-not-is_well_formed.true in cc) in (
+      found-scanning body s new h.scanning g,
+      h.same ∙ found-numbers body s new false h.scanning g k ∙ ap (λ n. n ∷ numbers_left body new) (sym c.number.ensures),
+    )
+
+pub loop-scanner-smaller : goal.loop-scanner-smaller
+loop-scanner-smaller c = found-fewer c.args.body.now c.loop-scanner.scanner c.next.new.self c.loop-scanner.invariant.scanning c.in-Line.ensures
+
+pub loop-scanner-preserved : goal.loop-scanner-preserved
+loop-scanner-preserved c =
+    let body = c.args.body.now in
+    let s = c.loop-scanner.scanner in
+    let new = c.next.new.self in
+    let h = c.loop-scanner.invariant in
+    let g = c.in-Line.ensures in
+    let k : is_utf8 (bytes_of body new.line) ≡ true = (let line = c.line.ensures in let well = c.is_well_formed.ensures in let test = c.if-not-is_well_formed.false in cc) in
+    record { scanning = found-scanning body s new h.scanning g; same = h.same ∙ found-numbers body s new true h.scanning g k }
