@@ -30,10 +30,10 @@ use properties_text::print::{LineBuffer, Pair, Place, Repertoire, print_key, pri
 use propedit_arguments::{asked_for, explain};
 use properties_tools::arguments::words;
 use properties_tools::filter::{filter, filter_ascii};
-use properties_tools::messages::{say, say_error};
+use properties_tools::messages::{print_error, print_line};
 use properties_tools::propedit::answers::{answer_to, name};
 use properties_tools::propedit::asked::{Command, Edits, FileEdits, Missing, Request, Source, TextEnd, Work};
-use properties_tools::propedit::error::{Failure, say_failure};
+use properties_tools::propedit::error::{Failure, print_failure};
 use properties_tools::propedit::in_place::{Original, edit_file};
 use properties_tools::propedit::lines::ill_formed_lines;
 use properties_tools::propedit::{self, change::change, check::report, exit_status, get::get, list::list, replacement};

@@ -5,7 +5,7 @@ use crate::streams::{AMPLE, owned, sink};
 use counted_io::CountedWrite;
 use propedit_arguments::asked_for;
 use properties_tools::propedit::asked::{Missing, Request};
-use properties_tools::propedit::in_place::{Original, edit_file};
+use properties_tools::propedit::in_place::{Target, edit_file};
 use std::fs::{self, File, Permissions};
 use std::io::{self, Read, Write};
 use std::os::unix::fs::{PermissionsExt, symlink};
@@ -43,14 +43,9 @@ struct Outcome {
 }
 
 // Puts these bytes into a file that was read.
-fn replace(
-    rt: &HostRuntime,
-    original: Original,
-    path: &str,
-    bytes: &[u8],
-) -> Result<Outcome, Fail> {
+fn replace(rt: &HostRuntime, target: Target, path: &str, bytes: &[u8]) -> Result<Outcome, Fail> {
     let alloc = rt.alloc();
-    let said = match original.replace(rt, alloc, bytes) {
+    let said = match target.replace(rt, alloc, bytes) {
         Ok(()) => String::new(alloc),
         Err(error) => format!(in alloc; "{error}")?,
     };
@@ -86,9 +81,9 @@ const KEPT: &str = "kept.properties";
 fn check_kept(abort: &impl Abort, rt: &HostRuntime, row: usize, mode: u32) -> Result<(), Fail> {
     make(rt, KEPT, b"port = 80\n")?;
     set_mode(rt, KEPT, mode)?;
-    let original = Original::read(rt, rt.alloc(), KEPT, Missing::Refuse)?;
-    same(abort, row, Bytes(original.bytes()), Bytes(b"port = 80\n"));
-    let outcome = replace(rt, original, KEPT, b"port=8080\n")?;
+    let target = Target::read(rt, rt.alloc(), KEPT, Missing::Refuse)?;
+    same(abort, row, Bytes(target.bytes()), Bytes(b"port = 80\n"));
+    let outcome = replace(rt, target, KEPT, b"port=8080\n")?;
     check_outcome(abort, row, &outcome, "", b"port=8080\n", mode);
     fs::remove_file(rt, KEPT)?;
     Ok(())
@@ -114,10 +109,10 @@ fn check_changed(
 ) -> Result<(), Fail> {
     make(rt, CHANGED, b"a=1")?;
     set_mode(rt, CHANGED, 0o644)?;
-    let original = Original::read(rt, rt.alloc(), CHANGED, Missing::Refuse)?;
+    let target = Target::read(rt, rt.alloc(), CHANGED, Missing::Refuse)?;
     File::create(rt, CHANGED)?.write_all(bytes)?;
     set_mode(rt, CHANGED, mode)?;
-    let outcome = replace(rt, original, CHANGED, b"a=2")?;
+    let outcome = replace(rt, target, CHANGED, b"a=2")?;
     check_outcome(
         abort,
         row,
@@ -143,8 +138,8 @@ fn check_link(abort: &impl Abort, rt: &HostRuntime, path: &str, link: &str) -> R
     set_mode(rt, path, 0o644)?;
     let _ = fs::remove_file(rt, link);
     symlink(rt, path, link)?;
-    let original = Original::read(rt, rt.alloc(), link, Missing::Refuse)?;
-    let outcome = replace(rt, original, path, b"a=2")?;
+    let target = Target::read(rt, rt.alloc(), link, Missing::Refuse)?;
+    let outcome = replace(rt, target, path, b"a=2")?;
     check_outcome(abort, 1, &outcome, "", b"a=2", 0o644);
     let is_link = fs::symlink_metadata(rt, link)?.is_symlink();
     let is_file = fs::symlink_metadata(rt, path)?.is_file();
@@ -163,7 +158,7 @@ fn the_target_of_a_link_is_replaced(rt: HostRuntime) -> Result<(), Fail> {
 fn regular_files_alone_are_read(rt: HostRuntime) {
     let paths = ["no such file", "no such folder/a", ".", "/dev/null"];
     for (number, path) in (1usize..).zip(paths.as_slice()) {
-        let is_refused = Original::read(&rt, rt.alloc(), path, Missing::Refuse).is_err();
+        let is_refused = Target::read(&rt, rt.alloc(), path, Missing::Refuse).is_err();
         same(&rt, number, is_refused, true);
     }
 }

@@ -6,7 +6,7 @@ use crate::streams::{AMPLE, OTHER, Plan, sink};
 use counted_io::{SinkFault, Tail};
 use java_properties::PropertiesError;
 use properties_tools::propedit::error::Failure;
-use properties_tools::propedit::{exit_status, lack_memory, refuse_bytes};
+use properties_tools::propedit::{exit_status, print_not_utf_8, print_out_of_memory};
 use std::io::{self, ErrorKind};
 use std::test::Fail;
 
@@ -700,8 +700,8 @@ fn failures_before_a_run_are_printed(rt: HostRuntime) {
     let mut errors = sink(alloc, AMPLE);
     let absent = PropertiesError::from(io::Error::from(ErrorKind::NotFound));
     let statuses = (
-        refuse_bytes(&mut errors),
-        lack_memory(&mut errors),
+        print_not_utf_8(&mut errors),
+        print_out_of_memory(&mut errors),
         exit_status(
             alloc,
             &mut errors,

@@ -4,7 +4,7 @@ use crate::runs::{Program, Row, SOUND, Streams, check_run, check_runs, check_wor
 use crate::same::{Bytes, same};
 use crate::streams::{AMPLE, sink};
 use counted_io::Tail;
-use properties_tools::propfilter::refuse_bytes;
+use properties_tools::propfilter::print_not_utf_8;
 use std::io::ErrorKind;
 use std::test::Fail;
 
@@ -127,7 +127,7 @@ fn errors_are_printed(rt: HostRuntime) -> Result<(), Fail> {
 #[test]
 fn an_argument_that_is_not_utf_8_is_refused(rt: HostRuntime) {
     let mut errors = sink(rt.alloc(), AMPLE);
-    let status = refuse_bytes(&mut errors);
+    let status = print_not_utf_8(&mut errors);
     let wanted = Bytes(b"propfilter: an argument is not UTF-8\n");
     same(&rt, 1, (status, Bytes(errors.bytes())), (1, wanted));
 }

@@ -7,7 +7,7 @@ use properties_tools::arguments::words;
 use properties_tools::propedit::asked::{CheckedFiles, Command, Request, Source, Work};
 use properties_tools::propedit::error::Failure;
 use properties_tools::propedit::in_place::edit_file;
-use properties_tools::propedit::{exit_status, lack_memory, refuse_bytes, run};
+use properties_tools::propedit::{exit_status, print_not_utf_8, print_out_of_memory, run};
 use std::alloc::Global;
 use std::env;
 use std::fs::File;
@@ -21,7 +21,7 @@ fn main(rt: HostRuntime) -> ExitCode {
     let mut errors = Counted::new(rt.stderr());
     let status = match status(&rt, &mut errors) {
         Ok(status) => status,
-        Err(_) => lack_memory(&mut errors),
+        Err(_) => print_out_of_memory(&mut errors),
     };
     ExitCode::from(status)
 }
@@ -30,7 +30,7 @@ fn main(rt: HostRuntime) -> ExitCode {
 fn status<E: CountedWrite>(rt: &HostRuntime, errors: &mut E) -> io::Result<u8> {
     let alloc = rt.alloc();
     let Some(words) = words(alloc, env::args(rt))? else {
-        return Ok(refuse_bytes(errors));
+        return Ok(print_not_utf_8(errors));
     };
     let mut output = Counted::new(BufWriter::with_capacity(alloc, BLOCK, rt.stdout())?);
     match asked_for(alloc, words.as_slice()) {

@@ -1,4 +1,4 @@
-// What words ask for, and what is said of words that ask for nothing.
+// What words ask for, and what is printed of words that ask for nothing.
 
 ghost use Rattle.counted_io.specs.Streams.{IsSameSink};
 
@@ -11,7 +11,7 @@ use clap::{ArgMatches, Error};
 use counted_io::CountedWrite;
 use java_properties::Edit;
 use properties_tools::propedit::asked::{CheckedFiles, Command, Edits, FileEdits, Request};
-use properties_tools::propedit::{lack_memory, refuse, show};
+use properties_tools::propedit::{print_out_of_memory, print_text, print_usage_error};
 use std::alloc::{AllocError, Global};
 
 /// Returns what the words after the program's name ask for.
@@ -54,12 +54,12 @@ pub fn explain<W: CountedWrite, E: CountedWrite>(
     ensures same_error_sink { IsSameSink E.CountedWrite errors.old errors.new }
 {
     if error.kind() == ErrorKind::OutOfMemory {
-        return lack_memory(errors);
+        return print_out_of_memory(errors);
     }
     match format!(in alloc; "{error}") {
-        Ok(text) if error.use_stderr() => refuse(errors, text.as_str()),
-        Ok(text) => show(alloc, text.as_str(), output, errors),
-        Err(_) => lack_memory(errors),
+        Ok(text) if error.use_stderr() => print_usage_error(errors, text.as_str()),
+        Ok(text) => print_text(alloc, text.as_str(), output, errors),
+        Err(_) => print_out_of_memory(errors),
     }
 }
 

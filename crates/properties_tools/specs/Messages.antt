@@ -6,7 +6,7 @@ use Rattle.properties_format.specs.Text.{line_feed}
 use Rattle.java_properties.specs.DisplayTexts.{error_display}
 use Rattle.properties_items.specs.declared.error.PropertiesError.{PropertiesError}
 
--- the line that says a text
+-- the line of a text
 abbrev pub printed_line : List ℕ → List ℕ
 printed_line text = text ++ (line_feed ∷ [])
 
@@ -17,17 +17,17 @@ pub record HasPrintedLine {W : Type 0} (sink : Sink W) (old : W) (line : List �
   pub sent : Sends sink old line result middle
   pub flushed : HasFlushed sink middle new ⊎ ((source : Error) × HasFailedFlush sink middle source new)
 
--- A text is said as a line, if there is memory for the line.
+-- A text is printed as a line, if there is memory for the line.
 abbrev pub PrintsLineIfMemory : {W : Type 0} → Sink W → W → List ℕ → W → Type 0
 PrintsLineIfMemory sink old text new = HasPrintedLine sink old (printed_line text) new ⊎ (new ≡ old)
 
--- The text of an error is said.
+-- The text of an error is printed.
 pub record PrintsError {W : Type 0} (sink : Sink W) (old : W) (error : PropertiesError) (new : W) : Type 0 where
   pub text : List ℕ
   pub is_text : error_display error ≡ Some text
-  pub says : PrintsLineIfMemory sink old text new
+  pub prints : PrintsLineIfMemory sink old text new
 
--- What is said of a result: nothing, or the text of its error.
+-- What is printed of a result: nothing, or the text of its error.
 abbrev pub PrintsErrorOf : {A W : Type 0} → Sink W → W → Result A PropertiesError → W → Type 0
 PrintsErrorOf sink old (Ok done) new = new ≡ old
 PrintsErrorOf sink old (Err error) new = PrintsError sink old error new

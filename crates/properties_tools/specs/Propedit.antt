@@ -87,15 +87,15 @@ pub record Runs {R W E : Type 0} (reader : Reader R) (sink : Sink W) (error_sink
 -- ---- a text
 
 -- the result of printing a text
-abbrev pub shown : Result Unit PropertiesError → Result ℕ Failure
-shown (Ok done) = Ok 0
-shown (Err error) = Err (Output error)
+abbrev pub printed_status : Result Unit PropertiesError → Result ℕ Failure
+printed_status (Ok done) = Ok 0
+printed_status (Err error) = Err (Output error)
 
 -- What the program does with a text: it prints it, and ends so.
-pub record Shows {W E : Type 0} (sink : Sink W) (error_sink : Sink E) (text : List ℕ) (output : W) (errors : E) (status : ℕ) (output' : W) (errors' : E) : Type 0 where
+pub record PrintsText {W E : Type 0} (sink : Sink W) (error_sink : Sink E) (text : List ℕ) (output : W) (errors : E) (status : ℕ) (output' : W) (errors' : E) : Type 0 where
   pub result : Result Unit PropertiesError
   pub writes : WritesSource sink output text result output'
-  pub ends : Ends error_sink standard_output errors (shown result) status errors'
+  pub ends : Ends error_sink standard_output errors (printed_status result) status errors'
 
 -- ---- in place
 

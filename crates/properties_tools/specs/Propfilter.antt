@@ -51,7 +51,7 @@ abbrev pub status_of : Result Unit PropertiesError → ℕ
 status_of (Ok done) = 0
 status_of (Err error) = 1
 
--- The input was filtered to the output in the encoding that was asked for, to ASCII alone where that was asked for, and an error was said on `errors`.
+-- The input was filtered to the output in the encoding that was asked for, to ASCII alone where that was asked for, and an error was printed on `errors`.
 pub record HasRun {R W E : Type 0} (reader : Reader R) (sink : Sink W) (error_sink : Sink E) (arguments : List (List ℕ)) (input : R) (output : W) (errors : E)
     (status : ℕ) (input' : R) (output' : W) (errors' : E) : Type 0 where
   pub encoding : Encoding
@@ -60,16 +60,16 @@ pub record HasRun {R W E : Type 0} (reader : Reader R) (sink : Sink W) (error_si
   pub result : Result Unit PropertiesError
   pub filters : Filters reader sink encoding only input output result input' output'
   pub answer : status ≡ status_of result
-  pub says : PrintsErrorOf error_sink errors result errors'
+  pub prints : PrintsErrorOf error_sink errors result errors'
 
--- The arguments ask for nothing that there is: nothing was read or written, and the usage was said on `errors`.
+-- The arguments ask for nothing that there is: nothing was read or written, and the usage was printed on `errors`.
 pub record RefusesArguments {R W E : Type 0} (error_sink : Sink E) (arguments : List (List ℕ)) (input : R) (output : W) (errors : E)
     (status : ℕ) (input' : R) (output' : W) (errors' : E) : Type 0 where
   pub unasked : (e : Encoding) (only : Bool) → Asks arguments e only → ⊥
   pub answer : status ≡ 2
   pub unread : input' ≡ input
   pub unwritten : output' ≡ output
-  pub says : HasPrintedLine error_sink errors (printed_line usage) errors'
+  pub prints : HasPrintedLine error_sink errors (printed_line usage) errors'
 
 -- What the program does with these arguments.
 abbrev pub Runs : {R W E : Type 0} → Reader R → Sink W → Sink E → List (List ℕ) → R → W → E → ℕ → R → W → E → Type 0

@@ -14,10 +14,10 @@ use std::alloc::Global;
 ///
 /// ```text
 /// let mut errors = Counted::new(Vec::new(alloc));
-/// say(&mut errors, "no such key\n");
+/// print_line(&mut errors, "no such key\n");
 /// ```
-pub fn say<E: CountedWrite>(errors: &mut E, line: &str)
-    ensures says { HasPrintedLine E.CountedWrite errors.old line.now errors.new }
+pub fn print_line<E: CountedWrite>(errors: &mut E, line: &str)
+    ensures prints { HasPrintedLine E.CountedWrite errors.old line.now errors.new }
     ensures same_sink { IsSameSink E.CountedWrite errors.old errors.new }
 {
     let _ = send(errors, line.as_bytes());
@@ -30,13 +30,13 @@ pub fn say<E: CountedWrite>(errors: &mut E, line: &str)
 /// ```text
 /// let mut errors = Counted::new(Vec::new(alloc));
 /// let error = PropertiesError::from(io::Error::from(ErrorKind::NotFound));
-/// say_error(alloc, &mut errors, error);
+/// print_error(alloc, &mut errors, error);
 /// ```
-pub fn say_error<E: CountedWrite>(alloc: Global, errors: &mut E, error: PropertiesError)
-    ensures says { IfSome (error_display error) (λ text. PrintsLineIfMemory E.CountedWrite errors.old text errors.new) }
+pub fn print_error<E: CountedWrite>(alloc: Global, errors: &mut E, error: PropertiesError)
+    ensures prints { IfSome (error_display error) (λ text. PrintsLineIfMemory E.CountedWrite errors.old text errors.new) }
     ensures same_sink { IsSameSink E.CountedWrite errors.old errors.new }
 {
     if let Ok(line) = format!(in alloc; "{error}\n") {
-        say(errors, line.as_str());
+        print_line(errors, line.as_str());
     }
 }

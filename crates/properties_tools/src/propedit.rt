@@ -15,14 +15,14 @@ ghost use Rattle.std.specs.Prelude.{◌≡◌};
 ghost use Rattle.counted_io.specs.Streams.{IsSameReader, IsSameSink};
 ghost use Rattle.properties_text.specs.Encoding.{encoding_of};
 ghost use Rattle.properties_tools.specs.Messages.{printed_line, HasPrintedLine};
-ghost use Rattle.properties_tools.specs.Propedit.{not_utf_8, Ends, Prints, Replaces, Runs, Shows};
+ghost use Rattle.properties_tools.specs.Propedit.{not_utf_8, Ends, Prints, Replaces, Runs, PrintsText};
 ghost use Rattle.properties_tools.specs.Propedit.Failures.{memory_words};
 
-use crate::messages::say;
+use crate::messages::print_line;
 use crate::propedit::answers::{answer_to, name};
 use crate::propedit::asked::{Edits, Work};
 use crate::propedit::change::change;
-use crate::propedit::error::{Failure, NO_MEMORY, STANDARD_OUTPUT, say_failure};
+use crate::propedit::error::{Failure, NO_MEMORY, STANDARD_OUTPUT, print_failure};
 use counted_io::{CountedRead, CountedWrite};
 use java_properties::{Encoding, read_source, write_source};
 use std::alloc::Global;
@@ -125,7 +125,7 @@ pub fn exit_status<E: CountedWrite>(
     match outcome {
         Ok(status) => status,
         Err(failure) => {
-            say_failure(alloc, errors, name, &failure);
+            print_failure(alloc, errors, name, &failure);
             FAILED
         }
     }
@@ -136,15 +136,15 @@ pub fn exit_status<E: CountedWrite>(
 ///
 /// ```text
 /// let mut output = Counted::new(Vec::new(alloc));
-/// propedit::show(alloc, "propedit 1.6.0\n", &mut output, &mut errors); // 0, and the output holds the text
+/// propedit::print_text(alloc, "propedit 1.6.0\n", &mut output, &mut errors); // 0, and the output holds the text
 /// ```
-pub fn show<W: CountedWrite, E: CountedWrite>(
+pub fn print_text<W: CountedWrite, E: CountedWrite>(
     alloc: Global,
     text: &str,
     output: &mut W,
     errors: &mut E,
 ) -> u8
-    ensures shows { Shows W.CountedWrite E.CountedWrite text.now
+    ensures prints { PrintsText W.CountedWrite E.CountedWrite text.now
         output.old errors.old result output.new errors.new }
     ensures same_sink { IsSameSink W.CountedWrite output.old output.new }
     ensures same_error_sink { IsSameSink E.CountedWrite errors.old errors.new }
@@ -161,14 +161,14 @@ pub fn show<W: CountedWrite, E: CountedWrite>(
 ///
 /// ```text
 /// let mut errors = Counted::new(Vec::new(alloc));
-/// propedit::refuse(&mut errors, "error: unrecognized subcommand 'gett'\n"); // 2, and this is printed
+/// propedit::print_usage_error(&mut errors, "error: unrecognized subcommand 'gett'\n"); // 2, and this is printed
 /// ```
-pub fn refuse<E: CountedWrite>(errors: &mut E, text: &str) -> u8
+pub fn print_usage_error<E: CountedWrite>(errors: &mut E, text: &str) -> u8
     ensures status { result ≡ 2 }
-    ensures says { HasPrintedLine E.CountedWrite errors.old text.now errors.new }
+    ensures prints { HasPrintedLine E.CountedWrite errors.old text.now errors.new }
     ensures same_sink { IsSameSink E.CountedWrite errors.old errors.new }
 {
-    say(errors, text);
+    print_line(errors, text);
     FAILED
 }
 
@@ -178,14 +178,14 @@ pub fn refuse<E: CountedWrite>(errors: &mut E, text: &str) -> u8
 ///
 /// ```text
 /// let mut errors = Counted::new(Vec::new(alloc));
-/// propedit::refuse_bytes(&mut errors); // 2, and one line is printed
+/// propedit::print_not_utf_8(&mut errors); // 2, and one line is printed
 /// ```
-pub fn refuse_bytes<E: CountedWrite>(errors: &mut E) -> u8
+pub fn print_not_utf_8<E: CountedWrite>(errors: &mut E) -> u8
     ensures status { result ≡ 2 }
-    ensures says { HasPrintedLine E.CountedWrite errors.old (printed_line not_utf_8) errors.new }
+    ensures prints { HasPrintedLine E.CountedWrite errors.old (printed_line not_utf_8) errors.new }
     ensures same_sink { IsSameSink E.CountedWrite errors.old errors.new }
 {
-    say(errors, NOT_UTF_8);
+    print_line(errors, NOT_UTF_8);
     FAILED
 }
 
@@ -195,13 +195,13 @@ pub fn refuse_bytes<E: CountedWrite>(errors: &mut E) -> u8
 ///
 /// ```text
 /// let mut errors = Counted::new(Vec::new(alloc));
-/// propedit::lack_memory(&mut errors); // 2, and one line is printed
+/// propedit::print_out_of_memory(&mut errors); // 2, and one line is printed
 /// ```
-pub fn lack_memory<E: CountedWrite>(errors: &mut E) -> u8
+pub fn print_out_of_memory<E: CountedWrite>(errors: &mut E) -> u8
     ensures status { result ≡ 2 }
-    ensures says { HasPrintedLine E.CountedWrite errors.old (printed_line memory_words) errors.new }
+    ensures prints { HasPrintedLine E.CountedWrite errors.old (printed_line memory_words) errors.new }
     ensures same_sink { IsSameSink E.CountedWrite errors.old errors.new }
 {
-    say(errors, NO_MEMORY);
+    print_line(errors, NO_MEMORY);
     FAILED
 }

@@ -7,7 +7,7 @@ ghost use Rattle.properties_tools.specs.Messages.{printed_line, HasPrintedLine};
 ghost use Rattle.properties_tools.specs.Propfilter.{asked_of, not_utf_8, usage, IsAsked, IsNamedWith, Runs};
 
 use crate::filter::filter_with;
-use crate::messages::{say, say_error};
+use crate::messages::{print_error, print_line};
 use counted_io::{CountedRead, CountedWrite};
 use java_properties::Encoding;
 use std::alloc::Global;
@@ -51,12 +51,12 @@ pub fn run<R: CountedRead, W: CountedWrite, E: CountedWrite>(
     ensures same_error_sink { IsSameSink E.CountedWrite errors.old errors.new }
 {
     let Some(asked) = asked_for(arguments) else {
-        return refuse(errors);
+        return print_usage(errors);
     };
     match filter_with(alloc, input, output, asked.encoding, asked.ascii_only) {
         Ok(()) => 0,
         Err(error) => {
-            say_error(alloc, errors, error);
+            print_error(alloc, errors, error);
             1
         }
     }
@@ -68,24 +68,24 @@ pub fn run<R: CountedRead, W: CountedWrite, E: CountedWrite>(
 ///
 /// ```text
 /// let mut errors = Counted::new(Vec::new(alloc));
-/// propfilter::refuse_bytes(&mut errors); // 1, and one line is printed
+/// propfilter::print_not_utf_8(&mut errors); // 1, and one line is printed
 /// ```
-pub fn refuse_bytes<E: CountedWrite>(errors: &mut E) -> u8
+pub fn print_not_utf_8<E: CountedWrite>(errors: &mut E) -> u8
     ensures answer { result ≡ 1 }
-    ensures says { HasPrintedLine E.CountedWrite errors.old (printed_line not_utf_8) errors.new }
+    ensures prints { HasPrintedLine E.CountedWrite errors.old (printed_line not_utf_8) errors.new }
     ensures same_sink { IsSameSink E.CountedWrite errors.old errors.new }
 {
-    say(errors, NOT_UTF_8);
+    print_line(errors, NOT_UTF_8);
     1
 }
 
 // Prints the usage, and returns the exit status for invalid arguments.
-fn refuse<E: CountedWrite>(errors: &mut E) -> u8
+fn print_usage<E: CountedWrite>(errors: &mut E) -> u8
     ensures answer { result ≡ 2 }
-    ensures says { HasPrintedLine E.CountedWrite errors.old (printed_line usage) errors.new }
+    ensures prints { HasPrintedLine E.CountedWrite errors.old (printed_line usage) errors.new }
     ensures same_sink { IsSameSink E.CountedWrite errors.old errors.new }
 {
-    say(errors, USAGE);
+    print_line(errors, USAGE);
     2
 }
 

@@ -3,7 +3,7 @@
 
 use counted_io::Counted;
 use properties_tools::arguments::words;
-use properties_tools::propfilter::{refuse_bytes, run};
+use properties_tools::propfilter::{print_not_utf_8, run};
 use std::env;
 use std::io::{self, BufWriter};
 use std::process::ExitCode;
@@ -20,7 +20,7 @@ fn status(rt: &HostRuntime) -> io::Result<u8> {
     let alloc = rt.alloc();
     let mut errors = Counted::new(rt.stderr());
     let Some(words) = words(alloc, env::args(rt))? else {
-        return Ok(refuse_bytes(&mut errors));
+        return Ok(print_not_utf_8(&mut errors));
     };
     let mut input = Counted::new(rt.stdin());
     let mut output = Counted::new(BufWriter::with_capacity(alloc, BLOCK, rt.stdout())?);

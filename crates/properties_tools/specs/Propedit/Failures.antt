@@ -108,12 +108,12 @@ IsMessageLine name failure line = (text : List ℕ) × IsMessage name failure te
 pub record PrintsMessage {W : Type 0} (sink : Sink W) (old : W) (name : List ℕ) (failure : Failure) (new : W) : Type 0 where
   pub text : List ℕ
   pub is_message : IsMessage name failure text
-  pub says : HasPrintedLine sink old (printed_line text) new
+  pub prints : HasPrintedLine sink old (printed_line text) new
 
 -- That memory ran out was printed as a line, as far as the sink took it.
-abbrev pub SaysMemory : {W : Type 0} → Sink W → W → W → Type 0
-SaysMemory sink old new = HasPrintedLine sink old (printed_line memory_words) new
+abbrev pub PrintsOutOfMemory : {W : Type 0} → Sink W → W → W → Type 0
+PrintsOutOfMemory sink old new = HasPrintedLine sink old (printed_line memory_words) new
 
 -- The message of a failure is printed as a line, or that there is no memory for it.
 abbrev pub PrintsFailure : {W : Type 0} → Sink W → W → List ℕ → Failure → W → Type 0
-PrintsFailure sink old name failure new = PrintsMessage sink old name failure new ⊎ SaysMemory sink old new
+PrintsFailure sink old name failure new = PrintsMessage sink old name failure new ⊎ PrintsOutOfMemory sink old new

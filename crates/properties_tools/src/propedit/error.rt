@@ -4,7 +4,7 @@ ghost use Rattle.std.specs.Prelude.{◌≡◌, IfOk, string_bytes};
 ghost use Rattle.counted_io.specs.Streams.{IsSameSink};
 ghost use Rattle.properties_tools.specs.Propedit.Failures.{escape_reason, number_of, place_of, IsInputReason, IsIoFailure, IsMessageLine, IsReasonOf, LacksMemory, PrintsFailure};
 
-use crate::messages::say;
+use crate::messages::print_line;
 use counted_io::CountedWrite;
 use java_properties::{ErrorKind, MalformedEscape, PropertiesError};
 use std::alloc::{AllocError, Global};
@@ -108,16 +108,16 @@ impl Failure {
 ///
 /// ```text
 /// let mut errors = Counted::new(Vec::new(alloc));
-/// say_failure(alloc, &mut errors, "app.properties", &Failure::NotUtf8(7));
+/// print_failure(alloc, &mut errors, "app.properties", &Failure::NotUtf8(7));
 /// // They hold `propedit: app.properties:7: not UTF-8; -e windows-1252 reads it`, and a line feed.
 /// ```
-pub fn say_failure<E: CountedWrite>(alloc: Global, errors: &mut E, name: &str, failure: &Failure)
-    ensures says { PrintsFailure E.CountedWrite errors.old name.now failure.now errors.new }
+pub fn print_failure<E: CountedWrite>(alloc: Global, errors: &mut E, name: &str, failure: &Failure)
+    ensures prints { PrintsFailure E.CountedWrite errors.old name.now failure.now errors.new }
     ensures same_sink { IsSameSink E.CountedWrite errors.old errors.new }
 {
     match message(alloc, name, failure) {
-        Ok(line) => say(errors, line.as_str()),
-        Err(_) => say(errors, NO_MEMORY),
+        Ok(line) => print_line(errors, line.as_str()),
+        Err(_) => print_line(errors, NO_MEMORY),
     }
 }
 

@@ -3,9 +3,9 @@
 ghost use Rattle.std.specs.Prelude.{◌≡◌, ◌⊎◌, ◌++◌, codes, string_bytes, if◌then◌else◌, IfOk};
 ghost use Rattle.std.specs.Option.{is_some};
 ghost use Rattle.counted_io.specs.Streams.{IsSameSink};
-ghost use Rattle.properties_tools.specs.Propedit.InPlace.{problem_display, replace_display, IsProblemLine, PrintsUnedited, SaysProblem};
+ghost use Rattle.properties_tools.specs.Propedit.InPlace.{problem_display, replace_display, IsProblemLine, PrintsEditError, PrintsProblem};
 
-use crate::messages::say;
+use crate::messages::print_line;
 use crate::propedit::asked::{FileEdits, Missing};
 use crate::propedit::error::{Failure, NO_MEMORY};
 use crate::propedit::{exit_status, replacement};
@@ -35,53 +35,53 @@ pub fn edit_file<E: CountedWrite>(
 ) -> u8
     ensures status { (result ≡ 0) ⊎ (result ≡ 2) }
     ensures quiet { result ≡ 0 → errors.new ≡ errors.old }
-    ensures says { result ≡ 2 → PrintsUnedited E.CountedWrite errors.old (string_bytes file.now.path) errors.new }
+    ensures prints { result ≡ 2 → PrintsEditError E.CountedWrite errors.old (string_bytes file.now.path) errors.new }
     ensures same_sink { IsSameSink E.CountedWrite errors.old errors.new }
 {
     let path = file.path.as_str();
     match replace_edited(rt, alloc, file) {
         Ok(()) => 0,
-        Err(EditError::Unedited(failure)) => exit_status(alloc, errors, path, Err(failure)),
-        Err(EditError::Unreplaced(error)) => fail_to_replace(alloc, errors, path, &error),
+        Err(EditError::NotEdited(failure)) => exit_status(alloc, errors, path, Err(failure)),
+        Err(EditError::NotReplaced(error)) => print_replace_error(alloc, errors, path, &error),
     }
 }
 
 // Why a file is not edited in place.
 #[derive(Drop)]
 enum EditError {
-    Unedited(Failure),
-    Unreplaced(ReplaceError),
+    NotEdited(Failure),
+    NotReplaced(ReplaceError),
 }
 
 fn replace_edited(rt: &HostRuntime, alloc: Global, file: &FileEdits) -> Result<(), EditError> {
-    let original = match Original::read(rt, alloc, file.path.as_str(), file.missing) {
-        Ok(original) => original,
-        Err(error) => return Err(EditError::Unedited(Failure::from(error))),
+    let target = match Target::read(rt, alloc, file.path.as_str(), file.missing) {
+        Ok(target) => target,
+        Err(error) => return Err(EditError::NotEdited(Failure::from(error))),
     };
-    match replacement(alloc, original.bytes(), file.encoding, &file.edits) {
-        Ok(Some(bytes)) => match original.replace(rt, alloc, bytes.as_slice()) {
+    match replacement(alloc, target.bytes(), file.encoding, &file.edits) {
+        Ok(Some(bytes)) => match target.replace(rt, alloc, bytes.as_slice()) {
             Ok(()) => Ok(()),
-            Err(error) => Err(EditError::Unreplaced(error)),
+            Err(error) => Err(EditError::NotReplaced(error)),
         },
         Ok(None) => Ok(()),
-        Err(failure) => Err(EditError::Unedited(failure)),
+        Err(failure) => Err(EditError::NotEdited(failure)),
     }
 }
 
 // Prints why a file is not replaced, or that memory ran out, and returns the exit status of failures.
-fn fail_to_replace<E: CountedWrite>(
+fn print_replace_error<E: CountedWrite>(
     alloc: Global,
     errors: &mut E,
     path: &str,
     error: &ReplaceError,
 ) -> u8
     ensures status { result ≡ 2 }
-    ensures says { SaysProblem E.CountedWrite errors.old path.now error.now errors.new }
+    ensures prints { PrintsProblem E.CountedWrite errors.old path.now error.now errors.new }
     ensures same_sink { IsSameSink E.CountedWrite errors.old errors.new }
 {
     match problem_line(alloc, path, error) {
-        Ok(line) => say(errors, line.as_str()),
-        Err(_) => say(errors, NO_MEMORY),
+        Ok(line) => print_line(errors, line.as_str()),
+        Err(_) => print_line(errors, NO_MEMORY),
     }
     2
 }
@@ -97,94 +97,94 @@ fn problem_line(alloc: Global, path: &str, error: &ReplaceError) -> Result<Strin
 /// A file that was read, and whose bytes can be replaced.
 ///
 /// ```text
-/// let original = Original::read(&rt, alloc, "app.properties", Missing::Refuse)?;
-/// let edited = set_key(alloc, original.bytes(), Encoding::UTF_8, "port", "8080")?;
-/// original.replace(&rt, alloc, edited.as_slice())?;
+/// let target = Target::read(&rt, alloc, "app.properties", Missing::Refuse)?;
+/// let edited = set_key(alloc, target.bytes(), Encoding::UTF_8, "port", "8080")?;
+/// target.replace(&rt, alloc, edited.as_slice())?;
 /// ```
 #[derive(Drop)]
-pub struct Original {
+pub struct Target {
     path: String,
-    // The name of the file that is to take its place.
+    // The name of the temporary file, which takes its place.
     temporary: String,
     // `None` if there was no file.
-    seen: Option<Seen>,
+    snapshot: Option<Snapshot>,
 }
 
 // A file as it was read.
 #[derive(Drop)]
-struct Seen {
+struct Snapshot {
     metadata: Metadata,
     bytes: Vec<u8>,
 }
 
-impl Original {
+impl Target {
     /// Reads a regular file, or the target of a symbolic link. A missing file that may be created has no bytes.
     pub fn read(
         rt: &HostRuntime,
         alloc: Global,
         path: &str,
         missing: Missing,
-    ) -> io::Result<Original> {
+    ) -> io::Result<Target> {
         if missing == Missing::Create && is_missing(rt, path)? {
-            return Original::of(alloc, String::from_str(alloc, path)?, None);
+            return Target::of(alloc, String::from_str(alloc, path)?, None);
         }
         let path = resolve(rt, alloc, path)?;
-        let seen = look_at(rt, alloc, path.as_str())?;
-        Original::of(alloc, path, Some(seen))
+        let snapshot = take_snapshot(rt, alloc, path.as_str())?;
+        Target::of(alloc, path, Some(snapshot))
     }
 
-    fn of(alloc: Global, path: String, seen: Option<Seen>) -> io::Result<Original>
-        ensures { IfOk result (λ original. (string_bytes original.temporary ≡ string_bytes path ++ codes ".propedit")
-            × (original.path ≡ path) × (original.seen ≡ seen)) }
+    fn of(alloc: Global, path: String, snapshot: Option<Snapshot>) -> io::Result<Target>
+        ensures { IfOk result (λ target. (string_bytes target.temporary ≡ string_bytes path ++ codes ".propedit")
+            × (target.path ≡ path) × (target.snapshot ≡ snapshot)) }
     {
         let temporary = format!(in alloc; "{path}.propedit")?;
-        Ok(Original {
+        Ok(Target {
             path,
             temporary,
-            seen,
+            snapshot,
         })
     }
 
     /// Returns the bytes that were read.
     pub fn bytes(&self) -> &[u8] {
-        match &self.seen {
-            Some(seen) => seen.bytes.as_slice(),
+        match &self.snapshot {
+            Some(snapshot) => snapshot.bytes.as_slice(),
             None => &[],
         }
     }
 
     /// Replaces the file by these bytes, whole or not at all. Its owner, its group and its mode stay.
     ///
-    /// They go to a new file beside it, named as it is with `.propedit` after it, which then takes its name. Whoever
-    /// opens the file has the old bytes or the new ones, and never a part.
+    /// They go to a temporary file beside it, named as it is with `.propedit` after it, which then takes its name.
+    /// Whoever opens the file has the old bytes or the new ones, and never a part.
     pub fn replace(
         self,
         rt: &HostRuntime,
         alloc: Global,
         bytes: &[u8],
     ) -> Result<(), ReplaceError> {
-        let file = match create(rt, self.temporary.as_str(), self.first_mode()) {
+        let file = match create(rt, self.temporary.as_str(), self.creation_mode()) {
             Ok(file) => file,
             Err(error) if error.kind() == ErrorKind::AlreadyExists => {
-                return Err(self.undone(Problem::Held, false));
+                return Err(self.into_error(Problem::Held, false));
             }
-            Err(error) => return Err(self.undone(Problem::Unmade(error), false)),
+            Err(error) => return Err(self.into_error(Problem::NotCreated(error), false)),
         };
-        let made = match file.metadata() {
-            Ok(made) => made,
+        let created = match file.metadata() {
+            Ok(created) => created,
             Err(error) => {
                 // Without its metadata, only its name tells which file it is.
                 let is_left = fs::remove_file(rt, self.temporary.as_str()).is_err();
-                return Err(self.undone(Problem::Unmade(error), is_left));
+                return Err(self.into_error(Problem::NotCreated(error), is_left));
             }
         };
-        match self.put_in_place(rt, alloc, file, &made, bytes) {
+        match self.put_in_place(rt, alloc, file, &created, bytes) {
             Ok(()) => Ok(()),
             Err(problem) => {
-                // Removes the new file, unless someone else has removed or replaced it.
-                let is_left = self.is_made(rt, &made)
+                // Removes the temporary file, unless someone else has removed or replaced it.
+                let is_left = self.is_still_there(rt, &created)
                     && fs::remove_file(rt, self.temporary.as_str()).is_err();
-                Err(self.undone(problem, is_left))
+                Err(self.into_error(problem, is_left))
             }
         }
     }
@@ -194,55 +194,55 @@ impl Original {
         rt: &HostRuntime,
         alloc: Global,
         file: File,
-        made: &Metadata,
+        created: &Metadata,
         bytes: &[u8],
     ) -> Result<(), Problem> {
-        self.fill(file, made, bytes)?;
+        self.fill(file, created, bytes)?;
         self.check_unchanged(rt, alloc)?;
-        if !self.is_made(rt, made) {
+        if !self.is_still_there(rt, created) {
             return Err(Problem::Taken);
         }
         match fs::rename(rt, self.temporary.as_str(), self.path.as_str()) {
             Ok(()) => Ok(()),
-            Err(error) => Err(Problem::Unrenamed(error)),
+            Err(error) => Err(Problem::NotRenamed(error)),
         }
     }
 
     // Returns the mode to create the file with. A new file gets the mode that the system gives it. One that replaces a
     // file may be read by nobody else until it has that file's mode.
-    fn first_mode(&self) -> u32
-        ensures { result ≡ (if is_some self.now.seen then 384 else 438) }
+    fn creation_mode(&self) -> u32
+        ensures { result ≡ (if is_some self.now.snapshot then 384 else 438) }
     {
-        match self.seen {
+        match self.snapshot {
             Some(_) => 0o600,
             None => 0o666,
         }
     }
 
-    // Writes the new file to the disk, with the attributes of the old one.
-    fn fill(&self, mut file: File, made: &Metadata, bytes: &[u8]) -> Result<(), Problem> {
+    // Writes the temporary file to the disk, with the attributes of the old one.
+    fn fill(&self, mut file: File, created: &Metadata, bytes: &[u8]) -> Result<(), Problem> {
         if let Err(error) = file.write_all(bytes) {
-            return Err(Problem::Unwritten(error));
+            return Err(Problem::NotWritten(error));
         }
-        if let Some(seen) = &self.seen {
-            keep_attributes(&file, made, &seen.metadata)?;
+        if let Some(snapshot) = &self.snapshot {
+            keep_attributes(&file, created, &snapshot.metadata)?;
         }
         match file.sync_all() {
             Ok(()) => Ok(()),
-            Err(error) => Err(Problem::Unwritten(error)),
+            Err(error) => Err(Problem::NotWritten(error)),
         }
     }
 
     // Fails unless the old file is still as it was read, or still missing.
     fn check_unchanged(&self, rt: &HostRuntime, alloc: Global) -> Result<(), Problem> {
-        let is_same = match &self.seen {
-            Some(seen) => match look_at(rt, alloc, self.path.as_str()) {
-                Ok(now) => is_unchanged(seen, &now),
-                Err(error) => return Err(Problem::Unreadable(error)),
+        let is_same = match &self.snapshot {
+            Some(snapshot) => match take_snapshot(rt, alloc, self.path.as_str()) {
+                Ok(now) => is_unchanged(snapshot, &now),
+                Err(error) => return Err(Problem::NotRead(error)),
             },
             None => match is_missing(rt, self.path.as_str()) {
                 Ok(is_missing) => is_missing,
-                Err(error) => return Err(Problem::Unreadable(error)),
+                Err(error) => return Err(Problem::NotRead(error)),
             },
         };
         if is_same {
@@ -251,15 +251,15 @@ impl Original {
         Err(Problem::Changed)
     }
 
-    // Returns whether the file of the new name is still the one that was made.
-    fn is_made(&self, rt: &HostRuntime, made: &Metadata) -> bool {
+    // Returns whether the temporary file is still the one that was created.
+    fn is_still_there(&self, rt: &HostRuntime, created: &Metadata) -> bool {
         match fs::symlink_metadata(rt, self.temporary.as_str()) {
-            Ok(now) => is_same_file(&now, made),
+            Ok(now) => is_same_file(&now, created),
             Err(_) => false,
         }
     }
 
-    fn undone(self, problem: Problem, is_left: bool) -> ReplaceError
+    fn into_error(self, problem: Problem, is_left: bool) -> ReplaceError
         ensures { result ≡ record { problem = problem; temporary = self.temporary; is_left = is_left } }
     {
         ReplaceError {
@@ -270,15 +270,15 @@ impl Original {
     }
 }
 
-// Gives a new file the owner, the group and the mode of the old one, through the open file, since someone else may have
-// put a link where it was made.
-fn keep_attributes(file: &File, made: &Metadata, old: &Metadata) -> Result<(), Problem> {
-    if made.uid() != old.uid() {
+// Gives the temporary file the owner, the group and the mode of the old one, through the open file, since someone else
+// may have put a link where it was created.
+fn keep_attributes(file: &File, created: &Metadata, old: &Metadata) -> Result<(), Problem> {
+    if created.uid() != old.uid() {
         if let Err(error) = fchown(file.as_fd(), Some(old.uid()), None) {
             return Err(Problem::Owner(error));
         }
     }
-    if made.gid() != old.gid() {
+    if created.gid() != old.gid() {
         if let Err(error) = fchown(file.as_fd(), None, Some(old.gid())) {
             return Err(Problem::Group(error));
         }
@@ -317,7 +317,7 @@ fn resolve(rt: &HostRuntime, alloc: Global, path: &str) -> io::Result<String> {
 }
 
 // Reads a regular file. Its metadata are those of the open file, so they belong to the bytes.
-fn look_at(rt: &HostRuntime, alloc: Global, path: &str) -> io::Result<Seen> {
+fn take_snapshot(rt: &HostRuntime, alloc: Global, path: &str) -> io::Result<Snapshot> {
     // Before it is opened too, since opening a pipe waits for a writer.
     check_regular(&fs::metadata(rt, path)?)?;
     let mut file = File::open(rt, path)?;
@@ -325,7 +325,7 @@ fn look_at(rt: &HostRuntime, alloc: Global, path: &str) -> io::Result<Seen> {
     check_regular(&metadata)?;
     let mut bytes = Vec::new(alloc);
     file.read_to_end(&mut bytes)?;
-    Ok(Seen { metadata, bytes })
+    Ok(Snapshot { metadata, bytes })
 }
 
 fn check_regular(metadata: &Metadata) -> io::Result<()> {
@@ -335,7 +335,7 @@ fn check_regular(metadata: &Metadata) -> io::Result<()> {
     Err(io::Error::new(ErrorKind::InvalidInput, "not a regular file"))
 }
 
-fn is_unchanged(before: &Seen, now: &Seen) -> bool {
+fn is_unchanged(before: &Snapshot, now: &Snapshot) -> bool {
     let (old, new) = (&before.metadata, &now.metadata);
     is_same_file(old, new)
         && old.uid() == new.uid()
@@ -359,7 +359,7 @@ fn create(rt: &HostRuntime, path: &str, mode: u32) -> io::Result<File> {
 
 /// Why a file was not replaced.
 ///
-/// It prints what failed, the error of the system, and the name of the new file if it couldn't be removed.
+/// It prints what failed, the error of the system, and the name of the temporary file if it couldn't be removed.
 #[derive(Debug, Drop)]
 pub struct ReplaceError {
     problem: Problem,
@@ -371,15 +371,15 @@ pub struct ReplaceError {
 #[derive(Debug, Drop)]
 enum Problem {
     Held,
-    Unmade(io::Error),
-    Unwritten(io::Error),
+    NotCreated(io::Error),
+    NotWritten(io::Error),
     Owner(io::Error),
     Group(io::Error),
     Mode(io::Error),
-    Unreadable(io::Error),
+    NotRead(io::Error),
     Changed,
     Taken,
-    Unrenamed(io::Error),
+    NotRenamed(io::Error),
 }
 
 impl Error for ReplaceError {}
@@ -388,46 +388,46 @@ impl fmt::Display for ReplaceError {
     ghost output = { replace_display };
 
     fn fmt<W: fmt::Write>(&self, f: &mut fmt::Formatter<W>) -> fmt::Result {
-        let new = self.temporary.as_str();
+        let temporary = self.temporary.as_str();
         let failed = Failed {
             problem: &self.problem,
-            new,
+            temporary,
         };
         if self.is_left {
-            return write!(f, "{failed}; {new} is left");
+            return write!(f, "{failed}; {temporary} is left");
         }
         write!(f, "{failed}")
     }
 }
 
-// What failed, and the name of the new file.
+// What failed, and the name of the temporary file.
 #[derive(Clone, Copy)]
 struct Failed<'a> {
     problem: &'a Problem,
-    new: &'a str,
+    temporary: &'a str,
 }
 
 impl fmt::Display for Failed<'_> {
-    ghost output = { λ failed. problem_display failed.new.now failed.problem.now };
+    ghost output = { λ failed. problem_display failed.temporary.now failed.problem.now };
 
     fn fmt<W: fmt::Write>(&self, f: &mut fmt::Formatter<W>) -> fmt::Result {
-        let new = self.new;
+        let temporary = self.temporary;
         match self.problem {
             Problem::Held => {
                 write!(
                     f,
-                    "{new} exists: another run is at work, or was killed; if none is, remove it"
+                    "{temporary} exists: another run is at work, or was killed; if none is, remove it"
                 )
             }
-            Problem::Unmade(error) => write!(f, "cannot create {new}: {}", Fault(error)),
-            Problem::Unwritten(error) => write!(f, "cannot write {new}: {}", Fault(error)),
+            Problem::NotCreated(error) => write!(f, "cannot create {temporary}: {}", Fault(error)),
+            Problem::NotWritten(error) => write!(f, "cannot write {temporary}: {}", Fault(error)),
             Problem::Owner(error) => write!(f, "cannot keep the owner: {}", Fault(error)),
             Problem::Group(error) => write!(f, "cannot keep the group: {}", Fault(error)),
             Problem::Mode(error) => write!(f, "cannot keep the mode: {}", Fault(error)),
-            Problem::Unreadable(error) => write!(f, "cannot be read again: {}", Fault(error)),
+            Problem::NotRead(error) => write!(f, "cannot be read again: {}", Fault(error)),
             Problem::Changed => f.write_str("changed while it was edited"),
-            Problem::Taken => write!(f, "{new} was removed or replaced"),
-            Problem::Unrenamed(error) => write!(f, "cannot rename {new}: {}", Fault(error)),
+            Problem::Taken => write!(f, "{temporary} was removed or replaced"),
+            Problem::NotRenamed(error) => write!(f, "cannot rename {temporary}: {}", Fault(error)),
         }
     }
 }

@@ -16,5 +16,5 @@ returns-in-Err-clause-runs g c =
       result = Err c.in-Err.error;
       filters = filters;
       answer = refl;
-      says = record { text = shown.0; is_text = shown.1; says = rw shown.1 at c.say_error.ensures.says };
+      prints = record { text = shown.0; is_text = shown.1; prints = rw shown.1 at c.print_error.ensures.prints };
     })
