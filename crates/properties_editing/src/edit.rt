@@ -16,7 +16,6 @@ mod find;
 mod groups;
 mod index;
 mod layout;
-mod pairs;
 mod remove;
 mod replace;
 mod source;

@@ -42,6 +42,12 @@ FindsIn line number (Ok None) = outcome_of (chars line) ≡ ignored
 FindsIn line number (Ok (Some found)) = (found.line_number ≡ number) × IsFoundIn line found
 FindsIn line number (Err e) = (number : ℕ) (error : PropertiesError) → IsUnresolvedError e number error → IsNoItem number (chars line) error
 
+-- What was found in a logical line, or `None` if it is blank; or the error of the line with this number.
+abbrev pub FindsItem : List ℕ → ℕ → Result (Option Found) PropertiesError → Type 0
+FindsItem line number (Ok None) = outcome_of (chars line) ≡ ignored
+FindsItem line number (Ok (Some found)) = IsFoundIn line found
+FindsItem line number (Err e) = IsNoItem number (chars line) e
+
 -- what was found in a logical line without a backslash
 abbrev pub FindsPlain : List ℕ → ℕ → Option Found → Type 0
 FindsPlain line number None = outcome_of (chars line) ≡ ignored

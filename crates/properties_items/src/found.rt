@@ -8,13 +8,14 @@ ghost use Rattle.properties_text.specs.Parsing.{AreSpans, IsSpan, in_characters,
 ghost use Rattle.properties_format.specs.Items.{given};
 ghost use Rattle.properties_format.specs.Computed.Parts.{outcome_key};
 ghost use Rattle.properties_items.specs.Texts.{characters};
-ghost use Rattle.properties_items.specs.FoundItems.{pair_characters, outcome_pair, FindsText, FindsContent, FindsIn, FindsPlain};
+ghost use Rattle.properties_items.specs.FoundItems.{pair_characters, outcome_pair, FindsItem, FindsText, FindsContent, FindsIn, FindsPlain};
 ghost use Rattle.properties_format.specs.Split.{IsSplit};
 ghost use Rattle.properties_text.specs.Escaping.{holds_backslash};
 ghost use Rattle.properties_items.specs.BorrowedItems.{borrowed_entry, borrowed_content, is_borrowed, BorrowsPlain, found_bytes, found_content, found_entry, AreTextsIn, spans_of, IsFoundIn, IsTextIn};
 
 use crate::borrowed::{ContentRef, LineRef};
-use properties_text::escape::{UnescapeError, unescape};
+use crate::error::{PropertiesError, make};
+use properties_text::escape::{UnescapeError, has_backslash, unescape};
 use properties_text::parse::{ParsedSpans, Span, parse_spans};
 use std::alloc::{AllocError, Global};
 use std::borrow::CowStr;
@@ -40,6 +41,25 @@ struct FoundText {
     span: Span,
     // The text with its escapes resolved, if its slice of the line contains a backslash.
     resolved: Option<String>,
+}
+
+/// Finds the item of a logical line that begins in the line with this number. Returns `None` if the logical line is
+/// blank. Fails if one of its escapes is malformed, or if memory runs out.
+#[inline(always)]
+pub fn find_item(
+    alloc: Global,
+    line_number: usize,
+    line: &str,
+) -> Result<Option<Found>, PropertiesError>
+    ensures { FindsItem line.now line_number result }
+{
+    if !has_backslash(line) {
+        return Ok(find_plain(line_number, line));
+    }
+    match find_escaped(alloc, line_number, line) {
+        Ok(found) => Ok(found),
+        Err(error) => Err(make::unresolved(line_number, error)),
+    }
 }
 
 /// Finds the item of a logical line that begins in the line with this number. Returns `None` if the logical line is
@@ -141,13 +161,14 @@ pub fn cut_item(found: Found, line: &str) -> LineRef<'_>
 }
 
 /// Returns whether the pair has this key, or `None` if the item is a comment.
+#[inline(always)]
 pub fn item_has_key(found: &Found, line: &str, key: &str) -> Option<bool>
     requires { IsFoundIn line.now found.now }
     ensures { result ≡ option_map (λ k. bytes_eq k (chars key.now)) (outcome_key (given (found_content line.now found.now.content))) }
 {
     match &found.content {
         FoundContent::Comment(_) => None,
-        FoundContent::KVPair(text, _) => Some(text.is(line, key)),
+        FoundContent::KVPair(text, _) => Some(text.equals(line, key)),
     }
 }
 
@@ -207,9 +228,9 @@ impl FoundText {
         }
     }
 
-    // Returns whether the found text equals `text`. Kept out of line: the callers take fewer steps so.
-    #[inline(never)]
-    fn is(&self, line: &str, text: &str) -> bool
+    // Returns whether the found text equals `text`. Inlined, since a search for a key asks this of every pair.
+    #[inline(always)]
+    fn equals(&self, line: &str, text: &str) -> bool
         requires { IsTextIn line.now self.now }
         ensures { result ≡ bytes_eq (chars (found_bytes line.now self.now)) (chars text.now) }
     {

@@ -1,19 +1,17 @@
 -- Which logical lines are pairs with a key, and where the last of these pairs is in a body.
 use Rattle.std.specs.Prelude.{◌≡◌, ◌⊎◌, ℕ, ◌+◌, Bool, false, if◌then◌else◌, List, [], ◌∷◌, ◌++◌, take, drop, ◌-◌, ◌==◌, ◌&&◌, ◌≤◌, length, Option, Some, None, Result, Ok, Err, bytes_eq, unwrap_or}
 use Rattle.std.specs.Option.{is_some, option_map}
-use Rattle.std.specs.Str.{chars}
 use Rattle.std.specs.declared.vec.Vec.{Vec}
 use Rattle.properties_format.specs.Text.{line_feed}
 use Rattle.properties_format.specs.Encoding.{Encoding, begins_like_bom}
 use Rattle.properties_format.specs.Escapes.{Malformed}
 use Rattle.properties_format.specs.Body.{HeldLine, groups_bytes}
 use Rattle.properties_format.specs.Edited.{unreadable, final_group, added_ending, separation}
-use Rattle.properties_format.specs.Items.{Outcome, ignored}
+use Rattle.properties_format.specs.Items.{Outcome}
 use Rattle.properties_format.specs.Computed.Items.{outcome_of}
 use Rattle.properties_format.specs.Computed.Body.{entries_in, held_groups_of}
 use Rattle.properties_format.specs.Computed.Parts.{outcome_key, unended_bytes}
 use Rattle.properties_format.specs.Computed.Edited.{KeyPlace, last_place, without, IsSound, AreSound, result_by}
-use Rattle.properties_items.specs.BorrowedItems.{IsFoundIn}
 use Rattle.properties_items.specs.FoundItems.{IsNoItem}
 use Rattle.properties_items.specs.Errors.{IsBareError, IsMalformed}
 use Rattle.properties_editing.specs.Private.BodyValues.{FindsLastPair}
@@ -24,13 +22,6 @@ use Rattle.properties_editing.specs.declared.edit.find.KeyPlace as place
 use Rattle.properties_editing.specs.declared.edit.find.BodySpan.{BodySpan}
 use Rattle.properties_items.specs.declared.error.ErrorKind.TheVariants as kind
 use Rattle.properties_items.specs.declared.error.PropertiesError.{PropertiesError}
-use Rattle.properties_items.specs.declared.found.Found.{Found}
-
--- What was found in a logical line, or `None` if it is blank; or an error in the line with this number.
-abbrev pub FindsItem : List ℕ → ℕ → Result (Option Found) PropertiesError → Type 0
-FindsItem line number (Ok None) = outcome_of (chars line) ≡ ignored
-FindsItem line number (Ok (Some found)) = IsFoundIn line found
-FindsItem line number (Err e) = IsNoItem number (chars line) e
 
 -- whether a pair has this key, if the outcome is a pair
 abbrev pub key_told : List ℕ → Outcome → Option Bool

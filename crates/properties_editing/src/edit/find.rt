@@ -8,11 +8,11 @@ ghost use Rattle.properties_format.specs.Computed.Parts.{safe_ending};
 ghost use Rattle.properties_text.specs.Encoding.{encoding_of};
 ghost use Rattle.properties_lines.specs.LineSearch.{unit_size};
 ghost use Rattle.properties_items.specs.LineEndings.{ending_of};
-ghost use Rattle.properties_editing.specs.Private.BodyKeys.{FindsKey, closing_of, found_after, closing_bytes};
+ghost use Rattle.properties_editing.specs.Private.BodyKeys.{ChecksKeyOfLine, FindsKey, closing_of, found_after, closing_bytes};
 
 use crate::edit::groups::{Group, GroupReader};
-use crate::edit::pairs::has_key;
 use properties_items::error::PropertiesError;
+use properties_items::found::{find_item, item_has_key};
 use properties_items::line::LineEnding;
 use properties_text::encoding::Encoding;
 use std::alloc::Global;
@@ -70,6 +70,23 @@ pub fn find_key(
         place = place.after(group, has_key);
     }
     Ok(place)
+}
+
+/// Returns whether the pair that is a logical line has this key, or `None` if the line isn't a pair. Fails if an escape in
+/// the line, which has this number, is malformed, or if memory runs out.
+#[inline(always)]
+pub fn has_key(
+    alloc: Global,
+    number: usize,
+    line: &str,
+    key: &str,
+) -> Result<Option<bool>, PropertiesError>
+    ensures { ChecksKeyOfLine (chars line.now) (chars key.now) number result }
+{
+    match find_item(alloc, number, line)? {
+        Some(found) => Ok(item_has_key(&found, line, key)),
+        None => Ok(None),
+    }
 }
 
 impl KeyPlace {

@@ -15,18 +15,18 @@ ghost use Rattle.properties_format.specs.Computed.Body.{held_groups_of};
 ghost use Rattle.properties_format.specs.Computed.Edited.{AreSound};
 ghost use Rattle.properties_text.specs.Encoding.{encoding_of};
 ghost use Rattle.properties_editing.specs.declared.edit.index.Shift.TheVariants as shift;
-ghost use Rattle.properties_editing.specs.Private.BodyIndex.{AddsGroup, CutsOut, IsCutOut, IsInSource, PutsPair, PutsValue, RemovesPairs, ending_size, AddsKey, AddsValue, AppendsPair, FollowsPair, GrowsIndex, GuardsFront, IsIndex, KeepsNothing, KeepsPair, ParsesIndex, PutsFirst, all_shifted, found_span, last_live, lengthened_span, moved_span, moved_to, opened_closing, places_of, shifted, span_at, stored_at};
+ghost use Rattle.properties_editing.specs.Private.BodyIndex.{AddsGroup, FindsPairOfLine, CutsOut, IsCutOut, IsInSource, PutsPair, PutsValue, RemovesPairs, ending_size, AddsKey, AddsValue, AppendsPair, FollowsPair, GrowsIndex, GuardsFront, IsIndex, KeepsNothing, KeepsPair, ParsesIndex, PutsFirst, all_shifted, found_span, last_live, lengthened_span, moved_span, moved_to, opened_closing, places_of, shifted, span_at, stored_at};
 ghost use Rattle.properties_items.specs.FoundItems.{pair_characters};
 ghost use Rattle.properties_editing.specs.Private.BodyKeys.{IsPlaceOf};
 
 use crate::edit::append::{layout_at, printed_new_pair};
 use crate::edit::find::{BodySpan, Closing, closing_after, closing_bytes, separation_after};
 use crate::edit::groups::{Group, GroupReader};
-use crate::edit::pairs::pair_of;
 use crate::edit::replace::{are_empty, concatenated, printed_pair, replaced};
 use crate::edit::source::BodyStart;
 use crate::edit::value::new_value;
 use properties_items::error::PropertiesError;
+use properties_items::found::{find_item, item_pair};
 use properties_items::line::LineEnding;
 use properties_text::encoding::Encoding;
 use properties_text::encoding::byte_order_mark::begins_like_mark;
@@ -527,6 +527,21 @@ fn closing_if(is_changed: bool, new: Closing, old: Closing) -> Closing
     ensures { result ≡ (if is_changed then new else old) }
 {
     if is_changed { new } else { old }
+}
+
+// Returns the key and value of a logical line, or `None` if it isn't a pair. Fails if an escape in the line, which has
+// this number, is malformed, or if memory runs out.
+fn pair_of(
+    alloc: Global,
+    number: usize,
+    line: &str,
+) -> Result<Option<(String, String)>, PropertiesError>
+    ensures { FindsPairOfLine (chars line.now) number result }
+{
+    match find_item(alloc, number, line)? {
+        Some(found) => Ok(item_pair(alloc, &found, line)?),
+        None => Ok(None),
+    }
 }
 
 // Returns the places of the pairs with a key, in order.

@@ -6,9 +6,8 @@ ghost use Rattle.properties_text.specs.Encoding.{encoding_of};
 ghost use Rattle.properties_lines.specs.LineSearch.{unit_size};
 ghost use Rattle.properties_editing.specs.Private.BodyKeys.{FindsOthers};
 
-use crate::edit::find::BodySpan;
+use crate::edit::find::{BodySpan, has_key};
 use crate::edit::groups::GroupReader;
-use crate::edit::pairs::has_key;
 use properties_items::error::PropertiesError;
 use properties_text::encoding::Encoding;
 use std::alloc::Global;

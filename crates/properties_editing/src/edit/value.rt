@@ -9,15 +9,18 @@ ghost use Rattle.properties_format.specs.Valued.{value_text};
 ghost use Rattle.properties_text.specs.Encoding.{encoding_of};
 ghost use Rattle.properties_text.specs.Printing.{AppendsOnOk};
 ghost use Rattle.properties_lines.specs.LineSearch.{unit_size};
-ghost use Rattle.properties_editing.specs.Private.BodyValues.{GivesValue, IsPairAlone, Revalues};
+ghost use Rattle.properties_format.specs.Computed.Edited.{IsSound};
+ghost use Rattle.properties_format.specs.Computed.Items.{outcome_of};
+ghost use Rattle.properties_format.specs.Computed.Valued.{is_pair_to};
+ghost use Rattle.properties_editing.specs.Private.BodyValues.{GivesValue, IsBetweenAt, IsPairAlone, Revalues};
 
 use crate::edit::find::BodySpan;
 use crate::edit::groups::first_group;
 use crate::edit::layout::{between, front_size};
-use crate::edit::pairs::has_value;
 use crate::edit::replace::{concatenated, repertoire_of};
 use crate::edit::source::BodyStart;
-use properties_text::parse::leading_blanks;
+use properties_text::escape::{UnescapeError, unescape};
+use properties_text::parse::{Span, leading_blanks};
 use properties_text::print::{LineBuffer, print_value};
 use std::alloc::{AllocError, Global};
 
@@ -54,6 +57,20 @@ pub fn new_value(
     let mut bytes = LineBuffer::new(alloc);
     print_value_after(&mut bytes, opened, separator.cut(line), value)?;
     Ok(Some(NewValue { front_size, bytes }))
+}
+
+// Returns whether the pair that is this logical line has this value. `separator` is what separates its key from its value.
+// No escape of the line is malformed.
+fn has_value(alloc: Global, line: &str, separator: Span, value: &str) -> Result<bool, AllocError>
+    requires separator { IsBetweenAt line.now separator }
+    requires sound { IsSound (outcome_of (chars line.now)) }
+    ensures { IfOk result (λ answer. answer ≡ is_pair_to (chars value.now) (outcome_of (chars line.now))) }
+{
+    match unescape(alloc, &line[separator.end..]) {
+        Ok(text) => Ok(text.as_str() == value),
+        Err(UnescapeError::Malformed(_)) => unreachable!(),
+        Err(UnescapeError::Memory) => Err(AllocError),
+    }
 }
 
 /// Returns the source with this value for a pair.

@@ -2,7 +2,7 @@ use Rattle.std.proofs.Common.{ap, sym, ◌∙◌, subst}
 use Rattle.properties_format.specs.Computed.Edited.{IsSound}
 use Rattle.properties_items.specs.FoundItems.{outcome_pair}
 use Rattle.properties_items.proofs.FoundItems.{found-item}
-use Rattle.properties_editing.proofs.edit.pairs.pair_of.Goals as goal
+use Rattle.properties_editing.proofs.edit.index.pair_of.Goals as goal
 
 pub returns-in_ok-item_pair-in-Some : goal.returns-in_ok-item_pair-in-Some
 returns-in_ok-item_pair-in-Some c =

@@ -4,7 +4,7 @@ use Rattle.std.specs.Str.{chars}
 use Rattle.properties_text.specs.Parsing.{bytes_in}
 use Rattle.properties_items.specs.BorrowedItems.{bytes_of}
 use Rattle.properties_items.proofs.TextMaps.Values.{same-characters}
-use Rattle.properties_items.proofs.found.FoundText.is.Goals as goal
+use Rattle.properties_items.proofs.found.FoundText.equals.Goals as goal
 
 pub returns-in-None : goal.returns-in-None
 returns-in-None c =

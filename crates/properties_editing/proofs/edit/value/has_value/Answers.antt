@@ -4,7 +4,7 @@ use Rattle.properties_format.specs.Escapes.{Breaks, Means}
 use Rattle.properties_text.specs.Escaping.{malformed_in}
 use Rattle.properties_items.proofs.TextMaps.Values.{same-characters}
 use Rattle.properties_editing.proofs.BodyValues.{value-told, value-unbroken}
-use Rattle.properties_editing.proofs.edit.pairs.has_value.Goals as goal
+use Rattle.properties_editing.proofs.edit.value.has_value.Goals as goal
 
 pub unreachable-requires : goal.unreachable-requires
 unreachable-requires c =

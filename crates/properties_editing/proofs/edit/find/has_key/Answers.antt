@@ -3,7 +3,7 @@ use Rattle.std.specs.Str.{chars}
 use Rattle.properties_format.specs.Computed.Edited.{IsSound}
 use Rattle.properties_editing.specs.Private.BodyKeys.{key_told}
 use Rattle.properties_items.proofs.FoundItems.{found-item}
-use Rattle.properties_editing.proofs.edit.pairs.has_key.Goals as goal
+use Rattle.properties_editing.proofs.edit.find.has_key.Goals as goal
 
 pub returns-in-Some : goal.returns-in-Some
 returns-in-Some c =
