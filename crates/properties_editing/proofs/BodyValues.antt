@@ -53,11 +53,13 @@ use Rattle.properties_format.proofs.Valued.Read.{front-unended}
 use Rattle.properties_format.proofs.Valued.Walks.{front-within}
 use Rattle.properties_editing.specs.Private.BodyGroups.{text_of}
 use Rattle.properties_editing.specs.Private.BodyValues.{IsBeforeValue, IsFrontSize, IsPairAlone, IsNewValue, IsGroupAlone, revalued_in}
-use Rattle.properties_editing.specs.declared.edit.value.NewValue.{NewValue}
+use Rattle.properties_editing.specs.declared.edit.new_value.NewValue.{NewValue}
 use Rattle.std.proofs.Common.{take-add}
 use Rattle.std.proofs.lemmas.List.{length-take}
 use Rattle.properties_format.specs.Computed.Valued.{has_value}
 use Rattle.std.specs.Str.{IsUtf8, chars}
+use Rattle.properties_text.specs.declared.encoding.line.LineEncoding.TheVariants.{Utf8}
+use Rattle.properties_lines.proofs.LineTexts.{joins-alike}
 use Rattle.std.proofs.Math.Seq.{take-append_seam, drop-append_seam}
 use Rattle.std.proofs.lemmas.List.{take_rest, take-append-drop}
 use Rattle.std.proofs.lemmas.Str.{chars-append, IsUtf8-take, IsUtf8-between}
@@ -325,14 +327,19 @@ sizes-of first text added u v h =
     let more = added-size first x in
     record { indent = i.indent; whole = i.whole; sum = omega arith; added_size = size }
 
+-- A text and its bytes are open alike.
+open-alike : (text : List ℕ) → IsUtf8 text → open_count (chars text) ≡ open_count text
+open-alike text u = ap (λ b. if b then 1 else 0) (joins-alike Utf8 text u).opens
+
 -- What a line adds is no longer than its text, and its backslash is a byte.
 pub taken-sizes : {e : Encoding} {body : List ℕ} {new : GroupReader} {first : Bool} {text added : List ℕ} → IsTaken e body new first text added
-    → (length added + open_count (chars text) ≤ length text) × (open_count (chars text) ≤ length (bytes_of body new.scanner.line))
+    → (length added + open_count text ≤ length text) × (open_count text ≤ length (bytes_of body new.scanner.line))
 taken-sizes {e} {body} {new} {first} {text} {added} t =
     let s = sizes-of first text added t.text_utf8 t.added_utf8 t.adds in
-    let sum = s.sum in (
+    let sum = s.sum in
+    let alike = open-alike text t.text_utf8 in (
       (omega arith),
-      (elim (cases_Bool (is_open (chars text))) [
+      subst (λ n. n ≤ length (bytes_of body new.scanner.line)) alike (elim (cases_Bool (is_open (chars text))) [
         | inl k ↦ let one : open_count (chars text) ≡ 1 = cond-true (is_open (chars text)) 1 0 k in
             let some = open-some e (bytes_of body new.scanner.line) (chars text) (sym t.decodes) k in
             omega arith
@@ -353,8 +360,8 @@ more-than p v a j s l = elim (cases_Bool (nat_le (length p) (length a))) [
 -- The value begins in the line that was taken, after this many of its bytes.
 pub walking-found : {e : Encoding} {body : List ℕ} {old new : GroupReader} {first : Bool} {left : ℕ} (text added : List ℕ) (head : ℕ) → is_editable e ≡ true
     → IsWalking e body old first left → TakesLine body old new → IsTaken e body new first text added → left ≤ length added
-    → (left ≡ length added → head ≡ length (bytes_of body new.scanner.line) - open_count (chars text))
-    → (left < length added → head ≡ after_ascii (ascii_count (take (length text - open_count (chars text) - length added + left) text)) (bytes_of body new.scanner.line))
+    → (left ≡ length added → head ≡ length (bytes_of body new.scanner.line) - open_count text)
+    → (left < length added → head ≡ after_ascii (ascii_count (take (length text - open_count text - length added + left) text)) (bytes_of body new.scanner.line))
     → IsFrontSize e body (new.scanner.line.start + head)
 walking-found {e} {body} {old} {new} {first} {left} text added head ok w k t l whole inside =
     let bytes = bytes_of body new.scanner.line in
@@ -365,6 +372,7 @@ walking-found {e} {body} {old} {new} {first} {left} text added head ok w k t l w
     let same : h.text ≡ chars text = sym t.decodes in
     let s = sizes-of first text added t.text_utf8 t.added_utf8 t.adds in
     let added_size : utf8_size (added_by first h.text) ≡ length added = ap (λ v. utf8_size (added_by first v)) same ∙ s.added_size in
+    let alike = open-alike text t.text_utf8 in
     let size = w.size in
     let starts = k.starts in
     let front : length (front_of e w.group) ≡ old.scanner.at + length (front_in e first w.rest (h ∷ hs)) =
@@ -386,10 +394,10 @@ walking-found {e} {body} {old} {new} {first} {left} text added head ok w k t l w
           let more : utf8_size (without_indent first h.text) ≡ utf8_size (added_by first h.text) + open_count (chars text) =
           added-size first h.text ∙ ap (λ v. utf8_size (added_by first h.text) + open_count v) same in
           let both = size-append i.indent w.rest in
-          let at : length text - open_count (chars text) - length added + left ≡ utf8_size x = omega arith in
-          let m = text-cut text x y (length text - open_count (chars text) - length added + left) t.text_utf8 (sym same ∙ cut) at in
-          let count : ascii_count x ≡ ascii_count (take (length text - open_count (chars text) - length added + left) text) =
-          ap ascii_count (sym m.front_chars) ∙ count-text (take (length text - open_count (chars text) - length added + left) text) m.front_utf8 in
+          let at : length text - open_count text - length added + left ≡ utf8_size x = omega arith in
+          let m = text-cut text x y (length text - open_count text - length added + left) t.text_utf8 (sym same ∙ cut) at in
+          let count : ascii_count x ≡ ascii_count (take (length text - open_count text - length added + left) text) =
+          ap ascii_count (sym m.front_chars) ∙ count-text (take (length text - open_count text - length added + left) text) m.front_utf8 in
           walk-inside e first h hs w.rest w.value ok is_before (omega arith) x y cut back
           ∙ ap (λ n. after_ascii n bytes) count
           ∙ sym (inside shorter)
@@ -398,6 +406,7 @@ walking-found {e} {body} {old} {new} {first} {left} text added head ok w k t l w
           let is_rest = walk-here e first h hs w.rest w.value is_before (omega arith) in
           front_size-end e first h hs w.rest ok is_before.decoded.0 is_rest
           ∙ ap (λ v. length bytes - open_count v) same
+          ∙ ap (λ n. length bytes - n) alike
           ∙ sym (whole all)
     ] in
     record { group = w.group; is_group = w.is_group; is_size = omega arith }

@@ -16,19 +16,20 @@ mod find;
 mod groups;
 mod index;
 mod layout;
+mod new_value;
 mod remove;
 mod replace;
 mod source;
-mod value;
 
 use crate::edit::append::{layout_at, with_new_pair};
 pub use crate::edit::document::Document;
 use crate::edit::find::find_key;
-use crate::edit::index::{Index, put_pair, put_value, remove_pairs};
+use crate::edit::index::Index;
+use crate::edit::index::changes::{put_pair, put_value, remove_pairs};
+use crate::edit::new_value::with_value;
 use crate::edit::remove::spans_without_key;
-use crate::edit::replace::{appended, reduced_to, replaced};
+use crate::edit::replace::{with_pair_appended, with_pair_replaced, with_spans_kept};
 use crate::edit::source::BodyStart;
-use crate::edit::value::with_value;
 use properties_items::error::PropertiesError;
 use properties_text::encoding::Encoding;
 use std::alloc::{AllocError, Global};
@@ -79,8 +80,8 @@ fn set_key_with(
     let opened = BodyStart::open(source, encoding, ascii_only)?;
     let place = find_key(alloc, opened.encoding, &source[opened.start..], key)?;
     let bytes = match place.pair {
-        Some(pair) => replaced(alloc, source, opened, pair, key, value)?,
-        None => appended(alloc, source, opened, place.closing, key, value)?,
+        Some(pair) => with_pair_replaced(alloc, source, opened, pair, key, value)?,
+        None => with_pair_appended(alloc, source, opened, place.closing, key, value)?,
     };
     Ok(bytes)
 }
@@ -175,7 +176,7 @@ pub fn remove_key(
 {
     let opened = BodyStart::open(source, encoding, false)?;
     let others = spans_without_key(alloc, opened.encoding, &source[opened.start..], key)?;
-    let bytes = reduced_to(alloc, source, opened, &others)?;
+    let bytes = with_spans_kept(alloc, source, opened, &others)?;
     Ok(bytes)
 }
 
@@ -290,13 +291,13 @@ fn edit_in_turn(
     let mut index = Index::parse(alloc, opened.encoding, &source[opened.start..])?;
     let mut bytes = source.to_vec(alloc)?;
     for edit in edits {
-        make(alloc, &mut bytes, opened, &mut index, edit)?;
+        make_edit(alloc, &mut bytes, opened, &mut index, edit)?;
     }
     Ok(bytes)
 }
 
 // Makes an edit to a source.
-fn make(
+fn make_edit(
     alloc: Global,
     source: &mut Vec<u8>,
     opened: BodyStart,

@@ -28,7 +28,7 @@ use Rattle.properties_items.specs.declared.line.LineEnding.{LineEnding}
 use Rattle.properties_editing.specs.declared.edit.append.Layout.{Layout}
 use Rattle.properties_editing.specs.declared.edit.find.BodySpan.{BodySpan}
 use Rattle.properties_editing.specs.declared.edit.find.Closing.{Closing}
-use Rattle.properties_editing.specs.declared.edit.value.NewValue.{NewValue}
+use Rattle.properties_editing.specs.declared.edit.new_value.NewValue.{NewValue}
 
 -- ---- where the value of a pair begins
 

@@ -22,10 +22,10 @@ ghost use Rattle.properties_editing.specs.Private.BodyValues.{FindsLastPair, IsE
 
 use crate::edit::find::{BodySpan, Closing, closing_bytes, ends_in_cr};
 use crate::edit::groups::first_group;
-use crate::edit::layout::between;
-use crate::edit::replace::{are_empty, concatenated, part, repertoire_of};
+use crate::edit::layout::separator_span;
+use crate::edit::new_value::are_blanks;
+use crate::edit::replace::{are_empty, bytes_at, concatenated, repertoire_of};
 use crate::edit::source::BodyStart;
-use crate::edit::value::are_blanks;
 use properties_items::line::{LineEnding, ending_text};
 use properties_text::characters::is_blank;
 use properties_text::encoding::Encoding;
@@ -77,7 +77,7 @@ fn separator_at(
     ensures { IfOk result (λ text. characters text ≡ separator_by (chars key.now) (last_between (held_groups_of (encoding_of encoding) body.now))) }
 {
     let separator = match last {
-        Some(pair) => separator_like(alloc, encoding, part(body, pair), key)?,
+        Some(pair) => separator_like(alloc, encoding, bytes_at(body, pair), key)?,
         None => None,
     };
     match separator {
@@ -101,7 +101,7 @@ pub fn separator_like(
 {
     let (groups, group) = first_group(alloc, encoding, bytes)?;
     let line = groups.line(bytes, group);
-    match between(line) {
+    match separator_span(line) {
         Some(span) => Ok(Some(separator_for(alloc, span.cut(line), key)?)),
         None => Ok(None),
     }

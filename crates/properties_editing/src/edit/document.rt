@@ -7,7 +7,8 @@ ghost use Rattle.properties_format.specs.Laws.{SplittingCommutes};
 ghost use Rattle.properties_text.specs.Encoding.{encoding_of};
 ghost use Rattle.properties_editing.specs.Documents.{HasKeysInOrder, HasValueAt, OpensDocument, PutsInto, RemovesFrom, SetsValueIn, TurnsAsciiOnly, ChecksHasKey};
 
-use crate::edit::index::{Index, put_pair, put_value, remove_pairs};
+use crate::edit::index::Index;
+use crate::edit::index::changes::{put_pair, put_value, remove_pairs};
 use crate::edit::source::BodyStart;
 use properties_items::error::PropertiesError;
 use properties_text::encoding::Encoding;

@@ -1,39 +1,27 @@
 // Where the pairs of a body are, by their keys.
 
-ghost use Rattle.std.specs.Prelude.{◌≡◌, ◌==◌, ◌&&◌, ◌<◌, ◌≤◌, ◌+◌, ◌-◌, ◌^◌, ◌++◌, [], ◌∷◌, true, drop, length, map, if◌then◌else◌, None, Some, OnOk, OnErr, IfOk, option_and_then, vec_capacity, vec_len};
-ghost use Rattle.std.specs.Option.{is_some, option_map};
+ghost use Rattle.std.specs.Prelude.{◌≡◌, ◌==◌, ◌<◌, ◌-◌, if◌then◌else◌, None, Some, OnOk, OnErr, IfOk, option_and_then};
+ghost use Rattle.std.specs.Option.{option_map};
 ghost use Rattle.std.specs.BTreeMap.{IsOrdered};
 ghost use Rattle.std.specs.String.{string_cmp};
 ghost use Rattle.properties_lines.specs.LineSearch.{unit_size};
 ghost use Rattle.properties_items.specs.Texts.{characters};
-ghost use Rattle.properties_items.specs.LineEndings.{ending_of};
-ghost use Rattle.properties_format.specs.Encoding.{begins_like_bom};
-ghost use Rattle.properties_format.specs.Text.{line_ending_text};
 ghost use Rattle.std.specs.Str.{chars};
-ghost use Rattle.properties_format.specs.Edited.{is_editable};
-ghost use Rattle.properties_format.specs.Computed.Body.{held_groups_of};
-ghost use Rattle.properties_format.specs.Computed.Edited.{AreSound};
 ghost use Rattle.properties_text.specs.Encoding.{encoding_of};
 ghost use Rattle.properties_editing.specs.declared.edit.index.Shift.TheVariants as shift;
-ghost use Rattle.properties_editing.specs.Private.BodyIndex.{AddsGroup, FindsPairOfLine, CutsOut, IsCutOut, IsInSource, PutsPair, PutsValue, RemovesPairs, ending_size, AddsKey, AddsValue, AppendsPair, FollowsPair, GrowsIndex, GuardsFront, IsIndex, KeepsNothing, KeepsPair, ParsesIndex, PutsFirst, all_shifted, found_span, last_live, lengthened_span, moved_span, moved_to, opened_closing, places_of, shifted, span_at, stored_at};
+ghost use Rattle.properties_editing.specs.Private.BodyIndex.{AddsGroup, FindsPairOfLine, FollowsPair, GrowsIndex, KeepsNothing, KeepsPair, ParsesIndex, all_shifted, found_span, last_live, lengthened_span, moved_span, moved_to, places_of, shifted, span_at, stored_at};
 ghost use Rattle.properties_items.specs.FoundItems.{pair_characters};
-ghost use Rattle.properties_editing.specs.Private.BodyKeys.{IsPlaceOf};
 
-use crate::edit::append::{layout_at, printed_new_pair};
-use crate::edit::find::{BodySpan, Closing, closing_after, closing_bytes, separation_after};
+use crate::edit::find::{BodySpan, Closing, closing_after};
 use crate::edit::groups::{Group, GroupReader};
-use crate::edit::replace::{are_empty, concatenated, printed_pair, replaced};
-use crate::edit::source::BodyStart;
-use crate::edit::value::new_value;
 use properties_items::error::PropertiesError;
 use properties_items::found::{find_item, item_pair};
-use properties_items::line::LineEnding;
 use properties_text::encoding::Encoding;
-use properties_text::encoding::byte_order_mark::begins_like_mark;
 use std::alloc::{AllocError, Global};
 use std::collections::BTreeMap;
 
-mod keys;
+pub mod changes;
+mod key_order;
 
 /// The pairs with a key.
 #[derive(Drop)]
@@ -83,13 +71,13 @@ impl Index {
         };
         while let Some(group) = groups.next(body)? {
             let pair = pair_of(alloc, group.number, groups.line(body, group))?;
-            index.add(alloc, group, pair)?;
+            index.add_group(alloc, group, pair)?;
         }
         Ok(index)
     }
 
     // Stores what is known after a group more, and its pair, if it is one.
-    fn add(
+    fn add_group(
         &mut self,
         alloc: Global,
         group: Group,
@@ -106,11 +94,11 @@ impl Index {
             start: group.start,
             end: group.end,
         };
-        self.keep(alloc, key, value, span)
+        self.store_last_pair(alloc, key, value, span)
     }
 
     // Stores the last pair of the body. If memory runs out and the key is new, nothing changes that is looked at.
-    fn keep(
+    fn store_last_pair(
         &mut self,
         alloc: Global,
         key: String,
@@ -140,7 +128,7 @@ impl Index {
 
     // Stores a pair that was appended, where what ended in this place is now so much longer. If memory runs out and the
     // key is new, nothing changes that is looked at.
-    fn grow(
+    fn store_appended_pair(
         &mut self,
         alloc: Global,
         key: String,
@@ -153,7 +141,7 @@ impl Index {
         ensures grown { OnOk result (GrowsIndex (characters key) (characters value) span place more self.old self.new) }
         ensures same { OnErr result (stored_at self.old.pairs.entries (characters key) ≡ None → KeepsNothing self.old self.new) }
     {
-        self.keep(alloc, key, value, span)?;
+        self.store_last_pair(alloc, key, value, span)?;
         lengthen_spans(&mut self.spans, place, more);
         self.closing = Closing::Nothing;
         Ok(())
@@ -167,7 +155,7 @@ impl Index {
     }
 
     // Returns where the last pair of the body is, whatever its key.
-    fn last(&self) -> Option<BodySpan>
+    fn last_pair(&self) -> Option<BodySpan>
         ensures { result ≡ last_live self.now.spans.items }
     {
         let mut place = self.spans.len();
@@ -180,9 +168,15 @@ impl Index {
         None
     }
 
-    // Follows the last pair with a key, which has another value and ends in another place. `is_last` says whether its group
-    // is the last one.
-    fn follow(&mut self, key: &str, value: String, old_end: usize, new_end: usize, is_last: bool)
+    // Stores another value and another end of the last pair with a key. `is_last` says whether its group is the last one.
+    fn update_last_pair(
+        &mut self,
+        key: &str,
+        value: String,
+        old_end: usize,
+        new_end: usize,
+        is_last: bool,
+    )
         requires { IsOrdered string_cmp self.old.pairs }
         ensures { FollowsPair (chars key.now) (characters value) old_end new_end is_last self.old self.new }
     {
@@ -191,334 +185,6 @@ impl Index {
         if let Some(pair) = self.pairs.get_mut(key) {
             pair.value = value;
         }
-    }
-}
-
-/// Sets a key to a value. If memory runs out, nothing changes that is looked at.
-pub fn put_pair(
-    alloc: Global,
-    source: &mut Vec<u8>,
-    opened: BodyStart,
-    index: &mut Index,
-    key: &str,
-    value: &str,
-) -> Result<(), AllocError>
-    requires editable { is_editable (encoding_of opened.encoding) ≡ true }
-    requires start { opened.start ≤ length source.old.items }
-    requires sound { AreSound (held_groups_of (encoding_of opened.encoding) (drop opened.start source.old.items)) }
-    requires is_index { IsIndex (held_groups_of (encoding_of opened.encoding) (drop opened.start source.old.items)) index.old }
-    ensures { PutsPair opened (chars key.now) (chars value.now) source.old.items index.old result source.new.items index.new }
-{
-    match index.find(key) {
-        Some(pair) => reput(alloc, source, opened, index, pair, key, value),
-        None => add_key(alloc, source, opened, index, key, value),
-    }
-}
-
-/// Sets the value of a key and keeps the layout of its line. If memory runs out, nothing changes that is looked at.
-pub fn put_value(
-    alloc: Global,
-    source: &mut Vec<u8>,
-    opened: BodyStart,
-    index: &mut Index,
-    key: &str,
-    value: &str,
-) -> Result<(), AllocError>
-    requires unit { unit_size (encoding_of opened.encoding) ≡ 1 }
-    requires start { opened.start ≤ length source.old.items }
-    requires sound { AreSound (held_groups_of (encoding_of opened.encoding) (drop opened.start source.old.items)) }
-    requires is_index { IsIndex (held_groups_of (encoding_of opened.encoding) (drop opened.start source.old.items)) index.old }
-    ensures { PutsValue opened (chars key.now) (chars value.now) source.old.items index.old result source.new.items index.new }
-{
-    match index.find(key) {
-        Some(pair) => revalue(alloc, source, opened, index, pair, key, value),
-        None => add_value(alloc, source, opened, index, key, value),
-    }
-}
-
-/// Removes the pairs with a key, and returns whether there were any. Allocates nothing.
-pub fn remove_pairs(source: &mut Vec<u8>, opened: BodyStart, index: &mut Index, key: &str) -> bool
-    requires editable { is_editable (encoding_of opened.encoding) ≡ true }
-    requires start { opened.start ≤ length source.old.items }
-    requires sound { AreSound (held_groups_of (encoding_of opened.encoding) (drop opened.start source.old.items)) }
-    requires is_index { IsIndex (held_groups_of (encoding_of opened.encoding) (drop opened.start source.old.items)) index.old }
-    ensures told { result ≡ is_some (stored_at index.old.pairs.entries (chars key.now)) }
-    ensures removes { RemovesPairs opened (chars key.now) source.old.items source.new.items index.new }
-{
-    let Some(pair) = index.pairs.remove(key) else {
-        return false;
-    };
-    let last = pair.place;
-    for place in &pair.earlier {
-        cut_at(source, opened.start, index, *place);
-    }
-    cut_at(source, opened.start, index, last);
-    guard_front(source, opened.start, index);
-    true
-}
-
-// Cuts the pair in this place, and its last line ending, out of a source.
-fn cut_at(source: &mut Vec<u8>, start: usize, index: &mut Index, place: usize)
-    requires { IsInSource start source.old.items (span_at index.old.spans.items place) }
-    ensures cuts { CutsOut start (span_at index.old.spans.items place) source.old.items index.old source.new.items index.new }
-    ensures capacity { vec_capacity source.new ≡ vec_capacity source.old }
-{
-    if let Some(pair) = span_at(&index.spans, place) {
-        cut_out(source, start, index, pair);
-    }
-}
-
-// Cuts a part of the body, and the line ending after it, out of a source.
-fn cut_out(source: &mut Vec<u8>, start: usize, index: &mut Index, pair: BodySpan)
-    requires ordered { pair.start ≤ pair.end }
-    requires within { start + pair.end ≤ length source.old.items }
-    ensures cuts { IsCutOut start pair source.old.items index.old source.new.items index.new }
-    ensures capacity { vec_capacity source.new ≡ vec_capacity source.old }
-{
-    let size = source.len();
-    let front = start + pair.start;
-    let text_end = start + pair.end;
-    let ending = ending_size(&source[text_end..]);
-    let end = text_end + ending;
-    source.as_mut_slice().copy_within(end..size, front);
-    source.truncate(size - (end - front));
-    shift_spans(&mut index.spans, Shift::Cut(pair.start, pair.end + ending));
-    index.closing = closing_if(text_end == size, Closing::Nothing, index.closing);
-}
-
-// Puts an LF before a source that begins like a byte order mark, unless a mark comes before its body.
-fn guard_front(source: &mut Vec<u8>, start: usize, index: &mut Index)
-    requires { vec_len source.old < vec_capacity source.old }
-    ensures { GuardsFront (start == 0 && begins_like_bom source.old.items) source.old.items index.old source.new.items index.new }
-{
-    if start == 0 && begins_like_mark(source) {
-        put_lf_first(source, index);
-    }
-}
-
-// Puts an LF before a source for which there is room.
-fn put_lf_first(source: &mut Vec<u8>, index: &mut Index)
-    requires { vec_len source.old < vec_capacity source.old }
-    ensures { PutsFirst source.old.items index.old source.new.items index.new }
-{
-    match source.insert(0, b'\n') {
-        Ok(()) => shift_spans(&mut index.spans, Shift::Moved(0, 1)),
-        Err(_) => unreachable!(),
-    }
-}
-
-// Returns the size of the line ending that these bytes begin with.
-fn ending_size(bytes: &[u8]) -> usize
-    ensures size { result ≡ ending_size bytes.now }
-    ensures fits { result ≤ length bytes.now }
-{
-    match bytes {
-        [b'\r', b'\n', ..] => 2,
-        [b'\r' | b'\n', ..] => 1,
-        _ => 0,
-    }
-}
-
-/// Gives the last pair with a key, which is in this part of a source's body, this value. If memory runs out, nothing
-/// changes.
-pub fn revalue(
-    alloc: Global,
-    source: &mut Vec<u8>,
-    opened: BodyStart,
-    index: &mut Index,
-    pair: BodySpan,
-    key: &str,
-    value: &str,
-) -> Result<(), AllocError>
-    requires unit { unit_size (encoding_of opened.encoding) ≡ 1 }
-    requires start { opened.start ≤ length source.old.items }
-    requires sound { AreSound (held_groups_of (encoding_of opened.encoding) (drop opened.start source.old.items)) }
-    requires is_index { IsIndex (held_groups_of (encoding_of opened.encoding) (drop opened.start source.old.items)) index.old }
-    requires placed { IsPlaceOf (chars key.now) (held_groups_of (encoding_of opened.encoding) (drop opened.start source.old.items)) pair }
-    ensures { PutsValue opened (chars key.now) (chars value.now) source.old.items index.old result source.new.items index.new }
-{
-    let start = opened.start + pair.start;
-    let end = opened.start + pair.end;
-    let Some(new) = new_value(alloc, opened, &source[start..end], value)? else {
-        return Ok(());
-    };
-    let text = String::from_str(alloc, value)?;
-    let front = &source[..start + new.front_size];
-    let bytes = concatenated(alloc, front, new.bytes.as_slice(), &source[end..])?;
-    put_back(source, opened, index, pair, bytes, key, text);
-    Ok(())
-}
-
-/// Replaces the last pair with a key, which is in this part of a source's body, by a printed pair. If memory runs out,
-/// nothing changes.
-pub fn reput(
-    alloc: Global,
-    source: &mut Vec<u8>,
-    opened: BodyStart,
-    index: &mut Index,
-    pair: BodySpan,
-    key: &str,
-    value: &str,
-) -> Result<(), AllocError>
-    requires editable { is_editable (encoding_of opened.encoding) ≡ true }
-    requires start { opened.start ≤ length source.old.items }
-    requires sound { AreSound (held_groups_of (encoding_of opened.encoding) (drop opened.start source.old.items)) }
-    requires is_index { IsIndex (held_groups_of (encoding_of opened.encoding) (drop opened.start source.old.items)) index.old }
-    requires placed { IsPlaceOf (chars key.now) (held_groups_of (encoding_of opened.encoding) (drop opened.start source.old.items)) pair }
-    ensures { PutsPair opened (chars key.now) (chars value.now) source.old.items index.old result source.new.items index.new }
-{
-    let text = String::from_str(alloc, value)?;
-    let bytes = replaced(alloc, source, opened, pair, key, value)?;
-    put_back(source, opened, index, pair, bytes, key, text);
-    Ok(())
-}
-
-// Puts bytes in place of a source, of which this part of the body was replaced: the last pair with a key, which has
-// another value.
-fn put_back(
-    source: &mut Vec<u8>,
-    opened: BodyStart,
-    index: &mut Index,
-    pair: BodySpan,
-    bytes: Vec<u8>,
-    key: &str,
-    value: String,
-)
-    requires ordered { IsOrdered string_cmp index.old.pairs }
-    requires within { opened.start + pair.end ≤ length source.old.items }
-    requires longer { length source.old.items ≤ pair.end + length bytes.items }
-    ensures bytes { source.new.items ≡ bytes.items }
-    ensures follows { FollowsPair (chars key.now) (characters value) pair.end (pair.end + length bytes.items - length source.old.items) (opened.start + pair.end == length source.old.items) index.old index.new }
-{
-    let is_last = opened.start + pair.end == source.len();
-    let new_end = pair.end + bytes.len() - source.len();
-    index.follow(key, value, pair.end, new_end, is_last);
-    *source = bytes;
-}
-
-// Appends a pair with a new key, whose bytes are this line, after what separates it from the last group. If memory runs
-// out, nothing changes that is looked at.
-fn append_pair(
-    alloc: Global,
-    source: &mut Vec<u8>,
-    opened: BodyStart,
-    index: &mut Index,
-    key: &str,
-    value: &str,
-    by: LineEnding,
-    line: &[u8],
-    ending: LineEnding,
-) -> Result<(), AllocError>
-    requires start { opened.start ≤ length source.old.items }
-    requires ordered { IsOrdered string_cmp index.old.pairs }
-    ensures { AppendsPair opened (chars key.now) (chars value.now) (line_ending_text (ending_of by)) line.now (line_ending_text (ending_of ending)) source.old.items index.old result source.new.items index.new }
-{
-    let key = String::from_str(alloc, key)?;
-    let value = String::from_str(alloc, value)?;
-    let separation = closing_bytes(index.closing, by).as_bytes();
-    let more = closing_bytes(opened_closing(index.closing), by).as_bytes();
-    let ending = closing_bytes(Closing::OneEnding, ending).as_bytes();
-    let tail = concatenated(alloc, separation, line, ending)?;
-    let size = source.len();
-    source.extend_from_slice(&tail)?;
-    let place = size - opened.start;
-    let start = place + separation.len();
-    let span = BodySpan {
-        start,
-        end: start + line.len(),
-    };
-    match index.grow(alloc, key, value, span, place, more.len()) {
-        Ok(()) => Ok(()),
-        Err(error) => {
-            source.truncate(size);
-            Err(error)
-        }
-    }
-}
-
-/// Sets the value of a key that no pair has: appends a pair like the last one. If memory runs out, nothing changes that is
-/// looked at.
-pub fn add_value(
-    alloc: Global,
-    source: &mut Vec<u8>,
-    opened: BodyStart,
-    index: &mut Index,
-    key: &str,
-    value: &str,
-) -> Result<(), AllocError>
-    requires unit { unit_size (encoding_of opened.encoding) ≡ 1 }
-    requires start { opened.start ≤ length source.old.items }
-    requires sound { AreSound (held_groups_of (encoding_of opened.encoding) (drop opened.start source.old.items)) }
-    requires is_index { IsIndex (held_groups_of (encoding_of opened.encoding) (drop opened.start source.old.items)) index.old }
-    requires is_new { stored_at index.old.pairs.entries (chars key.now) ≡ None }
-    ensures { AddsValue opened (chars key.now) (chars value.now) source.old.items index.old result source.new.items index.new }
-{
-    let body = &source[opened.start..];
-    let layout = layout_at(
-        alloc,
-        opened.encoding,
-        body,
-        index.closing,
-        index.last(),
-        key,
-    )?;
-    let separation = closing_bytes(index.closing, layout.ending).as_bytes();
-    let first = are_empty(body, separation);
-    let separator = layout.separator.as_str();
-    let line = printed_new_pair(alloc, opened, first, separator, key, value)?;
-    append_pair(
-        alloc,
-        source,
-        opened,
-        index,
-        key,
-        value,
-        layout.ending,
-        &line,
-        layout.ending,
-    )
-}
-
-/// Sets a key that no pair has: appends a printed pair. If memory runs out, nothing changes that is looked at.
-pub fn add_key(
-    alloc: Global,
-    source: &mut Vec<u8>,
-    opened: BodyStart,
-    index: &mut Index,
-    key: &str,
-    value: &str,
-) -> Result<(), AllocError>
-    requires editable { is_editable (encoding_of opened.encoding) ≡ true }
-    requires start { opened.start ≤ length source.old.items }
-    requires sound { AreSound (held_groups_of (encoding_of opened.encoding) (drop opened.start source.old.items)) }
-    requires is_index { IsIndex (held_groups_of (encoding_of opened.encoding) (drop opened.start source.old.items)) index.old }
-    requires is_new { stored_at index.old.pairs.entries (chars key.now) ≡ None }
-    ensures { AddsKey opened (chars key.now) (chars value.now) source.old.items index.old result source.new.items index.new }
-{
-    let by = separation_after(source);
-    let separation = closing_bytes(index.closing, by).as_bytes();
-    let first = are_empty(&source[opened.start..], separation);
-    let line = printed_pair(alloc, opened, first, key, value)?;
-    append_pair(
-        alloc,
-        source,
-        opened,
-        index,
-        key,
-        value,
-        by,
-        &line,
-        LineEnding::LF,
-    )
-}
-
-// Returns what separates a group from an open one before it, where two line endings close that.
-fn opened_closing(closing: Closing) -> Closing
-    ensures { result ≡ opened_closing closing }
-{
-    match closing {
-        Closing::Nothing | Closing::OneEnding => Closing::Nothing,
-        Closing::TwoEndings => Closing::OneEnding,
     }
 }
 

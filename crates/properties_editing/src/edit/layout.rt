@@ -16,7 +16,7 @@ use std::alloc::{AllocError, Global};
 
 /// Returns what separates the key and the value of a logical line, or `None` if the line isn't a pair. The value begins
 /// where the separator ends.
-pub fn between(line: &str) -> Option<Span>
+pub fn separator_span(line: &str) -> Option<Span>
     ensures { IsBetweenIn line.now result }
 {
     match parse_spans(line)? {
@@ -43,18 +43,19 @@ pub fn front_size(
 {
     let mut lines = GroupReader::new(alloc, encoding);
     let mut text = TextBuffer::new(alloc);
-    let mut left = before;
+    let mut wanted = before;
     let mut is_first = true;
     while lines.find_line(pair)? {
         let line = lines.raw_line();
         let bytes = &pair[line.start..line.end];
         text.clear();
         text.push_decoded(encoding, bytes)?;
-        let added = added_by(is_first, text.as_str().as_bytes()).len();
-        if left <= added {
-            return Ok(line.start + head_size(bytes, text.as_str(), added, left));
+        let line_text = text.as_str().as_bytes();
+        let added = added_by(is_first, line_text).len();
+        if wanted <= added {
+            return Ok(line.start + kept_bytes(bytes, line_text, added, wanted));
         }
-        left -= added;
+        wanted -= added;
         is_first = false;
     }
     // The front ends in one of the lines.
@@ -74,30 +75,23 @@ fn added_by(is_first: bool, text: &[u8]) -> &[u8]
     }
 }
 
-// Returns how many bytes of a line, which has this text, come before the last `added - left` bytes of what it adds.
-fn head_size(bytes: &[u8], text: &str, added: usize, left: usize) -> usize
-    requires left { left ≤ added }
-    requires added { added + (if is_open (chars text.now) then 1 else 0) ≤ length text.now }
-    requires backslash { (if is_open (chars text.now) then 1 else 0) ≤ length bytes.now }
-    ensures whole { left ≡ added → result ≡ length bytes.now - (if is_open (chars text.now) then 1 else 0) }
-    ensures inside { left < added → result ≡ after_ascii (ascii_count
-        (take (length text.now - (if is_open (chars text.now) then 1 else 0) - added + left) text.now)) bytes.now }
+// Returns how many bytes of a line, which has this text, stay if the first `wanted` of the `added` bytes that it adds do.
+fn kept_bytes(bytes: &[u8], text: &[u8], added: usize, wanted: usize) -> usize
+    requires wanted { wanted ≤ added }
+    requires added { added + (if is_open text.now then 1 else 0) ≤ length text.now }
+    requires backslash { (if is_open text.now then 1 else 0) ≤ length bytes.now }
+    ensures whole { wanted ≡ added → result ≡ length bytes.now - (if is_open text.now then 1 else 0) }
+    ensures inside { wanted < added → result ≡ after_ascii (ascii_count
+        (take (length text.now - (if is_open text.now then 1 else 0) - added + wanted) text.now)) bytes.now }
     ensures within { result ≤ length bytes.now }
 {
-    let backslash = usize::from(ends_open(text));
-    if left == added {
+    let backslash = usize::from(is_open(text));
+    if wanted == added {
         return bytes.len() - backslash;
     }
-    // The head ends in a separator, so in an ASCII character, which is one byte in each of these encodings.
-    let head = text.len() - backslash - added + left;
-    after_ascii(bytes, ascii_count(&text.as_bytes()[..head]))
-}
-
-// Returns whether a text ends in an odd number of backslashes.
-fn ends_open(text: &str) -> bool
-    ensures { result ≡ is_open (chars text.now) }
-{
-    is_open(text.as_bytes())
+    // What stays ends in a separator, so in an ASCII character, which is one byte in each of these encodings.
+    let kept = text.len() - backslash - added + wanted;
+    after_ascii(bytes, ascii_count(&text[..kept]))
 }
 
 // Returns how many of these bytes are ASCII.

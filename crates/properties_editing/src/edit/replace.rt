@@ -19,7 +19,7 @@ use properties_text::print::{LineBuffer, Repertoire, print_texts};
 use std::alloc::{AllocError, Global};
 
 /// Returns the source with this pair replaced by a printed pair.
-pub fn replaced(
+pub fn with_pair_replaced(
     alloc: Global,
     source: &[u8],
     opened: BodyStart,
@@ -43,7 +43,7 @@ pub fn replaced(
 
 /// Returns the source with a printed pair and a line feed appended. `closing` says what separates the pair from the
 /// bytes before it.
-pub fn appended(
+pub fn with_pair_appended(
     alloc: Global,
     source: &[u8],
     opened: BodyStart,
@@ -68,7 +68,7 @@ pub fn appended(
 
 /// Returns the source with only these parts of its body. An LF comes before them if they would begin like a byte order
 /// mark and the source doesn't begin with one.
-pub fn reduced_to(
+pub fn with_spans_kept(
     alloc: Global,
     source: &[u8],
     opened: BodyStart,
@@ -104,13 +104,13 @@ fn push_spans(bytes: &mut Vec<u8>, body: &[u8], spans: &[BodySpan]) -> Result<()
     ensures { OnOk result (bytes.new.items ≡ bytes.old.items ++ spans_bytes body.now spans.now) }
 {
     for span in spans {
-        bytes.extend_from_slice(part(body, *span))?;
+        bytes.extend_from_slice(bytes_at(body, *span))?;
     }
     Ok(())
 }
 
 /// Returns a part of a body.
-pub fn part(body: &[u8], span: BodySpan) -> &[u8]
+pub fn bytes_at(body: &[u8], span: BodySpan) -> &[u8]
     requires ordered { span.start ≤ span.end }
     requires within { span.end ≤ length body.now }
     ensures { result.now ≡ take (span.end - span.start) (drop span.start body.now) }

@@ -50,9 +50,9 @@ loop-edit-preserved c =
     let before = edits_in (take i edits) in
     let all = edits_in-more edits i edit c.loop-edit-test.true ∙ ap (λ v. before ++ edit_in v ∷ []) (sym c.edit-item.is) in
     let h = c.loop-edit.invariant in
-    let made = c.in_ok-make.ensures e h.in_force in
-    subst (λ v. AreEditsMade e c.in_ok-opened.opened source v c.make.new.source.items c.make.new.index) (sym all)
-    (record { result = result-more c.in_ok-opened.opened.ascii_only before (edit_in edit) c.make.new.source.items h.result made.result; in_force = made.in_force; sound = made.sound; is_index = made.is_index })
+    let made = c.in_ok-make_edit.ensures e h.in_force in
+    subst (λ v. AreEditsMade e c.in_ok-opened.opened source v c.make_edit.new.source.items c.make_edit.new.index) (sym all)
+    (record { result = result-more c.in_ok-opened.opened.ascii_only before (edit_in edit) c.make_edit.new.source.items h.result made.result; in_force = made.in_force; sound = made.sound; is_index = made.is_index })
 
 pub returns : goal.returns
 returns c =

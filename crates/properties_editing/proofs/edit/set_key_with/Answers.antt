@@ -21,8 +21,8 @@ returns-in_err-place c =
     c.in_err-place.ensures c.from_residual-in_err-place.ensures.1 in
     rw refused.1 refused.2
 
-pub replaced-requires-clause-within : goal.replaced-requires-clause-within
-replaced-requires-clause-within c =
+pub with_pair_replaced-requires-clause-within : goal.with_pair_replaced-requires-clause-within
+with_pair_replaced-requires-clause-within c =
     let found = (rw (take_rest c.args.source.now c.in_ok-opened.opened.start) at c.in_ok-place.ensures).0 in
     span-within c.in-Some.pair c.in_ok-opened.ensures.0 c.in_ok-opened.ensures.1 found c.in-Some.is
 

@@ -14,20 +14,20 @@ use Rattle.properties_editing.proofs.NewPairs.{equals-text}
 use Rattle.properties_editing.proofs.edit.append.separator_at.Goals as goal
 use Rattle.properties_editing.proofs.edit.append.separator_at.Goals.{in-Some+in_ok-separator-in-Some, in-None}
 
-pub part-requires-clause-ordered : goal.part-requires-clause-ordered
-part-requires-clause-ordered c =
+pub bytes_at-requires-clause-ordered : goal.bytes_at-requires-clause-ordered
+bytes_at-requires-clause-ordered c =
     let last = rw c.in-Some.is at c.requires.last in
     (last-part (encoding_of c.args.encoding) c.args.body.now c.in-Some.pair (editable-bytes (encoding_of c.args.encoding) c.requires.unit) last).ordered
 
-pub part-requires-clause-within : goal.part-requires-clause-within
-part-requires-clause-within c =
+pub bytes_at-requires-clause-within : goal.bytes_at-requires-clause-within
+bytes_at-requires-clause-within c =
     let last = rw c.in-Some.is at c.requires.last in
     (last-part (encoding_of c.args.encoding) c.args.body.now c.in-Some.pair (editable-bytes (encoding_of c.args.encoding) c.requires.unit) last).within
 
 pub separator_like-requires-clause-alone : goal.separator_like-requires-clause-alone
 separator_like-requires-clause-alone c =
     let last = rw c.in-Some.is at c.requires.last in
-    rw c.part.ensures (last-alone (encoding_of c.args.encoding) c.args.body.now c.in-Some.pair (editable-bytes (encoding_of c.args.encoding) c.requires.unit) last).0
+    rw c.bytes_at.ensures (last-alone (encoding_of c.args.encoding) c.args.body.now c.in-Some.pair (editable-bytes (encoding_of c.args.encoding) c.requires.unit) last).0
 
 pub returns-in-Some-separator : goal.returns-in-Some-separator
 returns-in-Some-separator c =
@@ -38,7 +38,7 @@ returns-in-Some-separator c =
     elim c.match-last.branch [
       | in-Some+in_ok-separator-in-Some w ↦
           let found = rw w.in-Some.is at c.requires.last in
-          let like = rw w.part.ensures at w.in_ok-separator-in-Some.ensures in
+          let like = rw w.bytes_at.ensures at w.in_ok-separator-in-Some.ensures in
           ap (option_map characters) (sym c.in-Some-separator.is ∙ w.separator-is)
           ∙ like
           ∙ ap (option_map (separator_after key)) (last-alone e c.args.body.now w.in-Some.pair (editable-bytes e c.requires.unit) found).1
@@ -55,7 +55,7 @@ returns-in-None-separator c =
     elim c.match-last.branch [
       | in-Some+in_ok-separator-in-Some w ↦
           let found = rw w.in-Some.is at c.requires.last in
-          let like = rw w.part.ensures at w.in_ok-separator-in-Some.ensures in
+          let like = rw w.bytes_at.ensures at w.in_ok-separator-in-Some.ensures in
           ap (option_map characters) (sym c.in-None-separator.is ∙ w.separator-is)
           ∙ like
           ∙ ap (option_map (separator_after key)) (last-alone e c.args.body.now w.in-Some.pair (editable-bytes e c.requires.unit) found).1

@@ -32,4 +32,4 @@ pub loop-index-preserved : goal.loop-index-preserved
 loop-index-preserved c =
     let came = rw c.in-Some.is at c.in_ok-group.ensures in
     let told = rw c.line.ensures at c.in_ok-pair.ensures in
-    indexed-more c.loop-index.index c.add.new.self (option_map pair_characters c.in_ok-pair.pair) c.loop-index.invariant came told.0 told.1 c.in_ok-add.ensures
+    indexed-more c.loop-index.index c.add_group.new.self (option_map pair_characters c.in_ok-pair.pair) c.loop-index.invariant came told.0 told.1 c.in_ok-add_group.ensures

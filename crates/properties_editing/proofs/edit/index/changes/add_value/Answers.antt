@@ -1,0 +1,44 @@
+use Rattle.std.proofs.Common.{◌-◌, ◌++◌, drop, take, length, ap, ap₂, sym, subst, ◌∙◌, arith}
+use Rattle.std.specs.Str.{chars}
+use Rattle.std.proofs.lemmas.List.{take_rest}
+use Rattle.properties_format.specs.Text.{line_ending_text}
+use Rattle.properties_format.specs.Encoding.{output_encoding}
+use Rattle.properties_format.specs.Writing.{is_empty}
+use Rattle.properties_text.specs.Encoding.{encoding_of}
+use Rattle.properties_editing.specs.Private.BodyValues.{IsLastPair, unended_pair}
+use Rattle.properties_items.specs.LineEndings.{ending_of}
+use Rattle.properties_editing.proofs.BodyKeys.{editable-bytes}
+use Rattle.properties_items.proofs.Scalars.{chars-scalars}
+use Rattle.properties_format.specs.Computed.Body.{held_groups_of}
+use Rattle.properties_editing.proofs.IndexFound.{found-last}
+use Rattle.properties_editing.proofs.IndexAdded.{adds-value, pair-added}
+use Rattle.properties_editing.proofs.edit.index.changes.add_value.Goals as goal
+
+pub layout_at-requires-clause-last : goal.layout_at-requires-clause-last
+layout_at-requires-clause-last c =
+    let old = c.args.source.now.items in
+    let opened = c.args.opened in
+    let found = found-last (held_groups_of (encoding_of opened.encoding) (drop opened.start old)) c.args.index.now c.requires.sound c.requires.is_index in
+    let last = subst (IsLastPair (held_groups_of (encoding_of opened.encoding) (drop opened.start old))) (sym c.last_pair.ensures) found in
+    rw (c.deref.ensures.value, take_rest old opened.start) last
+
+pub returns : goal.returns
+returns c =
+    let old = c.args.source.now.items in
+    let opened = c.args.opened in
+    let was = c.args.index.now in
+    let layout = c.in_ok-layout.layout in
+    let key = chars c.args.key.now in
+    let value = chars c.args.value.now in
+    let ending = line_ending_text (ending_of layout.ending) in
+    let out = output_encoding (encoding_of opened.encoding) in
+    let laid = rw (c.deref.ensures.value, take_rest old opened.start) at c.in_ok-layout.ensures in
+    let body = ap (λ v. take (length v - opened.start) (drop opened.start v)) c.deref.ensures.value ∙ take_rest old opened.start in
+    let first = c.are_empty-first.ensures ∙ ap₂ (λ v w. is_empty (v ++ w)) body (c.as_bytes-separation.ensures.value ∙ c.closing_bytes.ensures) in
+    let printed = c.deref-2.ensures.value ∙ c.in_ok-line.ensures ∙ ap₂ (λ b s. unended_pair out opened.ascii_only b key (chars s) value) first c.as_str-separator.ensures.value in
+    let small = c.append_pair.new.source.small in
+    let len = c.append_pair.new.source.ok in
+    adds-value c.append_pair.result opened key value ending c.deref-2.result.now ending old c.append_pair.new.source.items was c.append_pair.new.index
+    (pair-added opened old c.append_pair.new.source.items key value c.deref-2.result.now layout was c.append_pair.new.index (editable-bytes (encoding_of opened.encoding) c.requires.unit)
+    c.requires.start c.requires.sound c.requires.is_index c.requires.is_new (chars-scalars c.args.key.now c.utf8.key) (chars-scalars c.args.value.now c.utf8.value) laid printed (omega arith))
+    c.requires.is_new c.append_pair.ensures

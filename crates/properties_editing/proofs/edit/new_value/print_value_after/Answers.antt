@@ -1,0 +1,28 @@
+use Rattle.std.proofs.Common.{◌++◌, ◌∙◌, ap, false}
+use Rattle.std.specs.Str.{chars}
+use Rattle.std.proofs.lemmas.Result.{on_ok_weaker}
+use Rattle.properties_format.specs.Printing.{encoded_text}
+use Rattle.properties_format.specs.Encoding.{output_encoding}
+use Rattle.properties_text.specs.Encoding.{encoding_of}
+use Rattle.properties_editing.proofs.NewPairs.{value-unseparated, value-separated, text-empty, text-some}
+use Rattle.properties_editing.proofs.edit.new_value.print_value_after.Goals as goal
+
+pub returns-then-is_empty : goal.returns-then-is_empty
+returns-then-is_empty c =
+    let e = output_encoding (encoding_of c.args.opened.encoding) in
+    let only = c.args.opened.ascii_only in
+    let printed = rw (c.repertoire_of-repertoire.ensures.values false (chars c.args.value.now)) at c.print_value.ensures in
+    on_ok_weaker c.print_value.result
+    (λ h. value-unseparated e only c.args.line.now c.extend.new.self c.print_value.new.line (chars c.args.separator.now) (chars c.args.value.now)
+    (text-empty c.args.separator.now c.if-is_empty.ensures) c.in_ok-extend.ensures.appended h)
+    printed
+
+pub returns : goal.returns
+returns c =
+    let e = output_encoding (encoding_of c.args.opened.encoding) in
+    let only = c.args.opened.ascii_only in
+    let printed = rw (c.repertoire_of-repertoire.ensures.values c.are_blanks.result (chars c.args.value.now), c.are_blanks.ensures) at c.print_value-2.ensures in
+    on_ok_weaker c.print_value-2.result
+    (λ h. h ∙ ap (λ v. c.args.line.now ++ encoded_text e v) (value-separated e only (chars c.args.separator.now) (chars c.args.value.now)
+    (text-some c.args.separator.now c.utf8.separator c.if-is_empty.ensures)))
+    printed
