@@ -9,15 +9,25 @@ use Rattle.properties_editing.proofs.edit.edit_once.Goals as goal
 
 pub returns-in-Put : goal.returns-in-Put
 returns-in-Put c =
+    let e = encoding_of c.args.encoding in
+    let key = chars (string_bytes c.in-Put.key) in
+    let value = chars (string_bytes c.in-Put.value) in
+    let scalars = edits-scalars (variant.Put c.in-Put.key c.in-Put.value ∷ []) in
     let set = rw (c.deref.ensures, c.deref-in-Put.ensures) at c.set_key_with.ensures in
-    rw c.in-Put.is (set-once (encoding_of c.args.encoding) c.args.ascii_only c.args.source.now (chars (string_bytes c.in-Put.key)) (chars (string_bytes c.in-Put.value)) (edits-scalars (variant.Put c.in-Put.key c.in-Put.value ∷ [])) c.set_key_with.result set)
+    rw c.in-Put.is (set-once e c.args.ascii_only c.args.source.now key value scalars c.set_key_with.result set)
 
 pub returns-in-Remove : goal.returns-in-Remove
 returns-in-Remove c =
+    let e = encoding_of c.args.encoding in
+    let key = chars (string_bytes c.in-Remove.key) in
     let removed = rw c.deref-in-Remove.ensures at c.remove_key.ensures.removes in
-    rw c.in-Remove.is (removed-once (encoding_of c.args.encoding) c.args.ascii_only c.args.source.now (chars (string_bytes c.in-Remove.key)) c.remove_key.result removed)
+    rw c.in-Remove.is (removed-once e c.args.ascii_only c.args.source.now key c.remove_key.result removed)
 
 pub returns-in-SetValue : goal.returns-in-SetValue
 returns-in-SetValue c =
+    let e = encoding_of c.args.encoding in
+    let key = chars (string_bytes c.in-SetValue.key) in
+    let value = chars (string_bytes c.in-SetValue.value) in
+    let scalars = edits-scalars (variant.SetValue c.in-SetValue.key c.in-SetValue.value ∷ []) in
     let set = rw (c.deref-in-SetValue.ensures, c.deref-in-SetValue-2.ensures) at c.set_value_with.ensures in
-    rw c.in-SetValue.is (value-once (encoding_of c.args.encoding) c.args.ascii_only c.args.source.now (chars (string_bytes c.in-SetValue.key)) (chars (string_bytes c.in-SetValue.value)) (edits-scalars (variant.SetValue c.in-SetValue.key c.in-SetValue.value ∷ [])) c.set_value_with.result set)
+    rw c.in-SetValue.is (value-once e c.args.ascii_only c.args.source.now key value scalars c.set_value_with.result set)

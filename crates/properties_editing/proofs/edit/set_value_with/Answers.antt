@@ -19,7 +19,9 @@ returns-in_err-place c =
     let key = chars c.args.key.now in
     let value = chars c.args.value.now in
     let opened = c.in_ok-opened.ensures in
-    let refused = refusal c.from_residual-in_err-place.result (IsValueSet e c.args.ascii_only source key value) (value_set e c.args.ascii_only source key value) opened.0 opened.1 (set_value_result-meets e c.args.ascii_only source key value)
+    let only = c.args.ascii_only in
+    let meets = set_value_result-meets e only source key value in
+    let refused = refusal c.from_residual-in_err-place.result (IsValueSet e only source key value) (value_set e only source key value) opened.0 opened.1 meets
     c.in_err-place.ensures c.from_residual-in_err-place.ensures.1 in
     rw refused.1 refused.2
 
