@@ -83,7 +83,13 @@ fn push_repeat(bytes: &mut Vec<u8>, key: &KeyLine) -> Result<(), AllocError>
         return Ok(());
     }
     let text = key.key.as_str();
-    push_finding(bytes, REPEATED, key.line_number, key.first_line_number, text.as_bytes())
+    push_finding(
+        bytes,
+        REPEATED,
+        key.line_number,
+        key.first_line_number,
+        text.as_bytes(),
+    )
 }
 
 fn push_finding(
