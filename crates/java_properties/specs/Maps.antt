@@ -11,7 +11,7 @@ use Rattle.std.specs.Cmp.Lexicographic.{slice_cmp}
 use Rattle.std.specs.declared.string.String.{String}
 use Rattle.counted_io.specs.Streams.{Reader, Sink, HasWritten}
 use Rattle.properties_format.specs.Encoding.{Encoding, windows_1252}
-use Rattle.properties_format.specs.Entries.{Content, comment, pair, Entry}
+use Rattle.properties_format.specs.Entries.{Entry}
 use Rattle.properties_format.specs.Lines.{end}
 use Rattle.properties_format.specs.Items.{IsItems}
 use Rattle.properties_format.specs.Maps.{HasValue, IsMap}
@@ -19,7 +19,7 @@ use Rattle.properties_format.specs.Pairs.{Pair, items_after}
 use Rattle.properties_format.specs.Settings.{default_settings}
 use Rattle.properties_format.specs.Writing.{Call, pair_call, flush_call, wrote}
 use Rattle.java_properties.specs.Calls.{StopsAtCall}
-use Rattle.properties_items.specs.Errors.{IsBareError, Refuses}
+use Rattle.properties_items.specs.Errors.{Refuses}
 use Rattle.java_properties.specs.PropertiesWriter.{Writing, new_writer}
 use Rattle.java_properties.specs.ReadBack.{IsReadBackBefore}
 use Rattle.java_properties.specs.ReadLines.{entries_in, ReadsWhole, StopsReading}
@@ -28,11 +28,9 @@ use Rattle.properties_items.specs.declared.error.PropertiesError.{PropertiesErro
 use Rattle.properties_items.specs.declared.line.Line.{Line}
 pub use Rattle.properties_items.specs.Texts.{characters, Entries, value_at}
 
--- A pair sets the value of its key, if there is memory. A comment changes nothing.
-abbrev pub InsertsIfPair : {Y Z : Type 0} → Entries Y Z → Content → Result Unit PropertiesError → Entries Y Z → Type 0
-InsertsIfPair old content (Err error) new = IsBareError kind.Memory error
-InsertsIfPair old (comment text) (Ok done) new = new ≡ old
-InsertsIfPair old (pair key value) (Ok done) new = (k : List ℕ) → value_at new k ≡ update bytes_eq (value_at old) key (Option.Some value) k
+-- The key has this value, and other keys have what they had.
+abbrev pub HasPut : {Y Z : Type 0} → Entries Y Z → List ℕ → List ℕ → Entries Y Z → Type 0
+HasPut old key value new = (k : List ℕ) → value_at new k ≡ update bytes_eq (value_at old) key (Option.Some value) k
 
 -- ---- reading
 
@@ -49,15 +47,18 @@ pub record ReadsValue {R : Type 0} (reader : Reader R) (e : Encoding) (from : R)
   pub reads : ReadsWhole reader e from items to
   pub has_value : HasValue e reads.bytes key value
 
--- The result of reading a map, and the reader afterwards. Ok is returned only at the reader's own end.
-abbrev pub ReadsMap : {R Y Z S : Type 0} → Reader R → R → Result (HashMap (String Y) (String Z) S) PropertiesError → R → Type 0
-ReadsMap reader from (Ok m) to = HasReadMap reader windows_1252 from m.entries to
-ReadsMap reader from (Err error) to = StopsReading reader windows_1252 from error to
+-- The result of reading a map, which has these entries, and the reader afterwards. Ok is returned only at the reader's
+-- own end.
+abbrev pub ReadsEntries : {R Y Z M : Type 0} → Reader R → Encoding → (M → Entries Y Z) → R → Result M PropertiesError → R → Type 0
+ReadsEntries reader e entries from (Ok m) to = HasReadMap reader e from (entries m) to
+ReadsEntries reader e entries from (Err error) to = StopsReading reader e from error to
 
--- The result of reading a sorted map in any encoding, and the reader afterwards.
+abbrev pub ReadsMap : {R Y Z S : Type 0} → Reader R → R → Result (HashMap (String Y) (String Z) S) PropertiesError → R → Type 0
+ReadsMap reader from result to = ReadsEntries reader windows_1252 (λ m. m.entries) from result to
+
+-- a sorted map, in any encoding
 abbrev pub ReadsSorted : {R Y Z : Type 0} → Reader R → Encoding → R → Result (BTreeMap (String Y) (String Z)) PropertiesError → R → Type 0
-ReadsSorted reader e from (Ok m) to = HasReadMap reader e from m.entries to
-ReadsSorted reader e from (Err error) to = StopsReading reader e from error to
+ReadsSorted reader e from result to = ReadsEntries reader e (λ m. m.entries) from result to
 
 -- ---- writing
 

@@ -1,13 +1,14 @@
 // Reads and writes whole maps.
 
-ghost use Rattle.std.specs.Prelude.{IfOk};
+ghost use Rattle.std.specs.Prelude.{◌≡◌, [], IfOk, OnOk};
+ghost use Rattle.std.specs.BTreeMap.{IsOrdered};
+ghost use Rattle.std.specs.Global.{Global};
+ghost use Rattle.std.specs.String.{string_cmp};
 ghost use Rattle.counted_io.specs.Streams.{IsSameReader, IsSameSink};
-ghost use Rattle.java_properties.specs.PropertiesIter.{format_content};
-ghost use Rattle.properties_format.specs.Encoding.{windows_1252};
-ghost use Rattle.properties_text.specs.Encoding.{line_of};
-ghost use Rattle.java_properties.specs.Maps.{texts_of, InsertsIfPair, ReadsMap, AreInOrder, WritesPairs, WritesMap, MapReadsBack};
-
-mod sorted;
+ghost use Rattle.properties_format.specs.Encoding.{output_encoding, windows_1252};
+ghost use Rattle.properties_text.specs.Encoding.{encoding_of, line_of};
+ghost use Rattle.properties_items.specs.Texts.{characters, Entries};
+ghost use Rattle.java_properties.specs.Maps.{texts_of, HasPut, ReadsEntries, ReadsMap, ReadsSorted, WritesPairs, WritesMap, MapReadsBack};
 
 use crate::iter::items::ItemReader;
 use crate::writer::engine::{Content, Engine};
@@ -15,9 +16,8 @@ use counted_io::{CountedRead, CountedWrite};
 use properties_items::error::PropertiesError;
 use properties_items::line::LineContent;
 use properties_text::encoding::{Encoding, LineEncoding};
-pub use sorted::{read_sorted, write_sorted};
 use std::alloc::{AllocError, Global};
-use std::collections::HashMap;
+use std::collections::{BTreeMap, HashMap};
 
 /// Reads an input in windows-1252 to its end and returns the value of each key.
 ///
@@ -40,29 +40,90 @@ pub fn read<R: CountedRead>(
     ensures reads { ReadsMap R.CountedRead input.old result input.new }
     ensures same_reader { IsSameReader R.CountedRead input.old input.new }
 {
-    let mut items = ItemReader::new(alloc, Encoding::WINDOWS_1252);
-    let mut map = HashMap::new(alloc);
-    while let Some(item) = items.next_item(input) {
-        let line = item?;
-        insert_if_pair(&mut map, line.consume_content())?;
-    }
-    Ok(map)
+    read_map(alloc, input, Encoding::WINDOWS_1252, HashMap::new(alloc))
 }
 
-// Inserts the value of a pair under its key. Ignores comments.
-fn insert_if_pair(
-    map: &mut HashMap<String, String>,
-    content: LineContent,
-) -> Result<(), PropertiesError>
-    ensures { InsertsIfPair map.old.entries (format_content content) result map.new.entries }
+/// Reads an input in this encoding to its end and returns the value of each key, in the order of the keys.
+///
+/// It does what [`read`] does, for any encoding, and its map stays fast whatever the keys are: use it for untrusted
+/// files. If several pairs have the same key, the last one counts. A byte order mark at the front overrides the
+/// encoding. If the input has an error, it returns the error and no map.
+///
+/// ```text
+/// let mut input: &[u8] = b"hello = world\ncafe = caf\xc3\xa9";
+/// let map = read_sorted(alloc, &mut input, Encoding::UTF_8)?;
+/// assert_eq!(rt; map.get("cafe").map(|value| value.as_str()), Some("caf\u{e9}"));
+/// ```
+pub fn read_sorted<R: CountedRead>(
+    alloc: Global,
+    input: &mut R,
+    encoding: Encoding,
+) -> Result<BTreeMap<String, String>, PropertiesError>
+    ensures reads { ReadsSorted R.CountedRead (encoding_of encoding) input.old result input.new }
+    ensures ascending { IfOk result (λ map. IsOrdered string_cmp map) }
+    ensures same_reader { IsSameReader R.CountedRead input.old input.new }
 {
-    match content {
-        LineContent::Comment(_text) => Ok(()),
-        LineContent::KVPair(key, value) => {
-            map.insert(key, value)?;
-            Ok(())
-        }
+    read_map(alloc, input, encoding, BTreeMap::new(alloc))
+}
+
+// A map of texts, sorted or not.
+trait TextMap: Drop {
+    // Its keys and values, in the order in which it holds them.
+    ghost entries: { Self → Entries Global Global };
+
+    // Whether its keys ascend, if it is a sorted map.
+    ghost is_ordered: { Self → Type 0 };
+
+    // Puts a value at a key.
+    fn put(&mut self, key: String, value: String) -> Result<(), AllocError>
+        ensures puts { OnOk result (HasPut (entries self.old) (characters key) (characters value) (entries self.new)) }
+        ensures ordered { is_ordered self.new };
+}
+
+impl TextMap for HashMap<String, String> {
+    ghost entries = { λ map. map.entries };
+
+    ghost is_ordered = { λ map. Unit {0} };
+
+    fn put(&mut self, key: String, value: String) -> Result<(), AllocError> {
+        HashMap::insert(self, key, value)?;
+        Ok(())
     }
+}
+
+impl TextMap for BTreeMap<String, String> {
+    ghost entries = { λ map. map.entries };
+
+    ghost is_ordered = { λ map. IsOrdered string_cmp map };
+
+    fn put(&mut self, key: String, value: String) -> Result<(), AllocError> {
+        BTreeMap::insert(self, key, value)?;
+        Ok(())
+    }
+}
+
+// Reads an input to its end and puts the value of each pair into an empty map.
+fn read_map<M: TextMap, R: CountedRead>(
+    alloc: Global,
+    input: &mut R,
+    encoding: Encoding,
+    mut map: M,
+) -> Result<M, PropertiesError>
+    requires empty { M.entries map ≡ [] }
+    requires ordered { M.is_ordered map }
+    ensures reads { ReadsEntries R.CountedRead (encoding_of encoding) M.entries input.old result input.new }
+    ensures ordered { IfOk result M.is_ordered }
+    ensures same_reader { IsSameReader R.CountedRead input.old input.new }
+{
+    let mut items = ItemReader::new(alloc, encoding);
+    while let Some(item) = items.next_item(input) {
+        let line = item?;
+        let LineContent::KVPair(key, value) = line.consume_content() else {
+            continue;
+        };
+        map.put(key, value)?;
+    }
+    Ok(map)
 }
 
 /// Writes each entry of a map as one line, in windows-1252 and with the settings of a new writer, and flushes the sink.
@@ -86,13 +147,43 @@ pub fn write<W: CountedWrite>(
         MapReadsBack W.CountedWrite windows_1252 entries writer.old result writer.new }
     ensures same_sink { IsSameSink W.CountedWrite writer.old writer.new }
 {
-    let pairs = pairs_in_order(alloc, map)?;
+    let mut pairs: Vec<(&String, &String)> = map.iter().collect(alloc)?;
+    // No two keys are equal, so the values don't affect the order.
+    pairs.sort_unstable();
     write_pairs(
         alloc,
         writer,
         &pairs,
         LineEncoding::from(Encoding::WINDOWS_1252),
     )
+}
+
+/// Writes each entry of a map as one line, in the output encoding of `encoding` and with the settings of a new writer,
+/// and flushes the sink.
+///
+/// The output encoding is windows-1252 or UTF-8: UTF-16 can be read but is never written. What is written reads back,
+/// in the output encoding, as the same map. A loop that writes the entries with a
+/// [`PropertiesWriter`](crate::PropertiesWriter) writes the same lines; use such a loop if you also want comments.
+///
+/// ```text
+/// let mut output = Counted::new(Vec::new(alloc));
+/// write_sorted(alloc, &mut output, &map, Encoding::UTF_8)?;
+/// // The sink holds `cafe=café`, `hello=world` and their line feeds.
+/// ```
+pub fn write_sorted<W: CountedWrite>(
+    alloc: Global,
+    writer: &mut W,
+    map: &BTreeMap<String, String>,
+    encoding: Encoding,
+) -> Result<(), PropertiesError>
+    ensures writes { let output = output_encoding (encoding_of encoding) in
+        WritesMap W.CountedWrite output map.now.entries writer.old result writer.new }
+    ensures reads_back { let output = output_encoding (encoding_of encoding) in
+        MapReadsBack W.CountedWrite output map.now.entries writer.old result writer.new }
+    ensures same_sink { IsSameSink W.CountedWrite writer.old writer.new }
+{
+    let pairs: Vec<(&String, &String)> = map.iter().collect(alloc)?;
+    write_pairs(alloc, writer, &pairs, LineEncoding::from(encoding))
 }
 
 // Writes these pairs in order, with the settings of a new writer, and flushes the sink.
@@ -111,20 +202,4 @@ fn write_pairs<W: CountedWrite>(
         engine.write_line(writer, Content::KVPair(key.as_str(), value.as_str()))?;
     }
     engine.flush(writer)
-}
-
-// Returns the entries of a map, ordered by the bytes of their keys.
-fn pairs_in_order<'a>(
-    alloc: Global,
-    map: &'a HashMap<String, String>,
-) -> Result<Vec<(&'a String, &'a String)>, AllocError>
-    ensures { IfOk result (λ pairs. AreInOrder map.now.entries (texts_of pairs.items)) }
-{
-    let mut pairs = Vec::with_capacity(alloc, map.len())?;
-    for (key, value) in map {
-        pairs.push((key, value))?;
-    }
-    // No two keys are equal, so the values don't affect the order.
-    pairs.sort_unstable();
-    Ok(pairs)
 }

@@ -1,12 +1,10 @@
 -- The tests of settings, character by character.
-use Rattle.std.proofs.Common.{◌≡◌, ℕ, ◌<◌, ◌||◌, ◌&&◌, not, ◌==◌, if◌then◌else◌, Bool, true, false, List, [], ◌∷◌, ◌++◌, length, refl, ap, sym, ◌∙◌, arith, rules}
+use Rattle.std.proofs.Common.{◌≡◌, ℕ, ◌||◌, ◌&&◌, not, if◌then◌else◌, Bool, true, false, List, [], ◌∷◌, ◌++◌, length, refl, ap, sym, ◌∙◌}
 use Rattle.std.proofs.Math.Bool.{or-false, and-true}
-use borrow.Author.Tests.{tests}
-use lib.Utf8.{encodes}
 use Rattle.std.specs.Prelude.{encode_utf8}
 use Rattle.std.specs.Str.{IsUtf8, chars}
 use Rattle.std.proofs.lemmas.Bool.{cond-true, cond-false}
-use Rattle.std.proofs.lemmas.Str.{chars_past_char, encodes-chars, length-le-encodes}
+use Rattle.std.proofs.lemmas.Str.{chars_past_char}
 use Rattle.std.proofs.StrCases.{chars_of_empty}
 use Rattle.properties_format.specs.Writing.{is_empty}
 use Rattle.properties_format.specs.Text.{is_blank, is_blanks, is_line_end, is_comment_sign, is_separator}

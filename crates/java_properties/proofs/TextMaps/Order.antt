@@ -7,6 +7,7 @@ use Rattle.std.specs.HashMap.{HashMap, IsUnique}
 use Rattle.std.specs.List.{IsDistinct, AllByRecursion}
 use Rattle.std.specs.List.Sorted.{IsPermutation, IsSorted, IsStrictlySortedBy}
 use Rattle.std.specs.Map.{keys_of}
+use Rattle.std.specs.Map.Iter.{deref_pair}
 use Rattle.std.specs.Ordering.{nat_cmp, is_lt, ordering_then, ordering_reverse}
 use Rattle.std.specs.String.{string_cmp, string_eq}
 use Rattle.std.specs.declared.cmp.Ordering.{Ordering}
@@ -79,12 +80,16 @@ module _ {Y Z : Type 0} where
   strict [] sorted distinct = sorted_from_all_adjacent nat_list_cmp_total [] [] (λ k inside. absurd (omega (arith, inside)))
   strict (x ∷ xs) sorted distinct = sorted_from_all_adjacent nat_list_cmp_total (map borrowed_key (x ∷ xs)) (borrowed_key x) (neighbours (x ∷ xs) x sorted distinct)
 
+-- borrowed entries have the texts of the entries
+borrowed : {Y Z : Type 0} (entries : Entries Y Z) (xs : List (Bor (String Y) × Bor (String Z))) → map deref_pair xs ≡ entries → texts_of xs ≡ map entry_texts entries
+borrowed entries xs all = sym (map-map entry_texts deref_pair xs) ∙ ap (map entry_texts) all
+
 -- the entries of a map, after they were sorted
-pub in-order : {Y Z S : Type 0} (m : HashMap (String Y) (String Z) S) (xs ys : List (Bor (String Y) × Bor (String Z))) → texts_of xs ≡ map entry_texts m.entries
+pub in-order : {Y Z S : Type 0} (m : HashMap (String Y) (String Z) S) (xs ys : List (Bor (String Y) × Bor (String Z))) → map deref_pair xs ≡ m.entries
     → IsUnique string_eq m → IsPermutation xs ys → IsSorted (pair_cmp {Y = Y} {Z = Z}) ys → AreInOrder m.entries (texts_of ys)
 in-order {Y} {Z} m xs ys all unique moved sorted =
     let P : List (List ℕ × List ℕ) → Type 0 = λ v. IsPermutation v (texts_of ys) in
-    let entries = subst P all (IsPermutation-map borrowed_texts xs ys moved) in
+    let entries = subst P (borrowed m.entries xs all) (IsPermutation-map borrowed_texts xs ys moved) in
     let keys = IsPermutation-map (λ (e : List ℕ × List ℕ). e.0) (map entry_texts m.entries) (texts_of ys) entries in
     let distinct = IsDistinct-IsPermutation bytes_eq flipped (keys_of (map entry_texts m.entries)) (keys_of (texts_of ys)) keys (distinct-bytes m.entries unique) in
     let Q : List (List ℕ) → Type 0 = IsDistinct bytes_eq in
@@ -104,8 +109,8 @@ ascend-bytes [] up = tt
 ascend-bytes (e ∷ entries) up = (all-less e.0 entries up.0, ascend-bytes entries up.1)
 
 -- they are in order
-pub sorted-in-order : {Y Z : Type 0} (entries : Entries Y Z) (xs : List (Bor (String Y) × Bor (String Z))) → texts_of xs ≡ map entry_texts entries
+pub sorted-in-order : {Y Z : Type 0} (entries : Entries Y Z) (xs : List (Bor (String Y) × Bor (String Z))) → map deref_pair xs ≡ entries
     → IsStrictlySortedBy string_cmp (keys_of entries) → AreInOrder entries (texts_of xs)
 sorted-in-order entries xs all up =
     let P : List (List ℕ × List ℕ) → Type 0 = AreInOrder entries in
-    subst P (sym all) (record { entries = IsPermutation-refl (map entry_texts entries); ascend = ascend-bytes entries up })
+    subst P (sym (borrowed entries xs all)) (record { entries = IsPermutation-refl (map entry_texts entries); ascend = ascend-bytes entries up })

@@ -1,6 +1,6 @@
 -- A map that is read, item after item.
 use Rattle.std.proofs.Common.{◌≡◌, ℕ, false, List, [], ◌∷◌, ◌++◌, refl, sym, inr, subst}
-use Rattle.std.specs.Prelude.{◌⊎◌, Option, Ok}
+use Rattle.std.specs.Prelude.{◌⊎◌, Option}
 use Rattle.counted_io.specs.Streams.{Reader}
 use Rattle.properties_format.specs.Encoding.{Encoding}
 use Rattle.properties_format.specs.ItemsToCome.{ReaderState, start}
@@ -12,7 +12,7 @@ use Rattle.properties_items.specs.Line.{number_of, content_of}
 use Rattle.java_properties.specs.PropertiesIter.{format_content, entry_of}
 use Rattle.java_properties.specs.Private.GivenItems.{GivesEntry, GivesNone, GivesMalformed, GivesError}
 use Rattle.java_properties.specs.ReadLines.{entries_in, StopsReading}
-use Rattle.java_properties.specs.Maps.{InsertsIfPair, HasReadMap, ReadsValue}
+use Rattle.java_properties.specs.Maps.{HasPut, HasReadMap, ReadsValue}
 use Rattle.properties_items.specs.Texts.{Entries, value_at}
 use Rattle.properties_items.specs.declared.error.ErrorKind.TheVariants as kind
 use Rattle.properties_items.specs.declared.error.PropertiesError.{PropertiesError}
@@ -25,6 +25,11 @@ pub record HasPassed {R Y Z : Type 0} (reader : Reader R) (e : Encoding) (from :
   pub bytes : List ℕ
   pub collected : Collected reader e from bytes (entries_in lines) state to
   pub is_map : IsMap (entries_in lines) (value_at m)
+
+-- A pair sets the value of its key. A comment changes nothing.
+abbrev pub Takes : {Y Z : Type 0} → Entries Y Z → Content → Entries Y Z → Type 0
+Takes old (comment text) new = new ≡ old
+Takes old (pair key value) new = HasPut old key value new
 
 -- lines are items
 lines-are-items : (lines : List Line) → AreItems (entries_in lines)
@@ -43,7 +48,7 @@ module _ {R Y Z : Type 0} {reader : Reader R} {e : Encoding} where
 
   -- an item came, and went into the map if it is a pair
   pub passed-more : {from to next : R} {m n : Entries Y Z} {s t : ReaderState} (line : Line) → HasPassed reader e from m s to
-      → GivesEntry reader s to (entry_of line) t next → InsertsIfPair m (format_content (content_of line)) (Ok tt) n → HasPassed reader e from n t next
+      → GivesEntry reader s to (entry_of line) t next → Takes m (format_content (content_of line)) n → HasPassed reader e from n t next
   passed-more {from = from} {next = next} {m = m} {n = n} {t = t} line h g k = record {
     lines = h.lines ++ (line ∷ []);
     bytes = h.bytes ++ g.bytes;
@@ -52,7 +57,7 @@ module _ {R Y Z : Type 0} {reader : Reader R} {e : Encoding} where
     is_map = let P : List Entry → Type 0 = λ v. IsMap v (value_at n) in subst P (entries-more h.lines line) (by-content (format_content (content_of line)) k);
   }
     where
-      by-content : (c : Content) → InsertsIfPair m c (Ok tt) n → IsMap (entries_in h.lines ++ (item (number_of line) c ∷ [])) (value_at n)
+      by-content : (c : Content) → Takes m c n → IsMap (entries_in h.lines ++ (item (number_of line) c ∷ [])) (value_at n)
       by-content (comment text) k =
           let P : Entries Y Z → Type 0 = λ v. IsMap (entries_in h.lines ++ (item (number_of line) (comment text) ∷ [])) (value_at v) in
           subst P (sym k) (map-comment (entries_in h.lines) (number_of line) text (value_at m) h.is_map)
