@@ -22,7 +22,7 @@ pub fn lint(alloc: Global, name: &str, source: &[u8]) -> Result<Vec<String>, Pro
     }
     let mut input = source;
     for key in &key_lines(alloc, &mut input, Encoding::UTF_8)? {
-        let (number, first) = (key.line_number, key.first);
+        let (number, first) = (key.line_number, key.first_line_number);
         if first != number {
             let message = format!(in alloc; "{name}:{number}: this key is in line {first} too")?;
             messages.push(message)?;

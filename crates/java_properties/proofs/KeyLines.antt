@@ -360,7 +360,7 @@ module _ {R Z : Type 0} {reader : Reader R} where
       added key told adds =
           let k : KeyPlace = record { number = number; key = key } in
           let same : keys_in (h.groups ++ g ∷ []) ≡ keys_in h.groups ++ k ∷ [] = came ∙ ap (λ o. keys_in h.groups ++ key_before number o []) told in
-          let first : adds.line.first ≡ unwrap_or (first_place (keys_in h.groups) key) number = adds.keeps.is ∙ ap (λ o. unwrap_or o number) (h.kept key) in
+          let first : adds.line.first_line_number ≡ unwrap_or (first_place (keys_in h.groups) key) number = adds.keeps.is ∙ ap (λ o. unwrap_or o number) (h.kept key) in
           let says : key_line_entry adds.line ≡ record { number = number; key = key; first = unwrap_or (first_place (keys_in h.groups) key) number } = cc (adds.says.0, adds.says.1, first) in
           record {
             groups = h.groups ++ g ∷ [];

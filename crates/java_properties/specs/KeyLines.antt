@@ -83,7 +83,7 @@ pub record AreKeyLines (e : Encoding) (bytes : List ℕ) (lines : List KeyEntry)
 
 -- the entry of the code's record, whose key is a text
 abbrev pub key_line_entry : code.KeyLine → KeyEntry
-key_line_entry line = record { number = line.line_number; key = characters line.key; first = line.first }
+key_line_entry line = record { number = line.line_number; key = characters line.key; first = line.first_line_number }
 
 abbrev pub key_line_entries : List code.KeyLine → List KeyEntry
 key_line_entries lines = map key_line_entry lines

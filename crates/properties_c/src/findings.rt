@@ -79,11 +79,17 @@ fn push_repeats(bytes: &mut Vec<u8>, keys: &[KeyLine]) -> Result<(), AllocError>
 fn push_repeat(bytes: &mut Vec<u8>, key: &KeyLine) -> Result<(), AllocError>
     ensures { OnOk result (bytes.new.items ≡ bytes.old.items ++ repeat_bytes (key_line_entry key.now)) }
 {
-    if key.first == key.line_number {
+    if key.first_line_number == key.line_number {
         return Ok(());
     }
     let text = key.key.as_str();
-    push_finding(bytes, REPEATED, key.line_number, key.first, text.as_bytes())
+    push_finding(
+        bytes,
+        REPEATED,
+        key.line_number,
+        key.first_line_number,
+        text.as_bytes(),
+    )
 }
 
 fn push_finding(

@@ -6,8 +6,8 @@ use crate::error::ErrorKind;
 ///
 /// ```text
 /// for key in &key_lines(alloc, &mut input, Encoding::UTF_8)? {
-///     if key.first != key.line_number {
-///         println!(rt; "{name}:{}: the key of line {} again", key.line_number, key.first)?;
+///     if key.first_line_number != key.line_number {
+///         println!(rt; "{name}:{}: the key of line {} again", key.line_number, key.first_line_number)?;
 ///     }
 /// }
 /// ```
@@ -19,7 +19,7 @@ pub struct KeyLine {
     pub key: String,
     /// The number of the line that the first pair with this key begins in. It equals `line_number` if no earlier pair
     /// has the key.
-    pub first: usize,
+    pub first_line_number: usize,
 }
 
 /// The first malformed escape of a logical line.

@@ -34,7 +34,7 @@ pub record AddsKeyLine {Z : Type 0} (number : ℕ) (key : List ℕ) (old new : L
   pub line : code.KeyLine
   pub says : (line.line_number ≡ number) × (characters line.key ≡ key)
   pub added : new ≡ old ++ line ∷ []
-  pub keeps : KeepsFirst number key firsts firsts' line.first
+  pub keeps : KeepsFirst number key firsts firsts' line.first_line_number
 
 abbrev pub AddsIfKey : {Z : Type 0} → ℕ → Option (List ℕ) → List code.KeyLine → List code.KeyLine → List (String Z × ℕ) → List (String Z × ℕ) → Type 0
 AddsIfKey number None old new firsts firsts' = (new ≡ old) × (firsts' ≡ firsts)

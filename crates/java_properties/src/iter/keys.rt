@@ -96,11 +96,11 @@ fn add_key(
     ensures adds { OnOk result (AddsKeyLine line_number (characters key) keys.old.items keys.new.items firsts.old.entries firsts.new.entries) }
     ensures ordered { IsOrdered string_cmp firsts.new }
 {
-    let first = keep_first(firsts, line_number, &key)?;
+    let first_line_number = keep_first(firsts, line_number, &key)?;
     keys.push(KeyLine {
         line_number,
         key,
-        first,
+        first_line_number,
     })?;
     Ok(())
 }

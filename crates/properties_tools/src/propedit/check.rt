@@ -114,7 +114,7 @@ fn push_repeat(
     ensures { let repeats = repeat_findings is_well_formed (key_line_entry key.now) in
         OnOk result (findings.new.items ≡ findings.old.items ++ repeats) }
 {
-    if key.first == key.line_number {
+    if key.first_line_number == key.line_number {
         return Ok(());
     }
     if !is_well_formed && may_stand_for_bytes(key.key.as_str()) {
@@ -122,7 +122,7 @@ fn push_repeat(
     }
     Ok(findings.push(Finding {
         line_number: key.line_number,
-        fault: Fault::Repeats(key.first),
+        fault: Fault::Repeats(key.first_line_number),
     })?)
 }
 

@@ -40,7 +40,7 @@ pub fn list(
 fn is_listed(key: &KeyLine, prefix: &str) -> bool
     ensures { result ≡ is_key_listed (chars prefix.now) (key_line_entry key.now) }
 {
-    key.first == key.line_number && key.key.as_str().starts_with(prefix)
+    key.first_line_number == key.line_number && key.key.as_str().starts_with(prefix)
 }
 
 // Returns the keys that are listed, and the status.

@@ -16,7 +16,7 @@ listed r number first key prefix key-is prefix-is same h =
 
 pub returns-then-key : goal.returns-then-key
 returns-then-key c =
-    let same : c.args.key.now.first ≡ c.args.key.now.line_number = omega arith in
-    listed c.starts_with.result c.args.key.now.line_number c.args.key.now.first (string_bytes c.args.key.now.key) c.args.prefix.now
+    let same : c.args.key.now.first_line_number ≡ c.args.key.now.line_number = omega arith in
+    listed c.starts_with.result c.args.key.now.line_number c.args.key.now.first_line_number (string_bytes c.args.key.now.key) c.args.prefix.now
     (IsUtf8-string_bytes c.args.key.now.key) c.utf8.prefix same
     (rw c.as_str.ensures.value at (starts_text c.starts_with.result c.args.prefix.now c.as_str.result.now c.starts_with.ensures.cases))
