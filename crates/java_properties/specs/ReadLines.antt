@@ -15,7 +15,7 @@ use Rattle.properties_format.specs.ItemsToCome.{start}
 use Rattle.java_properties.specs.PropertiesIter.{entry_of, PassesAll}
 use Rattle.properties_items.specs.declared.error.ErrorKind.TheVariants as kind
 use Rattle.properties_items.specs.declared.error.PropertiesError.{PropertiesError}
-use Rattle.java_properties.specs.declared.iter.whole.Stopped.{Stopped}
+use Rattle.java_properties.specs.declared.iter.all_lines.Stopped.{Stopped}
 use Rattle.properties_items.specs.declared.line.Line.{Line}
 
 abbrev pub entries_in : List Line → List Entry

@@ -11,17 +11,19 @@ ghost use Rattle.properties_items.specs.BorrowedItems.{borrowed_entry, found_ent
 ghost use Rattle.java_properties.specs.Borrowing.{AdvanceGives, NextRefGives};
 ghost use Rattle.java_properties.specs.PropertiesIter.{Reading, NextGives};
 
-mod into;
+mod all_lines;
 pub(crate) mod items;
-mod keys;
-mod malformed;
-mod value;
-mod whole;
+mod last_value;
+mod malformed_lines;
+mod numbered_keys;
+mod read_into;
 
 use crate::iter::items::ItemReader;
+pub use all_lines::{Stopped, read_lines};
 use counted_io::CountedRead;
-pub use keys::key_lines;
-pub use malformed::malformed_escapes;
+pub use last_value::value_of;
+pub use malformed_lines::malformed_escapes;
+pub use numbered_keys::key_lines;
 use properties_items::borrowed::LineRef;
 use properties_items::error::PropertiesError;
 use properties_items::found::Found;
@@ -29,8 +31,6 @@ use properties_items::line::Line;
 use properties_text::encoding::Encoding;
 use std::alloc::Global;
 use std::marker::Model;
-pub use value::value_of;
-pub use whole::{Stopped, read_lines};
 
 /// The comments and pairs of a file, in order, each with its line number.
 ///

@@ -5,7 +5,7 @@ use Rattle.properties_text.proofs.Texts.Joins.{is_comment_line-text}
 use Rattle.properties_text.specs.declared.escape.UnescapeError.{UnescapeError}
 use Rattle.properties_items.specs.FoundItems.{FindsIn}
 use Rattle.java_properties.proofs.MalformedEscapes.{pushes-none, pushes-one}
-use Rattle.java_properties.proofs.iter.malformed.push_malformed.Goals as goal
+use Rattle.java_properties.proofs.iter.malformed_lines.push_malformed.Goals as goal
 
 pub returns-in_default : goal.returns-in_default
 returns-in_default c = pushes-none c.args.line.now c.args.line_number c.in_default.field-0 c.args.escapes.now c.in_default.ensures

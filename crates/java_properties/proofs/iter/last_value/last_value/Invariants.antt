@@ -5,7 +5,7 @@ use Rattle.properties_text.specs.Encoding.{encoding_of}
 use Rattle.properties_lines.specs.LineReader.{lines_left}
 use Rattle.properties_items.specs.Texts.{characters}
 use Rattle.java_properties.proofs.SoughtValues.{HasSought}
-use Rattle.java_properties.proofs.iter.value.last_value.Given as goal
+use Rattle.java_properties.proofs.iter.last_value.last_value.Given as goal
 
 abbrev pub invariant-loop-item : goal.invariant-loop-item
 invariant-loop-item g l =

@@ -8,7 +8,7 @@ use Rattle.properties_lines.specs.LineJoiner.{Joiner}
 use Rattle.java_properties.specs.PropertiesIter.{entry_of}
 use Rattle.std.proofs.lemmas.List.{map-append}
 use Rattle.java_properties.proofs.Readings.{Collected, collected-start, collected-next, collected-none, collected-lost, collected-malformed, collected-error}
-use Rattle.java_properties.proofs.iter.whole.read_lines.Goals as goal
+use Rattle.java_properties.proofs.iter.all_lines.read_lines.Goals as goal
 
 pub loop-item-init : goal.loop-item-init
 loop-item-init g c =

@@ -2,7 +2,7 @@ use Rattle.std.proofs.Common.{◌∙◌, ap}
 use Rattle.std.specs.Prelude.{bytes_eq}
 use Rattle.std.specs.Str.{chars}
 use Rattle.properties_items.proofs.TextMaps.Values.{same-characters}
-use Rattle.java_properties.proofs.iter.value.is_text.Goals as goal
+use Rattle.java_properties.proofs.iter.last_value.is_text.Goals as goal
 
 pub returns : goal.returns
 returns c =

@@ -5,43 +5,41 @@ use Rattle.properties_lines.specs.LineJoiner.{Joiner}
 use Rattle.properties_items.specs.Errors.{IsBareError}
 use Rattle.properties_items.specs.declared.error.ErrorKind.TheVariants.{Memory}
 use Rattle.properties_items.specs.declared.error.PropertiesError.{PropertiesError}
-use Rattle.java_properties.proofs.KeyLines.{keys-start, keys-next, keys-all, keys-error, keys-lost}
+use Rattle.java_properties.proofs.MalformedEscapes.{found-start, found-next, found-all, found-error, found-lost}
 use Rattle.java_properties.proofs.Items.{stopped, ended}
-use Rattle.java_properties.proofs.iter.keys.key_lines.Goals as goal
+use Rattle.java_properties.proofs.iter.malformed_lines.malformed_escapes.Goals as goal
 
 pub loop-number-init : goal.loop-number-init
 loop-number-init g c = record {
-  found = keys-start (encoding_of c.args.encoding) c.args.input.now _ _ _ c.new-keys.ensures.items c.new-firsts.ensures.empty (ap (λ v. let w : Joiner = v in w.state) c.new-lines.ensures.at);
+  found = found-start (encoding_of c.args.encoding) c.args.input.now _ _ c.new-escapes.ensures.items (ap (λ v. let w : Joiner = v in w.state) c.new-lines.ensures.at);
   error = c.new-lines.ensures.error;
-  ordered = c.new-firsts.ensures.ordered;
   same_reader = refl;
 }
 
 pub loop-number-preserved : goal.loop-number-preserved
 loop-number-preserved g c =
     let next = c.in-Some.ensures.joins.0 in
-    let pushed = rw c.line.ensures at c.in_ok-push_key.ensures.pushes in
+    let pushed = rw c.line.ensures at c.in_ok-push_malformed.ensures in
     record {
-      found = keys-next c.in-Some.number c.next_text.new.self.at c.loop-number.invariant.found next pushed;
+      found = found-next c.in-Some.number c.next_text.new.self.at c.push_malformed.new.escapes.items c.loop-number.invariant.found next pushed;
       error = c.in-Some.ensures.joins.2;
-      ordered = c.push_key.ensures.ordered;
       same_reader = c.next_text.ensures.same_reader ∙ c.loop-number.invariant.same_reader;
     }
 
-pub returns-in_err-push_key-clause-finds : goal.returns-in_err-push_key-clause-finds
-returns-in_err-push_key-clause-finds g c =
+pub returns-in_err-push_malformed-clause-finds : goal.returns-in_err-push_malformed-clause-finds
+returns-in_err-push_malformed-clause-finds g c =
     let next = c.in-Some.ensures.joins.0 in
     let error = err_from_is_err_and c.from_residual.result c.from_residual.ensures.1 in
     let P : PropertiesError → Type 0 = λ v. IsBareError Memory v in
     rw error.1
-    (inr (keys-lost c.in-Some.number c.next_text.new.self.at c.loop-number.invariant.found next (subst P (sym error.2) c.in_err-push_key.ensures.pushes)))
+    (inr (found-lost c.in-Some.number c.next_text.new.self.at c.loop-number.invariant.found next (subst P (sym error.2) c.in_err-push_malformed.ensures)))
 
 pub returns-in-Some-take_error-clause-finds : goal.returns-in-Some-take_error-clause-finds
 returns-in-Some-take_error-clause-finds g c =
     let stop = stopped c.in_default.ensures.joins c.loop-number.invariant.error (sym c.take_error.ensures.error ∙ c.in-Some-take_error.is) in
-    keys-error c.loop-number.invariant.found stop.0 stop.2 c.from.ensures
+    found-error c.loop-number.invariant.found stop.0 stop.2 c.from.ensures
 
 pub returns-clause-finds : goal.returns-clause-finds
 returns-clause-finds g c =
     let end = ended c.in_default.ensures.joins (sym c.take_error.ensures.error ∙ c.in_default-take_error.is) in
-    keys-all c.loop-number.invariant.found end.0 end.2
+    found-all c.loop-number.invariant.found end.0 end.2

@@ -1,6 +1,6 @@
 use Rattle.std.proofs.Common.{◌∙◌}
 use Rattle.java_properties.proofs.KeyLines.{outcome_key-found, outcome_key-broken}
-use Rattle.java_properties.proofs.iter.keys.key_in.Goals as goal
+use Rattle.java_properties.proofs.iter.numbered_keys.key_in.Goals as goal
 
 pub returns-in_ok-item_key-in-Some : goal.returns-in_ok-item_key-in-Some
 returns-in_ok-item_key-in-Some c =

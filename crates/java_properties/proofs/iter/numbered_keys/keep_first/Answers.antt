@@ -6,7 +6,7 @@ use Rattle.std.specs.String.{string_bytes}
 use Rattle.std.proofs.lemmas.Str.{IsUtf8-string_bytes}
 use Rattle.java_properties.specs.Private.LineByLine.{KeepsFirst}
 use Rattle.java_properties.proofs.KeyLines.{kept-first, new-first}
-use Rattle.java_properties.proofs.iter.keys.keep_first.Goals as goal
+use Rattle.java_properties.proofs.iter.numbered_keys.keep_first.Goals as goal
 
 pub returns-in-Some-clause-keeps : goal.returns-in-Some-clause-keeps
 returns-in-Some-clause-keeps c =

@@ -4,7 +4,7 @@ use Rattle.properties_text.specs.Encoding.{encoding_of}
 use Rattle.properties_lines.specs.LineReader.{lines_left}
 use Rattle.java_properties.specs.ReadLines.{entries_in}
 use Rattle.java_properties.proofs.Readings.{Collected}
-use Rattle.java_properties.proofs.iter.whole.read_lines.Given as goal
+use Rattle.java_properties.proofs.iter.all_lines.read_lines.Given as goal
 
 abbrev pub invariant-loop-item : goal.invariant-loop-item
 invariant-loop-item g l = record {
