@@ -146,7 +146,7 @@ fn build_line(engine: &mut Engine, lines: &LineJoiner) -> Result<Built, Unescape
         return Ok(Built::Nothing);
     }
     let bytes = lines.with_room();
-    tell_they_are_bytes(bytes);
+    each_is_a_byte(bytes);
     match parse_bytes(&bytes[..length]) {
         None => Ok(Built::Nothing),
         Some(ParsedSpans::Comment(text)) => {
@@ -166,9 +166,9 @@ fn build_line(engine: &mut Engine, lines: &LineJoiner) -> Result<Built, Unescape
     }
 }
 
-// Gives a proof the fact that these are bytes. It does nothing at run time.
+// A fact for the proof of the caller. It does nothing at run time.
 #[inline(always)]
-fn tell_they_are_bytes(bytes: &[u8])
+fn each_is_a_byte(bytes: &[u8])
     ensures { All byte bytes.now }
 {
     let _ = bytes.first();

@@ -68,7 +68,7 @@ pub fn reading_inverts_writing()
 pub fn settings_are_good<W>(writer: &PropertiesWriter<W>)
     ensures { IsGoodWriter writer.now }
 {
-    writer.engine.settings.tell_they_are_good();
+    writer.engine.settings.are_always_good();
 }
 
 /// Splitting commutes with decoding, in every encoding: the lines of the bytes, each decoded separately, are the lines

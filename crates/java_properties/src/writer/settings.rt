@@ -56,8 +56,8 @@ impl Settings {
         }
     }
 
-    /// Gives a proof the fact that the settings are good, as they always are. It does nothing at run time.
-    pub fn tell_they_are_good(&self)
+    /// A fact for the proof of the caller. It does nothing at run time.
+    pub fn are_always_good(&self)
         ensures { AreGoodSettings self.now }
     {
         let _ = &self.line_ending;

@@ -80,7 +80,7 @@ returns-in-Some-clause-builds c =
     let value = rw c.encoding-in-Some-KVPair.ensures at c.spelt.ensures.value in
     let w = c.build_pair.new.self in
     let built =
-    pair-built _ _ _ _ _ found c.args.engine.now w c.spelt.result key value c.takes_span-accepted.result c.tell_they_are_bytes.ensures
+    pair-built _ _ _ _ _ found c.args.engine.now w c.spelt.result key value c.takes_span-accepted.result c.each_is_a_byte.ensures
     c.in_ok-build_pair-in-Some-KVPair.ensures.printed c.build_pair.ensures.same c.takes_span-accepted.ensures in
     let n = c.in-Some.ensures.number in
     (rw n.1 at built, (n.0, refl, n.2))
@@ -92,6 +92,6 @@ returns-in-None-next_number-clause-builds c =
     let value = rw c.encoding-in-Some-KVPair.ensures at c.spelt.ensures.value in
     let w = c.build_pair.new.self in
     let built =
-    pair-built _ _ _ _ _ found c.args.engine.now w c.spelt.result key value c.takes_span-accepted.result c.tell_they_are_bytes.ensures
+    pair-built _ _ _ _ _ found c.args.engine.now w c.spelt.result key value c.takes_span-accepted.result c.each_is_a_byte.ensures
     c.in_ok-build_pair-in-Some-KVPair.ensures.printed c.build_pair.ensures.same c.takes_span-accepted.ensures in
     (built, c.in-None-next_number.ensures.none refl)
