@@ -29,7 +29,7 @@ use Rattle.properties_text.specs.Encoding.{encoding_of}
 use Rattle.properties_text.specs.Escaping.{holds_backslash}
 use Rattle.properties_text.proofs.Blocks.{ascii-before}
 use Rattle.properties_lines.specs.LineSearch.{unit_size, IsFirstLineEnd, end_character}
-use Rattle.properties_lines.specs.Scanner.{scanner_state, HasRightFlags, EndsWhole, bytes_of, line_of, IsReady, IsFresh, IsBefore, FindsByte, IsSearchedFrom, TellsBackslash, TakesLine, SkipsFeed, feed_size, Searches, is_decided}
+use Rattle.properties_lines.specs.Scanner.{scanner_state, HasRightFlags, EndsWhole, bytes_of, line_of, IsReady, IsFresh, IsBefore, FindsByte, TellsBackslash, TakesLine, SkipsFeed, feed_size, Searches, is_decided}
 use Rattle.properties_lines.specs.Scanner.{after_cr}
 use Rattle.properties_lines.specs.declared.search.LineEnd.{LineEnd}
 use Rattle.properties_lines.specs.declared.scanner.BlockSearch.{BlockSearch}
@@ -415,13 +415,20 @@ searches-on s new held at false h = record { none = h.none; same = h.same }
 -- ---- after a backslash
 
 -- where a line ends after it
-past-escape : (bytes : List ℕ) (from at : ℕ) → from ≤ at → get_or bytes from 0 ≡ backslash → is_line_end (get_or bytes at 0) ≡ true → from < at
-past-escape bytes from at le escaped ends = elim (cases_lt from at) [
+past-escape : (bytes : List ℕ) (from at : ℕ) (is_ascii : Bool) → IsBefore is_line_end bytes from is_ascii → get_or bytes from 0 ≡ backslash
+    → is_line_end (get_or bytes at 0) ≡ true → from < at
+past-escape bytes from at is_ascii before escaped ends = elim (cases_lt from at) [
   | inl h ↦ h
-  | inr h ↦
-      let same : at ≡ from = omega (arith, le, h) in
-      let is : is_line_end backslash ≡ true = ap is_line_end (sym (ap (λ n. get_or bytes n 0) same ∙ escaped)) ∙ ends in
-      absurd (cc is)
+  | inr h ↦ elim (cases_lt at from) [
+    | inl low ↦
+        let long : at < length (take from bytes) = omega (arith, low, length-take-le from bytes before.within) in
+        let none = All-get_or (λ b. is_line_end b ≡ false) (take from bytes) at 0 long before.clear in
+        absurd (cc (none, ends, get_or-take from bytes at 0 low))
+    | inr high ↦
+        let same : at ≡ from = omega (arith, high, h) in
+        let is : is_line_end backslash ≡ true = ap is_line_end (sym (ap (λ n. get_or bytes n 0) same ∙ escaped)) ∙ ends in
+        absurd (cc is)
+  ]
 ]
 
 -- it is of the line
@@ -431,10 +438,11 @@ holds-escape bytes from at low within escaped =
     sym (one-holds (take at bytes) from (omega (arith, low, length-take-le at bytes within)) (eq-eqb (get_or (take at bytes) from 0) backslash here))
 
 -- up to the line end after it
-pub tells-escaped : (bytes : List ℕ) (from : ℕ) (found : BlockSearch) → FindsByte is_line_end bytes found → IsSearchedFrom from (length bytes) found
-    → get_or bytes from 0 ≡ backslash → TellsBackslash bytes found true
-tells-escaped bytes from (Found size is_ascii) h le escaped = holds-escape bytes from size (past-escape bytes from size le escaped h.2) (omega (arith, h.1)) escaped
-tells-escaped bytes from (Searched count) h le escaped = tt
+pub tells-escaped : (bytes : List ℕ) (from : ℕ) (was_ascii : Bool) (found : BlockSearch) → IsBefore is_line_end bytes from was_ascii
+    → FindsByte is_line_end bytes found → get_or bytes from 0 ≡ backslash → TellsBackslash bytes found true
+tells-escaped bytes from was_ascii (Found size is_ascii) before h escaped =
+    holds-escape bytes from size (past-escape bytes from size was_ascii before escaped h.2) (omega (arith, h.1)) escaped
+tells-escaped bytes from was_ascii (Searched count) before h escaped = tt
 
 -- ---- before the first byte that ends a plain text
 

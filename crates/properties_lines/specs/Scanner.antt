@@ -243,15 +243,10 @@ pub record IsBefore (test : ℕ → Bool) (bytes : List ℕ) (at : ℕ) (is_asci
   pub ascii : (is_ascii ≡ true) ↔ All (λ b. b < 0x80) (take at bytes)
 
 -- The first byte that passes the test is at this place, and `is_ascii` says whether those before it are ASCII; or no
--- byte before this place passes it.
+-- byte before this place passes it, and fewer than sixteen come after them.
 abbrev pub FindsByte : (ℕ → Bool) → List ℕ → BlockSearch → Type 0
 FindsByte test bytes (Found size is_ascii) = IsBefore test bytes size is_ascii × (size < length bytes) × (test (get_or bytes size 0) ≡ true)
-FindsByte test bytes (Searched count) = (count ≤ length bytes) × All (λ b. test b ≡ false) (take count bytes)
-
--- The search began at a place among this many bytes, and went on until fewer than sixteen were left.
-abbrev pub IsSearchedFrom : ℕ → ℕ → BlockSearch → Type 0
-IsSearchedFrom from total (Found size is_ascii) = from ≤ size
-IsSearchedFrom from total (Searched count) = total < count + 16
+FindsByte test bytes (Searched count) = (count ≤ length bytes) × (length bytes < count + 16) × All (λ b. test b ≡ false) (take count bytes)
 
 -- whether a byte before the place that was found is a backslash
 abbrev pub TellsBackslash : List ℕ → BlockSearch → Bool → Type 0

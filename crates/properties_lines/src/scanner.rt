@@ -11,7 +11,7 @@ ghost use Rattle.properties_text.specs.Encoding.{encoding_of};
 ghost use Rattle.properties_text.specs.Decoding.{FindsByteOrderMark};
 ghost use Rattle.properties_text.specs.Escaping.{holds_backslash};
 ghost use Rattle.properties_lines.specs.LineSearch.{unit_size, IsFirstLineEnd};
-ghost use Rattle.properties_lines.specs.Scanner.{Fits, Scans, SkipsFront, SkipsFeed, IsReady, IsFresh, IsBefore, FindsByte, Searches, IsSearchedFrom, TellsBackslash, TakesLine, TakesLast, scanner_state, is_undecided};
+ghost use Rattle.properties_lines.specs.Scanner.{Fits, Scans, SkipsFront, SkipsFeed, IsReady, IsFresh, IsBefore, FindsByte, Searches, TellsBackslash, TakesLine, TakesLast, scanner_state, is_undecided};
 ghost use Rattle.properties_lines.specs.declared.scanner.Front.TheVariants.{Mark, Nothing};
 
 use crate::search::{LineEnd, find_line_end, unit_size, whole_units};
@@ -424,8 +424,7 @@ impl Scanner {
 #[inline(always)]
 fn search_blocks<C: ByteClass>(bytes: &[u8], from: usize, is_ascii_before: bool) -> BlockSearch
     requires { IsBefore C.holds bytes.now from is_ascii_before }
-    ensures finds { FindsByte C.holds bytes.now result }
-    ensures from { IsSearchedFrom from (length bytes.now) result }
+    ensures { FindsByte C.holds bytes.now result }
 {
     let mut at = from;
     let mut is_ascii = is_ascii_before;

@@ -4,13 +4,13 @@ use Rattle.properties_lines.proofs.ScannerSearch.{block-before, block-end, long-
 use Rattle.properties_lines.proofs.scanner.search_blocks.Goals as goal
 use Rattle.properties_lines.proofs.scanner.search_blocks.Goals.{then-is_ascii, else-is_ascii, then-is_ascii-2, else-is_ascii-2}
 
-pub returns-in-Some-clause-finds : goal.returns-in-Some-clause-finds
-returns-in-Some-clause-finds g c =
+pub returns-in-Some : goal.returns-in-Some
+returns-in-Some g c =
     let holds = g.C.ByteClass.holds in
     let bytes = c.args.bytes.now in
     let at = c.loop-at.at in
     let first = c.in-Some.first in
-    let before = c.loop-at.invariant.before in
+    let before = c.loop-at.invariant in
     let marks = c.marks.ensures in
     let room : at + 16 ≤ length bytes = omega (arith, c.loop-at-test.true, before.within) in
     let small : first < 16 = omega (arith, c.in-Some.ensures.1, long-marks holds bytes c.marks.result at marks room) in
@@ -34,20 +34,17 @@ loop-at-preserved g c =
     let holds = g.C.ByteClass.holds in
     let bytes = c.args.bytes.now in
     let at = c.loop-at.at in
-    let before = c.loop-at.invariant.before in
+    let before = c.loop-at.invariant in
     let marks = c.marks.ensures in
     let room : at + 16 ≤ length bytes = omega (arith, c.loop-at-test.true, before.within) in
     let all : 16 ≤ clear_front c.marks.result = omega (arith, c.in_default.ensures, long-marks holds bytes c.marks.result at marks room) in
     record {
-      from = omega (arith, c.loop-at.invariant.from);
-      before = record {
-        within = room;
-        clear = block-before holds bytes c.marks.result at 16 marks all (omega arith) before.clear;
-        ascii = elim c.if-is_ascii-2.branch [
-          | then-is_ascii-2 w ↦
-              ascii-then bytes c.marks-past.result at 16 c.loop-at.is_ascii c.if-is_ascii-2.is_ascii w.is_clear-is_ascii.result before.ascii w.if-is_ascii-2.true
-              c.marks-past.ensures w.is_clear-is_ascii.ensures w.is_ascii-is (omega arith) room
-          | else-is_ascii-2 w ↦ ascii-else bytes at 16 c.loop-at.is_ascii c.if-is_ascii-2.is_ascii before.ascii w.if-is_ascii-2.false w.is_ascii-is
-        ];
-      };
+      within = room;
+      clear = block-before holds bytes c.marks.result at 16 marks all (omega arith) before.clear;
+      ascii = elim c.if-is_ascii-2.branch [
+        | then-is_ascii-2 w ↦
+            ascii-then bytes c.marks-past.result at 16 c.loop-at.is_ascii c.if-is_ascii-2.is_ascii w.is_clear-is_ascii.result before.ascii w.if-is_ascii-2.true
+            c.marks-past.ensures w.is_clear-is_ascii.ensures w.is_ascii-is (omega arith) room
+        | else-is_ascii-2 w ↦ ascii-else bytes at 16 c.loop-at.is_ascii c.if-is_ascii-2.is_ascii before.ascii w.if-is_ascii-2.false w.is_ascii-is
+      ];
     }

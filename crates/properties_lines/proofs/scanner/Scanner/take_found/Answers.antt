@@ -23,7 +23,7 @@ take-requires-clause-ascii c =
 pub search_on-requires : goal.search_on-requires
 search_on-requires c =
     let found = rw c.in-Searched.is at c.requires.found in
-    ready-on c.args.self.now c.args.held.now c.in-Searched.count c.requires.ready c.requires.fresh found.0 found.1
+    ready-on c.args.self.now c.args.held.now c.in-Searched.count c.requires.ready c.requires.fresh found.0 found.2
 
 pub returns-in-Searched : goal.returns-in-Searched
 returns-in-Searched c = searches-on c.args.self.now c.search_on.new.self c.args.held.now c.in-Searched.count c.search_on.result c.search_on.ensures
