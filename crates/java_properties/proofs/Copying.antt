@@ -17,7 +17,7 @@ use Rattle.properties_items.specs.declared.error.PropertiesError.{PropertiesErro
 use Rattle.java_properties.specs.Copying.{Copies, CopiesItem, HasScalars}
 use Rattle.java_properties.specs.Private.CopiedLines.{HasBuilt, IsNoPair}
 use Rattle.java_properties.specs.Private.Engine.{writing, NumbersLine, SendsLine}
-use Rattle.java_properties.specs.PropertiesIter.{Reading}
+use Rattle.java_properties.specs.PropertiesIter.{Iteration}
 use Rattle.java_properties.specs.PropertiesWriter.{Writing, WritesLine}
 use Rattle.java_properties.specs.declared.copy.CopyError.{CopyError}
 use Rattle.java_properties.specs.declared.copy.CopyError.TheVariants.{Read, Write}
@@ -49,14 +49,14 @@ module _ {W : Type 0} {sink : Sink W} (w : Engine) (from : W) {text : List ℕ} 
 -- ---- item after item
 
 -- Items were copied so far. What is copied from here on, after some blank lines, is copied from the start.
-pub record IsCopiedTo {R W : Type 0} (reader : Reader R) (sink : Sink W) (old : Reading R) (writer : Writing W) (state : ReaderState) (to : R) (so_far : Writing W) : Type 0 where
-  pub between : Reading R
+pub record IsCopiedTo {R W : Type 0} (reader : Reader R) (sink : Sink W) (old : Iteration R) (writer : Writing W) (state : ReaderState) (to : R) (so_far : Writing W) : Type 0 where
+  pub between : Iteration R
   pub bytes : List ℕ
   pub passed : Passed reader between.state between.reader bytes state to
-  pub along : (result : Result Unit CopyError) (new : Reading R) (written : Writing W) → Copies reader sink between so_far result new written
+  pub along : (result : Result Unit CopyError) (new : Iteration R) (written : Writing W) → Copies reader sink between so_far result new written
       → Copies reader sink old writer result new written
 
-module _ {R W : Type 0} {reader : Reader R} {sink : Sink W} {old : Reading R} {writer : Writing W} where
+module _ {R W : Type 0} {reader : Reader R} {sink : Sink W} {old : Iteration R} {writer : Writing W} where
   pub copied-start : IsCopiedTo reader sink old writer old.state old.reader writer
   copied-start = record { between = old; bytes = []; passed = passed-start old.state old.reader; along = λ result new written h. h }
 
@@ -69,7 +69,7 @@ module _ {R W : Type 0} {reader : Reader R} {sink : Sink W} {old : Reading R} {w
   copied-item : {state : ReaderState} {to : R} {so_far : Writing W} (h : IsCopiedTo reader sink old writer state to so_far) (new : ReaderState) (next : R) (after : Writing W)
       → CopiesItem reader sink h.between so_far (record { reader = next; state = new; line = [] }) after → IsCopiedTo reader sink old writer new next after
   copied-item h new next after item =
-      let between : Reading R = record { reader = next; state = new; line = [] } in
+      let between : Iteration R = record { reader = next; state = new; line = [] } in
       record {
         between = between;
         bytes = [];

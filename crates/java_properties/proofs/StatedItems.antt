@@ -14,7 +14,7 @@ use Rattle.java_properties.specs.Private.GivenItems as given
 use Rattle.java_properties.specs.Private.GivenItems.{FindsItem}
 use Rattle.java_properties.specs.Borrowing.{AdvancesTo}
 use Rattle.java_properties.specs.PropertiesIter as stated
-use Rattle.java_properties.specs.PropertiesIter.{Reading}
+use Rattle.java_properties.specs.PropertiesIter.{Iteration}
 use Rattle.properties_items.specs.declared.error.PropertiesError.{PropertiesError}
 use Rattle.properties_items.specs.declared.found.Found.{Found}
 use Rattle.properties_items.specs.declared.line.Line.{Line}
@@ -74,7 +74,7 @@ state-item reader old new from to None h = state-none h
 state-item reader old new from to (Some (Ok line)) h = state-entry h
 state-item reader old new from to (Some (Err e)) h = (h.0, h.1, state-error h.2)
 
-pub state-advance : {R : Type 0} (reader : Reader R) (old new : Reading R) (answer : Option (Result Found PropertiesError))
+pub state-advance : {R : Type 0} (reader : Reader R) (old new : Iteration R) (answer : Option (Result Found PropertiesError))
     → FindsItem reader old.state old.reader answer (record { state = new.state; line = new.line }) new.reader → AdvancesTo reader old answer new
 state-advance reader old new None h = state-none h
 state-advance reader old new (Some (Ok found)) h =

@@ -5,7 +5,7 @@ use Rattle.counted_io.specs.Streams.{Reader, IsSameReader}
 use Rattle.properties_format.specs.Lines.{Line, end}
 use Rattle.properties_format.specs.Groups.{IsWhole, IsUnfinished, joined}
 use Rattle.properties_format.specs.ItemsToCome.{ReaderState, AreLinesToCome, LinesComeFirst}
-use Rattle.java_properties.specs.PropertiesIter.{Reading, GivesEntry, GivesNone, GivesMalformed, GivesError}
+use Rattle.java_properties.specs.PropertiesIter.{Iteration, GivesEntry, GivesNone, GivesMalformed, GivesError}
 use Rattle.properties_items.specs.declared.error.PropertiesError.{PropertiesError}
 use Rattle.properties_items.specs.declared.found.Found.{Found}
 use Rattle.properties_items.specs.declared.borrowed.LineRef.{LineRef}
@@ -33,7 +33,7 @@ pub record IsSpelt (old : ReaderState) (bytes : List ℕ) (line : Line) (new : R
 
 -- The next item of an iterator as it is found in the logical line that the iterator keeps. After `None` and after an
 -- error the iterator is at its end.
-abbrev pub AdvancesTo : {R : Type 0} → Reader R → Reading R → Option (Result Found PropertiesError) → Reading R → Type 0
+abbrev pub AdvancesTo : {R : Type 0} → Reader R → Iteration R → Option (Result Found PropertiesError) → Iteration R → Type 0
 AdvancesTo reader old None new = GivesNone reader old.state old.reader new.state new.reader
 AdvancesTo reader old (Some (Ok found)) new =
     (entry : GivesEntry reader old.state old.reader (found_entry new.line found) new.state new.reader)
@@ -43,12 +43,12 @@ AdvancesTo reader old (Some (Err e)) new =
     × (GivesMalformed reader old.state old.reader e new.reader ⊎ GivesError reader old.state old.reader e new.reader)
 
 -- The iterator keeps the reader that it was created with.
-abbrev pub AdvanceGives : {R : Type 0} → Reader R → Reading R → Option (Result Found PropertiesError) → Reading R → Type 0
+abbrev pub AdvanceGives : {R : Type 0} → Reader R → Iteration R → Option (Result Found PropertiesError) → Iteration R → Type 0
 AdvanceGives reader old answer new =
     AdvancesTo reader old answer new × IsSameReader reader old.reader new.reader
 
 -- The next item as it is borrowed, and the state after that.
-abbrev pub BorrowsItem : {R : Type 0} → Reader R → Reading R → Option (Result LineRef PropertiesError) → Reading R → Type 0
+abbrev pub BorrowsItem : {R : Type 0} → Reader R → Iteration R → Option (Result LineRef PropertiesError) → Iteration R → Type 0
 BorrowsItem reader old None new = GivesNone reader old.state old.reader new.state new.reader
 BorrowsItem reader old (Some (Ok line)) new =
     (entry : GivesEntry reader old.state old.reader (borrowed_entry line) new.state new.reader)
@@ -58,5 +58,5 @@ BorrowsItem reader old (Some (Err e)) new =
     × (GivesMalformed reader old.state old.reader e new.reader ⊎ GivesError reader old.state old.reader e new.reader)
 
 -- It is the next item, according to some state of the iterator after the call.
-abbrev pub NextRefGives : {R : Type 0} → Reader R → Reading R → Option (Result LineRef PropertiesError) → Type 0
-NextRefGives {R} reader old answer = (new : Reading R) × BorrowsItem reader old answer new × IsSameReader reader old.reader new.reader
+abbrev pub NextRefGives : {R : Type 0} → Reader R → Iteration R → Option (Result LineRef PropertiesError) → Type 0
+NextRefGives {R} reader old answer = (new : Iteration R) × BorrowsItem reader old answer new × IsSameReader reader old.reader new.reader

@@ -3,7 +3,7 @@ use Rattle.std.specs.Prelude.{◌≡◌, All, ◌⊎◌, ℕ, true, false, List,
 use Rattle.counted_io.specs.Streams.{Reader, Sink}
 use Rattle.properties_format.specs.Text.{scalar}
 use Rattle.properties_format.specs.Entries.{Content, comment, pair, item}
-use Rattle.java_properties.specs.PropertiesIter.{Reading, GivesEntry, GivesNone, GivesMalformed, GivesError}
+use Rattle.java_properties.specs.PropertiesIter.{Iteration, GivesEntry, GivesNone, GivesMalformed, GivesError}
 use Rattle.java_properties.specs.PropertiesWriter.{Writing, WritesLine}
 use Rattle.properties_items.specs.declared.error.PropertiesError.{PropertiesError}
 use Rattle.java_properties.specs.declared.copy.CopyError.{CopyError}
@@ -25,7 +25,7 @@ WritesIfPair sink old (comment text) result new = (result ≡ Ok tt) × (new ≡
 WritesIfPair sink old (pair key value) result new = WritesLine sink old (pair key value) result new
 
 -- The next item was read. If it is a pair, it was written.
-pub record CopiesItem {R W : Type 0} (reader : Reader R) (sink : Sink W) (old : Reading R) (writer : Writing W) (new : Reading R) (written : Writing W) : Type 0 where
+pub record CopiesItem {R W : Type 0} (reader : Reader R) (sink : Sink W) (old : Iteration R) (writer : Writing W) (new : Iteration R) (written : Writing W) : Type 0 where
   pub number : ℕ
   pub content : Content
   pub gives : GivesEntry reader old.state old.reader (item number content) new.state new.reader
@@ -33,19 +33,19 @@ pub record CopiesItem {R W : Type 0} (reader : Reader R) (sink : Sink W) (old : 
   pub writes : WritesIfPair sink writer content (Ok tt) written
 
 -- No more items come, and nothing was written.
-pub record CopiesNone {R W : Type 0} (reader : Reader R) (old : Reading R) (writer : Writing W) (new : Reading R) (written : Writing W) : Type 0 where
+pub record CopiesNone {R W : Type 0} (reader : Reader R) (old : Iteration R) (writer : Writing W) (new : Iteration R) (written : Writing W) : Type 0 where
   pub gives : GivesNone reader old.state old.reader new.state new.reader
   pub same : written ≡ writer
 
 -- No item could be read, nothing was written, and the iterator is at its end.
-pub record FailsToRead {R W : Type 0} (reader : Reader R) (old : Reading R) (writer : Writing W) (error : PropertiesError) (new : Reading R) (written : Writing W) : Type 0 where
+pub record FailsToRead {R W : Type 0} (reader : Reader R) (old : Iteration R) (writer : Writing W) (error : PropertiesError) (new : Iteration R) (written : Writing W) : Type 0 where
   pub live : old.state.is_done ≡ false
   pub done : new.state.is_done ≡ true
   pub why : GivesMalformed reader old.state old.reader error new.reader ⊎ GivesError reader old.state old.reader error new.reader
   pub same : written ≡ writer
 
 -- The next item is a pair, and writing it failed.
-pub record FailsToWrite {R W : Type 0} (reader : Reader R) (sink : Sink W) (old : Reading R) (writer : Writing W) (error : PropertiesError) (new : Reading R) (written : Writing W) : Type 0 where
+pub record FailsToWrite {R W : Type 0} (reader : Reader R) (sink : Sink W) (old : Iteration R) (writer : Writing W) (error : PropertiesError) (new : Iteration R) (written : Writing W) : Type 0 where
   pub number : ℕ
   pub key : List ℕ
   pub value : List ℕ
@@ -54,12 +54,12 @@ pub record FailsToWrite {R W : Type 0} (reader : Reader R) (sink : Sink W) (old 
   pub writes : WritesLine sink writer (pair key value) (Err error) written
 
 -- Items were copied in turn. Then no more came; or reading the next one failed; or writing it did.
-pub data Copies {R W : Type 0} (reader : Reader R) (sink : Sink W) : Reading R → Writing W → Result Unit CopyError → Reading R → Writing W → Type 0 where
-  goes_on : {old : Reading R} {writer : Writing W} {result : Result Unit CopyError} {new : Reading R} {written : Writing W} (between : Reading R) (so_far : Writing W)
+pub data Copies {R W : Type 0} (reader : Reader R) (sink : Sink W) : Iteration R → Writing W → Result Unit CopyError → Iteration R → Writing W → Type 0 where
+  goes_on : {old : Iteration R} {writer : Writing W} {result : Result Unit CopyError} {new : Iteration R} {written : Writing W} (between : Iteration R) (so_far : Writing W)
       → CopiesItem reader sink old writer between so_far → Copies reader sink between so_far result new written → Copies reader sink old writer result new written
-  ends : {old : Reading R} {writer : Writing W} {result : Result Unit CopyError} {new : Reading R} {written : Writing W}
+  ends : {old : Iteration R} {writer : Writing W} {result : Result Unit CopyError} {new : Iteration R} {written : Writing W}
       → result ≡ Ok tt → CopiesNone reader old writer new written → Copies reader sink old writer result new written
-  stops_reading : {old : Reading R} {writer : Writing W} {result : Result Unit CopyError} {new : Reading R} {written : Writing W} (error : PropertiesError)
+  stops_reading : {old : Iteration R} {writer : Writing W} {result : Result Unit CopyError} {new : Iteration R} {written : Writing W} (error : PropertiesError)
       → result ≡ Err (Read error) → FailsToRead reader old writer error new written → Copies reader sink old writer result new written
-  stops_writing : {old : Reading R} {writer : Writing W} {result : Result Unit CopyError} {new : Reading R} {written : Writing W} (error : PropertiesError)
+  stops_writing : {old : Iteration R} {writer : Writing W} {result : Result Unit CopyError} {new : Iteration R} {written : Writing W} (error : PropertiesError)
       → result ≡ Err (Write error) → FailsToWrite reader sink old writer error new written → Copies reader sink old writer result new written

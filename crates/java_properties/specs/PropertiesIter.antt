@@ -19,7 +19,7 @@ use Rattle.properties_items.specs.declared.line.LineContent.{LineContent}
 use Rattle.properties_items.specs.declared.line.LineContent.TheVariants.{Comment, KVPair}
 
 -- an iterator: its reader, its state, and the logical line that it read last, in UTF-8
-pub record Reading (R : Type 0) : Type 0 where
+pub record Iteration (R : Type 0) : Type 0 where
   pub reader : R
   pub state : ReaderState
   pub line : List ℕ
@@ -126,6 +126,6 @@ GivesItem reader old from (Some (Err e)) new to =
     (old.is_done ≡ false) × (new.is_done ≡ true) × (GivesMalformed reader old from e to ⊎ GivesError reader old from e to)
 
 -- The next item of an iterator, which keeps the reader that it was created with.
-abbrev pub NextGives : {R : Type 0} → Reader R → Reading R → Option (Result Line PropertiesError) → Reading R → Type 0
+abbrev pub NextGives : {R : Type 0} → Reader R → Iteration R → Option (Result Line PropertiesError) → Iteration R → Type 0
 NextGives reader old answer new =
     GivesItem reader old.state old.reader answer new.state new.reader × IsSameReader reader old.reader new.reader

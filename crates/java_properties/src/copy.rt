@@ -5,7 +5,7 @@ ghost use Rattle.counted_io.specs.Streams.{IsSameReader, IsSameSink};
 ghost use Rattle.properties_format.specs.Text.{byte};
 ghost use Rattle.properties_text.specs.Spelt.{text_in, IsWell};
 ghost use Rattle.java_properties.specs.Copying.{error_in, Copies};
-ghost use Rattle.java_properties.specs.Private.CopiedLines.{reading, BuildsLine};
+ghost use Rattle.java_properties.specs.Private.CopiedLines.{iteration, BuildsLine};
 ghost use Rattle.java_properties.specs.Private.Engine.{writing};
 
 use crate::iter::PropertiesIter;
@@ -92,9 +92,9 @@ fn copy_lines<R: CountedRead, W: CountedWrite>(
     sink: &mut W,
 ) -> Result<(), CopyError>
     requires { lines.old.error ≡ None }
-    ensures copies { let start = reading lines.old.at reader.old in
+    ensures copies { let start = iteration lines.old.at reader.old in
         Copies R.CountedRead W.CountedWrite start (writing engine.old sink.old) result
-        (reading lines.new.at reader.new) (writing engine.new sink.new) }
+        (iteration lines.new.at reader.new) (writing engine.new sink.new) }
     ensures error { lines.new.error ≡ None }
     ensures same_reader { IsSameReader R.CountedRead reader.old reader.new }
     ensures same_sink { IsSameSink W.CountedWrite sink.old sink.new }

@@ -9,7 +9,7 @@ ghost use Rattle.properties_text.specs.Encoding.{encoding_of};
 ghost use Rattle.properties_lines.specs.LineReader.{lines_left};
 ghost use Rattle.properties_items.specs.BorrowedItems.{borrowed_entry, found_entry, BorrowsPlain, IsFoundIn};
 ghost use Rattle.java_properties.specs.Borrowing.{AdvanceGives, NextRefGives};
-ghost use Rattle.java_properties.specs.PropertiesIter.{Reading, NextGives};
+ghost use Rattle.java_properties.specs.PropertiesIter.{Iteration, NextGives};
 
 mod into;
 pub(crate) mod items;
@@ -52,7 +52,7 @@ pub struct PropertiesIter<R> {
 }
 
 impl<R> Model for PropertiesIter<R> {
-    ghost Value = { Reading R };
+    ghost Value = { Iteration R };
 
     ghost view = { λ it. record { reader = it.reader; state = it.items.state; line = it.items.line } };
 }

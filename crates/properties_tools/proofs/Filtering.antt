@@ -10,7 +10,7 @@ use Rattle.properties_format.specs.Lines.{end}
 use Rattle.properties_format.specs.Pairs.{pairs_in, ArePairsOfScalars}
 use Rattle.properties_format.specs.Computed.ItemsToCome.{items_to_come}
 use Rattle.properties_format.proofs.Items.Unique.{items_of-meets}
-use Rattle.java_properties.specs.PropertiesIter.{Reading}
+use Rattle.java_properties.specs.PropertiesIter.{Iteration}
 use Rattle.java_properties.specs.Private.GivenItems.{GivesEntry, GivesNone, GivesMalformed, GivesError}
 use Rattle.java_properties.specs.PropertiesWriter.{Writing, Flushes, HasFlushedSink, RefusesFlush, FailsInFlush}
 use Rattle.java_properties.specs.ReadLines.{BeginsItems}
@@ -40,7 +40,7 @@ scalars-more (malformed kind n ∷ xs) number content h q = scalars-more xs numb
 scalars-more (read_fault n ∷ xs) number content h q = scalars-more xs number content h q
 
 -- The items that came were all that the reader gave so far, and their pairs were written.
-pub record HasPassed {R W : Type 0} (reader : Reader R) (sink : Sink W) (e : Encoding) (only : Bool) (input : R) (output : W) (it : Reading R) (w : Writing W) : Type 0 where
+pub record HasPassed {R W : Type 0} (reader : Reader R) (sink : Sink W) (e : Encoding) (only : Bool) (input : R) (output : W) (it : Iteration R) (w : Writing W) : Type 0 where
   pub items : List Entry
   pub whole : AreItems items
   pub scalars : ArePairsOfScalars (pairs_in items)
@@ -49,7 +49,7 @@ pub record HasPassed {R W : Type 0} (reader : Reader R) (sink : Sink W) (e : Enc
   pub pairs : HasWrittenPairs sink e only output items w
 
 -- before the first item
-pub passed-none : {R W : Type 0} (reader : Reader R) (sink : Sink W) (e : Encoding) (only : Bool) (it : Reading R) (w : Writing W) → it.state ≡ start e
+pub passed-none : {R W : Type 0} (reader : Reader R) (sink : Sink W) (e : Encoding) (only : Bool) (it : Iteration R) (w : Writing W) → it.state ≡ start e
     → w ≡ pair_writer e only w.sink → HasPassed reader sink e only it.reader w.sink it w
 passed-none reader sink e only it w fresh new = record {
   items = [];
@@ -67,9 +67,9 @@ begins {e} {bytes} {items} {s = s} (Comes.going_on g m) =
 begins {e} {bytes} {items} (Comes.at_last d k m) =
     inr (k, ([], subst (IsItems e bytes end) (m ∙ sym (append-nil items)) (items_of-meets e bytes end)))
 
-module _ {R W : Type 0} {reader : Reader R} {sink : Sink W} {e : Encoding} {only : Bool} {input : R} {output : W} {it : Reading R} {w : Writing W} where
+module _ {R W : Type 0} {reader : Reader R} {sink : Sink W} {e : Encoding} {only : Bool} {input : R} {output : W} {it : Iteration R} {w : Writing W} where
   -- An item came, and was written if it is a pair.
-  pub passed-more : {next : Reading R} (new : Writing W) (number : ℕ) (content : Content) → HasPassed reader sink e only input output it w
+  pub passed-more : {next : Iteration R} (new : Writing W) (number : ℕ) (content : Content) → HasPassed reader sink e only input output it w
       → GivesEntry reader it.state it.reader (item number content) next.state next.reader → WritesIfPair sink w content (Ok tt) new
       → HasScalars content → HasPassed reader sink e only input output next new
   passed-more new number content h n k q = record {
@@ -85,7 +85,7 @@ module _ {R W : Type 0} {reader : Reader R} {sink : Sink W} {e : Encoding} {only
       written (comment text) k = rw k.1 (pairs-comment number text h.pairs)
       written (pair key value) k = pairs-more number key value h.pairs k
 
-module _ {R W : Type 0} {reader : Reader R} {sink : Sink W} {e : Encoding} {only : Bool} {input : R} {output : W} {it : Reading R} {w : Writing W} {to : R} where
+module _ {R W : Type 0} {reader : Reader R} {sink : Sink W} {e : Encoding} {only : Bool} {input : R} {output : W} {it : Iteration R} {w : Writing W} {to : R} where
   -- reading stopped, and the sink was flushed
   pub stops-reading : {error : PropertiesError} (new : Writing W) (flush : Result Unit PropertiesError) → HasPassed reader sink e only input output it w
       → it.state.is_done ≡ false → GivesMalformed reader it.state it.reader error to ⊎ GivesError reader it.state it.reader error to
@@ -102,7 +102,7 @@ module _ {R W : Type 0} {reader : Reader R} {sink : Sink W} {e : Encoding} {only
     },
   )
 
-module _ {R W : Type 0} {reader : Reader R} {sink : Sink W} {e : Encoding} {only : Bool} {input : R} {output : W} {it : Reading R} {w : Writing W} {after : ReaderState} {to : R} where
+module _ {R W : Type 0} {reader : Reader R} {sink : Sink W} {e : Encoding} {only : Bool} {input : R} {output : W} {it : Iteration R} {w : Writing W} {after : ReaderState} {to : R} where
   -- A pair came, and was not written.
   stops-writing : {error : PropertiesError} (new : Writing W) (number : ℕ) (content : Content) → HasPassed reader sink e only input output it w
       → GivesEntry reader it.state it.reader (item number content) after to → WritesIfPair sink w content (Err error) new
@@ -156,17 +156,17 @@ module _ {R W : Type 0} {reader : Reader R} {sink : Sink W} {e : Encoding} {only
 -- ---- items that are copied
 
 -- Copying has stopped: no more items came; or reading the next one failed; or writing it did.
-abbrev pub Stops : {R W : Type 0} → Reader R → Sink W → Encoding → Bool → R → W → Result Unit CopyError → Reading R → Writing W → Type 0
+abbrev pub Stops : {R W : Type 0} → Reader R → Sink W → Encoding → Bool → R → W → Result Unit CopyError → Iteration R → Writing W → Type 0
 Stops {R} reader sink e only input output (Ok done) new written =
-    (it : Reading R) × HasPassed reader sink e only input output it written × GivesNone reader it.state it.reader new.state new.reader
+    (it : Iteration R) × HasPassed reader sink e only input output it written × GivesNone reader it.state it.reader new.state new.reader
 Stops {R} reader sink e only input output (Err (Read error)) new written =
-    (it : Reading R) × HasPassed reader sink e only input output it written × (it.state.is_done ≡ false)
+    (it : Iteration R) × HasPassed reader sink e only input output it written × (it.state.is_done ≡ false)
     × (GivesMalformed reader it.state it.reader error new.reader ⊎ GivesError reader it.state it.reader error new.reader)
 Stops reader sink e only input output (Err (Write error)) new written = Filters reader sink e only input output (Err error) new.reader written.sink
 
 module _ {R W : Type 0} {reader : Reader R} {sink : Sink W} {e : Encoding} {only : Bool} {input : R} {output : W} where
   -- Items were copied in turn, up to where copying stopped.
-  pub copied : (it : Reading R) (w : Writing W) (result : Result Unit CopyError) (new : Reading R) (written : Writing W) → HasPassed reader sink e only input output it w
+  pub copied : (it : Iteration R) (w : Writing W) (result : Result Unit CopyError) (new : Iteration R) (written : Writing W) → HasPassed reader sink e only input output it w
       → Copies reader sink it w result new written → Stops reader sink e only input output result new written
   copied it w result new written h (Copies.goes_on between so_far came rest) =
       copied between so_far result new written (passed-more so_far came.number came.content h (compute-entry came.gives) came.writes came.scalars) rest

@@ -9,7 +9,7 @@ use Rattle.properties_text.specs.declared.escape.UnescapeError.{UnescapeError}
 use Rattle.properties_text.specs.declared.escape.UnescapeError.TheVariants as error
 use Rattle.properties_lines.specs.LineJoiner.{LineState}
 use Rattle.java_properties.specs.Copying.{HasScalars}
-use Rattle.java_properties.specs.PropertiesIter.{Reading}
+use Rattle.java_properties.specs.PropertiesIter.{Iteration}
 use Rattle.java_properties.specs.Private.Engine.{line_bytes, NumbersLine, HasNoNumber}
 use Rattle.java_properties.specs.Private.GivenItems.{in_utf_8}
 use Rattle.java_properties.specs.declared.copy.Built.{Built}
@@ -17,8 +17,8 @@ use Rattle.java_properties.specs.declared.copy.Built.TheVariants.{Nothing, Line,
 use Rattle.java_properties.specs.declared.writer.engine.Engine.{Engine}
 
 -- the iterator that a joiner and a reader form
-abbrev pub reading : {R : Type 0} → LineState → R → Reading R
-reading lines reader = record { reader = reader; state = lines.state; line = in_utf_8 lines.line }
+abbrev pub iteration : {R : Type 0} → LineState → R → Iteration R
+iteration lines reader = record { reader = reader; state = lines.state; line = in_utf_8 lines.line }
 
 -- A line of this text is a pair. The engine built its line, and accepts it or doesn't.
 pub record HasBuilt (text : List ℕ) (accepted : Bool) (w : Engine) : Type 0 where

@@ -3,7 +3,7 @@ use Rattle.std.specs.Prelude.{Ok, Err}
 use Rattle.counted_io.specs.Streams.{reader, sink}
 use Rattle.properties_lines.specs.LineJoiner.{LineJoining}
 use Rattle.java_properties.specs.Copying.{Copies}
-use Rattle.java_properties.specs.Private.CopiedLines.{reading}
+use Rattle.java_properties.specs.Private.CopiedLines.{iteration}
 use Rattle.java_properties.specs.Private.Engine.{writing}
 use Rattle.java_properties.specs.Private.GivenItems.{in_utf_8}
 use Rattle.java_properties.specs.declared.copy.CopyError.TheVariants.{Read}
@@ -78,8 +78,8 @@ returns-in-None-clause-copies g c =
     let so_far = writing c.loop-number.engine c.loop-number.sink in
     let quiet = sym c.take_error.ensures.error ∙ c.in-None.is in
     let P : LineJoining → Type 0 = λ l.
-    Copies (reader g.R.Read g.R.CountedRead) (sink g.W.Write g.W.CountedWrite) (reading c.args.lines.now.at c.args.reader.now) (writing c.args.engine.now c.args.sink.now)
-    (Ok tt) (reading l.at next) so_far in
+    Copies (reader g.R.Read g.R.CountedRead) (sink g.W.Write g.W.CountedWrite) (iteration c.args.lines.now.at c.args.reader.now) (writing c.args.engine.now c.args.sink.now)
+    (Ok tt) (iteration l.at next) so_far in
     subst P (sym c.take_error.ensures.taken) (copied-all c.loop-number.lines new next held.copied held.error c.in_default.ensures.advances (in_utf_8 new.at.line) quiet)
 
 pub returns-in-Some-take_error-clause-copies : goal.returns-in-Some-take_error-clause-copies
@@ -90,7 +90,7 @@ returns-in-Some-take_error-clause-copies g c =
     let so_far = writing c.loop-number.engine c.loop-number.sink in
     let kept = sym c.take_error.ensures.error ∙ c.in-Some-take_error.is in
     let P : LineJoining → Type 0 = λ l.
-    Copies (reader g.R.Read g.R.CountedRead) (sink g.W.Write g.W.CountedWrite) (reading c.args.lines.now.at c.args.reader.now) (writing c.args.engine.now c.args.sink.now)
-    (Err (Read c.from.result)) (reading l.at next) so_far in
+    Copies (reader g.R.Read g.R.CountedRead) (sink g.W.Write g.W.CountedWrite) (iteration c.args.lines.now.at c.args.reader.now) (writing c.args.engine.now c.args.sink.now)
+    (Err (Read c.from.result)) (iteration l.at next) so_far in
     subst P (sym c.take_error.ensures.taken)
     (copied-error c.loop-number.lines new next held.copied held.error c.in_default.ensures.advances (in_utf_8 new.at.line) c.in-Some-take_error.error c.from.result kept c.from.ensures)
