@@ -3,14 +3,9 @@ use Rattle.std.proofs.Common.{◌≡◌, ◌<◌, ◌≤◌, ℕ, zero, suc, ◌
 use Rattle.std.specs.Prelude.{if◌then◌else◌, nat_lt}
 use Rattle.std.proofs.lemmas.Bool.{cases_Bool, cond-true, cond-false}
 use Rattle.std.proofs.lemmas.List.{drop_more, take_more, drop_all}
-use Rattle.std.specs.Prelude.{Some, None, ◌==◌, bytes_eq}
-use Rattle.std.proofs.lemmas.Bool.Decides.{nat_tests}
+use Rattle.std.specs.Prelude.{Some, None, bytes_eq}
 use Rattle.std.proofs.lemmas.List.{length-drop}
-use Rattle.std.proofs.lemmas.Str.{encodes-chars, chars-nil}
-use Rattle.std.specs.Str.{encode_utf8_all}
-use Rattle.properties_format.specs.Text.{is_blank, is_blanks}
-use Rattle.properties_format.specs.Writing.{is_empty}
-use Rattle.properties_editing.proofs.BodyGroups.{no-bytes}
+use Rattle.std.proofs.lemmas.Str.{chars-nil}
 use Rattle.properties_editing.specs.Private.BodyGroups.{TakesGroup, IsFirstGroup}
 use Rattle.properties_editing.specs.declared.edit.groups.Group.{Group}
 use Rattle.properties_editing.specs.declared.edit.groups.GroupReader.{GroupReader}

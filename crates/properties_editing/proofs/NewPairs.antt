@@ -2,9 +2,8 @@
 use Rattle.std.proofs.Common.{◌≡◌, ◌≢◌, ℕ, Bool, true, false, List, [], ◌∷◌, ◌++◌, length, refl, inl, inr, ap, ap₂, sym, ◌∙◌, append-nil, append_assoc}
 use Rattle.std.proofs.Common.{lit<}
 use Rattle.std.specs.Prelude.{◌&&◌, ◌==◌, if◌then◌else◌, unwrap_or}
-use Rattle.std.specs.Str.{chars, IsUtf8, encode_utf8_all}
+use Rattle.std.specs.Str.{chars, IsUtf8}
 use Rattle.std.proofs.lemmas.Bool.{cases_Bool, cond-true, cond-false}
-use Rattle.std.proofs.lemmas.Str.{encodes-chars, chars-nil}
 use Rattle.properties_format.specs.Text.{LineEnding, line_ending_text, is_blank, is_blanks, equals_sign}
 use Rattle.properties_format.specs.Encoding.{Encoding, windows_1252}
 use Rattle.properties_format.specs.Printing.{encoded_text}

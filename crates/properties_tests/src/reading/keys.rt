@@ -27,7 +27,11 @@ fn check_keys(
     let keys = key_lines(alloc, &mut input, Encoding::UTF_8)?;
     same(rt, keys.len(), wanted.len());
     for (key, wanted) in keys.iter().zip(wanted) {
-        same(rt, (key.line_number, key.key.as_str(), key.first_line_number), *wanted);
+        same(
+            rt,
+            (key.line_number, key.key.as_str(), key.first_line_number),
+            *wanted,
+        );
     }
     Ok(())
 }
