@@ -19,7 +19,7 @@ use Rattle.properties_items.specs.declared.error.PropertiesError.{PropertiesErro
 use Rattle.properties_tools.specs.Propedit.Answers.{name_of, Answers as Gives}
 use Rattle.properties_tools.specs.Propedit.Change.{Changes}
 use Rattle.properties_tools.specs.Propedit.Failures.{standard_output, PrintsFailure}
-use Rattle.properties_tools.specs.declared.propedit.answers.Answer.{Answer}
+use Rattle.properties_tools.specs.declared.propedit.printed.Answer.{Answer}
 use Rattle.properties_tools.specs.declared.propedit.asked.Edits.{Edits}
 use Rattle.properties_tools.specs.declared.propedit.asked.Work.{Work}
 use Rattle.properties_tools.specs.declared.propedit.error.Failure.{Failure}

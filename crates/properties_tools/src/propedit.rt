@@ -9,6 +9,7 @@ pub mod get;
 pub mod in_place;
 pub mod lines;
 pub mod list;
+pub mod printed;
 pub mod source;
 
 ghost use Rattle.std.specs.Prelude.{◌≡◌};

@@ -9,7 +9,7 @@ use Rattle.properties_tools.specs.Propedit.Check.{IsReport}
 use Rattle.properties_tools.specs.Propedit.Failures.{LacksMemory}
 use Rattle.properties_tools.specs.Propedit.Get.{Gets}
 use Rattle.properties_tools.specs.Propedit.Listing.{Lists}
-use Rattle.properties_tools.specs.declared.propedit.answers.Answer.{Answer}
+use Rattle.properties_tools.specs.declared.propedit.printed.Answer.{Answer}
 use Rattle.properties_tools.specs.declared.propedit.asked.Command.{Command}
 use Rattle.properties_tools.specs.declared.propedit.asked.Command.TheVariants.{Get, Check, Change}
 use Rattle.properties_tools.specs.declared.propedit.asked.Command.TheVariants as command

@@ -10,7 +10,7 @@ use Rattle.properties_items.specs.declared.error.ErrorKind.TheVariants as kind
 use Rattle.properties_items.specs.declared.error.PropertiesError.{PropertiesError}
 use Rattle.properties_tools.specs.Propedit.Sources.{IsSound, IsUnsound}
 use Rattle.properties_tools.specs.Propedit.Texts.{ended}
-use Rattle.properties_tools.specs.declared.propedit.answers.Answer.{Answer}
+use Rattle.properties_tools.specs.declared.propedit.printed.Answer.{Answer}
 use Rattle.properties_tools.specs.declared.propedit.asked.TextEnd.{TextEnd}
 use Rattle.properties_tools.specs.declared.propedit.error.Failure.{Failure}
 

@@ -5,7 +5,7 @@ use Rattle.properties_format.specs.Encoding.{Encoding}
 use Rattle.java_properties.specs.KeyLines.{KeyEntry, AreKeyLines}
 use Rattle.properties_tools.specs.Propedit.Sources.{IsSound, IsUnsound}
 use Rattle.properties_tools.specs.Propedit.Texts.{ended_all}
-use Rattle.properties_tools.specs.declared.propedit.answers.Answer.{Answer}
+use Rattle.properties_tools.specs.declared.propedit.printed.Answer.{Answer}
 use Rattle.properties_tools.specs.declared.propedit.asked.TextEnd.{TextEnd}
 use Rattle.properties_tools.specs.declared.propedit.error.Failure.{Failure}
 

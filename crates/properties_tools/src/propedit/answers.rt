@@ -1,28 +1,18 @@
 // What a command gives for a source.
 
-ghost use Rattle.std.specs.Prelude.{◌≡◌, ◌++◌, OnOk};
-ghost use Rattle.std.specs.Str.{chars};
+ghost use Rattle.std.specs.Prelude.{◌≡◌};
 ghost use Rattle.properties_text.specs.Encoding.{encoding_of};
 ghost use Rattle.properties_tools.specs.Propedit.Answers.{Answers, Checks, ChangesTo, name_of};
-ghost use Rattle.properties_tools.specs.Propedit.Texts.{end_byte, ended};
 
-use crate::propedit::asked::{Command, Edits, Source, TextEnd, Work};
+use crate::propedit::asked::{Command, Edits, Source, Work};
 use crate::propedit::change::change;
 use crate::propedit::check::report;
 use crate::propedit::error::Failure;
 use crate::propedit::get::get;
 use crate::propedit::list::list;
+use crate::propedit::printed::Answer;
 use java_properties::Encoding;
-use std::alloc::{AllocError, Global};
-
-/// What a command prints, and its exit status.
-#[derive(Drop)]
-pub struct Answer {
-    /// What it prints: texts in UTF-8, or the bytes of an edited source.
-    pub text: Vec<u8>,
-    /// 0, or 1 if nothing is found that was asked for, or a check finds something.
-    pub status: u8,
-}
+use std::alloc::Global;
 
 /// Returns the name of a source in messages: its path, or `standard input`.
 ///
@@ -83,22 +73,4 @@ fn changed(
 {
     let text = change(alloc, source, encoding, edits)?;
     Ok(Answer { text, status: 0 })
-}
-
-/// Appends a text and the byte that ends it.
-pub(crate) fn push_ended(text: &mut Vec<u8>, word: &str, end: TextEnd) -> Result<(), AllocError>
-    ensures { OnOk result (text.new.items ≡ text.old.items ++ ended end (chars word.now)) }
-{
-    text.extend_from_slice(word.as_bytes())?;
-    text.push(byte_of(end))?;
-    Ok(())
-}
-
-fn byte_of(end: TextEnd) -> u8
-    ensures { result ≡ end_byte end }
-{
-    match end {
-        TextEnd::LineFeed => b'\n',
-        TextEnd::Zero => 0,
-    }
 }

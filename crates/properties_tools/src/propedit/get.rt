@@ -7,9 +7,9 @@ ghost use Rattle.properties_text.specs.Encoding.{encoding_of};
 ghost use Rattle.properties_tools.specs.Propedit.Get.{Gets, LooksUp, Prints};
 ghost use Rattle.properties_tools.specs.Propedit.Texts.{borrowed_characters};
 
-use crate::propedit::answers::{Answer, push_ended};
 use crate::propedit::asked::TextEnd;
 use crate::propedit::error::Failure;
+use crate::propedit::printed::{Answer, push_ended};
 use crate::propedit::source::refuse_unsound;
 use java_properties::{Encoding, PropertiesError, value_of};
 use std::alloc::{AllocError, Global};

@@ -6,9 +6,9 @@ ghost use Rattle.java_properties.specs.KeyLines.{key_line_entry, key_line_entrie
 ghost use Rattle.properties_text.specs.Encoding.{encoding_of};
 ghost use Rattle.properties_tools.specs.Propedit.Listing.{Lists, PrintsKeys, is_key_listed};
 
-use crate::propedit::answers::{Answer, push_ended};
 use crate::propedit::asked::TextEnd;
 use crate::propedit::error::Failure;
+use crate::propedit::printed::{Answer, push_ended};
 use crate::propedit::source::{keys_in, refuse_unsound};
 use java_properties::{Encoding, KeyLine};
 use std::alloc::{AllocError, Global};

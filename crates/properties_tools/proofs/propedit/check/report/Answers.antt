@@ -1,7 +1,7 @@
 use Rattle.std.proofs.Common.{◌≡◌, rules, subst, append_assoc}
 use Rattle.java_properties.specs.KeyLines.{key_line_entries}
 use Rattle.java_properties.specs.MalformedEscapes.{escape_records}
-use Rattle.properties_tools.specs.Propedit.Check.{all_findings, ArrangesByLine, IsReport}
+use Rattle.properties_tools.specs.Propedit.Check.{all_findings, ArrangesByLine}
 use Rattle.properties_tools.proofs.propedit.check.report.Goals as goal
 
 pub returns : goal.returns

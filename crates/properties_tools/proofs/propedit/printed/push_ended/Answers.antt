@@ -4,7 +4,7 @@ use Rattle.std.specs.Str.{chars, IsUtf8}
 use Rattle.std.proofs.lemmas.Str.{encodes-chars}
 use Rattle.properties_tools.specs.Propedit.Texts.{end_byte, ended}
 use Rattle.properties_tools.specs.declared.propedit.asked.TextEnd.{TextEnd}
-use Rattle.properties_tools.proofs.propedit.answers.push_ended.Goals as goal
+use Rattle.properties_tools.proofs.propedit.printed.push_ended.Goals as goal
 
 -- A text and a byte after it are the text in UTF-8 and what ends it.
 pushed : (end : TextEnd) (old word middle new : List ℕ) (byte : ℕ) → IsUtf8 word → middle ≡ old ++ word → byte ≡ end_byte end → new ≡ middle ++ (byte ∷ [])
