@@ -34,7 +34,7 @@ use properties_tools::messages::{print_error, print_line};
 use properties_tools::propedit::answers::{answer_to, name};
 use properties_tools::propedit::asked::{Command, Edits, FileEdits, Missing, Request, Source, TextEnd, Work};
 use properties_tools::propedit::error::{Failure, print_failure};
-use properties_tools::propedit::in_place::{Original, edit_file};
+use properties_tools::propedit::in_place::{Target, edit_file};
 use properties_tools::propedit::lines::ill_formed_lines;
 use properties_tools::propedit::{self, change::change, check::report, exit_status, get::get, list::list, replacement};
 use properties_tools::propfilter;
@@ -62,7 +62,7 @@ GIVEN = {
     "arguments": "let arguments: &[String] = &[];",
     "words": "let words: Vec<String> = Vec::new(alloc);",
     "work": "let work = Work { encoding: Encoding::UTF_8, source: Source::StandardInput, command: Command::Check };",
-    "Original": 'std::fs::write(&rt, "app.properties", b"port = 80".as_slice())?;',
+    "Target": 'std::fs::write(&rt, "app.properties", b"port = 80".as_slice())?;',
     "map": "let map: HashMap<String, String> = HashMap::new(alloc);",
     "name": 'let name = "my.properties";',
     "path": 'let path = "my.properties";',
@@ -75,12 +75,13 @@ GIVEN = {
     "key": 'let key = String::from_str(alloc, "k")?;',
     "source": 'let source: &[u8] = b"port=80";',
     "port": 'let port = String::from_str(alloc, "port")?;',
+    "price": 'let price = String::from_str(alloc, "price")?;',
     "host": 'let host = String::from_str(alloc, "host")?;',
     "value": 'let value = String::from_str(alloc, "v")?;',
 }
 EDITED_FILE = (
     'let file = FileEdits { path: String::from_str(alloc, "my.properties")?, encoding: Encoding::UTF_8, '
-    "edits: Vec::new(alloc), missing: Missing::Refuse };"
+    "edits: Edits { list: Vec::new(alloc), ascii_only: false }, missing: Missing::Refuse };"
 )
 
 
@@ -111,7 +112,7 @@ def is_free(name, text):
     is_bound = any(re.search(way.format(name), text) for way in ways) or re.search(rf"Some\((Ok\()?{name}\b", text)
     # A variant of `Call` or of `Edit` is made of texts, and not matched.
     is_made = name in ("key", "value") and "Call::Pair(key, value)" in text
-    is_made = is_made or name in ("port", "host", "value") and "Edit::Put(" in text
+    is_made = is_made or name in ("port", "price", "host", "value") and re.search(r"Edit::(Put|SetValue)\(", text)
     return re.search(rf"(?<![.\w]){name}\b(?!\()", text) and (is_made or not is_bound)
 
 
