@@ -63,9 +63,12 @@ while [ -s "$work/todo" ]; do
     mv "$work/more" "$work/todo"
 done
 
-# Each run prints one line, the name of its call and a word: out of memory for each of its growths, and then ok.
+# Each run prints one line, the name of its call and a word: out of memory for each of its growths, and then ok. The two
+# that write maps get over one refused growth: `collect` of std asks for room for all entries at once, and if that is
+# refused, for as much as the next entry needs.
 awk -v counts="$work/growths" '
     function tell(text) { print text; wrong++ }
+    BEGIN { spared["write, a map"] = 1; spared["write_sorted"] = 1 }
     FNR == 1 { file++ }
     file == 1 { names[FNR] = $0; calls = FNR; next }
     file == 2 {
@@ -86,7 +89,9 @@ awk -v counts="$work/growths" '
             if (count == 0) { tell(names[call] ": no growth was refused") }
             for (growth = 1; growth <= count; growth++) {
                 if ((call, growth) in refused) { total++ }
-                else if (!((call, growth) in known)) { tell("growth " growth ": " names[call] ": ok, though refused") }
+                else if ((call, growth) in known) { continue }
+                else if (spared[names[call]] > 0) { spared[names[call]]-- }
+                else { tell("growth " growth ": " names[call] ": ok, though refused") }
             }
             print count, names[call] >counts
         }
