@@ -1,5 +1,5 @@
-// What is wrong in a source, packed: a kind, a line, the line of the first pair with the key, the length of the key, and
-// then the key.
+// What is wrong in a source, packed: a kind, a line, the line of the first pair with the key, the length of the key,
+// and then the key.
 
 ghost use Rattle.std.specs.Prelude.{◌≡◌, ◌++◌, OnOk};
 ghost use Rattle.std.specs.List.{flat_map};

@@ -194,10 +194,10 @@ pub enum Edit {
 
 /// Returns the source after these edits, in order: each edit applies to the result of the one before it.
 ///
-/// Without edits, the result is a copy of the source. The source is read once. Each edit looks up its key, which takes a
-/// few comparisons for each doubling of their number, and moves the bytes and the positions behind the pair that it
-/// changes; and each [`Edit::SetValue`] reads the pair that it changes or, if no pair has the key, the last pair that is
-/// left.
+/// Without edits, the result is a copy of the source. The source is read once. Each edit looks up its key, which takes
+/// a few comparisons for each doubling of their number, and moves the bytes and the positions behind the pair that it
+/// changes; and each [`Edit::SetValue`] reads the pair that it changes or, if no pair has the key, the last pair that
+/// is left.
 ///
 /// UTF-16 is refused. A source with a malformed escape anywhere is refused with the error that reading the source would
 /// return.
@@ -222,8 +222,8 @@ pub fn edit_all(
 /// puts in, every character past U+007F becomes a `\u` escape, or two above U+FFFF.
 ///
 /// What stands in the source and isn't replaced stays as it is, also past ASCII. If the source is ASCII, so is the
-/// result, and it has the same items in windows-1252 and in UTF-8. A file that Java reads by `Properties.load`, from an
-/// `InputStream`, needs such escapes for characters past U+00FF.
+/// result, and it has the same items in windows-1252 and in UTF-8. If Java reads the file by `Properties.load`, from an
+/// `InputStream`, characters past U+00FF need such escapes, and in UTF-8 all past U+007F.
 ///
 /// ```text
 /// let edits = vec![in alloc; Edit::SetValue(price, value)]?;

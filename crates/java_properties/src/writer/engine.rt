@@ -86,8 +86,8 @@ impl Engine {
         }
     }
 
-    /// Returns the number of the next line, or `None` if an earlier write failed, if the line isn't accepted, or if there
-    /// are no more numbers. `refusal` says which.
+    /// Returns the number of the next line, or `None` if an earlier write failed, if the line isn't accepted, or if
+    /// there are no more numbers. `refusal` says which.
     #[inline(always)]
     pub fn next_number(&self, accepted: bool) -> Option<usize>
         ensures number { IfSome result (λ number. NumbersLine self.now accepted (Ok number)) }

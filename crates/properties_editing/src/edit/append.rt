@@ -42,8 +42,8 @@ pub struct Layout {
     pub ending: LineEnding,
 }
 
-/// Returns the layout of a new pair after a body, of which this is the last pair. `closing` says how the last group of the
-/// body ends. The encoding's units are one byte long.
+/// Returns the layout of a new pair after a body, of which this is the last pair. `closing` says how the last group of
+/// the body ends. The encoding's units are one byte long.
 pub fn layout_at(
     alloc: Global,
     encoding: Encoding,

@@ -19,8 +19,8 @@ use std::marker::Model;
 /// A source that is kept open for edits.
 ///
 /// Use it in a program that changes keys one at a time and looks at values in between, such as an editor with a window:
-/// only `parse` reads the whole source. `set_value` reads again the pair that it changes or, if no pair has the key, the
-/// last pair. The bytes behind a change are moved.
+/// only `parse` reads the whole source. `set_value` reads again the pair that it changes or, if no pair has the key,
+/// the last pair. The bytes behind a change are moved.
 ///
 /// ```text
 /// let mut document = Document::parse(alloc, b"# the front door\nport = 80\n", Encoding::UTF_8)?;
@@ -112,8 +112,8 @@ impl Document {
         self.index.keys(self.alloc)
     }
 
-    /// Sets whether the calls after this one write ASCII alone, as [`edit_all_ascii`](crate::edit_all_ascii) does. They don't
-    /// at the start. No byte changes.
+    /// Sets whether the calls after this one write ASCII alone, as [`edit_all_ascii`](crate::edit_all_ascii) does. They
+    /// don't at the start. No byte changes.
     ///
     /// ```text
     /// let mut document = Document::parse(alloc, b"price = 4\n", Encoding::UTF_8)?;
@@ -142,8 +142,8 @@ impl Document {
         )
     }
 
-    /// Sets the value of a key and keeps the layout of its line, as [`set_value`](crate::set_value) does. If memory runs
-    /// out, nothing changes.
+    /// Sets the value of a key and keeps the layout of its line, as [`set_value`](crate::set_value) does. If memory
+    /// runs out, nothing changes.
     ///
     /// ```text
     /// let mut document = Document::parse(alloc, b"port  = 80\n", Encoding::UTF_8)?;

@@ -89,8 +89,8 @@ pub fn push_closing(
     }
 }
 
-/// Returns how many bytes of what separates a new pair from the last group become part of that group: those of the first of
-/// two line endings, since a backslash leaves the group open.
+/// Returns how many bytes of what separates a new pair from the last group become part of that group: those of the
+/// first of two line endings, since a backslash leaves the group open.
 pub fn opened_size(closing: Closing, by: LineEnding) -> usize
     ensures { result ≡ length (opened_bytes (line_ending_text (ending_of by)) closing) }
 {

@@ -66,8 +66,8 @@ pub fn find_key(
     Ok(places)
 }
 
-/// Returns whether the pair that is a logical line has this key, or `None` if the line isn't a pair. Fails if an escape in
-/// the line, which has this number, is malformed, or if memory runs out.
+/// Returns whether the pair that is a logical line has this key, or `None` if the line isn't a pair. Fails if an escape
+/// in the line, which has this number, is malformed, or if memory runs out.
 #[inline(always)]
 pub fn has_key(
     alloc: Global,

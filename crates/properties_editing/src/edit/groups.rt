@@ -107,8 +107,8 @@ impl GroupReader {
         Ok(Some(joined))
     }
 
-    // Joins the following lines to a group that is open, up to and including the first line that isn't open, and decodes
-    // the logical line.
+    // Joins the following lines to a group that is open, up to and including the first line that isn't open, and
+    // decodes the logical line.
     fn join(&mut self, body: &[u8], group: Group) -> Result<Group, AllocError>
         requires { IsBegun body.now self.old group }
         ensures { IfOk result (λ joined. JoinsGroup body.now self.old group joined self.new) }

@@ -39,8 +39,8 @@ pub struct IndexedPair {
 pub struct Index {
     /// The pairs with each key.
     pub pairs: BTreeMap<String, IndexedPair>,
-    /// The parts of the body that are pairs, in order and without their last line endings. A pair that was removed leaves
-    /// its place empty.
+    /// The parts of the body that are pairs, in order and without their last line endings. A pair that was removed
+    /// leaves its place empty.
     pub spans: Vec<Option<BodySpan>>,
     /// What separates a new pair from the last group.
     pub closing: Closing,
@@ -168,7 +168,8 @@ impl Index {
         None
     }
 
-    // Stores another value and another end of the last pair with a key. `is_last` says whether its group is the last one.
+    // Stores another value and another end of the last pair with a key. `is_last` says whether its group is the last
+    // one.
     fn update_last_pair(
         &mut self,
         key: &str,

@@ -58,8 +58,8 @@ pub fn new_value(
     Ok(Some(NewValue { front_size, bytes }))
 }
 
-// Returns whether the pair that is this logical line has this value. `separator` is what separates its key from its value.
-// No escape of the line is malformed.
+// Returns whether the pair that is this logical line has this value. `separator` is what separates its key from its
+// value. No escape of the line is malformed.
 fn has_value(alloc: Global, line: &str, separator: Span, value: &str) -> Result<bool, AllocError>
     requires separator { IsBetweenAt line.now separator }
     requires sound { IsSound (outcome_of (chars line.now)) }

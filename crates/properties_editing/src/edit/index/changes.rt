@@ -198,7 +198,8 @@ fn replace_pair(
     Ok(())
 }
 
-// Replaces a source by bytes that differ in this part of its body alone: the last pair with a key, which has another value.
+// Replaces a source by bytes that differ in this part of its body alone: the last pair with a key, which has another
+// value.
 fn replace_source(
     source: &mut Vec<u8>,
     opened: BodyStart,
@@ -262,8 +263,8 @@ fn append_pair(
     }
 }
 
-// Sets the value of a key that no pair has: appends a pair like the last one. If memory runs out, nothing changes that is
-// looked at.
+// Sets the value of a key that no pair has: appends a pair like the last one. If memory runs out, nothing changes that
+// is looked at.
 fn add_value(
     alloc: Global,
     source: &mut Vec<u8>,
