@@ -50,7 +50,7 @@ pub fn find_line_end(encoding: Encoding, bytes: &[u8], from: usize) -> Option<Li
     }
 }
 
-// Finds the first CR or LF, where units are one byte long.
+/// Finds the first CR or LF, where units are one byte long.
 #[inline(always)]
 pub fn find_in_bytes(bytes: &[u8], from: usize) -> Option<LineEnd>
     requires within { from ≤ length bytes.now }
@@ -63,8 +63,8 @@ pub fn find_in_bytes(bytes: &[u8], from: usize) -> Option<LineEnd>
     Some(LineEnd { at, is_cr })
 }
 
-// Finds the first CR or LF, where units are two bytes long. The byte of a CR or LF counts only in a unit whose other
-// byte is zero.
+/// Finds the first CR or LF, where units are two bytes long. The byte of a CR or LF counts only in a unit whose other
+/// byte is zero.
 #[inline(never)]
 pub fn find_in_units(encoding: Encoding, bytes: &[u8], from: usize) -> Option<LineEnd>
     requires size { unit_size (encoding_of encoding) ≡ 2 }

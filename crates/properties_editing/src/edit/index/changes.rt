@@ -123,7 +123,8 @@ fn cut_out_span(source: &mut Vec<u8>, start: usize, index: &mut Index, pair: Bod
     index.closing = closing_if(text_end == size, Closing::Nothing, index.closing);
 }
 
-// Puts an LF before a source that begins like a byte order mark, unless a mark comes before its body.
+// Puts an LF before a source that begins like a byte order mark, unless a mark comes before its body. A pair was cut out
+// before, so there is room, and nothing can fail.
 fn guard_front(source: &mut Vec<u8>, start: usize, index: &mut Index)
     requires { vec_len source.old < vec_capacity source.old }
     ensures { GuardsFront (start == 0 && begins_like_bom source.old.items) source.old.items index.old source.new.items index.new }
