@@ -23,6 +23,7 @@ pub enum Mistake<'a> {
 }
 
 impl Mistake<'_> {
+    /// Returns the kind that `clap` has for this mistake.
     pub fn kind(self) -> ErrorKind {
         match self {
             Mistake::NoEncoding(_) => ErrorKind::InvalidValue,

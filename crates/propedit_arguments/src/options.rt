@@ -64,22 +64,27 @@ fn end(matches: &ArgMatches<'_>) -> TextEnd {
 }
 
 impl<'a> Options<'a> {
+    /// Fails if a file to edit in place is given, for commands that don't edit.
     pub fn refuse_in_place(&self) -> Result<(), Mistake<'a>> {
         self.refuse(self.in_place.is_some(), "--in-place <FILE>")
     }
 
+    /// Fails if a file to read is given, for a check of files that are named after it.
     pub fn refuse_file(&self) -> Result<(), Mistake<'a>> {
         self.refuse(self.file.is_some(), "--file <FILE>")
     }
 
+    /// Fails if a default is given, for commands that print no value.
     pub fn refuse_default(&self) -> Result<(), Mistake<'a>> {
         self.refuse(self.default.is_some(), "--default <VALUE>")
     }
 
+    /// Fails if a zero byte is asked for after each text, for commands that print neither values nor keys.
     pub fn refuse_zero(&self) -> Result<(), Mistake<'a>> {
         self.refuse(self.end == TextEnd::Zero, "--null")
     }
 
+    /// Fails if ASCII alone is asked for, for commands that put in no text.
     pub fn refuse_ascii(&self) -> Result<(), Mistake<'a>> {
         self.refuse(self.ascii_only, "--ascii")
     }
