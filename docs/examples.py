@@ -26,7 +26,7 @@ use java_properties::{
 };
 use properties_text::encoding::TextBuffer;
 use properties_text::escape::unescape;
-use properties_text::print::{LineBuffer, Pair, Place, Repertoire, print_key, print_pair, print_text, print_texts, print_value};
+use properties_text::print::{LineBuffer, Pair, Place, Repertoire, print_pair, print_text, print_texts, print_value};
 use propedit_arguments::{asked_for, explain};
 use properties_tools::arguments::words;
 use properties_tools::filter::{filter, filter_ascii};

@@ -65,19 +65,18 @@ shortened-more was text short next c h is rest =
 pub ending-bytes : (bs : List ℕ) (by : LineEnding) → IsUtf8 bs → chars bs ≡ line_ending_text by → bs ≡ line_ending_text by
 ending-bytes bs by u h = line_ending-bytes windows_1252 bs by u h ∙ encoded_text-ascii windows_1252 (line_ending_text by) (line_end-ascii by)
 
--- A key, a separator and a value, one after the other.
-pub new_pair-unended : (e : Encoding) (only : Bool) (start keyed separated valued separator separator_bytes key value : List ℕ) (after_blanks : Bool)
-    → keyed ≡ start ++ encoded_text e key → separated ≡ keyed ++ separator_bytes → separator_bytes ≡ encoded_text e separator
-    → valued ≡ separated ++ encoded_text e (printed_value e only after_blanks value) → after_blanks ≡ is_blanks separator
+-- A key and a separator, and a value after them.
+pub new_pair-unended : (e : Encoding) (only : Bool) (start fronted valued separator separator_bytes key value : List ℕ) (after_blanks : Bool)
+    → fronted ≡ start ++ (encoded_text e key ++ separator_bytes) → separator_bytes ≡ encoded_text e separator
+    → valued ≡ fronted ++ encoded_text e (printed_value e only after_blanks value) → after_blanks ≡ is_blanks separator
     → valued ≡ start ++ encoded_text e (key ++ (separator ++ printed_value e only (is_blanks separator) value))
-new_pair-unended e only start keyed separated valued separator separator_bytes key value after_blanks h i j k l =
+new_pair-unended e only start fronted valued separator separator_bytes key value after_blanks h i j k =
     let back = printed_value e only (is_blanks separator) value in
     let parts : encoded_text e (key ++ (separator ++ back)) ≡ encoded_text e key ++ (encoded_text e separator ++ encoded_text e back) =
     encoded_text-append e key (separator ++ back) ∙ ap (λ v. encoded_text e key ++ v) (encoded_text-append e separator back) in
-    k ∙ ap₂ (λ v b. v ++ encoded_text e (printed_value e only b value)) (i ∙ ap₂ (λ v w. v ++ w) h j) l
-    ∙ append_assoc (start ++ encoded_text e key) (encoded_text e separator) (encoded_text e back)
-    ∙ append_assoc start (encoded_text e key) (encoded_text e separator ++ encoded_text e back)
-    ∙ ap (λ v. start ++ v) (sym parts)
+    j ∙ ap₂ (λ v b. v ++ encoded_text e (printed_value e only b value)) (h ∙ ap (λ v. start ++ (encoded_text e key ++ v)) i) k
+    ∙ append_assoc start (encoded_text e key ++ encoded_text e separator) (encoded_text e back)
+    ∙ ap (λ v. start ++ v) (append_assoc (encoded_text e key) (encoded_text e separator) (encoded_text e back) ∙ sym parts)
 
 -- ---- the separator of a new pair
 

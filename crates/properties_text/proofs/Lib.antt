@@ -1,4 +1,5 @@
 pub mod Windows1252
+pub mod ByteOrderMarks
 pub mod FirstPieces
 pub mod TextFronts
 pub mod Printing

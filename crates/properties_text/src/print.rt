@@ -293,33 +293,6 @@ fn print_with_first_escaped<Stops: ByteClass>(
     print_bytes::<Stops>(out, end, repertoire, encoding, rest, size - first.length)
 }
 
-/// Appends a key, as [`print_pair`] does. Fails if memory runs out.
-pub fn print_key(
-    line: &mut LineBuffer,
-    repertoire: Repertoire,
-    first: bool,
-    key: &str,
-) -> Result<(), AllocError>
-    ensures appended { AppendsOnOk line.old (key_bytes repertoire first (chars key.now)) result line.new }
-    ensures unchanged { OnErr result (line.new ≡ line.old) }
-{
-    let encoding = LineEncoding::Utf8;
-    let (out, at) = (&mut line.bytes, line.filled);
-    let (bytes, size) = (key.as_bytes(), key.len());
-    let printed = if is_copied(encoding, repertoire) {
-        print_first::<Literal>(out, at, repertoire, first, encoding, bytes, size)
-    } else {
-        print_first::<LiteralAscii>(out, at, repertoire, first, encoding, bytes, size)
-    };
-    match printed {
-        Ok(end) => {
-            line.filled = end;
-            Ok(())
-        }
-        Err(_) => Err(AllocError),
-    }
-}
-
 /// Appends a pair of texts, as [`print_pair`] does. Fails if memory runs out.
 #[inline(always)]
 pub fn print_texts(

@@ -11,10 +11,6 @@ use Rattle.properties_format.specs.Computed.Waiting.{awaits_bom, awaits_more}
 use Rattle.properties_format.proofs.Encodings.Pieces.{pieces_of-nil}
 use Rattle.properties_format.proofs.Encodings.ByteOrderMarks.{decoded_of-append}
 use Rattle.properties_format.proofs.Encodings.Waiting.{pieces_of-decided, characters-step}
-use Rattle.properties_text.specs.Decoding.{FindsByteOrderMark, IsUnmarked}
-use Rattle.properties_text.specs.declared.encoding.Encoding as named
-use Rattle.properties_text.specs.declared.encoding.byte_order_mark.ByteOrderMark.{ByteOrderMark}
-use Rattle.properties_text.specs.declared.encoding.byte_order_mark.ByteOrderMark.TheVariants.{Present, Absent, Undecided}
 use Rattle.single_lines.specs.DecodeIter.{Undecoded, is_over, awaits_piece, waits, coming, characters_to_come, CanCome, GivesOn, GoesOn, Decodes, Ends, ShowsFault}
 use Rattle.single_lines.specs.declared.decode_iter.Ending.{Ending}
 use Rattle.single_lines.specs.declared.decode_iter.Ending.TheVariants.{More, End, Fault}
@@ -61,12 +57,6 @@ piece-characters e b d x (inl none) =
     ∙ ap (λ v. (first_piece e b d).character ∷ characters (pieces_of e v)) (sym (append-nil rest))
     ∙ ap (λ v. (first_piece e b d).character ∷ characters (pieces_of e (rest ++ v))) (sym none)
 piece-characters e b d x (inr decided) = ap characters (pieces_of-decided e b d x decided)
-
--- where no byte order mark is told, there is none
-pub unmarked : (b : List ℕ) (m : ByteOrderMark) → FindsByteOrderMark b m → ((e : named.Encoding) (n : ℕ) → m ≡ Present e n → ⊥) → IsUnmarked b
-unmarked b (Present e n) h none = absurd (none e n refl)
-unmarked b Absent h none = h.0
-unmarked b Undecided h none = h.0
 
 -- the byte order mark is decided: the encoding in force and the body say the characters to come
 pub gives-bom : (s t : Undecoded) → s.is_decided ≡ false → (is_over s.ending ≡ true) ⊎ (awaits_bom s.held ≡ false)

@@ -28,7 +28,7 @@ use properties_items::line::LineEnding;
 use properties_text::characters::is_blank;
 use properties_text::encoding::Encoding;
 use properties_text::parse::are_blanks;
-use properties_text::print::{LineBuffer, print_key, print_value};
+use properties_text::print::{LineBuffer, print_texts, print_value};
 use std::alloc::{AllocError, Global};
 
 /// How a new pair is laid out.
@@ -194,7 +194,6 @@ pub fn print_new_pair(
         AppendsOnOk line.old (unended_pair e opened.ascii_only first (chars key.now) (chars separator.now) (chars value.now)) result line.new }
 {
     let repertoire = repertoire_of(opened);
-    print_key(line, repertoire, first, key)?;
-    line.extend(separator.as_bytes())?;
+    print_texts(line, repertoire, first, key, "", separator, "")?;
     print_value(line, repertoire, are_blanks(separator), value)
 }

@@ -47,8 +47,5 @@ pub fn encoding_in_force(bytes: &[u8], requested: Encoding) -> (Encoding, usize)
 pub fn begins_like_mark(bytes: &[u8]) -> bool
     ensures { result ≡ begins_like_bom bytes.now }
 {
-    matches!(
-        bytes,
-        [0xef, 0xbb, 0xbf, ..] | [0xfe, 0xff, ..] | [0xff, 0xfe, ..]
-    )
+    matches!(byte_order_mark(bytes), ByteOrderMark::Present(_, _))
 }

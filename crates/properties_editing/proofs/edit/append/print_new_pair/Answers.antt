@@ -1,4 +1,4 @@
-use Rattle.std.proofs.Common.{◌++◌, ◌∙◌, ap, refl}
+use Rattle.std.proofs.Common.{◌++◌, ◌∙◌, ap₂, refl, append-nil}
 use Rattle.std.specs.Str.{chars}
 use Rattle.std.proofs.lemmas.Result.{on_ok_weaker}
 use Rattle.properties_format.specs.Printing.{printed_key}
@@ -9,15 +9,17 @@ use Rattle.properties_editing.proofs.NewPairs.{new_pair-unended}
 use Rattle.properties_editing.proofs.edit.append.print_new_pair.Goals as goal
 
 pub returns : goal.returns
+unfolding chars
 returns c =
     let e = output_encoding (encoding_of c.args.opened.encoding) in
     let only = c.args.opened.ascii_only in
     let text = c.args.separator.now in
-    let key = c.in_ok-print_key.ensures.appended ∙ ap (λ v. c.args.line.now ++ v) (c.repertoire_of-repertoire.ensures.keys c.args.first (chars c.args.key.now)) in
+    let keys = c.repertoire_of-repertoire.ensures.keys c.args.first (chars c.args.key.now) in
+    let front = c.in_ok-print_texts.ensures.appended ∙ ap₂ (λ v w. c.args.line.now ++ (v ++ w)) keys (append-nil text) in
     let value = rw (c.repertoire_of-repertoire.ensures.values c.are_blanks.result (chars c.args.value.now)) at c.print_value.ensures in
     let separator = separator-bytes e text (chars text) c.utf8.separator refl c.requires in
     on_ok_weaker c.print_value.result
-    (λ h. new_pair-unended e only c.args.line.now c.print_key.new.line c.extend.new.self c.print_value.new.line
+    (λ h. new_pair-unended e only c.args.line.now c.print_texts.new.line c.print_value.new.line
     (chars text) text (printed_key e only c.args.first (chars c.args.key.now)) (chars c.args.value.now) c.are_blanks.result
-    key (c.in_ok-extend.ensures.appended ∙ ap (λ v. c.print_key.new.line ++ v) c.as_bytes.ensures.value) separator h c.are_blanks.ensures)
+    front separator h c.are_blanks.ensures)
     value

@@ -1,8 +1,9 @@
 use Rattle.std.proofs.Common.{ℕ, List, refl, ap, sym, ◌∙◌}
 use Rattle.properties_format.specs.Encoding.{InForce}
 use Rattle.properties_text.specs.Encoding.{encoding_of}
+use Rattle.properties_text.proofs.ByteOrderMarks.{unmarked}
 use Rattle.single_lines.specs.DecodeIter.{undecoded}
-use Rattle.single_lines.proofs.DecodeIter.{gives-bom, unmarked}
+use Rattle.single_lines.proofs.DecodeIter.{gives-bom}
 use Rattle.single_lines.proofs.decode_iter.CharacterDecoder.take_byte_order_mark.Goals as goal
 use Rattle.single_lines.proofs.decode_iter.CharacterDecoder.take_byte_order_mark.Goals.{in-Present, in_default}
 
