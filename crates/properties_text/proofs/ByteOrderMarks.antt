@@ -21,7 +21,7 @@ like-mark b e n f = elim (cases_Bool (begins_like_bom b)) [
   | inl h ↦ h
   | inr h ↦
       let same : (asked : Encoding) → asked ≡ e =
-          λ asked. ap (λ v. let w : InForce = v in w.encoding) (sym (byte_order_mark-none asked b h) ∙ f asked) in
+      λ asked. ap (λ v. let w : InForce = v in w.encoding) (sym (byte_order_mark-none asked b h) ∙ f asked) in
       let two : windows_1252 ≡ utf_8 = same windows_1252 ∙ sym (same utf_8) in
       absurd (cc)
 ]

@@ -1,9 +1,8 @@
 -- What is appended when a text is printed, by its place in the line.
-use Rattle.std.specs.Prelude.{◌≡◌, ℕ, nat_lt, ◌==◌, Bool, true, false, if◌then◌else◌, List, [], ◌∷◌, ◌++◌, Option, Some, None, Result, OnOk}
+use Rattle.std.specs.Prelude.{◌≡◌, ℕ, nat_lt, ◌==◌, ◌&&◌, ◌-◌, Bool, not, true, false, if◌then◌else◌, List, [], ◌∷◌, ◌++◌, length, take, get_or, Result, OnOk}
 use Rattle.properties_format.specs.Printing as format
-use Rattle.properties_format.specs.Text.{tab, line_feed, form_feed, space, backslash}
+use Rattle.properties_format.specs.Text.{tab, line_feed, form_feed, space, backslash, is_separator}
 use Rattle.properties_format.specs.Encoding.{Encoding, windows_1252, utf_8}
-use Rattle.properties_format.specs.Valued.{printed_inside}
 use Rattle.properties_text.specs.declared.print.Repertoire.{Repertoire}
 use Rattle.properties_text.specs.declared.print.Repertoire.TheVariants.{Windows1252, Utf8, Ascii}
 use Rattle.properties_text.specs.declared.print.Place.{Place}
@@ -49,10 +48,13 @@ key_bytes r first key = format.encoded_text (encoding_in r) (format.printed_key 
 abbrev pub escaped_key : Repertoire → List ℕ → List ℕ
 escaped_key r key = format.encoded_text (encoding_in r) (format.with_first_escaped (encoding_in r) (only_in r) key)
 
--- the character held back inside a value that is set in place, or nothing if none is
-abbrev pub held_text : Encoding → Bool → Option ℕ → List ℕ
-held_text e only None = []
-held_text e only (Some c) = printed_inside e only c
+-- whether the first character of a value that is set in place gets a backslash
+abbrev pub is_first_escaped : Bool → ℕ → Bool → Bool
+is_first_escaped after_blanks c is_last = if c == space then not is_last else after_blanks && is_separator c
+
+-- the last ASCII characters of a value that is set in place: those that need no escape, but for a space at the end
+abbrev pub last_run : List ℕ → List ℕ
+last_run bs = if get_or bs (length bs - 1) 0 == space then take (length bs - 1) bs ++ format.unicode_escape space else bs
 
 -- ---- bytes of an output encoding
 

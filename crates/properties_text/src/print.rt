@@ -7,20 +7,20 @@ ghost use Rattle.properties_format.specs.Encoding.{begins_like_bom};
 ghost use Rattle.properties_format.specs.Escapes.{means};
 ghost use Rattle.properties_format.specs.Computed.Escapes.{meaning_of};
 ghost use Rattle.properties_format.specs.Printing.{unicode_escape, literal, encoded_text};
-ghost use Rattle.properties_format.specs.Valued.{printed_inside, printed_first, printed_last, printed_rest, printed_value};
+ghost use Rattle.properties_format.specs.Valued.{printed_rest, printed_value};
 ghost use Rattle.properties_text.specs.Encoding.{line_of};
 ghost use Rattle.properties_text.specs.Parsing.{IsSpan, bytes_in};
 ghost use Rattle.properties_text.specs.Spelt.{text_in, IsWell};
-ghost use Rattle.properties_text.specs.Printing.{encoding_in, only_in, AppendsOnOk, character_bytes, text_bytes, put_of, puts_of, key_bytes, escaped_key, held_text};
+ghost use Rattle.properties_text.specs.Printing.{encoding_in, only_in, AppendsOnOk, character_bytes, text_bytes, put_of, puts_of, key_bytes, escaped_key, is_first_escaped, last_run};
 ghost use Rattle.properties_text.specs.PrintedTexts.{is_copied, StopsIn, meaning_in, Prints, bytes_of, key_of, value_of, IsPair, PrintsPair};
 
-use crate::characters::{is_comment_sign, is_separator};
+use crate::characters::is_separator;
 use crate::encoding::LineEncoding;
 use crate::encoding::byte_order_mark::begins_like_mark;
 use crate::escape::UnescapeError;
 use crate::line_buffer::{make_room, put_raw};
 use crate::parse::Span;
-use byte_blocks::{Byte, ByteClass, Controls, Either, PastAscii};
+use byte_blocks::{Byte, ByteClass, Controls, Either, PastAscii, find};
 use escapes::{LONGEST, put_escape};
 use std::alloc::AllocError;
 use text::{first_character, print_bytes, put_literal, put_printed};
@@ -361,95 +361,57 @@ pub fn print_value(
         return Ok(());
     };
     let rest = characters.as_str();
-    if rest.is_empty() && first == ' ' {
-        return print_escape(line, ' ');
+    if !is_first_escaped(after_blanks, first, rest.is_empty()) {
+        return print_rest_of_value(line, repertoire, text);
     }
-    print_first_of_value(line, repertoire, after_blanks, first)?;
+    print_in_key_or_value(line, repertoire, first)?;
     print_rest_of_value(line, repertoire, rest)
 }
 
-// Prints the first character of a value.
-fn print_first_of_value(
-    line: &mut LineBuffer,
-    repertoire: Repertoire,
-    after_blanks: bool,
-    first: char,
-) -> Result<(), AllocError>
-    ensures { let e = encoding_in repertoire in
-        let text = printed_first e (only_in repertoire) after_blanks first in
-        AppendsOnOk line.old (encoded_text e text) result line.new }
+// Returns whether the first character of a value gets a backslash. A space that is the last one too gets none.
+fn is_first_escaped(after_blanks: bool, first: char, is_last: bool) -> bool
+    ensures { result ≡ is_first_escaped after_blanks first is_last }
 {
-    if first == ' ' || (after_blanks && is_separator(first)) {
-        return print_in_key_or_value(line, repertoire, first);
+    if first == ' ' {
+        !is_last
+    } else {
+        after_blanks && is_separator(first)
     }
-    print_in_value(line, repertoire, first)
 }
 
-// Prints the characters after the first. Each is held back until the next one shows that it isn't the last.
+// Prints the characters from one on that needs no backslash at the front: runs of ASCII as they are, and by turns a
+// character that may need an escape.
 fn print_rest_of_value(
     line: &mut LineBuffer,
     repertoire: Repertoire,
-    rest: &str,
+    text: &str,
 ) -> Result<(), AllocError>
     ensures { let e = encoding_in repertoire in
-        let text = printed_rest e (only_in repertoire) (chars rest.now) in
-        AppendsOnOk line.old (encoded_text e text) result line.new }
+        let printed = printed_rest e (only_in repertoire) (chars text.now) in
+        AppendsOnOk line.old (encoded_text e printed) result line.new }
 {
-    let mut held = None;
-    for character in rest.chars() {
-        print_held(line, repertoire, held)?;
-        held = Some(character);
+    let mut rest = text.as_bytes();
+    while let Some(plain) = find::<EscapedAscii>(rest) {
+        let (run, others) = rest.split_at(plain);
+        line.extend(run)?;
+        let stop = LineEncoding::Utf8.first_character(others);
+        print_in_key_or_value(line, repertoire, stop.character)?;
+        rest = &others[stop.length..];
     }
-    match held {
-        Some(last) => print_last_of_value(line, repertoire, last),
-        None => Ok(()),
-    }
+    print_last_run(line, rest)
 }
 
-// Prints the character that was held back, if there is one.
-fn print_held(
-    line: &mut LineBuffer,
-    repertoire: Repertoire,
-    held: Option<char>,
-) -> Result<(), AllocError>
-    ensures { let e = encoding_in repertoire in
-        AppendsOnOk line.old (encoded_text e (held_text e (only_in repertoire) held)) result line.new }
+// Prints ASCII as it is, but for a space at the end, which is printed as an escape.
+fn print_last_run(line: &mut LineBuffer, run: &[u8]) -> Result<(), AllocError>
+    ensures { AppendsOnOk line.old (last_run run.now) result line.new }
 {
-    match held {
-        Some(character) => print_in_value(line, repertoire, character),
-        None => Ok(()),
+    match run.split_last() {
+        Some((b' ', inside)) => {
+            line.extend(inside)?;
+            print_escape(line, ' ')
+        }
+        _ => line.extend(run),
     }
-}
-
-// Prints the last character of a value.
-#[tactic(auto, using(crate::proofs::Printing::Values::last_space))]
-fn print_last_of_value(
-    line: &mut LineBuffer,
-    repertoire: Repertoire,
-    last: char,
-) -> Result<(), AllocError>
-    ensures { let e = encoding_in repertoire in
-        AppendsOnOk line.old (encoded_text e (printed_last e (only_in repertoire) last)) result line.new }
-{
-    if last == ' ' {
-        return print_escape(line, last);
-    }
-    print_in_value(line, repertoire, last)
-}
-
-// Prints a character inside a value.
-fn print_in_value(
-    line: &mut LineBuffer,
-    repertoire: Repertoire,
-    character: char,
-) -> Result<(), AllocError>
-    ensures { let e = encoding_in repertoire in
-        AppendsOnOk line.old (encoded_text e (printed_inside e (only_in repertoire) character)) result line.new }
-{
-    if character == ' ' || is_separator(character) || is_comment_sign(character) {
-        return print_literal(line, repertoire, character);
-    }
-    print_in_key_or_value(line, repertoire, character)
 }
 
 fn print_character(

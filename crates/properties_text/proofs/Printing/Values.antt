@@ -1,98 +1,249 @@
--- What is printed for a value that is set in place, part by part.
-use Rattle.std.proofs.Common.{◌≡◌, ℕ, ◌==◌, ◌&&◌, Bool, true, false, List, [], ◌∷◌, ◌++◌, Option, Some, None, refl, ap, sym, ◌∙◌, append_assoc, append-nil, length, arith}
-use Rattle.std.specs.Str.{chars}
+-- What is printed for a value that is set in place: runs of characters that need no escape, and by turns one that may.
+use Rattle.std.proofs.Common.{◌≡◌, ◌≢◌, ℕ, suc, ◌+◌, ◌-◌, ◌<◌, ◌≤◌, ◌==◌, ◌&&◌, ◌||◌, Bool, true, false, not, nat_lt, List, [], ◌∷◌, ◌++◌, length, take, drop, get_or, refl, ap, sym, ◌∙◌, subst, inl, inr}
+use Rattle.std.proofs.Common.{append_assoc, append-nil, arith, le-ltb, eqb-true, ne_eqb}
+use Rattle.std.specs.Prelude.{Some, None}
+use Rattle.std.specs.List.{All}
+use Rattle.std.specs.Str.{IsUtf8, chars}
 use Rattle.std.proofs.lemmas.Str.{chars-nil}
+use Rattle.std.proofs.lemmas.Bool.{cases_Bool, cond-true, cond-false, and_right, and_parts, and_from, or_parts, or_left, or_right, false_from_ne_true}
 use Rattle.std.proofs.lemmas.Bool.Decides.{nat_tests}
-use Rattle.std.proofs.lemmas.Bool.{cond-false}
-use Rattle.properties_format.specs.Text.{space}
+use Rattle.std.proofs.lemmas.List.{get_or-take, get_or-drop, length-take, take-append-drop}
+use Rattle.std.proofs.lemmas.List.Elements.{All-head, All-tail, All-nil, All-cons, All-from_get_or}
+use Rattle.memchr.specs.Find.{IsFirstByte}
+use Rattle.byte_blocks.specs.Classes.{is_control, is_past_ascii}
+use Rattle.properties_format.specs.Text.{space, backslash, is_separator, is_comment_sign}
 use Rattle.properties_format.specs.Encoding.{Encoding}
-use Rattle.properties_format.specs.Printing.{unit_escape, unicode_escape, encoded_text}
+use Rattle.properties_format.specs.Printing.{in_key_or_value, is_special, has_letter, unicode_escape, printed_character, encoded_text}
 use Rattle.properties_format.specs.Writing.{is_empty}
-use Rattle.properties_format.specs.Valued.{printed_inside, printed_first, printed_last, printed_rest, printed_value}
+use Rattle.properties_format.specs.Valued.{is_free, printed_inside, printed_first, printed_rest, printed_value}
 use Rattle.properties_format.proofs.Printing.Characters.{encoded_text-append, encoded_text-ascii, unicode_escape-ascii}
-use Rattle.properties_text.specs.Printing.{held_text}
-
--- the printed characters inside a value
-abbrev inside_text : Encoding → Bool → List ℕ → List ℕ
-inside_text e only [] = []
-inside_text e only (c ∷ cs) = printed_inside e only c ++ inside_text e only cs
-
--- One more character inside a value.
-inside-push : (e : Encoding) (only : Bool) (xs : List ℕ) (c : ℕ) → inside_text e only (xs ++ c ∷ []) ≡ inside_text e only xs ++ printed_inside e only c
-inside-push e only [] c = append-nil (printed_inside e only c)
-inside-push e only (x ∷ xs) c = ap (λ v. printed_inside e only x ++ v) (inside-push e only xs c) ∙ sym (append_assoc (printed_inside e only x) (inside_text e only xs)
-    (printed_inside e only c))
-
--- The characters after the first, the last of which is printed as the last one.
-rest-push : (e : Encoding) (only : Bool) (xs : List ℕ) (c : ℕ) → printed_rest e only (xs ++ c ∷ []) ≡ inside_text e only xs ++ printed_last e only c
-rest-push e only [] c = refl
-rest-push e only (x ∷ []) c = ap (λ v. v ++ printed_last e only c) (sym (append-nil (printed_inside e only x)))
-rest-push e only (x ∷ y ∷ xs) c = ap (λ v. printed_inside e only x ++ v) (rest-push e only (y ∷ xs) c) ∙ sym (append_assoc (printed_inside e only x) (inside_text e only (y ∷ xs))
-    (printed_last e only c))
-
--- Bytes appended to a line in two parts.
-parts-after : (e : Encoding) (before x y : List ℕ) → (before ++ encoded_text e x) ++ encoded_text e y ≡ before ++ encoded_text e (x ++ y)
-parts-after e before x y = append_assoc before (encoded_text e x) (encoded_text e y) ∙ ap (λ v. before ++ v) (sym (encoded_text-append e x y))
-
--- All of these characters but the last were printed after a line, and the last is held back.
-abbrev pub HasHeld : Encoding → Bool → List ℕ → List ℕ → Option ℕ → List ℕ → Type 0
-HasHeld e only before ys None line = (ys ≡ []) × (line ≡ before)
-HasHeld e only before ys (Some c) line = (xs : List ℕ) × (ys ≡ xs ++ c ∷ []) × (line ≡ before ++ encoded_text e (inside_text e only xs))
-
--- One more character is held back, after the one before it was printed.
-pub held-more : (e : Encoding) (only : Bool) (before ys line new : List ℕ) (held : Option ℕ) (c : ℕ) → HasHeld e only before ys held line
-    → new ≡ line ++ encoded_text e (held_text e only held)
-    → HasHeld e only before (ys ++ c ∷ []) (Some c) new
-held-more e only before ys line new None c h s = (
-  ys,
-  refl,
-  s ∙ append-nil line ∙ h.1 ∙ sym (ap (λ v. before ++ encoded_text e (inside_text e only v)) h.0 ∙ append-nil
-      before),
-)
-held-more e only before ys line new (Some d) c h s = (
-  ys,
-  refl,
-  s ∙ ap (λ v. v ++ encoded_text e (printed_inside e only d)) h.2 ∙ parts-after e before (inside_text e only h.0) (printed_inside e only d)
-      ∙ ap (λ v. before ++ encoded_text e v) (sym (inside-push e only h.0 d) ∙ ap (inside_text e only) (sym h.1)),
-)
-
--- The last character is printed.
-pub held-last : (e : Encoding) (only : Bool) (before ys line new : List ℕ) (c : ℕ) → HasHeld e only before ys (Some c) line → new ≡ line ++ encoded_text e (printed_last e only c)
-    → new ≡ before ++ encoded_text e (printed_rest e only ys)
-held-last e only before ys line new c h s =
-    s
-    ∙ ap (λ v. v ++ encoded_text e (printed_last e only c)) h.2
-    ∙ parts-after e before (inside_text e only h.0) (printed_last e only c)
-    ∙ ap (λ v. before ++ encoded_text e v) (sym (rest-push e only h.0 c) ∙ ap (printed_rest e only) (sym h.1))
-
--- There is no character.
-pub held-none : (e : Encoding) (only : Bool) (before ys line : List ℕ) → HasHeld e only before ys None line → line ≡ before ++ encoded_text e (printed_rest e only ys)
-held-none e only before ys line h = h.1 ∙ sym (ap (λ v. before ++ encoded_text e (printed_rest e only v)) h.0 ∙ append-nil before)
-
--- A value that is a single space is printed as its escape.
-pub space-alone : (e : Encoding) (only : Bool) (after_blanks : Bool) (before new : List ℕ) → new ≡ before ++ unicode_escape space
-    → new ≡ before ++ encoded_text e (printed_value e only after_blanks (space ∷ []))
-space-alone e only after_blanks before new s = s ∙ ap (λ v. before ++ v) (sym (encoded_text-ascii e (unicode_escape space) (unicode_escape-ascii space)))
-
--- Any other value is printed as its first character and those after it.
-pub value-after : (e : Encoding) (only : Bool) (after_blanks : Bool) (before line new : List ℕ) (c : ℕ) (cs : List ℕ) → (is_empty cs && c == space) ≡ false
-    → line ≡ before ++ encoded_text e (printed_first e only after_blanks c) → new ≡ line ++ encoded_text e (printed_rest e only cs)
-    → new ≡ before ++ encoded_text e (printed_value e only after_blanks (c ∷ cs))
-value-after e only after_blanks before line new c cs h s t =
-    t
-    ∙ ap (λ v. v ++ encoded_text e (printed_rest e only cs)) s
-    ∙ parts-after e before (printed_first e only after_blanks c) (printed_rest e only cs)
-    ∙ ap (λ v. before ++ encoded_text e v) (sym (cond-false (is_empty cs && c == space) (unit_escape space)
-    (printed_first e only after_blanks c ++ printed_rest e only cs) h))
-
--- A space at the end is printed as its escape.
-pub last_space : (e : Encoding) (only : Bool) (c : ℕ) → c ≡ space → encoded_text e (printed_last e only c) ≡ unicode_escape c
-last_space e only c k =
-    ap (λ v. encoded_text e (printed_last e only v)) k
-    ∙ encoded_text-ascii e (unicode_escape space) (unicode_escape-ascii space)
-    ∙ ap unicode_escape (sym k)
+use Rattle.properties_text.specs.Printing.{is_first_escaped, last_run}
+use Rattle.properties_text.specs.Spelt.{IsFirst}
+use Rattle.properties_text.specs.declared.encoding.line.LineEncoding.TheVariants.{Utf8}
+use Rattle.properties_text.specs.declared.encoding.line.Spelt.{Spelt}
+use Rattle.properties_text.proofs.Printing.Bytes.{ascii-printed}
+use Rattle.properties_text.proofs.Spelt.First.{ascii-first, ascii-back}
 
 -- A text without bytes has no characters.
 pub none-left : (x : List ℕ) → (length x == 0) ≡ true → chars x ≡ []
 none-left [] h = chars-nil
 none-left (b ∷ x) h = absurd (grind (arith, nat_tests))
+
+-- ---- what stops a run
+
+abbrev pub stops : ℕ → Bool
+stops b = is_past_ascii b || (is_control b || b == 0x5c)
+
+-- Any other byte is an ASCII character that is printed as it is.
+record IsPlain (b : ℕ) : Type 0 where
+  pub ascii : b < 0x80
+  pub printable : 0x20 ≤ b
+  pub other : (b == backslash) ≡ false
+
+plain : (b : ℕ) → stops b ≡ false → IsPlain b
+plain b h =
+    let p = or_parts (is_past_ascii b) (is_control b || b == 0x5c) h in
+    let q = or_parts (is_control b) (b == 0x5c) p.1 in
+    record { ascii = grind (arith, nat_tests, p.0); printable = grind (arith, nat_tests, q.0); other = q.1 }
+
+-- What may be unescaped stops no run.
+free-plain : (c : ℕ) → is_free c ≡ true → stops c ≡ false
+free-plain c h = grind (arith, nat_tests)
+
+append-some : (xs cs : List ℕ) → cs ≢ [] → xs ++ cs ≢ []
+append-some [] cs some = some
+append-some (x ∷ xs) cs some = λ none. cc none
+
+longer-run : (b c : ℕ) (bs : List ℕ) → last_run (b ∷ c ∷ bs) ≡ b ∷ last_run (c ∷ bs)
+longer-run b c bs =
+    let n : length (c ∷ bs) - 1 ≡ length bs = omega arith in
+    let m : length (b ∷ c ∷ bs) - 1 ≡ suc (length bs) = omega arith in
+    rw (m, n) (elim (cases_Bool (get_or (c ∷ bs) (length bs) 0 == space)) [ inl s ↦ rw s refl | inr s ↦ rw s refl ])
+
+module _ (e : Encoding) (only : Bool) where
+  plain-inside : (b : ℕ) → IsPlain b → encoded_text e (printed_inside e only b) ≡ b ∷ []
+  plain-inside b p = elim (cases_Bool (is_free b)) [
+    | inl f ↦ ap (encoded_text e) (cond-true (is_free b) _ _ f) ∙ encoded_text-ascii e (b ∷ []) (p.ascii, tt)
+    | inr f ↦
+        let special : is_special b ≡ false = rw (p.other, f) refl in
+        let letter : has_letter b ≡ false = rw (ne_eqb b 0x09 (omega (arith, p.printable)), ne_eqb b 0x0a (omega (arith, p.printable)), ne_eqb b 0x0c (omega (arith, p.printable)), ne_eqb b 0x0d (omega (arith, p.printable))) refl in
+        ap (encoded_text e) (cond-false (is_free b) (b ∷ []) (printed_character e only in_key_or_value b) f)
+        ∙ ascii-printed e only b p.ascii
+        ∙ cond-false (is_special b) _ _ special
+        ∙ cond-false (has_letter b) _ _ letter
+        ∙ cond-false (nat_lt b space) _ _ (le-ltb b space p.printable)
+  ]
+
+  -- All but the last character are printed as inside a value.
+  more-after : (c : ℕ) (cs : List ℕ) → cs ≢ [] → printed_rest e only (c ∷ cs) ≡ printed_inside e only c ++ printed_rest e only cs
+  more-after c [] some = absurd (some refl)
+  more-after c (d ∷ cs) some = refl
+
+  -- A run before other characters is printed as it is.
+  run-before : (xs cs : List ℕ) → All (λ b. stops b ≡ false) xs → cs ≢ []
+      → encoded_text e (printed_rest e only (xs ++ cs)) ≡ xs ++ encoded_text e (printed_rest e only cs)
+  run-before [] cs all some = refl
+  run-before (x ∷ xs) cs all some =
+      ap (encoded_text e) (more-after x (xs ++ cs) (append-some xs cs some))
+      ∙ encoded_text-append e (printed_inside e only x) (printed_rest e only (xs ++ cs))
+      ∙ ap (λ v. v ++ encoded_text e (printed_rest e only (xs ++ cs))) (plain-inside x (plain x (All-head (λ b. stops b ≡ false) x xs all)))
+      ∙ ap (λ v. x ∷ v) (run-before xs cs (All-tail (λ b. stops b ≡ false) x xs all) some)
+
+  -- A character that isn't free is printed as a writer prints it, at the end too.
+  stop-before : (c : ℕ) (cs : List ℕ) → is_free c ≡ false
+      → encoded_text e (printed_rest e only (c ∷ cs)) ≡ encoded_text e (printed_character e only in_key_or_value c) ++ encoded_text e (printed_rest e only cs)
+  stop-before c [] f =
+      let no_space = (or_parts (c == space) (is_separator c || is_comment_sign c) f).0 in
+      ap (encoded_text e) (cond-false (c == space) _ _ no_space ∙ cond-false (is_free c) (c ∷ []) _ f)
+      ∙ sym (append-nil (encoded_text e (printed_character e only in_key_or_value c)))
+  stop-before c (d ∷ cs) f =
+      ap (λ v. encoded_text e (v ++ printed_rest e only (d ∷ cs))) (cond-false (is_free c) (c ∷ []) (printed_character e only in_key_or_value c) f)
+      ∙ encoded_text-append e (printed_character e only in_key_or_value c) (printed_rest e only (d ∷ cs))
+
+  -- A run at the end.
+  run-last : (bs : List ℕ) → All (λ b. stops b ≡ false) bs → encoded_text e (printed_rest e only bs) ≡ last_run bs
+  run-last [] all = refl
+  run-last (b ∷ []) all = elim (cases_Bool (b == space)) [
+    | inl s ↦ rw s (encoded_text-ascii e (unicode_escape space) (unicode_escape-ascii space))
+    | inr s ↦
+        ap (encoded_text e) (cond-false (b == space) _ (printed_inside e only b) s)
+        ∙ plain-inside b (plain b (All-head (λ b. stops b ≡ false) b [] all))
+        ∙ sym (cond-false (b == space) _ (b ∷ []) s)
+  ]
+  run-last (b ∷ c ∷ bs) all =
+      run-before (b ∷ []) (c ∷ bs) (All-cons (λ b. stops b ≡ false) b [] (All-head (λ b. stops b ≡ false) b (c ∷ bs) all) (All-nil (λ b. stops b ≡ false))) (λ none. cc none)
+      ∙ ap (λ v. b ∷ v) (run-last (c ∷ bs) (All-tail (λ b. stops b ≡ false) b (c ∷ bs) all))
+      ∙ sym (longer-run b c bs)
+
+  -- ---- the first character
+
+  -- It gets no backslash.
+  pub first-plain : (after_blanks : Bool) (c : ℕ) (cs : List ℕ) → is_first_escaped after_blanks c (is_empty cs) ≡ false
+      → printed_value e only after_blanks (c ∷ cs) ≡ printed_rest e only (c ∷ cs)
+  first-plain after_blanks c cs h = elim (cases_Bool (c == space)) [
+    | inl s ↦ alone cs (sym (cond-true (c == space) _ (after_blanks && is_separator c) s) ∙ h) s
+    | inr s ↦ other cs (sym (cond-false (c == space) (not (is_empty cs)) _ s) ∙ h) s
+  ]
+    where
+      alone : (cs : List ℕ) → not (is_empty cs) ≡ false → (c == space) ≡ true → printed_value e only after_blanks (c ∷ cs) ≡ printed_rest e only (c ∷ cs)
+      alone [] h s = rw s refl
+      alone (d ∷ cs) h s = absurd (cc)
+
+      other : (cs : List ℕ) → (after_blanks && is_separator c) ≡ false → (c == space) ≡ false → printed_value e only after_blanks (c ∷ cs) ≡ printed_rest e only (c ∷ cs)
+      other [] h s = rw (s, h) (append-nil _)
+      other (d ∷ cs) h s = rw (s, h) refl
+
+  -- It does.
+  pub first-escaped : (after_blanks : Bool) (c : ℕ) (cs : List ℕ) → is_first_escaped after_blanks c (is_empty cs) ≡ true
+      → encoded_text e (printed_value e only after_blanks (c ∷ cs))
+      ≡ encoded_text e (printed_character e only in_key_or_value c) ++ encoded_text e (printed_rest e only cs)
+  first-escaped after_blanks c cs h = elim (cases_Bool (c == space)) [
+    | inl s ↦ blank cs (sym (cond-true (c == space) _ (after_blanks && is_separator c) s) ∙ h) s
+    | inr s ↦
+        let both = and_parts after_blanks (is_separator c) (sym (cond-false (c == space) (not (is_empty cs)) _ s) ∙ h) in
+        put cs (and_right (is_empty cs) (c == space) s) (or_right (c == space) (after_blanks && is_separator c) (and_from after_blanks (is_separator c) both.0 both.1))
+        (or_right (c == backslash) (is_free c) (or_right (c == space) (is_separator c || is_comment_sign c) (or_left (is_separator c) (is_comment_sign c) both.1)))
+  ]
+    where
+      put : (cs : List ℕ) → (is_empty cs && c == space) ≡ false → (c == space || (after_blanks && is_separator c)) ≡ true → is_special c ≡ true
+          → encoded_text e (printed_value e only after_blanks (c ∷ cs))
+          ≡ encoded_text e (printed_character e only in_key_or_value c) ++ encoded_text e (printed_rest e only cs)
+      put cs more first special =
+          ap (encoded_text e) (cond-false (is_empty cs && c == space) _ (printed_first e only after_blanks c ++ printed_rest e only cs) more)
+          ∙ encoded_text-append e (printed_first e only after_blanks c) (printed_rest e only cs)
+          ∙ ap (λ v. encoded_text e v ++ encoded_text e (printed_rest e only cs)) (cond-true _ (backslash ∷ c ∷ []) _ first ∙ sym (cond-true (is_special c) _ _ special))
+
+      blank : (cs : List ℕ) → not (is_empty cs) ≡ true → (c == space) ≡ true → encoded_text e (printed_value e only after_blanks (c ∷ cs))
+          ≡ encoded_text e (printed_character e only in_key_or_value c) ++ encoded_text e (printed_rest e only cs)
+      blank [] h s = absurd (cc)
+      blank (d ∷ cs) h s = put (d ∷ cs) refl (rw s refl) (ap is_special (eqb-true c space s))
+
+  -- The whole value, after a first character with a backslash.
+  pub after-first : (after_blanks : Bool) (before more new : List ℕ) (c : ℕ) (cs : List ℕ) → is_first_escaped after_blanks c (is_empty cs) ≡ true
+      → more ≡ before ++ encoded_text e (printed_character e only in_key_or_value c) → new ≡ more ++ encoded_text e (printed_rest e only cs)
+      → new ≡ before ++ encoded_text e (printed_value e only after_blanks (c ∷ cs))
+  after-first after_blanks before more new c cs h first rest =
+      let character = encoded_text e (printed_character e only in_key_or_value c) in
+      rest
+      ∙ ap (λ v. v ++ encoded_text e (printed_rest e only cs)) first
+      ∙ append_assoc before character (encoded_text e (printed_rest e only cs))
+      ∙ ap (λ v. before ++ v) (sym (first-escaped after_blanks c cs h))
+
+-- ---- up to the rest
+
+-- Up to the rest of its bytes, a text was printed.
+pub record IsPrintedTo (e : Encoding) (only : Bool) (before text rest line : List ℕ) : Type 0 where
+  pub utf8 : IsUtf8 rest
+  pub printed : before ++ encoded_text e (printed_rest e only text) ≡ line ++ encoded_text e (printed_rest e only (chars rest))
+
+-- A run, and what comes after it.
+ascii-run : (xs ys : List ℕ) → All (λ b. stops b ≡ false) xs → IsUtf8 (xs ++ ys) → (chars (xs ++ ys) ≡ xs ++ chars ys) × IsUtf8 ys
+ascii-run [] ys all w = (refl, w)
+ascii-run (x ∷ xs) ys all w =
+    let first = ascii-first Utf8 x (xs ++ ys) (plain x (All-head (λ b. stops b ≡ false) x xs all)).ascii w in
+    let more = ascii-run xs ys (All-tail (λ b. stops b ≡ false) x xs all) first.well in
+    (first.characters ∙ ap (λ v. x ∷ v) more.0, more.1)
+
+-- A search found where a run stops.
+module _ (rest : List ℕ) (n : ℕ) (w : IsUtf8 rest) (found : IsFirstByte stops rest (Some n)) where
+  clear : All (λ b. stops b ≡ false) (take n rest)
+  clear = All-from_get_or (λ b. stops b ≡ false) (take n rest) 0 (λ i inside.
+      let before : i < n = omega (arith, inside, length-take n rest) in
+      subst (λ v. stops v ≡ false) (sym (get_or-take n rest i 0 before)) (false_from_ne_true (stops (get_or rest i 0)) (found.0.before i (omega arith) before)))
+
+  after-run : (chars rest ≡ take n rest ++ chars (drop n rest)) × IsUtf8 (drop n rest)
+  after-run =
+      let whole = take-append-drop n rest in
+      let run = ascii-run (take n rest) (drop n rest) clear (subst IsUtf8 (sym whole) w) in
+      (ap chars (sym whole) ∙ run.0, run.1)
+
+  pub others-well : (others : List ℕ) → others ≡ drop n rest → IsUtf8 others
+  others-well others is = subst IsUtf8 (sym is) after-run.1
+
+  -- What stops it isn't free.
+  stop-other : (spelt : Spelt) → IsFirst Utf8 (drop n rest) spelt → is_free spelt.character ≡ false
+  stop-other spelt h = false_from_ne_true (is_free spelt.character) (λ free.
+      let clear = free-plain spelt.character free in
+      let back = ascii-back Utf8 (drop n rest) spelt.character _ after-run.1 h.characters (plain spelt.character clear).ascii in
+      let at : n ≡ n + 0 = omega arith in
+      let own : get_or rest n 0 ≡ spelt.character = ap (λ k. get_or rest k 0) at ∙ sym (get_or-drop n rest 0 0) ∙ ap (λ v. get_or v 0 0) back.1 in
+      let both : true ≡ false = sym found.1 ∙ ap stops own ∙ clear in
+      cc both)
+
+  -- A run and the character after it are printed.
+  pub run-and-stop : (e : Encoding) (only : Bool) (before text line more run others new : List ℕ) (spelt : Spelt) → IsPrintedTo e only before text rest line
+      → run ≡ take n rest → others ≡ drop n rest → more ≡ line ++ run → IsFirst Utf8 others spelt
+      → new ≡ more ++ encoded_text e (printed_character e only in_key_or_value spelt.character)
+      → IsPrintedTo e only before text (drop spelt.length others) new
+  run-and-stop e only before text line more run others new spelt held run_is others_is extended first put =
+      let stop = subst (λ v. IsFirst Utf8 v spelt) others_is first in
+      let c = spelt.character in
+      let cs = chars (drop spelt.length (drop n rest)) in
+      let character = encoded_text e (printed_character e only in_key_or_value c) in
+      let after = encoded_text e (printed_rest e only cs) in
+      record {
+        utf8 = first.well;
+        printed =
+            held.printed
+            ∙ ap (λ v. line ++ encoded_text e (printed_rest e only v)) (after-run.0 ∙ ap (λ v. take n rest ++ v) stop.characters)
+            ∙ ap (λ v. line ++ v) (run-before e only (take n rest) (c ∷ cs) clear (λ none. cc none))
+            ∙ ap (λ v. line ++ (take n rest ++ v)) (stop-before e only c cs (stop-other spelt stop))
+            ∙ sym (append_assoc line (take n rest) (character ++ after))
+            ∙ sym (append_assoc (line ++ take n rest) character after)
+            ∙ ap (λ v. (v ++ character) ++ after) (ap (λ v. line ++ v) (sym run_is) ∙ sym extended)
+            ∙ ap (λ v. v ++ after) (sym put)
+            ∙ ap (λ v. new ++ encoded_text e (printed_rest e only (chars (drop spelt.length v)))) (sym others_is);
+      }
+
+-- What is left is the last run.
+pub all-printed : (e : Encoding) (only : Bool) (before text rest line new : List ℕ) → IsPrintedTo e only before text rest line → IsFirstByte stops rest None
+    → new ≡ line ++ last_run rest → new ≡ before ++ encoded_text e (printed_rest e only text)
+all-printed e only before text rest line new held none put =
+    let clear : All (λ b. stops b ≡ false) rest = All-from_get_or (λ b. stops b ≡ false) rest 0 (λ i inside.
+    false_from_ne_true (stops (get_or rest i 0)) (none i (omega arith) inside)) in
+    let run = ascii-run rest [] clear (subst IsUtf8 (sym (append-nil rest)) held.utf8) in
+    let own = ap chars (sym (append-nil rest)) ∙ run.0 ∙ ap (λ v. rest ++ v) chars-nil ∙ append-nil rest in
+    put
+    ∙ ap (λ v. line ++ v) (sym (run-last e only rest clear))
+    ∙ ap (λ v. line ++ encoded_text e (printed_rest e only v)) (sym own)
+    ∙ sym held.printed

@@ -1,42 +1,31 @@
-use Rattle.std.proofs.Common.{◌++◌, sym, ◌∙◌, ap}
-use Rattle.std.proofs.lemmas.List.{map-id}
-use Rattle.std.proofs.lemmas.Iterator.{YieldsList-from_chars}
-use Rattle.std.proofs.lemmas.Iterator.Consumers.{YieldsList-end}
+use Rattle.std.proofs.Common.{sym, subst}
+use Rattle.std.specs.Str.{chars}
 use Rattle.std.proofs.lemmas.Result.{on_ok_weaker}
-use Rattle.properties_format.specs.Printing.{encoded_text}
-use Rattle.properties_format.specs.Valued.{printed_rest}
 use Rattle.properties_text.specs.Printing.{encoding_in, only_in}
-use Rattle.properties_text.proofs.Printing.Values.{held-more, held-last, held-none}
+use Rattle.properties_text.proofs.Printing.Values.{IsPrintedTo, others-well, run-and-stop, all-printed}
+use Rattle.properties_text.proofs.TextFronts.{taken-rest}
 use Rattle.properties_text.proofs.print.print_rest_of_value.Goals as goal
 
-pub loop-character-preserved : goal.loop-character-preserved
-loop-character-preserved c =
-    held-more (encoding_in c.args.repertoire) (only_in c.args.repertoire) c.args.line.now c.loop-character.yielded c.loop-character.line c.print_held.new.line c.loop-character.held
-    c.in-Some.character
-    c.loop-character.invariant c.in_ok-print_held.ensures
+pub first_character-stop-requires-clause-well : goal.first_character-stop-requires-clause-well
+first_character-stop-requires-clause-well c =
+    others-well c.loop-plain.rest.now c.in-Some.plain c.loop-plain.invariant.utf8 c.in-Some.ensures c.split_at.result.1.now c.split_at.ensures.back
 
-pub returns-in-Some-held : goal.returns-in-Some-held
-returns-in-Some-held c =
+pub loop-plain-preserved : goal.loop-plain-preserved
+loop-plain-preserved c =
     let e = encoding_in c.args.repertoire in
     let only = only_in c.args.repertoire in
-    let loop = c.loop-character in
-    let yields = YieldsList-from_chars c.args.rest.now c.utf8.rest cc in
-    let last = YieldsList-end yields loop.yielded _ loop.yielded_by _ _ c.in-None.is c.next.ensures.steps in
-    let all = sym (map-id loop.yielded) ∙ last.0 in
-    let held = rw c.in-Some-held.is at loop.invariant in
-    on_ok_weaker c.print_last_of_value.result
-    (λ h.
-    held-last e only c.args.line.now loop.yielded loop.line c.print_last_of_value.new.line c.in-Some-held.last held h
-    ∙ ap (λ v. c.args.line.now ++ encoded_text e (printed_rest e only v)) all)
-    c.print_last_of_value.ensures
+    let text = chars c.args.text.now in
+    let others = c.split_at.result.1.now in
+    let spelt = c.first_character-stop.result in
+    subst (λ v. IsPrintedTo e only c.args.line.now text v c.print_in_key_or_value.new.line) (sym (taken-rest spelt.length others))
+    (run-and-stop c.loop-plain.rest.now c.in-Some.plain c.loop-plain.invariant.utf8 c.in-Some.ensures e only c.args.line.now text c.loop-plain.line
+    c.extend.new.self c.split_at.result.0.now others c.print_in_key_or_value.new.line spelt
+    c.loop-plain.invariant c.split_at.ensures.front c.split_at.ensures.back c.in_ok-extend.ensures.appended c.first_character-stop.ensures
+    c.in_ok-print_in_key_or_value.ensures)
 
-pub returns-in-None-held : goal.returns-in-None-held
-returns-in-None-held c =
-    let e = encoding_in c.args.repertoire in
-    let only = only_in c.args.repertoire in
-    let loop = c.loop-character in
-    let yields = YieldsList-from_chars c.args.rest.now c.utf8.rest cc in
-    let last = YieldsList-end yields loop.yielded _ loop.yielded_by _ _ c.in-None.is c.next.ensures.steps in
-    let all = sym (map-id loop.yielded) ∙ last.0 in
-    let held = rw c.in-None-held.is at loop.invariant in
-    held-none e only c.args.line.now loop.yielded loop.line held ∙ ap (λ v. c.args.line.now ++ encoded_text e (printed_rest e only v)) all
+pub returns : goal.returns
+returns c =
+    on_ok_weaker c.print_last_run.result
+    (λ h. all-printed (encoding_in c.args.repertoire) (only_in c.args.repertoire) c.args.line.now (chars c.args.text.now) c.loop-plain.rest.now c.loop-plain.line
+    c.print_last_run.new.line c.loop-plain.invariant c.in_default.ensures h)
+    c.print_last_run.ensures
