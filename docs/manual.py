@@ -17,6 +17,7 @@ PLACEHOLDER = re.compile(r"\b(FILE|KEY|VALUE|NAME|PREFIX|ENCODING|OPTION)\b")
 CODE = re.compile("(`[^`]+`)")
 TERM = re.compile("- ((?:`[^`]+`)(?:, `[^`]+`)*): (.*)")
 SENTENCE_END = re.compile(r"(?<=[\w)`]\.) (?=[A-Z`])")
+SHORT = 40
 SPECIAL = {"\\": r"\(rs", "~": r"\(ti", "^": r"\(ha", "`": r"\(ga"}
 
 
@@ -36,7 +37,9 @@ def inline(text):
     out = ""
     for part in CODE.split(text):
         if CODE.fullmatch(part):
-            out += r"\fB" + with_placeholders(part[1:-1], "B", True) + r"\fR"
+            typed = with_placeholders(part[1:-1], "B", True)
+            # A blank of short code neither ends a line nor is stretched.
+            out += r"\fB" + (typed.replace(" ", r"\ ") if len(part) <= SHORT else typed) + r"\fR"
         else:
             page = re.sub(r"\b(prop\w+)\((\d)\)", "\0\\1\1(\\2)", part)
             out += with_placeholders(page, "R", False).replace("\0", r"\fB").replace("\1", r"\fR")
@@ -87,6 +90,8 @@ def manual(page, name):
     version, date = re.search(r"^## (\d+\.\d+\.\d+), (\S+)$", (TOP / "CHANGELOG.md").read_text(), re.M).groups()
     out = [rf'.\" Made by docs/manual.py from docs/{page}.']
     out.append(f'.TH {name.upper()} 1 {date} "Todrenval {version}" "User Commands"')
+    # Lines aren't stretched to the right margin, and no word is divided: that would change what code looks like.
+    out += [".ad l", ".nh"]
     section = ""
     for lines in blocks(text[text.index("\n## ") :]):
         body = " ".join(line.strip() for line in lines)

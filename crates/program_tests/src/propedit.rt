@@ -466,7 +466,7 @@ const OTHER_WORDS: &[Refusal] = &[
     ),
     (
         &["-f", "x", "check", "y"],
-        "error: the argument '--file <FILE>' cannot be used with 'check'",
+        "error: the argument '--file <FILE>' cannot be used with 'check <FILE>...'",
     ),
     (
         &["-d", "x", "list"],

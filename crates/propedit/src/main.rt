@@ -1,4 +1,4 @@
-//! Prints, checks and edits the keys of a properties file.
+//! Reads, checks and edits the keys of a properties file.
 #![tactic(auto)]
 
 use counted_io::{Counted, CountedWrite};

@@ -15,7 +15,7 @@ const STATUS: &str =
 /// Returns the command that parses the words after the program's name.
 pub fn command_line<'a>(alloc: Global) -> Result<Command<'a>, AllocError> {
     with_options(alloc, Command::new(alloc, "propedit"))?
-        .about("Prints, checks and edits the keys of Java properties files")
+        .about("Reads, checks and edits the keys of Java properties files")
         .after_help(STATUS)
         .version(VERSION)
         .no_binary_name(true)
@@ -63,7 +63,7 @@ fn create<'a>(alloc: Global) -> Result<Arg<'a>, AllocError> {
     Arg::new(alloc, "create")
         .long("create")
         .action(ArgAction::SetTrue)
-        .help("Makes the FILE of -i where it is missing")
+        .help("Makes the FILE of -i if it is missing")
         .requires_arg("in-place")
 }
 
@@ -81,7 +81,7 @@ fn default<'a>(alloc: Global) -> Arg<'a> {
         .long("default")
         .value_name("VALUE")
         .allow_hyphen_values(true)
-        .help("What get prints where there is no KEY, with status 0")
+        .help("What get prints if no pair has KEY, with status 0")
 }
 
 fn null<'a>(alloc: Global) -> Arg<'a> {

@@ -71,7 +71,10 @@ impl<'a> Options<'a> {
 
     /// Fails if a file to read is given, for a check of files that are named after it.
     pub fn refuse_file(&self) -> Result<(), Mistake<'a>> {
-        self.refuse(self.file.is_some(), "--file <FILE>")
+        if self.file.is_some() {
+            return Err(Mistake::NotWith("--file <FILE>", "check <FILE>..."));
+        }
+        Ok(())
     }
 
     /// Fails if a default is given, for commands that print no value.
