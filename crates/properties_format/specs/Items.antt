@@ -50,7 +50,7 @@ pub record BreaksValue (x : List ℕ) (kind : Malformed) : Type 0 where
   pub key_means : Means raw_key key
   pub breaks : Breaks raw_value kind
 
--- The outcome of a logical line. A blank line has none. Any other line has its texts with their escapes resolved,
+-- The outcome of a logical line. A blank line is ignored. Any other line has its texts with their escapes resolved,
 -- unless an escape is malformed; the key is tested before the value.
 abbrev pub IsOutcome : List ℕ → Outcome → Type 0
 IsOutcome x ignored = IsSplit x Logical.blank

@@ -14,7 +14,7 @@ use std::alloc::Global;
 
 /// Why a reading ended early, and the items before the error.
 ///
-/// If memory ran out, they are the first items of the input, up to that point.
+/// If memory or line numbers ran out, they are the input's first items, but the contract doesn't say how many.
 #[derive(Debug, Drop)]
 pub struct Stopped {
     /// The items before the error.
