@@ -1,11 +1,10 @@
 -- Fronts of bytes that are valid text without being decoded.
-use Rattle.std.proofs.Common.{◌≡◌, ◌↔◌, ◌≤◌, ℕ, true, List, [], ◌∷◌, ◌++◌, length, take, drop, ◌-◌, length-drop, refl, sym, ap, ◌∙◌, append-nil, append_assoc}
+use Rattle.std.proofs.Common.{◌≡◌, ◌↔◌, ◌≤◌, ℕ, true, List, [], ◌∷◌, ◌++◌, length, drop, refl, sym, ap, ◌∙◌, append-nil, append_assoc}
 use Rattle.std.specs.Prelude.{Result, Ok, Err, MatchResult, OnErr, IsSome}
 use Rattle.std.specs.Result.{result_ok}
 use Rattle.std.specs.Str.{IsUtf8, chars}
 use Rattle.std.proofs.Math.Utf8.{scalar as is_scalar}
 use Rattle.std.specs.Char.{IsScalar, encode_utf8}
-use Rattle.std.proofs.Math.Seq.{take-length}
 use Rattle.std.proofs.lemmas.Bool.{and_from}
 use Rattle.std.proofs.lemmas.List.{nil_from_length}
 use Rattle.std.proofs.lemmas.Str.{chars-append, chars-encodes}
@@ -80,7 +79,3 @@ decoded-one e old new all b d c n u s h joins k l =
     ∙ append_assoc (chars old) (c ∷ []) (characters (pieces_of e (drop n (b ∷ d))))
     ∙ ap (λ v. chars old ++ v) (sym step)
     ∙ joins
-
--- the bytes from an index to the end
-pub taken-rest : (n : ℕ) (d : List ℕ) → take (length d - n) (drop n d) ≡ drop n d
-taken-rest n d = ap (λ v. take v (drop n d)) (sym (length-drop n d)) ∙ take-length (drop n d)

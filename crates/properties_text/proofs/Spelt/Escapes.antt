@@ -8,10 +8,8 @@ use Rattle.std.proofs.lemmas.Bool.{cases_lt, cond-false, and_parts, false_from_n
 use Rattle.std.proofs.lemmas.Str.{encodes-chars, chars-nil}
 use Rattle.std.proofs.lemmas.List.{get_or-drop, drop-drop, length-drop}
 use Rattle.properties_format.specs.Text.{backslash}
-use Rattle.properties_format.specs.Windows1252.{windows_1252_character}
 use Rattle.properties_format.specs.Escapes.{letter_u, escaped, unicode, surrogates, last, spelling_text, NoSpelling, are_hexadecimal, code_unit, is_high, is_low, is_surrogate, pair_character, escaped_character, breaks, Four, four_text}
 use Rattle.properties_format.specs.Computed.Escapes.{in_front, with_low, meaning_of}
-use Rattle.properties_format.proofs.Encodings.Windows1252.{windows_1252-ascii}
 use Rattle.properties_format.proofs.Escapes.Laws.{IsMalformedUnit}
 use Rattle.properties_format.proofs.Escapes.Unique.{meaning_of-spelling}
 use Rattle.properties_text.specs.Escaping.{malformed_in}
@@ -23,7 +21,7 @@ use Rattle.properties_text.specs.declared.escape.Malformed.{Malformed}
 use Rattle.properties_text.specs.declared.escape.Malformed.TheVariants.{NotEnoughDigits, NotHex, InvalidCharacter}
 use Rattle.properties_text.proofs.Texts.Escapes.{IsUnit, IsUnread, malformed-unread, malformed-unpaired, scalar-unit, surrogate-unit, other-character}
 use Rattle.properties_text.proofs.Texts.Units.{ascii-digits, unit-bytes}
-use Rattle.properties_text.proofs.Spelt.First.{ascii-first, ascii-back}
+use Rattle.properties_text.proofs.Spelt.First.{own-byte, ascii-first, ascii-back}
 
 -- ---- a backslash, and bytes after it
 
@@ -40,21 +38,16 @@ after-one e (b ∷ bs) w s h = let a = ascii-first e b bs h w in record { charac
 -- Two of them.
 pub after-two : (e : LineEncoding) (bs : List ℕ) → IsWell e bs → 2 ≤ length bs → get_or bs 0 0 < 128 → get_or bs 1 0 < 128
     → IsAfter e bs (get_or bs 0 0 ∷ get_or bs 1 0 ∷ []) 2
-after-two e [] w s h k = absurd (omega arith)
-after-two e (b ∷ []) w s h k = absurd (omega arith)
 after-two e (b ∷ c ∷ bs) w s h k =
     let one = ascii-first e b (c ∷ bs) h w in
     let two = ascii-first e c bs k one.well in
     record { characters = one.characters ∙ ap (λ v. b ∷ v) two.characters; well = two.well }
+after-two e bs w s h k = absurd (omega arith)
 
 -- Four of them.
 pub after-four : (e : LineEncoding) (bs : List ℕ) → IsWell e bs → 4 ≤ length bs → get_or bs 0 0 < 128 → get_or bs 1 0 < 128 → get_or bs 2 0 < 128
     → get_or bs 3 0 < 128
     → IsAfter e bs (get_or bs 0 0 ∷ get_or bs 1 0 ∷ get_or bs 2 0 ∷ get_or bs 3 0 ∷ []) 4
-after-four e [] w s k l m n = absurd (omega arith)
-after-four e (a ∷ []) w s k l m n = absurd (omega arith)
-after-four e (a ∷ b ∷ []) w s k l m n = absurd (omega arith)
-after-four e (a ∷ b ∷ c ∷ []) w s k l m n = absurd (omega arith)
 after-four e (a ∷ b ∷ c ∷ d ∷ rest) w s k l m n =
     let one = ascii-first e a (b ∷ c ∷ d ∷ rest) k w in
     let two = ascii-first e b (c ∷ d ∷ rest) l one.well in
@@ -64,6 +57,7 @@ after-four e (a ∷ b ∷ c ∷ d ∷ rest) w s k l m n =
       characters = one.characters ∙ ap (λ v. a ∷ v) (two.characters ∙ ap (λ v. b ∷ v) (three.characters ∙ ap (λ v. c ∷ v) four.characters));
       well = four.well;
     }
+after-four e bs w s k l m n = absurd (omega arith)
 
 -- `\u` at the front.
 pub after-u : (e : LineEncoding) (bs : List ℕ) → IsWell e bs → BeginsUnit bs → IsAfter e bs (backslash ∷ letter_u ∷ []) 2
@@ -99,27 +93,19 @@ digits-back : (e : LineEncoding) (bs : List ℕ) (d : Four) (rest : List ℕ) �
     → (more : List ℕ) × (bs ≡ four_text d ++ more)
 digits-back Utf8 bs d rest w s h =
     (encodes rest, sym (encodes-chars bs w) ∙ unit-bytes (chars bs) rest (code_unit d) record { digits = d; whole = s; hexadecimal = h; writes = refl })
-digits-back Windows1252 [] d rest w s h = absurd (cc)
-digits-back Windows1252 (k ∷ []) d rest w s h = absurd (cc)
-digits-back Windows1252 (k ∷ l ∷ []) d rest w s h = absurd (cc)
-digits-back Windows1252 (k ∷ l ∷ m ∷ []) d rest w s h = absurd (cc)
 digits-back Windows1252 (k ∷ l ∷ m ∷ n ∷ more) d rest w s h =
     let a = ascii-digits d h in
-    let p : windows_1252_character k ≡ d.first = cc in
-    let q : windows_1252_character l ≡ d.second = cc in
-    let r : windows_1252_character m ≡ d.third = cc in
-    let t : windows_1252_character n ≡ d.fourth = cc in
-    let k' : k ≡ d.first = windows_1252-ascii k (omega (arith, p, a.0)) ∙ p in
-    let l' : l ≡ d.second = windows_1252-ascii l (omega (arith, q, a.1)) ∙ q in
-    let m' : m ≡ d.third = windows_1252-ascii m (omega (arith, r, a.2)) ∙ r in
-    let n' : n ≡ d.fourth = windows_1252-ascii n (omega (arith, t, a.3)) ∙ t in
+    let k' = own-byte k d.first (cc) a.0 in
+    let l' = own-byte l d.second (cc) a.1 in
+    let m' = own-byte m d.third (cc) a.2 in
+    let n' = own-byte n d.fourth (cc) a.3 in
     (more, ap₂ (λ x y. x ∷ y ∷ m ∷ n ∷ more) k' l' ∙ ap₂ (λ x y. d.first ∷ d.second ∷ x ∷ y ∷ more) m' n')
+digits-back Windows1252 bs d rest w s h = absurd (cc)
 
 -- the four bytes after two, if they are at the front of what is left
 digits-at : (bs more : List ℕ) (d : Four) → drop 2 bs ≡ four_text d ++ more → (6 ≤ length bs) × (digits_in bs ≡ d)
-digits-at [] more d e = absurd (cc)
-digits-at (x ∷ []) more d e = absurd (cc)
 digits-at (x ∷ y ∷ bs) more d e = (omega (arith, ap length e), ap (λ v. record { first = get_or v 0 0; second = get_or v 1 0; third = get_or v 2 0; fourth = get_or v 3 0 }) e)
+digits-at bs more d e = absurd (cc)
 
 -- ---- what isn't an escape
 
@@ -134,11 +120,8 @@ lacking e bs d rest w l s h =
 
 -- The first four characters of a text.
 four-of : (x : List ℕ) → 4 ≤ length x → (d : Four) × (rest : List ℕ) × (x ≡ four_text d ++ rest)
-four-of [] h = absurd (omega arith)
-four-of (a ∷ []) h = absurd (omega arith)
-four-of (a ∷ b ∷ []) h = absurd (omega arith)
-four-of (a ∷ b ∷ c ∷ []) h = absurd (omega arith)
 four-of (a ∷ b ∷ c ∷ d ∷ rest) h = (record { first = a; second = b; third = c; fourth = d }, rest, refl)
+four-of x h = absurd (omega arith)
 
 -- Why there are no four digits, by the characters.
 unread : (e : LineEncoding) (bs : List ℕ) (m : Malformed) → IsWell e (drop 2 bs) → LacksDigits bs → CountsFour e (drop 2 bs) m

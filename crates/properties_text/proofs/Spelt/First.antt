@@ -7,7 +7,7 @@ use lib.Utf8.{encode, encodes, scalars, scalar}
 use Rattle.std.specs.Char.{IsScalar, InScalarRange}
 use Rattle.std.specs.Str.{IsUtf8, chars}
 use Rattle.std.proofs.lemmas.Bool.{cases_lt, and_parts}
-use Rattle.std.proofs.lemmas.Str.{encodes-chars}
+use Rattle.std.proofs.lemmas.Str.{encodes-chars, length-encode, len_utf8_bounds}
 use Rattle.std.proofs.lemmas.List.{length-append}
 use Rattle.properties_format.specs.Text.{scalar as is_scalar}
 use Rattle.properties_format.specs.Utf8.{sequence_character}
@@ -37,19 +37,6 @@ length-of c rest s = elim (cases_lt c 0x80) [
   ]
 ]
 
--- A character has a byte.
-some-bytes : (c : ℕ) → 0 < length (encode c)
-some-bytes c = elim (cases_lt c 0x80) [
-  | inl h ↦ rw (encode-one c h) (omega arith)
-  | inr l ↦ elim (cases_lt c 0x800) [
-    | inl h ↦ rw (encode-two c l h) (omega arith)
-    | inr m ↦ elim (cases_lt c 0x1_0000) [
-      | inl h ↦ rw (encode-three c m h) (omega arith)
-      | inr n ↦ rw (encode-four c n) (omega arith)
-    ]
-  ]
-]
-
 -- The first byte and the others of a front.
 bytes-of : (xs rest : List ℕ) → 0 < length xs → get_or (xs ++ rest) 0 0 ∷ take (length xs - 1) (drop 1 (xs ++ rest)) ≡ xs
 bytes-of [] rest h = absurd (omega arith)
@@ -74,15 +61,16 @@ below-all c (inr h) = h.1
 begins : (bs rest : List ℕ) (c n : ℕ) → IsUtf8 bs → IsScalar c → bs ≡ encode c ++ rest → n ≡ length_by_first (get_or bs 0 0) → IsSequence bs n
 begins bs rest c n u s e is =
     let below : c < 0x11_0000 = below-all c (scalar-from_char c s) in
+    let some : 0 < length (encode c) = omega (arith, length-encode c, len_utf8_bounds c) in
     let size : n ≡ length (encode c) = is ∙ ap (λ v. length_by_first (get_or v 0 0)) e ∙ length-of c rest below in
     let code : sequence_character (get_or bs 0 0 ∷ take (n - 1) (drop 1 bs)) ≡ c =
     ap₂ (λ v m. sequence_character (get_or v 0 0 ∷ take (m - 1) (drop 1 v))) e size
-    ∙ ap sequence_character (bytes-of (encode c) rest (some-bytes c))
+    ∙ ap sequence_character (bytes-of (encode c) rest some)
     ∙ sym (encode-is_sequence c (scalar-from_char c s)).1 in
     let left : drop n bs ≡ rest = ap₂ drop size e ∙ drop-append_seam (encode c) rest in
     let a = character_and bs rest c u e in
     record {
-      some = omega (arith, size, some-bytes c);
+      some = omega (arith, size, some);
       within = omega (arith, size, ap length e, length-append (encode c) rest);
       scalar = subst IsScalar (sym code) s;
       characters = a.characters ∙ ap₂ (λ x v. x ∷ chars v) (sym code) (sym left);
@@ -118,6 +106,10 @@ is-first bs spelt h is = record {
 
 -- ---- ASCII, in either
 
+-- A byte is the ASCII character that it is in windows-1252.
+pub own-byte : (b c : ℕ) → windows_1252_character b ≡ c → c < 128 → b ≡ c
+own-byte b c e h = windows_1252-ascii b (omega (arith, e, h)) ∙ e
+
 -- The first byte is a character.
 pub record IsAsciiAnd (e : LineEncoding) (b : ℕ) (rest : List ℕ) : Type 0 where
   pub characters : text_in e (b ∷ rest) ≡ b ∷ text_in e rest
@@ -131,7 +123,5 @@ ascii-first Utf8 b rest h w = let a = first_ascii b rest h w in record { charact
 -- If the first character is ASCII, it is the first byte.
 pub ascii-back : (e : LineEncoding) (bs : List ℕ) (c : ℕ) (rest : List ℕ) → IsWell e bs → text_in e bs ≡ c ∷ rest → c < 128 → (more : List ℕ) × (bs ≡ c ∷ more)
 ascii-back Windows1252 [] c rest w e h = absurd (cc)
-ascii-back Windows1252 (b ∷ bs) c rest w e h =
-    let is : windows_1252_character b ≡ c = cc in
-    (bs, ap (λ x. x ∷ bs) (windows_1252-ascii b (omega (arith, is, h)) ∙ is))
+ascii-back Windows1252 (b ∷ bs) c rest w e h = (bs, ap (λ x. x ∷ bs) (own-byte b c (cc) h))
 ascii-back Utf8 bs c rest w e h = (encodes rest, sym (encodes-chars bs w) ∙ ap encodes e ∙ ap (λ v. v ++ encodes rest) (encode-one c h))

@@ -1,13 +1,13 @@
 -- The number of backslashes at the end of a text, counted on its bytes.
 use Rattle.std.proofs.Common.{◌≡◌, ℕ, ◌<◌, ◌≤◌, ◌+◌, ◌-◌, ◌==◌, false, List, [], ◌∷◌, ◌++◌, length, take, get_or, refl, ap, sym, ◌∙◌, append_assoc, arith}
-use lib.Utf8.{encode, encodes}
+use lib.Utf8.{encodes}
 use Rattle.std.specs.Str.{IsUtf8, chars}
 use Rattle.std.proofs.lemmas.Str.{encodes-chars}
 use Rattle.properties_format.specs.Text.{backslash}
 use Rattle.properties_format.specs.Groups.{ending_backslashes}
 use Rattle.properties_format.proofs.Groups.Open.{ending_backslashes-none, ending_backslashes-after}
 use Rattle.properties_text.proofs.Scanning.{take-last}
-use Rattle.properties_text.proofs.Texts.Characters.{AreWide, IsEncoded, one, wide, encoded, wide-no_backslash}
+use Rattle.properties_text.proofs.Texts.Characters.{AreWide, one, wide, encoded, wide-no_backslash}
 
 -- ---- in bytes and in characters
 
@@ -15,25 +15,20 @@ ending-wide : (bs rest : List ℕ) → AreWide bs → ending_backslashes (bs ++ 
 ending-wide [] rest w = refl
 ending-wide (b ∷ bs) rest w = ending_backslashes-after [] b (bs ++ rest) (wide-no_backslash b w.0) ∙ ending-wide bs rest w.1
 
-ending-front : (front : List ℕ) (c : ℕ) (cs bytes : List ℕ) → IsEncoded c bytes
-    → ((x : List ℕ) → ending_backslashes (x ++ encodes cs) ≡ ending_backslashes (x ++ cs))
-    → ending_backslashes (front ++ (bytes ++ encodes cs)) ≡ ending_backslashes (front ++ c ∷ cs)
-ending-front front c cs bytes (one e) ih =
-    ap (λ v. ending_backslashes (front ++ (v ++ encodes cs))) e
-    ∙ ap ending_backslashes (sym (append_assoc front (c ∷ []) (encodes cs)))
-    ∙ ih (front ++ c ∷ [])
-    ∙ ap ending_backslashes (append_assoc front (c ∷ []) cs)
-ending-front front c cs bytes (wide h b bs e l k) ih =
-    ap (λ v. ending_backslashes (front ++ (v ++ encodes cs))) e
-    ∙ ending_backslashes-after front b (bs ++ encodes cs) (wide-no_backslash b l)
-    ∙ ending-wide bs (encodes cs) k
-    ∙ ih []
-    ∙ sym (ending_backslashes-after front c cs (wide-no_backslash c h))
-
 -- A text ends in as many backslashes in bytes as in characters, whatever comes before it.
 ending-encodes : (cs front : List ℕ) → ending_backslashes (front ++ encodes cs) ≡ ending_backslashes (front ++ cs)
 ending-encodes [] front = refl
-ending-encodes (c ∷ cs) front = ending-front front c cs (encode c) (encoded c) (ending-encodes cs)
+ending-encodes (c ∷ cs) front = elim (encoded c) [
+  | one s e ↦ rw e (
+      ap ending_backslashes (sym (append_assoc front (c ∷ []) (encodes cs)))
+      ∙ ending-encodes cs (front ++ c ∷ [])
+      ∙ ap ending_backslashes (append_assoc front (c ∷ []) cs))
+  | wide h b bs e l k m ↦ rw e (
+      ending_backslashes-after front b (bs ++ encodes cs) (wide-no_backslash b l)
+      ∙ ending-wide bs (encodes cs) k
+      ∙ ending-encodes cs []
+      ∙ sym (ending_backslashes-after front c cs (wide-no_backslash c h)))
+]
 
 pub ending_backslashes-encodes : (cs : List ℕ) → ending_backslashes (encodes cs) ≡ ending_backslashes cs
 ending_backslashes-encodes cs = ending-encodes cs []

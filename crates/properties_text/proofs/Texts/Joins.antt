@@ -6,10 +6,10 @@ use lib.Utf8.{encode, encodes, scalars}
 use Rattle.std.specs.Str.{IsUtf8, IsCharBoundary, chars}
 use Rattle.std.proofs.lemmas.Str.{encodes-chars, encodes-append, IsCharBoundary-from_take}
 use Rattle.std.proofs.lemmas.Bool.{cases_Bool}
-use Rattle.properties_format.specs.Text.{backslash, is_comment_sign, without_leading_blanks}
+use Rattle.properties_format.specs.Text.{backslash, without_leading_blanks}
 use Rattle.properties_format.specs.Groups.{is_open, begins_with_comment_sign, is_comment_line, without_last, without_open_backslash}
 use Rattle.properties_format.proofs.Groups.Open.{open-ends, without_last-push}
-use Rattle.properties_text.proofs.Texts.Characters.{IsEncoded, one, wide, encoded, wide-no_comment_sign, scalars-parts, IsPart, part_by}
+use Rattle.properties_text.proofs.Texts.Characters.{one, wide, encoded, wide-no_comment_sign, scalars-parts, IsPart, part_by}
 use Rattle.properties_text.proofs.Texts.Backslashes.{ending_backslashes-encodes, ending_backslashes-text}
 use Rattle.properties_text.proofs.Texts.Split.{without_leading_blanks-part}
 
@@ -18,11 +18,10 @@ use Rattle.properties_text.proofs.Texts.Split.{without_leading_blanks-part}
 -- A comment sign comes first in bytes exactly if it does in characters.
 comment_line-encodes : (cs : List ℕ) → begins_with_comment_sign (encodes cs) ≡ begins_with_comment_sign cs
 comment_line-encodes [] = refl
-comment_line-encodes (c ∷ cs) = go (encode c) (encoded c)
-  where
-    go : (bytes : List ℕ) → IsEncoded c bytes → begins_with_comment_sign (bytes ++ encodes cs) ≡ is_comment_sign c
-    go bytes (one e) = rw e refl
-    go bytes (wide l b bs e k w) = rw (e, wide-no_comment_sign b k, wide-no_comment_sign c l) refl
+comment_line-encodes (c ∷ cs) = elim (encoded c) [
+  | one s e ↦ rw e refl
+  | wide l b bs e k w m ↦ rw (e, wide-no_comment_sign b k, wide-no_comment_sign c l) refl
+]
 
 -- A comment line is one in bytes exactly if it is one in characters.
 pub is_comment_line-text : (bs : List ℕ) → IsUtf8 bs → is_comment_line (chars bs) ≡ is_comment_line bs

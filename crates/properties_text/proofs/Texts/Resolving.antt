@@ -2,7 +2,7 @@
 use Rattle.std.proofs.Common.{◌≡◌, ℕ, suc, ◌<◌, ◌+◌, ◌-◌, ◌==◌, ◌||◌, true, false, List, [], ◌∷◌, ◌++◌, length, take, drop, get_or, refl, ap, sym, ◌∙◌, subst, inl, inr, append_assoc, append-nil, arith}
 use Rattle.std.specs.Prelude.{Option, Some, None, slice_range}
 use Rattle.std.specs.Option.{is_some}
-use lib.Utf8.{encode, encodes}
+use lib.Utf8.{encodes}
 use Rattle.std.specs.Str.{IsUtf8, IsCharBoundary, chars}
 use Rattle.std.proofs.lemmas.Bool.{cases_Bool, or_from, or_parts, eqb-true, false_from_ne_true}
 use Rattle.std.proofs.lemmas.List.{take-append-drop, drop_more, get_or-take, length-take-le}
@@ -17,7 +17,7 @@ use Rattle.properties_format.proofs.Escapes.Unique.{text_in_front-means, text_in
 use Rattle.properties_text.specs.Escaping.{holds_backslash, malformed_in, IsRefused}
 use Rattle.properties_text.specs.declared.escape.UnescapeError.{UnescapeError}
 use Rattle.properties_text.specs.declared.escape.UnescapeError.TheVariants as error
-use Rattle.properties_text.proofs.Texts.Characters.{AreWide, IsEncoded, one, wide, encoded, wide-no_backslash}
+use Rattle.properties_text.proofs.Texts.Characters.{AreWide, one, wide, encoded, wide-no_backslash}
 
 -- ---- where a backslash is
 
@@ -25,14 +25,12 @@ holds-wide : (bs rest : List ℕ) → AreWide bs → holds_backslash (bs ++ rest
 holds-wide [] rest w = refl
 holds-wide (b ∷ bs) rest w = rw (wide-no_backslash b w.0) (holds-wide bs rest w.1)
 
-holds-front : (c : ℕ) (cs bytes : List ℕ) → IsEncoded c bytes → holds_backslash (encodes cs) ≡ holds_backslash cs
-    → holds_backslash (bytes ++ encodes cs) ≡ holds_backslash (c ∷ cs)
-holds-front c cs bytes (one e) ih = rw e (ap (λ v. c == backslash || v) ih)
-holds-front c cs bytes (wide h b bs e l k) ih = rw (e, wide-no_backslash b l, wide-no_backslash c h) (holds-wide bs (encodes cs) k ∙ ih)
-
 holds-encodes : (cs : List ℕ) → holds_backslash (encodes cs) ≡ holds_backslash cs
 holds-encodes [] = refl
-holds-encodes (c ∷ cs) = holds-front c cs (encode c) (encoded c) (holds-encodes cs)
+holds-encodes (c ∷ cs) = elim (encoded c) [
+  | one s e ↦ rw e (ap (λ v. c == backslash || v) (holds-encodes cs))
+  | wide h b bs e l k m ↦ rw (e, wide-no_backslash b l, wide-no_backslash c h) (holds-wide bs (encodes cs) k ∙ holds-encodes cs)
+]
 
 -- A text contains a backslash in bytes exactly if it does in characters.
 pub holds_backslash-text : (bs : List ℕ) → IsUtf8 bs → holds_backslash (chars bs) ≡ holds_backslash bs
@@ -170,10 +168,10 @@ pub resolved_none : (text before : List ℕ) → IsResolvedTo text before before
 resolved_none text before = record { done = []; grown = sym (append-nil before); meaning = refl }
 
 -- Text without a backslash was appended, and escapes that were read together.
-pub resolved_many : (text before now rest front after to next cs : List ℕ) → IsResolvedTo text before now rest
+pub resolved_many : {text before now rest to next : List ℕ} (front after cs : List ℕ) → IsResolvedTo text before now rest
     → meaning_of rest ≡ text_in_front front (meaning_of after) → meaning_of after ≡ text_in_front cs (meaning_of to) → next ≡ now ++ (front ++ cs)
     → IsResolvedTo text before next to
-resolved_many text before now rest front after to next cs r e f g = record {
+resolved_many {before = before} {to = to} front after cs r e f g = record {
   done = r.done ++ (front ++ cs);
   grown = g ∙ ap (λ v. v ++ (front ++ cs)) r.grown ∙ append_assoc before r.done (front ++ cs);
   meaning = r.meaning
@@ -182,19 +180,19 @@ resolved_many text before now rest front after to next cs r e f g = record {
 }
 
 -- The rest of the text was appended.
-pub resolved_end : (text before now rest next : List ℕ) → IsResolvedTo text before now rest → meaning_of rest ≡ means rest → next ≡ now ++ rest
+pub resolved_end : {text before now rest next : List ℕ} → IsResolvedTo text before now rest → meaning_of rest ≡ means rest → next ≡ now ++ rest
     → (meant : List ℕ) × (meaning_of text ≡ means meant) × (next ≡ before ++ meant)
-resolved_end text before now rest next r e g = (
+resolved_end {before = before} {rest = rest} r e g = (
   r.done ++ rest,
   r.meaning ∙ ap (text_in_front r.done) e ∙ text_in_front-means r.done rest,
   g ∙ ap (λ v. v ++ rest) r.grown ∙ append_assoc before r.done rest,
 )
 
 -- A malformed escape was read.
-pub resolved_broken : (text before now rest front after : List ℕ) (kind : Malformed) → IsResolvedTo text before now rest
-    → meaning_of rest ≡ text_in_front front (meaning_of after) → meaning_of after ≡ breaks kind → Breaks text kind
-resolved_broken text before now rest front after kind r e f = broken text kind (
-    r.meaning ∙ ap (text_in_front r.done) (e ∙ ap (text_in_front front) f ∙ text_in_front-breaks front kind) ∙ text_in_front-breaks r.done kind)
+pub resolved_broken : {text before now rest : List ℕ} (front after : List ℕ) (kind : Malformed) → IsResolvedTo text before now rest
+    → meaning_of rest ≡ text_in_front front (meaning_of after) → meaning_of after ≡ breaks kind → meaning_of text ≡ breaks kind
+resolved_broken front after kind r e f =
+    r.meaning ∙ ap (text_in_front r.done) (e ∙ ap (text_in_front front) f ∙ text_in_front-breaks front kind) ∙ text_in_front-breaks r.done kind
 
 -- ---- the text before the first escape
 

@@ -1,14 +1,14 @@
 use Rattle.std.proofs.Common.{◌≡◌, ◌∷◌, ◌∙◌, ◌≤◌, ◌+◌, refl, ◌++◌, ap, sym, subst, arith, take, drop, get_or, length}
 use Rattle.std.specs.Char.{encode_utf8}
 use Rattle.std.specs.Str.{IsUtf8, chars}
-use Rattle.std.proofs.lemmas.List.{drop_more, length-drop, take-take, length-take-le}
+use Rattle.std.proofs.lemmas.List.{drop_more, length-drop, take-take, length-take-le, take_rest}
 use Rattle.std.proofs.lemmas.Str.{IsUtf8-append, IsUtf8-encode}
 use Rattle.properties_format.specs.Encoding.{windows_1252}
 use Rattle.properties_format.specs.Windows1252.{windows_1252_character}
 use Rattle.properties_text.specs.Decoding.{text_of}
 use Rattle.properties_text.specs.declared.encoding.Encoding.TheVariants.{WINDOWS_1252}
 use Rattle.byte_blocks.proofs.Rows.{take_past}
-use Rattle.properties_text.proofs.TextFronts.{decoded-one, taken-rest}
+use Rattle.properties_text.proofs.TextFronts.{decoded-one}
 use Rattle.properties_text.proofs.encoding.decode.decode_each.Goals as goal
 
 pub loop-left-init : goal.loop-left-init
@@ -46,7 +46,7 @@ loop-left-preserved c =
       onwards = omega (arith, held.onwards);
       end = omega (arith, held.end, text.ensures.few, c.loop-left-test.true);
       fewer = omega (arith, held.fewer);
-      rest_is = rw (taken-rest, length-drop 1 bytes) (omega (arith, held.rest_is, held.fewer, c.loop-left-test.true));
+      rest_is = rw (take_rest, length-drop 1 bytes) (omega (arith, held.rest_is, held.fewer, c.loop-left-test.true));
       is_text = subst IsUtf8 (sym written) (IsUtf8-append _ _ held.is_text (IsUtf8-encode _ text.ensures.scalar));
-      text = rw taken-rest (decoded-one windows_1252 _ _ _ first (drop 1 bytes) _ 1 held.is_text text.ensures.scalar written joins refl refl);
+      text = rw take_rest (decoded-one windows_1252 _ _ _ first (drop 1 bytes) _ 1 held.is_text text.ensures.scalar written joins refl refl);
     }

@@ -1,6 +1,6 @@
 use Rattle.std.proofs.Common.{sym, subst, arith}
+use Rattle.std.proofs.lemmas.List.{take_rest}
 use Rattle.properties_text.specs.Spelt.{IsWell, IsFirst}
-use Rattle.properties_text.proofs.TextFronts.{taken-rest}
 use Rattle.properties_text.proofs.Spelt.Escapes.{after-one, reads-end, reads-past}
 use Rattle.properties_text.proofs.escape.read.read_other.Goals as goal
 
@@ -10,11 +10,11 @@ returns-then-text-eq1 c = reads-end c.args.encoding c.args.text.now c.requires.w
 pub first_character-escaped-requires-clause-well : goal.first_character-escaped-requires-clause-well
 first_character-escaped-requires-clause-well c =
     let a = after-one c.args.encoding c.args.text.now c.requires.well c.requires.some (omega (arith, c.requires.escape)) in
-    subst (IsWell c.args.encoding) (sym (taken-rest 1 c.args.text.now)) a.well
+    subst (IsWell c.args.encoding) (sym (take_rest c.args.text.now 1)) a.well
 
 pub returns : goal.returns
 returns c =
     let two = c.if-text-eq1.false in
     let first = c.first_character-escaped in
     reads-past c.args.encoding c.args.text.now first.result c.requires.well (omega arith) c.requires.escape (c.requires.past (omega arith))
-    (subst (λ v. IsFirst c.args.encoding v first.result) (taken-rest 1 c.args.text.now) first.ensures)
+    (subst (λ v. IsFirst c.args.encoding v first.result) (take_rest c.args.text.now 1) first.ensures)
