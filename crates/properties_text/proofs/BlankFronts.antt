@@ -1,7 +1,7 @@
 -- Blanks at the front of a text.
 use Rattle.std.proofs.Common.{◌≡◌, ℕ, zero, suc, ◌+◌, ◌<◌, Bool, true, false, not, List, length, drop, get_or, refl, sym, ap, ◌∙◌, inl, inr, arith}
 use Rattle.std.specs.Prelude.{Some}
-use Rattle.std.proofs.lemmas.Bool.{cases_lt}
+use Rattle.std.proofs.lemmas.Bool.{cases_lt, not-true, not_from_false, true_from_ne_false}
 use Rattle.std.proofs.lemmas.List.{get_or_past}
 use Rattle.memchr.specs.Find.{Nowhere, Passes, IsFirstByte}
 use Rattle.properties_format.specs.Text.{is_blank, without_leading_blanks}
@@ -29,19 +29,11 @@ no-blank xs i h = elim (cases_lt i (length xs)) [
 pub past-blanks : (xs : List ℕ) (i : ℕ) → Nowhere (Passes is_no_blank xs) 0 i → without_leading_blanks (drop i xs) ≡ without_leading_blanks xs
 past-blanks xs zero none = refl
 past-blanks xs (suc i) none =
-    let blank : is_blank (get_or xs i 0) ≡ true = but (is_blank (get_or xs i 0)) (none i (omega arith) (omega arith)) in
+    let blank = true_from_ne_false (is_blank (get_or xs i 0)) (λ f. none i (omega arith) (omega arith) (not_from_false _ f)) in
     ap (λ n. without_leading_blanks (drop n xs)) (let e : suc i ≡ i + 1 = omega arith in e)
     ∙ past-blank xs i blank
     ∙ past-blanks xs i (λ k low high. none k low (omega (arith, high)))
-  where
-    but : (t : Bool) → ¬ (not t ≡ true) → t ≡ true
-    but true h = refl
-    but false h = absurd (h refl)
 
 -- Everything before the first character that isn't a blank is skipped.
 pub up-to-first : (xs : List ℕ) (i : ℕ) → IsFirstByte is_no_blank xs (Some i) → drop i xs ≡ without_leading_blanks xs
-up-to-first xs i h = sym (no-blank xs i (un (is_blank (get_or xs i 0)) h.1)) ∙ past-blanks xs i h.0.before
-  where
-    un : (t : Bool) → not t ≡ true → t ≡ false
-    un true e = absurd (cc)
-    un false e = refl
+up-to-first xs i h = sym (no-blank xs i (not-true (is_blank (get_or xs i 0)) h.1)) ∙ past-blanks xs i h.0.before

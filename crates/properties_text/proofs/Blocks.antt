@@ -23,5 +23,4 @@ found-ascii bytes None true e none = (
   λ ascii. refl,
 )
 found-ascii bytes (Some k) false e first = (λ told. absurd (cc told), λ ascii. absurd (omega (arith, ascii k, leb-true 0x80 _ first.1)))
-found-ascii bytes None false e none = absurd (cc e)
-found-ascii bytes (Some k) true e first = absurd (cc e)
+found-ascii bytes found is_none e first = absurd (cc e)

@@ -1,7 +1,7 @@
 -- Plain characters at the front of a key.
 use Rattle.std.proofs.Common.{◌≡◌, ℕ, zero, suc, ◌+◌, ◌<◌, ◌≤◌, ◌==◌, ◌||◌, true, false, List, length, take, get_or, refl, ap, subst, ◌∙◌, inl, inr, arith}
 use Rattle.std.specs.List.{All}
-use Rattle.std.proofs.lemmas.Bool.{cases_Bool, or_parts, ne_eqb, false_from_ne_true, ltb-false}
+use Rattle.std.proofs.lemmas.Bool.{not-true, or_parts, ne_eqb, false_from_ne_true, ltb-false}
 use Rattle.std.proofs.lemmas.List.{get_or-take, length-take, length-take-le}
 use Rattle.std.proofs.lemmas.List.Elements.{All-get_or, All-from_get_or}
 use Rattle.memchr.specs.Find.{Nowhere, Passes}
@@ -38,14 +38,8 @@ cut-plains xs i h all = upto i (omega arith)
     plain : (j : ℕ) → j < i → stays_in_key (get_or xs j 0) ≡ true
     plain j k = subst (λ c. stays_in_key c ≡ true) (get_or-take i xs j 0 k) (All-get_or (λ c. stays_in_key c ≡ true) (take i xs) j 0 (omega (arith, length-take-le i xs h)) all)
 
-    parts : (c : ℕ) → stays_in_key c ≡ true → ((c == backslash) ≡ false) × (ends_key c ≡ false)
-    parts c p = elim (cases_Bool (c == backslash || ends_key c)) [
-      | inl t ↦ absurd (let no : stays_in_key c ≡ false = rw t refl in cc)
-      | inr f ↦ or_parts (c == backslash) (ends_key c) f
-    ]
-
     upto : (j : ℕ) → j ≤ i → IsCutSoFar xs j false
     upto zero k = refl
     upto (suc j) k =
-        let p = parts (get_or xs j 0) (plain j (omega arith)) in
+        let p = or_parts (get_or xs j 0 == backslash) (ends_key (get_or xs j 0)) (not-true _ (plain j (omega arith))) in
         subst (λ n. IsCutSoFar xs n false) (let e : j + 1 ≡ suc j = omega arith in e) (cut-plain xs j (omega arith) p.0 p.1 (upto j (omega arith)))

@@ -16,6 +16,7 @@ use Rattle.properties_format.proofs.Encodings.Waiting.{characters-step}
 use Rattle.properties_text.specs.Decoding.{text_of}
 use Rattle.properties_text.specs.declared.encoding.Encoding.TheVariants.{WINDOWS_1252}
 use Rattle.properties_text.specs.Private.Latin1.{lead_byte, last_byte}
+use Rattle.properties_text.proofs.TextFronts.{decoded-more}
 use Rattle.byte_blocks.specs.Classes.{is_past_ascii}
 use Rattle.byte_blocks.specs.Marks.{clear_front}
 use Rattle.byte_blocks.specs.Moving.{spread}
@@ -144,12 +145,5 @@ pub decoded-front : (old new bytes all : List ℕ) (k : ℕ) → IsUtf8 old → 
     → IsUtf8 new × (chars new ++ text_of WINDOWS_1252 (drop k bytes) ≡ all)
 decoded-front old new bytes all k u are long le h e joins =
     let cs = take k (take 16 bytes) in
-    let rest = text_of WINDOWS_1252 (drop k bytes) in
-    let split : text_of WINDOWS_1252 bytes ≡ cs ++ rest = same-numbers bytes k (omega arith) h ∙ ap (λ l. l ++ rest) (sym (take-take k 16 bytes le)) in (
-      subst IsUtf8 (sym e) (IsUtf8-append old (encode_utf8_all cs) u (cs, (are, refl))),
-      ap (λ l. chars l ++ rest) e
-          ∙ ap (λ l. l ++ rest) (chars-append old (encode_utf8_all cs) u ∙ ap (λ l. chars old ++ l) (chars-encodes cs are))
-          ∙ append_assoc (chars old) cs rest
-          ∙ ap (λ l. chars old ++ l) (sym split)
-          ∙ joins,
-    )
+    let split : text_of WINDOWS_1252 bytes ≡ cs ++ text_of WINDOWS_1252 (drop k bytes) = rw (take-take k 16 bytes le) (same-numbers bytes k (omega arith) h) in
+    decoded-more old new cs _ _ all u are e split joins

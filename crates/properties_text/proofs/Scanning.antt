@@ -58,12 +58,7 @@ IsCutSoFar xs i is_escaped = cut_key xs false ≡ with_text (take i xs) (cut_key
 -- The key takes one more character.
 pub cut-more : (xs : List ℕ) (i : ℕ) (was now : Bool) → i < length xs
     → ((cs : List ℕ) → cut_key (get_or xs i 0 ∷ cs) was ≡ with_front (get_or xs i 0) (cut_key cs now)) → IsCutSoFar xs i was → IsCutSoFar xs (i + 1) now
-cut-more xs i was now h step k =
-    k
-    ∙ ap (with_text (take i xs)) (ap (λ v. cut_key v was) (drop_more xs i 0 h) ∙ step (drop (i + 1) xs))
-    ∙ ap (λ v. let cut : Cut = record { key = v; rest = (cut_key (drop (i + 1) xs) now).rest } in cut)
-    (sym (append_assoc (take i xs) (get_or xs i 0 ∷ []) (cut_key (drop (i + 1) xs) now).key))
-    ∙ ap (λ v. with_text v (cut_key (drop (i + 1) xs) now)) (sym (take_more xs i 0 h))
+cut-more xs i was now h step k = rw (take_more xs i 0 h, append_assoc) (rw (drop_more xs i 0 h, step (drop (i + 1) xs)) at k)
 
 pub cut-escaped : (xs : List ℕ) (i : ℕ) → i < length xs → IsCutSoFar xs i true → IsCutSoFar xs (i + 1) false
 cut-escaped xs i h = cut-more xs i true false h (λ cs. refl)
@@ -79,10 +74,7 @@ cut-pair xs i h e k =
       | inl l ↦ subst (λ n. IsCutSoFar xs n false) (let two : i + 1 + 1 ≡ i + 2 = omega arith in two) (cut-escaped xs (i + 1) l opened)
       | inr l ↦
           let past : length xs ≤ i + 2 = omega (arith, l) in
-          opened
-          ∙ ap (λ v. with_text (take (i + 1) xs) (cut_key v true)) (drop_all (i + 1) xs l)
-          ∙ ap (λ v. with_text v (cut_key [] false)) (take_all (i + 1) xs l ∙ sym (take_all (i + 2) xs past))
-          ∙ ap (λ v. with_text (take (i + 2) xs) (cut_key v false)) (sym (drop_all (i + 2) xs past))
+          rw (drop_all (i + 2) xs past, take_all (i + 2) xs past) (rw (drop_all (i + 1) xs l, take_all (i + 1) xs l) at opened)
     ]
 
 pub cut-plain : (xs : List ℕ) (i : ℕ) → i < length xs → (get_or xs i 0 == backslash) ≡ false → ends_key (get_or xs i 0) ≡ false

@@ -7,7 +7,7 @@ use Rattle.std.proofs.lemmas.Str.{IsUtf8-nil, chars-nil}
 use Rattle.std.proofs.Math.Seq.{take-append_seam}
 use Rattle.std.proofs.lemmas.List.{length-map, length-append, take-append-le, get_or-drop, get_or-take, get_or_past, length-take, length-take-le, take-take, drop-take, drop-drop, drop_more, drop_all, take-append-drop, length-drop}
 use Rattle.std.proofs.lemmas.List.Elements.{All-append, All-weaker, All-nil, All-cons, All-from_get_or, All-take, All-drop}
-use Rattle.properties_format.specs.Text.{backslash}
+use Rattle.properties_format.specs.Text.{backslash, space}
 use Rattle.properties_format.specs.Escapes as format
 use Rattle.properties_format.specs.Escapes.{Meaning, means, breaks}
 use Rattle.properties_format.specs.Computed.Escapes.{in_front, text_in_front}
@@ -25,7 +25,6 @@ use Rattle.properties_text.specs.declared.escape.UnescapeError.TheVariants as er
 use Rattle.byte_blocks.specs.Marks.{clear_front}
 use Rattle.byte_blocks.proofs.Marking.{clear-before, first-byte}
 use Rattle.properties_text.proofs.Printing.Vectors.{spelt}
-use Rattle.properties_format.specs.Text.{space}
 use Rattle.properties_text.specs.declared.print.Repertoire.{Repertoire}
 use Rattle.properties_text.specs.declared.print.text.Put.{Put}
 use Rattle.properties_text.proofs.Texts.Resolving.{text_in_front-append}

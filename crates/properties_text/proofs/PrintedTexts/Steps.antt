@@ -4,10 +4,10 @@ use Rattle.std.specs.Prelude.{None, is_some, nat_le}
 use lib.Utf8.{encode, encodes}
 use Rattle.std.specs.List.{All}
 use Rattle.std.specs.Str.{IsUtf8}
-use Rattle.std.proofs.lemmas.Bool.{cases_lt, cond-true, cond-false, and_from, and_left, and_right, lt-leb, le-leb}
+use Rattle.std.proofs.lemmas.Bool.{cases_lt, not-false, cond-true, cond-false, and_from, and_left, and_right, lt-leb, le-leb}
 use Rattle.std.proofs.lemmas.Str.{IsCharBoundary-start}
 use Rattle.std.proofs.lemmas.List.Elements.{All-head, All-tail}
-use Rattle.properties_format.specs.Encoding.{utf_8, encoded}
+use Rattle.properties_format.specs.Encoding.{utf_8, windows_1252, one_byte, encoded}
 use Rattle.properties_format.specs.Text.{backslash, space}
 use Rattle.properties_format.specs.Windows1252.{windows_1252_character, windows_1252_byte}
 use Rattle.properties_format.specs.Escapes.{Meaning, means, breaks}
@@ -27,7 +27,7 @@ use Rattle.properties_text.specs.declared.print.Repertoire.{Repertoire}
 use Rattle.properties_text.specs.declared.print.Repertoire.TheVariants as repertoire
 use Rattle.properties_text.proofs.Texts.Characters.{AreWide, AreInside, one, wide, encoded as bytes-of, character_and, wide-no_backslash}
 use Rattle.properties_text.proofs.Texts.Resolving.{text_in_front-append}
-use Rattle.properties_text.proofs.Printing.Bytes.{ascii-printed, byte-printed, lacked-printed, past-special, past-letter, past-control, past-byte}
+use Rattle.properties_text.proofs.Printing.Bytes.{ascii-printed, byte-printed, escaped-printed, past-special, past-letter, past-control, past-byte}
 use Rattle.properties_text.proofs.Printing.Characters.{encoded_escape}
 use Rattle.properties_text.proofs.Spelt.First.{ascii-first}
 
@@ -43,18 +43,11 @@ put-utf_8 c h = rw (past-special c h, past-letter c h, past-control c h) (append
 
 -- In windows-1252, what has no byte is escaped.
 pub put-lacked : (c : ℕ) → 0x80 ≤ c → windows_1252_byte c ≡ None → put_of repertoire.Windows1252 c ≡ unicode_escape c
-put-lacked c h e = lacked-printed c h (ap is_some e)
+put-lacked c h e = escaped-printed windows_1252 false c h (ap (λ o. is_some (one_byte o)) e)
 
 -- In ASCII alone, what is past ASCII is.
 pub put-escaped : (c : ℕ) → 0x80 ≤ c → put_of repertoire.Ascii c ≡ unicode_escape c
-put-escaped c h =
-    ap (encoded_text utf_8) (
-    cond-false (is_special c) _ _ (past-special c h)
-    ∙ cond-false (has_letter c) _ _ (past-letter c h)
-    ∙ cond-false (nat_lt c space) _ _ (past-control c h)
-    ∙ cond-false (may_be_unescaped utf_8 true c) (c ∷ []) (unicode_escape c) (and_left (nat_lt c 0x80) (is_some (encoded utf_8 c)) (le-ltb c 0x80 h))
-    )
-    ∙ encoded_escape utf_8 c
+put-escaped c h = escaped-printed utf_8 true c h (and_left (nat_lt c 0x80) (is_some (encoded utf_8 c)) (le-ltb c 0x80 h))
 
 -- ---- characters in front of a meaning
 
@@ -216,12 +209,8 @@ pub one-byte : (holds : ℕ → Bool) (e : LineEncoding) (t : Repertoire) (b : �
     → IsByte e t (holds backslash) b bs
 one-byte holds e t b bs s k f w = elim (cases_lt b 0x80) [
   | inl h ↦ ascii-byte e t (holds backslash) b bs h w (λ on. ne_eqb b backslash (λ q. let same : holds b ≡ holds backslash = ap holds q in absurd (cc)))
-  | inr h ↦ past-copied e t (holds backslash) b bs h k (copies (is_copied e t) (sym (s.past b h) ∙ f)) w
+  | inr h ↦ past-copied e t (holds backslash) b bs h k (not-false (is_copied e t) (sym (s.past b h) ∙ f)) w
 ]
-  where
-    copies : (x : Bool) → not x ≡ false → x ≡ true
-    copies true h = refl
-    copies false h = absurd (cc)
 
 -- Bytes of a run are printed one by one, and then the rest.
 pub record IsRun (e : LineEncoding) (t : Repertoire) (escaped : Bool) (xs bs : List ℕ) : Type 0 where

@@ -20,8 +20,8 @@ use Rattle.properties_text.specs.declared.encoding.line.Spelt.{Spelt}
 use Rattle.properties_text.specs.declared.escape.Malformed.{Malformed}
 use Rattle.properties_text.specs.declared.escape.Malformed.TheVariants.{NotEnoughDigits, NotHex, InvalidCharacter}
 use Rattle.properties_text.proofs.Texts.Escapes.{IsUnit, IsUnread, malformed-unread, malformed-unpaired, scalar-unit, surrogate-unit, other-character}
-use Rattle.properties_text.proofs.Texts.Units.{ascii-digits, unit-bytes}
-use Rattle.properties_text.proofs.Spelt.First.{own-byte, ascii-first, ascii-back}
+use Rattle.properties_text.proofs.Texts.Units.{ascii-digits}
+use Rattle.properties_text.proofs.Spelt.First.{ascii-first, ascii-back}
 
 -- ---- a backslash, and bytes after it
 
@@ -46,8 +46,7 @@ after-two e bs w s h k = absurd (omega arith)
 
 -- Four of them.
 pub after-four : (e : LineEncoding) (bs : List ℕ) → IsWell e bs → 4 ≤ length bs → get_or bs 0 0 < 128 → get_or bs 1 0 < 128 → get_or bs 2 0 < 128
-    → get_or bs 3 0 < 128
-    → IsAfter e bs (get_or bs 0 0 ∷ get_or bs 1 0 ∷ get_or bs 2 0 ∷ get_or bs 3 0 ∷ []) 4
+    → get_or bs 3 0 < 128 → IsAfter e bs (get_or bs 0 0 ∷ get_or bs 1 0 ∷ get_or bs 2 0 ∷ get_or bs 3 0 ∷ []) 4
 after-four e (a ∷ b ∷ c ∷ d ∷ rest) w s k l m n =
     let one = ascii-first e a (b ∷ c ∷ d ∷ rest) k w in
     let two = ascii-first e b (c ∷ d ∷ rest) l one.well in
@@ -91,16 +90,13 @@ unit-in e bs w b value h =
 -- Characters that are digits are their own bytes.
 digits-back : (e : LineEncoding) (bs : List ℕ) (d : Four) (rest : List ℕ) → IsWell e bs → text_in e bs ≡ four_text d ++ rest → are_hexadecimal d ≡ true
     → (more : List ℕ) × (bs ≡ four_text d ++ more)
-digits-back Utf8 bs d rest w s h =
-    (encodes rest, sym (encodes-chars bs w) ∙ unit-bytes (chars bs) rest (code_unit d) record { digits = d; whole = s; hexadecimal = h; writes = refl })
-digits-back Windows1252 (k ∷ l ∷ m ∷ n ∷ more) d rest w s h =
+digits-back e bs d rest w s h =
     let a = ascii-digits d h in
-    let k' = own-byte k d.first (cc) a.0 in
-    let l' = own-byte l d.second (cc) a.1 in
-    let m' = own-byte m d.third (cc) a.2 in
-    let n' = own-byte n d.fourth (cc) a.3 in
-    (more, ap₂ (λ x y. x ∷ y ∷ m ∷ n ∷ more) k' l' ∙ ap₂ (λ x y. d.first ∷ d.second ∷ x ∷ y ∷ more) m' n')
-digits-back Windows1252 bs d rest w s h = absurd (cc)
+    let one = ascii-back e bs d.first _ w s a.0 in
+    let two = ascii-back e one.0 d.second _ one.2 one.3 a.1 in
+    let three = ascii-back e two.0 d.third _ two.2 two.3 a.2 in
+    let four = ascii-back e three.0 d.fourth _ three.2 three.3 a.3 in
+    (four.0, one.1 ∙ ap (λ v. d.first ∷ v) (two.1 ∙ ap (λ v. d.second ∷ v) (three.1 ∙ ap (λ v. d.third ∷ v) four.1)))
 
 -- the four bytes after two, if they are at the front of what is left
 digits-at : (bs more : List ℕ) (d : Four) → drop 2 bs ≡ four_text d ++ more → (6 ≤ length bs) × (digits_in bs ≡ d)
@@ -159,16 +155,11 @@ no-low high x h = refl
 
 -- A low escape in the characters is one in the bytes.
 low-back : (e : LineEncoding) (bs : List ℕ) (low : Four) (rest : List ℕ) → IsWell e bs → text_in e bs ≡ backslash ∷ letter_u ∷ four_text low ++ rest
-    → are_hexadecimal low ≡ true
-    → BeginsUnit bs × HasDigits bs (code_unit low) × (digits_in bs ≡ low)
+    → are_hexadecimal low ≡ true → BeginsUnit bs × HasDigits bs (code_unit low) × (digits_in bs ≡ low)
 low-back e bs low rest w s h =
-    let one = ascii-back e bs backslash (letter_u ∷ four_text low ++ rest) w s (lit< tt) in
-    let after = ascii-first e backslash one.0 (lit< tt) (subst (IsWell e) one.1 w) in
-    let s' : text_in e one.0 ≡ letter_u ∷ four_text low ++ rest = (let k = sym after.characters ∙ sym (ap (text_in e) one.1) ∙ s in cc) in
-    let two = ascii-back e one.0 letter_u (four_text low ++ rest) after.well s' (lit< tt) in
-    let after' = ascii-first e letter_u two.0 (lit< tt) (subst (IsWell e) two.1 after.well) in
-    let s'' : text_in e two.0 ≡ four_text low ++ rest = (let k = sym after'.characters ∙ sym (ap (text_in e) two.1) ∙ s' in cc) in
-    let four = digits-back e two.0 low rest after'.well s'' h in
+    let one = ascii-back e bs backslash _ w s (lit< tt) in
+    let two = ascii-back e one.0 letter_u _ one.2 one.3 (lit< tt) in
+    let four = digits-back e two.0 low rest two.2 two.3 h in
     let whole : bs ≡ backslash ∷ letter_u ∷ four_text low ++ four.0 = one.1 ∙ ap (λ v. backslash ∷ v) (two.1 ∙ ap (λ v. letter_u ∷ v) four.1) in
     let at = digits-at bs four.0 low (ap (drop 2) whole) in (
       (omega (arith, at.0), ap (λ v. get_or v 0 0) whole, ap (λ v. get_or v 1 0) whole),
@@ -199,9 +190,9 @@ spells-meaning e bs spelt s =
     ap meaning_of s.whole ∙ meaning_of-spelling s.spelling rest s.stands ∙ ap (λ v. in_front v (meaning_of rest)) (sym s.character)
 
 -- One `\u` escape was read.
-pub reads-unit : (e : LineEncoding) (bs : List ℕ) (value c : ℕ) → IsWell e bs → BeginsUnit bs → HasDigits bs value → InScalarRange value → c ≡ value
+pub reads-unit : {e : LineEncoding} {bs : List ℕ} {value c : ℕ} → IsWell e bs → BeginsUnit bs → HasDigits bs value → InScalarRange value → c ≡ value
     → IsScalar c → IsRead e bs record { character = c; length = 6 }
-reads-unit e bs value c w b h in_range is s =
+reads-unit {e} {bs} {value} w b h in_range is s =
     let a = after-u e bs w b in
     let u = unit-in e bs w b value h in
     record {
@@ -218,9 +209,9 @@ reads-unit e bs value c w b h in_range is s =
     }
 
 -- Two were read, which are surrogates.
-pub reads-pair : (e : LineEncoding) (bs : List ℕ) (high c : ℕ) → IsWell e bs → BeginsUnit bs → HasDigits bs high → HasLow high (drop 6 bs) c
+pub reads-pair : {e : LineEncoding} {bs : List ℕ} {high c : ℕ} → IsWell e bs → BeginsUnit bs → HasDigits bs high → HasLow high (drop 6 bs) c
     → IsScalar c → IsRead e bs record { character = c; length = 12 }
-reads-pair e bs high c w b h l s =
+reads-pair {e} {bs} {high} w b h l s =
     let a = after-u e bs w b in
     let u = unit-in e bs w b high h in
     let a' = after-u e (drop 6 bs) u.1 l.begins in
@@ -243,10 +234,9 @@ reads-pair e bs high c w b h l s =
     }
 
 -- A backslash before an ASCII character was read.
-pub reads-ascii : (e : LineEncoding) (bs : List ℕ) (c : ℕ) → IsWell e bs → 2 ≤ length bs → get_or bs 0 0 ≡ backslash → get_or bs 1 0 ≢ letter_u
-    → get_or bs 1 0 < 128
-    → c ≡ escaped_character (get_or bs 1 0) → IsScalar c → IsRead e bs record { character = c; length = 2 }
-reads-ascii e bs c w some b other small is s =
+pub reads-ascii : {e : LineEncoding} {bs : List ℕ} {c : ℕ} → IsWell e bs → 2 ≤ length bs → get_or bs 0 0 ≡ backslash → get_or bs 1 0 ≢ letter_u
+    → get_or bs 1 0 < 128 → c ≡ escaped_character (get_or bs 1 0) → IsScalar c → IsRead e bs record { character = c; length = 2 }
+reads-ascii {e} {bs} w some b other small is s =
     let x = get_or bs 1 0 in
     let a = after-two e bs w some (omega (arith, b)) small in
     record {
@@ -269,8 +259,8 @@ no-text Utf8 [] h = chars-nil
 no-text e (b ∷ bs) h = absurd (omega arith)
 
 -- A backslash at the end was read.
-pub reads-end : (e : LineEncoding) (bs : List ℕ) → IsWell e bs → length bs ≡ 1 → get_or bs 0 0 ≡ backslash → IsRead e bs record { character = 0; length = 1 }
-reads-end e bs w one b =
+pub reads-end : {e : LineEncoding} {bs : List ℕ} → IsWell e bs → length bs ≡ 1 → get_or bs 0 0 ≡ backslash → IsRead e bs record { character = 0; length = 1 }
+reads-end {e} {bs} w one b =
     let a = after-one e bs w (omega arith) (omega (arith, b)) in
     record {
       some = omega arith;
@@ -286,10 +276,9 @@ reads-end e bs w one b =
     }
 
 -- A backslash before another character was read.
-pub reads-past : (e : LineEncoding) (bs : List ℕ) (first : Spelt) → IsWell e bs → 2 ≤ length bs → get_or bs 0 0 ≡ backslash → 0x80 ≤ get_or bs 1 0
-    → IsFirst e (drop 1 bs) first
-    → IsRead e bs record { character = first.character; length = 1 + first.length }
-reads-past e bs first w some b past f =
+pub reads-past : {e : LineEncoding} {bs : List ℕ} {first : Spelt} → IsWell e bs → 2 ≤ length bs → get_or bs 0 0 ≡ backslash → 0x80 ≤ get_or bs 1 0
+    → IsFirst e (drop 1 bs) first → IsRead e bs record { character = first.character; length = 1 + first.length }
+reads-past {e} {bs} {first} w some b past f =
     let a = after-one e bs w (omega arith) (omega (arith, b)) in
     let c = first.character in
     let rest = text_in e (drop first.length (drop 1 bs)) in

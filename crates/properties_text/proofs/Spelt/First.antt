@@ -120,8 +120,16 @@ pub ascii-first : (e : LineEncoding) (b : ℕ) (rest : List ℕ) → b < 128 →
 ascii-first Windows1252 b rest h w = record { characters = ap (λ x. x ∷ characters_of rest) (windows_1252_character-ascii b h); well = tt }
 ascii-first Utf8 b rest h w = let a = first_ascii b rest h w in record { characters = a.characters; well = a.utf8 }
 
+first-byte : (e : LineEncoding) (bs : List ℕ) (c : ℕ) (rest : List ℕ) → IsWell e bs → text_in e bs ≡ c ∷ rest → c < 128 → (more : List ℕ) × (bs ≡ c ∷ more)
+first-byte Windows1252 [] c rest w e h = absurd (cc)
+first-byte Windows1252 (b ∷ bs) c rest w e h = (bs, ap (λ x. x ∷ bs) (own-byte b c (cc) h))
+first-byte Utf8 bs c rest w e h = (encodes rest, sym (encodes-chars bs w) ∙ ap encodes e ∙ ap (λ v. v ++ encodes rest) (encode-one c h))
+
 -- If the first character is ASCII, it is the first byte.
-pub ascii-back : (e : LineEncoding) (bs : List ℕ) (c : ℕ) (rest : List ℕ) → IsWell e bs → text_in e bs ≡ c ∷ rest → c < 128 → (more : List ℕ) × (bs ≡ c ∷ more)
-ascii-back Windows1252 [] c rest w e h = absurd (cc)
-ascii-back Windows1252 (b ∷ bs) c rest w e h = (bs, ap (λ x. x ∷ bs) (own-byte b c (cc) h))
-ascii-back Utf8 bs c rest w e h = (encodes rest, sym (encodes-chars bs w) ∙ ap encodes e ∙ ap (λ v. v ++ encodes rest) (encode-one c h))
+pub ascii-back : (e : LineEncoding) (bs : List ℕ) (c : ℕ) (rest : List ℕ) → IsWell e bs → text_in e bs ≡ c ∷ rest → c < 128
+    → (more : List ℕ) × (bs ≡ c ∷ more) × IsWell e more × (text_in e more ≡ rest)
+ascii-back e bs c rest w s h =
+    let back = first-byte e bs c rest w s h in
+    let after = ascii-first e c back.0 h (subst (IsWell e) back.1 w) in
+    let same : c ∷ text_in e back.0 ≡ c ∷ rest = sym after.characters ∙ sym (ap (text_in e) back.1) ∙ s in
+    (back.0, back.1, after.well, cc)

@@ -1,7 +1,7 @@
 -- What determines how lines are joined is the same in bytes and in characters.
 use Rattle.std.proofs.Common.{◌≡◌, ℕ, ◌≤◌, ◌+◌, ◌-◌, ◌==◌, true, List, [], ◌∷◌, ◌++◌, length, take, get_or, refl, ap, sym, ◌∙◌, subst, inl, inr, length-append, arith}
 use Rattle.std.specs.Prelude.{◌%◌}
-use Rattle.std.proofs.Math.Seq.{take-append_seam, get_or-append_seam}
+use Rattle.std.proofs.lemmas.List.{take_at, get_or_at}
 use lib.Utf8.{encode, encodes, scalars}
 use Rattle.std.specs.Str.{IsUtf8, IsCharBoundary, chars}
 use Rattle.std.proofs.lemmas.Str.{encodes-chars, encodes-append, IsCharBoundary-from_take}
@@ -37,16 +37,12 @@ is_comment_line-text bs u =
 is_open-encodes : (cs : List ℕ) → is_open (encodes cs) ≡ is_open cs
 is_open-encodes cs = ap (λ n. n % 2 == 1) (ending_backslashes-encodes cs)
 
--- The characters before a backslash at the end, in bytes.
-encodes-push : (cs : List ℕ) → encodes (cs ++ backslash ∷ []) ≡ encodes cs ++ backslash ∷ []
-unfolding encode
-encodes-push cs = encodes-append cs (backslash ∷ [])
-
 -- An open text is cut in the same place in bytes and in characters.
 without_open_backslash-encodes : (cs : List ℕ) → without_open_backslash (encodes cs) ≡ encodes (without_open_backslash cs)
+unfolding encode
 without_open_backslash-encodes cs = elim (cases_Bool (is_open cs)) [
   | inl k ↦
-      let bytes : encodes cs ≡ encodes (without_last cs) ++ backslash ∷ [] = ap encodes (open-ends cs k) ∙ encodes-push (without_last cs) in
+      let bytes : encodes cs ≡ encodes (without_last cs) ++ backslash ∷ [] = ap encodes (open-ends cs k) ∙ encodes-append (without_last cs) (backslash ∷ []) in
       rw (is_open-encodes cs, k) (ap without_last bytes ∙ without_last-push (encodes (without_last cs)) backslash)
   | inr k ↦ rw (is_open-encodes cs, k) refl
 ]
@@ -60,9 +56,6 @@ without_open_backslash-scalars cs h = elim (cases_Bool (is_open cs)) [
 pub without_open_backslash-part : (bs : List ℕ) → IsUtf8 bs → IsPart without_open_backslash bs
 without_open_backslash-part = part_by without_open_backslash without_open_backslash-encodes without_open_backslash-scalars
 
-without_open_backslash-open : (x : List ℕ) → is_open x ≡ true → without_open_backslash x ≡ without_last x
-without_open_backslash-open x h = rw h refl
-
 -- An open text may be cut before its last byte, which removes its open backslash.
 pub record IsCutOpen (bs : List ℕ) : Type 0 where
   pub some : 1 ≤ length bs
@@ -74,17 +67,13 @@ pub cut_open : (bs : List ℕ) → IsUtf8 bs → is_open (chars bs) ≡ true →
 cut_open bs u h =
     let open_bytes : is_open bs ≡ true = ap (λ n. n % 2 == 1) (sym (ending_backslashes-text bs u)) ∙ h in
     let whole = open-ends bs open_bytes in
-    let size : length bs ≡ length (without_last bs) + 1 = ap length whole ∙ length-append (without_last bs) (backslash ∷ []) in
-    let before : length bs - 1 ≡ length (without_last bs) = omega arith in
+    let size : length (without_last bs) ≡ length bs - 1 = omega (arith, ap length whole, length-append (without_last bs) (backslash ∷ [])) in
     let front : take (length bs - 1) bs ≡ without_open_backslash bs =
-    ap (λ n. take n bs) before
-    ∙ ap (take (length (without_last bs))) whole
-    ∙ take-append_seam (without_last bs) (backslash ∷ [])
-    ∙ sym (without_open_backslash-open bs open_bytes) in
+    rw open_bytes (ap (take (length bs - 1)) whole ∙ take_at (without_last bs) (backslash ∷ []) (length bs - 1) size) in
     let part = without_open_backslash-part bs u in
     record {
-      some = omega arith;
-      last = ap (λ n. get_or bs n 0) before ∙ ap (λ v. get_or v (length (without_last bs)) 0) whole ∙ get_or-append_seam (without_last bs) backslash [] 0;
+      some = omega (arith, ap length whole, length-append (without_last bs) (backslash ∷ []));
+      last = ap (λ v. get_or v (length bs - 1) 0) whole ∙ get_or_at (without_last bs) backslash [] 0 (length bs - 1) size;
       boundary = IsCharBoundary-from_take bs (length bs - 1) u (omega arith) (subst IsUtf8 (sym front) part.utf8);
       rest = ap chars front ∙ part.same;
     }

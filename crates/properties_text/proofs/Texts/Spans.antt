@@ -33,40 +33,27 @@ found line is e s place =
 -- ---- places
 
 span_length : (line : List ℕ) (span : Span) → span.end ≤ length line → length (bytes_in line span) ≡ span.end - span.start
-span_length line span w =
-    let long = length-take (span.end - span.start) (drop span.start line) in
-    let left = length-drop span.start line in
-    omega (arith, long, left, w)
+span_length line span w = omega (arith, length-take (span.end - span.start) (drop span.start line), length-drop span.start line, w)
 
 -- The index at which the text of a line without its indentation begins.
 indent-length : (line indent rest : List ℕ) (start : ℕ) → start ≤ length line → drop start line ≡ without_leading_blanks line → line ≡ indent ++ rest
     → AreBlanks indent → begins is_blank rest ≡ false → start ≡ length indent
 indent-length line indent rest start l e whole blank full =
     let past : drop start line ≡ rest = e ∙ ap without_leading_blanks whole ∙ without_leading_blanks-only indent rest blank full in
-    let all : length line ≡ length indent + length rest = ap length whole ∙ length-append indent rest in
-    let after : length line - start ≡ length rest = sym (length-drop start line) ∙ ap length past in
-    omega (arith, l, all, after)
+    omega (arith, l, ap length whole, length-append indent rest, length-drop start line, ap length past)
 
-pair-places : (line : List ℕ) (start n v : ℕ) → start + n ≤ length line → v ≤ length line → drop start line ≡ without_leading_blanks line
-    → IsPair line (bytes_in line (record { start = start; end = start + n })) (bytes_in line (record { start = v; end = length line }))
-    → IsPairAt line (record { start = start; end = start + n }) (record { start = v; end = length line })
-pair-places line start n v fits fits_value e d =
-    let key : Span = record { start = start; end = start + n } in
-    let value : Span = record { start = v; end = length line } in
-    let k = bytes_in line key in
-    let w = bytes_in line value in
-    let at = indent-length line d.indent (k ++ (d.between ++ w)) start (omega (arith, fits)) e d.whole d.indent_blank d.begins_full in
-    let all = ap length d.whole ∙ length-append d.indent (k ++ (d.between ++ w)) in
-    let parts = length-append k (d.between ++ w) in
-    let last = length-append d.between w in
+pair-places : (line : List ℕ) (key value : Span) → key.start ≤ key.end → key.end ≤ length line → value.start ≤ length line → value.end ≡ length line
+    → drop key.start line ≡ without_leading_blanks line → IsPair line (bytes_in line key) (bytes_in line value) → IsPairAt line key value
+pair-places line key value ordered fits fits_value end e d =
+    let at = indent-length line d.indent _ key.start (omega arith) e d.whole d.indent_blank d.begins_full in
     let key_long = span_length line key fits in
     let value_long = span_length line value (omega arith) in
     record {
       division = d;
       key_start = at;
       key_end = omega (arith, key_long);
-      value_start = omega (arith, at, all, parts, last, key_long, value_long, fits_value);
-      value_end = refl;
+      value_start = omega (arith, length-append {A = ℕ}, at, ap length d.whole, key_long, value_long, end);
+      value_end = end;
     }
 
 comment-places : (line : List ℕ) (start : ℕ) (span : Span) → start < length line → drop start line ≡ without_leading_blanks line
@@ -80,11 +67,13 @@ comment-places line start span l e o w s d =
     let past : drop span.start line ≡ core ++ d.trimmed.after =
     s ∙ ap without_leading_blanks (cut ∙ d.trimmed.whole)
     ∙ without_leading_blanks-only d.trimmed.before (core ++ d.trimmed.after) d.trimmed.before_blank (core-begins core d.trimmed.after d.trimmed.begins_full d.trimmed.empty_last) in
-    let all = ap length d.whole ∙ length-append d.indent (d.sign ∷ d.rest) in
-    let rest = ap length d.trimmed.whole ∙ length-append d.trimmed.before (core ++ d.trimmed.after) in
-    let left = sym (length-drop span.start line) ∙ ap length past in
     let long = span_length line span w in
-    record { division = d; start = omega (arith, all, rest, left, o, w); end = omega (arith, long, o) }
+    let left = ap length past in
+    record {
+      division = d;
+      start = omega (arith, length-append {A = ℕ}, ap length d.whole, ap length d.trimmed.whole, length-drop span.start line, left, o, w);
+      end = omega (arith, long, o);
+    }
 
 -- A blank line.
 pub found-blank : (line : List ℕ) → without_leading_blanks line ≡ [] → AreFound line None
@@ -158,4 +147,4 @@ found-pair line text start n v whole l e s nl k r fits_value there =
       whole_span line key u (omega arith) fits (subst IsUtf8 whole text_utf8) (subst IsUtf8 (sym key_bytes) (key_of-part text text_utf8).utf8),
       whole_span line value u fits_value (omega arith) value_utf8 (subst IsUtf8 (sym (take_rest line v)) value_utf8),
     ))
-    (pair-places line start n v fits fits_value e)
+    (pair-places line key value (omega arith) fits fits_value refl e)

@@ -3,7 +3,7 @@ use Rattle.std.proofs.Common.{◌≡◌, ℕ, ◌+◌, ◌*◌, ◌<◌, ◌≤�
 use Rattle.std.specs.Prelude.{nat_le}
 use lib.Utf8.{encodes}
 use Rattle.std.specs.Str.{IsUtf8, chars}
-use Rattle.std.proofs.lemmas.Bool.{cases_Bool, cond-true, cond-false, and_parts, and_from, agree_below_at, eqb-true, leb-true}
+use Rattle.std.proofs.lemmas.Bool.{true_from_ne_false, false_from_ne_true, cond-true, cond-false, and_parts, and_from, agree_below_at, eqb-true, leb-true}
 use Rattle.std.proofs.lemmas.Bool.Decides.{nat_tests}
 use Rattle.std.proofs.lemmas.Str.{IsUtf8-append, IsUtf8-encode}
 use Rattle.std.specs.Char.{IsScalar, encode_utf8}
@@ -27,10 +27,8 @@ digit-small b h = leb-true (digit_value b) 0x10000 (agree_below_at (λ b. nat_le
 
 -- A byte whose value is less than that of a non-digit is a digit.
 digit-is : (b : ℕ) → digit_value b < 0x10000 → is_hexadecimal b ≡ true
-digit-is b h = elim (cases_Bool (is_hexadecimal b)) [
-  | inl t ↦ t
-  | inr f ↦ absurd (let none : digit_value b ≡ 0x10000 = cond-false (is_hexadecimal b) _ _ f in omega (arith, h, none))
-]
+digit-is b h = true_from_ne_false (is_hexadecimal b) (λ f.
+    let none : digit_value b ≡ 0x10000 = cond-false (is_hexadecimal b) _ _ f in omega (arith, h, none))
 
 -- The value of a digit.
 digit-of : (b : ℕ) → is_hexadecimal b ≡ true → digit_value b ≡ hexadecimal_value b
@@ -64,10 +62,8 @@ four-digits a b c d m n o p m-is n-is o-is p-is h =
 -- If it is too large, one of them isn't.
 pub no-four-digits : (a b c d m n o p : ℕ) → m ≡ digit_value a → n ≡ digit_value b → o ≡ digit_value c → p ≡ digit_value d
     → 0x10000 ≤ m * 0x1000 + n * 0x100 + o * 0x10 + p → are_hexadecimal (four_bytes a b c d) ≡ false
-no-four-digits a b c d m n o p m-is n-is o-is p-is h = elim (cases_Bool (are_hexadecimal (four_bytes a b c d))) [
-  | inl t ↦ absurd (omega (arith, h, digits-value a b c d t, code_unit-below (four_bytes a b c d) t))
-  | inr f ↦ f
-]
+no-four-digits a b c d m n o p m-is n-is o-is p-is h = false_from_ne_true (are_hexadecimal (four_bytes a b c d)) (λ t.
+    omega (arith, h, digits-value a b c d t, code_unit-below (four_bytes a b c d) t))
 
 -- Digits are ASCII.
 pub ascii-digits : (d : Four) → are_hexadecimal d ≡ true → (d.first < 128) × (d.second < 128) × (d.third < 128) × (d.fourth < 128)
@@ -76,12 +72,6 @@ ascii-digits d h =
     let q = and_parts (is_hexadecimal d.first) (is_hexadecimal d.second) p.0 in
     let r = and_parts (is_hexadecimal d.third) (is_hexadecimal d.fourth) p.1 in
     (digit-ascii _ q.0, digit-ascii _ q.1, digit-ascii _ r.0, digit-ascii _ r.1)
-
--- Digits are their own bytes.
-pub unit-bytes : (text rest : List ℕ) (value : ℕ) (u : IsUnit text value rest) → encodes text ≡ four_text u.digits ++ encodes rest
-unit-bytes text rest value u =
-    let a = ascii-digits u.digits u.hexadecimal in
-    ap encodes u.whole ∙ rw (encode-one u.digits.first a.0, encode-one u.digits.second a.1, encode-one u.digits.third a.2, encode-one u.digits.fourth a.3) refl
 
 -- ---- several escapes
 

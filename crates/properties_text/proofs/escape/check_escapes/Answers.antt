@@ -6,9 +6,6 @@ use Rattle.properties_text.proofs.Texts.Resolving.{resolved_end, resolved_broken
 use Rattle.properties_text.proofs.Spelt.Searches.{split-in, plain-in, nothing-read, one-read}
 use Rattle.properties_text.proofs.escape.check_escapes.Goals as goal
 
-pub loop-at-init : goal.loop-at-init
-loop-at-init c = nothing-read c.args.encoding c.args.text.now c.requires
-
 pub read_escape-requires-clause-well : goal.read_escape-requires-clause-well
 read_escape-requires-clause-well c = rw take_rest (split-in c.args.encoding c.loop-at.rest.now c.in-Some.at c.loop-at.invariant.well c.in-Some.ensures).well
 

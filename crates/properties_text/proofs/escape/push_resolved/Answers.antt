@@ -6,12 +6,6 @@ use Rattle.properties_text.specs.Escaping.{malformed_in}
 use Rattle.properties_text.proofs.Texts.Resolving.{split_at, plain, slice-front, resolved_none, resolved_many, pushed_text, resolved_end, resolved_broken, broken}
 use Rattle.properties_text.proofs.escape.push_resolved.Goals as goal
 
-pub loop-at-init : goal.loop-at-init
-loop-at-init c = record { utf8 = c.utf8.s; resolved = resolved_none (chars c.args.s.now) (chars (string_bytes c.args.text.now)) }
-
-pub range_from-requires : goal.range_from-requires
-range_from-requires c = λ _. (split_at c.as_bytes.result.now c.loop-at.rest.now c.in-Some.at c.loop-at.invariant.utf8 c.as_bytes.ensures.value c.in-Some.ensures).boundary
-
 pub returns-in-Err : goal.returns-in-Err
 returns-in-Err c =
     let rest = c.loop-at.rest.now in
@@ -19,9 +13,6 @@ returns-in-Err c =
     let s = split_at c.as_bytes.result.now rest at c.loop-at.invariant.utf8 c.as_bytes.ensures.value c.in-Some.ensures in
     broken (chars c.args.s.now) _ (resolved_broken (chars (take at rest)) (chars (drop at rest)) (malformed_in c.in-Err.malformed) c.loop-at.invariant.resolved
     s.meaning (ap (λ v. meaning_of (chars v)) (sym c.range_from.ensures.value) ∙ c.in-Err.ensures.resolves))
-
-pub from_utf8_unchecked-more-requires : goal.from_utf8_unchecked-more-requires
-from_utf8_unchecked-more-requires c = c.in-Ok.ensures.resolves.is_text
 
 pub loop-at-preserved : goal.loop-at-preserved
 loop-at-preserved c =

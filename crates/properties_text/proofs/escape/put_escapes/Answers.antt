@@ -51,7 +51,9 @@ loop-run-preserved c =
     ∙ ap (λ v. in_front escape.character (meaning_of (chars v))) (ap (λ v. drop escape.length v) c.as_bytes.ensures.value ∙ sym left) in
     let more = units-more c.args.text.now c.loop-run.run c.put_character-end.new.run (chars rest) (chars c.range_from-rest.result.now)
     c.loop-run.end c.put_character-end.result escape.character held.is_text c.in_ok-escape.ensures.scalar put.text held.meaning means in
-    let fewer : length c.range_from-rest.result.now < length rest = omega (arith, ap length left, length-drop escape.length rest, c.in_ok-escape.ensures.some, c.in_ok-escape.ensures.within, ap length c.as_bytes.ensures.value) in
+    let read = c.in_ok-escape.ensures in
+    let size = ap length c.as_bytes.ensures.value in
+    let fewer : length c.range_from-rest.result.now < length rest = omega (arith, ap length left, length-drop escape.length rest, read.some, read.within, size) in
     record {
       utf8 = c.range_from-rest.utf8;
       same_room = put.same_room ∙ held.same_room;

@@ -3,17 +3,6 @@ use Rattle.std.proofs.lemmas.List.{length-drop, take_rest}
 use Rattle.properties_text.proofs.Latin1.{not-in_table, decoded-front}
 use Rattle.properties_text.proofs.encoding.decode.decode_blocks.Goals as goal
 
-pub loop-rest-init : goal.loop-rest-init
-loop-rest-init c = record {
-  same_room = refl;
-  within = c.requires.within;
-  onwards = omega arith;
-  left = omega arith;
-  shorter = omega arith;
-  is_text = c.requires.is_text;
-  text = refl;
-}
-
 pub loop-rest-preserved-then-is_clear_before : goal.loop-rest-preserved-then-is_clear_before
 loop-rest-preserved-then-is_clear_before c =
     let held = c.loop-rest.invariant in

@@ -11,17 +11,6 @@ use Rattle.byte_blocks.proofs.Rows.{take_past}
 use Rattle.properties_text.proofs.TextFronts.{decoded-one}
 use Rattle.properties_text.proofs.encoding.decode.decode_each.Goals as goal
 
-pub loop-left-init : goal.loop-left-init
-loop-left-init c = record {
-  same_room = refl;
-  onwards = omega arith;
-  end = omega arith;
-  fewer = omega arith;
-  rest_is = omega arith;
-  is_text = c.requires.is_text;
-  text = refl;
-}
-
 pub loop-left-preserved : goal.loop-left-preserved
 loop-left-preserved c =
     let held = c.loop-left.invariant in
@@ -41,12 +30,13 @@ loop-left-preserved c =
     ∙ ap (take (at + n)) put.ensures.text
     ∙ take_past (take at old) text.result.bytes n (at + n) (omega (arith, length-take-le at old inside))
     ∙ ap (λ l. take at old ++ l) text.ensures.begins in
+    let one = decoded-one windows_1252 _ _ _ first (drop 1 bytes) _ 1 held.is_text text.ensures.scalar written joins refl refl in
     record {
       same_room = put.ensures.same_room ∙ held.same_room;
       onwards = omega (arith, held.onwards);
       end = omega (arith, held.end, text.ensures.few, c.loop-left-test.true);
       fewer = omega (arith, held.fewer);
       rest_is = rw (take_rest, length-drop 1 bytes) (omega (arith, held.rest_is, held.fewer, c.loop-left-test.true));
-      is_text = subst IsUtf8 (sym written) (IsUtf8-append _ _ held.is_text (IsUtf8-encode _ text.ensures.scalar));
-      text = rw take_rest (decoded-one windows_1252 _ _ _ first (drop 1 bytes) _ 1 held.is_text text.ensures.scalar written joins refl refl);
+      is_text = one.0;
+      text = rw take_rest one.1;
     }

@@ -52,13 +52,13 @@ loop-rest-preserved-then-kept-lt16 c =
     let shown = rw (take_rest bytes (2 * kept), take_rest rest 1, c.utf_16_of-encoding.ensures) at next.ensures.shown in
     let e = encoding_of (utf_16_of c.args.order) in
     let joins = ap (λ v. chars (take c.put_latin_1-at.result c.put_latin_1-at.new.run) ++ text_of (utf_16_of c.args.order) v) (sym split) ∙ front.1 in
+    let made = decoded-one e _ _ _ first (drop 1 rest) _ _ front.0 one.scalar one.text joins shown.character_is shown.length_is in
     record {
       same_room = one.same_room ∙ put.same_room ∙ held.same_room;
       within = omega (arith, one.within, one.same_room, put.within, put.same_room, c.if-run-at-ge64.true, within);
       onwards = omega (arith, held.onwards, put.after, one.more);
       left = rw (take_rest bytes (2 * kept), take_rest rest next.result.length, length-drop next.result.length rest, length-drop (2 * kept) bytes)
           (omega (arith, one.within, put.within, held.left, next.ensures.some, within, c.loop-rest-test.true));
-      is_text = subst IsUtf8 (sym one.text) (IsUtf8-append _ _ front.0 (IsUtf8-encode _ one.scalar));
-      text = rw (take_rest bytes (2 * kept), take_rest rest next.result.length, split)
-          (decoded-one e _ _ _ first (drop 1 rest) _ _ front.0 one.scalar one.text joins shown.character_is shown.length_is);
+      is_text = made.0;
+      text = rw (take_rest bytes (2 * kept), take_rest rest next.result.length, split) made.1;
     }

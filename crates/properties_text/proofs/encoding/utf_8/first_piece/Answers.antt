@@ -5,12 +5,6 @@ use Rattle.properties_text.specs.Decoding.{range_of}
 use Rattle.properties_text.proofs.FirstPieces.{whole-scalar, shows-whole, shows-broken}
 use Rattle.properties_text.proofs.encoding.utf_8.first_piece.Goals as goal
 
-pub whole-requires : goal.whole-requires
-whole-requires c =
-    let fitting = c.fitting_length-fitting in
-    let all = c.if-fitting-ranges.true ∙ sym (length-map c.in-Some.ranges.now range_of) in
-    subst scalar (sym c.sequence_character.ensures) (whole-scalar c.args.first _ c.args.rest.now fitting.result c.in-Some.ensures fitting.ensures.value all)
-
 pub returns-then-fitting-ranges : goal.returns-then-fitting-ranges
 returns-then-fitting-ranges c =
     let fitting = c.fitting_length-fitting in

@@ -10,11 +10,6 @@ use Rattle.properties_text.proofs.print.text.print_bytes.Goals as goal
 use Rattle.properties_text.proofs.print.text.print_bytes.Given.{Over}
 use Rattle.properties_text.proofs.print.text.print_bytes.Goals.{In_ok-put}
 
-pub returns-in_err-put-clause-printed : goal.returns-in_err-put-clause-printed
-returns-in_err-put-clause-printed g c =
-    let e = err_from_is_err_and c.from_residual.result c.from_residual.ensures.1 in
-    rw (e.1, e.2, c.in_err-put.ensures.refused) tt
-
 -- what the run at the front put
 run-put : (g : Over) (c : In_ok-put g) → let text = take c.args.size c.args.bytes.now in
     let escaped = g.Stops.ByteClass.holds backslash in
