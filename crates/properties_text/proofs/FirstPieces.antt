@@ -1,6 +1,6 @@
 -- What is returned for the first piece of UTF-8.
 use Rattle.std.proofs.Common.{◌≡◌, ◌≢◌, ℕ, suc, ◌+◌, ◌==◌, false, List, ◌∷◌, length, take, Some, sym, ap, ◌∙◌, arith}
-use Rattle.properties_format.specs.Text.{replacement, scalar}
+use Rattle.properties_format.specs.Text.{replacement}
 use Rattle.properties_format.specs.Utf8.{Range, well_formed_rows, sequence_character}
 use Rattle.properties_format.specs.Computed.Utf8.{ranges_after, fitting, first_utf_8_piece}
 use Rattle.properties_format.specs.Computed.Waiting.{awaits_byte}
@@ -10,9 +10,6 @@ use Rattle.properties_text.specs.declared.encoding.first_piece.FirstPiece.{First
 
 module _ (b : ℕ) (rs : List Range) (d : List ℕ) (n : ℕ) (row : ranges_after well_formed_rows b ≡ Some rs) (fits : n ≡ length (fitting rs d)) where
   -- As many bytes fit as the row has.
-  pub whole-scalar : n ≡ length rs → scalar (sequence_character (b ∷ take n d))
-  whole-scalar all = (first_utf_8_piece-whole b rs d n row fits all).is_scalar
-
   pub shows-whole : (shown : FirstPiece) → n ≡ length rs → shown ≡ record { character = sequence_character (b ∷ take n d); length = 1 + n; may_change = false }
       → ShowsPiece (first_utf_8_piece b d) (awaits_byte (ranges_after well_formed_rows b) d) shown
   shows-whole shown all is =

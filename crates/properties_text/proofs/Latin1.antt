@@ -1,5 +1,5 @@
 -- Characters of Latin-1 in UTF-8, sixteen at a time.
-use Rattle.std.proofs.Common.{◌≡◌, ℕ, zero, suc, ◌+◌, ◌-◌, ◌/◌, ◌%◌, ◌<◌, ◌≤◌, ◌&&◌, Bool, true, false, cond, ltb, eqb, nat_le, nat_lt, List, [], ◌∷◌, ◌++◌, refl, sym, ap, ap₂, subst, ◌∙◌, inl, inr, append_assoc, arith, length, take, drop, get_or, map, replicate, w8, Fits, bit_and}
+use Rattle.std.proofs.Common.{◌≡◌, ℕ, zero, suc, ◌+◌, ◌-◌, ◌/◌, ◌%◌, ◌<◌, ◌≤◌, Bool, true, false, cond, ltb, eqb, nat_lt, List, [], ◌∷◌, ◌++◌, refl, sym, ap, ap₂, ◌∙◌, inl, inr, arith, length, take, drop, get_or, map, replicate, w8, Fits, bit_and}
 use Rattle.std.specs.Prelude.{encode_utf8_all}
 use Rattle.std.specs.Char.{encode_utf8}
 use Rattle.std.specs.Simd.Lanes.{zip2, Each1, sel_l, top}
@@ -8,7 +8,7 @@ use Rattle.std.proofs.Math.Utf8.{scalar, scalars}
 use Rattle.std.proofs.lemmas.Bool.{cases_Bool, cond-false, and_from, agree_below_at, eqb-true, ltb-true, ltb-false, leb-true, leb-false, lt-ltb}
 use Rattle.std.proofs.lemmas.List.{get_or-take, take-take, take-map, map-id}
 use Rattle.std.proofs.lemmas.Simd.{Each1-chunk, tops_compared, zip2_splat, splat_is_map}
-use Rattle.std.proofs.lemmas.Str.{encode_ascii, IsUtf8-append, chars-append, chars-encodes}
+use Rattle.std.proofs.lemmas.Str.{encode_ascii}
 use Rattle.properties_format.proofs.Encodings.Utf8Characters.{encode-two}
 use Rattle.properties_format.specs.Windows1252.{is_in_table, windows_1252_character}
 use Rattle.properties_format.specs.Encoding.{windows_1252}
@@ -20,7 +20,6 @@ use Rattle.properties_text.proofs.TextFronts.{decoded-more}
 use Rattle.byte_blocks.specs.Classes.{is_past_ascii}
 use Rattle.byte_blocks.specs.Marks.{clear_front}
 use Rattle.byte_blocks.specs.Moving.{spread}
-use Rattle.byte_blocks.proofs.Comparing.{each-same}
 use Rattle.byte_blocks.proofs.Marking.{fails-before}
 
 -- ---- one character
@@ -106,11 +105,7 @@ leads-are v long =
 
 -- ---- bytes of windows-1252
 
--- The bytes 80 to 9F are those of the table.
-pub tabled-is : (v : List ℕ) → Each1 (Fits w8) v → map (λ b. nat_le 0x80 b && nat_le b 0x9f) v ≡ map is_in_table v
-tabled-is v fits = each-same (λ b. nat_le 0x80 b && nat_le b 0x9f) is_in_table v (λ b small. agree_below_at (λ b. nat_le 0x80 b && nat_le b 0x9f) is_in_table 256 b refl small) fits
-
--- The bytes before the first of these aren't in the table.
+-- The bytes before the first of the table aren't in it.
 pub not-in_table : (bytes : List ℕ) (marks : List Bool) (k : ℕ) → marks ≡ map is_in_table (take 16 bytes) → k ≤ 16 → k ≤ clear_front marks
     → (j : ℕ) → j < k → is_in_table (get_or bytes j 0) ≡ false
 not-in_table bytes marks k e le few j lt =

@@ -4,7 +4,7 @@ use Rattle.std.proofs.lemmas.Bool.{cond-true, cond-false, cases_lt}
 use Rattle.std.proofs.lemmas.List.{at_drop_more, at_drop_all, take_more, take_all, drop_more, drop_all}
 use Rattle.properties_format.specs.Text.{backslash, is_blank, without_leading_blanks}
 use Rattle.properties_format.specs.Split.{ends}
-use Rattle.properties_format.specs.Computed.Split.{without_trailing_blanks, unless_last_blank, Cut, with_front, ends_key, cut_key}
+use Rattle.properties_format.specs.Computed.Split.{without_trailing_blanks, unless_last_blank, with_front, ends_key, cut_key}
 use Rattle.properties_format.proofs.Split.Blanks.{without_trailing_blanks-only}
 use Rattle.properties_format.proofs.Split.Keys.{with_text}
 

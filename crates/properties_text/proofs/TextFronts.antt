@@ -1,5 +1,5 @@
 -- Fronts of bytes that are valid text without being decoded.
-use Rattle.std.proofs.Common.{◌≡◌, ◌↔◌, ◌≤◌, ℕ, true, List, [], ◌∷◌, ◌++◌, length, drop, refl, sym, ap, ◌∙◌, append-nil, append_assoc}
+use Rattle.std.proofs.Common.{◌≡◌, ◌↔◌, ℕ, true, List, [], ◌∷◌, ◌++◌, length, drop, refl, sym, ap, ◌∙◌, append-nil, append_assoc}
 use Rattle.std.specs.Prelude.{Result, Ok, Err, MatchResult, OnErr, IsSome, encode_utf8_all}
 use Rattle.std.specs.Result.{result_ok}
 use Rattle.std.specs.Str.{IsUtf8, chars}
@@ -14,7 +14,7 @@ use Rattle.properties_format.specs.Computed.Encoding.{first_piece, pieces_of}
 use Rattle.properties_format.proofs.Encodings.Pieces.{pieces_of-nil}
 use Rattle.properties_format.proofs.Encodings.Waiting.{characters-step}
 use Rattle.properties_format.proofs.Encodings.WellFormed.{IsUtf8-from_well_formed, characters-ascii, characters-text}
-use Rattle.properties_text.specs.Decoding.{IsText, KeepsText}
+use Rattle.properties_text.specs.Decoding.{IsText}
 
 -- A result is `Ok` exactly if its fact holds.
 pub ok-exactly : {X E : Type 0} (A : X → Type 0) (B : E → Type 0) (P : Type 0) (r : Result X E)
@@ -36,10 +36,6 @@ text-decoded utf_16be d h = absurd h
 pub at-error : {X E : Type 0} {P : Type 0} (r : Result X E) → P → OnErr r P
 at-error (Ok x) h = tt
 at-error (Err e) h = h
-
--- If nothing more was appended, the text so far and the text of what is left make the whole text.
-pub text-kept : {old more now new : List ℕ} (rest : List ℕ) → new ≡ now → chars now ++ rest ≡ chars old ++ more → length old ≤ length now → KeepsText old more new
-text-kept rest same joins longer = record { others = rest; begins = rw same joins; longer = rw same longer }
 
 -- ---- The steps of decoding: the decoded text and the characters of the rest make `all`.
 

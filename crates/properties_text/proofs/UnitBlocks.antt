@@ -1,9 +1,9 @@
 -- Units of two bytes, sixteen at a time.
 use Rattle.std.specs.Prelude.{encode_utf8_all}
 use Rattle.std.specs.Str.{chars, IsUtf8, all_scalars}
-use Rattle.std.proofs.Common.{true, false, inl, inr, ◌≡◌, ℕ, zero, suc, ◌*◌, ◌<◌, ◌≤◌, ◌==◌, nat_le, not, Bool, List, [], ◌∷◌, ◌++◌, refl, sym, ap, ap₂, subst, ◌∙◌, append_assoc, arith, length, length-append, take, drop, get_or, map, eqb-true, w8, Fits}
+use Rattle.std.proofs.Common.{true, false, ◌≡◌, ℕ, zero, suc, ◌*◌, ◌<◌, ◌≤◌, ◌==◌, not, Bool, List, [], ◌∷◌, ◌++◌, refl, sym, ap, ap₂, subst, ◌∙◌, arith, length, length-append, take, drop, get_or, map, eqb-true}
 use Rattle.std.specs.List.{AllByRecursion}
-use Rattle.std.specs.Simd.Lanes.{Each1, pick_l}
+use Rattle.std.specs.Simd.Lanes.{pick_l}
 use Rattle.std.proofs.lemmas.Bool.{not-false, lt-leb}
 use Rattle.std.proofs.lemmas.Simd.{pick_l_whole}
 use Rattle.byte_blocks.specs.Marks.{clear_front}
@@ -63,27 +63,7 @@ first-zero v zero h = tt
 first-zero (b ∷ v) (suc n) h = (zero-byte b (h 0 (omega arith)), first-zero v n (λ k lt. h (suc k) (omega arith)))
 first-zero v n h = tt
 
--- The low bytes are below 100 hexadecimal.
-small-evens : (v : List ℕ) → Each1 (Fits w8) v → AllByRecursion (λ u. u < 0x100) (evens v)
-small-evens (a ∷ b ∷ v) h = (h.0.fits, small-evens v h.1.1)
-small-evens v h = tt
-
--- At odd indices.
-small-odds : (v : List ℕ) → Each1 (Fits w8) v → AllByRecursion (λ u. u < 0x100) (odds v)
-small-odds (a ∷ b ∷ v) h = (h.1.0.fits, small-odds v h.1.1)
-small-odds v h = tt
-
--- Lanes of two blocks are bytes.
-fits-append : (a b : List ℕ) → Each1 (Fits w8) a → Each1 (Fits w8) b → Each1 (Fits w8) (a ++ b)
-fits-append [] b h k = k
-fits-append (x ∷ a) b h k = (h.0, fits-append a b h.1 k)
-
--- Of two blocks.
-pub small-lows : (order : ByteOrder) (a b : List ℕ) → Each1 (Fits w8) a → Each1 (Fits w8) b → AllByRecursion (λ u. u < 0x100) (lows_of order (a ++ b))
-small-lows LowFirst a b h k = small-evens (a ++ b) (fits-append a b h k)
-small-lows HighFirst a b h k = small-odds (a ++ b) (fits-append a b h k)
-
--- So are the first of them.
+-- The first of small units are small.
 small-taken : (n : ℕ) (v : List ℕ) → AllByRecursion (λ u. u < 0x100) v → AllByRecursion (λ u. u < 0x100) (take n v)
 small-taken (suc n) (u ∷ v) h = (h.0, small-taken n v h.1)
 small-taken n v h = tt

@@ -1,19 +1,16 @@
 -- Keys, which may come first in a file, and pairs.
-use Rattle.std.proofs.Common.{◌≡◌, ℕ, ◌+◌, ◌-◌, ◌<◌, ◌≤◌, ◌&&◌, Bool, true, false, List, [], ◌∷◌, ◌++◌, length, take, drop, refl, sym, ap, ◌∙◌, inl, inr, append_assoc, arith}
+use Rattle.std.proofs.Common.{◌≡◌, ℕ, ◌+◌, ◌-◌, ◌<◌, ◌≤◌, ◌&&◌, Bool, true, false, List, [], ◌∷◌, ◌++◌, length, take, drop, refl, sym, ap, ◌∙◌, arith}
 use Rattle.std.specs.Prelude.{Result, Ok, Err}
 use Rattle.std.proofs.lemmas.List.{length-take-le, length-append, drop-take, drop-append-le, drop_all, take_rest}
 use Rattle.properties_format.specs.Encoding.{begins_like_bom}
-use Rattle.properties_format.specs.Escapes as format
-use Rattle.properties_format.specs.Escapes.{Meaning, means, breaks}
-use Rattle.properties_text.specs.Escaping.{malformed_in}
+use Rattle.properties_format.specs.Escapes.{Meaning, means}
 use Rattle.properties_format.specs.Printing.{in_key_or_value, unicode_escape}
 use Rattle.properties_text.specs.Printing.{encoding_in, only_in, puts_of, key_bytes, escaped_key}
-use Rattle.properties_text.specs.PrintedTexts.{meaning_by, meaning_in, IsReadBy, IsPut, Prints, bytes_of, key_of, value_of, IsPairPrinted, PrintsPair}
+use Rattle.properties_text.specs.PrintedTexts.{meaning_by, meaning_in, IsReadBy, IsPut, Prints}
 use Rattle.properties_text.specs.declared.encoding.line.LineEncoding.{LineEncoding}
 use Rattle.properties_text.specs.declared.encoding.line.Spelt.{Spelt}
 use Rattle.properties_text.specs.declared.escape.UnescapeError.{UnescapeError}
 use Rattle.properties_text.specs.declared.escape.UnescapeError.TheVariants as error
-use Rattle.properties_text.specs.declared.print.Pair.{Pair}
 use Rattle.properties_text.specs.declared.print.Repertoire.{Repertoire}
 use Rattle.properties_text.proofs.Printing.Characters.{first_escaped_more}
 use Rattle.properties_text.proofs.PrintedTexts.Runs.{read-meaning, empty-means, front-kept, fewer-kept}
@@ -132,35 +129,3 @@ escaped-rest {e} {escaped} {text} {first = first} r old new at between (Ok end) 
 escaped-rest {e} {escaped} {text} {first = first} r old new at between (Err (error.Malformed kind)) read is back put h =
     read-meaning escaped e text first read.stands ∙ rw (← is, h) refl
 escaped-rest r old new at between (Err error.Memory) read is back put h = tt
-
--- ---- pairs
-
--- The key, the separator, the value and the ending were put one after another.
-pub pair-put : {r : Repertoire} {first : Bool} {p : Pair} {separator ending old line new : List ℕ} {at0 at1 at2 at3 : ℕ} {out1 out2 out3 : List ℕ}
-    → take at0 old ≡ line → IsPut (key_of p) (key_bytes r first) old at0 out1 at1 → take at2 out2 ≡ take at1 out1 ++ separator
-    → IsPut (value_of p) (puts_of r) out2 at2 out3 at3 → new ≡ take at3 out3 ++ ending → IsPairPrinted r first line p separator ending new
-pair-put view k s v e = record {
-  key = k.meant;
-  value = v.meant;
-  key_means = k.meaning;
-  value_means = v.meaning;
-  printed = simp (e, v.printed, s, k.printed, view, append_assoc);
-}
-
--- What an error says.
-abbrev Refuses : (format.Malformed → Type 0) → UnescapeError → Type 0
-Refuses says (error.Malformed kind) = says (malformed_in kind)
-Refuses says error.Memory = Unit {0}
-
--- The key isn't printed,
-pub key-refused : {escaped : Bool} (r : Repertoire) (first : Bool) (line : List ℕ) (p : Pair) (separator ending : List ℕ) (e : UnescapeError) (new : List ℕ)
-    → escaped ≡ p.escaped → Refuses (λ kind. meaning_in p.encoding escaped (bytes_of p.key) ≡ breaks kind) e → PrintsPair r first line p separator ending (Err e) new
-key-refused r first line p separator ending (error.Malformed kind) new is h = inl (rw is at h)
-key-refused r first line p separator ending error.Memory new is h = tt
-
--- or the key is, and the value isn't.
-pub value-refused : {escaped : Bool} (r : Repertoire) (first : Bool) (line : List ℕ) (p : Pair) (separator ending : List ℕ) (e : UnescapeError) (new key : List ℕ)
-    → escaped ≡ p.escaped → key_of p ≡ means key → Refuses (λ kind. meaning_in p.encoding escaped (bytes_of p.value) ≡ breaks kind) e
-    → PrintsPair r first line p separator ending (Err e) new
-value-refused r first line p separator ending (error.Malformed kind) new key is k h = inr (key, k, rw is at h)
-value-refused r first line p separator ending error.Memory new key is k h = tt

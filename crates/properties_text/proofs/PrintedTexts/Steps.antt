@@ -1,5 +1,5 @@
 -- One byte, a run of bytes, or one character more of a text is printed.
-use Rattle.std.proofs.Common.{◌≡◌, ℕ, ◌<◌, ◌≤◌, ◌==◌, Bool, not, true, false, List, [], ◌∷◌, ◌++◌, refl, sym, ap, ap₂, ◌∙◌, subst, inl, inr, append-nil, arith, nat_lt, lt-ltb, le-ltb, ne_eqb}
+use Rattle.std.proofs.Common.{◌≡◌, ℕ, ◌<◌, ◌≤◌, ◌==◌, Bool, true, false, List, [], ◌∷◌, ◌++◌, refl, sym, ap, ap₂, ◌∙◌, subst, inl, inr, append-nil, arith, nat_lt, lt-ltb, le-ltb, ne_eqb}
 use Rattle.std.specs.Prelude.{None, is_some, nat_le}
 use lib.Utf8.{encode, encodes}
 use Rattle.std.specs.List.{All}
@@ -8,10 +8,10 @@ use Rattle.std.proofs.lemmas.Bool.{cases_lt, not-false, cond-true, cond-false, a
 use Rattle.std.proofs.lemmas.Str.{IsCharBoundary-start}
 use Rattle.std.proofs.lemmas.List.Elements.{All-head, All-tail}
 use Rattle.properties_format.specs.Encoding.{utf_8, windows_1252, one_byte, encoded}
-use Rattle.properties_format.specs.Text.{backslash, space}
+use Rattle.properties_format.specs.Text.{backslash}
 use Rattle.properties_format.specs.Windows1252.{windows_1252_character, windows_1252_byte}
 use Rattle.properties_format.specs.Escapes.{Meaning, means, breaks}
-use Rattle.properties_format.specs.Printing.{in_key_or_value, printed_character, printed_characters, encoded_text, unicode_escape, is_special, has_letter, may_be_unescaped}
+use Rattle.properties_format.specs.Printing.{in_key_or_value, printed_character, printed_characters, unicode_escape}
 use Rattle.properties_format.specs.Computed.Escapes.{in_front, text_in_front}
 use Rattle.properties_format.proofs.Undecoded.{same}
 use Rattle.properties_format.proofs.Encodings.Windows1252.{windows_1252_byte-character}
@@ -28,7 +28,6 @@ use Rattle.properties_text.specs.declared.print.Repertoire.TheVariants as repert
 use Rattle.properties_text.proofs.Texts.Characters.{AreWide, AreInside, one, wide, encoded as bytes-of, character_and, wide-no_backslash}
 use Rattle.properties_text.proofs.Texts.Resolving.{text_in_front-append}
 use Rattle.properties_text.proofs.Printing.Bytes.{ascii-printed, byte-printed, escaped-printed, past-special, past-letter, past-control, past-byte}
-use Rattle.properties_text.proofs.Printing.Characters.{encoded_escape}
 use Rattle.properties_text.proofs.Spelt.First.{ascii-first}
 
 -- ---- a character

@@ -1,7 +1,7 @@
 -- Texts printed byte by byte.
 use Rattle.std.proofs.Common.{◌≡◌, ℕ, ◌+◌, ◌<◌, ◌≤◌, ◌==◌, Bool, true, false, nat_lt, List, [], ◌∷◌, ◌++◌, refl, sym, ap, ◌∙◌, inl, inr, append_assoc, arith, lit<, le-ltb, lt-ltb, ltb-true, ne_eqb, eqb-true}
-use Rattle.std.specs.Prelude.{Option, Some, None, is_some, not, ◌&&◌, slice_index, unwrap_or}
-use Rattle.std.proofs.lemmas.Bool.{cases_Bool, cases_lt, cond-true, cond-false, agree_below_at, false_from_ne_true}
+use Rattle.std.specs.Prelude.{Some, not, ◌&&◌, slice_index, unwrap_or}
+use Rattle.std.proofs.lemmas.Bool.{cases_Bool, cases_lt, cond-true, agree_below_at, false_from_ne_true}
 use Rattle.properties_format.specs.Text.{space, backslash}
 use Rattle.properties_format.specs.Windows1252.{windows_1252_byte, windows_1252_table, is_in_table, place_from}
 use Rattle.properties_format.specs.Encoding.{Encoding, windows_1252, one_byte, encoded}

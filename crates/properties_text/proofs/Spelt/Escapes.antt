@@ -1,11 +1,9 @@
 -- Escapes at the front of some bytes, in either encoding.
 use Rattle.std.proofs.Common.{◌≡◌, ◌≢◌, ℕ, ◌+◌, ◌<◌, ◌≤◌, ◌==◌, ◌&&◌, true, List, [], ◌∷◌, ◌++◌, length, drop, get_or, refl, sym, ap, ap₂, ◌∙◌, subst, inl, inr, arith, lit<, ne_eqb, eqb-true}
 use Rattle.std.specs.Prelude.{None, Err}
-use lib.Utf8.{encodes}
 use Rattle.std.specs.Char.{IsScalar, InScalarRange, OutOfScalarRange}
-use Rattle.std.specs.Str.{chars}
 use Rattle.std.proofs.lemmas.Bool.{cases_lt, cond-false, and_parts, false_from_ne_true}
-use Rattle.std.proofs.lemmas.Str.{encodes-chars, chars-nil}
+use Rattle.std.proofs.lemmas.Str.{chars-nil}
 use Rattle.std.proofs.lemmas.List.{get_or-drop, drop-drop, length-drop}
 use Rattle.properties_format.specs.Text.{backslash}
 use Rattle.properties_format.specs.Escapes.{letter_u, escaped, unicode, surrogates, last, spelling_text, NoSpelling, are_hexadecimal, code_unit, is_high, is_low, is_surrogate, pair_character, escaped_character, breaks, Four, four_text}

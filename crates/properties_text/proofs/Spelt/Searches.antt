@@ -19,7 +19,7 @@ use Rattle.properties_text.specs.declared.encoding.line.LineEncoding.TheVariants
 use Rattle.properties_text.specs.declared.encoding.line.Spelt.{Spelt}
 use Rattle.properties_text.proofs.Spelt.First.{own-byte}
 use Rattle.properties_text.proofs.Spelt.Escapes.{spells-meaning}
-use Rattle.properties_text.proofs.Texts.Resolving.{found_some, found_none, split_at, plain, IsResolvedTo, resolved_none, resolved_many}
+use Rattle.properties_text.proofs.Texts.Resolving.{found_some, found_none, split_at, plain, IsResolvedTo, resolved_many}
 
 -- ---- windows-1252
 
@@ -71,10 +71,6 @@ pub record IsReadTo (e : LineEncoding) (text rest : List ℕ) : Type 0 where
   pub well : IsWell e rest
   pub done : List ℕ
   pub resolved : IsResolvedTo (text_in e text) [] done (text_in e rest)
-
--- At the start.
-pub nothing-read : (e : LineEncoding) (text : List ℕ) → IsWell e text → IsReadTo e text text
-nothing-read e text w = record { well = w; done = []; resolved = resolved_none (text_in e text) [] }
 
 -- One escape was read.
 pub one-read : (e : LineEncoding) (text rest : List ℕ) (at : ℕ) (spelt : Spelt) → IsReadTo e text rest → IsSplitIn e rest at → IsRead e (drop at rest) spelt

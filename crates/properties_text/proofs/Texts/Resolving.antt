@@ -1,5 +1,5 @@
 -- Texts whose escapes are resolved one after another.
-use Rattle.std.proofs.Common.{◌≡◌, ℕ, suc, ◌<◌, ◌+◌, ◌-◌, ◌==◌, ◌||◌, true, false, List, [], ◌∷◌, ◌++◌, length, take, drop, get_or, refl, ap, sym, ◌∙◌, subst, inl, inr, append_assoc, append-nil, arith}
+use Rattle.std.proofs.Common.{◌≡◌, ℕ, suc, ◌<◌, ◌+◌, ◌-◌, ◌==◌, ◌||◌, true, false, List, [], ◌∷◌, ◌++◌, length, take, drop, get_or, refl, ap, sym, ◌∙◌, subst, inl, inr, append_assoc, arith}
 use Rattle.std.specs.Prelude.{Option, Some, None, slice_range}
 use Rattle.std.specs.Option.{is_some}
 use lib.Utf8.{encodes}
@@ -163,9 +163,6 @@ pub record IsResolvedTo (text before now rest : List ℕ) : Type 0 where
   pub done : List ℕ
   pub grown : now ≡ before ++ done
   pub meaning : meaning_of text ≡ text_in_front done (meaning_of rest)
-
-pub resolved_none : (text before : List ℕ) → IsResolvedTo text before before text
-resolved_none text before = record { done = []; grown = sym (append-nil before); meaning = refl }
 
 -- Text without a backslash was appended, and escapes that were read together.
 pub resolved_many : {text before now rest to next : List ℕ} (front after cs : List ℕ) → IsResolvedTo text before now rest

@@ -1,20 +1,17 @@
 -- `\u` escapes, read from their bytes.
-use Rattle.std.proofs.Common.{◌≡◌, ℕ, ◌+◌, ◌*◌, ◌<◌, ◌≤◌, ◌==◌, ◌&&◌, true, false, List, [], ◌∷◌, ◌++◌, take, get_or, refl, sym, ap, subst, ◌∙◌, inl, inr, arith}
+use Rattle.std.proofs.Common.{◌≡◌, ℕ, ◌+◌, ◌*◌, ◌<◌, ◌≤◌, ◌==◌, ◌&&◌, true, false, List, [], ◌∷◌, ◌++◌, take, get_or, refl, sym, ap, subst, ◌∙◌, arith}
 use Rattle.std.specs.Prelude.{nat_le}
-use lib.Utf8.{encodes}
 use Rattle.std.specs.Str.{IsUtf8, chars}
 use Rattle.std.proofs.lemmas.Bool.{true_from_ne_false, false_from_ne_true, cond-true, cond-false, and_parts, and_from, agree_below_at, eqb-true, leb-true}
 use Rattle.std.proofs.lemmas.Bool.Decides.{nat_tests}
 use Rattle.std.proofs.lemmas.Str.{IsUtf8-append, IsUtf8-encode}
 use Rattle.std.specs.Char.{IsScalar, encode_utf8}
-use Rattle.properties_format.specs.Escapes.{is_hexadecimal, hexadecimal_value, Four, four_text, are_hexadecimal, code_unit}
+use Rattle.properties_format.specs.Escapes.{is_hexadecimal, hexadecimal_value, Four, are_hexadecimal, code_unit}
 use Rattle.properties_format.specs.Computed.Escapes.{in_front, text_in_front, meaning_of}
 use Rattle.properties_text.specs.Escaping.{digit_value, four_bytes}
 use Rattle.properties_text.specs.declared.escape.read.TheConstants.{DIGIT_VALUES}
-use Rattle.properties_format.proofs.Encodings.Utf8Characters.{encode-one}
 use Rattle.properties_format.proofs.Escapes.Scalars.{code_unit-below}
 use Rattle.properties_text.proofs.TextFronts.{chars-more}
-use Rattle.properties_text.proofs.Texts.Escapes.{IsUnit}
 use Rattle.properties_text.proofs.Texts.Resolving.{text_in_front-append}
 
 -- Each row of the table.

@@ -3,7 +3,7 @@ use Rattle.std.specs.Str.{chars}
 use Rattle.std.proofs.lemmas.Str.{IsUtf8-string_bytes, chars-append}
 use Rattle.properties_format.specs.Computed.Escapes.{meaning_of}
 use Rattle.properties_text.specs.Escaping.{malformed_in}
-use Rattle.properties_text.proofs.Texts.Resolving.{split_at, plain, slice-front, resolved_none, resolved_many, pushed_text, resolved_end, resolved_broken, broken}
+use Rattle.properties_text.proofs.Texts.Resolving.{split_at, plain, slice-front, resolved_many, pushed_text, resolved_end, resolved_broken, broken}
 use Rattle.properties_text.proofs.escape.push_resolved.Goals as goal
 
 pub returns-in-Err : goal.returns-in-Err

@@ -1,7 +1,6 @@
 use Rattle.std.proofs.Common.{◌∙◌}
-use Rattle.std.proofs.lemmas.Result.{err_from_is_err_and}
 use Rattle.properties_text.proofs.TextFronts.{at-error}
-use Rattle.properties_text.proofs.PrintedTexts.Keys.{pair-put, key-refused, value-refused, front-start, front-on, front-still}
+use Rattle.properties_text.proofs.PrintedTexts.Keys.{front-start, front-on, front-still}
 use Rattle.properties_text.proofs.print.print_parts.Goals as goal
 
 pub returns-in_err-after_separator-clause-unchanged : goal.returns-in_err-after_separator-clause-unchanged

@@ -1,4 +1,4 @@
-use Rattle.std.proofs.Common.{◌∙◌, ◌≤◌, ◌+◌, ◌-◌, ◌%◌, length, refl, arith}
+use Rattle.std.proofs.Common.{◌∙◌, ◌≤◌, ◌+◌, ◌-◌, ◌%◌, length, arith}
 use Rattle.std.proofs.lemmas.List.{length-drop, take_rest}
 use Rattle.properties_text.proofs.Latin1.{not-in_table, decoded-front}
 use Rattle.properties_text.proofs.encoding.decode.decode_blocks.Goals as goal

@@ -1,7 +1,6 @@
-use Rattle.std.proofs.Common.{◌++◌, refl, ◌≡◌, ◌∷◌, ◌∙◌, ◌<◌, rules, arith, sym, subst, ap, length, take, drop, get_or}
-use Rattle.std.specs.Str.{IsUtf8, chars}
+use Rattle.std.proofs.Common.{◌++◌, ◌≡◌, ◌∷◌, ◌∙◌, ◌<◌, rules, arith, sym, ap, length, take, drop, get_or}
+use Rattle.std.specs.Str.{chars}
 use Rattle.std.proofs.lemmas.List.{drop_more, length-drop, take_rest}
-use Rattle.std.proofs.lemmas.Str.{IsUtf8-append, IsUtf8-encode}
 use Rattle.properties_text.specs.Encoding.{encoding_of}
 use Rattle.properties_text.specs.Decoding.{text_of}
 use Rattle.properties_text.proofs.TextFronts.{decoded-one}

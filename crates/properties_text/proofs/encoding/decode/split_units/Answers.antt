@@ -1,7 +1,4 @@
-use Rattle.std.proofs.Common.{◌<◌, sym, subst}
-use Rattle.std.specs.List.{AllByRecursion}
-use Rattle.properties_text.specs.declared.encoding.utf_16.ByteOrder.TheVariants.{LowFirst, HighFirst}
-use Rattle.properties_text.proofs.UnitBlocks.{evens-picked, odds-picked, small-lows}
+use Rattle.properties_text.proofs.UnitBlocks.{evens-picked, odds-picked}
 use Rattle.properties_text.proofs.encoding.decode.split_units.Goals as goal
 
 pub returns-in-LowFirst-clause-lows : goal.returns-in-LowFirst-clause-lows

@@ -1,8 +1,7 @@
-use Rattle.std.proofs.Common.{sym, ◌∙◌, subst}
+use Rattle.std.proofs.Common.{sym, ◌∙◌}
 use Rattle.std.proofs.lemmas.List.{length-map}
-use Rattle.properties_format.specs.Text.{scalar}
 use Rattle.properties_text.specs.Decoding.{range_of}
-use Rattle.properties_text.proofs.FirstPieces.{whole-scalar, shows-whole, shows-broken}
+use Rattle.properties_text.proofs.FirstPieces.{shows-whole, shows-broken}
 use Rattle.properties_text.proofs.encoding.utf_8.first_piece.Goals as goal
 
 pub returns-then-fitting-ranges : goal.returns-then-fitting-ranges

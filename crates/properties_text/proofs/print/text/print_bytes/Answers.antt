@@ -1,6 +1,5 @@
 use Rattle.std.proofs.Common.{take, sym, subst, ◌∙◌, arith}
 use Rattle.std.proofs.lemmas.List.{length-take-le}
-use Rattle.std.proofs.lemmas.Result.{err_from_is_err_and}
 use Rattle.properties_format.specs.Text.{backslash}
 use Rattle.properties_text.specs.Spelt.{IsWell}
 use Rattle.properties_text.specs.PrintedTexts.{ArePut, from_on}

@@ -1,7 +1,6 @@
-use Rattle.std.proofs.Common.{◌≡◌, length, take, refl, ◌∙◌, arith}
-use Rattle.std.proofs.lemmas.List.{length-take-le}
+use Rattle.std.proofs.Common.{◌∙◌, arith}
 use Rattle.std.proofs.lemmas.Result.{err_from_is_err_and}
-use Rattle.properties_text.proofs.PrintedTexts.Runs.{put-none, put-on, put-run, stops-refused, fewer-kept, run-kept, small-take}
+use Rattle.properties_text.proofs.PrintedTexts.Runs.{put-on, put-run, stops-refused, fewer-kept, run-kept, small-take}
 use Rattle.properties_text.proofs.print.text.print_rest.Goals as goal
 
 pub loop-put-preserved : goal.loop-put-preserved

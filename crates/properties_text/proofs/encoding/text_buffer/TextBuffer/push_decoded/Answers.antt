@@ -1,8 +1,7 @@
-use Rattle.std.proofs.Common.{arith, [], ◌∙◌, append-nil, eqb-true, refl, sym}
+use Rattle.std.proofs.Common.{eqb-true, sym}
 use Rattle.std.specs.Str.{chars}
-use Rattle.properties_text.specs.Decoding.{text_of}
 use Rattle.properties_text.specs.Encoding.{encoding_of}
-use Rattle.properties_text.proofs.TextFronts.{decoded-all, at-error, text-kept}
+use Rattle.properties_text.proofs.TextFronts.{decoded-all}
 use Rattle.properties_text.proofs.encoding.text_buffer.TextBuffer.push_decoded.Goals as goal
 
 pub returns-clause-appended : goal.returns-clause-appended
