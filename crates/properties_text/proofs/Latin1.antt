@@ -89,8 +89,8 @@ last-at : (b : ℕ) → b < 256 → cond (ltb b 0xc0) b (bit_and b 0xbf) ≡ las
 last-at b h = eqb-true _ _ (agree_below_at (λ b. eqb (cond (ltb b 0xc0) b (bit_and b 0xbf)) (last_byte b)) (λ b. true) 256 b refl h)
 
 -- The last bytes of all characters.
-pub lasts-are : (v : List ℕ) → length v ≡ 16 → Each1 (Fits w8) v → sel_l (lower v) v (zip2 bit_and v (replicate 16 0xbf)) ≡ map last_byte v
-lasts-are v long fits =
+pub lasts_are : (v : List ℕ) → length v ≡ 16 → Each1 (Fits w8) v → sel_l (lower v) v (zip2 bit_and v (replicate 16 0xbf)) ≡ map last_byte v
+lasts_are v long fits =
     ap₂ (λ ms ys. sel_l ms v ys) (lower-is v long) (zip2_splat bit_and v 16 0xbf long)
     ∙ ap (λ xs. sel_l (map (λ b. ltb b 0xc0) v) xs (map (λ b. bit_and b 0xbf) v)) (sym (map-id v))
     ∙ sel_l-map (λ b. ltb b 0xc0) (λ b. b) (λ b. bit_and b 0xbf) v

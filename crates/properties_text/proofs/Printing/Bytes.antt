@@ -21,15 +21,15 @@ printed_bytes-append (b ∷ x) y = ap (λ v. printed_byte b ++ v) (printed_bytes
 
 -- ---- the tables
 
-pub before-at : (b : ℕ) → b < 256 → slice_index BEFORE b ≡ backslashes_before b
-before-at b h = eqb-true _ _ (agree_below_at (λ b. slice_index BEFORE b == backslashes_before b) (λ k. true) 256 b refl h)
+pub before_at : (b : ℕ) → b < 256 → slice_index BEFORE b ≡ backslashes_before b
+before_at b h = eqb-true _ _ (agree_below_at (λ b. slice_index BEFORE b == backslashes_before b) (λ k. true) 256 b refl h)
 
-pub last-at : (b : ℕ) → b < 256 → slice_index LAST b ≡ last_of b
-last-at b h = eqb-true _ _ (agree_below_at (λ b. slice_index LAST b == last_of b) (λ k. true) 256 b refl h)
+pub last_at : (b : ℕ) → b < 256 → slice_index LAST b ≡ last_of b
+last_at b h = eqb-true _ _ (agree_below_at (λ b. slice_index LAST b == last_of b) (λ k. true) 256 b refl h)
 
 -- A byte that neither table has is printed as an escape of digits.
-pub printed_byte-digits : (b : ℕ) → 1 < backslashes_before b → printed_byte b ≡ unit_escape b
-printed_byte-digits b h = elim (cases_Bool (is_special b)) [
+pub printed_digits : (b : ℕ) → 1 < backslashes_before b → printed_byte b ≡ unit_escape b
+printed_digits b h = elim (cases_Bool (is_special b)) [
   | inl s ↦ absurd (let one : backslashes_before b ≡ 1 = rw s refl in omega (arith, one, h))
   | inr s ↦ elim (cases_Bool (has_letter b)) [
     | inl l ↦ absurd (let one : backslashes_before b ≡ 1 = rw (s, l) refl in omega (arith, one, h))

@@ -19,8 +19,8 @@ backslashes-spread (b ∷ bs) = ap (λ l. cond (is_special b) (backslash ∷ b �
 
 module _ (v : List ℕ) (marks : List Bool) (k : ℕ) (long : length v ≡ 16) (are : marks ≡ map is_special v) where
   -- Backslashes before the special bytes among the first k.
-  pub first-spread : spread (take k marks) (take k (replicate 16 backslash)) (take k v) ≡ with_backslashes (take k v)
-  first-spread =
+  pub first_spread : spread (take k marks) (take k (replicate 16 backslash)) (take k v) ≡ with_backslashes (take k v)
+  first_spread =
       ap₂ (λ ms bs. spread (take k ms) (take k bs) (take k v)) are (splat_is_map v 16 backslash long)
       ∙ ap₂ (λ ms bs. spread ms bs (take k v)) (take-map is_special k v) (take-map (λ b. backslash) k v)
       ∙ sym (backslashes-spread (take k v))

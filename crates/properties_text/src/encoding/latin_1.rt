@@ -49,6 +49,7 @@ fn lead_bytes(v: u8x16) -> u8x16
 
 // For each character, the last byte or the only one.
 #[inline(always)]
+#[tactic(auto, using(crate::proofs::Latin1::lasts_are))]
 fn last_bytes(v: u8x16) -> u8x16
     ensures { result ≡ map last_byte v }
 {
