@@ -20,10 +20,7 @@ past-blank xs i h = leading-more xs i (blank-inside xs i h) h
 
 -- If the byte there isn't a blank, no more are skipped.
 pub no-blank : (xs : List ℕ) (i : ℕ) → is_blank (get_or xs i 0) ≡ false → without_leading_blanks (drop i xs) ≡ drop i xs
-no-blank xs i h = elim (cases_lt i (length xs)) [
-  | inl l ↦ leading-stop xs i l h
-  | inr l ↦ leading-end xs i l
-]
+no-blank xs i h = elim (cases_lt i (length xs)) [ inl l ↦ leading-stop xs i l h | inr l ↦ leading-end xs i l ]
 
 -- All of the blanks before an index are skipped.
 pub past-blanks : (xs : List ℕ) (i : ℕ) → Nowhere (Passes is_no_blank xs) 0 i → without_leading_blanks (drop i xs) ≡ without_leading_blanks xs

@@ -1,14 +1,15 @@
 -- Characters of Latin-1 in UTF-8, sixteen at a time.
-use Rattle.std.proofs.Common.{◌≡◌, ℕ, zero, suc, ◌+◌, ◌-◌, ◌/◌, ◌%◌, ◌<◌, ◌≤◌, Bool, true, false, cond, ltb, eqb, nat_lt, List, [], ◌∷◌, ◌++◌, refl, sym, ap, ap₂, ◌∙◌, inl, inr, arith, length, take, drop, get_or, map, replicate, w8, Fits, bit_and}
+use Rattle.std.proofs.Common.{◌≡◌, ℕ, zero, suc, ◌<◌, ◌≤◌, Bool, true, false, cond, ltb, eqb, List, [], ◌∷◌, ◌++◌, refl, sym, ap, ap₂, ◌∙◌, arith, length, take, drop, get_or, map, replicate, w8, Fits, bit_and}
 use Rattle.std.specs.Prelude.{encode_utf8_all}
 use Rattle.std.specs.Char.{encode_utf8}
 use Rattle.std.specs.Simd.Lanes.{zip2, Each1, sel_l, top}
 use Rattle.std.specs.Str.{IsUtf8, chars}
 use Rattle.std.proofs.Math.Utf8.{scalar, scalars}
-use Rattle.std.proofs.lemmas.Bool.{cases_Bool, cond-false, and_from, agree_below_at, eqb-true, ltb-true, ltb-false, leb-true, leb-false, lt-ltb}
+use Rattle.std.proofs.lemmas.Bool.{cond-false, and_from, agree_below_at, eqb-true}
 use Rattle.std.proofs.lemmas.List.{get_or-take, take-take, take-map, map-id}
 use Rattle.std.proofs.lemmas.Simd.{Each1-chunk, tops_compared, zip2_splat, splat_is_map}
 use Rattle.std.proofs.lemmas.Str.{encode_ascii}
+use Rattle.std.proofs.lemmas.Bool.Decides.{nat_tests}
 use Rattle.properties_format.proofs.Encodings.Utf8Characters.{encode-two}
 use Rattle.properties_format.specs.Windows1252.{is_in_table, windows_1252_character}
 use Rattle.properties_format.specs.Encoding.{windows_1252}
@@ -26,28 +27,11 @@ use Rattle.byte_blocks.proofs.Marking.{fails-before}
 
 -- The two bytes of a character above ASCII.
 pub two-bytes : (c : ℕ) → 0x80 ≤ c → c < 0x100 → encode_utf8 c ≡ lead_byte c ∷ last_byte c ∷ []
-two-bytes c l h = elim (cases_Bool (nat_lt c 0xc0)) [
-  | inl t ↦
-      let low = ltb-true c 0xc0 t in
-      let first : 192 + c / 64 ≡ 0xc2 = omega arith in
-      let second : 128 + c % 64 ≡ c = omega arith in
-      rw t (encode-two c l (omega arith) ∙ ap₂ (λ x y. x ∷ y ∷ []) first second)
-  | inr f ↦
-      let high = ltb-false c 0xc0 f in
-      let first : 192 + c / 64 ≡ 0xc3 = omega arith in
-      let second : 128 + c % 64 ≡ c - 0x40 = omega arith in
-      rw f (encode-two c l (omega arith) ∙ ap₂ (λ x y. x ∷ y ∷ []) first second)
-]
+two-bytes c l h = rw (encode-two c l (omega arith)) (grind (arith, nat_tests))
 
 -- One character, of one byte or two.
 one-spread : (c : ℕ) → c < 0x100 → encode_utf8 c ≡ cond (is_past_ascii c) (lead_byte c ∷ last_byte c ∷ []) (last_byte c ∷ [])
-one-spread c small = elim (cases_Bool (is_past_ascii c)) [
-  | inl t ↦ rw t (two-bytes c (leb-true 0x80 c t) small)
-  | inr f ↦
-      let low = leb-false 0x80 c f in
-      let same : last_byte c ≡ c = rw (lt-ltb c 0xc0 (omega arith)) refl in
-      rw f (encode_ascii c low ∙ ap (λ x. x ∷ []) (sym same))
-]
+one-spread c small = grind (arith, nat_tests, two-bytes, encode_ascii)
 
 -- ---- several characters
 

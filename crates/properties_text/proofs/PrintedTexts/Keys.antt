@@ -1,7 +1,8 @@
 -- Keys, which may come first in a file, and pairs.
 use Rattle.std.proofs.Common.{◌≡◌, ℕ, ◌+◌, ◌-◌, ◌<◌, ◌≤◌, ◌&&◌, Bool, true, false, List, [], ◌∷◌, ◌++◌, length, take, drop, refl, sym, ap, ◌∙◌, arith}
 use Rattle.std.specs.Prelude.{Result, Ok, Err}
-use Rattle.std.proofs.lemmas.List.{length-take-le, length-append, drop-take, drop-append-le, drop_all, take_rest}
+use Rattle.std.proofs.lemmas.List.{length-take-le, drop-take, drop_at, take_rest}
+use Rattle.std.proofs.lemmas.Grind.{common_steps}
 use Rattle.properties_format.specs.Encoding.{begins_like_bom}
 use Rattle.properties_format.specs.Escapes.{Meaning, means}
 use Rattle.properties_format.specs.Printing.{in_key_or_value, unicode_escape}
@@ -22,17 +23,9 @@ use Rattle.properties_text.proofs.Spelt.Escapes.{no-text}
 pub slice-put : (old new bytes : List ℕ) (at end : ℕ) → at ≤ length old → end ≤ length new → take end new ≡ take at old ++ bytes
     → (at ≤ end) × (take (end - at) (drop at new) ≡ bytes)
 slice-put old new bytes at end room within e =
-    let front : length (take at old) ≡ at = length-take-le at old room in
-    let size : end ≡ at + length bytes =
-    sym (length-take-le end new within) ∙ ap length e ∙ length-append (take at old) bytes ∙ ap (λ n. n + length bytes) front in
-    let whole : at + (end - at) ≡ end = omega (arith, size) in (
-      omega (arith, size),
-      sym (drop-take at (end - at) new)
-          ∙ ap (λ n. drop at (take n new)) whole
-          ∙ ap (drop at) e
-          ∙ drop-append-le at (take at old) bytes (omega (arith, front))
-          ∙ ap (λ v. v ++ bytes) (drop_all at (take at old) (omega (arith, front))),
-    )
+    let size : end ≡ at + length bytes = grind (arith, common_steps, ap length e) in
+    let whole : at + (end - at) ≡ end = omega (arith, size) in
+    (omega (arith, size), cc (drop-take at (end - at) new, drop_at (take at old) bytes at (length-take-le at old room)))
 
 -- The bytes before this place are those of a line, and more may have been put after them.
 pub record KeepsFront (from : ℕ) (line : List ℕ) (at : ℕ) (out : List ℕ) : Type 0 where
@@ -110,9 +103,7 @@ some-text e r escaped (b ∷ bs) old at new end h like = omega arith
 -- what is left of a text, as a slice of its bytes
 pub rest-at : (bytes : List ℕ) (size read : ℕ) → read ≤ size → take (size - read) (take (length bytes - read) (drop read bytes)) ≡ drop read (take size bytes)
 rest-at bytes size read h =
-    ap (take (size - read)) (take_rest bytes read)
-    ∙ sym (drop-take read (size - read) bytes)
-    ∙ ap (λ m. drop read (take m bytes)) (let e : read + (size - read) ≡ size = omega (arith, h) in e)
+    let whole : read + (size - read) ≡ size = omega (arith, h) in rw (take_rest, ← drop-take read (size - read) bytes, whole) refl
 
 -- The first character is escaped, and the rest is printed.
 pub escaped-rest : {e : LineEncoding} {escaped : Bool} {text rest mid written : List ℕ} {first : Spelt} (r : Repertoire) (old new : List ℕ) (at between : ℕ)

@@ -3,9 +3,10 @@ use Rattle.std.proofs.Common.{◌≡◌, ℕ, ◌+◌, ◌-◌, ◌*◌, ◌<◌
 use Rattle.std.specs.Prelude.{Some, Result, Ok, Err}
 use Rattle.std.specs.List.{All}
 use Rattle.std.proofs.lemmas.Bool.{cases_lt, not-true}
+use Rattle.std.proofs.lemmas.Grind.{common_steps}
 use Rattle.std.proofs.lemmas.Str.{IsUtf8-nil, chars-nil}
 use Rattle.std.proofs.Math.Seq.{take-append_seam}
-use Rattle.std.proofs.lemmas.List.{length-map, length-append, take-append-le, get_or-drop, get_or-take, get_or_past, length-take, length-take-le, take-take, drop-take, drop-drop, drop_more, drop_all, take-append-drop, length-drop}
+use Rattle.std.proofs.lemmas.List.{length-map, length-append, get_or-drop, get_or-take, length-take-le, take-take, drop-take, drop-drop, drop_more, drop_all, take-append-drop, length-drop}
 use Rattle.std.proofs.lemmas.List.Elements.{All-append, All-weaker, All-nil, All-cons, All-from_get_or, All-take, All-drop}
 use Rattle.properties_format.specs.Text.{backslash, space}
 use Rattle.properties_format.specs.Escapes as format
@@ -14,12 +15,11 @@ use Rattle.properties_format.specs.Computed.Escapes.{in_front, text_in_front}
 use Rattle.properties_format.proofs.Escapes.Unique.{text_in_front-means, text_in_front-breaks, meaning_of-empty}
 use Rattle.properties_text.specs.Escaping.{malformed_in}
 use Rattle.properties_text.specs.Printing.{printed_byte, printed_bytes, with_backslashes, put_of, puts_of}
-use Rattle.properties_text.specs.Spelt.{text_in, IsWell, IsFirst, Reads}
+use Rattle.properties_text.specs.Spelt.{text_in, IsWell, IsFirst}
 use Rattle.properties_text.specs.PrintedTexts.{meaning_by, meaning_in, printed_by, printed_in, is_copied, is_inside, past_in, rest_in, StopsIn, ArePut, StandsBy, IsReadBy, ReadsBy, from_on, PutsStops, PrintsRest, IsRunPut, IsPut, Prints}
 use Rattle.properties_text.specs.declared.encoding.line.LineEncoding.{LineEncoding}
 use Rattle.properties_text.specs.declared.encoding.line.LineEncoding.TheVariants.{Windows1252, Utf8}
 use Rattle.properties_text.specs.declared.encoding.line.Spelt.{Spelt}
-use Rattle.properties_text.specs.declared.escape.Malformed.{Malformed}
 use Rattle.properties_text.specs.declared.escape.UnescapeError.{UnescapeError}
 use Rattle.properties_text.specs.declared.escape.UnescapeError.TheVariants as error
 use Rattle.byte_blocks.specs.Marks.{clear_front}
@@ -34,11 +34,6 @@ use Rattle.properties_text.proofs.Printing.Bytes.{printed_bytes-append}
 use Rattle.properties_text.proofs.PrintedTexts.Steps.{printed-one, rest-well, past-well, starts-well, run-of, not-inside}
 
 -- ---- reading one character
-
--- What a backslash at a stop spells is read.
-pub reads-escape : (escaped : Bool) (e : LineEncoding) (bs : List ℕ) (r : Result Spelt Malformed) → escaped ≡ true → Reads e bs r → ReadsBy escaped e bs r
-reads-escape escaped e bs (Ok spelt) on h = record { some = h.some; within = h.within; stands = rw on h.spells; well = h.well }
-reads-escape escaped e bs (Err m) on h = rw on h.1
 
 -- Any other character stands for itself.
 pub reads-itself : (escaped : Bool) (e : LineEncoding) (bs : List ℕ) (spelt : Spelt) → IsWell e bs → (get_or bs 0 0 ≡ backslash → escaped ≡ false)
@@ -236,10 +231,7 @@ run-byte {holds} {old} {text} {at = at} {from = from} inside clear few printed =
 
 -- The bytes of a front are bytes.
 pub small-take : (n : ℕ) (xs : List ℕ) → ((i : ℕ) → get_or xs i 0 < 256) → (i : ℕ) → get_or (take n xs) i 0 < 256
-small-take n xs small i = elim (cases_lt i n) [
-  | inl h ↦ rw get_or-take (small i)
-  | inr h ↦ omega (arith, get_or_past (take n xs) i 0 (omega (arith, length-take n xs, h)))
-]
+small-take n xs small i = grind (arith, common_steps, small i)
 
 -- ---- blocks
 
@@ -253,11 +245,7 @@ run-on {holds} {old} {text} {at = at} {put = put} one two = record {
   read = two.read;
   few = omega (arith, one.few, two.few, length-append one.bytes two.bytes);
   clear = All-append (λ b. holds b ≡ false) one.bytes two.bytes one.clear two.clear;
-  printed =
-      two.printed
-      ∙ ap (λ v. v ++ printed_bytes two.bytes) one.printed
-      ∙ append_assoc (take at old) (printed_bytes one.bytes) (printed_bytes two.bytes)
-      ∙ ap (λ v. take at old ++ v) (sym (printed_bytes-append one.bytes two.bytes));
+  printed = simp (two.printed, one.printed, append_assoc, printed_bytes-append);
 }
 
 -- No run yet, where room was made.
@@ -284,18 +272,14 @@ block-run {holds} {old} {marks = marks} {so_far} bytes v size kept inside from c
     let text = take size bytes in
     let many : length (take kept v) ≡ kept = length-take-le kept v (omega (arith, few, long)) in
     let own : All (λ b. holds b ≡ false) (take kept v) = clear-before holds v marks kept are clear in
-    let front : take kept v ≡ take kept (drop r bytes) =
-    sym (take-take kept 16 v few)
-    ∙ sym (take-take kept (length bytes - r) (take 16 v) (omega (arith, within, inside)))
-    ∙ ap (take kept) block
-    ∙ take-take kept 16 (drop r bytes) few in
-    let back : take kept (drop r text) ≡ take kept (drop r bytes) =
-    ap (take kept) (ap (λ m. drop r (take m bytes)) (let e : size ≡ r + (size - r) = omega (arith, from) in e) ∙ drop-take r (size - r) bytes)
-    ∙ take-take kept (size - r) (drop r bytes) within in
+    let whole : r + (size - r) ≡ size = omega (arith, from) in
+    let same : take kept (drop r text) ≡ take kept v =
+    cc (ap (take kept) block, take-take kept (length bytes - r) (take 16 v) (omega (arith, within, inside)), take-take kept 16 v few,
+    take-take kept 16 (drop r bytes) few, drop-take r (size - r) bytes, take-take kept (size - r) (drop r bytes) within) in
     let plain : All (λ b. space ≤ b) (take kept v) = All-weaker (λ b. holds b ≡ false) (λ b. space ≤ b) above-controls (take kept v) own in
     record {
       bytes = take kept v;
-      text_is = sym (take-append-drop kept (drop r text)) ∙ ap₂ (λ x y. x ++ y) (back ∙ sym front) (drop-drop kept r text);
+      text_is = sym (take-append-drop kept (drop r text)) ∙ ap₂ (λ x y. x ++ y) same (drop-drop kept r text);
       read_is = omega (arith, many);
       read = omega (arith, length-take-le size bytes inside, within, from);
       few = omega (arith, most, many);
@@ -312,15 +296,10 @@ pub block-stops : (holds : ℕ → Bool) (bytes v : List ℕ) (marks : List Bool
     → holds (get_or (take size bytes) (read + kept) 0) ≡ true
 block-stops holds bytes v marks size read kept inside long block are at few within =
     let stop = (first-byte holds v marks (Some kept) are (at, omega (arith, ap length are, length-map v holds, long, few))).1 in
-    ap holds (
-    get_or-take size bytes (read + kept) 0 within
-    ∙ sym (get_or-drop read bytes kept 0)
-    ∙ sym (get_or-take 16 (drop read bytes) kept 0 few)
-    ∙ ap (λ l. get_or l kept 0) (sym block)
-    ∙ get_or-take (length bytes - read) (take 16 v) kept 0 (omega (arith, within, inside))
-    ∙ get_or-take 16 v kept 0 few
-    )
-    ∙ stop
+    let same : get_or (take size bytes) (read + kept) 0 ≡ get_or v kept 0 =
+    cc (ap (λ l. get_or l kept 0) block, get_or-take size bytes (read + kept) 0 within, get_or-drop read bytes kept 0, get_or-take 16 (drop read bytes) kept 0 few,
+    get_or-take (length bytes - read) (take 16 v) kept 0 (omega (arith, within, inside)), get_or-take 16 v kept 0 few) in
+    ap holds same ∙ stop
 
 -- ---- what was put before
 
@@ -328,14 +307,8 @@ block-stops holds bytes v marks size read kept inside long block are at few with
 pub front-kept : (old new bytes : List ℕ) (from at end : ℕ) → from ≤ at → at ≤ length old → end ≤ length new → take end new ≡ take at old ++ bytes
     → (at ≤ end) × (take from new ≡ take from old)
 front-kept old new bytes from at end before room within e =
-    let front = length-take-le at old room in
-    let size : end ≡ at + length bytes = omega (arith, length-take-le end new within, ap length e, length-append (take at old) bytes, front) in (
-      omega (arith, size),
-      sym (take-take from end new (omega (arith, size, before)))
-          ∙ ap (take from) e
-          ∙ take-append-le from (take at old) bytes (omega (arith, front, before))
-          ∙ take-take from at old before,
-    )
+    let size : end ≡ at + length bytes = grind (arith, common_steps, ap length e) in
+    (omega (arith, size), grind (arith, common_steps, ap (take from) e))
 
 -- So do fewer bytes of it.
 pub fewer-kept : (xs ys : List ℕ) (k n : ℕ) → k ≤ n → take n xs ≡ take n ys → take k xs ≡ take k ys

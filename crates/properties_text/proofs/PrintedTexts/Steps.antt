@@ -1,5 +1,6 @@
 -- One byte, a run of bytes, or one character more of a text is printed.
 use Rattle.std.proofs.Common.{◌≡◌, ℕ, ◌<◌, ◌≤◌, ◌==◌, Bool, true, false, List, [], ◌∷◌, ◌++◌, refl, sym, ap, ap₂, ◌∙◌, subst, inl, inr, append-nil, arith, nat_lt, lt-ltb, le-ltb, ne_eqb}
+use Rattle.std.proofs.lemmas.Bool.Decides.{nat_tests}
 use Rattle.std.specs.Prelude.{None, is_some, nat_le}
 use lib.Utf8.{encode, encodes}
 use Rattle.std.specs.List.{All}
@@ -78,10 +79,7 @@ no-inside [] u = (refl, refl)
 no-inside (b ∷ bs) u = (cond-false (is_inside b) _ _ first, cond-false (is_inside b) _ _ first)
   where
     first : is_inside b ≡ false
-    first = elim (cases_lt b 0x80) [
-      | inl l ↦ not-inside b l
-      | inr l ↦ leads b ((IsCharBoundary-start (b ∷ bs) u).1 (omega arith) l)
-    ]
+    first = grind (arith, nat_tests, (IsCharBoundary-start (b ∷ bs) u).1)
 
 -- So the rest of a well-formed text comes to what the text does.
 pub rest-well : (e : LineEncoding) (t : Repertoire) (escaped : Bool) (bs : List ℕ) → IsWell e bs → rest_in e t escaped bs ≡ printed_in e t escaped bs

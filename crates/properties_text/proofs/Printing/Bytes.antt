@@ -1,7 +1,8 @@
 -- Texts printed byte by byte.
-use Rattle.std.proofs.Common.{◌≡◌, ℕ, ◌+◌, ◌<◌, ◌≤◌, ◌==◌, Bool, true, false, nat_lt, List, [], ◌∷◌, ◌++◌, refl, sym, ap, ◌∙◌, inl, inr, append_assoc, arith, lit<, le-ltb, lt-ltb, ltb-true, ne_eqb, eqb-true}
+use Rattle.std.proofs.Common.{◌≡◌, ℕ, ◌+◌, ◌<◌, ◌≤◌, ◌==◌, Bool, true, false, nat_lt, List, [], ◌∷◌, ◌++◌, refl, sym, ap, ◌∙◌, inl, inr, append_assoc, arith, lit<, le-ltb, ne_eqb, eqb-true}
 use Rattle.std.specs.Prelude.{Some, not, ◌&&◌, slice_index, unwrap_or}
-use Rattle.std.proofs.lemmas.Bool.{cases_Bool, cases_lt, cond-true, agree_below_at, false_from_ne_true}
+use Rattle.std.proofs.lemmas.Bool.{cases_Bool, cases_lt, agree_below_at, false_from_ne_true}
+use Rattle.std.proofs.lemmas.Bool.Decides.{nat_tests}
 use Rattle.properties_format.specs.Text.{space, backslash}
 use Rattle.properties_format.specs.Windows1252.{windows_1252_byte, windows_1252_table, is_in_table, place_from}
 use Rattle.properties_format.specs.Encoding.{Encoding, windows_1252, one_byte, encoded}
@@ -29,16 +30,7 @@ last_at b h = eqb-true _ _ (agree_below_at (λ b. slice_index LAST b == last_of 
 
 -- A byte that neither table has is printed as an escape of digits.
 pub printed_digits : (b : ℕ) → 1 < backslashes_before b → printed_byte b ≡ unit_escape b
-printed_digits b h = elim (cases_Bool (is_special b)) [
-  | inl s ↦ absurd (let one : backslashes_before b ≡ 1 = rw s refl in omega (arith, one, h))
-  | inr s ↦ elim (cases_Bool (has_letter b)) [
-    | inl l ↦ absurd (let one : backslashes_before b ≡ 1 = rw (s, l) refl in omega (arith, one, h))
-    | inr l ↦ elim (cases_Bool (nat_lt b space)) [
-      | inl k ↦ rw (s, l, k) (cond-true (nat_lt b 0x1_0000) (unit_escape b) _ (lt-ltb b 0x1_0000 (let low = ltb-true b space k in omega (arith, low))))
-      | inr k ↦ absurd (let none : backslashes_before b ≡ 0 = rw (s, l, k) refl in omega (arith, none, h))
-    ]
-  ]
-]
+printed_digits b h = grind (arith, nat_tests)
 
 -- ---- ASCII
 

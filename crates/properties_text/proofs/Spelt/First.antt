@@ -1,6 +1,7 @@
 -- The first character of some bytes, in either encoding.
-use Rattle.std.proofs.Common.{◌≡◌, ℕ, ◌+◌, ◌-◌, ◌/◌, ◌<◌, ◌≤◌, List, [], ◌∷◌, ◌++◌, length, take, drop, get_or, refl, sym, ap, ap₂, ◌∙◌, subst, inl, inr, arith, lt-ltb, le-ltb}
-use Rattle.std.proofs.Math.Seq.{take-append_seam, drop-append_seam}
+use Rattle.std.proofs.Common.{◌≡◌, ℕ, ◌-◌, ◌<◌, ◌≤◌, List, [], ◌∷◌, ◌++◌, length, take, drop, get_or, sym, ap, ap₂, ◌∙◌, subst, inl, inr, arith}
+use Rattle.std.proofs.lemmas.Grind.{common_steps}
+use Rattle.std.proofs.Math.Seq.{drop-append_seam}
 use Rattle.std.specs.Prelude.{Option, Some, None, IsSome, unwrap_or}
 use Rattle.std.specs.Option.{SomeIff}
 use lib.Utf8.{encode, encodes, scalars, scalar}
@@ -10,6 +11,7 @@ use Rattle.std.proofs.lemmas.Bool.{cases_lt, and_parts}
 use Rattle.std.proofs.lemmas.Str.{encodes-chars, length-encode, len_utf8_bounds}
 use Rattle.std.proofs.lemmas.List.{length-append}
 use Rattle.properties_format.specs.Text.{scalar as is_scalar}
+use Rattle.std.proofs.lemmas.Bool.Decides.{nat_tests}
 use Rattle.properties_format.specs.Utf8.{sequence_character}
 use Rattle.properties_format.specs.Windows1252.{windows_1252_character}
 use Rattle.properties_format.specs.Computed.Undecoded.{characters_of}
@@ -27,22 +29,16 @@ use Rattle.properties_text.proofs.Texts.Characters.{character_and, first_ascii}
 -- The first byte of a character says how many there are.
 length-of : (c : ℕ) (rest : List ℕ) → c < 0x11_0000 → length_by_first (get_or (encode c ++ rest) 0 0) ≡ length (encode c)
 length-of c rest s = elim (cases_lt c 0x80) [
-  | inl h ↦ rw (encode-one c h) (rw (lt-ltb c 0x80 h) refl)
+  | inl h ↦ rw (encode-one c h) (grind (arith, nat_tests))
   | inr l ↦ elim (cases_lt c 0x800) [
-    | inl h ↦ rw (encode-two c l h) (rw (le-ltb (192 + c / 64) 0x80 (omega arith), lt-ltb (192 + c / 64) 0xe0 (omega arith)) refl)
-    | inr m ↦ elim (cases_lt c 0x1_0000) [
-      | inl h ↦ rw (encode-three c m h) (rw (le-ltb (224 + c / 4096) 0x80 (omega arith), le-ltb (224 + c / 4096) 0xe0 (omega arith), lt-ltb (224 + c / 4096) 0xf0 (omega arith)) refl)
-      | inr n ↦ rw (encode-four c n) (rw (le-ltb (240 + c / 262144) 0x80 (omega arith), le-ltb (240 + c / 262144) 0xe0 (omega arith), le-ltb (240 + c / 262144) 0xf0 (omega arith)) refl)
-    ]
+    | inl h ↦ rw (encode-two c l h) (grind (arith, nat_tests))
+    | inr m ↦ elim (cases_lt c 0x1_0000) [ inl h ↦ rw (encode-three c m h) (grind (arith, nat_tests)) | inr n ↦ rw (encode-four c n) (grind (arith, nat_tests)) ]
   ]
 ]
 
 -- The first byte and the others of a front.
 bytes-of : (xs rest : List ℕ) → 0 < length xs → get_or (xs ++ rest) 0 0 ∷ take (length xs - 1) (drop 1 (xs ++ rest)) ≡ xs
-bytes-of [] rest h = absurd (omega arith)
-bytes-of (x ∷ xs) rest h =
-    let e : length (x ∷ xs) - 1 ≡ length xs = omega arith in
-    ap (λ n. x ∷ take n (xs ++ rest)) e ∙ ap (λ v. x ∷ v) (take-append_seam xs rest)
+bytes-of xs rest h = grind (arith, common_steps)
 
 -- What is read of a character: its number of bytes, and its number.
 pub record IsSequence (bs : List ℕ) (n : ℕ) : Type 0 where

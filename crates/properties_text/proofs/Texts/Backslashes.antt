@@ -1,5 +1,6 @@
 -- The number of backslashes at the end of a text, counted on its bytes.
 use Rattle.std.proofs.Common.{◌≡◌, ℕ, ◌<◌, ◌≤◌, ◌+◌, ◌-◌, ◌==◌, false, List, [], ◌∷◌, ◌++◌, length, take, get_or, refl, ap, sym, ◌∙◌, append_assoc, arith}
+use Rattle.std.proofs.lemmas.Grind.{common_steps}
 use lib.Utf8.{encodes}
 use Rattle.std.specs.Str.{IsUtf8, chars}
 use Rattle.std.proofs.lemmas.Str.{encodes-chars}
@@ -44,10 +45,7 @@ IsCounted xs start = ending_backslashes xs ≡ ending_backslashes (take start xs
 
 -- No character comes before them, or one that isn't a backslash.
 pub counted_all : (xs : List ℕ) (e : ℕ) → IsUtf8 xs → e ≤ 0 → IsCounted xs e → length xs - e ≡ ending_backslashes (chars xs)
-counted_all xs e u h k =
-    let zero : e ≡ 0 = omega arith in
-    let none : ending_backslashes (take e xs) ≡ 0 = ap (λ n. ending_backslashes (take n xs)) zero in
-    omega (arith, k, none, ending_backslashes-text xs u)
+counted_all xs e u h k = grind (arith, common_steps, k, ending_backslashes-text xs u)
 
 pub counted_stop : (xs : List ℕ) (e : ℕ) → IsUtf8 xs → 0 < e → e ≤ length xs → (get_or xs (e - 1) 0 == backslash) ≡ false → IsCounted xs e
     → length xs - e ≡ ending_backslashes (chars xs)

@@ -1,7 +1,7 @@
 -- What determines how lines are joined is the same in bytes and in characters.
 use Rattle.std.proofs.Common.{◌≡◌, ℕ, ◌≤◌, ◌-◌, ◌==◌, true, List, [], ◌∷◌, ◌++◌, length, take, get_or, refl, ap, sym, ◌∙◌, subst, inl, inr, length-append, arith}
 use Rattle.std.specs.Prelude.{◌%◌}
-use Rattle.std.proofs.lemmas.List.{take_at, get_or_at}
+use Rattle.std.proofs.lemmas.Grind.{common_steps}
 use lib.Utf8.{encode, encodes, scalars}
 use Rattle.std.specs.Str.{IsUtf8, IsCharBoundary, chars}
 use Rattle.std.proofs.lemmas.Str.{encodes-chars, encodes-append, IsCharBoundary-from_take}
@@ -69,11 +69,11 @@ cut_open bs u h =
     let whole = open-ends bs open_bytes in
     let size : length (without_last bs) ≡ length bs - 1 = omega (arith, ap length whole, length-append (without_last bs) (backslash ∷ [])) in
     let front : take (length bs - 1) bs ≡ without_open_backslash bs =
-    rw open_bytes (ap (take (length bs - 1)) whole ∙ take_at (without_last bs) (backslash ∷ []) (length bs - 1) size) in
+    rw open_bytes (grind (arith, common_steps, ap (take (length bs - 1)) whole)) in
     let part = without_open_backslash-part bs u in
     record {
       some = omega (arith, ap length whole, length-append (without_last bs) (backslash ∷ []));
-      last = ap (λ v. get_or v (length bs - 1) 0) whole ∙ get_or_at (without_last bs) backslash [] 0 (length bs - 1) size;
+      last = grind (arith, common_steps, ap (λ v. get_or v (length bs - 1) 0) whole);
       boundary = IsCharBoundary-from_take bs (length bs - 1) u (omega arith) (subst IsUtf8 (sym front) part.utf8);
       rest = ap chars front ∙ part.same;
     }

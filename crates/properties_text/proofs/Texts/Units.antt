@@ -2,7 +2,7 @@
 use Rattle.std.proofs.Common.{◌≡◌, ℕ, ◌+◌, ◌*◌, ◌<◌, ◌≤◌, ◌==◌, ◌&&◌, true, false, List, [], ◌∷◌, ◌++◌, take, get_or, refl, sym, ap, subst, ◌∙◌, arith}
 use Rattle.std.specs.Prelude.{nat_le}
 use Rattle.std.specs.Str.{IsUtf8, chars}
-use Rattle.std.proofs.lemmas.Bool.{true_from_ne_false, false_from_ne_true, cond-true, cond-false, and_parts, and_from, agree_below_at, eqb-true, leb-true}
+use Rattle.std.proofs.lemmas.Bool.{false_from_ne_true, cond-true, and_parts, and_from, agree_below_at, eqb-true, leb-true}
 use Rattle.std.proofs.lemmas.Bool.Decides.{nat_tests}
 use Rattle.std.proofs.lemmas.Str.{IsUtf8-append, IsUtf8-encode}
 use Rattle.std.specs.Char.{IsScalar, encode_utf8}
@@ -24,8 +24,7 @@ digit-small b h = leb-true (digit_value b) 0x10000 (agree_below_at (λ b. nat_le
 
 -- A byte whose value is less than that of a non-digit is a digit.
 digit-is : (b : ℕ) → digit_value b < 0x10000 → is_hexadecimal b ≡ true
-digit-is b h = true_from_ne_false (is_hexadecimal b) (λ f.
-    let none : digit_value b ≡ 0x10000 = cond-false (is_hexadecimal b) _ _ f in omega (arith, h, none))
+digit-is b h = grind (arith, nat_tests)
 
 -- The value of a digit.
 digit-of : (b : ℕ) → is_hexadecimal b ≡ true → digit_value b ≡ hexadecimal_value b
