@@ -44,9 +44,7 @@ latin-spread (c ∷ cs) fits = ap₂ (λ x y. x ++ y) (one-spread c fits.0.fits)
 pub first-spread : (v block before : List ℕ) (marks : List Bool) (k : ℕ) → Each1 (Fits w8) v → block ≡ map last_byte v → before ≡ map lead_byte v → marks ≡ map is_past_ascii v
     → spread (take k marks) (take k before) (take k block) ≡ encode_utf8_all (take k v)
 first-spread v block before marks k fits block_is before_is marks_are =
-    (λ i. spread (take k (marks_are i)) (take k (before_is i)) (take k (block_is i)))
-    ∙ (λ i. spread (take-map is_past_ascii k v i) (take-map lead_byte k v i) (take-map last_byte k v i))
-    ∙ sym (latin-spread (take k v) (Each1-chunk (Fits w8) 0 k v fits))
+    simp (marks_are, before_is, block_is, take-map) (sym (latin-spread (take k v) (Each1-chunk (Fits w8) 0 k v fits)))
 
 -- ---- what is computed of each lane
 

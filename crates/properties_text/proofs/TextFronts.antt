@@ -57,10 +57,6 @@ chars-more old new c u h e =
     let own : chars (encode_utf8 c) ≡ c ∷ [] = ap chars (sym (append-nil (encode_utf8 c))) ∙ chars-encodes (c ∷ []) (and_from (is_scalar c) true h refl) in
     ap chars e ∙ chars-append old (encode_utf8 c) u ∙ ap (λ v. chars old ++ v) own
 
--- What is written byte by byte after a front.
-pub put-more : (front xs old new : List ℕ) (b : ℕ) → new ≡ old ++ b ∷ [] → old ≡ front ++ xs → new ≡ front ++ (xs ++ b ∷ [])
-put-more front xs old new b h k = h ∙ ap (λ v. v ++ b ∷ []) k ∙ append_assoc front xs (b ∷ [])
-
 -- The first piece is decoded, and appended.
 pub decoded-one : (e : Encoding) (old new all : List ℕ) (b : ℕ) (d : List ℕ) (c n : ℕ) → IsUtf8 old → IsScalar c → new ≡ old ++ encode_utf8 c
     → chars old ++ characters (pieces_of e (b ∷ d)) ≡ all → c ≡ (first_piece e b d).character → n ≡ length (first_piece e b d).bytes

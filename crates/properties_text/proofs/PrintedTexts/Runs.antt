@@ -101,13 +101,8 @@ module _ {holds : ℕ → Bool} {e : LineEncoding} {t : Repertoire} {whole : Mea
       let well : IsWell e (drop put.read text) = subst (IsWell e) left h.well in
       put-step (put_of t spelt.character) (omega (arith, held.read, h.within, length-drop so_far.read text, at))
       (subst (IsWell e) (sym (past-well e t (drop put.read text) well)) well)
-      (
-      rest-well e t (holds backslash) bs (own-stop holds e t text so_far.read s inside stop held.well)
-      ∙ ap (printed_by t) (read-meaning (holds backslash) e bs spelt h.stands)
-      ∙ printed-one t spelt.character (meaning_in e (holds backslash) (drop spelt.length bs))
-      ∙ ap (λ v. text_in_front (put_of t spelt.character) (printed_in e t (holds backslash) v)) left
-      ∙ ap (text_in_front (put_of t spelt.character)) (sym (rest-well e t (holds backslash) (drop put.read text) well))
-      )
+      (rw (rest-well e t (holds backslash) bs (own-stop holds e t text so_far.read s inside stop held.well), read-meaning (holds backslash) e bs spelt h.stands,
+      printed-one, left, rest-well e t (holds backslash) (drop put.read text) well) refl)
       printed
 
   -- a run
@@ -160,11 +155,7 @@ pub put-all : {e : LineEncoding} {t : Repertoire} {escaped : Bool} {text old new
 put-all {e} {t} {escaped} {text} {old} {new} {at} {put} w all held =
     let rest = ap (rest_in e t escaped) (drop_all put.read text all) ∙ rest-nil e t escaped in
     let whole : text_in_front (take at old) (printed_in e t escaped text) ≡ means (take put.end new) =
-    ap (text_in_front (take at old)) (sym (rest-well e t escaped text w))
-    ∙ held.printed
-    ∙ ap (text_in_front (take put.end new)) rest
-    ∙ text_in_front-means (take put.end new) []
-    ∙ ap means (append-nil (take put.end new)) in
+    rw (← rest-well e t escaped text w, held.printed, rest, text_in_front-means, append-nil) refl in
     let found = from-printed t (meaning_in e escaped text) (take at old) (take put.end new) whole in
     record { within = held.within; meant = found.0; meaning = found.1; printed = found.2 }
 

@@ -53,39 +53,30 @@ put-escaped c h = escaped-printed utf_8 true c h (and_left (nat_lt c 0x80) (is_s
 
 -- A character is printed in front of what follows it.
 pub printed-one : (t : Repertoire) (c : ℕ) (m : Meaning) → printed_by t (in_front c m) ≡ text_in_front (put_of t c) (printed_by t m)
-printed-one t c (means x) =
-    ap means (encoded_text-append (encoding_in t) (printed_character (encoding_in t) (only_in t) in_key_or_value c)
-    (printed_characters (encoding_in t) (only_in t) in_key_or_value x))
-    ∙ sym (text_in_front-means (put_of t c) (puts_of t x))
+printed-one t c (means x) = rw (encoded_text-append, text_in_front-means) refl
 printed-one t c (breaks kind) = sym (text_in_front-breaks (put_of t c) kind)
 
 -- ---- a byte that isn't inside a character
 
--- A byte of ASCII isn't inside a character,
+-- A byte of ASCII isn't inside a character.
 pub not-inside : (b : ℕ) → b < 0x80 → is_inside b ≡ false
 not-inside b h = and_left (nat_le 0x80 b) (nat_lt b 0xc0) (lt-leb 0x80 b h)
 
--- nor is the first byte of one past ASCII.
-leads : (b : ℕ) → 0xc0 ≤ b → is_inside b ≡ false
-leads b h = and_right (nat_le 0x80 b) (nat_lt b 0xc0) (le-ltb b 0xc0 h)
-
--- The other bytes past ASCII are.
+-- Bytes from 80 to BF are.
 is-inside : (b : ℕ) → 0x80 ≤ b → b < 0xc0 → is_inside b ≡ true
 is-inside b h k = and_from (nat_le 0x80 b) (nat_lt b 0xc0) (le-leb 0x80 b h) (lt-ltb b 0xc0 k)
 
 -- A text begins with no byte inside a character.
 no-inside : (bs : List ℕ) → IsUtf8 bs → (inside bs ≡ []) × (past bs ≡ bs)
 no-inside [] u = (refl, refl)
-no-inside (b ∷ bs) u = (cond-false (is_inside b) _ _ first, cond-false (is_inside b) _ _ first)
+no-inside (b ∷ bs) u = rw first (refl, refl)
   where
     first : is_inside b ≡ false
     first = grind (arith, nat_tests, (IsCharBoundary-start (b ∷ bs) u).1)
 
 -- So the rest of a well-formed text comes to what the text does.
 pub rest-well : (e : LineEncoding) (t : Repertoire) (escaped : Bool) (bs : List ℕ) → IsWell e bs → rest_in e t escaped bs ≡ printed_in e t escaped bs
-rest-well Utf8 repertoire.Utf8 escaped bs w =
-    let n = no-inside bs w in
-    ap₂ (λ x y. text_in_front x (printed_in Utf8 repertoire.Utf8 escaped y)) n.0 n.1
+rest-well Utf8 repertoire.Utf8 escaped bs w = let n = no-inside bs w in rw (n.0, n.1) refl
 rest-well e t escaped bs w = refl
 
 -- So no byte of a well-formed text is passed over.
@@ -106,8 +97,7 @@ pub printed-itself : (e : LineEncoding) (t : Repertoire) (escaped : Bool) (bs re
     → (escaped ≡ true → (c == backslash) ≡ false)
     → printed_in e t escaped bs ≡ text_in_front (put_of t c) (printed_in e t escaped rest)
 printed-itself e t escaped bs rest c h k =
-    ap (λ v. printed_by t (meaning_by escaped v)) h ∙ ap (printed_by t) (meaning-itself escaped c (text_in e rest) k)
-    ∙ printed-one t c (meaning_in e escaped rest)
+    rw (h, meaning-itself escaped c (text_in e rest) k) (printed-one t c (meaning_in e escaped rest))
 
 -- One byte more of a run is printed.
 pub record IsByte (e : LineEncoding) (t : Repertoire) (escaped : Bool) (b : ℕ) (bs : List ℕ) : Type 0 where
@@ -119,10 +109,7 @@ whole-byte : (e : LineEncoding) (t : Repertoire) (escaped : Bool) (b c : ℕ) (b
     → text_in e (b ∷ bs) ≡ c ∷ text_in e bs
     → (escaped ≡ true → (c == backslash) ≡ false) → put_of t c ≡ printed_byte b → IsByte e t escaped b bs
 whole-byte e t escaped b c bs w v s k p = record {
-  printed =
-      rest-well e t escaped (b ∷ bs) w
-      ∙ printed-itself e t escaped (b ∷ bs) bs c s k
-      ∙ ap₂ (λ x y. text_in_front x y) p (sym (rest-well e t escaped bs v));
+  printed = rw (rest-well e t escaped (b ∷ bs) w, rest-well e t escaped bs v, ← p) (printed-itself e t escaped (b ∷ bs) bs c s k);
   well = subst (IsWell e) (sym (past-well e t bs v)) v;
 }
 
@@ -144,9 +131,8 @@ ascii-byte e t escaped b bs h w k =
 inside-all : (xs rest : List ℕ) → AreWide xs → AreInside xs → (inside (xs ++ rest) ≡ xs ++ inside rest) × (past (xs ++ rest) ≡ past rest)
 inside-all [] rest w h = (refl, refl)
 inside-all (x ∷ xs) rest w h =
-    let one = is-inside x w.0 h.0 in
     let more = inside-all xs rest w.1 h.1 in
-    (cond-true (is_inside x) _ _ one ∙ ap (λ v. x ∷ v) more.0, cond-true (is_inside x) _ _ one ∙ more.1)
+    rw (is-inside x w.0 h.0, more.0, more.1) (refl, refl)
 
 -- the first byte of a character
 lead-byte : (escaped : Bool) (b : ℕ) (bs : List ℕ) → 0xc0 ≤ b → IsUtf8 (b ∷ bs) → IsByte Utf8 repertoire.Utf8 escaped b bs
@@ -179,12 +165,7 @@ lead-byte escaped b bs h ((c ∷ cs), (s, w)) = elim (bytes-of c) [
 inside-byte : (escaped : Bool) (b : ℕ) (bs : List ℕ) → 0x80 ≤ b → b < 0xc0 → IsUtf8 (past (b ∷ bs)) → IsByte Utf8 repertoire.Utf8 escaped b bs
 inside-byte escaped b bs h k w =
     let i = is-inside b h k in
-    let p : past (b ∷ bs) ≡ past bs = cond-true (is_inside b) _ _ i in
-    record {
-      printed = ap₂ (λ x y. text_in_front x (printed_in Utf8 repertoire.Utf8 escaped y)) (cond-true (is_inside b) (b ∷ inside bs) [] i) p
-          ∙ ap (λ v. text_in_front v (rest_in Utf8 repertoire.Utf8 escaped bs)) (sym (past-byte b h));
-      well = subst IsUtf8 p w;
-    }
+    record { printed = rw (i, past-byte b h) refl; well = rw i at w }
 
 past-copied : (e : LineEncoding) (t : Repertoire) (escaped : Bool) (b : ℕ) (bs : List ℕ) → 0x80 ≤ b → b < 256 → is_copied e t ≡ true
     → IsWell e (past_in e t (b ∷ bs)) → IsByte e t escaped b bs
@@ -194,7 +175,7 @@ past-copied Windows1252 repertoire.Windows1252 escaped b bs h k is w =
     (byte-printed (windows_1252_character b) b (windows_1252_byte-character b k))
 past-copied Utf8 repertoire.Utf8 escaped b bs h k is w = elim (cases_lt b 0xc0) [
   | inl l ↦ inside-byte escaped b bs h l w
-  | inr l ↦ lead-byte escaped b bs l (subst IsUtf8 (cond-false (is_inside b) _ _ (leads b l)) w)
+  | inr l ↦ lead-byte escaped b bs l (subst IsUtf8 (cond-false (is_inside b) _ _ (and_right (nat_le 0x80 b) (nat_lt b 0xc0) (le-ltb b 0xc0 l))) w)
 ]
 past-copied e t escaped b bs h k is w = absurd (cc)
 
@@ -222,9 +203,6 @@ run-of holds e t (x ∷ xs) bs s small clear w =
     let one = one-byte holds e t x (xs ++ bs) s (All-head (λ b. b < 256) x xs small) (All-head (λ b. holds b ≡ false) x xs clear) w in
     let more = run-of holds e t xs bs s (All-tail (λ b. b < 256) x xs small) (All-tail (λ b. holds b ≡ false) x xs clear) one.well in
     record {
-      printed =
-          one.printed
-          ∙ ap (text_in_front (printed_byte x)) more.printed
-          ∙ sym (text_in_front-append (printed_byte x) (printed_bytes xs) (rest_in e t (holds backslash) bs));
+      printed = simp (one.printed, more.printed, text_in_front-append);
       well = more.well;
     }

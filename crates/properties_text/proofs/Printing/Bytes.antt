@@ -17,8 +17,7 @@ use Rattle.properties_text.proofs.Printing.Characters.{encoded_escape}
 
 pub printed_bytes-append : (x y : List ℕ) → printed_bytes (x ++ y) ≡ printed_bytes x ++ printed_bytes y
 printed_bytes-append [] y = refl
-printed_bytes-append (b ∷ x) y = ap (λ v. printed_byte b ++ v) (printed_bytes-append x y) ∙ sym (append_assoc (printed_byte b) (printed_bytes x)
-    (printed_bytes y))
+printed_bytes-append (b ∷ x) y = rw (printed_bytes-append x y, append_assoc) refl
 
 -- ---- the tables
 

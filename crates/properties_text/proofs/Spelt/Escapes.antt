@@ -58,9 +58,7 @@ after-four e bs w s k l m n = absurd (omega arith)
 
 -- `\u` at the front.
 pub after-u : (e : LineEncoding) (bs : List ℕ) → IsWell e bs → BeginsUnit bs → IsAfter e bs (backslash ∷ letter_u ∷ []) 2
-after-u e bs w b =
-    let a = after-two e bs w b.0 (omega (arith, b.1)) (omega (arith, b.2)) in
-    record { characters = a.characters ∙ ap₂ (λ x y. x ∷ y ∷ text_in e (drop 2 bs)) b.1 b.2; well = a.well }
+after-u e bs w b = rw (b.1, b.2) at (after-two e bs w b.0 (omega (arith, b.1)) (omega (arith, b.2)))
 
 -- A byte after the first ones.
 dropped : (bs : List ℕ) (i j : ℕ) → get_or (drop i bs) j 0 ≡ get_or bs (i + j) 0
@@ -183,9 +181,7 @@ reads-unpaired e bs high w b h out none =
 -- What is spelt means the character and what is after it.
 pub spells-meaning : (e : LineEncoding) (bs : List ℕ) (spelt : Spelt) → Spells e bs spelt
     → meaning_of (text_in e bs) ≡ in_front spelt.character (meaning_of (text_in e (drop spelt.length bs)))
-spells-meaning e bs spelt s =
-    let rest = text_in e (drop spelt.length bs) in
-    ap meaning_of s.whole ∙ meaning_of-spelling s.spelling rest s.stands ∙ ap (λ v. in_front v (meaning_of rest)) (sym s.character)
+spells-meaning e bs spelt s = rw (s.whole, s.character) (meaning_of-spelling s.spelling (text_in e (drop spelt.length bs)) s.stands)
 
 -- One `\u` escape was read.
 pub reads-unit : {e : LineEncoding} {bs : List ℕ} {value c : ℕ} → IsWell e bs → BeginsUnit bs → HasDigits bs value → InScalarRange value → c ≡ value

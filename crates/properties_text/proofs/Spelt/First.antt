@@ -60,9 +60,7 @@ begins bs rest c n u s e is =
     let some : 0 < length (encode c) = omega (arith, length-encode c, len_utf8_bounds c) in
     let size : n ≡ length (encode c) = is ∙ ap (λ v. length_by_first (get_or v 0 0)) e ∙ length-of c rest below in
     let code : sequence_character (get_or bs 0 0 ∷ take (n - 1) (drop 1 bs)) ≡ c =
-    ap₂ (λ v m. sequence_character (get_or v 0 0 ∷ take (m - 1) (drop 1 v))) e size
-    ∙ ap sequence_character (bytes-of (encode c) rest some)
-    ∙ sym (encode-is_sequence c (scalar-from_char c s)).1 in
+    rw (e, size, bytes-of (encode c) rest some) (sym (encode-is_sequence c (scalar-from_char c s)).1) in
     let left : drop n bs ≡ rest = ap₂ drop size e ∙ drop-append_seam (encode c) rest in
     let a = character_and bs rest c u e in
     record {

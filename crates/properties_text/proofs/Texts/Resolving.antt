@@ -149,10 +149,7 @@ text_in_front-append (x ∷ xs) ys m = ap (in_front x) (text_in_front-append xs 
 -- A text and more were appended.
 pub pushed_text : (text front more grown all : List ℕ) → IsUtf8 text → IsUtf8 front → grown ≡ text ++ front → all ≡ grown ++ more
     → chars all ≡ chars text ++ (chars front ++ chars more)
-pushed_text text front more grown all u v e f =
-    ap chars (f ∙ ap (λ w. w ++ more) e ∙ append_assoc text front more)
-    ∙ chars-append text (front ++ more) u
-    ∙ ap (λ w. chars text ++ w) (chars-append front more v)
+pushed_text text front more grown all u v e f = rw (f, e, append_assoc, chars-append text (front ++ more) u, chars-append front more v) refl
 
 -- The text is malformed if the rest of it is.
 pub broken : (text : List ℕ) (kind : Malformed) → meaning_of text ≡ breaks kind → Breaks text kind
@@ -168,28 +165,21 @@ pub record IsResolvedTo (text before now rest : List ℕ) : Type 0 where
 pub resolved_many : {text before now rest to next : List ℕ} (front after cs : List ℕ) → IsResolvedTo text before now rest
     → meaning_of rest ≡ text_in_front front (meaning_of after) → meaning_of after ≡ text_in_front cs (meaning_of to) → next ≡ now ++ (front ++ cs)
     → IsResolvedTo text before next to
-resolved_many {before = before} {to = to} front after cs r e f g = record {
+resolved_many front after cs r e f g = record {
   done = r.done ++ (front ++ cs);
-  grown = g ∙ ap (λ v. v ++ (front ++ cs)) r.grown ∙ append_assoc before r.done (front ++ cs);
-  meaning = r.meaning
-      ∙ ap (text_in_front r.done) (e ∙ ap (text_in_front front) f ∙ sym (text_in_front-append front cs (meaning_of to)))
-      ∙ sym (text_in_front-append r.done (front ++ cs) (meaning_of to));
+  grown = simp (g, r.grown, append_assoc);
+  meaning = simp (r.meaning, e, f, text_in_front-append);
 }
 
 -- The rest of the text was appended.
 pub resolved_end : {text before now rest next : List ℕ} → IsResolvedTo text before now rest → meaning_of rest ≡ means rest → next ≡ now ++ rest
     → (meant : List ℕ) × (meaning_of text ≡ means meant) × (next ≡ before ++ meant)
-resolved_end {before = before} {rest = rest} r e g = (
-  r.done ++ rest,
-  r.meaning ∙ ap (text_in_front r.done) e ∙ text_in_front-means r.done rest,
-  g ∙ ap (λ v. v ++ rest) r.grown ∙ append_assoc before r.done rest,
-)
+resolved_end {rest = rest} r e g = (r.done ++ rest, simp (r.meaning, e, text_in_front-means), simp (g, r.grown, append_assoc))
 
 -- A malformed escape was read.
 pub resolved_broken : {text before now rest : List ℕ} (front after : List ℕ) (kind : Malformed) → IsResolvedTo text before now rest
     → meaning_of rest ≡ text_in_front front (meaning_of after) → meaning_of after ≡ breaks kind → meaning_of text ≡ breaks kind
-resolved_broken front after kind r e f =
-    r.meaning ∙ ap (text_in_front r.done) (e ∙ ap (text_in_front front) f ∙ text_in_front-breaks front kind) ∙ text_in_front-breaks r.done kind
+resolved_broken front after kind r e f = simp (r.meaning, e, f, text_in_front-breaks)
 
 -- ---- the text before the first escape
 
@@ -198,14 +188,13 @@ pub refused_front : (text front rest : List ℕ) (e : UnescapeError) → meaning
     → IsRefused text e
 refused_front text front rest (error.Malformed malformed) m b =
     let kind = malformed_in malformed in
-    broken text kind (m ∙ ap (text_in_front front) (sym (breaks-only rest kind b)) ∙ text_in_front-breaks front kind)
+    broken text kind (rw (m, ← breaks-only rest kind b) (text_in_front-breaks front kind))
 refused_front text front rest error.Memory m b = b
 
 -- What the rest means, preceded by the text before it.
 pub means_front : (text front rest meant : List ℕ) → meaning_of text ≡ text_in_front front (meaning_of rest) → meaning_of rest ≡ means meant
     → Means text (front ++ meant)
-means_front text front rest meant m e =
-    subst (IsMeaning text) (m ∙ ap (text_in_front front) e ∙ text_in_front-means front meant) (meaning_of-meets text)
+means_front text front rest meant m e = rw (m, e, text_in_front-means) at (meaning_of-meets text)
 
 pub means_plain : (text : List ℕ) → meaning_of text ≡ means text → Means text text
 means_plain text e = subst (IsMeaning text) e (meaning_of-meets text)
