@@ -81,9 +81,7 @@ lasts_are v long fits =
 -- The first bytes of all characters.
 pub leads-are : (v : List ℕ) → length v ≡ 16 → sel_l (lower v) (replicate 16 0xc2) (replicate 16 0xc3) ≡ map lead_byte v
 leads-are v long =
-    ap (λ ms. sel_l ms (replicate 16 0xc2) (replicate 16 0xc3)) (lower-is v long)
-    ∙ ap₂ (λ xs ys. sel_l (map (λ b. ltb b 0xc0) v) xs ys) (splat_is_map v 16 0xc2 long) (splat_is_map v 16 0xc3 long)
-    ∙ sel_l-map (λ b. ltb b 0xc0) (λ b. 0xc2) (λ b. 0xc3) v
+    rw (lower-is v long, splat_is_map {Y = ℕ} v 16 0xc2 long, splat_is_map {Y = ℕ} v 16 0xc3 long) (sel_l-map (λ b. ltb b 0xc0) (λ b. 0xc2) (λ b. 0xc3) v)
 
 -- ---- bytes of windows-1252
 

@@ -85,9 +85,7 @@ front-is : (order : ByteOrder) (n w : ℕ) (bytes : List ℕ) → 2 * n ≤ w �
 front-is order zero w bytes le long h = refl
 front-is order (suc n) (suc (suc w)) (a ∷ b ∷ bytes) le long h =
     let place : suc (suc (2 * n)) ≡ 2 * suc n = omega arith in
-    unit-step order a b bytes h.0
-    ∙ ap (λ l. unit_of order a b ∷ l) (front-is order n w bytes (omega arith) (omega arith) h.1)
-    ∙ ap (λ k. unit_of order a b ∷ (take n (units_of order (take w bytes)) ++ text_of (utf_16_of order) (drop k (a ∷ b ∷ bytes)))) place
+    rw (← place, unit-step order a b bytes h.0, front-is order n w bytes (omega arith) (omega arith) h.1) refl
 front-is order (suc n) w bytes le long h = absurd (omega arith)
 
 -- ---- the text that is written for them

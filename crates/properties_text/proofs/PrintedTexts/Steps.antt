@@ -1,25 +1,25 @@
 -- One byte, a run of bytes, or one character more of a text is printed.
-use Rattle.std.proofs.Common.{◌≡◌, ℕ, ◌<◌, ◌≤◌, ◌==◌, Bool, true, false, List, [], ◌∷◌, ◌++◌, refl, sym, ap, ap₂, ◌∙◌, subst, inl, inr, append-nil, arith, nat_lt, lt-ltb, le-ltb, ne_eqb}
+use Rattle.std.proofs.Common.{◌≡◌, ℕ, ◌<◌, ◌≤◌, ◌==◌, Bool, true, false, List, [], ◌∷◌, ◌++◌, refl, sym, ap, ◌∙◌, subst, inl, inr, append-nil, arith, nat_lt, lt-ltb, le-ltb, ne_eqb}
 use Rattle.std.proofs.lemmas.Bool.Decides.{nat_tests}
 use Rattle.std.specs.Prelude.{None, is_some, nat_le}
 use lib.Utf8.{encode, encodes}
 use Rattle.std.specs.List.{All}
 use Rattle.std.specs.Str.{IsUtf8}
-use Rattle.std.proofs.lemmas.Bool.{cases_lt, not-false, cond-true, cond-false, and_from, and_left, and_right, lt-leb, le-leb}
+use Rattle.std.proofs.lemmas.Bool.{cases_lt, not-false, cond-false, and_from, and_left, and_right, lt-leb, le-leb}
 use Rattle.std.proofs.lemmas.Str.{IsCharBoundary-start}
 use Rattle.std.proofs.lemmas.List.Elements.{All-head, All-tail}
 use Rattle.properties_format.specs.Encoding.{utf_8, windows_1252, one_byte, encoded}
 use Rattle.properties_format.specs.Text.{backslash}
 use Rattle.properties_format.specs.Windows1252.{windows_1252_character, windows_1252_byte}
 use Rattle.properties_format.specs.Escapes.{Meaning, means, breaks}
-use Rattle.properties_format.specs.Printing.{in_key_or_value, printed_character, printed_characters, unicode_escape}
+use Rattle.properties_format.specs.Printing.{unicode_escape}
 use Rattle.properties_format.specs.Computed.Escapes.{in_front, text_in_front}
 use Rattle.properties_format.proofs.Undecoded.{same}
 use Rattle.properties_format.proofs.Encodings.Windows1252.{windows_1252_byte-character}
 use Rattle.properties_format.proofs.Escapes.Laws.{meaning_of-itself}
 use Rattle.properties_format.proofs.Escapes.Unique.{text_in_front-means, text_in_front-breaks}
 use Rattle.properties_format.proofs.Printing.Characters.{encoded_text-append}
-use Rattle.properties_text.specs.Printing.{printed_byte, printed_bytes, encoding_in, only_in, put_of, puts_of}
+use Rattle.properties_text.specs.Printing.{printed_byte, printed_bytes, encoding_in, only_in, put_of}
 use Rattle.properties_text.specs.Spelt.{text_in, IsWell}
 use Rattle.properties_text.specs.PrintedTexts.{meaning_by, meaning_in, printed_by, printed_in, is_copied, is_inside, inside, past, past_in, rest_in, StopsIn}
 use Rattle.properties_text.specs.declared.encoding.line.LineEncoding.{LineEncoding}
@@ -151,12 +151,9 @@ lead-byte escaped b bs h ((c ∷ cs), (s, w)) = elim (bytes-of c) [
       let in_bs : inside bs ≡ xs = ap inside others ∙ i.0 ∙ ap (λ v. xs ++ v) n.0 ∙ append-nil xs in
       let past_bs : past bs ≡ rest = ap past others ∙ i.1 ∙ n.1 in
       record {
-        printed =
-            rest-well Utf8 repertoire.Utf8 escaped (b ∷ bs) u
-            ∙ printed-itself Utf8 repertoire.Utf8 escaped (b ∷ bs) rest c a.characters (λ k. wide-no_backslash c high)
-            ∙ ap (λ v. text_in_front v (printed_in Utf8 repertoire.Utf8 escaped rest)) (put-utf_8 c high ∙ e ∙ ap₂ (λ x y. x ∷ y) (sym first) (sym in_bs))
-            ∙ ap (λ v. in_front b (text_in_front (inside bs) (printed_in Utf8 repertoire.Utf8 escaped v))) (sym past_bs)
-            ∙ ap (λ v. text_in_front v (rest_in Utf8 repertoire.Utf8 escaped bs)) (sym (past-byte b (omega arith)));
+        printed = rw (rest-well Utf8 repertoire.Utf8 escaped (b ∷ bs) u,
+            printed-itself Utf8 repertoire.Utf8 escaped (b ∷ bs) rest c a.characters (λ k. wide-no_backslash c high),
+            put-utf_8 c high, e, in_bs, past_bs, past-byte b (omega arith), ← first) refl;
         well = subst IsUtf8 (sym past_bs) a.utf8;
       }
 ]

@@ -1,12 +1,12 @@
 -- Bytes printed sixteen at a time.
-use Rattle.std.proofs.Common.{◌≡◌, ℕ, ◌≤◌, false, cond, Bool, List, [], ◌∷◌, ◌++◌, refl, sym, ap, ap₂, ◌∙◌, arith, length, take, map, replicate}
+use Rattle.std.proofs.Common.{◌≡◌, ℕ, ◌≤◌, cond, Bool, List, [], ◌∷◌, ◌++◌, refl, sym, ap, ap₂, arith, length, take, map, replicate}
 use Rattle.std.specs.List.{All}
 use Rattle.std.proofs.lemmas.Bool.Decides.{nat_tests}
 use Rattle.std.proofs.lemmas.List.{take-map}
 use Rattle.std.proofs.lemmas.List.Elements.{All-head, All-tail}
 use Rattle.std.proofs.lemmas.Simd.{splat_is_map}
 use Rattle.properties_format.specs.Text.{space, backslash}
-use Rattle.properties_format.specs.Printing.{is_special, has_letter}
+use Rattle.properties_format.specs.Printing.{is_special}
 use Rattle.byte_blocks.specs.Moving.{spread}
 use Rattle.properties_text.specs.Printing.{printed_byte, printed_bytes, with_backslashes}
 

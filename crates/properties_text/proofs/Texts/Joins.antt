@@ -27,9 +27,7 @@ comment_line-encodes (c ∷ cs) = elim (encoded c) [
 pub is_comment_line-text : (bs : List ℕ) → IsUtf8 bs → is_comment_line (chars bs) ≡ is_comment_line bs
 is_comment_line-text bs u =
     let p = without_leading_blanks-part bs u in
-    sym (comment_line-encodes (without_leading_blanks (chars bs)))
-    ∙ ap (λ v. begins_with_comment_sign (encodes v)) (sym p.same)
-    ∙ ap begins_with_comment_sign (encodes-chars (without_leading_blanks bs) p.utf8)
+    rw (← comment_line-encodes (without_leading_blanks (chars bs)), ← p.same, encodes-chars (without_leading_blanks bs) p.utf8) refl
 
 -- ---- open backslashes
 

@@ -7,7 +7,7 @@ use Rattle.std.proofs.lemmas.Bool.{cases_lt, both_ways}
 use Rattle.std.proofs.lemmas.List.{drop_more, drop-drop, take_rest, length-drop, length-take, length-append}
 use Rattle.std.proofs.lemmas.Str.{IsUtf8-drop, IsCharBoundary-after_ascii, IsCharBoundary-from_drop, IsCharBoundary-from_take, IsCharBoundary-from_rest}
 use Rattle.properties_format.specs.Text.{is_blank, is_comment_sign, without_leading_blanks}
-use Rattle.properties_format.specs.Split.{comment, pair, begins, AreBlanks, IsComment, IsPair, IsSplit}
+use Rattle.properties_format.specs.Split.{pair, begins, AreBlanks, IsComment, IsPair, IsSplit}
 use Rattle.properties_format.specs.Computed.Split.{trimmed, split_full, split_of}
 use Rattle.properties_format.proofs.Split.Blanks.{without_leading_blanks-only, core-begins}
 use Rattle.properties_format.proofs.Split.Unique.{split_of-meets, sign-full}
@@ -108,10 +108,8 @@ pub found-comment : (line : List ℕ) (start : ℕ) (span : Span) → start < le
     → AreFound line (Some (Comment span))
 unfolding split_of
 found-comment line start span l e m o w s t =
-    found line (Some (Comment span)) (
-    ap split_full (sym e)
-    ∙ full-comment (drop start line) (get_or line start 0) (drop (start + 1) line) (drop_more line start 0 l) m
-    ∙ ap comment (sym t))
+    found line (Some (Comment span))
+    (rw (← e, full-comment (drop start line) (get_or line start 0) (drop (start + 1) line) (drop_more line start 0 l) m, t) refl)
     (λ u.
     let after = IsUtf8-drop line (start + 1) u (IsCharBoundary-after_ascii line start u l (comment_sign-ascii (get_or line start 0) m)) in
     whole_span line span u o w
@@ -136,10 +134,7 @@ found-pair line text start n v whole l e s nl k r fits_value there =
     let fits : start + n ≤ length line = omega (arith, length-drop start line, ap length whole) in
     let split : split_of line ≡ pair (key_of text) (value_of (rest_of text)) =
     ap split_full (sym (whole ∙ e)) ∙ full-pair text (get_or line start 0) (drop (start + 1) line) (whole ∙ drop_more line start 0 l) s in
-    found line (Some (KVPair key value)) (
-    split
-    ∙ ap (λ w. pair w (value_of (rest_of text))) (sym key_bytes)
-    ∙ ap (pair (bytes_in line key)) (sym value_bytes))
+    found line (Some (KVPair key value)) (rw (split, key_bytes, value_bytes) refl)
     (λ u.
     let text_utf8 : IsUtf8 text = subst IsUtf8 (sym (whole ∙ e)) (without_leading_blanks-part line u).utf8 in
     let after_utf8 : IsUtf8 after = subst IsUtf8 rest (rest_of-part text text_utf8).utf8 in

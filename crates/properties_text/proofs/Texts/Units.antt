@@ -1,5 +1,5 @@
 -- `\u` escapes, read from their bytes.
-use Rattle.std.proofs.Common.{◌≡◌, ℕ, ◌+◌, ◌*◌, ◌<◌, ◌≤◌, ◌==◌, ◌&&◌, true, false, List, [], ◌∷◌, ◌++◌, take, get_or, refl, sym, ap, subst, ◌∙◌, arith}
+use Rattle.std.proofs.Common.{◌≡◌, ℕ, ◌+◌, ◌*◌, ◌<◌, ◌≤◌, ◌==◌, ◌&&◌, true, false, List, ◌++◌, take, get_or, refl, arith}
 use Rattle.std.specs.Prelude.{nat_le}
 use Rattle.std.specs.Str.{IsUtf8, chars}
 use Rattle.std.proofs.lemmas.Bool.{false_from_ne_true, cond-true, and_parts, and_from, agree_below_at, eqb-true, leb-true}
@@ -76,9 +76,6 @@ pub units-more : (text run new rest to : List ℕ) (end at c : ℕ) → IsUtf8 (
     → meaning_of (chars text) ≡ text_in_front (chars (take end run)) (meaning_of rest) → meaning_of rest ≡ in_front c (meaning_of to)
     → IsUtf8 (take at new) × (meaning_of (chars text) ≡ text_in_front (chars (take at new)) (meaning_of to))
 units-more text run new rest to end at c u s e m n = (
-  subst IsUtf8 (sym e) (IsUtf8-append _ _ u (IsUtf8-encode c s)),
-  m
-      ∙ ap (text_in_front (chars (take end run))) n
-      ∙ sym (text_in_front-append (chars (take end run)) (c ∷ []) (meaning_of to))
-      ∙ ap (λ v. text_in_front v (meaning_of to)) (sym (chars-more (take end run) (take at new) c u s e)),
+  rw e (IsUtf8-append _ _ u (IsUtf8-encode c s)),
+  rw (m, n, chars-more (take end run) (take at new) c u s e, text_in_front-append) refl,
 )

@@ -16,7 +16,5 @@ returns c =
     let h = utf_8-first c.args.text.now c.length_by_first-length.result c.requires.well c.requires.some c.length_by_first-length.ensures in
     let code = c.sequence_character-code in
     let s : IsScalar code.result = subst IsScalar (sym code.ensures) h.scalar in
-    is-first c.args.text.now _ h (
-    c.unwrap_or.ensures
-    ∙ the-character c.from_u32.result code.result c.from_u32.ensures.value (c.from_u32.ensures.succeeds (in-range code.result (scalar-from_char code.result s)))
-    ∙ code.ensures)
+    let scalar = c.from_u32.ensures.succeeds (in-range code.result (scalar-from_char code.result s)) in
+    is-first c.args.text.now _ h (c.unwrap_or.ensures ∙ the-character c.from_u32.result code.result c.from_u32.ensures.value scalar ∙ code.ensures)
