@@ -41,9 +41,9 @@ latin-spread [] fits = refl
 latin-spread (c ∷ cs) fits = ap₂ (λ x y. x ++ y) (one-spread c fits.0.fits) (latin-spread cs fits.1)
 
 -- The UTF-8 bytes of the first k characters.
-pub first-spread : (v block before : List ℕ) (marks : List Bool) (k : ℕ) → Each1 (Fits w8) v → block ≡ map last_byte v → before ≡ map lead_byte v → marks ≡ map is_past_ascii v
+pub first_spread : (v block before : List ℕ) (marks : List Bool) (k : ℕ) → Each1 (Fits w8) v → block ≡ map last_byte v → before ≡ map lead_byte v → marks ≡ map is_past_ascii v
     → spread (take k marks) (take k before) (take k block) ≡ encode_utf8_all (take k v)
-first-spread v block before marks k fits block_is before_is marks_are =
+first_spread v block before marks k fits block_is before_is marks_are =
     simp (marks_are, before_is, block_is, take-map) (sym (latin-spread (take k v) (Each1-chunk (Fits w8) 0 k v fits)))
 
 -- ---- what is computed of each lane
@@ -110,8 +110,8 @@ scalars-bytes [] h = refl
 scalars-bytes (c ∷ cs) h = and_from (scalar c) (scalars cs) (scalar-at c h.0.fits) (scalars-bytes cs h.1)
 
 -- The first k bytes are scalar values.
-pub first-scalars : (cs : List ℕ) (k : ℕ) → Each1 (Fits w8) cs → scalars (take k cs) ≡ true
-first-scalars cs k h = scalars-bytes (take k cs) (Each1-chunk (Fits w8) 0 k cs h)
+pub first_scalars : (cs : List ℕ) (k : ℕ) → Each1 (Fits w8) cs → scalars (take k cs) ≡ true
+first_scalars cs k h = scalars-bytes (take k cs) (Each1-chunk (Fits w8) 0 k cs h)
 
 -- The decoded text of the first k of sixteen bytes is appended to a text.
 pub decoded-front : (old new bytes all : List ℕ) (k : ℕ) → IsUtf8 old → scalars (take k (take 16 bytes)) ≡ true → 16 ≤ length bytes → k ≤ 16

@@ -38,16 +38,16 @@ pub take-last : (xs : List ℕ) (e : ℕ) → 0 < e → e ≤ length xs → take
 take-last xs e p h = ap (λ n. take n xs) (let k : e ≡ e - 1 + 1 = omega arith in k) ∙ take_more xs (e - 1) 0 (omega arith)
 
 -- A blank at the end is left out.
-pub trailing-more : (xs : List ℕ) (e : ℕ) → 0 < e → e ≤ length xs → is_blank (get_or xs (e - 1) 0) ≡ true
+pub trailing_more : (xs : List ℕ) (e : ℕ) → 0 < e → e ≤ length xs → is_blank (get_or xs (e - 1) 0) ≡ true
     → without_trailing_blanks (take (e - 1) xs) ≡ without_trailing_blanks (take e xs)
-trailing-more xs e p h b = sym (ap without_trailing_blanks (take-last xs e p h) ∙ trailing-blank (take (e - 1) xs) (get_or xs (e - 1) 0) b)
+trailing_more xs e p h b = sym (ap without_trailing_blanks (take-last xs e p h) ∙ trailing-blank (take (e - 1) xs) (get_or xs (e - 1) 0) b)
 
 full-last : (y : List ℕ) → ends is_blank y ≡ false → without_trailing_blanks y ≡ y
 full-last y e = ap without_trailing_blanks (sym (append-nil y)) ∙ without_trailing_blanks-only y [] tt e
 
 -- Another character at the end stays.
-pub trailing-stop : (xs : List ℕ) (e : ℕ) → 0 < e → e ≤ length xs → is_blank (get_or xs (e - 1) 0) ≡ false → without_trailing_blanks (take e xs) ≡ take e xs
-trailing-stop xs e p h b = full-last (take e xs) (ap (ends is_blank) (take-last xs e p h) ∙ ends-last (take (e - 1) xs) (get_or xs (e - 1) 0) ∙ b)
+pub trailing_stop : (xs : List ℕ) (e : ℕ) → 0 < e → e ≤ length xs → is_blank (get_or xs (e - 1) 0) ≡ false → without_trailing_blanks (take e xs) ≡ take e xs
+trailing_stop xs e p h b = full-last (take e xs) (ap (ends is_blank) (take-last xs e p h) ∙ ends-last (take (e - 1) xs) (get_or xs (e - 1) 0) ∙ b)
 
 -- ---- keys
 

@@ -101,8 +101,13 @@ module _ {holds : ℕ → Bool} {e : LineEncoding} {t : Repertoire} {whole : Mea
       let well : IsWell e (drop put.read text) = subst (IsWell e) left h.well in
       put-step (put_of t spelt.character) (omega (arith, held.read, h.within, length-drop so_far.read text, at))
       (subst (IsWell e) (sym (past-well e t (drop put.read text) well)) well)
-      (rw (rest-well e t (holds backslash) bs (own-stop holds e t text so_far.read s inside stop held.well), read-meaning (holds backslash) e bs spelt h.stands,
-      printed-one, left, rest-well e t (holds backslash) (drop put.read text) well) refl)
+      (rw (
+        rest-well e t (holds backslash) bs (own-stop holds e t text so_far.read s inside stop held.well),
+        read-meaning (holds backslash) e bs spelt h.stands,
+        printed-one,
+        left,
+        rest-well e t (holds backslash) (drop put.read text) well,
+      ) refl)
       printed
 
   -- a run
@@ -265,8 +270,14 @@ block-run {holds} {old} {marks = marks} {so_far} bytes v size kept inside from c
     let own : All (λ b. holds b ≡ false) (take kept v) = clear-before holds v marks kept are clear in
     let whole : r + (size - r) ≡ size = omega (arith, from) in
     let same : take kept (drop r text) ≡ take kept v =
-    cc (ap (take kept) block, take-take kept (length bytes - r) (take 16 v) (omega (arith, within, inside)), take-take kept 16 v few,
-    take-take kept 16 (drop r bytes) few, drop-take r (size - r) bytes, take-take kept (size - r) (drop r bytes) within) in
+    cc (
+      ap (take kept) block,
+      take-take kept (length bytes - r) (take 16 v) (omega (arith, within, inside)),
+      take-take kept 16 v few,
+      take-take kept 16 (drop r bytes) few,
+      drop-take r (size - r) bytes,
+      take-take kept (size - r) (drop r bytes) within,
+    ) in
     let plain : All (λ b. space ≤ b) (take kept v) = All-weaker (λ b. holds b ≡ false) (λ b. space ≤ b) above-controls (take kept v) own in
     record {
       bytes = take kept v;
@@ -288,8 +299,14 @@ pub block-stops : (holds : ℕ → Bool) (bytes v : List ℕ) (marks : List Bool
 block-stops holds bytes v marks size read kept inside long block are at few within =
     let stop = (first-byte holds v marks (Some kept) are (at, omega (arith, ap length are, length-map v holds, long, few))).1 in
     let same : get_or (take size bytes) (read + kept) 0 ≡ get_or v kept 0 =
-    cc (ap (λ l. get_or l kept 0) block, get_or-take size bytes (read + kept) 0 within, get_or-drop read bytes kept 0, get_or-take 16 (drop read bytes) kept 0 few,
-    get_or-take (length bytes - read) (take 16 v) kept 0 (omega (arith, within, inside)), get_or-take 16 v kept 0 few) in
+    cc (
+      ap (λ l. get_or l kept 0) block,
+      get_or-take size bytes (read + kept) 0 within,
+      get_or-drop read bytes kept 0,
+      get_or-take 16 (drop read bytes) kept 0 few,
+      get_or-take (length bytes - read) (take 16 v) kept 0 (omega (arith, within, inside)),
+      get_or-take 16 v kept 0 few,
+    ) in
     ap holds same ∙ stop
 
 -- ---- what was put before

@@ -42,12 +42,12 @@ pub put-utf_8 : (c : ℕ) → 0x80 ≤ c → put_of repertoire.Utf8 c ≡ encode
 put-utf_8 c h = rw (past-special c h, past-letter c h, past-control c h) (append-nil (encode c))
 
 -- In windows-1252, what has no byte is escaped.
-pub put-lacked : (c : ℕ) → 0x80 ≤ c → windows_1252_byte c ≡ None → put_of repertoire.Windows1252 c ≡ unicode_escape c
-put-lacked c h e = escaped-printed windows_1252 false c h (ap (λ o. is_some (one_byte o)) e)
+pub put_lacked : (c : ℕ) → 0x80 ≤ c → windows_1252_byte c ≡ None → put_of repertoire.Windows1252 c ≡ unicode_escape c
+put_lacked c h e = escaped-printed windows_1252 false c h (ap (λ o. is_some (one_byte o)) e)
 
 -- In ASCII alone, what is past ASCII is.
-pub put-escaped : (c : ℕ) → 0x80 ≤ c → put_of repertoire.Ascii c ≡ unicode_escape c
-put-escaped c h = escaped-printed utf_8 true c h (and_left (nat_lt c 0x80) (is_some (encoded utf_8 c)) (le-ltb c 0x80 h))
+pub put_escaped : (c : ℕ) → 0x80 ≤ c → put_of repertoire.Ascii c ≡ unicode_escape c
+put_escaped c h = escaped-printed utf_8 true c h (and_left (nat_lt c 0x80) (is_some (encoded utf_8 c)) (le-ltb c 0x80 h))
 
 -- ---- characters in front of a meaning
 
@@ -151,9 +151,16 @@ lead-byte escaped b bs h ((c ∷ cs), (s, w)) = elim (bytes-of c) [
       let in_bs : inside bs ≡ xs = ap inside others ∙ i.0 ∙ ap (λ v. xs ++ v) n.0 ∙ append-nil xs in
       let past_bs : past bs ≡ rest = ap past others ∙ i.1 ∙ n.1 in
       record {
-        printed = rw (rest-well Utf8 repertoire.Utf8 escaped (b ∷ bs) u,
-            printed-itself Utf8 repertoire.Utf8 escaped (b ∷ bs) rest c a.characters (λ k. wide-no_backslash c high),
-            put-utf_8 c high, e, in_bs, past_bs, past-byte b (omega arith), ← first) refl;
+        printed = rw (
+          rest-well Utf8 repertoire.Utf8 escaped (b ∷ bs) u,
+          printed-itself Utf8 repertoire.Utf8 escaped (b ∷ bs) rest c a.characters (λ k. wide-no_backslash c high),
+          put-utf_8 c high,
+          e,
+          in_bs,
+          past_bs,
+          past-byte b (omega arith),
+          ← first,
+        ) refl;
         well = subst IsUtf8 (sym past_bs) a.utf8;
       }
 ]

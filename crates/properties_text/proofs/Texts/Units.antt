@@ -15,12 +15,12 @@ use Rattle.properties_text.proofs.TextFronts.{chars-more}
 use Rattle.properties_text.proofs.Texts.Resolving.{text_in_front-append}
 
 -- Each row of the table.
-pub digit-at : (b : ℕ) → b < 256 → get_or DIGIT_VALUES b 0 ≡ digit_value b
-digit-at b h = eqb-true _ _ (agree_below_at (λ b. get_or DIGIT_VALUES b 0 == digit_value b) (λ k. true) 256 b refl h)
+pub digit_at : (b : ℕ) → b < 256 → get_or DIGIT_VALUES b 0 ≡ digit_value b
+digit_at b h = eqb-true _ _ (agree_below_at (λ b. get_or DIGIT_VALUES b 0 == digit_value b) (λ k. true) 256 b refl h)
 
 -- No entry is larger than that of a byte that is no digit.
-pub digit-small : (b : ℕ) → b < 256 → digit_value b ≤ 0x10000
-digit-small b h = leb-true (digit_value b) 0x10000 (agree_below_at (λ b. nat_le (digit_value b) 0x10000) (λ k. true) 256 b refl h)
+pub digit-small : (b : ℕ) → b < 256 → get_or DIGIT_VALUES b 0 ≤ 0x10000
+digit-small b h = leb-true _ _ (agree_below_at (λ b. nat_le (get_or DIGIT_VALUES b 0) 0x10000) (λ k. true) 256 b refl h)
 
 -- A byte whose value is less than that of a non-digit is a digit.
 digit-is : (b : ℕ) → digit_value b < 0x10000 → is_hexadecimal b ≡ true
