@@ -19,19 +19,14 @@ use Rattle.properties_text.specs.declared.escape.Malformed.{Malformed}
 use Rattle.properties_text.specs.declared.escape.Malformed.TheVariants.{NotEnoughDigits, NotHex, InvalidCharacter}
 use Rattle.properties_text.proofs.Texts.Escapes.{IsUnit, IsUnread, malformed-unread, malformed-unpaired, scalar-unit, surrogate-unit, other-character}
 use Rattle.properties_text.proofs.Texts.Units.{ascii-digits}
-use Rattle.properties_text.proofs.Spelt.First.{ascii-first, ascii-back}
+use Rattle.properties_text.proofs.Spelt.First.{IsAfter, ascii-first, ascii-back}
 
 -- ---- a backslash, and bytes after it
-
--- The bytes begin with so many that are these characters.
-pub record IsAfter (e : LineEncoding) (bs front : List ℕ) (n : ℕ) : Type 0 where
-  pub characters : text_in e bs ≡ front ++ text_in e (drop n bs)
-  pub well : IsWell e (drop n bs)
 
 -- One ASCII byte at the front.
 pub after-one : (e : LineEncoding) (bs : List ℕ) → IsWell e bs → 0 < length bs → get_or bs 0 0 < 128 → IsAfter e bs (get_or bs 0 0 ∷ []) 1
 after-one e [] w s h = absurd (omega arith)
-after-one e (b ∷ bs) w s h = let a = ascii-first e b bs h w in record { characters = a.characters; well = a.well }
+after-one e (b ∷ bs) w s h = ascii-first e b bs h w
 
 -- Two of them.
 pub after-two : (e : LineEncoding) (bs : List ℕ) → IsWell e bs → 2 ≤ length bs → get_or bs 0 0 < 128 → get_or bs 1 0 < 128

@@ -1,5 +1,5 @@
 -- The first character of some bytes, in either encoding.
-use Rattle.std.proofs.Common.{◌≡◌, ℕ, ◌-◌, ◌<◌, ◌≤◌, List, [], ◌∷◌, ◌++◌, length, take, drop, get_or, sym, ap, ap₂, ◌∙◌, subst, inl, inr, arith}
+use Rattle.std.proofs.Common.{◌≡◌, ℕ, ◌-◌, ◌<◌, List, [], ◌∷◌, ◌++◌, length, take, drop, get_or, sym, ap, ap₂, ◌∙◌, subst, inl, inr, arith}
 use Rattle.std.proofs.lemmas.Grind.{common_steps}
 use Rattle.std.proofs.Math.Seq.{drop-append_seam}
 use Rattle.std.specs.Prelude.{Option, Some, None, IsSome, unwrap_or}
@@ -40,13 +40,9 @@ length-of c rest s = elim (cases_lt c 0x80) [
 bytes-of : (xs rest : List ℕ) → 0 < length xs → get_or (xs ++ rest) 0 0 ∷ take (length xs - 1) (drop 1 (xs ++ rest)) ≡ xs
 bytes-of xs rest h = grind (arith, common_steps)
 
--- What is read of a character: its number of bytes, and its number.
-pub record IsSequence (bs : List ℕ) (n : ℕ) : Type 0 where
-  pub some : 0 < n
-  pub within : n ≤ length bs
-  pub scalar : IsScalar (sequence_character (get_or bs 0 0 ∷ take (n - 1) (drop 1 bs)))
-  pub characters : chars bs ≡ sequence_character (get_or bs 0 0 ∷ take (n - 1) (drop 1 bs)) ∷ chars (drop n bs)
-  pub well : IsUtf8 (drop n bs)
+-- what is read of a character: its number, and its number of bytes
+abbrev pub sequence_of : List ℕ → ℕ → Spelt
+sequence_of bs n = record { character = sequence_character (get_or bs 0 0 ∷ take (n - 1) (drop 1 bs)); length = n }
 
 -- No character is above 10FFFF.
 below-all : (c : ℕ) → is_scalar c → c < 0x11_0000
@@ -54,7 +50,7 @@ below-all c (inl h) = omega arith
 below-all c (inr h) = h.1
 
 -- Bytes that begin with those of a character.
-begins : (bs rest : List ℕ) (c n : ℕ) → IsUtf8 bs → IsScalar c → bs ≡ encode c ++ rest → n ≡ length_by_first (get_or bs 0 0) → IsSequence bs n
+begins : (bs rest : List ℕ) (c n : ℕ) → IsUtf8 bs → IsScalar c → bs ≡ encode c ++ rest → n ≡ length_by_first (get_or bs 0 0) → IsFirst Utf8 bs (sequence_of bs n)
 begins bs rest c n u s e is =
     let below : c < 0x11_0000 = below-all c (scalar-from_char c s) in
     let some : 0 < length (encode c) = omega (arith, length-encode c, len_utf8_bounds c) in
@@ -82,21 +78,10 @@ in-range code (inl h) = inl h
 in-range code (inr h) = inr (h.0, omega (arith, h.1))
 
 -- The character that the first byte announces.
-pub utf_8-first : (bs : List ℕ) (n : ℕ) → IsUtf8 bs → 0 < length bs → n ≡ length_by_first (get_or bs 0 0) → IsSequence bs n
+pub utf_8-first : (bs : List ℕ) (n : ℕ) → IsUtf8 bs → 0 < length bs → n ≡ length_by_first (get_or bs 0 0) → IsFirst Utf8 bs (sequence_of bs n)
 utf_8-first bs n ([], (h, w)) some is = absurd (omega (arith, some, ap length w))
 utf_8-first bs n ((c ∷ cs), (h, w)) some is =
     begins bs (encodes cs) c n ((c ∷ cs), (h, w)) (and_parts (scalar c) (scalars cs) h).0 (sym w) is
-
--- What was read is the first character.
-pub is-first : (bs : List ℕ) (spelt : Spelt) → IsSequence bs spelt.length
-    → spelt.character ≡ sequence_character (get_or bs 0 0 ∷ take (spelt.length - 1) (drop 1 bs)) → IsFirst Utf8 bs spelt
-is-first bs spelt h is = record {
-  some = h.some;
-  within = h.within;
-  scalar = subst IsScalar (sym is) h.scalar;
-  characters = h.characters ∙ ap (λ x. x ∷ chars (drop spelt.length bs)) (sym is);
-  well = h.well;
-}
 
 -- ---- ASCII, in either
 
@@ -104,13 +89,13 @@ is-first bs spelt h is = record {
 pub own-byte : (b c : ℕ) → windows_1252_character b ≡ c → c < 128 → b ≡ c
 own-byte b c e h = windows_1252-ascii b (omega (arith, e, h)) ∙ e
 
--- The first byte is a character.
-pub record IsAsciiAnd (e : LineEncoding) (b : ℕ) (rest : List ℕ) : Type 0 where
-  pub characters : text_in e (b ∷ rest) ≡ b ∷ text_in e rest
-  pub well : IsWell e rest
+-- The bytes begin with so many that are these characters.
+pub record IsAfter (e : LineEncoding) (bs front : List ℕ) (n : ℕ) : Type 0 where
+  pub characters : text_in e bs ≡ front ++ text_in e (drop n bs)
+  pub well : IsWell e (drop n bs)
 
--- An ASCII byte is.
-pub ascii-first : (e : LineEncoding) (b : ℕ) (rest : List ℕ) → b < 128 → IsWell e (b ∷ rest) → IsAsciiAnd e b rest
+-- An ASCII byte is a character.
+pub ascii-first : (e : LineEncoding) (b : ℕ) (rest : List ℕ) → b < 128 → IsWell e (b ∷ rest) → IsAfter e (b ∷ rest) (b ∷ []) 1
 ascii-first Windows1252 b rest h w = record { characters = ap (λ x. x ∷ characters_of rest) (windows_1252_character-ascii b h); well = tt }
 ascii-first Utf8 b rest h w = let a = first_ascii b rest h w in record { characters = a.characters; well = a.utf8 }
 

@@ -1,11 +1,11 @@
 -- Texts whose escapes are resolved one after another.
-use Rattle.std.proofs.Common.{◌≡◌, ℕ, suc, ◌<◌, ◌+◌, ◌-◌, ◌==◌, ◌||◌, true, false, List, [], ◌∷◌, ◌++◌, length, take, drop, get_or, refl, ap, sym, ◌∙◌, subst, inl, inr, append_assoc, arith}
+use Rattle.std.proofs.Common.{◌≡◌, ℕ, zero, suc, ◌<◌, ◌-◌, ◌==◌, ◌||◌, true, false, List, [], ◌∷◌, ◌++◌, length, take, drop, get_or, refl, ap, sym, ◌∙◌, subst, append_assoc, arith}
 use Rattle.std.specs.Prelude.{Option, Some, None, slice_range}
 use Rattle.std.specs.Option.{is_some}
 use lib.Utf8.{encodes}
-use Rattle.std.specs.Str.{IsUtf8, IsCharBoundary, chars}
-use Rattle.std.proofs.lemmas.Bool.{cases_Bool, or_from, or_parts, eqb-true, false_from_ne_true}
-use Rattle.std.proofs.lemmas.List.{take-append-drop, drop_more, get_or-take, length-take-le}
+use Rattle.std.specs.Str.{IsUtf8, chars}
+use Rattle.std.proofs.lemmas.Bool.{or_from, or_right, or_parts, eqb-true, false_from_ne_true}
+use Rattle.std.proofs.lemmas.List.{take-append-drop, get_or-take, length-take-le}
 use Rattle.std.proofs.lemmas.Str.{encodes-chars, chars-append, IsUtf8-take, IsUtf8-drop, IsCharBoundary-before_ascii}
 use Rattle.memchr.specs.Find.{IsFirstByte, is_byte}
 use Rattle.properties_format.specs.Text.{backslash}
@@ -47,25 +47,15 @@ nowhere (x ∷ xs) h =
     (false_from_ne_true (x == backslash) (h 0 (omega arith)))
     (nowhere xs (λ k l e. h (suc k) (omega arith) e))
 
-holds-append : (xs ys : List ℕ) → holds_backslash (xs ++ backslash ∷ ys) ≡ true
-holds-append [] ys = refl
-holds-append (x ∷ xs) ys = elim (cases_Bool (x == backslash)) [
-  | inl e ↦ rw e refl
-  | inr e ↦ rw e (holds-append xs ys)
-]
-
-backslash-at : (xs : List ℕ) (at : ℕ) → at < length xs → get_or xs at 0 ≡ backslash → drop at xs ≡ backslash ∷ drop (at + 1) xs
-backslash-at xs at inside is = drop_more xs at 0 inside ∙ ap (λ v. v ∷ drop (at + 1) xs) is
-
 pub holds-at : (xs : List ℕ) (at : ℕ) → at < length xs → get_or xs at 0 ≡ backslash → holds_backslash xs ≡ true
-holds-at xs at inside is =
-    ap holds_backslash (sym (take-append-drop at xs) ∙ ap (λ v. take at xs ++ v) (backslash-at xs at inside is)) ∙ holds-append (take at xs) (drop (at + 1) xs)
+holds-at (x ∷ xs) zero inside is = rw is refl
+holds-at (x ∷ xs) (suc at) inside is = or_right (x == backslash) (holds_backslash xs) (holds-at xs at (omega arith) is)
+holds-at [] at inside is = absurd (omega arith)
 
 -- The first backslash of these bytes has this index.
 pub record IsFirstBackslash (bs : List ℕ) (at : ℕ) : Type 0 where
   pub inside : at < length bs
   pub plain : holds_backslash (take at bs) ≡ false
-  pub there : drop at bs ≡ backslash ∷ drop (at + 1) bs
   pub byte : get_or bs at 0 ≡ backslash
   pub holds : holds_backslash bs ≡ true
 
@@ -78,7 +68,6 @@ found_some bs at h =
       plain = nowhere (take at bs) (λ k l e.
           let m : k < at = omega (arith, length-take-le at bs (omega arith)) in
           h.0.before k (omega arith) m (ap (λ v. v == backslash) (sym (get_or-take at bs k 0 m)) ∙ e));
-      there = backslash-at bs at inside is;
       byte = is;
       holds = holds-at bs at inside is;
     }
@@ -95,7 +84,6 @@ tells_backslash bs None h = sym (found_none bs h)
 pub record IsSplitAt (bs : List ℕ) (at : ℕ) : Type 0 where
   pub front_utf8 : IsUtf8 (take at bs)
   pub rest_utf8 : IsUtf8 (drop at bs)
-  pub boundary : IsCharBoundary bs at
   pub holds : holds_backslash (chars bs) ≡ true
   pub meaning : meaning_of (chars bs) ≡ text_in_front (chars (take at bs)) (meaning_of (chars (drop at bs)))
 
@@ -111,7 +99,6 @@ split_at bytes bs at u same h =
     record {
       front_utf8 = front;
       rest_utf8 = rest;
-      boundary = here;
       holds = holds_backslash-text bs u ∙ f.holds;
       meaning = ap meaning_of (ap chars whole ∙ chars-append (take at bs) (drop at bs) front)
           ∙ meaning_of-plain_front (chars (take at bs)) (chars (drop at bs)) plain;
