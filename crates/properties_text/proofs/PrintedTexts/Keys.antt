@@ -49,28 +49,20 @@ front-still {from} {at} {old = old} new h same = fewer-kept new old from at h.ro
 
 -- ---- keys
 
--- A key that begins like no byte order mark, or doesn't come first, is printed as a value is.
-pub plain-key : (r : Repertoire) (first : Bool) (key : List ℕ) → (first && begins_like_bom (puts_of r key)) ≡ false → key_bytes r first key ≡ puts_of r key
-plain-key r first key other = rw other refl
-
--- One that does, and comes first, is printed with its first character escaped.
-pub marked-key : (r : Repertoire) (first : Bool) (key : List ℕ) → (first && begins_like_bom (puts_of r key)) ≡ true → key_bytes r first key ≡ escaped_key r key
-marked-key r first key like = rw like refl
-
 module _ (m : Meaning) (r : Repertoire) (first : Bool) (old : List ℕ) (at : ℕ) where
+  -- A key that begins like no byte order mark, or doesn't come first, is printed as a value is.
   pub key-plain : (new : List ℕ) (end : ℕ) (h : IsPut m (puts_of r) old at new end) → (first && begins_like_bom (puts_of r h.meant)) ≡ false
       → IsPut m (key_bytes r first) old at new end
   key-plain new end h other = record {
     within = h.within;
     meant = h.meant;
     meaning = h.meaning;
-    printed = h.printed ∙ ap (λ v. take at old ++ v) (sym (plain-key r first h.meant other));
+    printed = rw other h.printed;
   }
 
-  -- It was put anew.
+  -- One that does, and comes first, was put anew, with its first character escaped.
   pub key-escaped : (out new : List ℕ) (mid : ℕ) (h : IsPut m (puts_of r) old at out mid) (result : Result ℕ UnescapeError)
-      → (first && begins_like_bom (puts_of r h.meant)) ≡ true
-      → take at out ≡ take at old → Prints m (escaped_key r) out at new result → Prints m (key_bytes r first) old at new result
+      → (first && begins_like_bom (puts_of r h.meant)) ≡ true → take at out ≡ take at old → Prints m (escaped_key r) out at new result → Prints m (key_bytes r first) old at new result
   key-escaped out new mid h (Ok end) like same k =
       let both : means h.meant ≡ means k.meant = sym h.meaning ∙ k.meaning in
       let text_is : h.meant ≡ k.meant = cc in
@@ -78,7 +70,7 @@ module _ (m : Meaning) (r : Repertoire) (first : Bool) (old : List ℕ) (at : �
         within = k.within;
         meant = k.meant;
         meaning = k.meaning;
-        printed = rw (marked-key r first k.meant (rw text_is at like), ← same) k.printed;
+        printed = rw (rw text_is at like, ← same) k.printed;
       }
   key-escaped out new mid h (Err (error.Malformed kind)) like same k = k
   key-escaped out new mid h (Err error.Memory) like same k = tt

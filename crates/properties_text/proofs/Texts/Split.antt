@@ -60,13 +60,9 @@ without_trailing_blanks-encodes (c ∷ cs) = elim (encoded c) [
       ∙ ap encodes (sym (unless-wide c (without_trailing_blanks cs) h))
 ]
 
-without_trailing_blanks-scalars : (cs : List ℕ) → scalars cs ≡ true → scalars (without_trailing_blanks cs) ≡ true
-without_trailing_blanks-scalars cs h =
-    let r = without_trailing_blanks-meets cs in
-    (scalars-parts (without_trailing_blanks cs) r.after (rw r.whole at h)).0
-
 pub without_trailing_blanks-part : (bs : List ℕ) → IsUtf8 bs → IsPart without_trailing_blanks bs
-without_trailing_blanks-part = part_by without_trailing_blanks without_trailing_blanks-encodes without_trailing_blanks-scalars
+without_trailing_blanks-part = part_by without_trailing_blanks without_trailing_blanks-encodes (λ cs h.
+    let r = without_trailing_blanks-meets cs in (scalars-parts (without_trailing_blanks cs) r.after (rw r.whole at h)).0)
 
 -- ---- keys
 
@@ -78,11 +74,10 @@ cut-wide b (d ∷ bs) rest true l w = ap (with_front b) (cut-wide d bs rest fals
 cut-wide b (d ∷ bs) rest false l w = rw (wide-no_backslash b l, wide-no_end b l) (ap (with_front b) (cut-wide d bs rest false w.0 w.1))
 
 -- a key and its rest, in bytes
-in_bytes : Cut → Cut
+abbrev in_bytes : Cut → Cut
 in_bytes cut = record { key = encodes cut.key; rest = encodes cut.rest }
 
 cut_key-encodes : (cs : List ℕ) (is_escaped : Bool) → cut_key (encodes cs) is_escaped ≡ in_bytes (cut_key cs is_escaped)
-unfolding in_bytes
 cut_key-encodes [] is_escaped = refl
 cut_key-encodes (c ∷ cs) is_escaped = elim (encoded c) [
   | one s e ↦ elim (cases_Bool is_escaped) [
@@ -112,19 +107,11 @@ rest_of x = (cut_key x false).rest
 cut-scalars : (cs : List ℕ) → scalars cs ≡ true → (scalars (key_of cs) ≡ true) × (scalars (rest_of cs) ≡ true)
 cut-scalars cs h = let r = cut_key-meets cs in scalars-parts (key_of cs) (rest_of cs) (rw r.whole at h)
 
-key_of-encodes : (cs : List ℕ) → key_of (encodes cs) ≡ encodes (key_of cs)
-unfolding in_bytes
-key_of-encodes cs = ap (λ k. k.key) (cut_key-encodes cs false)
-
-rest_of-encodes : (cs : List ℕ) → rest_of (encodes cs) ≡ encodes (rest_of cs)
-unfolding in_bytes
-rest_of-encodes cs = ap (λ k. k.rest) (cut_key-encodes cs false)
-
 pub key_of-part : (bs : List ℕ) → IsUtf8 bs → IsPart key_of bs
-key_of-part = part_by key_of key_of-encodes (λ cs h. (cut-scalars cs h).0)
+key_of-part = part_by key_of (λ cs. ap (λ k. k.key) (cut_key-encodes cs false)) (λ cs h. (cut-scalars cs h).0)
 
 pub rest_of-part : (bs : List ℕ) → IsUtf8 bs → IsPart rest_of bs
-rest_of-part = part_by rest_of rest_of-encodes (λ cs h. (cut-scalars cs h).1)
+rest_of-part = part_by rest_of (λ cs. ap (λ k. k.rest) (cut_key-encodes cs false)) (λ cs h. (cut-scalars cs h).1)
 
 -- ---- separators
 
@@ -150,18 +137,14 @@ abbrev pub value_of : List ℕ → List ℕ
 value_of rest = past_separator (without_leading_blanks rest)
 
 -- A part of a part is a part.
-part-of : (f g : List ℕ → List ℕ) (bs : List ℕ) → IsPart g bs → IsPart f (g bs) → IsPart (λ x. f (g x)) bs
-part-of f g bs p q = record { utf8 = q.utf8; same = q.same ∙ ap f p.same }
+part-of : (f g : List ℕ → List ℕ) (bs : List ℕ) → ((x : List ℕ) → IsUtf8 x → IsPart f x) → IsPart g bs → IsPart (λ x. f (g x)) bs
+part-of f g bs of p = let q = of (g bs) p.utf8 in record { utf8 = q.utf8; same = q.same ∙ ap f p.same }
 
 pub value_of-part : (bs : List ℕ) → IsUtf8 bs → IsPart value_of bs
-value_of-part bs u =
-    let p = without_leading_blanks-part bs u in
-    part-of past_separator without_leading_blanks bs p (past_separator-part (without_leading_blanks bs) p.utf8)
+value_of-part bs u = part-of past_separator without_leading_blanks bs past_separator-part (without_leading_blanks-part bs u)
 
 pub trimmed-part : (bs : List ℕ) → IsUtf8 bs → IsPart trimmed bs
-trimmed-part bs u =
-    let p = without_leading_blanks-part bs u in
-    part-of without_trailing_blanks without_leading_blanks bs p (without_trailing_blanks-part (without_leading_blanks bs) p.utf8)
+trimmed-part bs u = part-of without_trailing_blanks without_leading_blanks bs without_trailing_blanks-part (without_leading_blanks-part bs u)
 
 -- ---- lines
 
