@@ -1,12 +1,11 @@
 -- Blanks at the front of a text.
 use Rattle.std.proofs.Common.{◌≡◌, ℕ, zero, suc, ◌+◌, ◌<◌, true, false, List, length, drop, get_or, refl, sym, ap, ◌∙◌, inl, inr, arith}
 use Rattle.std.specs.Prelude.{Some}
-use Rattle.std.proofs.lemmas.Bool.{cases_lt, not-true, not_from_false, true_from_ne_false}
-use Rattle.std.proofs.lemmas.List.{get_or_past}
+use Rattle.std.proofs.lemmas.Bool.{cases_lt, cond-true, not-true, not_from_false, true_from_ne_false}
+use Rattle.std.proofs.lemmas.List.{get_or_past, at_drop_more, drop_more, drop_all}
 use Rattle.memchr.specs.Find.{Nowhere, Passes, IsFirstByte}
 use Rattle.properties_format.specs.Text.{is_blank, without_leading_blanks}
 use Rattle.properties_text.specs.Parsing.{is_no_blank}
-use Rattle.properties_text.proofs.Scanning.{leading-more, leading-stop, leading-end}
 
 -- An index at which a blank is found lies inside the text.
 pub blank-inside : (xs : List ℕ) (i : ℕ) → is_blank (get_or xs i 0) ≡ true → i < length xs
@@ -16,11 +15,14 @@ blank-inside xs i h = elim (cases_lt i (length xs)) [
 ]
 
 pub past-blank : (xs : List ℕ) (i : ℕ) → is_blank (get_or xs i 0) ≡ true → without_leading_blanks (drop (i + 1) xs) ≡ without_leading_blanks (drop i xs)
-past-blank xs i h = leading-more xs i (blank-inside xs i h) h
+past-blank xs i h = sym (at_drop_more without_leading_blanks xs i 0 (blank-inside xs i h) ∙ cond-true (is_blank (get_or xs i 0)) _ _ h)
 
 -- If the byte there isn't a blank, no more are skipped.
 pub no-blank : (xs : List ℕ) (i : ℕ) → is_blank (get_or xs i 0) ≡ false → without_leading_blanks (drop i xs) ≡ drop i xs
-no-blank xs i h = elim (cases_lt i (length xs)) [ inl l ↦ leading-stop xs i l h | inr l ↦ leading-end xs i l ]
+no-blank xs i h = elim (cases_lt i (length xs)) [
+  | inl l ↦ rw (drop_more xs i 0 l, h) refl
+  | inr l ↦ rw (drop_all i xs l) refl
+]
 
 -- All of the blanks before an index are skipped.
 pub past-blanks : (xs : List ℕ) (i : ℕ) → Nowhere (Passes is_no_blank xs) 0 i → without_leading_blanks (drop i xs) ≡ without_leading_blanks xs

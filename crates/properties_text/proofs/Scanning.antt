@@ -1,26 +1,12 @@
 -- How far the scans of a text have come.
 use Rattle.std.proofs.Common.{◌≡◌, ℕ, ◌<◌, ◌≤◌, ◌+◌, ◌-◌, ◌==◌, Bool, true, false, List, [], ◌∷◌, ◌++◌, length, take, drop, get_or, refl, ap, sym, ◌∙◌, append_assoc, append-nil, subst, inl, inr, arith}
-use Rattle.std.proofs.lemmas.Bool.{cond-true, cond-false, cases_lt}
-use Rattle.std.proofs.lemmas.List.{at_drop_more, at_drop_all, take_more, take_all, drop_more, drop_all}
-use Rattle.properties_format.specs.Text.{backslash, is_blank, without_leading_blanks}
+use Rattle.std.proofs.lemmas.Bool.{cond-false, cases_lt}
+use Rattle.std.proofs.lemmas.List.{take_more, take_all, drop_more, drop_all}
+use Rattle.properties_format.specs.Text.{backslash, is_blank}
 use Rattle.properties_format.specs.Split.{ends}
 use Rattle.properties_format.specs.Computed.Split.{without_trailing_blanks, unless_last_blank, with_front, ends_key, cut_key}
 use Rattle.properties_format.proofs.Split.Blanks.{without_trailing_blanks-only}
 use Rattle.properties_format.proofs.Split.Keys.{with_text}
-
--- ---- blanks at the front
-
--- A blank is skipped.
-pub leading-more : (xs : List ℕ) (i : ℕ) → i < length xs → is_blank (get_or xs i 0) ≡ true → without_leading_blanks (drop (i + 1) xs) ≡ without_leading_blanks (drop i xs)
-leading-more xs i h b = sym (at_drop_more without_leading_blanks xs i 0 h ∙ cond-true (is_blank (get_or xs i 0)) _ _ b)
-
--- Another character ends the scan.
-pub leading-stop : (xs : List ℕ) (i : ℕ) → i < length xs → is_blank (get_or xs i 0) ≡ false → without_leading_blanks (drop i xs) ≡ drop i xs
-leading-stop xs i h b = at_drop_more without_leading_blanks xs i 0 h ∙ cond-false (is_blank (get_or xs i 0)) _ _ b ∙ sym (drop_more xs i 0 h)
-
--- The end of the text ends the scan.
-pub leading-end : (xs : List ℕ) (i : ℕ) → length xs ≤ i → without_leading_blanks (drop i xs) ≡ drop i xs
-leading-end xs i h = at_drop_all without_leading_blanks xs i h ∙ sym (drop_all i xs h)
 
 -- ---- blanks at the end
 

@@ -32,7 +32,4 @@ returns-clause-same g c =
     let kept = front-kept c.deref_mut.result.now put.new.out (unicode_escape c.in-Ok.first.character) c.args.at c.args.at put.result (omega arith)
     (omega (arith, wide, value)) (omega (arith, put.ensures.within, put.ensures.same_room, wide, value)) put.ensures.put in
     fewer-kept c.print_bytes.new.out.items _ c.args.at put.result kept.0 c.print_bytes.ensures.same
-    ∙ ap (take c.args.at) back
-    ∙ kept.1
-    ∙ ap (take c.args.at) c.deref_mut.ensures.value
-    ∙ c.in_ok-make_room.ensures.same
+    ∙ rw (back, kept.1, c.deref_mut.ensures.value) c.in_ok-make_room.ensures.same
