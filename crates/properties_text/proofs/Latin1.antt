@@ -41,7 +41,8 @@ latin-spread [] fits = refl
 latin-spread (c ∷ cs) fits = ap₂ (λ x y. x ++ y) (one-spread c fits.0.fits) (latin-spread cs fits.1)
 
 -- The UTF-8 bytes of the first k characters.
-pub first_spread : (v block before : List ℕ) (marks : List Bool) (k : ℕ) → Each1 (Fits w8) v → block ≡ map last_byte v → before ≡ map lead_byte v → marks ≡ map is_past_ascii v
+pub first_spread : (v block before : List ℕ) (marks : List Bool) (k : ℕ) → Each1 (Fits w8) v
+    → block ≡ map last_byte v → before ≡ map lead_byte v → marks ≡ map is_past_ascii v
     → spread (take k marks) (take k before) (take k block) ≡ encode_utf8_all (take k v)
 first_spread v block before marks k fits block_is before_is marks_are =
     simp (marks_are, before_is, block_is, take-map) (sym (latin-spread (take k v) (Each1-chunk (Fits w8) 0 k v fits)))
@@ -81,7 +82,8 @@ lasts_are v long fits =
 -- The first bytes of all characters.
 pub leads-are : (v : List ℕ) → length v ≡ 16 → sel_l (lower v) (replicate 16 0xc2) (replicate 16 0xc3) ≡ map lead_byte v
 leads-are v long =
-    rw (lower-is v long, splat_is_map {Y = ℕ} v 16 0xc2 long, splat_is_map {Y = ℕ} v 16 0xc3 long) (sel_l-map (λ b. ltb b 0xc0) (λ b. 0xc2) (λ b. 0xc3) v)
+    rw (lower-is v long, splat_is_map {Y = ℕ} v 16 0xc2 long, splat_is_map {Y = ℕ} v 16 0xc3 long)
+    (sel_l-map (λ b. ltb b 0xc0) (λ b. 0xc2) (λ b. 0xc3) v)
 
 -- ---- bytes of windows-1252
 
@@ -120,5 +122,6 @@ pub decoded-front : (old new bytes all : List ℕ) (k : ℕ) → IsUtf8 old → 
     → IsUtf8 new × (chars new ++ text_of WINDOWS_1252 (drop k bytes) ≡ all)
 decoded-front old new bytes all k u are long le h e joins =
     let cs = take k (take 16 bytes) in
-    let split : text_of WINDOWS_1252 bytes ≡ cs ++ text_of WINDOWS_1252 (drop k bytes) = rw (take-take k 16 bytes le) (same-numbers bytes k (omega arith) h) in
+    let split : text_of WINDOWS_1252 bytes ≡ cs ++ text_of WINDOWS_1252 (drop k bytes) =
+    rw (take-take k 16 bytes le) (same-numbers bytes k (omega arith) h) in
     decoded-more old new cs _ _ all u are e split joins

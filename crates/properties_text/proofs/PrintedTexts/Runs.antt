@@ -116,8 +116,10 @@ module _ {holds : ℕ → Bool} {e : LineEncoding} {t : Repertoire} {whole : Mea
       let rest = drop so_far.read text in
       let front : take (length r.bytes) rest ≡ r.bytes = ap (take (length r.bytes)) r.text_is ∙ take-append_seam r.bytes (drop put.read text) in
       let own : All (λ b. b < 256) (take (length r.bytes) rest) =
-      All-take (λ b. b < 256) (length r.bytes) rest (All-drop (λ b. b < 256) so_far.read text (All-from_get_or (λ b. b < 256) text 0 (λ i inside. small i))) in
-      let run = run-of holds e t r.bytes (drop put.read text) s (rw front at own) r.clear (subst (λ v. IsWell e (past_in e t v)) r.text_is held.well) in
+      All-take (λ b. b < 256) (length r.bytes) rest
+      (All-drop (λ b. b < 256) so_far.read text (All-from_get_or (λ b. b < 256) text 0 (λ i inside. small i))) in
+      let run = run-of holds e t r.bytes (drop put.read text) s (rw front at own) r.clear
+      (subst (λ v. IsWell e (past_in e t v)) r.text_is held.well) in
       put-step (printed_bytes r.bytes) r.read run.well (ap (rest_in e t (holds backslash)) r.text_is ∙ run.printed) r.printed
 
 -- Nothing was put yet.

@@ -14,7 +14,8 @@ encoded_escape e c = encoded_text-ascii e (unicode_escape c) (unicode_escape-asc
 -- Above U+FFFF, an escape is two.
 pub escape_wide : (c : ℕ) (before at : List ℕ) → 0x1_0000 ≤ c → at ≡ before ++ unit_escape (high_surrogate c)
     → before ++ unicode_escape c ≡ at ++ unit_escape (low_surrogate c)
-escape_wide c before at h k = rw (le-ltb c 0x1_0000 h, ← append_assoc before (unit_escape (high_surrogate c)) (unit_escape (low_surrogate c)), ← k) refl
+escape_wide c before at h k =
+    rw (le-ltb c 0x1_0000 h, ← append_assoc before (unit_escape (high_surrogate c)) (unit_escape (low_surrogate c)), ← k) refl
 
 -- One more character is printed.
 pub printed_more : (e : Encoding) (only : Bool) (place : Place) (before xs : List ℕ) (c : ℕ)

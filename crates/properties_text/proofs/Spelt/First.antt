@@ -32,7 +32,10 @@ length-of c rest s = elim (cases_lt c 0x80) [
   | inl h ↦ rw (encode-one c h) (grind (arith, nat_tests))
   | inr l ↦ elim (cases_lt c 0x800) [
     | inl h ↦ rw (encode-two c l h) (grind (arith, nat_tests))
-    | inr m ↦ elim (cases_lt c 0x1_0000) [ inl h ↦ rw (encode-three c m h) (grind (arith, nat_tests)) | inr n ↦ rw (encode-four c n) (grind (arith, nat_tests)) ]
+    | inr m ↦ elim (cases_lt c 0x1_0000) [
+      | inl h ↦ rw (encode-three c m h) (grind (arith, nat_tests))
+      | inr n ↦ rw (encode-four c n) (grind (arith, nat_tests))
+    ]
   ]
 ]
 

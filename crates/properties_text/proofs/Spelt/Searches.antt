@@ -78,5 +78,6 @@ pub one-read : (e : LineEncoding) (text rest : List ℕ) (at : ℕ) (spelt : Spe
 one-read e text rest at spelt held s r = record {
   well = r.well;
   done = held.done ++ (s.front ++ spelt.character ∷ []);
-  resolved = resolved_many s.front (text_in e (drop at rest)) (spelt.character ∷ []) held.resolved s.meaning (spells-meaning e (drop at rest) spelt r.spells) refl;
+  resolved = resolved_many s.front (text_in e (drop at rest)) (spelt.character ∷ [])
+      held.resolved s.meaning (spells-meaning e (drop at rest) spelt r.spells) refl;
 }

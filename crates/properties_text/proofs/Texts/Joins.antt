@@ -40,7 +40,8 @@ without_open_backslash-encodes : (cs : List ℕ) → without_open_backslash (enc
 unfolding encode
 without_open_backslash-encodes cs = elim (cases_Bool (is_open cs)) [
   | inl k ↦
-      let bytes : encodes cs ≡ encodes (without_last cs) ++ backslash ∷ [] = ap encodes (open-ends cs k) ∙ encodes-append (without_last cs) (backslash ∷ []) in
+      let bytes : encodes cs ≡ encodes (without_last cs) ++ backslash ∷ [] =
+      ap encodes (open-ends cs k) ∙ encodes-append (without_last cs) (backslash ∷ []) in
       rw (is_open-encodes cs, k) (ap without_last bytes ∙ without_last-push (encodes (without_last cs)) backslash)
   | inr k ↦ rw (is_open-encodes cs, k) refl
 ]

@@ -7,7 +7,8 @@ use Rattle.properties_text.proofs.Spelt.Searches.{split-in, plain-in, one-read}
 use Rattle.properties_text.proofs.escape.check_escapes.Goals as goal
 
 pub read_escape-requires-clause-well : goal.read_escape-requires-clause-well
-read_escape-requires-clause-well c = rw take_rest (split-in c.args.encoding c.loop-at.rest.now c.in-Some.at c.loop-at.invariant.well c.in-Some.ensures).well
+read_escape-requires-clause-well c =
+    rw take_rest (split-in c.args.encoding c.loop-at.rest.now c.in-Some.at c.loop-at.invariant.well c.in-Some.ensures).well
 
 pub returns-in_err-escape : goal.returns-in_err-escape
 returns-in_err-escape c =

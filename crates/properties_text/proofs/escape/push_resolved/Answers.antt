@@ -11,7 +11,8 @@ returns-in-Err c =
     let rest = c.loop-at.rest.now in
     let at = c.in-Some.at in
     let s = split_at c.as_bytes.result.now rest at c.loop-at.invariant.utf8 c.as_bytes.ensures.value c.in-Some.ensures in
-    broken (chars c.args.s.now) _ (resolved_broken (chars (take at rest)) (chars (drop at rest)) (malformed_in c.in-Err.malformed) c.loop-at.invariant.resolved
+    broken (chars c.args.s.now) _ (resolved_broken (chars (take at rest)) (chars (drop at rest))
+    (malformed_in c.in-Err.malformed) c.loop-at.invariant.resolved
     s.meaning (ap (λ v. meaning_of (chars v)) (sym c.range_from.ensures.value) ∙ c.in-Err.ensures.resolves))
 
 pub loop-at-preserved : goal.loop-at-preserved

@@ -34,7 +34,8 @@ returns-in_err-escape-clause-resolves c =
     let held = c.loop-run.invariant in
     let p = err_from_is_err_and c.from_residual.result c.from_residual.ensures.1 in
     let done = chars (take c.loop-run.end c.loop-run.run) in
-    rw (p.1, p.2, held.meaning, ← c.as_bytes.ensures.value, c.in_err-escape.ensures.1) (text_in_front-breaks done (malformed_in c.in_err-escape.field-0.0))
+    rw (p.1, p.2, held.meaning, ← c.as_bytes.ensures.value, c.in_err-escape.ensures.1)
+    (text_in_front-breaks done (malformed_in c.in_err-escape.field-0.0))
 
 pub loop-run-preserved : goal.loop-run-preserved
 loop-run-preserved c =
@@ -49,7 +50,8 @@ loop-run-preserved c =
     c.loop-run.end c.put_character-end.result escape.character held.is_text c.in_ok-escape.ensures.scalar put.text held.meaning means in
     let read = c.in_ok-escape.ensures in
     let size = ap length c.as_bytes.ensures.value in
-    let fewer : length c.range_from-rest.result.now < length rest = omega (arith, ap length left, length-drop escape.length rest, read.some, read.within, size) in
+    let fewer : length c.range_from-rest.result.now < length rest =
+    omega (arith, ap length left, length-drop escape.length rest, read.some, read.within, size) in
     record {
       utf8 = c.range_from-rest.utf8;
       same_room = put.same_room ∙ held.same_room;

@@ -17,7 +17,8 @@ loop-encoding-preserved c =
     let whole : rest ≡ first ∷ drop 1 rest = drop_more rest 0 0 some in
     let joins = ap (λ v. chars (take c.loop-encoding.at c.loop-encoding.run) ++ text_of c.args.encoding v) (sym whole) ∙ held.text in
     let shown = rw take_rest at next.ensures.shown in
-    let one = decoded-one (encoding_of c.args.encoding) _ _ _ first (drop 1 rest) _ _ held.is_text put.scalar put.text joins shown.character_is shown.length_is in
+    let one = decoded-one (encoding_of c.args.encoding) _ _ _ first (drop 1 rest) _ _ held.is_text put.scalar put.text
+    joins shown.character_is shown.length_is in
     record {
       same_room = put.same_room ∙ held.same_room;
       within = omega (arith, put.within, put.same_room, held.within, c.if-run-at-ge4.true);

@@ -24,7 +24,8 @@ loop-rest-preserved c =
       same_room = put.same_room ∙ held.same_room;
       within = omega (arith, put.within, put.same_room, c.if-run-at-ge64.true, c.clear_front-kept.ensures.within);
       onwards = omega (arith, held.onwards, put.after);
-      left = rw (take_rest, length-drop (2 * kept) bytes) (omega (arith, put.within, held.left, c.loop-rest-test.true, c.clear_front-kept.ensures.within));
+      left = rw (take_rest, length-drop (2 * kept) bytes)
+          (omega (arith, put.within, held.left, c.loop-rest-test.true, c.clear_front-kept.ensures.within));
       is_text = front.0;
       text = rw take_rest front.1;
     }

@@ -9,8 +9,9 @@ returns-then-code-lt2048-clause-text c =
 
 pub returns-then-code-lt65536-clause-text : goal.returns-then-code-lt65536-clause-text
 returns-then-code-lt65536-clause-text c =
+    let last = c.put_continuation-then-code-lt65536.ensures.byte in
     rw (← c.from-code.ensures, encode-three c.from-code.result c.if-code-lt2048.false c.if-code-lt65536.true)
-    (simp (c.put_continuation-then-code-lt65536.ensures.byte, c.put_continuation-at.ensures.byte, c.put-at-then-code-lt65536.ensures.byte, append_assoc))
+    (simp (last, c.put_continuation-at.ensures.byte, c.put-at-then-code-lt65536.ensures.byte, append_assoc))
 
 pub returns-else-code-lt65536-clause-text : goal.returns-else-code-lt65536-clause-text
 returns-else-code-lt65536-clause-text c =

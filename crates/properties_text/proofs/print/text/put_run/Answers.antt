@@ -16,7 +16,8 @@ loop-put-2-preserved g c =
     let inside : loop.put.read < length text = omega (arith, size, c.loop-put-2-test.true) in
     record {
       same = own.length ∙ loop.invariant.same;
-      run = run-on loop.invariant.run (run-byte inside clear own.within (own.printed ∙ ap (λ v. take loop.put.end loop.out ++ printed_byte v) (sym same)));
+      run = run-on loop.invariant.run
+          (run-byte inside clear own.within (own.printed ∙ ap (λ v. take loop.put.end loop.out ++ printed_byte v) (sym same)));
     }
 
 pub loop-put-preserved : goal.loop-put-preserved

@@ -22,7 +22,8 @@ loop-put-preserved-then-begins_with_stop g c =
       room = omega (arith, kept.0, h.room);
       onwards = omega (arith, h.onwards);
       start = λ q. absurd (let some = c.in-Ok.ensures.some in omega (arith, some, h.onwards, q));
-      put = stop-put c.requires.stops h.put room c.loop-put-test.true (sym first ∙ c.if-begins_with_stop.true) (rw take_rest at c.in-Ok.ensures) refl put.ensures.put;
+      put = stop-put c.requires.stops h.put room c.loop-put-test.true (sym first ∙ c.if-begins_with_stop.true)
+          (rw take_rest at c.in-Ok.ensures) refl put.ensures.put;
     }
 
 pub loop-put-preserved : goal.loop-put-preserved

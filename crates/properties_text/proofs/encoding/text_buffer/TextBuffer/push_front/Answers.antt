@@ -6,4 +6,10 @@ pub returns-in_ok-push_text-in-UTF_8-clause-text : goal.returns-in_ok-push_text-
 returns-in_ok-push_text-in-UTF_8-clause-text c =
     let front = c.text_front.result.0.now in
     let rest = c.text_front.result.1.now in
-    rw (c.in-UTF_8.is, c.in_ok-push_text-in-UTF_8.ensures.appended, append_assoc, c.text_front.ensures.whole, characters-text front rest c.text_front.ensures.text) refl
+    rw (
+      c.in-UTF_8.is,
+      c.in_ok-push_text-in-UTF_8.ensures.appended,
+      append_assoc,
+      c.text_front.ensures.whole,
+      characters-text front rest c.text_front.ensures.text,
+    ) refl
