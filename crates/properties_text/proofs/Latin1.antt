@@ -74,10 +74,10 @@ last-at b h = eqb-true _ _ (agree_below_at (λ b. eqb (cond (ltb b 0xc0) b (bit_
 -- The last bytes of all characters.
 pub lasts_are : (v : List ℕ) → length v ≡ 16 → Each1 (Fits w8) v → sel_l (lower v) v (zip2 bit_and v (replicate 16 0xbf)) ≡ map last_byte v
 lasts_are v long fits =
-    ap₂ (λ ms ys. sel_l ms v ys) (lower-is v long) (zip2_splat bit_and v 16 0xbf long)
-    ∙ ap (λ xs. sel_l (map (λ b. ltb b 0xc0) v) xs (map (λ b. bit_and b 0xbf) v)) (sym (map-id v))
+    rw (lower-is v long, zip2_splat bit_and v 16 0xbf long) (
+    ap (λ xs. sel_l (map (λ b. ltb b 0xc0) v) xs (map (λ b. bit_and b 0xbf) v)) (sym (map-id v))
     ∙ sel_l-map (λ b. ltb b 0xc0) (λ b. b) (λ b. bit_and b 0xbf) v
-    ∙ map-agree (λ b. cond (ltb b 0xc0) b (bit_and b 0xbf)) last_byte v last-at fits
+    ∙ map-agree (λ b. cond (ltb b 0xc0) b (bit_and b 0xbf)) last_byte v last-at fits)
 
 -- The first bytes of all characters.
 pub leads-are : (v : List ℕ) → length v ≡ 16 → sel_l (lower v) (replicate 16 0xc2) (replicate 16 0xc3) ≡ map lead_byte v

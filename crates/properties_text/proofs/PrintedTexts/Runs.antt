@@ -82,14 +82,7 @@ module _ {holds : ℕ → Bool} {e : LineEncoding} {t : Repertoire} {whole : Mea
       → rest_in e t (holds backslash) (drop so_far.read text) ≡ text_in_front bytes (rest_in e t (holds backslash) (drop put.read text))
       → take put.end new ≡ take so_far.end out ++ bytes → ArePut e t (holds backslash) whole text put new
   put-step bytes read well step printed =
-      let rest = rest_in e t (holds backslash) (drop put.read text) in
-      record {
-        read = read;
-        within = within;
-        well = well;
-        printed = held.printed ∙ ap (text_in_front (take so_far.end out)) step ∙ sym (text_in_front-append (take so_far.end out) bytes rest)
-            ∙ ap (λ v. text_in_front v rest) (sym printed);
-      }
+      record { read = read; within = within; well = well; printed = rw (printed, text_in_front-append) (held.printed ∙ ap (text_in_front (take so_far.end out)) step) }
 
   -- the character at a stop
   pub stop-put : {spelt : Spelt} → so_far.read < length text → holds (get_or text so_far.read 0) ≡ true
@@ -99,15 +92,11 @@ module _ {holds : ℕ → Bool} {e : LineEncoding} {t : Repertoire} {whole : Mea
       let bs = drop so_far.read text in
       let left : drop spelt.length bs ≡ drop put.read text = drop-drop spelt.length so_far.read text ∙ ap (λ n. drop n text) (sym at) in
       let well : IsWell e (drop put.read text) = subst (IsWell e) left h.well in
+      let own = own-stop holds e t text so_far.read s inside stop held.well in
+      let meaning = read-meaning (holds backslash) e bs spelt h.stands in
       put-step (put_of t spelt.character) (omega (arith, held.read, h.within, length-drop so_far.read text, at))
       (subst (IsWell e) (sym (past-well e t (drop put.read text) well)) well)
-      (rw (
-        rest-well e t (holds backslash) bs (own-stop holds e t text so_far.read s inside stop held.well),
-        read-meaning (holds backslash) e bs spelt h.stands,
-        printed-one,
-        left,
-        rest-well e t (holds backslash) (drop put.read text) well,
-      ) refl)
+      (rw (rest-well e t (holds backslash) bs own, meaning, printed-one, left, rest-well e t (holds backslash) (drop put.read text) well) refl)
       printed
 
   -- a run

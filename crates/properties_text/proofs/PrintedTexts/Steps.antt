@@ -150,17 +150,10 @@ lead-byte escaped b bs h ((c ∷ cs), (s, w)) = elim (bytes-of c) [
       let i = inside-all xs rest k m in
       let in_bs : inside bs ≡ xs = ap inside others ∙ i.0 ∙ ap (λ v. xs ++ v) n.0 ∙ append-nil xs in
       let past_bs : past bs ≡ rest = ap past others ∙ i.1 ∙ n.1 in
+      let whole = rest-well Utf8 repertoire.Utf8 escaped (b ∷ bs) u in
+      let itself = printed-itself Utf8 repertoire.Utf8 escaped (b ∷ bs) rest c a.characters (λ k. wide-no_backslash c high) in
       record {
-        printed = rw (
-          rest-well Utf8 repertoire.Utf8 escaped (b ∷ bs) u,
-          printed-itself Utf8 repertoire.Utf8 escaped (b ∷ bs) rest c a.characters (λ k. wide-no_backslash c high),
-          put-utf_8 c high,
-          e,
-          in_bs,
-          past_bs,
-          past-byte b (omega arith),
-          ← first,
-        ) refl;
+        printed = rw (whole, itself, put-utf_8 c high, e, in_bs, past_bs, past-byte b (omega arith), ← first) refl;
         well = subst IsUtf8 (sym past_bs) a.utf8;
       }
 ]

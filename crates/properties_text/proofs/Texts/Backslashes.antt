@@ -20,15 +20,10 @@ ending-wide (b ∷ bs) rest w = ending_backslashes-after [] b (bs ++ rest) (wide
 ending-encodes : (cs front : List ℕ) → ending_backslashes (front ++ encodes cs) ≡ ending_backslashes (front ++ cs)
 ending-encodes [] front = refl
 ending-encodes (c ∷ cs) front = elim (encoded c) [
-  | one s e ↦ rw e (
-      ap ending_backslashes (sym (append_assoc front (c ∷ []) (encodes cs)))
-      ∙ ending-encodes cs (front ++ c ∷ [])
-      ∙ ap ending_backslashes (append_assoc front (c ∷ []) cs))
-  | wide h b bs e l k m ↦ rw e (
-      ending_backslashes-after front b (bs ++ encodes cs) (wide-no_backslash b l)
-      ∙ ending-wide bs (encodes cs) k
-      ∙ ending-encodes cs []
-      ∙ sym (ending_backslashes-after front c cs (wide-no_backslash c h)))
+  | one s e ↦ rw (e, ← append_assoc front (c ∷ []) (encodes cs), ending-encodes cs (front ++ c ∷ []), append_assoc) refl
+  | wide h b bs e l k m ↦
+      let other = ending_backslashes-after front b (bs ++ encodes cs) (wide-no_backslash b l) in
+      rw (e, other, ending-wide bs (encodes cs) k, ending_backslashes-after front c cs (wide-no_backslash c h)) (ending-encodes cs [])
 ]
 
 pub ending_backslashes-encodes : (cs : List ℕ) → ending_backslashes (encodes cs) ≡ ending_backslashes cs

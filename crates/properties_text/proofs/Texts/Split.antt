@@ -1,5 +1,5 @@
 -- A line is split in the same way in bytes and in characters.
-use Rattle.std.proofs.Common.{◌≡◌, ℕ, ◌≤◌, ◌==◌, Bool, true, false, List, [], ◌∷◌, ◌++◌, refl, ap, ap₂, sym, ◌∙◌, subst, inl, inr}
+use Rattle.std.proofs.Common.{◌≡◌, ℕ, ◌≤◌, ◌==◌, Bool, true, false, List, [], ◌∷◌, ◌++◌, refl, ap, sym, ◌∙◌, subst, inl, inr}
 use lib.Utf8.{encode, encodes, scalars, scalar}
 use Rattle.std.specs.Str.{IsUtf8, chars}
 use Rattle.std.proofs.lemmas.Str.{chars-encodes, encodes-chars, scalars-chars}
@@ -54,10 +54,8 @@ without_trailing_blanks-encodes [] = refl
 without_trailing_blanks-encodes (c ∷ cs) = elim (encoded c) [
   | one s e ↦ rw e (ap (unless_last_blank c) (without_trailing_blanks-encodes cs) ∙ trailing-one c (without_trailing_blanks cs) e)
   | wide h b bs e l k m ↦
-      ap (λ v. without_trailing_blanks (v ++ encodes cs)) e
-      ∙ trailing-wide (b ∷ bs) (encodes cs) (l, k)
-      ∙ ap₂ (λ v x. v ++ x) (sym e) (without_trailing_blanks-encodes cs)
-      ∙ ap encodes (sym (unless-wide c (without_trailing_blanks cs) h))
+      let all = trailing-wide (b ∷ bs) (encodes cs) (l, k) in
+      rw (e, all, without_trailing_blanks-encodes cs, unless-wide c (without_trailing_blanks cs) h, e) refl
 ]
 
 pub without_trailing_blanks-part : (bs : List ℕ) → IsUtf8 bs → IsPart without_trailing_blanks bs
@@ -91,10 +89,7 @@ cut_key-encodes (c ∷ cs) is_escaped = elim (encoded c) [
     ]
   ]
   | wide h b bs e l k m ↦
-      ap (λ v. cut_key (v ++ encodes cs) is_escaped) e
-      ∙ cut-wide b bs (encodes cs) is_escaped l k
-      ∙ ap₂ with_text (sym e) (cut_key-encodes cs false)
-      ∙ ap in_bytes (sym (cut-wide c [] cs is_escaped h tt))
+      rw (e, cut-wide b bs (encodes cs) is_escaped l k, cut_key-encodes cs false, cut-wide c [] cs is_escaped h tt, e) refl
 ]
 
 -- the key at the front of a text, and what follows it

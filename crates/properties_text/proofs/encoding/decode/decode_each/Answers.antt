@@ -24,13 +24,9 @@ loop-left-preserved c =
     let before = chars (take at old) in
     let joins = ap (λ v. before ++ text_of WINDOWS_1252 v) (sym whole) ∙ held.text in
     let inside : at ≤ length old = omega (arith, held.end, held.fewer, held.same_room, c.requires.room, c.loop-left-test.true) in
+    let past = take_past (take at old) text.result.bytes n (at + n) (omega (arith, length-take-le at old inside)) in
     let written : take (at + n) put.new.run ≡ take at old ++ encode_utf8 (windows_1252_character first) =
-    rw (
-      ← text.ensures.begins,
-      ← take_past (take at old) text.result.bytes n (at + n) (omega (arith, length-take-le at old inside)),
-      ← put.ensures.text,
-    )
-    (sym (take-take (at + n) (at + 4) put.new.run (omega (arith, text.ensures.few)))) in
+    rw (← text.ensures.begins, ← past, ← put.ensures.text) (sym (take-take (at + n) (at + 4) put.new.run (omega (arith, text.ensures.few)))) in
     let one = decoded-one windows_1252 _ _ _ first (drop 1 bytes) _ 1 held.is_text text.ensures.scalar written joins refl refl in
     record {
       same_room = put.ensures.same_room ∙ held.same_room;

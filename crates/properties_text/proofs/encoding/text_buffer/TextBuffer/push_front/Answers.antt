@@ -6,10 +6,6 @@ pub returns-in_ok-push_text-in-UTF_8-clause-text : goal.returns-in_ok-push_text-
 returns-in_ok-push_text-in-UTF_8-clause-text c =
     let front = c.text_front.result.0.now in
     let rest = c.text_front.result.1.now in
-    rw (
-      c.in-UTF_8.is,
-      c.in_ok-push_text-in-UTF_8.ensures.appended,
-      append_assoc,
-      c.text_front.ensures.whole,
-      characters-text front rest c.text_front.ensures.text,
-    ) refl
+    let text = c.text_front.ensures in
+    let appended = c.in_ok-push_text-in-UTF_8.ensures.appended in
+    rw (c.in-UTF_8.is, appended, append_assoc, text.whole, characters-text front rest text.text) refl
