@@ -16,7 +16,7 @@ use Rattle.properties_text.specs.declared.parse.ParsedSpans.{ParsedSpans}
 use Rattle.properties_text.specs.declared.parse.ParsedSpans.TheVariants.{Comment, KVPair}
 use Rattle.properties_text.specs.declared.parse.Span.{Span}
 use Rattle.properties_text.proofs.Texts.Characters.{wide-no_comment_sign}
-use Rattle.properties_text.proofs.Texts.Split.{full-pair, full-comment, split-characters, without_leading_blanks-part, trimmed-part, rest_of, key_of, key_of-part, rest_of-part, value_of, value_of-part}
+use Rattle.properties_text.proofs.Texts.Split.{split-characters, without_leading_blanks-part, trimmed-part, rest_of, key_of, key_of-part, rest_of-part, value_of, value_of-part}
 
 -- The spans are those of the line.
 pub record AreFound (line : List ℕ) (found : Option ParsedSpans) : Type 0 where
@@ -109,7 +109,7 @@ pub found-comment : (line : List ℕ) (start : ℕ) (span : Span) → start < le
 unfolding split_of
 found-comment line start span l e m o w s t =
     found line (Some (Comment span))
-    (rw (← e, full-comment (drop start line) (get_or line start 0) (drop (start + 1) line) (drop_more line start 0 l) m, t) refl)
+    (rw (← e, drop_more line start 0 l, m, t) refl)
     (λ u.
     let after = IsUtf8-drop line (start + 1) u (IsCharBoundary-after_ascii line start u l (comment_sign-ascii (get_or line start 0) m)) in
     whole_span line span u o w
@@ -133,7 +133,7 @@ found-pair line text start n v whole l e s nl k r fits_value there =
     let value_bytes : bytes_in line value ≡ value_of (rest_of text) = take_rest line v ∙ there ∙ ap value_of (sym rest) in
     let fits : start + n ≤ length line = omega (arith, length-drop start line, ap length whole) in
     let split : split_of line ≡ pair (key_of text) (value_of (rest_of text)) =
-    ap split_full (sym (whole ∙ e)) ∙ full-pair text (get_or line start 0) (drop (start + 1) line) (whole ∙ drop_more line start 0 l) s in
+    rw (← e, ← whole, whole ∙ drop_more line start 0 l, s) refl in
     found line (Some (KVPair key value)) (rw (split, key_bytes, value_bytes) refl)
     (λ u.
     let text_utf8 : IsUtf8 text = subst IsUtf8 (sym (whole ∙ e)) (without_leading_blanks-part line u).utf8 in

@@ -3,7 +3,7 @@ use Rattle.std.proofs.Common.{◌≡◌, ℕ, ◌≤◌, ◌==◌, Bool, true, f
 use lib.Utf8.{encode, encodes, scalars, scalar}
 use Rattle.std.specs.Str.{IsUtf8, chars}
 use Rattle.std.proofs.lemmas.Str.{chars-encodes, encodes-chars, scalars-chars}
-use Rattle.std.proofs.lemmas.Bool.{cases_Bool, cond-true, cond-false, and_parts}
+use Rattle.std.proofs.lemmas.Bool.{cases_Bool, and_parts}
 use Rattle.properties_format.specs.Text.{backslash, is_blank, is_separator, is_comment_sign, without_leading_blanks}
 use Rattle.properties_format.specs.Split.{Logical, comment, IsSplit}
 use Rattle.properties_format.specs.Computed.Split.{without_trailing_blanks, unless_last_blank, trimmed, Cut, with_front, ends_key, cut_key, past_separator, pair_of, split_full, split_of}
@@ -142,12 +142,6 @@ pub trimmed-part : (bs : List ℕ) → IsUtf8 bs → IsPart trimmed bs
 trimmed-part bs u = part-of without_trailing_blanks without_leading_blanks bs without_trailing_blanks-part (without_leading_blanks-part bs u)
 
 -- ---- lines
-
-pub full-pair : (y : List ℕ) (b : ℕ) (bs : List ℕ) → y ≡ b ∷ bs → is_comment_sign b ≡ false → split_full y ≡ pair_of (cut_key y false)
-full-pair y b bs e m = rw e (cond-false (is_comment_sign b) _ _ m)
-
-pub full-comment : (y : List ℕ) (b : ℕ) (bs : List ℕ) → y ≡ b ∷ bs → is_comment_sign b ≡ true → split_full y ≡ comment (trimmed bs)
-full-comment y b bs e m = rw e (cond-true (is_comment_sign b) _ _ m)
 
 pairs-alike : (bs : List ℕ) → IsUtf8 bs → pair_of (cut_key (chars bs) false) ≡ in_characters (pair_of (cut_key bs false))
 pairs-alike bs u =
