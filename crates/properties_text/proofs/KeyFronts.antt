@@ -1,12 +1,13 @@
 -- Plain characters at the front of a key.
-use Rattle.std.proofs.Common.{◌≡◌, ℕ, zero, suc, ◌+◌, ◌<◌, ◌≤◌, ◌==◌, ◌||◌, true, false, List, length, take, get_or, refl, ap, subst, ◌∙◌, inl, inr, arith}
+use Rattle.std.proofs.Common.{◌≡◌, ℕ, zero, suc, ◌+◌, ◌<◌, ◌≤◌, ◌==◌, true, false, List, length, take, get_or, refl, ap, subst, ◌∙◌, arith}
+use Rattle.std.proofs.lemmas.Bool.Decides.{nat_tests}
 use Rattle.std.specs.List.{All}
-use Rattle.std.proofs.lemmas.Bool.{cases_Bool, or_parts, ne_eqb, false_from_ne_true, ltb-false}
+use Rattle.std.proofs.lemmas.Bool.{not-true, or_parts, false_from_ne_true, ltb-false}
 use Rattle.std.proofs.lemmas.List.{get_or-take, length-take, length-take-le}
 use Rattle.std.proofs.lemmas.List.Elements.{All-get_or, All-from_get_or}
 use Rattle.memchr.specs.Find.{Nowhere, Passes}
 use Rattle.byte_blocks.specs.Classes.{is_control}
-use Rattle.properties_format.specs.Text.{space, tab, form_feed, backslash, is_separator, is_comment_sign}
+use Rattle.properties_format.specs.Text.{space, backslash}
 use Rattle.properties_format.specs.Printing.{is_special}
 use Rattle.properties_format.specs.Computed.Split.{ends_key}
 use Rattle.properties_text.specs.Parsing.{stays_in_key, may_end}
@@ -14,13 +15,7 @@ use Rattle.properties_text.proofs.Scanning.{IsCutSoFar, cut-plain}
 
 -- A character that is neither special in a key nor a control character stays in the key.
 plain-one : (c : ℕ) → space ≤ c → is_special c ≡ false → stays_in_key c ≡ true
-plain-one c h s =
-    let first = or_parts (c == backslash) (c == space || (is_separator c || is_comment_sign c)) s in
-    let second = or_parts (c == space) (is_separator c || is_comment_sign c) first.1 in
-    let third = or_parts (is_separator c) (is_comment_sign c) second.1 in
-    let no_tab : (c == tab) ≡ false = ne_eqb c tab (λ e. absurd (omega (arith, e, h))) in
-    let no_feed : (c == form_feed) ≡ false = ne_eqb c form_feed (λ e. absurd (omega (arith, e, h))) in
-    rw (first.0, second.0, no_tab, no_feed, third.0) refl
+plain-one c h s = grind (arith, nat_tests)
 
 -- All characters before the first such one are plain.
 pub plain-front : (text : List ℕ) (n : ℕ) → Nowhere (Passes may_end text) 0 n → All (λ c. stays_in_key c ≡ true) (take n text)
@@ -38,14 +33,8 @@ cut-plains xs i h all = upto i (omega arith)
     plain : (j : ℕ) → j < i → stays_in_key (get_or xs j 0) ≡ true
     plain j k = subst (λ c. stays_in_key c ≡ true) (get_or-take i xs j 0 k) (All-get_or (λ c. stays_in_key c ≡ true) (take i xs) j 0 (omega (arith, length-take-le i xs h)) all)
 
-    parts : (c : ℕ) → stays_in_key c ≡ true → ((c == backslash) ≡ false) × (ends_key c ≡ false)
-    parts c p = elim (cases_Bool (c == backslash || ends_key c)) [
-      | inl t ↦ absurd (let no : stays_in_key c ≡ false = rw t refl in cc)
-      | inr f ↦ or_parts (c == backslash) (ends_key c) f
-    ]
-
     upto : (j : ℕ) → j ≤ i → IsCutSoFar xs j false
     upto zero k = refl
     upto (suc j) k =
-        let p = parts (get_or xs j 0) (plain j (omega arith)) in
+        let p = or_parts (get_or xs j 0 == backslash) (ends_key (get_or xs j 0)) (not-true _ (plain j (omega arith))) in
         subst (λ n. IsCutSoFar xs n false) (let e : j + 1 ≡ suc j = omega arith in e) (cut-plain xs j (omega arith) p.0 p.1 (upto j (omega arith)))

@@ -1,14 +1,15 @@
 -- Characters of Latin-1 in UTF-8, sixteen at a time.
-use Rattle.std.proofs.Common.{◌≡◌, ℕ, zero, suc, ◌+◌, ◌-◌, ◌/◌, ◌%◌, ◌<◌, ◌≤◌, ◌&&◌, Bool, true, false, cond, ltb, eqb, nat_le, nat_lt, List, [], ◌∷◌, ◌++◌, refl, sym, ap, ap₂, subst, ◌∙◌, inl, inr, append_assoc, arith, length, take, drop, get_or, map, replicate, w8, Fits, bit_and}
+use Rattle.std.proofs.Common.{◌≡◌, ℕ, zero, suc, ◌<◌, ◌≤◌, Bool, true, false, cond, ltb, eqb, List, [], ◌∷◌, ◌++◌, refl, sym, ap, ap₂, ◌∙◌, arith, length, take, drop, get_or, map, replicate, w8, Fits, bit_and}
 use Rattle.std.specs.Prelude.{encode_utf8_all}
 use Rattle.std.specs.Char.{encode_utf8}
 use Rattle.std.specs.Simd.Lanes.{zip2, Each1, sel_l, top}
 use Rattle.std.specs.Str.{IsUtf8, chars}
 use Rattle.std.proofs.Math.Utf8.{scalar, scalars}
-use Rattle.std.proofs.lemmas.Bool.{cases_Bool, cond-false, and_from, agree_below_at, eqb-true, ltb-true, ltb-false, leb-true, leb-false, lt-ltb}
+use Rattle.std.proofs.lemmas.Bool.{cond-false, and_from, agree_below_at, eqb-true}
 use Rattle.std.proofs.lemmas.List.{get_or-take, take-take, take-map, map-id}
 use Rattle.std.proofs.lemmas.Simd.{Each1-chunk, tops_compared, zip2_splat, splat_is_map}
-use Rattle.std.proofs.lemmas.Str.{encode_ascii, IsUtf8-append, chars-append, chars-encodes}
+use Rattle.std.proofs.lemmas.Str.{encode_ascii}
+use Rattle.std.proofs.lemmas.Bool.Decides.{nat_tests}
 use Rattle.properties_format.proofs.Encodings.Utf8Characters.{encode-two}
 use Rattle.properties_format.specs.Windows1252.{is_in_table, windows_1252_character}
 use Rattle.properties_format.specs.Encoding.{windows_1252}
@@ -16,38 +17,21 @@ use Rattle.properties_format.proofs.Encodings.Waiting.{characters-step}
 use Rattle.properties_text.specs.Decoding.{text_of}
 use Rattle.properties_text.specs.declared.encoding.Encoding.TheVariants.{WINDOWS_1252}
 use Rattle.properties_text.specs.Private.Latin1.{lead_byte, last_byte}
+use Rattle.properties_text.proofs.TextFronts.{decoded-more}
 use Rattle.byte_blocks.specs.Classes.{is_past_ascii}
 use Rattle.byte_blocks.specs.Marks.{clear_front}
 use Rattle.byte_blocks.specs.Moving.{spread}
-use Rattle.byte_blocks.proofs.Comparing.{each-same}
 use Rattle.byte_blocks.proofs.Marking.{fails-before}
 
 -- ---- one character
 
 -- The two bytes of a character above ASCII.
 pub two-bytes : (c : ℕ) → 0x80 ≤ c → c < 0x100 → encode_utf8 c ≡ lead_byte c ∷ last_byte c ∷ []
-two-bytes c l h = elim (cases_Bool (nat_lt c 0xc0)) [
-  | inl t ↦
-      let low = ltb-true c 0xc0 t in
-      let first : 192 + c / 64 ≡ 0xc2 = omega arith in
-      let second : 128 + c % 64 ≡ c = omega arith in
-      rw t (encode-two c l (omega arith) ∙ ap₂ (λ x y. x ∷ y ∷ []) first second)
-  | inr f ↦
-      let high = ltb-false c 0xc0 f in
-      let first : 192 + c / 64 ≡ 0xc3 = omega arith in
-      let second : 128 + c % 64 ≡ c - 0x40 = omega arith in
-      rw f (encode-two c l (omega arith) ∙ ap₂ (λ x y. x ∷ y ∷ []) first second)
-]
+two-bytes c l h = rw (encode-two c l (omega arith)) (grind (arith, nat_tests))
 
 -- One character, of one byte or two.
 one-spread : (c : ℕ) → c < 0x100 → encode_utf8 c ≡ cond (is_past_ascii c) (lead_byte c ∷ last_byte c ∷ []) (last_byte c ∷ [])
-one-spread c small = elim (cases_Bool (is_past_ascii c)) [
-  | inl t ↦ rw t (two-bytes c (leb-true 0x80 c t) small)
-  | inr f ↦
-      let low = leb-false 0x80 c f in
-      let same : last_byte c ≡ c = rw (lt-ltb c 0xc0 (omega arith)) refl in
-      rw f (encode_ascii c low ∙ ap (λ x. x ∷ []) (sym same))
-]
+one-spread c small = grind (arith, nat_tests, two-bytes, encode_ascii)
 
 -- ---- several characters
 
@@ -57,12 +41,11 @@ latin-spread [] fits = refl
 latin-spread (c ∷ cs) fits = ap₂ (λ x y. x ++ y) (one-spread c fits.0.fits) (latin-spread cs fits.1)
 
 -- The UTF-8 bytes of the first k characters.
-pub first-spread : (v block before : List ℕ) (marks : List Bool) (k : ℕ) → Each1 (Fits w8) v → block ≡ map last_byte v → before ≡ map lead_byte v → marks ≡ map is_past_ascii v
+pub first_spread : (v block before : List ℕ) (marks : List Bool) (k : ℕ) → Each1 (Fits w8) v
+    → block ≡ map last_byte v → before ≡ map lead_byte v → marks ≡ map is_past_ascii v
     → spread (take k marks) (take k before) (take k block) ≡ encode_utf8_all (take k v)
-first-spread v block before marks k fits block_is before_is marks_are =
-    (λ i. spread (take k (marks_are i)) (take k (before_is i)) (take k (block_is i)))
-    ∙ (λ i. spread (take-map is_past_ascii k v i) (take-map lead_byte k v i) (take-map last_byte k v i))
-    ∙ sym (latin-spread (take k v) (Each1-chunk (Fits w8) 0 k v fits))
+first_spread v block before marks k fits block_is before_is marks_are =
+    simp (marks_are, before_is, block_is, take-map) (sym (latin-spread (take k v) (Each1-chunk (Fits w8) 0 k v fits)))
 
 -- ---- what is computed of each lane
 
@@ -89,27 +72,22 @@ last-at : (b : ℕ) → b < 256 → cond (ltb b 0xc0) b (bit_and b 0xbf) ≡ las
 last-at b h = eqb-true _ _ (agree_below_at (λ b. eqb (cond (ltb b 0xc0) b (bit_and b 0xbf)) (last_byte b)) (λ b. true) 256 b refl h)
 
 -- The last bytes of all characters.
-pub lasts-are : (v : List ℕ) → length v ≡ 16 → Each1 (Fits w8) v → sel_l (lower v) v (zip2 bit_and v (replicate 16 0xbf)) ≡ map last_byte v
-lasts-are v long fits =
-    ap₂ (λ ms ys. sel_l ms v ys) (lower-is v long) (zip2_splat bit_and v 16 0xbf long)
-    ∙ ap (λ xs. sel_l (map (λ b. ltb b 0xc0) v) xs (map (λ b. bit_and b 0xbf) v)) (sym (map-id v))
+pub lasts_are : (v : List ℕ) → length v ≡ 16 → Each1 (Fits w8) v → sel_l (lower v) v (zip2 bit_and v (replicate 16 0xbf)) ≡ map last_byte v
+lasts_are v long fits =
+    rw (lower-is v long, zip2_splat bit_and v 16 0xbf long) (
+    ap (λ xs. sel_l (map (λ b. ltb b 0xc0) v) xs (map (λ b. bit_and b 0xbf) v)) (sym (map-id v))
     ∙ sel_l-map (λ b. ltb b 0xc0) (λ b. b) (λ b. bit_and b 0xbf) v
-    ∙ map-agree (λ b. cond (ltb b 0xc0) b (bit_and b 0xbf)) last_byte v last-at fits
+    ∙ map-agree (λ b. cond (ltb b 0xc0) b (bit_and b 0xbf)) last_byte v last-at fits)
 
 -- The first bytes of all characters.
 pub leads-are : (v : List ℕ) → length v ≡ 16 → sel_l (lower v) (replicate 16 0xc2) (replicate 16 0xc3) ≡ map lead_byte v
 leads-are v long =
-    ap (λ ms. sel_l ms (replicate 16 0xc2) (replicate 16 0xc3)) (lower-is v long)
-    ∙ ap₂ (λ xs ys. sel_l (map (λ b. ltb b 0xc0) v) xs ys) (splat_is_map v 16 0xc2 long) (splat_is_map v 16 0xc3 long)
-    ∙ sel_l-map (λ b. ltb b 0xc0) (λ b. 0xc2) (λ b. 0xc3) v
+    rw (lower-is v long, splat_is_map {Y = ℕ} v 16 0xc2 long, splat_is_map {Y = ℕ} v 16 0xc3 long)
+    (sel_l-map (λ b. ltb b 0xc0) (λ b. 0xc2) (λ b. 0xc3) v)
 
 -- ---- bytes of windows-1252
 
--- The bytes 80 to 9F are those of the table.
-pub tabled-is : (v : List ℕ) → Each1 (Fits w8) v → map (λ b. nat_le 0x80 b && nat_le b 0x9f) v ≡ map is_in_table v
-tabled-is v fits = each-same (λ b. nat_le 0x80 b && nat_le b 0x9f) is_in_table v (λ b small. agree_below_at (λ b. nat_le 0x80 b && nat_le b 0x9f) is_in_table 256 b refl small) fits
-
--- The bytes before the first of these aren't in the table.
+-- The bytes before the first of the table aren't in it.
 pub not-in_table : (bytes : List ℕ) (marks : List Bool) (k : ℕ) → marks ≡ map is_in_table (take 16 bytes) → k ≤ 16 → k ≤ clear_front marks
     → (j : ℕ) → j < k → is_in_table (get_or bytes j 0) ≡ false
 not-in_table bytes marks k e le few j lt =
@@ -134,8 +112,8 @@ scalars-bytes [] h = refl
 scalars-bytes (c ∷ cs) h = and_from (scalar c) (scalars cs) (scalar-at c h.0.fits) (scalars-bytes cs h.1)
 
 -- The first k bytes are scalar values.
-pub first-scalars : (cs : List ℕ) (k : ℕ) → Each1 (Fits w8) cs → scalars (take k cs) ≡ true
-first-scalars cs k h = scalars-bytes (take k cs) (Each1-chunk (Fits w8) 0 k cs h)
+pub first_scalars : (cs : List ℕ) (k : ℕ) → Each1 (Fits w8) cs → scalars (take k cs) ≡ true
+first_scalars cs k h = scalars-bytes (take k cs) (Each1-chunk (Fits w8) 0 k cs h)
 
 -- The decoded text of the first k of sixteen bytes is appended to a text.
 pub decoded-front : (old new bytes all : List ℕ) (k : ℕ) → IsUtf8 old → scalars (take k (take 16 bytes)) ≡ true → 16 ≤ length bytes → k ≤ 16
@@ -144,12 +122,6 @@ pub decoded-front : (old new bytes all : List ℕ) (k : ℕ) → IsUtf8 old → 
     → IsUtf8 new × (chars new ++ text_of WINDOWS_1252 (drop k bytes) ≡ all)
 decoded-front old new bytes all k u are long le h e joins =
     let cs = take k (take 16 bytes) in
-    let rest = text_of WINDOWS_1252 (drop k bytes) in
-    let split : text_of WINDOWS_1252 bytes ≡ cs ++ rest = same-numbers bytes k (omega arith) h ∙ ap (λ l. l ++ rest) (sym (take-take k 16 bytes le)) in (
-      subst IsUtf8 (sym e) (IsUtf8-append old (encode_utf8_all cs) u (cs, (are, refl))),
-      ap (λ l. chars l ++ rest) e
-          ∙ ap (λ l. l ++ rest) (chars-append old (encode_utf8_all cs) u ∙ ap (λ l. chars old ++ l) (chars-encodes cs are))
-          ∙ append_assoc (chars old) cs rest
-          ∙ ap (λ l. chars old ++ l) (sym split)
-          ∙ joins,
-    )
+    let split : text_of WINDOWS_1252 bytes ≡ cs ++ text_of WINDOWS_1252 (drop k bytes) =
+    rw (take-take k 16 bytes le) (same-numbers bytes k (omega arith) h) in
+    decoded-more old new cs _ _ all u are e split joins

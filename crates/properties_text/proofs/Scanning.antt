@@ -1,26 +1,12 @@
 -- How far the scans of a text have come.
 use Rattle.std.proofs.Common.{◌≡◌, ℕ, ◌<◌, ◌≤◌, ◌+◌, ◌-◌, ◌==◌, Bool, true, false, List, [], ◌∷◌, ◌++◌, length, take, drop, get_or, refl, ap, sym, ◌∙◌, append_assoc, append-nil, subst, inl, inr, arith}
-use Rattle.std.proofs.lemmas.Bool.{cond-true, cond-false, cases_lt}
-use Rattle.std.proofs.lemmas.List.{at_drop_more, at_drop_all, take_more, take_all, drop_more, drop_all}
-use Rattle.properties_format.specs.Text.{backslash, is_blank, without_leading_blanks}
+use Rattle.std.proofs.lemmas.Bool.{cond-false, cases_lt}
+use Rattle.std.proofs.lemmas.List.{take_more, take_all, drop_more, drop_all}
+use Rattle.properties_format.specs.Text.{backslash, is_blank}
 use Rattle.properties_format.specs.Split.{ends}
-use Rattle.properties_format.specs.Computed.Split.{without_trailing_blanks, unless_last_blank, Cut, with_front, ends_key, cut_key}
+use Rattle.properties_format.specs.Computed.Split.{without_trailing_blanks, unless_last_blank, with_front, ends_key, cut_key}
 use Rattle.properties_format.proofs.Split.Blanks.{without_trailing_blanks-only}
 use Rattle.properties_format.proofs.Split.Keys.{with_text}
-
--- ---- blanks at the front
-
--- A blank is skipped.
-pub leading-more : (xs : List ℕ) (i : ℕ) → i < length xs → is_blank (get_or xs i 0) ≡ true → without_leading_blanks (drop (i + 1) xs) ≡ without_leading_blanks (drop i xs)
-leading-more xs i h b = sym (at_drop_more without_leading_blanks xs i 0 h ∙ cond-true (is_blank (get_or xs i 0)) _ _ b)
-
--- Another character ends the scan.
-pub leading-stop : (xs : List ℕ) (i : ℕ) → i < length xs → is_blank (get_or xs i 0) ≡ false → without_leading_blanks (drop i xs) ≡ drop i xs
-leading-stop xs i h b = at_drop_more without_leading_blanks xs i 0 h ∙ cond-false (is_blank (get_or xs i 0)) _ _ b ∙ sym (drop_more xs i 0 h)
-
--- The end of the text ends the scan.
-pub leading-end : (xs : List ℕ) (i : ℕ) → length xs ≤ i → without_leading_blanks (drop i xs) ≡ drop i xs
-leading-end xs i h = at_drop_all without_leading_blanks xs i h ∙ sym (drop_all i xs h)
 
 -- ---- blanks at the end
 
@@ -38,16 +24,16 @@ pub take-last : (xs : List ℕ) (e : ℕ) → 0 < e → e ≤ length xs → take
 take-last xs e p h = ap (λ n. take n xs) (let k : e ≡ e - 1 + 1 = omega arith in k) ∙ take_more xs (e - 1) 0 (omega arith)
 
 -- A blank at the end is left out.
-pub trailing-more : (xs : List ℕ) (e : ℕ) → 0 < e → e ≤ length xs → is_blank (get_or xs (e - 1) 0) ≡ true
+pub trailing_more : (xs : List ℕ) (e : ℕ) → 0 < e → e ≤ length xs → is_blank (get_or xs (e - 1) 0) ≡ true
     → without_trailing_blanks (take (e - 1) xs) ≡ without_trailing_blanks (take e xs)
-trailing-more xs e p h b = sym (ap without_trailing_blanks (take-last xs e p h) ∙ trailing-blank (take (e - 1) xs) (get_or xs (e - 1) 0) b)
+trailing_more xs e p h b = sym (ap without_trailing_blanks (take-last xs e p h) ∙ trailing-blank (take (e - 1) xs) (get_or xs (e - 1) 0) b)
 
 full-last : (y : List ℕ) → ends is_blank y ≡ false → without_trailing_blanks y ≡ y
 full-last y e = ap without_trailing_blanks (sym (append-nil y)) ∙ without_trailing_blanks-only y [] tt e
 
 -- Another character at the end stays.
-pub trailing-stop : (xs : List ℕ) (e : ℕ) → 0 < e → e ≤ length xs → is_blank (get_or xs (e - 1) 0) ≡ false → without_trailing_blanks (take e xs) ≡ take e xs
-trailing-stop xs e p h b = full-last (take e xs) (ap (ends is_blank) (take-last xs e p h) ∙ ends-last (take (e - 1) xs) (get_or xs (e - 1) 0) ∙ b)
+pub trailing_stop : (xs : List ℕ) (e : ℕ) → 0 < e → e ≤ length xs → is_blank (get_or xs (e - 1) 0) ≡ false → without_trailing_blanks (take e xs) ≡ take e xs
+trailing_stop xs e p h b = full-last (take e xs) (ap (ends is_blank) (take-last xs e p h) ∙ ends-last (take (e - 1) xs) (get_or xs (e - 1) 0) ∙ b)
 
 -- ---- keys
 
@@ -58,12 +44,7 @@ IsCutSoFar xs i is_escaped = cut_key xs false ≡ with_text (take i xs) (cut_key
 -- The key takes one more character.
 pub cut-more : (xs : List ℕ) (i : ℕ) (was now : Bool) → i < length xs
     → ((cs : List ℕ) → cut_key (get_or xs i 0 ∷ cs) was ≡ with_front (get_or xs i 0) (cut_key cs now)) → IsCutSoFar xs i was → IsCutSoFar xs (i + 1) now
-cut-more xs i was now h step k =
-    k
-    ∙ ap (with_text (take i xs)) (ap (λ v. cut_key v was) (drop_more xs i 0 h) ∙ step (drop (i + 1) xs))
-    ∙ ap (λ v. let cut : Cut = record { key = v; rest = (cut_key (drop (i + 1) xs) now).rest } in cut)
-    (sym (append_assoc (take i xs) (get_or xs i 0 ∷ []) (cut_key (drop (i + 1) xs) now).key))
-    ∙ ap (λ v. with_text v (cut_key (drop (i + 1) xs) now)) (sym (take_more xs i 0 h))
+cut-more xs i was now h step k = rw (take_more xs i 0 h, append_assoc) (rw (drop_more xs i 0 h, step (drop (i + 1) xs)) at k)
 
 pub cut-escaped : (xs : List ℕ) (i : ℕ) → i < length xs → IsCutSoFar xs i true → IsCutSoFar xs (i + 1) false
 cut-escaped xs i h = cut-more xs i true false h (λ cs. refl)
@@ -79,10 +60,7 @@ cut-pair xs i h e k =
       | inl l ↦ subst (λ n. IsCutSoFar xs n false) (let two : i + 1 + 1 ≡ i + 2 = omega arith in two) (cut-escaped xs (i + 1) l opened)
       | inr l ↦
           let past : length xs ≤ i + 2 = omega (arith, l) in
-          opened
-          ∙ ap (λ v. with_text (take (i + 1) xs) (cut_key v true)) (drop_all (i + 1) xs l)
-          ∙ ap (λ v. with_text v (cut_key [] false)) (take_all (i + 1) xs l ∙ sym (take_all (i + 2) xs past))
-          ∙ ap (λ v. with_text (take (i + 2) xs) (cut_key v false)) (sym (drop_all (i + 2) xs past))
+          rw (drop_all (i + 2) xs past, take_all (i + 2) xs past) (rw (drop_all (i + 1) xs l, take_all (i + 1) xs l) at opened)
     ]
 
 pub cut-plain : (xs : List ℕ) (i : ℕ) → i < length xs → (get_or xs i 0 == backslash) ≡ false → ends_key (get_or xs i 0) ≡ false

@@ -1,21 +1,20 @@
 -- Fronts of bytes that are valid text without being decoded.
-use Rattle.std.proofs.Common.{◌≡◌, ◌↔◌, ◌≤◌, ℕ, true, List, [], ◌∷◌, ◌++◌, length, take, drop, ◌-◌, length-drop, refl, sym, ap, ◌∙◌, append-nil, append_assoc}
-use Rattle.std.specs.Prelude.{Result, Ok, Err, MatchResult, OnErr, IsSome}
+use Rattle.std.proofs.Common.{◌≡◌, ◌↔◌, ℕ, true, List, [], ◌∷◌, ◌++◌, length, drop, refl, sym, ap, ◌∙◌, append-nil, append_assoc}
+use Rattle.std.specs.Prelude.{Result, Ok, Err, MatchResult, OnErr, IsSome, encode_utf8_all}
 use Rattle.std.specs.Result.{result_ok}
 use Rattle.std.specs.Str.{IsUtf8, chars}
-use Rattle.std.proofs.Math.Utf8.{scalar as is_scalar}
+use Rattle.std.proofs.Math.Utf8.{scalar as is_scalar, scalars}
 use Rattle.std.specs.Char.{IsScalar, encode_utf8}
-use Rattle.std.proofs.Math.Seq.{take-length}
 use Rattle.std.proofs.lemmas.Bool.{and_from}
 use Rattle.std.proofs.lemmas.List.{nil_from_length}
-use Rattle.std.proofs.lemmas.Str.{chars-append, chars-encodes}
+use Rattle.std.proofs.lemmas.Str.{IsUtf8-append, chars-append, chars-encodes}
 use Rattle.properties_format.specs.Pieces.{characters}
 use Rattle.properties_format.specs.Encoding.{Encoding, windows_1252, utf_8, utf_16le, utf_16be}
 use Rattle.properties_format.specs.Computed.Encoding.{first_piece, pieces_of}
 use Rattle.properties_format.proofs.Encodings.Pieces.{pieces_of-nil}
 use Rattle.properties_format.proofs.Encodings.Waiting.{characters-step}
 use Rattle.properties_format.proofs.Encodings.WellFormed.{IsUtf8-from_well_formed, characters-ascii, characters-text}
-use Rattle.properties_text.specs.Decoding.{IsText, KeepsText}
+use Rattle.properties_text.specs.Decoding.{IsText}
 
 -- A result is `Ok` exactly if its fact holds.
 pub ok-exactly : {X E : Type 0} (A : X → Type 0) (B : E → Type 0) (P : Type 0) (r : Result X E)
@@ -24,11 +23,7 @@ ok-exactly A B P (Ok x) h = (λ k. h.1, λ k. refl)
 ok-exactly A B P (Err e) h = (λ k. absurd (cc), λ k. absurd (h.0 k))
 
 whole-front : (e : Encoding) (d : List ℕ) → characters (pieces_of e (d ++ [])) ≡ chars d ++ characters (pieces_of e []) → chars d ≡ characters (pieces_of e d)
-whole-front e d h =
-    sym (append-nil (chars d))
-    ∙ sym (ap (λ v. chars d ++ characters v) (pieces_of-nil e))
-    ∙ sym h
-    ∙ ap (λ v. characters (pieces_of e v)) (append-nil d)
+whole-front e d h = sym (rw (append-nil d, pieces_of-nil e, append-nil (chars d)) at h)
 
 -- Text is decoded to its characters.
 pub text-decoded : (e : Encoding) (d : List ℕ) → IsText e d → chars d ≡ characters (pieces_of e d)
@@ -42,23 +37,19 @@ pub at-error : {X E : Type 0} {P : Type 0} (r : Result X E) → P → OnErr r P
 at-error (Ok x) h = tt
 at-error (Err e) h = h
 
--- If nothing more was appended, the text so far and the text of what is left make the whole text.
-pub text-kept : (old more now rest : List ℕ) (new : List ℕ) → new ≡ now → chars now ++ rest ≡ chars old ++ more → length old ≤ length now → KeepsText old more new
-text-kept old more now rest new same joins longer =
-    record { others = rest; begins = ap (λ v. chars v ++ rest) same ∙ joins; longer = rw same longer }
+-- ---- The steps of decoding: the decoded text and the characters of the rest make `all`.
 
--- ---- The steps of decoding: the decoded `text` and the characters of the `rest` make `all`.
+-- Nothing is left.
+pub decoded-all : (e : Encoding) (text rest all : List ℕ) → text ++ characters (pieces_of e rest) ≡ all → length rest ≡ 0 → text ≡ all
+decoded-all e text rest all joins h = sym (append-nil text) ∙ rw (nil_from_length rest h, pieces_of-nil e) at joins
 
-module _ (e : Encoding) (text front rest after all : List ℕ) (joins : text ++ characters (pieces_of e rest) ≡ all)
-    (split : characters (pieces_of e rest) ≡ front ++ characters (pieces_of e after)) where
-  -- The front was decoded, and nothing follows it.
-  pub decoded-all : length after ≡ 0 → text ++ front ≡ all
-  decoded-all h =
-      sym (append-nil (text ++ front))
-      ∙ ap (λ v. (text ++ front) ++ v) (sym (ap (λ v. characters (pieces_of e v)) (nil_from_length after h) ∙ ap characters (pieces_of-nil e)))
-      ∙ append_assoc text front (characters (pieces_of e after))
-      ∙ ap (λ v. text ++ v) (sym split)
-      ∙ joins
+-- Characters are appended.
+pub decoded-more : (old new cs text rest all : List ℕ) → IsUtf8 old → scalars cs ≡ true → new ≡ old ++ encode_utf8_all cs → text ≡ cs ++ rest
+    → chars old ++ text ≡ all → IsUtf8 new × (chars new ++ rest ≡ all)
+decoded-more old new cs text rest all u s e split joins = (
+  rw e (IsUtf8-append old (encode_utf8_all cs) u (cs, (s, refl))),
+  rw (e, chars-append old (encode_utf8_all cs) u, chars-encodes cs s, append_assoc (chars old) cs rest, ← split) joins,
+)
 
 -- A text with one more character.
 pub chars-more : (old new : List ℕ) (c : ℕ) → IsUtf8 old → IsScalar c → new ≡ old ++ encode_utf8 c → chars new ≡ chars old ++ c ∷ []
@@ -66,21 +57,10 @@ chars-more old new c u h e =
     let own : chars (encode_utf8 c) ≡ c ∷ [] = ap chars (sym (append-nil (encode_utf8 c))) ∙ chars-encodes (c ∷ []) (and_from (is_scalar c) true h refl) in
     ap chars e ∙ chars-append old (encode_utf8 c) u ∙ ap (λ v. chars old ++ v) own
 
--- What is written byte by byte after a front.
-pub put-more : (front xs old new : List ℕ) (b : ℕ) → new ≡ old ++ b ∷ [] → old ≡ front ++ xs → new ≡ front ++ (xs ++ b ∷ [])
-put-more front xs old new b h k = h ∙ ap (λ v. v ++ b ∷ []) k ∙ append_assoc front xs (b ∷ [])
-
--- The first piece is decoded and appended to a text.
+-- The first piece is decoded, and appended.
 pub decoded-one : (e : Encoding) (old new all : List ℕ) (b : ℕ) (d : List ℕ) (c n : ℕ) → IsUtf8 old → IsScalar c → new ≡ old ++ encode_utf8 c
     → chars old ++ characters (pieces_of e (b ∷ d)) ≡ all → c ≡ (first_piece e b d).character → n ≡ length (first_piece e b d).bytes
-    → chars new ++ characters (pieces_of e (drop n (b ∷ d))) ≡ all
+    → IsUtf8 new × (chars new ++ characters (pieces_of e (drop n (b ∷ d))) ≡ all)
 decoded-one e old new all b d c n u s h joins k l =
     let step : characters (pieces_of e (b ∷ d)) ≡ c ∷ characters (pieces_of e (drop n (b ∷ d))) = rw (k, l) (characters-step e b d) in
-    ap (λ v. v ++ characters (pieces_of e (drop n (b ∷ d)))) (chars-more old new c u s h)
-    ∙ append_assoc (chars old) (c ∷ []) (characters (pieces_of e (drop n (b ∷ d))))
-    ∙ ap (λ v. chars old ++ v) (sym step)
-    ∙ joins
-
--- the bytes from an index to the end
-pub taken-rest : (n : ℕ) (d : List ℕ) → take (length d - n) (drop n d) ≡ drop n d
-taken-rest n d = ap (λ v. take v (drop n d)) (sym (length-drop n d)) ∙ take-length (drop n d)
+    decoded-more old new (c ∷ []) _ _ all u (and_from (is_scalar c) true s refl) (rw (append-nil (encode_utf8 c)) h) step joins

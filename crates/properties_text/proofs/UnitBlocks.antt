@@ -1,16 +1,16 @@
 -- Units of two bytes, sixteen at a time.
 use Rattle.std.specs.Prelude.{encode_utf8_all}
 use Rattle.std.specs.Str.{chars, IsUtf8, all_scalars}
-use Rattle.std.proofs.lemmas.Str.{IsUtf8-append, chars-append, chars-encodes}
-use Rattle.std.proofs.Common.{true, false, inl, inr, ◌≡◌, ℕ, zero, suc, ◌*◌, ◌<◌, ◌≤◌, ◌==◌, nat_le, not, Bool, List, [], ◌∷◌, ◌++◌, refl, sym, ap, ap₂, subst, ◌∙◌, append_assoc, arith, length, take, drop, get_or, map, eqb-true, w8, Fits}
+use Rattle.std.proofs.Common.{true, false, ◌≡◌, ℕ, zero, suc, ◌*◌, ◌<◌, ◌≤◌, ◌==◌, not, Bool, List, [], ◌∷◌, ◌++◌, refl, sym, ap, ap₂, subst, ◌∙◌, arith, length, length-append, take, drop, get_or, map, eqb-true}
 use Rattle.std.specs.List.{AllByRecursion}
-use Rattle.std.specs.Simd.Lanes.{Each1, pick_l}
-use Rattle.std.proofs.lemmas.Bool.{cases_Bool, leb-true}
+use Rattle.std.specs.Simd.Lanes.{pick_l}
+use Rattle.std.proofs.lemmas.Bool.{not-false, lt-leb}
 use Rattle.std.proofs.lemmas.Simd.{pick_l_whole}
 use Rattle.byte_blocks.specs.Marks.{clear_front}
 use Rattle.byte_blocks.proofs.Marking.{fails-before}
 use Rattle.properties_format.specs.Encoding.{utf_16le, utf_16be}
 use Rattle.properties_format.proofs.Encodings.Waiting.{characters-step}
+use Rattle.properties_text.proofs.TextFronts.{decoded-more}
 use Rattle.properties_text.specs.Decoding.{text_of, unit_of, evens, odds, lows_of, highs_of, utf_16_of}
 use Rattle.properties_text.specs.declared.encoding.utf_16.ByteOrder.{ByteOrder}
 use Rattle.properties_text.specs.declared.encoding.utf_16.ByteOrder.TheVariants.{LowFirst, HighFirst}
@@ -31,28 +31,23 @@ even_places = 0 ∷ 2 ∷ 4 ∷ 6 ∷ 8 ∷ 10 ∷ 12 ∷ 14 ∷ 16 ∷ 18 ∷ 2
 abbrev odd_places : List ℕ
 odd_places = 1 ∷ 3 ∷ 5 ∷ 7 ∷ 9 ∷ 11 ∷ 13 ∷ 15 ∷ 17 ∷ 19 ∷ 21 ∷ 23 ∷ 25 ∷ 27 ∷ 29 ∷ 31 ∷ []
 
--- What the lanes at even indices pick, and those at odd indices.
-pub evens-picked : (v : List ℕ) → length v ≡ 32 → pick_l 0 v even_places ≡ evens v
-evens-picked v long = ap evens (pick_l_whole 0 v 32 long)
+-- What the lanes of two blocks at even indices pick, and those at odd indices.
+pub evens-picked : (a b : List ℕ) → length a ≡ 16 → length b ≡ 16 → pick_l 0 (a ++ b) even_places ≡ evens (a ++ b)
+evens-picked a b h k = ap evens (pick_l_whole 0 (a ++ b) 32 (omega (arith, length-append a b, h, k)))
 
--- And what those at odd indices pick.
-pub odds-picked : (v : List ℕ) → length v ≡ 32 → pick_l 0 v odd_places ≡ odds v
-odds-picked v long = ap odds (pick_l_whole 0 v 32 long)
+pub odds-picked : (a b : List ℕ) → length a ≡ 16 → length b ≡ 16 → pick_l 0 (a ++ b) odd_places ≡ odds (a ++ b)
+odds-picked a b h k = ap odds (pick_l_whole 0 (a ++ b) 32 (omega (arith, length-append a b, h, k)))
 
 -- If the high bytes are zero, the low bytes are the units.
 pub low-units : (order : ByteOrder) (v : List ℕ) (n : ℕ) → AllByRecursion (λ h. h < 1) (take n (highs_of order v))
     → take n (units_of order v) ≡ take n (lows_of order v)
-low-units order v zero h = refl
-low-units LowFirst [] (suc n) h = refl
-low-units LowFirst (a ∷ []) (suc n) h = refl
 low-units LowFirst (a ∷ b ∷ v) (suc n) h =
     let same : unit_of LowFirst a b ≡ a = omega (arith, h.0) in
     ap₂ (λ x xs. x ∷ xs) same (low-units LowFirst v n h.1)
-low-units HighFirst [] (suc n) h = refl
-low-units HighFirst (a ∷ []) (suc n) h = refl
 low-units HighFirst (a ∷ b ∷ v) (suc n) h =
     let same : unit_of HighFirst a b ≡ b = omega (arith, h.0) in
     ap₂ (λ x xs. x ∷ xs) same (low-units HighFirst v n h.1)
+low-units order v n h = refl
 
 -- whether a byte isn't zero
 abbrev pub is_some : ℕ → Bool
@@ -60,73 +55,38 @@ is_some b = not (b == 0)
 
 -- A byte that is not marked is zero.
 zero-byte : (b : ℕ) → is_some b ≡ false → b < 1
-zero-byte b h = elim (cases_Bool (b == 0)) [
-  | inl t ↦ let e = eqb-true b 0 t in omega (arith, e)
-  | inr f ↦ absurd (let g : not (b == 0) ≡ true = rw f refl in cc)
-]
+zero-byte b h = let e = eqb-true b 0 (not-false (b == 0) h) in omega (arith, e)
 
 -- The first n are zero if none of them is marked.
 first-zero : (v : List ℕ) (n : ℕ) → ((k : ℕ) → k < n → is_some (get_or v k 0) ≡ false) → AllByRecursion (λ b. b < 1) (take n v)
 first-zero v zero h = tt
-first-zero [] (suc n) h = tt
 first-zero (b ∷ v) (suc n) h = (zero-byte b (h 0 (omega arith)), first-zero v n (λ k lt. h (suc k) (omega arith)))
+first-zero v n h = tt
 
--- The low bytes are below 100 hexadecimal.
-small-evens : (v : List ℕ) → Each1 (Fits w8) v → AllByRecursion (λ u. u < 0x100) (evens v)
-small-evens [] h = tt
-small-evens (a ∷ []) h = tt
-small-evens (a ∷ b ∷ v) h = (h.0.fits, small-evens v h.1.1)
-
--- At odd indices.
-small-odds : (v : List ℕ) → Each1 (Fits w8) v → AllByRecursion (λ u. u < 0x100) (odds v)
-small-odds [] h = tt
-small-odds (a ∷ []) h = tt
-small-odds (a ∷ b ∷ v) h = (h.1.0.fits, small-odds v h.1.1)
-
--- Lanes of two blocks are bytes.
-fits-append : (a b : List ℕ) → Each1 (Fits w8) a → Each1 (Fits w8) b → Each1 (Fits w8) (a ++ b)
-fits-append [] b h k = k
-fits-append (x ∷ a) b h k = (h.0, fits-append a b h.1 k)
-
--- Of two blocks.
-pub small-lows : (order : ByteOrder) (a b : List ℕ) → Each1 (Fits w8) a → Each1 (Fits w8) b → AllByRecursion (λ u. u < 0x100) (lows_of order (a ++ b))
-small-lows LowFirst a b h k = small-evens (a ++ b) (fits-append a b h k)
-small-lows HighFirst a b h k = small-odds (a ++ b) (fits-append a b h k)
-
--- So are the first of them.
+-- The first of small units are small.
 small-taken : (n : ℕ) (v : List ℕ) → AllByRecursion (λ u. u < 0x100) v → AllByRecursion (λ u. u < 0x100) (take n v)
-small-taken zero v h = tt
-small-taken (suc n) [] h = tt
 small-taken (suc n) (u ∷ v) h = (h.0, small-taken n v h.1)
+small-taken n v h = tt
 
 -- ---- what the units encode
-
--- A small number is not at or above a larger one.
-past : (u n : ℕ) → u < n → nat_le n u ≡ false
-past u n h = elim (cases_Bool (nat_le n u)) [ inl t ↦ absurd (omega (arith, h, leb-true n u t)) | inr f ↦ f ]
 
 -- A unit below 100 hexadecimal is a character.
 unit-step : (order : ByteOrder) (a b : ℕ) (rest : List ℕ) → unit_of order a b < 0x100
     → text_of (utf_16_of order) (a ∷ b ∷ rest) ≡ unit_of order a b ∷ text_of (utf_16_of order) rest
 unit-step LowFirst a b rest h = characters-step utf_16le a (b ∷ rest)
-    ∙ rw (past (unit_of LowFirst a b) 0xd800 (omega arith), past (unit_of LowFirst a b) 0xdc00 (omega arith)) refl
+    ∙ rw (lt-leb 0xd800 (unit_of LowFirst a b) (omega arith), lt-leb 0xdc00 (unit_of LowFirst a b) (omega arith)) refl
 unit-step HighFirst a b rest h = characters-step utf_16be a (b ∷ rest)
-    ∙ rw (past (unit_of HighFirst a b) 0xd800 (omega arith), past (unit_of HighFirst a b) 0xdc00 (omega arith)) refl
+    ∙ rw (lt-leb 0xd800 (unit_of HighFirst a b) (omega arith), lt-leb 0xdc00 (unit_of HighFirst a b) (omega arith)) refl
 
 -- n of the units of the first w bytes.
 front-is : (order : ByteOrder) (n w : ℕ) (bytes : List ℕ) → 2 * n ≤ w → w ≤ length bytes
     → AllByRecursion (λ u. u < 0x100) (take n (units_of order (take w bytes)))
     → text_of (utf_16_of order) bytes ≡ take n (units_of order (take w bytes)) ++ text_of (utf_16_of order) (drop (2 * n) bytes)
 front-is order zero w bytes le long h = refl
-front-is order (suc n) zero bytes le long h = absurd (omega arith)
-front-is order (suc n) (suc zero) bytes le long h = absurd (omega arith)
-front-is order (suc n) (suc (suc w)) [] le long h = absurd (omega arith)
-front-is order (suc n) (suc (suc w)) (a ∷ []) le long h = absurd (omega arith)
 front-is order (suc n) (suc (suc w)) (a ∷ b ∷ bytes) le long h =
     let place : suc (suc (2 * n)) ≡ 2 * suc n = omega arith in
-    unit-step order a b bytes h.0
-    ∙ ap (λ l. unit_of order a b ∷ l) (front-is order n w bytes (omega arith) (omega arith) h.1)
-    ∙ ap (λ k. unit_of order a b ∷ (take n (units_of order (take w bytes)) ++ text_of (utf_16_of order) (drop k (a ∷ b ∷ bytes)))) place
+    rw (← place, unit-step order a b bytes h.0, front-is order n w bytes (omega arith) (omega arith) h.1) refl
+front-is order (suc n) w bytes le long h = absurd (omega arith)
 
 -- ---- the text that is written for them
 
@@ -149,13 +109,4 @@ module _ (order : ByteOrder) (lows highs : List ℕ) (marks : List Bool) (n w : 
   -- They are appended.
   pub units-decoded : (old new all : List ℕ) → IsUtf8 old → all_scalars (take n lows) ≡ true → new ≡ old ++ encode_utf8_all (take n lows)
       → chars old ++ text_of (utf_16_of order) bytes ≡ all → IsUtf8 new × (chars new ++ text_of (utf_16_of order) (drop (2 * n) bytes) ≡ all)
-  units-decoded old new all u scalars e joins =
-      let cs = take n lows in
-      let after = text_of (utf_16_of order) (drop (2 * n) bytes) in (
-        subst IsUtf8 (sym e) (IsUtf8-append old (encode_utf8_all cs) u (cs, (scalars, refl))),
-        ap (λ l. chars l ++ after) e
-            ∙ ap (λ l. l ++ after) (chars-append old (encode_utf8_all cs) u ∙ ap (λ l. chars old ++ l) (chars-encodes cs scalars))
-            ∙ append_assoc (chars old) cs after
-            ∙ ap (λ l. chars old ++ l) (sym first-text)
-            ∙ joins,
-      )
+  units-decoded old new all u scalars e joins = decoded-more old new (take n lows) _ _ all u scalars e first-text joins

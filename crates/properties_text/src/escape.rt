@@ -74,6 +74,7 @@ pub fn unescape(alloc: Global, s: &str) -> Result<CowStr<'_>, UnescapeError>
 }
 
 /// Returns whether one of the bytes is that of a backslash.
+#[tactic(auto, using(crate::proofs::Texts::Resolving::tells_backslash))]
 pub fn has_backslash(bytes: &[u8]) -> bool
     ensures { result ≡ holds_backslash bytes.now }
 {

@@ -166,6 +166,7 @@ fn is_blank_at(text: &[u8], at: usize) -> bool
 }
 
 // The length of the text without the blanks at its end.
+#[tactic(auto, using(crate::proofs::Scanning::trailing_more, crate::proofs::Scanning::trailing_stop))]
 fn length_without_trailing_blanks(text: &[u8]) -> usize
     ensures within { result ≤ length text.now }
     ensures front { take result text.now ≡ without_trailing_blanks text.now }

@@ -1,34 +1,34 @@
 -- One byte, a run of bytes, or one character more of a text is printed.
-use Rattle.std.proofs.Common.{◌≡◌, ℕ, ◌+◌, ◌/◌, ◌%◌, ◌<◌, ◌≤◌, ◌==◌, Bool, not, true, false, List, [], ◌∷◌, ◌++◌, length, get_or, refl, sym, ap, ap₂, ◌∙◌, subst, inl, inr, append-nil, arith, nat_lt, lt-ltb, le-ltb, ne_eqb}
+use Rattle.std.proofs.Common.{◌≡◌, ℕ, ◌<◌, ◌≤◌, ◌==◌, Bool, true, false, List, [], ◌∷◌, ◌++◌, refl, sym, ap, ◌∙◌, subst, inl, inr, append-nil, arith, nat_lt, lt-ltb, le-ltb, ne_eqb}
+use Rattle.std.proofs.lemmas.Bool.Decides.{nat_tests}
 use Rattle.std.specs.Prelude.{None, is_some, nat_le}
 use lib.Utf8.{encode, encodes}
 use Rattle.std.specs.List.{All}
 use Rattle.std.specs.Str.{IsUtf8}
-use Rattle.std.proofs.lemmas.Bool.{cases_lt, cond-true, cond-false, and_from, and_left, and_right, lt-leb, le-leb}
+use Rattle.std.proofs.lemmas.Bool.{cases_lt, not-false, cond-false, and_from, and_left, and_right, lt-leb, le-leb}
+use Rattle.std.proofs.lemmas.Str.{IsCharBoundary-start}
 use Rattle.std.proofs.lemmas.List.Elements.{All-head, All-tail}
-use Rattle.properties_format.specs.Encoding.{utf_8, encoded}
-use Rattle.properties_format.specs.Text.{backslash, space}
+use Rattle.properties_format.specs.Encoding.{utf_8, windows_1252, one_byte, encoded}
+use Rattle.properties_format.specs.Text.{backslash}
 use Rattle.properties_format.specs.Windows1252.{windows_1252_character, windows_1252_byte}
 use Rattle.properties_format.specs.Escapes.{Meaning, means, breaks}
-use Rattle.properties_format.specs.Printing.{in_key_or_value, printed_character, printed_characters, encoded_text, unicode_escape, is_special, has_letter, may_be_unescaped}
+use Rattle.properties_format.specs.Printing.{unicode_escape}
 use Rattle.properties_format.specs.Computed.Escapes.{in_front, text_in_front}
 use Rattle.properties_format.proofs.Undecoded.{same}
-use Rattle.properties_format.proofs.Encodings.Utf8Characters.{encode-one, encode-two, encode-three, encode-four}
 use Rattle.properties_format.proofs.Encodings.Windows1252.{windows_1252_byte-character}
 use Rattle.properties_format.proofs.Escapes.Laws.{meaning_of-itself}
 use Rattle.properties_format.proofs.Escapes.Unique.{text_in_front-means, text_in_front-breaks}
 use Rattle.properties_format.proofs.Printing.Characters.{encoded_text-append}
-use Rattle.properties_text.specs.Printing.{printed_byte, printed_bytes, encoding_in, only_in, put_of, puts_of}
+use Rattle.properties_text.specs.Printing.{printed_byte, printed_bytes, encoding_in, only_in, put_of}
 use Rattle.properties_text.specs.Spelt.{text_in, IsWell}
 use Rattle.properties_text.specs.PrintedTexts.{meaning_by, meaning_in, printed_by, printed_in, is_copied, is_inside, inside, past, past_in, rest_in, StopsIn}
 use Rattle.properties_text.specs.declared.encoding.line.LineEncoding.{LineEncoding}
 use Rattle.properties_text.specs.declared.encoding.line.LineEncoding.TheVariants.{Windows1252, Utf8}
 use Rattle.properties_text.specs.declared.print.Repertoire.{Repertoire}
 use Rattle.properties_text.specs.declared.print.Repertoire.TheVariants as repertoire
-use Rattle.properties_text.proofs.Texts.Characters.{character_and}
+use Rattle.properties_text.proofs.Texts.Characters.{AreWide, AreInside, one, wide, encoded as bytes-of, character_and, wide-no_backslash}
 use Rattle.properties_text.proofs.Texts.Resolving.{text_in_front-append}
-use Rattle.properties_text.proofs.Printing.Bytes.{ascii-printed, byte-printed, lacked-printed, past-special, past-letter, past-control, past-byte}
-use Rattle.properties_text.proofs.Printing.Characters.{encoded_escape}
+use Rattle.properties_text.proofs.Printing.Bytes.{ascii-printed, byte-printed, escaped-printed, past-special, past-letter, past-control, past-byte}
 use Rattle.properties_text.proofs.Spelt.First.{ascii-first}
 
 -- ---- a character
@@ -42,81 +42,47 @@ pub put-utf_8 : (c : ℕ) → 0x80 ≤ c → put_of repertoire.Utf8 c ≡ encode
 put-utf_8 c h = rw (past-special c h, past-letter c h, past-control c h) (append-nil (encode c))
 
 -- In windows-1252, what has no byte is escaped.
-pub put-lacked : (c : ℕ) → 0x80 ≤ c → windows_1252_byte c ≡ None → put_of repertoire.Windows1252 c ≡ unicode_escape c
-put-lacked c h e = lacked-printed c h (ap is_some e)
+pub put_lacked : (c : ℕ) → 0x80 ≤ c → windows_1252_byte c ≡ None → put_of repertoire.Windows1252 c ≡ unicode_escape c
+put_lacked c h e = escaped-printed windows_1252 false c h (ap (λ o. is_some (one_byte o)) e)
 
 -- In ASCII alone, what is past ASCII is.
-pub put-escaped : (c : ℕ) → 0x80 ≤ c → put_of repertoire.Ascii c ≡ unicode_escape c
-put-escaped c h =
-    ap (encoded_text utf_8) (
-    cond-false (is_special c) _ _ (past-special c h)
-    ∙ cond-false (has_letter c) _ _ (past-letter c h)
-    ∙ cond-false (nat_lt c space) _ _ (past-control c h)
-    ∙ cond-false (may_be_unescaped utf_8 true c) (c ∷ []) (unicode_escape c) (and_left (nat_lt c 0x80) (is_some (encoded utf_8 c)) (le-ltb c 0x80 h))
-    )
-    ∙ encoded_escape utf_8 c
+pub put_escaped : (c : ℕ) → 0x80 ≤ c → put_of repertoire.Ascii c ≡ unicode_escape c
+put_escaped c h = escaped-printed utf_8 true c h (and_left (nat_lt c 0x80) (is_some (encoded utf_8 c)) (le-ltb c 0x80 h))
 
 -- ---- characters in front of a meaning
 
 -- A character is printed in front of what follows it.
 pub printed-one : (t : Repertoire) (c : ℕ) (m : Meaning) → printed_by t (in_front c m) ≡ text_in_front (put_of t c) (printed_by t m)
-printed-one t c (means x) =
-    ap means (encoded_text-append (encoding_in t) (printed_character (encoding_in t) (only_in t) in_key_or_value c)
-    (printed_characters (encoding_in t) (only_in t) in_key_or_value x))
-    ∙ sym (text_in_front-means (put_of t c) (puts_of t x))
+printed-one t c (means x) = rw (encoded_text-append, text_in_front-means) refl
 printed-one t c (breaks kind) = sym (text_in_front-breaks (put_of t c) kind)
 
 -- ---- a byte that isn't inside a character
 
--- A byte of ASCII isn't inside a character,
+-- A byte of ASCII isn't inside a character.
 pub not-inside : (b : ℕ) → b < 0x80 → is_inside b ≡ false
 not-inside b h = and_left (nat_le 0x80 b) (nat_lt b 0xc0) (lt-leb 0x80 b h)
 
--- nor is the first byte of one past ASCII.
-leads : (b : ℕ) → 0xc0 ≤ b → is_inside b ≡ false
-leads b h = and_right (nat_le 0x80 b) (nat_lt b 0xc0) (le-ltb b 0xc0 h)
-
--- The other bytes past ASCII are.
+-- Bytes from 80 to BF are.
 is-inside : (b : ℕ) → 0x80 ≤ b → b < 0xc0 → is_inside b ≡ true
 is-inside b h k = and_from (nat_le 0x80 b) (nat_lt b 0xc0) (le-leb 0x80 b h) (lt-ltb b 0xc0 k)
 
 -- A text begins with no byte inside a character.
 no-inside : (bs : List ℕ) → IsUtf8 bs → (inside bs ≡ []) × (past bs ≡ bs)
 no-inside [] u = (refl, refl)
-no-inside (b ∷ bs) u = let f = first-outside (b ∷ bs) u (omega arith) in
-    (cond-false (is_inside b) _ _ f, cond-false (is_inside b) _ _ f)
+no-inside (b ∷ bs) u = rw first (refl, refl)
   where
-    outside : (c : ℕ) (rest : List ℕ) → is_inside (get_or (encode c ++ rest) 0 0) ≡ false
-    outside c rest = elim (cases_lt c 0x80) [
-      | inl h ↦ rw (encode-one c h) (not-inside c h)
-      | inr l ↦ elim (cases_lt c 0x800) [
-        | inl h ↦ rw (encode-two c l h) (leads (192 + c / 64) (omega arith))
-        | inr m ↦ elim (cases_lt c 0x1_0000) [
-          | inl h ↦ rw (encode-three c m h) (leads (224 + c / 4096) (omega arith))
-          | inr n ↦ rw (encode-four c n) (leads (240 + c / 262144) (omega arith))
-        ]
-      ]
-    ]
-
-    first-outside : (bs : List ℕ) → IsUtf8 bs → 0 < length bs → is_inside (get_or bs 0 0) ≡ false
-    first-outside bs ([], (h, w)) s = absurd (omega (arith, s, ap length w))
-    first-outside bs ((c ∷ cs), (h, w)) s = ap (λ v. is_inside (get_or v 0 0)) (sym w) ∙ outside c (encodes cs)
+    first : is_inside b ≡ false
+    first = grind (arith, nat_tests, (IsCharBoundary-start (b ∷ bs) u).1)
 
 -- So the rest of a well-formed text comes to what the text does.
 pub rest-well : (e : LineEncoding) (t : Repertoire) (escaped : Bool) (bs : List ℕ) → IsWell e bs → rest_in e t escaped bs ≡ printed_in e t escaped bs
-rest-well Windows1252 t escaped bs w = refl
-rest-well Utf8 repertoire.Windows1252 escaped bs w = refl
-rest-well Utf8 repertoire.Ascii escaped bs w = refl
-rest-well Utf8 repertoire.Utf8 escaped bs w =
-    let n = no-inside bs w in
-    ap₂ (λ x y. text_in_front x (printed_in Utf8 repertoire.Utf8 escaped y)) n.0 n.1
+rest-well Utf8 repertoire.Utf8 escaped bs w = let n = no-inside bs w in rw (n.0, n.1) refl
+rest-well e t escaped bs w = refl
 
 -- So no byte of a well-formed text is passed over.
 pub past-well : (e : LineEncoding) (t : Repertoire) (bs : List ℕ) → IsWell e bs → past_in e t bs ≡ bs
-past-well Windows1252 t bs w = refl
-past-well Utf8 repertoire.Windows1252 bs w = refl
-past-well Utf8 repertoire.Ascii bs w = refl
 past-well Utf8 repertoire.Utf8 bs w = (no-inside bs w).1
+past-well e t bs w = refl
 
 -- ---- one character
 
@@ -131,8 +97,7 @@ pub printed-itself : (e : LineEncoding) (t : Repertoire) (escaped : Bool) (bs re
     → (escaped ≡ true → (c == backslash) ≡ false)
     → printed_in e t escaped bs ≡ text_in_front (put_of t c) (printed_in e t escaped rest)
 printed-itself e t escaped bs rest c h k =
-    ap (λ v. printed_by t (meaning_by escaped v)) h ∙ ap (printed_by t) (meaning-itself escaped c (text_in e rest) k)
-    ∙ printed-one t c (meaning_in e escaped rest)
+    rw (h, meaning-itself escaped c (text_in e rest) k) (printed-one t c (meaning_in e escaped rest))
 
 -- One byte more of a run is printed.
 pub record IsByte (e : LineEncoding) (t : Repertoire) (escaped : Bool) (b : ℕ) (bs : List ℕ) : Type 0 where
@@ -144,111 +109,60 @@ whole-byte : (e : LineEncoding) (t : Repertoire) (escaped : Bool) (b c : ℕ) (b
     → text_in e (b ∷ bs) ≡ c ∷ text_in e bs
     → (escaped ≡ true → (c == backslash) ≡ false) → put_of t c ≡ printed_byte b → IsByte e t escaped b bs
 whole-byte e t escaped b c bs w v s k p = record {
-  printed =
-      rest-well e t escaped (b ∷ bs) w
-      ∙ printed-itself e t escaped (b ∷ bs) bs c s k
-      ∙ ap₂ (λ x y. text_in_front x y) p (sym (rest-well e t escaped bs v));
+  printed = rw (rest-well e t escaped (b ∷ bs) w, rest-well e t escaped bs v, ← p) (printed-itself e t escaped (b ∷ bs) bs c s k);
   well = subst (IsWell e) (sym (past-well e t bs v)) v;
 }
 
--- A byte of ASCII stands at a place at which a character begins.
-ascii-well : (e : LineEncoding) (t : Repertoire) (b : ℕ) (bs : List ℕ) → b < 0x80 → IsWell e (past_in e t (b ∷ bs)) → IsWell e (b ∷ bs)
-ascii-well Windows1252 t b bs h w = tt
-ascii-well Utf8 repertoire.Windows1252 b bs h w = w
-ascii-well Utf8 repertoire.Ascii b bs h w = w
-ascii-well Utf8 repertoire.Utf8 b bs h w = subst IsUtf8 (cond-false (is_inside b) _ _ (not-inside b h)) w
+-- A byte that isn't inside a character stands at a place at which one begins.
+pub starts-well : (e : LineEncoding) (t : Repertoire) (b : ℕ) (bs : List ℕ) → (is_copied e t ≡ true → is_inside b ≡ false)
+    → IsWell e (past_in e t (b ∷ bs)) → IsWell e (b ∷ bs)
+starts-well Utf8 repertoire.Utf8 b bs h w = subst IsUtf8 (cond-false (is_inside b) _ _ (h refl)) w
+starts-well e t b bs h w = w
 
 ascii-byte : (e : LineEncoding) (t : Repertoire) (escaped : Bool) (b : ℕ) (bs : List ℕ) → b < 0x80 → IsWell e (past_in e t (b ∷ bs))
     → (escaped ≡ true → (b == backslash) ≡ false) → IsByte e t escaped b bs
 ascii-byte e t escaped b bs h w k =
-    let own = ascii-well e t b bs h w in
+    let own = starts-well e t b bs (λ _. not-inside b h) w in
     let a = ascii-first e b bs h own in
     whole-byte e t escaped b b bs own a.well a.characters k (put-ascii t b h)
 
 -- ---- a byte past ASCII that is copied
 
--- the bytes after the first of a character
-abbrev AllInside : List ℕ → Type 0
-AllInside [] = Unit {0}
-AllInside (b ∷ bs) = (is_inside b ≡ true) × AllInside bs
-
-inside-all : (xs rest : List ℕ) → AllInside xs → (inside (xs ++ rest) ≡ xs ++ inside rest) × (past (xs ++ rest) ≡ past rest)
-inside-all [] rest h = (refl, refl)
-inside-all (x ∷ xs) rest h =
-    let more = inside-all xs rest h.1 in
-    (cond-true (is_inside x) _ _ h.0 ∙ ap (λ v. x ∷ v) more.0, cond-true (is_inside x) _ _ h.0 ∙ more.1)
-
--- the bytes after the first of a character past ASCII
-pub record IsLed (c b : ℕ) (xs : List ℕ) : Type 0 where
-  pub bytes : encode c ≡ b ∷ xs
-  pub led : 0xc0 ≤ b
-  pub more : AllInside xs
-
-next-inside : (c : ℕ) → is_inside (128 + c % 64) ≡ true
-next-inside c = is-inside (128 + c % 64) (omega arith) (omega arith)
-
-led : (c : ℕ) → 0x80 ≤ c → (b : ℕ) × (xs : List ℕ) × IsLed c b xs
-led c h = elim (cases_lt c 0x800) [
-  | inl k ↦ (192 + c / 64, (128 + c % 64) ∷ [], record { bytes = encode-two c h k; led = omega arith; more = (next-inside c, tt) })
-  | inr m ↦ elim (cases_lt c 0x1_0000) [
-    | inl k ↦ (
-      224 + c / 4096,
-      (128 + c / 64 % 64) ∷ (128 + c % 64) ∷ [],
-      record {
-        bytes = encode-three c m k;
-        led = omega arith;
-        more = (next-inside (c / 64), (next-inside c, tt));
-      },
-    )
-    | inr n ↦ (
-      240 + c / 262144,
-      (128 + c / 4096 % 64) ∷ (128 + c / 64 % 64) ∷ (128 + c % 64) ∷ [],
-      record { bytes = encode-four c n; led = omega arith; more = (next-inside (c / 4096), (next-inside (c / 64), (next-inside c, tt))) },
-    )
-  ]
-]
+inside-all : (xs rest : List ℕ) → AreWide xs → AreInside xs → (inside (xs ++ rest) ≡ xs ++ inside rest) × (past (xs ++ rest) ≡ past rest)
+inside-all [] rest w h = (refl, refl)
+inside-all (x ∷ xs) rest w h =
+    let more = inside-all xs rest w.1 h.1 in
+    rw (is-inside x w.0 h.0, more.0, more.1) (refl, refl)
 
 -- the first byte of a character
 lead-byte : (escaped : Bool) (b : ℕ) (bs : List ℕ) → 0xc0 ≤ b → IsUtf8 (b ∷ bs) → IsByte Utf8 repertoire.Utf8 escaped b bs
 lead-byte escaped b bs h ([], (s, w)) = absurd (cc)
-lead-byte escaped b bs h ((c ∷ cs), (s, w)) = elim (cases_lt c 0x80) [
-  | inl low ↦ absurd (let one : c ∷ encodes cs ≡ b ∷ bs = ap (λ v. v ++ encodes cs) (sym (encode-one c low)) ∙ w in let is : c ≡ b = cc in omega arith)
-  | inr high ↦ lead-of escaped b bs c (encodes cs) high h ((c ∷ cs), (s, w)) (sym w)
+lead-byte escaped b bs h ((c ∷ cs), (s, w)) = elim (bytes-of c) [
+  | one low e ↦ absurd (let one : c ∷ encodes cs ≡ b ∷ bs = ap (λ v. v ++ encodes cs) (sym e) ∙ w in let is : c ≡ b = cc in omega arith)
+  | wide high d xs e l k m ↦
+      let rest = encodes cs in
+      let u : IsUtf8 (b ∷ bs) = ((c ∷ cs), (s, w)) in
+      let a = character_and (b ∷ bs) rest c u (sym w) in
+      let f : b ∷ bs ≡ d ∷ xs ++ rest = sym w ∙ ap (λ v. v ++ rest) e in
+      let first : b ≡ d = cc in
+      let others : bs ≡ xs ++ rest = cc in
+      let n = no-inside rest a.utf8 in
+      let i = inside-all xs rest k m in
+      let in_bs : inside bs ≡ xs = ap inside others ∙ i.0 ∙ ap (λ v. xs ++ v) n.0 ∙ append-nil xs in
+      let past_bs : past bs ≡ rest = ap past others ∙ i.1 ∙ n.1 in
+      let whole = rest-well Utf8 repertoire.Utf8 escaped (b ∷ bs) u in
+      let itself = printed-itself Utf8 repertoire.Utf8 escaped (b ∷ bs) rest c a.characters (λ k. wide-no_backslash c high) in
+      record {
+        printed = rw (whole, itself, put-utf_8 c high, e, in_bs, past_bs, past-byte b (omega arith), ← first) refl;
+        well = subst IsUtf8 (sym past_bs) a.utf8;
+      }
 ]
-  where
-    lead-of : (escaped : Bool) (b : ℕ) (bs : List ℕ) (c : ℕ) (rest : List ℕ) → 0x80 ≤ c → 0xc0 ≤ b → IsUtf8 (b ∷ bs) → b ∷ bs ≡ encode c ++ rest
-        → IsByte Utf8 repertoire.Utf8 escaped b bs
-    lead-of escaped b bs c rest high h u e =
-        let l = led c high in
-        let a = character_and (b ∷ bs) rest c u e in
-        let f : b ∷ bs ≡ l.0 ∷ l.1 ++ rest = e ∙ ap (λ v. v ++ rest) l.2.bytes in
-        let first : b ≡ l.0 = cc in
-        let others : bs ≡ l.1 ++ rest = cc in
-        let n = no-inside rest a.utf8 in
-        let i = inside-all l.1 rest l.2.more in
-        let in_bs : inside bs ≡ l.1 = ap inside others ∙ i.0 ∙ ap (λ v. l.1 ++ v) n.0 ∙ append-nil l.1 in
-        let past_bs : past bs ≡ rest = ap past others ∙ i.1 ∙ n.1 in
-        record {
-          printed =
-              rest-well Utf8 repertoire.Utf8 escaped (b ∷ bs) u
-              ∙ printed-itself Utf8 repertoire.Utf8 escaped (b ∷ bs) rest c a.characters (λ k. ne_eqb c backslash (λ q. absurd (omega arith)))
-              ∙ ap (λ v. text_in_front v (printed_in Utf8 repertoire.Utf8 escaped rest)) (put-utf_8 c high ∙ l.2.bytes ∙ ap₂ (λ x y. x ∷ y) (sym first)
-              (sym in_bs))
-              ∙ ap (λ v. in_front b (text_in_front (inside bs) (printed_in Utf8 repertoire.Utf8 escaped v))) (sym past_bs)
-              ∙ ap (λ v. text_in_front v (rest_in Utf8 repertoire.Utf8 escaped bs)) (sym (past-byte b (omega arith)));
-          well = subst IsUtf8 (sym past_bs) a.utf8;
-        }
 
 -- a byte inside a character
 inside-byte : (escaped : Bool) (b : ℕ) (bs : List ℕ) → 0x80 ≤ b → b < 0xc0 → IsUtf8 (past (b ∷ bs)) → IsByte Utf8 repertoire.Utf8 escaped b bs
 inside-byte escaped b bs h k w =
     let i = is-inside b h k in
-    let p : past (b ∷ bs) ≡ past bs = cond-true (is_inside b) _ _ i in
-    record {
-      printed = ap₂ (λ x y. text_in_front x (printed_in Utf8 repertoire.Utf8 escaped y)) (cond-true (is_inside b) (b ∷ inside bs) [] i) p
-          ∙ ap (λ v. text_in_front v (rest_in Utf8 repertoire.Utf8 escaped bs)) (sym (past-byte b h));
-      well = subst IsUtf8 p w;
-    }
+    record { printed = rw (i, past-byte b h) refl; well = rw i at w }
 
 past-copied : (e : LineEncoding) (t : Repertoire) (escaped : Bool) (b : ℕ) (bs : List ℕ) → 0x80 ≤ b → b < 256 → is_copied e t ≡ true
     → IsWell e (past_in e t (b ∷ bs)) → IsByte e t escaped b bs
@@ -256,14 +170,11 @@ past-copied Windows1252 repertoire.Windows1252 escaped b bs h k is w =
     whole-byte Windows1252 repertoire.Windows1252 escaped b (windows_1252_character b) bs tt tt refl
     (λ q. same backslash (omega arith) b ∙ ne_eqb b backslash (λ x. absurd (omega arith)))
     (byte-printed (windows_1252_character b) b (windows_1252_byte-character b k))
-past-copied Windows1252 repertoire.Utf8 escaped b bs h k is w = absurd (cc)
-past-copied Windows1252 repertoire.Ascii escaped b bs h k is w = absurd (cc)
-past-copied Utf8 repertoire.Windows1252 escaped b bs h k is w = absurd (cc)
-past-copied Utf8 repertoire.Ascii escaped b bs h k is w = absurd (cc)
 past-copied Utf8 repertoire.Utf8 escaped b bs h k is w = elim (cases_lt b 0xc0) [
   | inl l ↦ inside-byte escaped b bs h l w
-  | inr l ↦ lead-byte escaped b bs l (subst IsUtf8 (cond-false (is_inside b) _ _ (leads b l)) w)
+  | inr l ↦ lead-byte escaped b bs l (subst IsUtf8 (cond-false (is_inside b) _ _ (and_right (nat_le 0x80 b) (nat_lt b 0xc0) (le-ltb b 0xc0 l))) w)
 ]
+past-copied e t escaped b bs h k is w = absurd (cc)
 
 -- ---- runs
 
@@ -273,12 +184,8 @@ pub one-byte : (holds : ℕ → Bool) (e : LineEncoding) (t : Repertoire) (b : �
     → IsByte e t (holds backslash) b bs
 one-byte holds e t b bs s k f w = elim (cases_lt b 0x80) [
   | inl h ↦ ascii-byte e t (holds backslash) b bs h w (λ on. ne_eqb b backslash (λ q. let same : holds b ≡ holds backslash = ap holds q in absurd (cc)))
-  | inr h ↦ past-copied e t (holds backslash) b bs h k (copies (is_copied e t) (sym (s.past b h) ∙ f)) w
+  | inr h ↦ past-copied e t (holds backslash) b bs h k (not-false (is_copied e t) (sym (s.past b h) ∙ f)) w
 ]
-  where
-    copies : (x : Bool) → not x ≡ false → x ≡ true
-    copies true h = refl
-    copies false h = absurd (cc)
 
 -- Bytes of a run are printed one by one, and then the rest.
 pub record IsRun (e : LineEncoding) (t : Repertoire) (escaped : Bool) (xs bs : List ℕ) : Type 0 where
@@ -293,9 +200,6 @@ run-of holds e t (x ∷ xs) bs s small clear w =
     let one = one-byte holds e t x (xs ++ bs) s (All-head (λ b. b < 256) x xs small) (All-head (λ b. holds b ≡ false) x xs clear) w in
     let more = run-of holds e t xs bs s (All-tail (λ b. b < 256) x xs small) (All-tail (λ b. holds b ≡ false) x xs clear) one.well in
     record {
-      printed =
-          one.printed
-          ∙ ap (text_in_front (printed_byte x)) more.printed
-          ∙ sym (text_in_front-append (printed_byte x) (printed_bytes xs) (rest_in e t (holds backslash) bs));
+      printed = simp (one.printed, more.printed, text_in_front-append);
       well = more.well;
     }

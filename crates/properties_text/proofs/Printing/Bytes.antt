@@ -1,7 +1,8 @@
 -- Texts printed byte by byte.
-use Rattle.std.proofs.Common.{◌≡◌, ℕ, ◌+◌, ◌<◌, ◌≤◌, ◌==◌, Bool, true, false, nat_lt, List, [], ◌∷◌, ◌++◌, refl, sym, ap, ◌∙◌, inl, inr, append_assoc, arith, lit<, le-ltb, lt-ltb, ltb-true, ne_eqb, eqb-true}
-use Rattle.std.specs.Prelude.{Option, Some, None, is_some, not, ◌&&◌, slice_index, unwrap_or}
-use Rattle.std.proofs.lemmas.Bool.{cases_Bool, cases_lt, cond-true, cond-false, agree_below_at, false_from_ne_true}
+use Rattle.std.proofs.Common.{◌≡◌, ℕ, ◌+◌, ◌<◌, ◌≤◌, ◌==◌, Bool, true, false, nat_lt, List, [], ◌∷◌, ◌++◌, refl, sym, ap, ◌∙◌, inl, inr, append_assoc, arith, lit<, le-ltb, ne_eqb, eqb-true}
+use Rattle.std.specs.Prelude.{Some, not, ◌&&◌, slice_index, unwrap_or}
+use Rattle.std.proofs.lemmas.Bool.{cases_Bool, cases_lt, agree_below_at, false_from_ne_true}
+use Rattle.std.proofs.lemmas.Bool.Decides.{nat_tests}
 use Rattle.properties_format.specs.Text.{space, backslash}
 use Rattle.properties_format.specs.Windows1252.{windows_1252_byte, windows_1252_table, is_in_table, place_from}
 use Rattle.properties_format.specs.Encoding.{Encoding, windows_1252, one_byte, encoded}
@@ -16,29 +17,19 @@ use Rattle.properties_text.proofs.Printing.Characters.{encoded_escape}
 
 pub printed_bytes-append : (x y : List ℕ) → printed_bytes (x ++ y) ≡ printed_bytes x ++ printed_bytes y
 printed_bytes-append [] y = refl
-printed_bytes-append (b ∷ x) y = ap (λ v. printed_byte b ++ v) (printed_bytes-append x y) ∙ sym (append_assoc (printed_byte b) (printed_bytes x)
-    (printed_bytes y))
+printed_bytes-append (b ∷ x) y = rw (printed_bytes-append x y, append_assoc) refl
 
 -- ---- the tables
 
-pub before-at : (b : ℕ) → b < 256 → slice_index BEFORE b ≡ backslashes_before b
-before-at b h = eqb-true _ _ (agree_below_at (λ b. slice_index BEFORE b == backslashes_before b) (λ k. true) 256 b refl h)
+pub before_at : (b : ℕ) → b < 256 → slice_index BEFORE b ≡ backslashes_before b
+before_at b h = eqb-true _ _ (agree_below_at (λ b. slice_index BEFORE b == backslashes_before b) (λ k. true) 256 b refl h)
 
-pub last-at : (b : ℕ) → b < 256 → slice_index LAST b ≡ last_of b
-last-at b h = eqb-true _ _ (agree_below_at (λ b. slice_index LAST b == last_of b) (λ k. true) 256 b refl h)
+pub last_at : (b : ℕ) → b < 256 → slice_index LAST b ≡ last_of b
+last_at b h = eqb-true _ _ (agree_below_at (λ b. slice_index LAST b == last_of b) (λ k. true) 256 b refl h)
 
 -- A byte that neither table has is printed as an escape of digits.
-pub printed_byte-digits : (b : ℕ) → 1 < backslashes_before b → printed_byte b ≡ unit_escape b
-printed_byte-digits b h = elim (cases_Bool (is_special b)) [
-  | inl s ↦ absurd (let one : backslashes_before b ≡ 1 = rw s refl in omega (arith, one, h))
-  | inr s ↦ elim (cases_Bool (has_letter b)) [
-    | inl l ↦ absurd (let one : backslashes_before b ≡ 1 = rw (s, l) refl in omega (arith, one, h))
-    | inr l ↦ elim (cases_Bool (nat_lt b space)) [
-      | inl k ↦ rw (s, l, k) (cond-true (nat_lt b 0x1_0000) (unit_escape b) _ (lt-ltb b 0x1_0000 (let low = ltb-true b space k in omega (arith, low))))
-      | inr k ↦ absurd (let none : backslashes_before b ≡ 0 = rw (s, l, k) refl in omega (arith, none, h))
-    ]
-  ]
-]
+pub printed_digits : (b : ℕ) → 1 < backslashes_before b → printed_byte b ≡ unit_escape b
+printed_digits b h = grind (arith, nat_tests)
 
 -- ---- ASCII
 
@@ -75,29 +66,16 @@ past-byte b h = rw (past-special b h, past-letter b h, past-control b h) refl
 place-past : (n : ℕ) (xs : List ℕ) (c b : ℕ) → place_from n xs c ≡ Some b → n ≤ b
 place-past n [] c b h = absurd (cc)
 place-past n (x ∷ xs) c b h = elim (cases_Bool (x == c)) [
-  | inl e ↦ let same : Some n ≡ Some b = sym (cond-true (x == c) (Some n) (place_from (n + 1) xs c) e) ∙ h in le_from_same n b (some-same n b same)
-  | inr e ↦ le-before n b (place-past (n + 1) xs c b (sym (cond-false (x == c) (Some n) (place_from (n + 1) xs c) e) ∙ h))
+  | inl e ↦ let same : Some n ≡ Some b = rw e at h in let is : n ≡ b = cc in omega arith
+  | inr e ↦ let more = place-past (n + 1) xs c b (rw e at h) in omega arith
 ]
-  where
-    some-same : (n b : ℕ) → Some n ≡ Some b → n ≡ b
-    some-same n b h = cc
-
-    le_from_same : (n b : ℕ) → n ≡ b → n ≤ b
-    le_from_same n b h = omega arith
-
-    le-before : (n b : ℕ) → n + 1 ≤ b → n ≤ b
-    le-before n b h = omega arith
 
 -- The windows-1252 byte of a character above ASCII is above ASCII.
 pub byte-past : (c b : ℕ) → 0x80 ≤ c → windows_1252_byte c ≡ Some b → 0x80 ≤ b
 byte-past c b h e = elim (cases_Bool (nat_lt c 0x100 && not (is_in_table c))) [
-  | inl k ↦ own c b h (sym (cond-true (nat_lt c 0x100 && not (is_in_table c)) (Some c) (place_from 0x80 windows_1252_table c) k) ∙ e)
-  | inr k ↦ place-past 0x80 windows_1252_table c b (sym (cond-false (nat_lt c 0x100 && not (is_in_table c)) (Some c) (place_from 0x80 windows_1252_table c) k)
-      ∙ e)
+  | inl k ↦ let same : Some c ≡ Some b = rw k at e in let is : c ≡ b = cc in omega arith
+  | inr k ↦ place-past 0x80 windows_1252_table c b (rw k at e)
 ]
-  where
-    own : (c b : ℕ) → 0x80 ≤ c → Some c ≡ Some b → 0x80 ≤ b
-    own c b h e = let same : c ≡ b = cc in omega arith
 
 -- A character that has a byte is printed as that byte is.
 pub byte-printed : (c b : ℕ) → windows_1252_byte c ≡ Some b → encoded_text windows_1252 (printed_character windows_1252 false in_key_or_value
@@ -112,18 +90,7 @@ byte-printed c b e = elim (cases_lt c 0x80) [
       rw (past-special c h, past-letter c h, past-control c h, known) (rw known (sym (past-byte b (byte-past c b h e))))
 ]
 
--- A character that windows-1252 lacks is escaped.
-pub lacked-printed : (c : ℕ) → 0x80 ≤ c → is_some (windows_1252_byte c) ≡ false → encoded_text windows_1252 (printed_character windows_1252 false
-    in_key_or_value c) ≡ unicode_escape c
-lacked-printed c h e =
-    ap (encoded_text windows_1252) (
-    cond-false (is_special c) _ _ (past-special c h)
-    ∙ cond-false (has_letter c) _ _ (past-letter c h)
-    ∙ cond-false (nat_lt c space) _ _ (past-control c h)
-    ∙ cond-false (may_be_unescaped windows_1252 false c) (c ∷ []) (unicode_escape c) (some-byte (windows_1252_byte c) ∙ e)
-    )
-    ∙ encoded_escape windows_1252 c
-  where
-    some-byte : (o : Option ℕ) → is_some (one_byte o) ≡ is_some o
-    some-byte None = refl
-    some-byte (Some b) = refl
+-- A character above ASCII that may not be printed as it is, is escaped.
+pub escaped-printed : (e : Encoding) (only : Bool) (c : ℕ) → 0x80 ≤ c → may_be_unescaped e only c ≡ false
+    → encoded_text e (printed_character e only in_key_or_value c) ≡ unicode_escape c
+escaped-printed e only c h lacks = rw (past-special c h, past-letter c h, past-control c h, lacks) (encoded_escape e c)

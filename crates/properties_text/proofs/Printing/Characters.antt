@@ -1,8 +1,7 @@
 -- What is printed for a character and for a text.
-use Rattle.std.proofs.Common.{◌≡◌, ℕ, ◌≤◌, Bool, nat_lt, List, [], ◌∷◌, ◌++◌, refl, sym, ap, ◌∙◌, append_assoc, append-nil, le-ltb}
+use Rattle.std.proofs.Common.{◌≡◌, ℕ, ◌≤◌, Bool, List, [], ◌∷◌, ◌++◌, refl, sym, ap, ◌∙◌, append_assoc, append-nil, le-ltb}
 use Rattle.std.specs.Prelude.{encode_utf8_all}
 use Rattle.std.specs.Str.{chars, IsUtf8}
-use Rattle.std.proofs.lemmas.Bool.{cond-false}
 use Rattle.std.proofs.lemmas.Str.{encodes-chars, encode_ascii}
 use Rattle.properties_format.specs.Encoding.{Encoding}
 use Rattle.properties_format.specs.Printing.{Place, unit_escape, high_surrogate, low_surrogate, unicode_escape, printed_character, printed_characters, encoded_text}
@@ -16,33 +15,19 @@ encoded_escape e c = encoded_text-ascii e (unicode_escape c) (unicode_escape-asc
 pub escape_wide : (c : ℕ) (before at : List ℕ) → 0x1_0000 ≤ c → at ≡ before ++ unit_escape (high_surrogate c)
     → before ++ unicode_escape c ≡ at ++ unit_escape (low_surrogate c)
 escape_wide c before at h k =
-    ap (λ v. before ++ v) (cond-false (nat_lt c 0x1_0000) (unit_escape c) (unit_escape (high_surrogate c) ++ unit_escape (low_surrogate c))
-    (le-ltb c 0x1_0000 h))
-    ∙ sym (append_assoc before (unit_escape (high_surrogate c)) (unit_escape (low_surrogate c)))
-    ∙ ap (λ v. v ++ unit_escape (low_surrogate c)) (sym k)
+    rw (le-ltb c 0x1_0000 h, ← append_assoc before (unit_escape (high_surrogate c)) (unit_escape (low_surrogate c)), ← k) refl
 
 -- One more character is printed.
 pub printed_more : (e : Encoding) (only : Bool) (place : Place) (before xs : List ℕ) (c : ℕ)
     → (before ++ encoded_text e (printed_characters e only place xs)) ++ encoded_text e (printed_character e only place c) ≡ before ++ encoded_text e
     (printed_characters e only place (xs ++ c ∷ []))
-printed_more e only place before xs c =
-    append_assoc before (encoded_text e (printed_characters e only place xs)) (encoded_text e (printed_character e only place c))
-    ∙ ap (λ v. before ++ v) (
-    sym (encoded_text-append e (printed_characters e only place xs) (printed_character e only place c))
-    ∙ ap (λ v. encoded_text e (printed_characters e only place xs ++ v)) (sym (append-nil (printed_character e only place c)))
-    ∙ ap (encoded_text e) (sym (printed_characters-append e only place xs (c ∷ [])))
-    )
+printed_more e only place before xs c = simp (append_assoc, printed_characters-append e only place, append-nil, encoded_text-append e)
 
 -- The escape of the first character, and the text after it.
 pub first_escaped_more : (e : Encoding) (only : Bool) (place : Place) (before cs : List ℕ) (c : ℕ)
     → (before ++ unicode_escape c) ++ encoded_text e (printed_characters e only place cs) ≡ before ++ encoded_text e
     (unicode_escape c ++ printed_characters e only place cs)
-first_escaped_more e only place before cs c =
-    append_assoc before (unicode_escape c) (encoded_text e (printed_characters e only place cs))
-    ∙ ap (λ v. before ++ v) (
-    ap (λ v. v ++ encoded_text e (printed_characters e only place cs)) (sym (encoded_escape e c))
-    ∙ sym (encoded_text-append e (unicode_escape c) (printed_characters e only place cs))
-    )
+first_escaped_more e only place before cs c = simp (append_assoc, encoded_text-append e, encoded_escape e)
 
 -- ---- texts appended without escapes
 

@@ -17,8 +17,8 @@ is_row b row = starts (digits b) row && leb (length row) 2
 rows : (b : ℕ) → b < 256 → is_row b (get_or DIGITS_OF_BYTES b []) ≡ true
 rows b h = agree_below_at (λ b. is_row b (get_or DIGITS_OF_BYTES b [])) (λ b. true) 256 b refl h
 
-pub digits-at : (b : ℕ) → b < 256 → get_or DIGITS_OF_BYTES b [] ≡ digits b
-digits-at b h =
+pub digits_at : (b : ℕ) → b < 256 → get_or DIGITS_OF_BYTES b [] ≡ digits b
+digits_at b h =
     let row = get_or DIGITS_OF_BYTES b [] in
     let p = and_parts (starts (digits b) row) (leb (length row) 2) (rows b h) in
     sym (take_all 2 row (leb-true (length row) 2 p.1)) ∙ starts-take (digits b) row p.0

@@ -1,12 +1,12 @@
 -- Bytes printed sixteen at a time.
-use Rattle.std.proofs.Common.{◌≡◌, ℕ, ◌≤◌, false, cond, Bool, List, [], ◌∷◌, ◌++◌, refl, sym, ap, ap₂, ◌∙◌, arith, length, take, map, replicate}
+use Rattle.std.proofs.Common.{◌≡◌, ℕ, ◌≤◌, cond, Bool, List, [], ◌∷◌, ◌++◌, refl, sym, ap, ap₂, arith, length, take, map, replicate}
 use Rattle.std.specs.List.{All}
-use Rattle.std.proofs.lemmas.Bool.{le-ltb, ne_eqb}
+use Rattle.std.proofs.lemmas.Bool.Decides.{nat_tests}
 use Rattle.std.proofs.lemmas.List.{take-map}
 use Rattle.std.proofs.lemmas.List.Elements.{All-head, All-tail}
 use Rattle.std.proofs.lemmas.Simd.{splat_is_map}
 use Rattle.properties_format.specs.Text.{space, backslash}
-use Rattle.properties_format.specs.Printing.{is_special, has_letter}
+use Rattle.properties_format.specs.Printing.{is_special}
 use Rattle.byte_blocks.specs.Moving.{spread}
 use Rattle.properties_text.specs.Printing.{printed_byte, printed_bytes, with_backslashes}
 
@@ -17,22 +17,16 @@ backslashes-spread : (bs : List ℕ) → with_backslashes bs ≡ spread (map is_
 backslashes-spread [] = refl
 backslashes-spread (b ∷ bs) = ap (λ l. cond (is_special b) (backslash ∷ b ∷ []) (b ∷ []) ++ l) (backslashes-spread bs)
 
-module _ (v : List ℕ) (marks : List Bool) (k : ℕ) (long : length v ≡ 16) (are : marks ≡ map is_special v) where
-  -- Backslashes before the special bytes among the first k.
-  pub first-spread : spread (take k marks) (take k (replicate 16 backslash)) (take k v) ≡ with_backslashes (take k v)
-  first-spread =
-      ap₂ (λ ms bs. spread (take k ms) (take k bs) (take k v)) are (splat_is_map v 16 backslash long)
-      ∙ ap₂ (λ ms bs. spread ms bs (take k v)) (take-map is_special k v) (take-map (λ b. backslash) k v)
-      ∙ sym (backslashes-spread (take k v))
+-- Backslashes before the special bytes among the first k.
+pub first_spread : (v : List ℕ) (marks : List Bool) (k : ℕ) → length v ≡ 16 → marks ≡ map is_special v
+    → spread (take k marks) (take k (replicate 16 backslash)) (take k v) ≡ with_backslashes (take k v)
+first_spread v marks k long are = rw (are, splat_is_map v 16 backslash long) (simp take-map (sym (backslashes-spread (take k v))))
 
 -- ---- what is printed
 
 -- Without control characters, nothing else is escaped.
-no-letter : (b : ℕ) → space ≤ b → has_letter b ≡ false
-no-letter b h = rw (ne_eqb b 0x09 (omega arith), ne_eqb b 0x0a (omega arith), ne_eqb b 0x0c (omega arith), ne_eqb b 0x0d (omega arith)) refl
-
 printed-plain : (b : ℕ) → space ≤ b → cond (is_special b) (backslash ∷ b ∷ []) (b ∷ []) ≡ printed_byte b
-printed-plain b h = rw (no-letter b h, le-ltb b space h) refl
+printed-plain b h = grind (arith, nat_tests)
 
 pub spelt : (v : List ℕ) → All (λ b. space ≤ b) v → with_backslashes v ≡ printed_bytes v
 spelt [] h = refl

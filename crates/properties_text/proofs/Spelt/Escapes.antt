@@ -1,17 +1,13 @@
 -- Escapes at the front of some bytes, in either encoding.
 use Rattle.std.proofs.Common.{◌≡◌, ◌≢◌, ℕ, ◌+◌, ◌<◌, ◌≤◌, ◌==◌, ◌&&◌, true, List, [], ◌∷◌, ◌++◌, length, drop, get_or, refl, sym, ap, ap₂, ◌∙◌, subst, inl, inr, arith, lit<, ne_eqb, eqb-true}
 use Rattle.std.specs.Prelude.{None, Err}
-use lib.Utf8.{encodes}
 use Rattle.std.specs.Char.{IsScalar, InScalarRange, OutOfScalarRange}
-use Rattle.std.specs.Str.{chars}
 use Rattle.std.proofs.lemmas.Bool.{cases_lt, cond-false, and_parts, false_from_ne_true}
-use Rattle.std.proofs.lemmas.Str.{encodes-chars, chars-nil}
+use Rattle.std.proofs.lemmas.Str.{chars-nil}
 use Rattle.std.proofs.lemmas.List.{get_or-drop, drop-drop, length-drop}
 use Rattle.properties_format.specs.Text.{backslash}
-use Rattle.properties_format.specs.Windows1252.{windows_1252_character}
 use Rattle.properties_format.specs.Escapes.{letter_u, escaped, unicode, surrogates, last, spelling_text, NoSpelling, are_hexadecimal, code_unit, is_high, is_low, is_surrogate, pair_character, escaped_character, breaks, Four, four_text}
 use Rattle.properties_format.specs.Computed.Escapes.{in_front, with_low, meaning_of}
-use Rattle.properties_format.proofs.Encodings.Windows1252.{windows_1252-ascii}
 use Rattle.properties_format.proofs.Escapes.Laws.{IsMalformedUnit}
 use Rattle.properties_format.proofs.Escapes.Unique.{meaning_of-spelling}
 use Rattle.properties_text.specs.Escaping.{malformed_in}
@@ -22,39 +18,28 @@ use Rattle.properties_text.specs.declared.encoding.line.Spelt.{Spelt}
 use Rattle.properties_text.specs.declared.escape.Malformed.{Malformed}
 use Rattle.properties_text.specs.declared.escape.Malformed.TheVariants.{NotEnoughDigits, NotHex, InvalidCharacter}
 use Rattle.properties_text.proofs.Texts.Escapes.{IsUnit, IsUnread, malformed-unread, malformed-unpaired, scalar-unit, surrogate-unit, other-character}
-use Rattle.properties_text.proofs.Texts.Units.{ascii-digits, unit-bytes}
-use Rattle.properties_text.proofs.Spelt.First.{ascii-first, ascii-back}
+use Rattle.properties_text.proofs.Texts.Units.{ascii-digits}
+use Rattle.properties_text.proofs.Spelt.First.{IsAfter, ascii-first, ascii-back}
 
 -- ---- a backslash, and bytes after it
-
--- The bytes begin with so many that are these characters.
-pub record IsAfter (e : LineEncoding) (bs front : List ℕ) (n : ℕ) : Type 0 where
-  pub characters : text_in e bs ≡ front ++ text_in e (drop n bs)
-  pub well : IsWell e (drop n bs)
 
 -- One ASCII byte at the front.
 pub after-one : (e : LineEncoding) (bs : List ℕ) → IsWell e bs → 0 < length bs → get_or bs 0 0 < 128 → IsAfter e bs (get_or bs 0 0 ∷ []) 1
 after-one e [] w s h = absurd (omega arith)
-after-one e (b ∷ bs) w s h = let a = ascii-first e b bs h w in record { characters = a.characters; well = a.well }
+after-one e (b ∷ bs) w s h = ascii-first e b bs h w
 
 -- Two of them.
 pub after-two : (e : LineEncoding) (bs : List ℕ) → IsWell e bs → 2 ≤ length bs → get_or bs 0 0 < 128 → get_or bs 1 0 < 128
     → IsAfter e bs (get_or bs 0 0 ∷ get_or bs 1 0 ∷ []) 2
-after-two e [] w s h k = absurd (omega arith)
-after-two e (b ∷ []) w s h k = absurd (omega arith)
 after-two e (b ∷ c ∷ bs) w s h k =
     let one = ascii-first e b (c ∷ bs) h w in
     let two = ascii-first e c bs k one.well in
     record { characters = one.characters ∙ ap (λ v. b ∷ v) two.characters; well = two.well }
+after-two e bs w s h k = absurd (omega arith)
 
 -- Four of them.
 pub after-four : (e : LineEncoding) (bs : List ℕ) → IsWell e bs → 4 ≤ length bs → get_or bs 0 0 < 128 → get_or bs 1 0 < 128 → get_or bs 2 0 < 128
-    → get_or bs 3 0 < 128
-    → IsAfter e bs (get_or bs 0 0 ∷ get_or bs 1 0 ∷ get_or bs 2 0 ∷ get_or bs 3 0 ∷ []) 4
-after-four e [] w s k l m n = absurd (omega arith)
-after-four e (a ∷ []) w s k l m n = absurd (omega arith)
-after-four e (a ∷ b ∷ []) w s k l m n = absurd (omega arith)
-after-four e (a ∷ b ∷ c ∷ []) w s k l m n = absurd (omega arith)
+    → get_or bs 3 0 < 128 → IsAfter e bs (get_or bs 0 0 ∷ get_or bs 1 0 ∷ get_or bs 2 0 ∷ get_or bs 3 0 ∷ []) 4
 after-four e (a ∷ b ∷ c ∷ d ∷ rest) w s k l m n =
     let one = ascii-first e a (b ∷ c ∷ d ∷ rest) k w in
     let two = ascii-first e b (c ∷ d ∷ rest) l one.well in
@@ -64,12 +49,11 @@ after-four e (a ∷ b ∷ c ∷ d ∷ rest) w s k l m n =
       characters = one.characters ∙ ap (λ v. a ∷ v) (two.characters ∙ ap (λ v. b ∷ v) (three.characters ∙ ap (λ v. c ∷ v) four.characters));
       well = four.well;
     }
+after-four e bs w s k l m n = absurd (omega arith)
 
 -- `\u` at the front.
 pub after-u : (e : LineEncoding) (bs : List ℕ) → IsWell e bs → BeginsUnit bs → IsAfter e bs (backslash ∷ letter_u ∷ []) 2
-after-u e bs w b =
-    let a = after-two e bs w b.0 (omega (arith, b.1)) (omega (arith, b.2)) in
-    record { characters = a.characters ∙ ap₂ (λ x y. x ∷ y ∷ text_in e (drop 2 bs)) b.1 b.2; well = a.well }
+after-u e bs w b = rw (b.1, b.2) at (after-two e bs w b.0 (omega (arith, b.1)) (omega (arith, b.2)))
 
 -- A byte after the first ones.
 dropped : (bs : List ℕ) (i j : ℕ) → get_or (drop i bs) j 0 ≡ get_or bs (i + j) 0
@@ -97,29 +81,18 @@ unit-in e bs w b value h =
 -- Characters that are digits are their own bytes.
 digits-back : (e : LineEncoding) (bs : List ℕ) (d : Four) (rest : List ℕ) → IsWell e bs → text_in e bs ≡ four_text d ++ rest → are_hexadecimal d ≡ true
     → (more : List ℕ) × (bs ≡ four_text d ++ more)
-digits-back Utf8 bs d rest w s h =
-    (encodes rest, sym (encodes-chars bs w) ∙ unit-bytes (chars bs) rest (code_unit d) record { digits = d; whole = s; hexadecimal = h; writes = refl })
-digits-back Windows1252 [] d rest w s h = absurd (cc)
-digits-back Windows1252 (k ∷ []) d rest w s h = absurd (cc)
-digits-back Windows1252 (k ∷ l ∷ []) d rest w s h = absurd (cc)
-digits-back Windows1252 (k ∷ l ∷ m ∷ []) d rest w s h = absurd (cc)
-digits-back Windows1252 (k ∷ l ∷ m ∷ n ∷ more) d rest w s h =
+digits-back e bs d rest w s h =
     let a = ascii-digits d h in
-    let p : windows_1252_character k ≡ d.first = cc in
-    let q : windows_1252_character l ≡ d.second = cc in
-    let r : windows_1252_character m ≡ d.third = cc in
-    let t : windows_1252_character n ≡ d.fourth = cc in
-    let k' : k ≡ d.first = windows_1252-ascii k (omega (arith, p, a.0)) ∙ p in
-    let l' : l ≡ d.second = windows_1252-ascii l (omega (arith, q, a.1)) ∙ q in
-    let m' : m ≡ d.third = windows_1252-ascii m (omega (arith, r, a.2)) ∙ r in
-    let n' : n ≡ d.fourth = windows_1252-ascii n (omega (arith, t, a.3)) ∙ t in
-    (more, ap₂ (λ x y. x ∷ y ∷ m ∷ n ∷ more) k' l' ∙ ap₂ (λ x y. d.first ∷ d.second ∷ x ∷ y ∷ more) m' n')
+    let one = ascii-back e bs d.first _ w s a.0 in
+    let two = ascii-back e one.0 d.second _ one.2 one.3 a.1 in
+    let three = ascii-back e two.0 d.third _ two.2 two.3 a.2 in
+    let four = ascii-back e three.0 d.fourth _ three.2 three.3 a.3 in
+    (four.0, one.1 ∙ ap (λ v. d.first ∷ v) (two.1 ∙ ap (λ v. d.second ∷ v) (three.1 ∙ ap (λ v. d.third ∷ v) four.1)))
 
 -- the four bytes after two, if they are at the front of what is left
 digits-at : (bs more : List ℕ) (d : Four) → drop 2 bs ≡ four_text d ++ more → (6 ≤ length bs) × (digits_in bs ≡ d)
-digits-at [] more d e = absurd (cc)
-digits-at (x ∷ []) more d e = absurd (cc)
 digits-at (x ∷ y ∷ bs) more d e = (omega (arith, ap length e), ap (λ v. record { first = get_or v 0 0; second = get_or v 1 0; third = get_or v 2 0; fourth = get_or v 3 0 }) e)
+digits-at bs more d e = absurd (cc)
 
 -- ---- what isn't an escape
 
@@ -134,11 +107,8 @@ lacking e bs d rest w l s h =
 
 -- The first four characters of a text.
 four-of : (x : List ℕ) → 4 ≤ length x → (d : Four) × (rest : List ℕ) × (x ≡ four_text d ++ rest)
-four-of [] h = absurd (omega arith)
-four-of (a ∷ []) h = absurd (omega arith)
-four-of (a ∷ b ∷ []) h = absurd (omega arith)
-four-of (a ∷ b ∷ c ∷ []) h = absurd (omega arith)
 four-of (a ∷ b ∷ c ∷ d ∷ rest) h = (record { first = a; second = b; third = c; fourth = d }, rest, refl)
+four-of x h = absurd (omega arith)
 
 -- Why there are no four digits, by the characters.
 unread : (e : LineEncoding) (bs : List ℕ) (m : Malformed) → IsWell e (drop 2 bs) → LacksDigits bs → CountsFour e (drop 2 bs) m
@@ -176,16 +146,11 @@ no-low high x h = refl
 
 -- A low escape in the characters is one in the bytes.
 low-back : (e : LineEncoding) (bs : List ℕ) (low : Four) (rest : List ℕ) → IsWell e bs → text_in e bs ≡ backslash ∷ letter_u ∷ four_text low ++ rest
-    → are_hexadecimal low ≡ true
-    → BeginsUnit bs × HasDigits bs (code_unit low) × (digits_in bs ≡ low)
+    → are_hexadecimal low ≡ true → BeginsUnit bs × HasDigits bs (code_unit low) × (digits_in bs ≡ low)
 low-back e bs low rest w s h =
-    let one = ascii-back e bs backslash (letter_u ∷ four_text low ++ rest) w s (lit< tt) in
-    let after = ascii-first e backslash one.0 (lit< tt) (subst (IsWell e) one.1 w) in
-    let s' : text_in e one.0 ≡ letter_u ∷ four_text low ++ rest = (let k = sym after.characters ∙ sym (ap (text_in e) one.1) ∙ s in cc) in
-    let two = ascii-back e one.0 letter_u (four_text low ++ rest) after.well s' (lit< tt) in
-    let after' = ascii-first e letter_u two.0 (lit< tt) (subst (IsWell e) two.1 after.well) in
-    let s'' : text_in e two.0 ≡ four_text low ++ rest = (let k = sym after'.characters ∙ sym (ap (text_in e) two.1) ∙ s' in cc) in
-    let four = digits-back e two.0 low rest after'.well s'' h in
+    let one = ascii-back e bs backslash _ w s (lit< tt) in
+    let two = ascii-back e one.0 letter_u _ one.2 one.3 (lit< tt) in
+    let four = digits-back e two.0 low rest two.2 two.3 h in
     let whole : bs ≡ backslash ∷ letter_u ∷ four_text low ++ four.0 = one.1 ∙ ap (λ v. backslash ∷ v) (two.1 ∙ ap (λ v. letter_u ∷ v) four.1) in
     let at = digits-at bs four.0 low (ap (drop 2) whole) in (
       (omega (arith, at.0), ap (λ v. get_or v 0 0) whole, ap (λ v. get_or v 1 0) whole),
@@ -211,14 +176,12 @@ reads-unpaired e bs high w b h out none =
 -- What is spelt means the character and what is after it.
 pub spells-meaning : (e : LineEncoding) (bs : List ℕ) (spelt : Spelt) → Spells e bs spelt
     → meaning_of (text_in e bs) ≡ in_front spelt.character (meaning_of (text_in e (drop spelt.length bs)))
-spells-meaning e bs spelt s =
-    let rest = text_in e (drop spelt.length bs) in
-    ap meaning_of s.whole ∙ meaning_of-spelling s.spelling rest s.stands ∙ ap (λ v. in_front v (meaning_of rest)) (sym s.character)
+spells-meaning e bs spelt s = rw (s.whole, s.character) (meaning_of-spelling s.spelling (text_in e (drop spelt.length bs)) s.stands)
 
 -- One `\u` escape was read.
-pub reads-unit : (e : LineEncoding) (bs : List ℕ) (value c : ℕ) → IsWell e bs → BeginsUnit bs → HasDigits bs value → InScalarRange value → c ≡ value
+pub reads-unit : {e : LineEncoding} {bs : List ℕ} {value c : ℕ} → IsWell e bs → BeginsUnit bs → HasDigits bs value → InScalarRange value → c ≡ value
     → IsScalar c → IsRead e bs record { character = c; length = 6 }
-reads-unit e bs value c w b h in_range is s =
+reads-unit {e} {bs} {value} w b h in_range is s =
     let a = after-u e bs w b in
     let u = unit-in e bs w b value h in
     record {
@@ -235,9 +198,9 @@ reads-unit e bs value c w b h in_range is s =
     }
 
 -- Two were read, which are surrogates.
-pub reads-pair : (e : LineEncoding) (bs : List ℕ) (high c : ℕ) → IsWell e bs → BeginsUnit bs → HasDigits bs high → HasLow high (drop 6 bs) c
+pub reads-pair : {e : LineEncoding} {bs : List ℕ} {high c : ℕ} → IsWell e bs → BeginsUnit bs → HasDigits bs high → HasLow high (drop 6 bs) c
     → IsScalar c → IsRead e bs record { character = c; length = 12 }
-reads-pair e bs high c w b h l s =
+reads-pair {e} {bs} {high} w b h l s =
     let a = after-u e bs w b in
     let u = unit-in e bs w b high h in
     let a' = after-u e (drop 6 bs) u.1 l.begins in
@@ -260,10 +223,9 @@ reads-pair e bs high c w b h l s =
     }
 
 -- A backslash before an ASCII character was read.
-pub reads-ascii : (e : LineEncoding) (bs : List ℕ) (c : ℕ) → IsWell e bs → 2 ≤ length bs → get_or bs 0 0 ≡ backslash → get_or bs 1 0 ≢ letter_u
-    → get_or bs 1 0 < 128
-    → c ≡ escaped_character (get_or bs 1 0) → IsScalar c → IsRead e bs record { character = c; length = 2 }
-reads-ascii e bs c w some b other small is s =
+pub reads-ascii : {e : LineEncoding} {bs : List ℕ} {c : ℕ} → IsWell e bs → 2 ≤ length bs → get_or bs 0 0 ≡ backslash → get_or bs 1 0 ≢ letter_u
+    → get_or bs 1 0 < 128 → c ≡ escaped_character (get_or bs 1 0) → IsScalar c → IsRead e bs record { character = c; length = 2 }
+reads-ascii {e} {bs} w some b other small is s =
     let x = get_or bs 1 0 in
     let a = after-two e bs w some (omega (arith, b)) small in
     record {
@@ -286,8 +248,8 @@ no-text Utf8 [] h = chars-nil
 no-text e (b ∷ bs) h = absurd (omega arith)
 
 -- A backslash at the end was read.
-pub reads-end : (e : LineEncoding) (bs : List ℕ) → IsWell e bs → length bs ≡ 1 → get_or bs 0 0 ≡ backslash → IsRead e bs record { character = 0; length = 1 }
-reads-end e bs w one b =
+pub reads-end : {e : LineEncoding} {bs : List ℕ} → IsWell e bs → length bs ≡ 1 → get_or bs 0 0 ≡ backslash → IsRead e bs record { character = 0; length = 1 }
+reads-end {e} {bs} w one b =
     let a = after-one e bs w (omega arith) (omega (arith, b)) in
     record {
       some = omega arith;
@@ -303,10 +265,9 @@ reads-end e bs w one b =
     }
 
 -- A backslash before another character was read.
-pub reads-past : (e : LineEncoding) (bs : List ℕ) (first : Spelt) → IsWell e bs → 2 ≤ length bs → get_or bs 0 0 ≡ backslash → 0x80 ≤ get_or bs 1 0
-    → IsFirst e (drop 1 bs) first
-    → IsRead e bs record { character = first.character; length = 1 + first.length }
-reads-past e bs first w some b past f =
+pub reads-past : {e : LineEncoding} {bs : List ℕ} {first : Spelt} → IsWell e bs → 2 ≤ length bs → get_or bs 0 0 ≡ backslash → 0x80 ≤ get_or bs 1 0
+    → IsFirst e (drop 1 bs) first → IsRead e bs record { character = first.character; length = 1 + first.length }
+reads-past {e} {bs} {first} w some b past f =
     let a = after-one e bs w (omega arith) (omega (arith, b)) in
     let c = first.character in
     let rest = text_in e (drop first.length (drop 1 bs)) in

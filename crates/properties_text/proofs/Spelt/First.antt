@@ -1,15 +1,17 @@
 -- The first character of some bytes, in either encoding.
-use Rattle.std.proofs.Common.{◌≡◌, ℕ, ◌+◌, ◌-◌, ◌/◌, ◌<◌, ◌≤◌, List, [], ◌∷◌, ◌++◌, length, take, drop, get_or, refl, sym, ap, ap₂, ◌∙◌, subst, inl, inr, arith, lt-ltb, le-ltb}
-use Rattle.std.proofs.Math.Seq.{take-append_seam, drop-append_seam}
+use Rattle.std.proofs.Common.{◌≡◌, ℕ, ◌-◌, ◌<◌, List, [], ◌∷◌, ◌++◌, length, take, drop, get_or, sym, ap, ap₂, ◌∙◌, subst, inl, inr, arith}
+use Rattle.std.proofs.lemmas.Grind.{common_steps}
+use Rattle.std.proofs.Math.Seq.{drop-append_seam}
 use Rattle.std.specs.Prelude.{Option, Some, None, IsSome, unwrap_or}
 use Rattle.std.specs.Option.{SomeIff}
 use lib.Utf8.{encode, encodes, scalars, scalar}
 use Rattle.std.specs.Char.{IsScalar, InScalarRange}
 use Rattle.std.specs.Str.{IsUtf8, chars}
 use Rattle.std.proofs.lemmas.Bool.{cases_lt, and_parts}
-use Rattle.std.proofs.lemmas.Str.{encodes-chars}
+use Rattle.std.proofs.lemmas.Str.{encodes-chars, length-encode, len_utf8_bounds}
 use Rattle.std.proofs.lemmas.List.{length-append}
 use Rattle.properties_format.specs.Text.{scalar as is_scalar}
+use Rattle.std.proofs.lemmas.Bool.Decides.{nat_tests}
 use Rattle.properties_format.specs.Utf8.{sequence_character}
 use Rattle.properties_format.specs.Windows1252.{windows_1252_character}
 use Rattle.properties_format.specs.Computed.Undecoded.{characters_of}
@@ -27,62 +29,36 @@ use Rattle.properties_text.proofs.Texts.Characters.{character_and, first_ascii}
 -- The first byte of a character says how many there are.
 length-of : (c : ℕ) (rest : List ℕ) → c < 0x11_0000 → length_by_first (get_or (encode c ++ rest) 0 0) ≡ length (encode c)
 length-of c rest s = elim (cases_lt c 0x80) [
-  | inl h ↦ rw (encode-one c h) (rw (lt-ltb c 0x80 h) refl)
+  | inl h ↦ rw (encode-one c h) (grind (arith, nat_tests))
   | inr l ↦ elim (cases_lt c 0x800) [
-    | inl h ↦ rw (encode-two c l h) (rw (le-ltb (192 + c / 64) 0x80 (omega arith), lt-ltb (192 + c / 64) 0xe0 (omega arith)) refl)
+    | inl h ↦ rw (encode-two c l h) (grind (arith, nat_tests))
     | inr m ↦ elim (cases_lt c 0x1_0000) [
-      | inl h ↦ rw (encode-three c m h) (rw (le-ltb (224 + c / 4096) 0x80 (omega arith), le-ltb (224 + c / 4096) 0xe0 (omega arith), lt-ltb (224 + c / 4096) 0xf0 (omega arith)) refl)
-      | inr n ↦ rw (encode-four c n) (rw (le-ltb (240 + c / 262144) 0x80 (omega arith), le-ltb (240 + c / 262144) 0xe0 (omega arith), le-ltb (240 + c / 262144) 0xf0 (omega arith)) refl)
-    ]
-  ]
-]
-
--- A character has a byte.
-some-bytes : (c : ℕ) → 0 < length (encode c)
-some-bytes c = elim (cases_lt c 0x80) [
-  | inl h ↦ rw (encode-one c h) (omega arith)
-  | inr l ↦ elim (cases_lt c 0x800) [
-    | inl h ↦ rw (encode-two c l h) (omega arith)
-    | inr m ↦ elim (cases_lt c 0x1_0000) [
-      | inl h ↦ rw (encode-three c m h) (omega arith)
-      | inr n ↦ rw (encode-four c n) (omega arith)
+      | inl h ↦ rw (encode-three c m h) (grind (arith, nat_tests))
+      | inr n ↦ rw (encode-four c n) (grind (arith, nat_tests))
     ]
   ]
 ]
 
 -- The first byte and the others of a front.
 bytes-of : (xs rest : List ℕ) → 0 < length xs → get_or (xs ++ rest) 0 0 ∷ take (length xs - 1) (drop 1 (xs ++ rest)) ≡ xs
-bytes-of [] rest h = absurd (omega arith)
-bytes-of (x ∷ xs) rest h =
-    let e : length (x ∷ xs) - 1 ≡ length xs = omega arith in
-    ap (λ n. x ∷ take n (xs ++ rest)) e ∙ ap (λ v. x ∷ v) (take-append_seam xs rest)
+bytes-of xs rest h = grind (arith, common_steps)
 
--- What is read of a character: its number of bytes, and its number.
-pub record IsSequence (bs : List ℕ) (n : ℕ) : Type 0 where
-  pub some : 0 < n
-  pub within : n ≤ length bs
-  pub scalar : IsScalar (sequence_character (get_or bs 0 0 ∷ take (n - 1) (drop 1 bs)))
-  pub characters : chars bs ≡ sequence_character (get_or bs 0 0 ∷ take (n - 1) (drop 1 bs)) ∷ chars (drop n bs)
-  pub well : IsUtf8 (drop n bs)
-
--- No character is above 10FFFF.
-below-all : (c : ℕ) → is_scalar c → c < 0x11_0000
-below-all c (inl h) = omega arith
-below-all c (inr h) = h.1
+-- what is read of a character: its number, and its number of bytes
+abbrev pub sequence_of : List ℕ → ℕ → Spelt
+sequence_of bs n = record { character = sequence_character (get_or bs 0 0 ∷ take (n - 1) (drop 1 bs)); length = n }
 
 -- Bytes that begin with those of a character.
-begins : (bs rest : List ℕ) (c n : ℕ) → IsUtf8 bs → IsScalar c → bs ≡ encode c ++ rest → n ≡ length_by_first (get_or bs 0 0) → IsSequence bs n
+begins : (bs rest : List ℕ) (c n : ℕ) → IsUtf8 bs → IsScalar c → bs ≡ encode c ++ rest → n ≡ length_by_first (get_or bs 0 0) → IsFirst Utf8 bs (sequence_of bs n)
 begins bs rest c n u s e is =
-    let below : c < 0x11_0000 = below-all c (scalar-from_char c s) in
+    let below : c < 0x11_0000 = (let h = scalar-from_char c s in omega arith) in
+    let some : 0 < length (encode c) = omega (arith, length-encode c, len_utf8_bounds c) in
     let size : n ≡ length (encode c) = is ∙ ap (λ v. length_by_first (get_or v 0 0)) e ∙ length-of c rest below in
     let code : sequence_character (get_or bs 0 0 ∷ take (n - 1) (drop 1 bs)) ≡ c =
-    ap₂ (λ v m. sequence_character (get_or v 0 0 ∷ take (m - 1) (drop 1 v))) e size
-    ∙ ap sequence_character (bytes-of (encode c) rest (some-bytes c))
-    ∙ sym (encode-is_sequence c (scalar-from_char c s)).1 in
+    rw (e, size, bytes-of (encode c) rest some) (sym (encode-is_sequence c (scalar-from_char c s)).1) in
     let left : drop n bs ≡ rest = ap₂ drop size e ∙ drop-append_seam (encode c) rest in
     let a = character_and bs rest c u e in
     record {
-      some = omega (arith, size, some-bytes c);
+      some = omega (arith, size, some);
       within = omega (arith, size, ap length e, length-append (encode c) rest);
       scalar = subst IsScalar (sym code) s;
       characters = a.characters ∙ ap₂ (λ x v. x ∷ chars v) (sym code) (sym left);
@@ -100,38 +76,37 @@ in-range code (inl h) = inl h
 in-range code (inr h) = inr (h.0, omega (arith, h.1))
 
 -- The character that the first byte announces.
-pub utf_8-first : (bs : List ℕ) (n : ℕ) → IsUtf8 bs → 0 < length bs → n ≡ length_by_first (get_or bs 0 0) → IsSequence bs n
+pub utf_8-first : (bs : List ℕ) (n : ℕ) → IsUtf8 bs → 0 < length bs → n ≡ length_by_first (get_or bs 0 0) → IsFirst Utf8 bs (sequence_of bs n)
 utf_8-first bs n ([], (h, w)) some is = absurd (omega (arith, some, ap length w))
 utf_8-first bs n ((c ∷ cs), (h, w)) some is =
     begins bs (encodes cs) c n ((c ∷ cs), (h, w)) (and_parts (scalar c) (scalars cs) h).0 (sym w) is
 
--- What was read is the first character.
-pub is-first : (bs : List ℕ) (spelt : Spelt) → IsSequence bs spelt.length
-    → spelt.character ≡ sequence_character (get_or bs 0 0 ∷ take (spelt.length - 1) (drop 1 bs)) → IsFirst Utf8 bs spelt
-is-first bs spelt h is = record {
-  some = h.some;
-  within = h.within;
-  scalar = subst IsScalar (sym is) h.scalar;
-  characters = h.characters ∙ ap (λ x. x ∷ chars (drop spelt.length bs)) (sym is);
-  well = h.well;
-}
-
 -- ---- ASCII, in either
 
--- The first byte is a character.
-pub record IsAsciiAnd (e : LineEncoding) (b : ℕ) (rest : List ℕ) : Type 0 where
-  pub characters : text_in e (b ∷ rest) ≡ b ∷ text_in e rest
-  pub well : IsWell e rest
+-- A byte is the ASCII character that it is in windows-1252.
+pub own-byte : (b c : ℕ) → windows_1252_character b ≡ c → c < 128 → b ≡ c
+own-byte b c e h = windows_1252-ascii b (omega (arith, e, h)) ∙ e
 
--- An ASCII byte is.
-pub ascii-first : (e : LineEncoding) (b : ℕ) (rest : List ℕ) → b < 128 → IsWell e (b ∷ rest) → IsAsciiAnd e b rest
+-- The bytes begin with so many that are these characters.
+pub record IsAfter (e : LineEncoding) (bs front : List ℕ) (n : ℕ) : Type 0 where
+  pub characters : text_in e bs ≡ front ++ text_in e (drop n bs)
+  pub well : IsWell e (drop n bs)
+
+-- An ASCII byte is a character.
+pub ascii-first : (e : LineEncoding) (b : ℕ) (rest : List ℕ) → b < 128 → IsWell e (b ∷ rest) → IsAfter e (b ∷ rest) (b ∷ []) 1
 ascii-first Windows1252 b rest h w = record { characters = ap (λ x. x ∷ characters_of rest) (windows_1252_character-ascii b h); well = tt }
 ascii-first Utf8 b rest h w = let a = first_ascii b rest h w in record { characters = a.characters; well = a.utf8 }
 
+first-byte : (e : LineEncoding) (bs : List ℕ) (c : ℕ) (rest : List ℕ) → IsWell e bs → text_in e bs ≡ c ∷ rest → c < 128 → (more : List ℕ) × (bs ≡ c ∷ more)
+first-byte Windows1252 [] c rest w e h = absurd (cc)
+first-byte Windows1252 (b ∷ bs) c rest w e h = (bs, ap (λ x. x ∷ bs) (own-byte b c (cc) h))
+first-byte Utf8 bs c rest w e h = (encodes rest, sym (encodes-chars bs w) ∙ ap encodes e ∙ ap (λ v. v ++ encodes rest) (encode-one c h))
+
 -- If the first character is ASCII, it is the first byte.
-pub ascii-back : (e : LineEncoding) (bs : List ℕ) (c : ℕ) (rest : List ℕ) → IsWell e bs → text_in e bs ≡ c ∷ rest → c < 128 → (more : List ℕ) × (bs ≡ c ∷ more)
-ascii-back Windows1252 [] c rest w e h = absurd (cc)
-ascii-back Windows1252 (b ∷ bs) c rest w e h =
-    let is : windows_1252_character b ≡ c = cc in
-    (bs, ap (λ x. x ∷ bs) (windows_1252-ascii b (omega (arith, is, h)) ∙ is))
-ascii-back Utf8 bs c rest w e h = (encodes rest, sym (encodes-chars bs w) ∙ ap encodes e ∙ ap (λ v. v ++ encodes rest) (encode-one c h))
+pub ascii-back : (e : LineEncoding) (bs : List ℕ) (c : ℕ) (rest : List ℕ) → IsWell e bs → text_in e bs ≡ c ∷ rest → c < 128
+    → (more : List ℕ) × (bs ≡ c ∷ more) × IsWell e more × (text_in e more ≡ rest)
+ascii-back e bs c rest w s h =
+    let back = first-byte e bs c rest w s h in
+    let after = ascii-first e c back.0 h (subst (IsWell e) back.1 w) in
+    let same : c ∷ text_in e back.0 ≡ c ∷ rest = sym after.characters ∙ sym (ap (text_in e) back.1) ∙ s in
+    (back.0, back.1, after.well, cc)

@@ -1,38 +1,31 @@
 -- Bytes up to their first backslash, in either encoding.
-use Rattle.std.proofs.Common.{◌≡◌, ℕ, ◌<◌, ◌==◌, true, false, List, [], ◌∷◌, ◌++◌, take, drop, length, get_or, refl, sym, ap, ◌∙◌, inl, inr, arith}
+use Rattle.std.proofs.Common.{◌≡◌, ℕ, ◌<◌, ◌==◌, false, List, [], ◌∷◌, ◌++◌, take, drop, length, get_or, refl, sym, ap, ◌∙◌, lit<}
 use Rattle.std.specs.Prelude.{Some, None}
-use Rattle.std.proofs.lemmas.Bool.{cases_Bool, eqb-true, or_parts}
+use Rattle.std.proofs.lemmas.Bool.{ne_eqb, eqb-false, or_parts}
 use Rattle.std.proofs.lemmas.List.{take-append-drop, map-append}
 use Rattle.std.specs.Str.{chars}
 use Rattle.memchr.specs.Find.{IsFirstByte, is_byte}
 use Rattle.properties_format.specs.Text.{backslash}
-use Rattle.properties_format.specs.Escapes.{Malformed, means, breaks}
+use Rattle.properties_format.specs.Escapes.{means}
 use Rattle.properties_format.specs.Windows1252.{windows_1252_character}
 use Rattle.properties_format.specs.Writing.{HoldsNoBackslash}
 use Rattle.properties_format.specs.Computed.Escapes.{text_in_front, meaning_of}
 use Rattle.properties_format.specs.Computed.Undecoded.{characters_of}
-use Rattle.properties_format.proofs.Encodings.Windows1252.{windows_1252-ascii}
 use Rattle.properties_format.proofs.Escapes.Laws.{meaning_of-plain_front, meaning_of-plain}
-use Rattle.properties_format.proofs.Escapes.Unique.{text_in_front-means, text_in_front-breaks}
 use Rattle.properties_text.specs.Escaping.{holds_backslash}
 use Rattle.properties_text.specs.Spelt.{text_in, IsWell, IsRead}
 use Rattle.properties_text.specs.declared.encoding.line.LineEncoding.{LineEncoding}
 use Rattle.properties_text.specs.declared.encoding.line.LineEncoding.TheVariants.{Windows1252, Utf8}
 use Rattle.properties_text.specs.declared.encoding.line.Spelt.{Spelt}
+use Rattle.properties_text.proofs.Spelt.First.{own-byte}
 use Rattle.properties_text.proofs.Spelt.Escapes.{spells-meaning}
-use Rattle.properties_text.proofs.Texts.Resolving.{found_some, found_none, split_at, plain, text_in_front-append}
+use Rattle.properties_text.proofs.Texts.Resolving.{found_some, found_none, split_at, plain, IsResolvedTo, resolved_many}
 
 -- ---- windows-1252
 
 -- A byte that is no backslash is no backslash as a character.
 other-byte : (b : ℕ) → (b == backslash) ≡ false → (windows_1252_character b == backslash) ≡ false
-other-byte b h = elim (cases_Bool (windows_1252_character b == backslash)) [
-  | inl t ↦
-      let is : windows_1252_character b ≡ backslash = eqb-true (windows_1252_character b) backslash t in
-      let same : b ≡ backslash = windows_1252-ascii b (omega (arith, is)) ∙ is in
-      absurd (let no : true ≡ false = sym (ap (λ v. v == backslash) same) ∙ h in cc)
-  | inr f ↦ f
-]
+other-byte b h = ne_eqb (windows_1252_character b) backslash (λ is. eqb-false b backslash h (own-byte b backslash is (lit< tt)))
 
 -- Bytes without one are a text without one.
 no-backslash : (bs : List ℕ) → holds_backslash bs ≡ false → HoldsNoBackslash (characters_of bs)
@@ -77,36 +70,14 @@ plain-in Utf8 bs w h = (plain bs bs w refl h).meaning
 pub record IsReadTo (e : LineEncoding) (text rest : List ℕ) : Type 0 where
   pub well : IsWell e rest
   pub done : List ℕ
-  pub meaning : meaning_of (text_in e text) ≡ text_in_front done (meaning_of (text_in e rest))
+  pub resolved : IsResolvedTo (text_in e text) [] done (text_in e rest)
 
--- At the start.
-pub nothing-read : (e : LineEncoding) (text : List ℕ) → IsWell e text → IsReadTo e text text
-nothing-read e text w = record { well = w; done = []; meaning = refl }
-
-module _ (e : LineEncoding) (text rest : List ℕ) (at : ℕ) (held : IsReadTo e text rest) (s : IsSplitIn e rest at) where
-  -- One escape was read.
-  pub one-read : (spelt : Spelt) → IsRead e (drop at rest) spelt → IsReadTo e text (drop spelt.length (drop at rest))
-  one-read spelt r =
-      let after = meaning_of (text_in e (drop spelt.length (drop at rest))) in
-      record {
-        well = r.well;
-        done = held.done ++ (s.front ++ spelt.character ∷ []);
-        meaning = held.meaning
-            ∙ ap (text_in_front held.done) (s.meaning ∙ ap (text_in_front s.front) (spells-meaning e (drop at rest) spelt r.spells) ∙ sym (text_in_front-append s.front (spelt.character ∷ []) after))
-            ∙ sym (text_in_front-append held.done (s.front ++ spelt.character ∷ []) after);
-      }
-
-  -- A malformed escape comes.
-  pub broken-read : (kind : Malformed) → meaning_of (text_in e (drop at rest)) ≡ breaks kind → meaning_of (text_in e text) ≡ breaks kind
-  broken-read kind b =
-      held.meaning
-      ∙ ap (text_in_front held.done) (s.meaning ∙ ap (text_in_front s.front) b ∙ text_in_front-breaks s.front kind)
-      ∙ text_in_front-breaks held.done kind
-
--- No escape is left.
-pub all-read : (e : LineEncoding) (text rest : List ℕ) → IsReadTo e text rest → meaning_of (text_in e rest) ≡ means (text_in e rest)
-    → (meant : List ℕ) × (meaning_of (text_in e text) ≡ means meant)
-all-read e text rest held m = (
-  held.done ++ text_in e rest,
-  held.meaning ∙ ap (text_in_front held.done) m ∙ text_in_front-means held.done (text_in e rest),
-)
+-- One escape was read.
+pub one-read : (e : LineEncoding) (text rest : List ℕ) (at : ℕ) (spelt : Spelt) → IsReadTo e text rest → IsSplitIn e rest at → IsRead e (drop at rest) spelt
+    → IsReadTo e text (drop spelt.length (drop at rest))
+one-read e text rest at spelt held s r = record {
+  well = r.well;
+  done = held.done ++ (s.front ++ spelt.character ∷ []);
+  resolved = resolved_many s.front (text_in e (drop at rest)) (spelt.character ∷ [])
+      held.resolved s.meaning (spells-meaning e (drop at rest) spelt r.spells) refl;
+}

@@ -16,19 +16,23 @@ abbrev pub AreWide : List ℕ → Type 0
 AreWide [] = Unit {0}
 AreWide (b ∷ bs) = (128 ≤ b) × AreWide bs
 
--- A character is its own byte, or all of its bytes are above ASCII.
+abbrev pub AreInside : List ℕ → Type 0
+AreInside [] = Unit {0}
+AreInside (b ∷ bs) = (b < 192) × AreInside bs
+
+-- A character is its own byte, or all of its bytes are above ASCII, those after the first below C0.
 pub data IsEncoded (c : ℕ) (bytes : List ℕ) : Type 0 where
-  one : bytes ≡ c ∷ [] → IsEncoded c bytes
-  wide : 128 ≤ c → (b : ℕ) (bs : List ℕ) → bytes ≡ b ∷ bs → 128 ≤ b → AreWide bs → IsEncoded c bytes
+  one : c < 128 → bytes ≡ c ∷ [] → IsEncoded c bytes
+  wide : 128 ≤ c → (b : ℕ) (bs : List ℕ) → bytes ≡ b ∷ bs → 128 ≤ b → AreWide bs → AreInside bs → IsEncoded c bytes
 
 pub encoded : (c : ℕ) → IsEncoded c (encode c)
 encoded c = elim (cases_lt c 0x80) [
-  | inl h ↦ one (encode-one c h)
+  | inl h ↦ one h (encode-one c h)
   | inr l ↦ elim (cases_lt c 0x800) [
-    | inl h ↦ wide l _ _ (encode-two c l h) (omega arith) (omega arith, tt)
+    | inl h ↦ wide l _ _ (encode-two c l h) (omega arith) (omega arith, tt) (omega arith, tt)
     | inr m ↦ elim (cases_lt c 0x1_0000) [
-      | inl h ↦ wide l _ _ (encode-three c m h) (omega arith) (omega arith, (omega arith, tt))
-      | inr n ↦ wide l _ _ (encode-four c n) (omega arith) (omega arith, (omega arith, (omega arith, tt)))
+      | inl h ↦ wide l _ _ (encode-three c m h) (omega arith) (omega arith, (omega arith, tt)) (omega arith, (omega arith, tt))
+      | inr n ↦ wide l _ _ (encode-four c n) (omega arith) (omega arith, (omega arith, (omega arith, tt))) (omega arith, (omega arith, (omega arith, tt)))
     ]
   ]
 ]

@@ -1,11 +1,11 @@
 -- Texts whose escapes are resolved one after another.
-use Rattle.std.proofs.Common.{◌≡◌, ℕ, suc, ◌<◌, ◌+◌, ◌-◌, ◌==◌, ◌||◌, true, false, List, [], ◌∷◌, ◌++◌, length, take, drop, get_or, refl, ap, sym, ◌∙◌, subst, inl, inr, append_assoc, append-nil, arith}
+use Rattle.std.proofs.Common.{◌≡◌, ℕ, zero, suc, ◌<◌, ◌-◌, ◌==◌, ◌||◌, true, false, List, [], ◌∷◌, ◌++◌, length, take, drop, get_or, refl, ap, sym, ◌∙◌, subst, append_assoc, arith}
 use Rattle.std.specs.Prelude.{Option, Some, None, slice_range}
 use Rattle.std.specs.Option.{is_some}
-use lib.Utf8.{encode, encodes}
-use Rattle.std.specs.Str.{IsUtf8, IsCharBoundary, chars}
-use Rattle.std.proofs.lemmas.Bool.{cases_Bool, or_from, or_parts, eqb-true, false_from_ne_true}
-use Rattle.std.proofs.lemmas.List.{take-append-drop, drop_more, get_or-take, length-take-le}
+use lib.Utf8.{encodes}
+use Rattle.std.specs.Str.{IsUtf8, chars}
+use Rattle.std.proofs.lemmas.Bool.{or_from, or_right, or_parts, eqb-true, false_from_ne_true}
+use Rattle.std.proofs.lemmas.List.{take-append-drop, get_or-take, length-take-le}
 use Rattle.std.proofs.lemmas.Str.{encodes-chars, chars-append, IsUtf8-take, IsUtf8-drop, IsCharBoundary-before_ascii}
 use Rattle.memchr.specs.Find.{IsFirstByte, is_byte}
 use Rattle.properties_format.specs.Text.{backslash}
@@ -17,7 +17,7 @@ use Rattle.properties_format.proofs.Escapes.Unique.{text_in_front-means, text_in
 use Rattle.properties_text.specs.Escaping.{holds_backslash, malformed_in, IsRefused}
 use Rattle.properties_text.specs.declared.escape.UnescapeError.{UnescapeError}
 use Rattle.properties_text.specs.declared.escape.UnescapeError.TheVariants as error
-use Rattle.properties_text.proofs.Texts.Characters.{AreWide, IsEncoded, one, wide, encoded, wide-no_backslash}
+use Rattle.properties_text.proofs.Texts.Characters.{AreWide, one, wide, encoded, wide-no_backslash}
 
 -- ---- where a backslash is
 
@@ -25,14 +25,12 @@ holds-wide : (bs rest : List ℕ) → AreWide bs → holds_backslash (bs ++ rest
 holds-wide [] rest w = refl
 holds-wide (b ∷ bs) rest w = rw (wide-no_backslash b w.0) (holds-wide bs rest w.1)
 
-holds-front : (c : ℕ) (cs bytes : List ℕ) → IsEncoded c bytes → holds_backslash (encodes cs) ≡ holds_backslash cs
-    → holds_backslash (bytes ++ encodes cs) ≡ holds_backslash (c ∷ cs)
-holds-front c cs bytes (one e) ih = rw e (ap (λ v. c == backslash || v) ih)
-holds-front c cs bytes (wide h b bs e l k) ih = rw (e, wide-no_backslash b l, wide-no_backslash c h) (holds-wide bs (encodes cs) k ∙ ih)
-
 holds-encodes : (cs : List ℕ) → holds_backslash (encodes cs) ≡ holds_backslash cs
 holds-encodes [] = refl
-holds-encodes (c ∷ cs) = holds-front c cs (encode c) (encoded c) (holds-encodes cs)
+holds-encodes (c ∷ cs) = elim (encoded c) [
+  | one s e ↦ rw e (ap (λ v. c == backslash || v) (holds-encodes cs))
+  | wide h b bs e l k m ↦ rw (e, wide-no_backslash b l, wide-no_backslash c h) (holds-wide bs (encodes cs) k ∙ holds-encodes cs)
+]
 
 -- A text contains a backslash in bytes exactly if it does in characters.
 pub holds_backslash-text : (bs : List ℕ) → IsUtf8 bs → holds_backslash (chars bs) ≡ holds_backslash bs
@@ -49,25 +47,15 @@ nowhere (x ∷ xs) h =
     (false_from_ne_true (x == backslash) (h 0 (omega arith)))
     (nowhere xs (λ k l e. h (suc k) (omega arith) e))
 
-holds-append : (xs ys : List ℕ) → holds_backslash (xs ++ backslash ∷ ys) ≡ true
-holds-append [] ys = refl
-holds-append (x ∷ xs) ys = elim (cases_Bool (x == backslash)) [
-  | inl e ↦ rw e refl
-  | inr e ↦ rw e (holds-append xs ys)
-]
-
-backslash-at : (xs : List ℕ) (at : ℕ) → at < length xs → get_or xs at 0 ≡ backslash → drop at xs ≡ backslash ∷ drop (at + 1) xs
-backslash-at xs at inside is = drop_more xs at 0 inside ∙ ap (λ v. v ∷ drop (at + 1) xs) is
-
 pub holds-at : (xs : List ℕ) (at : ℕ) → at < length xs → get_or xs at 0 ≡ backslash → holds_backslash xs ≡ true
-holds-at xs at inside is =
-    ap holds_backslash (sym (take-append-drop at xs) ∙ ap (λ v. take at xs ++ v) (backslash-at xs at inside is)) ∙ holds-append (take at xs) (drop (at + 1) xs)
+holds-at (x ∷ xs) zero inside is = rw is refl
+holds-at (x ∷ xs) (suc at) inside is = or_right (x == backslash) (holds_backslash xs) (holds-at xs at (omega arith) is)
+holds-at [] at inside is = absurd (omega arith)
 
 -- The first backslash of these bytes has this index.
 pub record IsFirstBackslash (bs : List ℕ) (at : ℕ) : Type 0 where
   pub inside : at < length bs
   pub plain : holds_backslash (take at bs) ≡ false
-  pub there : drop at bs ≡ backslash ∷ drop (at + 1) bs
   pub byte : get_or bs at 0 ≡ backslash
   pub holds : holds_backslash bs ≡ true
 
@@ -80,7 +68,6 @@ found_some bs at h =
       plain = nowhere (take at bs) (λ k l e.
           let m : k < at = omega (arith, length-take-le at bs (omega arith)) in
           h.0.before k (omega arith) m (ap (λ v. v == backslash) (sym (get_or-take at bs k 0 m)) ∙ e));
-      there = backslash-at bs at inside is;
       byte = is;
       holds = holds-at bs at inside is;
     }
@@ -97,7 +84,6 @@ tells_backslash bs None h = sym (found_none bs h)
 pub record IsSplitAt (bs : List ℕ) (at : ℕ) : Type 0 where
   pub front_utf8 : IsUtf8 (take at bs)
   pub rest_utf8 : IsUtf8 (drop at bs)
-  pub boundary : IsCharBoundary bs at
   pub holds : holds_backslash (chars bs) ≡ true
   pub meaning : meaning_of (chars bs) ≡ text_in_front (chars (take at bs)) (meaning_of (chars (drop at bs)))
 
@@ -113,7 +99,6 @@ split_at bytes bs at u same h =
     record {
       front_utf8 = front;
       rest_utf8 = rest;
-      boundary = here;
       holds = holds_backslash-text bs u ∙ f.holds;
       meaning = ap meaning_of (ap chars whole ∙ chars-append (take at bs) (drop at bs) front)
           ∙ meaning_of-plain_front (chars (take at bs)) (chars (drop at bs)) plain;
@@ -151,10 +136,7 @@ text_in_front-append (x ∷ xs) ys m = ap (in_front x) (text_in_front-append xs 
 -- A text and more were appended.
 pub pushed_text : (text front more grown all : List ℕ) → IsUtf8 text → IsUtf8 front → grown ≡ text ++ front → all ≡ grown ++ more
     → chars all ≡ chars text ++ (chars front ++ chars more)
-pushed_text text front more grown all u v e f =
-    ap chars (f ∙ ap (λ w. w ++ more) e ∙ append_assoc text front more)
-    ∙ chars-append text (front ++ more) u
-    ∙ ap (λ w. chars text ++ w) (chars-append front more v)
+pushed_text text front more grown all u v e f = rw (f, e, append_assoc, chars-append text (front ++ more) u, chars-append front more v) refl
 
 -- The text is malformed if the rest of it is.
 pub broken : (text : List ℕ) (kind : Malformed) → meaning_of text ≡ breaks kind → Breaks text kind
@@ -166,35 +148,25 @@ pub record IsResolvedTo (text before now rest : List ℕ) : Type 0 where
   pub grown : now ≡ before ++ done
   pub meaning : meaning_of text ≡ text_in_front done (meaning_of rest)
 
-pub resolved_none : (text before : List ℕ) → IsResolvedTo text before before text
-resolved_none text before = record { done = []; grown = sym (append-nil before); meaning = refl }
-
 -- Text without a backslash was appended, and escapes that were read together.
-pub resolved_many : (text before now rest front after to next cs : List ℕ) → IsResolvedTo text before now rest
+pub resolved_many : {text before now rest to next : List ℕ} (front after cs : List ℕ) → IsResolvedTo text before now rest
     → meaning_of rest ≡ text_in_front front (meaning_of after) → meaning_of after ≡ text_in_front cs (meaning_of to) → next ≡ now ++ (front ++ cs)
     → IsResolvedTo text before next to
-resolved_many text before now rest front after to next cs r e f g = record {
+resolved_many front after cs r e f g = record {
   done = r.done ++ (front ++ cs);
-  grown = g ∙ ap (λ v. v ++ (front ++ cs)) r.grown ∙ append_assoc before r.done (front ++ cs);
-  meaning = r.meaning
-      ∙ ap (text_in_front r.done) (e ∙ ap (text_in_front front) f ∙ sym (text_in_front-append front cs (meaning_of to)))
-      ∙ sym (text_in_front-append r.done (front ++ cs) (meaning_of to));
+  grown = simp (g, r.grown, append_assoc);
+  meaning = simp (r.meaning, e, f, text_in_front-append);
 }
 
 -- The rest of the text was appended.
-pub resolved_end : (text before now rest next : List ℕ) → IsResolvedTo text before now rest → meaning_of rest ≡ means rest → next ≡ now ++ rest
+pub resolved_end : {text before now rest next : List ℕ} → IsResolvedTo text before now rest → meaning_of rest ≡ means rest → next ≡ now ++ rest
     → (meant : List ℕ) × (meaning_of text ≡ means meant) × (next ≡ before ++ meant)
-resolved_end text before now rest next r e g = (
-  r.done ++ rest,
-  r.meaning ∙ ap (text_in_front r.done) e ∙ text_in_front-means r.done rest,
-  g ∙ ap (λ v. v ++ rest) r.grown ∙ append_assoc before r.done rest,
-)
+resolved_end {rest = rest} r e g = (r.done ++ rest, simp (r.meaning, e, text_in_front-means), simp (g, r.grown, append_assoc))
 
 -- A malformed escape was read.
-pub resolved_broken : (text before now rest front after : List ℕ) (kind : Malformed) → IsResolvedTo text before now rest
-    → meaning_of rest ≡ text_in_front front (meaning_of after) → meaning_of after ≡ breaks kind → Breaks text kind
-resolved_broken text before now rest front after kind r e f = broken text kind (
-    r.meaning ∙ ap (text_in_front r.done) (e ∙ ap (text_in_front front) f ∙ text_in_front-breaks front kind) ∙ text_in_front-breaks r.done kind)
+pub resolved_broken : {text before now rest : List ℕ} (front after : List ℕ) (kind : Malformed) → IsResolvedTo text before now rest
+    → meaning_of rest ≡ text_in_front front (meaning_of after) → meaning_of after ≡ breaks kind → meaning_of text ≡ breaks kind
+resolved_broken front after kind r e f = simp (r.meaning, e, f, text_in_front-breaks)
 
 -- ---- the text before the first escape
 
@@ -203,14 +175,13 @@ pub refused_front : (text front rest : List ℕ) (e : UnescapeError) → meaning
     → IsRefused text e
 refused_front text front rest (error.Malformed malformed) m b =
     let kind = malformed_in malformed in
-    broken text kind (m ∙ ap (text_in_front front) (sym (breaks-only rest kind b)) ∙ text_in_front-breaks front kind)
+    broken text kind (rw (m, ← breaks-only rest kind b) (text_in_front-breaks front kind))
 refused_front text front rest error.Memory m b = b
 
 -- What the rest means, preceded by the text before it.
 pub means_front : (text front rest meant : List ℕ) → meaning_of text ≡ text_in_front front (meaning_of rest) → meaning_of rest ≡ means meant
     → Means text (front ++ meant)
-means_front text front rest meant m e =
-    subst (IsMeaning text) (m ∙ ap (text_in_front front) e ∙ text_in_front-means front meant) (meaning_of-meets text)
+means_front text front rest meant m e = rw (m, e, text_in_front-means) at (meaning_of-meets text)
 
 pub means_plain : (text : List ℕ) → meaning_of text ≡ means text → Means text text
 means_plain text e = subst (IsMeaning text) e (meaning_of-meets text)

@@ -7,7 +7,7 @@ use Rattle.std.proofs.lemmas.Bool.{cases_lt, both_ways}
 use Rattle.std.proofs.lemmas.List.{drop_more, drop-drop, take_rest, length-drop, length-take, length-append}
 use Rattle.std.proofs.lemmas.Str.{IsUtf8-drop, IsCharBoundary-after_ascii, IsCharBoundary-from_drop, IsCharBoundary-from_take, IsCharBoundary-from_rest}
 use Rattle.properties_format.specs.Text.{is_blank, is_comment_sign, without_leading_blanks}
-use Rattle.properties_format.specs.Split.{comment, pair, begins, AreBlanks, IsComment, IsPair, IsSplit}
+use Rattle.properties_format.specs.Split.{pair, begins, AreBlanks, IsComment, IsPair, IsSplit}
 use Rattle.properties_format.specs.Computed.Split.{trimmed, split_full, split_of}
 use Rattle.properties_format.proofs.Split.Blanks.{without_leading_blanks-only, core-begins}
 use Rattle.properties_format.proofs.Split.Unique.{split_of-meets, sign-full}
@@ -16,7 +16,7 @@ use Rattle.properties_text.specs.declared.parse.ParsedSpans.{ParsedSpans}
 use Rattle.properties_text.specs.declared.parse.ParsedSpans.TheVariants.{Comment, KVPair}
 use Rattle.properties_text.specs.declared.parse.Span.{Span}
 use Rattle.properties_text.proofs.Texts.Characters.{wide-no_comment_sign}
-use Rattle.properties_text.proofs.Texts.Split.{full-pair, full-comment, split-characters, without_leading_blanks-part, trimmed-part, rest_of, key_of, key_of-part, rest_of-part, value_of, value_of-part}
+use Rattle.properties_text.proofs.Texts.Split.{split-characters, without_leading_blanks-part, trimmed-part, rest_of, key_of, key_of-part, rest_of-part, value_of, value_of-part}
 
 -- The spans are those of the line.
 pub record AreFound (line : List ℕ) (found : Option ParsedSpans) : Type 0 where
@@ -33,40 +33,27 @@ found line is e s place =
 -- ---- places
 
 span_length : (line : List ℕ) (span : Span) → span.end ≤ length line → length (bytes_in line span) ≡ span.end - span.start
-span_length line span w =
-    let long = length-take (span.end - span.start) (drop span.start line) in
-    let left = length-drop span.start line in
-    omega (arith, long, left, w)
+span_length line span w = omega (arith, length-take (span.end - span.start) (drop span.start line), length-drop span.start line, w)
 
 -- The index at which the text of a line without its indentation begins.
 indent-length : (line indent rest : List ℕ) (start : ℕ) → start ≤ length line → drop start line ≡ without_leading_blanks line → line ≡ indent ++ rest
     → AreBlanks indent → begins is_blank rest ≡ false → start ≡ length indent
 indent-length line indent rest start l e whole blank full =
     let past : drop start line ≡ rest = e ∙ ap without_leading_blanks whole ∙ without_leading_blanks-only indent rest blank full in
-    let all : length line ≡ length indent + length rest = ap length whole ∙ length-append indent rest in
-    let after : length line - start ≡ length rest = sym (length-drop start line) ∙ ap length past in
-    omega (arith, l, all, after)
+    omega (arith, l, ap length whole, length-append indent rest, length-drop start line, ap length past)
 
-pair-places : (line : List ℕ) (start n v : ℕ) → start + n ≤ length line → v ≤ length line → drop start line ≡ without_leading_blanks line
-    → IsPair line (bytes_in line (record { start = start; end = start + n })) (bytes_in line (record { start = v; end = length line }))
-    → IsPairAt line (record { start = start; end = start + n }) (record { start = v; end = length line })
-pair-places line start n v fits fits_value e d =
-    let key : Span = record { start = start; end = start + n } in
-    let value : Span = record { start = v; end = length line } in
-    let k = bytes_in line key in
-    let w = bytes_in line value in
-    let at = indent-length line d.indent (k ++ (d.between ++ w)) start (omega (arith, fits)) e d.whole d.indent_blank d.begins_full in
-    let all = ap length d.whole ∙ length-append d.indent (k ++ (d.between ++ w)) in
-    let parts = length-append k (d.between ++ w) in
-    let last = length-append d.between w in
+pair-places : (line : List ℕ) (key value : Span) → key.start ≤ key.end → key.end ≤ length line → value.start ≤ length line → value.end ≡ length line
+    → drop key.start line ≡ without_leading_blanks line → IsPair line (bytes_in line key) (bytes_in line value) → IsPairAt line key value
+pair-places line key value ordered fits fits_value end e d =
+    let at = indent-length line d.indent _ key.start (omega arith) e d.whole d.indent_blank d.begins_full in
     let key_long = span_length line key fits in
     let value_long = span_length line value (omega arith) in
     record {
       division = d;
       key_start = at;
       key_end = omega (arith, key_long);
-      value_start = omega (arith, at, all, parts, last, key_long, value_long, fits_value);
-      value_end = refl;
+      value_start = omega (arith, length-append {A = ℕ}, at, ap length d.whole, key_long, value_long, end);
+      value_end = end;
     }
 
 comment-places : (line : List ℕ) (start : ℕ) (span : Span) → start < length line → drop start line ≡ without_leading_blanks line
@@ -80,11 +67,13 @@ comment-places line start span l e o w s d =
     let past : drop span.start line ≡ core ++ d.trimmed.after =
     s ∙ ap without_leading_blanks (cut ∙ d.trimmed.whole)
     ∙ without_leading_blanks-only d.trimmed.before (core ++ d.trimmed.after) d.trimmed.before_blank (core-begins core d.trimmed.after d.trimmed.begins_full d.trimmed.empty_last) in
-    let all = ap length d.whole ∙ length-append d.indent (d.sign ∷ d.rest) in
-    let rest = ap length d.trimmed.whole ∙ length-append d.trimmed.before (core ++ d.trimmed.after) in
-    let left = sym (length-drop span.start line) ∙ ap length past in
     let long = span_length line span w in
-    record { division = d; start = omega (arith, all, rest, left, o, w); end = omega (arith, long, o) }
+    let left = ap length past in
+    record {
+      division = d;
+      start = omega (arith, length-append {A = ℕ}, ap length d.whole, ap length d.trimmed.whole, length-drop span.start line, left, o, w);
+      end = omega (arith, long, o);
+    }
 
 -- A blank line.
 pub found-blank : (line : List ℕ) → without_leading_blanks line ≡ [] → AreFound line None
@@ -119,10 +108,8 @@ pub found-comment : (line : List ℕ) (start : ℕ) (span : Span) → start < le
     → AreFound line (Some (Comment span))
 unfolding split_of
 found-comment line start span l e m o w s t =
-    found line (Some (Comment span)) (
-    ap split_full (sym e)
-    ∙ full-comment (drop start line) (get_or line start 0) (drop (start + 1) line) (drop_more line start 0 l) m
-    ∙ ap comment (sym t))
+    found line (Some (Comment span))
+    (rw (← e, drop_more line start 0 l, m, t) refl)
     (λ u.
     let after = IsUtf8-drop line (start + 1) u (IsCharBoundary-after_ascii line start u l (comment_sign-ascii (get_or line start 0) m)) in
     whole_span line span u o w
@@ -146,11 +133,8 @@ found-pair line text start n v whole l e s nl k r fits_value there =
     let value_bytes : bytes_in line value ≡ value_of (rest_of text) = take_rest line v ∙ there ∙ ap value_of (sym rest) in
     let fits : start + n ≤ length line = omega (arith, length-drop start line, ap length whole) in
     let split : split_of line ≡ pair (key_of text) (value_of (rest_of text)) =
-    ap split_full (sym (whole ∙ e)) ∙ full-pair text (get_or line start 0) (drop (start + 1) line) (whole ∙ drop_more line start 0 l) s in
-    found line (Some (KVPair key value)) (
-    split
-    ∙ ap (λ w. pair w (value_of (rest_of text))) (sym key_bytes)
-    ∙ ap (pair (bytes_in line key)) (sym value_bytes))
+    rw (← e, ← whole, whole ∙ drop_more line start 0 l, s) refl in
+    found line (Some (KVPair key value)) (rw (split, key_bytes, value_bytes) refl)
     (λ u.
     let text_utf8 : IsUtf8 text = subst IsUtf8 (sym (whole ∙ e)) (without_leading_blanks-part line u).utf8 in
     let after_utf8 : IsUtf8 after = subst IsUtf8 rest (rest_of-part text text_utf8).utf8 in
@@ -158,4 +142,4 @@ found-pair line text start n v whole l e s nl k r fits_value there =
       whole_span line key u (omega arith) fits (subst IsUtf8 whole text_utf8) (subst IsUtf8 (sym key_bytes) (key_of-part text text_utf8).utf8),
       whole_span line value u fits_value (omega arith) value_utf8 (subst IsUtf8 (sym (take_rest line v)) value_utf8),
     ))
-    (pair-places line start n v fits fits_value e)
+    (pair-places line key value (omega arith) fits fits_value refl e)

@@ -3,7 +3,7 @@ use Rattle.std.proofs.Common.{◌≡◌, ℕ, ◌≤◌, ◌==◌, Bool, true, f
 use lib.Utf8.{encode, encodes, scalars, scalar}
 use Rattle.std.specs.Str.{IsUtf8, chars}
 use Rattle.std.proofs.lemmas.Str.{chars-encodes, encodes-chars, scalars-chars}
-use Rattle.std.proofs.lemmas.Bool.{cases_Bool, cond-true, cond-false, and_parts}
+use Rattle.std.proofs.lemmas.Bool.{cases_Bool, and_parts}
 use Rattle.properties_format.specs.Text.{backslash, is_blank, is_separator, is_comment_sign, without_leading_blanks}
 use Rattle.properties_format.specs.Split.{Logical, comment, IsSplit}
 use Rattle.properties_format.specs.Computed.Split.{without_trailing_blanks, unless_last_blank, trimmed, Cut, with_front, ends_key, cut_key, past_separator, pair_of, split_full, split_of}
@@ -11,21 +11,16 @@ use Rattle.properties_format.proofs.Split.Blanks.{without_leading_blanks-meets, 
 use Rattle.properties_format.proofs.Split.Keys.{with_text, cut_key-meets}
 use Rattle.properties_format.proofs.Split.Unique.{split_of-meets}
 use Rattle.properties_text.specs.Parsing.{in_characters}
-use Rattle.properties_text.proofs.Texts.Characters.{AreWide, IsEncoded, one, wide, encoded, wide-no_backslash, wide-no_blank, wide-no_separator, wide-no_comment_sign, wide-no_end, scalars-parts, IsPart, part_by}
+use Rattle.properties_text.proofs.Texts.Characters.{AreWide, one, wide, encoded, wide-no_backslash, wide-no_blank, wide-no_separator, wide-no_comment_sign, wide-no_end, scalars-parts, IsPart, part_by}
 
 -- ---- blanks at the front
 
-leading-front : (c : ℕ) (cs bytes : List ℕ) → IsEncoded c bytes → without_leading_blanks (encodes cs) ≡ encodes (without_leading_blanks cs)
-    → bytes ≡ encode c → without_leading_blanks (bytes ++ encodes cs) ≡ encodes (without_leading_blanks (c ∷ cs))
-leading-front c cs bytes (one e) ih is = elim (cases_Bool (is_blank c)) [
-  | inl b ↦ rw (e, b) ih
-  | inr b ↦ rw (e, b, ← is, e) refl
-]
-leading-front c cs bytes (wide h b bs e l k) ih is = rw (e, wide-no_blank b l, wide-no_blank c h, ← is, e) refl
-
 without_leading_blanks-encodes : (cs : List ℕ) → without_leading_blanks (encodes cs) ≡ encodes (without_leading_blanks cs)
 without_leading_blanks-encodes [] = refl
-without_leading_blanks-encodes (c ∷ cs) = leading-front c cs (encode c) (encoded c) (without_leading_blanks-encodes cs) refl
+without_leading_blanks-encodes (c ∷ cs) = elim (encoded c) [
+  | one s e ↦ elim (cases_Bool (is_blank c)) [ inl b ↦ rw (e, b) (without_leading_blanks-encodes cs) | inr b ↦ rw (e, b, e) refl ]
+  | wide h b bs e l k m ↦ rw (e, wide-no_blank b l, wide-no_blank c h, e) refl
+]
 
 without_leading_blanks-scalars : (cs : List ℕ) → scalars cs ≡ true → scalars (without_leading_blanks cs) ≡ true
 without_leading_blanks-scalars cs h =
@@ -50,70 +45,52 @@ trailing-wide (b ∷ bs) rest w = ap (unless_last_blank b) (trailing-wide bs res
 trailing-one : (c : ℕ) (cs : List ℕ) → encode c ≡ c ∷ [] → unless_last_blank c (encodes cs) ≡ encodes (unless_last_blank c cs)
 trailing-one c [] e = elim (cases_Bool (is_blank c)) [ inl b ↦ rw b refl | inr b ↦ rw (b, e) refl ]
 trailing-one c (d ∷ cs) e = elim (encoded d) [
-  | one f ↦ rw (f, e) refl
-  | wide h b bs f l k ↦ rw (f, e) refl
+  | one s f ↦ rw (f, e) refl
+  | wide h b bs f l k m ↦ rw (f, e) refl
 ]
-
-trailing-front : (c : ℕ) (cs bytes : List ℕ) → IsEncoded c bytes → without_trailing_blanks (encodes cs) ≡ encodes (without_trailing_blanks cs)
-    → bytes ≡ encode c → without_trailing_blanks (bytes ++ encodes cs) ≡ encodes (without_trailing_blanks (c ∷ cs))
-trailing-front c cs bytes (one e) ih is = rw e (ap (unless_last_blank c) ih ∙ trailing-one c (without_trailing_blanks cs) (sym is ∙ e))
-trailing-front c cs bytes (wide h b bs e l k) ih is =
-    ap (λ v. without_trailing_blanks (v ++ encodes cs)) e
-    ∙ trailing-wide (b ∷ bs) (encodes cs) (l, k)
-    ∙ ap (λ v. v ++ without_trailing_blanks (encodes cs)) (sym e ∙ is)
-    ∙ ap (λ v. encode c ++ v) ih
-    ∙ ap encodes (sym (unless-wide c (without_trailing_blanks cs) h))
 
 without_trailing_blanks-encodes : (cs : List ℕ) → without_trailing_blanks (encodes cs) ≡ encodes (without_trailing_blanks cs)
 without_trailing_blanks-encodes [] = refl
-without_trailing_blanks-encodes (c ∷ cs) = trailing-front c cs (encode c) (encoded c) (without_trailing_blanks-encodes cs) refl
-
-without_trailing_blanks-scalars : (cs : List ℕ) → scalars cs ≡ true → scalars (without_trailing_blanks cs) ≡ true
-without_trailing_blanks-scalars cs h =
-    let r = without_trailing_blanks-meets cs in
-    (scalars-parts (without_trailing_blanks cs) r.after (rw r.whole at h)).0
+without_trailing_blanks-encodes (c ∷ cs) = elim (encoded c) [
+  | one s e ↦ rw e (ap (unless_last_blank c) (without_trailing_blanks-encodes cs) ∙ trailing-one c (without_trailing_blanks cs) e)
+  | wide h b bs e l k m ↦
+      let all = trailing-wide (b ∷ bs) (encodes cs) (l, k) in
+      rw (e, all, without_trailing_blanks-encodes cs, unless-wide c (without_trailing_blanks cs) h, e) refl
+]
 
 pub without_trailing_blanks-part : (bs : List ℕ) → IsUtf8 bs → IsPart without_trailing_blanks bs
-without_trailing_blanks-part = part_by without_trailing_blanks without_trailing_blanks-encodes without_trailing_blanks-scalars
+without_trailing_blanks-part = part_by without_trailing_blanks without_trailing_blanks-encodes (λ cs h.
+    let r = without_trailing_blanks-meets cs in (scalars-parts (without_trailing_blanks cs) r.after (rw r.whole at h)).0)
 
 -- ---- keys
 
-cut-wide : (bs rest : List ℕ) → AreWide bs → cut_key (bs ++ rest) false ≡ with_text bs (cut_key rest false)
-cut-wide [] rest w = refl
-cut-wide (b ∷ bs) rest w = rw (wide-no_backslash b w.0, wide-no_end b w.0) (ap (with_front b) (cut-wide bs rest w.1))
+-- Bytes above ASCII, of which the first may follow a backslash, are of the key.
+cut-wide : (b : ℕ) (bs rest : List ℕ) (is_escaped : Bool) → 128 ≤ b → AreWide bs → cut_key (b ∷ bs ++ rest) is_escaped ≡ with_text (b ∷ bs) (cut_key rest false)
+cut-wide b [] rest true l w = refl
+cut-wide b [] rest false l w = rw (wide-no_backslash b l, wide-no_end b l) refl
+cut-wide b (d ∷ bs) rest true l w = ap (with_front b) (cut-wide d bs rest false w.0 w.1)
+cut-wide b (d ∷ bs) rest false l w = rw (wide-no_backslash b l, wide-no_end b l) (ap (with_front b) (cut-wide d bs rest false w.0 w.1))
 
 -- a key and its rest, in bytes
-in_bytes : Cut → Cut
+abbrev in_bytes : Cut → Cut
 in_bytes cut = record { key = encodes cut.key; rest = encodes cut.rest }
 
-cut-front : (c : ℕ) (cs bytes : List ℕ) → IsEncoded c bytes
-    → ((is_escaped : Bool) → cut_key (encodes cs) is_escaped ≡ in_bytes (cut_key cs is_escaped))
-    → bytes ≡ encode c → (is_escaped : Bool) → cut_key (bytes ++ encodes cs) is_escaped ≡ in_bytes (cut_key (c ∷ cs) is_escaped)
-unfolding in_bytes
-cut-front c cs bytes (one e) ih is true = rw (e, ← is, e) (ap (with_front c) (ih false))
-cut-front c cs bytes (one e) ih is false = elim (cases_Bool (c == backslash)) [
-  | inl b ↦ rw (e, b, ← is, e) (ap (with_front c) (ih true))
-  | inr b ↦ elim (cases_Bool (ends_key c)) [
-    | inl k ↦ rw (e, b, k, ← is, e) refl
-    | inr k ↦ rw (e, b, k, ← is, e) (ap (with_front c) (ih false))
-  ]
-]
-cut-front c cs bytes (wide h b bs e l k) ih is true =
-    ap (λ v. cut_key (v ++ encodes cs) true) e
-    ∙ ap (with_front b) (cut-wide bs (encodes cs) k)
-    ∙ ap (with_text (b ∷ bs)) (ih false)
-    ∙ ap (λ v. with_text v (in_bytes (cut_key cs false))) (sym e ∙ is)
-cut-front c cs bytes (wide h b bs e l k) ih is false =
-    ap (λ v. cut_key (v ++ encodes cs) false) e
-    ∙ cut-wide (b ∷ bs) (encodes cs) (l, k)
-    ∙ ap (with_text (b ∷ bs)) (ih false)
-    ∙ ap (λ v. with_text v (in_bytes (cut_key cs false))) (sym e ∙ is)
-    ∙ ap in_bytes (let m : with_front c (cut_key cs false) ≡ cut_key (c ∷ cs) false = rw (wide-no_backslash c h, wide-no_end c h) refl in m)
-
 cut_key-encodes : (cs : List ℕ) (is_escaped : Bool) → cut_key (encodes cs) is_escaped ≡ in_bytes (cut_key cs is_escaped)
-unfolding in_bytes
 cut_key-encodes [] is_escaped = refl
-cut_key-encodes (c ∷ cs) is_escaped = cut-front c cs (encode c) (encoded c) (cut_key-encodes cs) refl is_escaped
+cut_key-encodes (c ∷ cs) is_escaped = elim (encoded c) [
+  | one s e ↦ elim (cases_Bool is_escaped) [
+    | inl t ↦ rw (t, e) (ap (with_front c) (cut_key-encodes cs false))
+    | inr f ↦ elim (cases_Bool (c == backslash)) [
+      | inl b ↦ rw (f, e, b, e) (ap (with_front c) (cut_key-encodes cs true))
+      | inr b ↦ elim (cases_Bool (ends_key c)) [
+        | inl k ↦ rw (f, e, b, k, e) refl
+        | inr k ↦ rw (f, e, b, k, e) (ap (with_front c) (cut_key-encodes cs false))
+      ]
+    ]
+  ]
+  | wide h b bs e l k m ↦
+      rw (e, cut-wide b bs (encodes cs) is_escaped l k, cut_key-encodes cs false, cut-wide c [] cs is_escaped h tt, e) refl
+]
 
 -- the key at the front of a text, and what follows it
 abbrev pub key_of : List ℕ → List ℕ
@@ -125,32 +102,20 @@ rest_of x = (cut_key x false).rest
 cut-scalars : (cs : List ℕ) → scalars cs ≡ true → (scalars (key_of cs) ≡ true) × (scalars (rest_of cs) ≡ true)
 cut-scalars cs h = let r = cut_key-meets cs in scalars-parts (key_of cs) (rest_of cs) (rw r.whole at h)
 
-key_of-encodes : (cs : List ℕ) → key_of (encodes cs) ≡ encodes (key_of cs)
-unfolding in_bytes
-key_of-encodes cs = ap (λ k. k.key) (cut_key-encodes cs false)
-
-rest_of-encodes : (cs : List ℕ) → rest_of (encodes cs) ≡ encodes (rest_of cs)
-unfolding in_bytes
-rest_of-encodes cs = ap (λ k. k.rest) (cut_key-encodes cs false)
-
 pub key_of-part : (bs : List ℕ) → IsUtf8 bs → IsPart key_of bs
-key_of-part = part_by key_of key_of-encodes (λ cs h. (cut-scalars cs h).0)
+key_of-part = part_by key_of (λ cs. ap (λ k. k.key) (cut_key-encodes cs false)) (λ cs h. (cut-scalars cs h).0)
 
 pub rest_of-part : (bs : List ℕ) → IsUtf8 bs → IsPart rest_of bs
-rest_of-part = part_by rest_of rest_of-encodes (λ cs h. (cut-scalars cs h).1)
+rest_of-part = part_by rest_of (λ cs. ap (λ k. k.rest) (cut_key-encodes cs false)) (λ cs h. (cut-scalars cs h).1)
 
 -- ---- separators
 
-past-front : (c : ℕ) (cs bytes : List ℕ) → IsEncoded c bytes → bytes ≡ encode c → past_separator (bytes ++ encodes cs) ≡ encodes (past_separator (c ∷ cs))
-past-front c cs bytes (one e) is = elim (cases_Bool (is_separator c)) [
-  | inl s ↦ rw (e, s) (without_leading_blanks-encodes cs)
-  | inr s ↦ rw (e, s, ← is, e) refl
-]
-past-front c cs bytes (wide h b bs e l k) is = rw (e, wide-no_separator b l, wide-no_separator c h, ← is, e) refl
-
 past_separator-encodes : (cs : List ℕ) → past_separator (encodes cs) ≡ encodes (past_separator cs)
 past_separator-encodes [] = refl
-past_separator-encodes (c ∷ cs) = past-front c cs (encode c) (encoded c) refl
+past_separator-encodes (c ∷ cs) = elim (encoded c) [
+  | one s e ↦ elim (cases_Bool (is_separator c)) [ inl t ↦ rw (e, t) (without_leading_blanks-encodes cs) | inr t ↦ rw (e, t, e) refl ]
+  | wide h b bs e l k m ↦ rw (e, wide-no_separator b l, wide-no_separator c h, e) refl
+]
 
 past_separator-scalars : (cs : List ℕ) → scalars cs ≡ true → scalars (past_separator cs) ≡ true
 past_separator-scalars [] h = refl
@@ -167,26 +132,16 @@ abbrev pub value_of : List ℕ → List ℕ
 value_of rest = past_separator (without_leading_blanks rest)
 
 -- A part of a part is a part.
-part-of : (f g : List ℕ → List ℕ) (bs : List ℕ) → IsPart g bs → IsPart f (g bs) → IsPart (λ x. f (g x)) bs
-part-of f g bs p q = record { utf8 = q.utf8; same = q.same ∙ ap f p.same }
+part-of : (f g : List ℕ → List ℕ) (bs : List ℕ) → ((x : List ℕ) → IsUtf8 x → IsPart f x) → IsPart g bs → IsPart (λ x. f (g x)) bs
+part-of f g bs of p = let q = of (g bs) p.utf8 in record { utf8 = q.utf8; same = q.same ∙ ap f p.same }
 
 pub value_of-part : (bs : List ℕ) → IsUtf8 bs → IsPart value_of bs
-value_of-part bs u =
-    let p = without_leading_blanks-part bs u in
-    part-of past_separator without_leading_blanks bs p (past_separator-part (without_leading_blanks bs) p.utf8)
+value_of-part bs u = part-of past_separator without_leading_blanks bs past_separator-part (without_leading_blanks-part bs u)
 
 pub trimmed-part : (bs : List ℕ) → IsUtf8 bs → IsPart trimmed bs
-trimmed-part bs u =
-    let p = without_leading_blanks-part bs u in
-    part-of without_trailing_blanks without_leading_blanks bs p (without_trailing_blanks-part (without_leading_blanks bs) p.utf8)
+trimmed-part bs u = part-of without_trailing_blanks without_leading_blanks bs without_trailing_blanks-part (without_leading_blanks-part bs u)
 
 -- ---- lines
-
-pub full-pair : (y : List ℕ) (b : ℕ) (bs : List ℕ) → y ≡ b ∷ bs → is_comment_sign b ≡ false → split_full y ≡ pair_of (cut_key y false)
-full-pair y b bs e m = rw e (cond-false (is_comment_sign b) _ _ m)
-
-pub full-comment : (y : List ℕ) (b : ℕ) (bs : List ℕ) → y ≡ b ∷ bs → is_comment_sign b ≡ true → split_full y ≡ comment (trimmed bs)
-full-comment y b bs e m = rw e (cond-true (is_comment_sign b) _ _ m)
 
 pairs-alike : (bs : List ℕ) → IsUtf8 bs → pair_of (cut_key (chars bs) false) ≡ in_characters (pair_of (cut_key bs false))
 pairs-alike bs u =
@@ -201,24 +156,16 @@ comments-alike cs h = ap comment (ap trimmed (sym (chars-encodes cs h)) ∙ sym 
 -- A text that doesn't begin with a blank.
 full-alike : (cs : List ℕ) → scalars cs ≡ true → split_full cs ≡ in_characters (split_full (encodes cs))
 full-alike [] h = refl
-full-alike (c ∷ cs) h = go (encode c) (encoded c) refl
+full-alike (c ∷ cs) h = elim (encoded c) [
+  | one s e ↦ elim (cases_Bool (is_comment_sign c)) [
+    | inl m ↦ rw (e, m) (comments-alike cs (and_parts (scalar c) (scalars cs) h).1)
+    | inr m ↦ rw (e, m) (rw e at pairs)
+  ]
+  | wide l b bs e k w m ↦ rw (e, wide-no_comment_sign b k, wide-no_comment_sign c l) (rw e at pairs)
+]
   where
     pairs : pair_of (cut_key (c ∷ cs) false) ≡ in_characters (pair_of (cut_key (encodes (c ∷ cs)) false))
     pairs = ap (λ v. pair_of (cut_key v false)) (sym (chars-encodes (c ∷ cs) h)) ∙ pairs-alike (encodes (c ∷ cs)) (c ∷ cs, (h, refl))
-
-    go : (bytes : List ℕ) → IsEncoded c bytes → bytes ≡ encode c → split_full (c ∷ cs) ≡ in_characters (split_full (encodes (c ∷ cs)))
-    go bytes (one e) is =
-        let whole : encodes (c ∷ cs) ≡ c ∷ encodes cs = ap (λ v. v ++ encodes cs) (sym is ∙ e) in
-        elim (cases_Bool (is_comment_sign c)) [
-          | inl m ↦ full-comment (c ∷ cs) c cs refl m ∙ comments-alike cs (and_parts (scalar c) (scalars cs) h).1
-              ∙ ap in_characters (sym (full-comment (encodes (c ∷ cs)) c (encodes cs) whole m))
-          | inr m ↦ full-pair (c ∷ cs) c cs refl m ∙ pairs ∙ ap in_characters (sym (full-pair (encodes (c ∷ cs)) c (encodes cs) whole m))
-        ]
-    go bytes (wide l b bs e k w) is =
-        let whole : encodes (c ∷ cs) ≡ b ∷ bs ++ encodes cs = ap (λ v. v ++ encodes cs) (sym is ∙ e) in
-        full-pair (c ∷ cs) c cs refl (wide-no_comment_sign c l)
-        ∙ pairs
-        ∙ ap in_characters (sym (full-pair (encodes (c ∷ cs)) b (bs ++ encodes cs) whole (wide-no_comment_sign b k)))
 
 full-text : (bs : List ℕ) → IsUtf8 bs → split_full (chars bs) ≡ in_characters (split_full bs)
 full-text bs u = full-alike (chars bs) (scalars-chars bs u) ∙ ap (λ v. in_characters (split_full v)) (encodes-chars bs u)

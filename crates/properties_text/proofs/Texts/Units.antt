@@ -1,36 +1,30 @@
 -- `\u` escapes, read from their bytes.
-use Rattle.std.proofs.Common.{◌≡◌, ℕ, ◌+◌, ◌*◌, ◌<◌, ◌≤◌, ◌==◌, ◌&&◌, true, false, List, [], ◌∷◌, ◌++◌, take, get_or, refl, sym, ap, subst, ◌∙◌, inl, inr, arith}
+use Rattle.std.proofs.Common.{◌≡◌, ℕ, ◌+◌, ◌*◌, ◌<◌, ◌≤◌, ◌==◌, ◌&&◌, true, false, List, ◌++◌, take, get_or, refl, arith}
 use Rattle.std.specs.Prelude.{nat_le}
-use lib.Utf8.{encodes}
 use Rattle.std.specs.Str.{IsUtf8, chars}
-use Rattle.std.proofs.lemmas.Bool.{cases_Bool, cond-true, cond-false, and_parts, and_from, agree_below_at, eqb-true, leb-true}
+use Rattle.std.proofs.lemmas.Bool.{false_from_ne_true, cond-true, and_parts, and_from, agree_below_at, eqb-true, leb-true}
 use Rattle.std.proofs.lemmas.Bool.Decides.{nat_tests}
 use Rattle.std.proofs.lemmas.Str.{IsUtf8-append, IsUtf8-encode}
 use Rattle.std.specs.Char.{IsScalar, encode_utf8}
-use Rattle.properties_format.specs.Escapes.{is_hexadecimal, hexadecimal_value, Four, four_text, are_hexadecimal, code_unit}
+use Rattle.properties_format.specs.Escapes.{is_hexadecimal, hexadecimal_value, Four, are_hexadecimal, code_unit}
 use Rattle.properties_format.specs.Computed.Escapes.{in_front, text_in_front, meaning_of}
 use Rattle.properties_text.specs.Escaping.{digit_value, four_bytes}
 use Rattle.properties_text.specs.declared.escape.read.TheConstants.{DIGIT_VALUES}
-use Rattle.properties_format.proofs.Encodings.Utf8Characters.{encode-one}
 use Rattle.properties_format.proofs.Escapes.Scalars.{code_unit-below}
 use Rattle.properties_text.proofs.TextFronts.{chars-more}
-use Rattle.properties_text.proofs.Texts.Escapes.{IsUnit}
 use Rattle.properties_text.proofs.Texts.Resolving.{text_in_front-append}
 
 -- Each row of the table.
-pub digit-at : (b : ℕ) → b < 256 → get_or DIGIT_VALUES b 0 ≡ digit_value b
-digit-at b h = eqb-true _ _ (agree_below_at (λ b. get_or DIGIT_VALUES b 0 == digit_value b) (λ k. true) 256 b refl h)
+pub digit_at : (b : ℕ) → b < 256 → get_or DIGIT_VALUES b 0 ≡ digit_value b
+digit_at b h = eqb-true _ _ (agree_below_at (λ b. get_or DIGIT_VALUES b 0 == digit_value b) (λ k. true) 256 b refl h)
 
 -- No entry is larger than that of a byte that is no digit.
-pub digit-small : (b : ℕ) → b < 256 → digit_value b ≤ 0x10000
-digit-small b h = leb-true (digit_value b) 0x10000 (agree_below_at (λ b. nat_le (digit_value b) 0x10000) (λ k. true) 256 b refl h)
+pub digit-small : (b : ℕ) → b < 256 → get_or DIGIT_VALUES b 0 ≤ 0x10000
+digit-small b h = leb-true _ _ (agree_below_at (λ b. nat_le (get_or DIGIT_VALUES b 0) 0x10000) (λ k. true) 256 b refl h)
 
 -- A byte whose value is less than that of a non-digit is a digit.
 digit-is : (b : ℕ) → digit_value b < 0x10000 → is_hexadecimal b ≡ true
-digit-is b h = elim (cases_Bool (is_hexadecimal b)) [
-  | inl t ↦ t
-  | inr f ↦ absurd (let none : digit_value b ≡ 0x10000 = cond-false (is_hexadecimal b) _ _ f in omega (arith, h, none))
-]
+digit-is b h = grind (arith, nat_tests)
 
 -- The value of a digit.
 digit-of : (b : ℕ) → is_hexadecimal b ≡ true → digit_value b ≡ hexadecimal_value b
@@ -64,10 +58,8 @@ four-digits a b c d m n o p m-is n-is o-is p-is h =
 -- If it is too large, one of them isn't.
 pub no-four-digits : (a b c d m n o p : ℕ) → m ≡ digit_value a → n ≡ digit_value b → o ≡ digit_value c → p ≡ digit_value d
     → 0x10000 ≤ m * 0x1000 + n * 0x100 + o * 0x10 + p → are_hexadecimal (four_bytes a b c d) ≡ false
-no-four-digits a b c d m n o p m-is n-is o-is p-is h = elim (cases_Bool (are_hexadecimal (four_bytes a b c d))) [
-  | inl t ↦ absurd (omega (arith, h, digits-value a b c d t, code_unit-below (four_bytes a b c d) t))
-  | inr f ↦ f
-]
+no-four-digits a b c d m n o p m-is n-is o-is p-is h = false_from_ne_true (are_hexadecimal (four_bytes a b c d)) (λ t.
+    omega (arith, h, digits-value a b c d t, code_unit-below (four_bytes a b c d) t))
 
 -- Digits are ASCII.
 pub ascii-digits : (d : Four) → are_hexadecimal d ≡ true → (d.first < 128) × (d.second < 128) × (d.third < 128) × (d.fourth < 128)
@@ -77,12 +69,6 @@ ascii-digits d h =
     let r = and_parts (is_hexadecimal d.third) (is_hexadecimal d.fourth) p.1 in
     (digit-ascii _ q.0, digit-ascii _ q.1, digit-ascii _ r.0, digit-ascii _ r.1)
 
--- Digits are their own bytes.
-pub unit-bytes : (text rest : List ℕ) (value : ℕ) (u : IsUnit text value rest) → encodes text ≡ four_text u.digits ++ encodes rest
-unit-bytes text rest value u =
-    let a = ascii-digits u.digits u.hexadecimal in
-    ap encodes u.whole ∙ rw (encode-one u.digits.first a.0, encode-one u.digits.second a.1, encode-one u.digits.third a.2, encode-one u.digits.fourth a.3) refl
-
 -- ---- several escapes
 
 -- One more character in a run, and the meaning of what is left.
@@ -90,9 +76,6 @@ pub units-more : (text run new rest to : List ℕ) (end at c : ℕ) → IsUtf8 (
     → meaning_of (chars text) ≡ text_in_front (chars (take end run)) (meaning_of rest) → meaning_of rest ≡ in_front c (meaning_of to)
     → IsUtf8 (take at new) × (meaning_of (chars text) ≡ text_in_front (chars (take at new)) (meaning_of to))
 units-more text run new rest to end at c u s e m n = (
-  subst IsUtf8 (sym e) (IsUtf8-append _ _ u (IsUtf8-encode c s)),
-  m
-      ∙ ap (text_in_front (chars (take end run))) n
-      ∙ sym (text_in_front-append (chars (take end run)) (c ∷ []) (meaning_of to))
-      ∙ ap (λ v. text_in_front v (meaning_of to)) (sym (chars-more (take end run) (take at new) c u s e)),
+  rw e (IsUtf8-append _ _ u (IsUtf8-encode c s)),
+  rw (m, n, chars-more (take end run) (take at new) c u s e, text_in_front-append) refl,
 )

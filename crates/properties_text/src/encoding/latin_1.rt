@@ -19,6 +19,7 @@ pub fn tabled(v: u8x16) -> Marks
 /// Writes the first `kept` characters in UTF-8 at index `at`. Returns the index after them. May overwrite up to 32
 /// bytes.
 #[inline(always)]
+#[tactic(auto, using(crate::proofs::Latin1::first_scalars, crate::proofs::Latin1::first_spread))]
 pub fn put_latin_1(run: &mut [u8], at: usize, v: u8x16, kept: usize) -> usize
     requires room { at + 32 ≤ length run.old }
     requires kept { kept ≤ 16 }
@@ -49,6 +50,7 @@ fn lead_bytes(v: u8x16) -> u8x16
 
 // For each character, the last byte or the only one.
 #[inline(always)]
+#[tactic(auto, using(crate::proofs::Latin1::lasts_are))]
 fn last_bytes(v: u8x16) -> u8x16
     ensures { result ≡ map last_byte v }
 {

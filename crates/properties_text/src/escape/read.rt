@@ -164,6 +164,7 @@ fn digits_after(text: &[u8]) -> Option<u32>
 }
 
 #[inline(always)]
+#[tactic(auto, using(crate::proofs::Texts::Units::digit_at))]
 fn digit_value(byte: u8) -> u32
     ensures value { result ≡ digit_value byte }
     ensures small { result ≤ 0x10000 }

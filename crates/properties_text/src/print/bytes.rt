@@ -58,6 +58,7 @@ pub fn first_16(bytes: &[u8]) -> u8x16
 /// Prints the first `kept` of sixteen bytes at index `at`, and returns the index after them. Control characters are
 /// copied, not escaped. May overwrite 32 bytes.
 #[inline(always)]
+#[tactic(auto, using(crate::proofs::Printing::Vectors::first_spread))]
 pub fn put_with_backslashes(out: &mut [u8], at: usize, v: u8x16, kept: usize) -> usize
     requires room { at + 32 ≤ length out.old }
     requires kept { kept ≤ 16 }
@@ -70,6 +71,7 @@ pub fn put_with_backslashes(out: &mut [u8], at: usize, v: u8x16, kept: usize) ->
 
 /// Prints a byte at index `at`, and returns the index after it.
 #[inline(always)]
+#[tactic(auto, using(crate::proofs::Printing::Bytes::printed_digits))]
 pub fn put_any(out: &mut [u8], at: usize, byte: u8) -> usize
     requires { at + 6 ≤ length out.old }
     ensures length { length out.new ≡ length out.old }
@@ -100,6 +102,7 @@ pub fn put_byte(out: &mut [u8], at: usize, byte: u8) -> usize
 /// Returns the number of backslashes before the last byte that is printed for a byte, or 2 if a longer escape is
 /// printed.
 #[inline(always)]
+#[tactic(auto, using(crate::proofs::Printing::Bytes::before_at))]
 pub fn backslashes_before(byte: u8) -> u8
     ensures { result ≡ backslashes_before byte }
 {
@@ -107,6 +110,7 @@ pub fn backslashes_before(byte: u8) -> u8
 }
 
 #[inline(always)]
+#[tactic(auto, using(crate::proofs::Printing::Bytes::last_at))]
 fn last_of(byte: u8) -> u8
     ensures { result ≡ last_of byte }
 {

@@ -91,6 +91,7 @@ fn put_two(out: &mut [u8], at: usize, two: [u8; 2]) -> usize
 }
 
 #[inline(always)]
+#[tactic(auto, using(crate::proofs::Printing::Escapes::digits_at))]
 fn digits_of(byte: u8) -> [u8; 2]
     ensures { result ≡ digit_char (byte / 0x10) ∷ digit_char (byte % 0x10) ∷ [] }
 {

@@ -45,6 +45,7 @@ pub fn put_printed(out: &mut [u8], at: usize, repertoire: Repertoire, character:
 
 // Puts a character past ASCII as it is, or as a `\u` escape if the repertoire lacks it, and returns the index after it.
 #[inline(always)]
+#[tactic(auto, using(crate::proofs::PrintedTexts::Steps::put_lacked, crate::proofs::PrintedTexts::Steps::put_escaped))]
 fn put_past(out: &mut [u8], at: usize, repertoire: Repertoire, character: char) -> usize
     requires room { at + 12 ≤ length out.old }
     requires past { 0x80 ≤ character }

@@ -3,25 +3,17 @@ use Rattle.std.specs.Str.{chars}
 use Rattle.std.proofs.lemmas.Str.{IsUtf8-string_bytes, chars-append}
 use Rattle.properties_format.specs.Computed.Escapes.{meaning_of}
 use Rattle.properties_text.specs.Escaping.{malformed_in}
-use Rattle.properties_text.proofs.Texts.Resolving.{split_at, plain, slice-front, resolved_none, resolved_many, pushed_text, resolved_end, resolved_broken}
+use Rattle.properties_text.proofs.Texts.Resolving.{split_at, plain, slice-front, resolved_many, pushed_text, resolved_end, resolved_broken, broken}
 use Rattle.properties_text.proofs.escape.push_resolved.Goals as goal
-
-pub loop-at-init : goal.loop-at-init
-loop-at-init c = record { utf8 = c.utf8.s; resolved = resolved_none (chars c.args.s.now) (chars (string_bytes c.args.text.now)) }
-
-pub range_from-requires : goal.range_from-requires
-range_from-requires c = λ _. (split_at c.as_bytes.result.now c.loop-at.rest.now c.in-Some.at c.loop-at.invariant.utf8 c.as_bytes.ensures.value c.in-Some.ensures).boundary
 
 pub returns-in-Err : goal.returns-in-Err
 returns-in-Err c =
     let rest = c.loop-at.rest.now in
     let at = c.in-Some.at in
     let s = split_at c.as_bytes.result.now rest at c.loop-at.invariant.utf8 c.as_bytes.ensures.value c.in-Some.ensures in
-    resolved_broken (chars c.args.s.now) _ _ (chars rest) (chars (take at rest)) (chars (drop at rest)) (malformed_in c.in-Err.malformed) c.loop-at.invariant.resolved s.meaning
-    (ap (λ v. meaning_of (chars v)) (sym c.range_from.ensures.value) ∙ c.in-Err.ensures.resolves)
-
-pub from_utf8_unchecked-more-requires : goal.from_utf8_unchecked-more-requires
-from_utf8_unchecked-more-requires c = c.in-Ok.ensures.resolves.is_text
+    broken (chars c.args.s.now) _ (resolved_broken (chars (take at rest)) (chars (drop at rest))
+    (malformed_in c.in-Err.malformed) c.loop-at.invariant.resolved
+    s.meaning (ap (λ v. meaning_of (chars v)) (sym c.range_from.ensures.value) ∙ c.in-Err.ensures.resolves))
 
 pub loop-at-preserved : goal.loop-at-preserved
 loop-at-preserved c =
@@ -34,8 +26,7 @@ loop-at-preserved c =
     let more = take escapes.end c.put_escapes.new.run in
     record {
       utf8 = c.in-Ok.ensures.resolves.rest_is_text;
-      resolved = resolved_many (chars c.args.s.now) _ _ (chars rest) (chars (take at rest)) (chars (drop at rest)) (chars escapes.rest.now) _ (chars more)
-          c.loop-at.invariant.resolved s.meaning
+      resolved = resolved_many (chars (take at rest)) (chars (drop at rest)) (chars more) c.loop-at.invariant.resolved s.meaning
           (ap (λ v. meaning_of (chars v)) (sym c.range_from.ensures.value) ∙ c.in-Ok.ensures.resolves.meaning)
           (pushed_text text (take at rest) more _ _ (IsUtf8-string_bytes c.loop-at.text) s.front_utf8 grown
           (c.in_ok-push_str.ensures.bytes ∙ ap (λ v. string_bytes c.push_part.new.text ++ v) c.from_utf8_unchecked-more.ensures));
@@ -45,5 +36,5 @@ pub returns : goal.returns
 returns c =
     let rest = c.loop-at.rest.now in
     let p = plain c.as_bytes.result.now rest c.loop-at.invariant.utf8 c.as_bytes.ensures.value c.in_default.ensures in
-    resolved_end (chars c.args.s.now) _ _ (chars rest) _ c.loop-at.invariant.resolved p.meaning
+    resolved_end c.loop-at.invariant.resolved p.meaning
     (ap chars c.in_ok-push_part-2.ensures ∙ chars-append (string_bytes c.loop-at.text) rest (IsUtf8-string_bytes c.loop-at.text))

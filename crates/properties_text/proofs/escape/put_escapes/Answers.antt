@@ -34,9 +34,8 @@ returns-in_err-escape-clause-resolves c =
     let held = c.loop-run.invariant in
     let p = err_from_is_err_and c.from_residual.result c.from_residual.ensures.1 in
     let done = chars (take c.loop-run.end c.loop-run.run) in
-    rw (p.1, p.2) (held.meaning
-    ∙ ap (text_in_front done) (ap (λ v. meaning_of (chars v)) (sym c.as_bytes.ensures.value) ∙ c.in_err-escape.ensures.1)
-    ∙ text_in_front-breaks done (malformed_in c.in_err-escape.field-0.0))
+    rw (p.1, p.2, held.meaning, ← c.as_bytes.ensures.value, c.in_err-escape.ensures.1)
+    (text_in_front-breaks done (malformed_in c.in_err-escape.field-0.0))
 
 pub loop-run-preserved : goal.loop-run-preserved
 loop-run-preserved c =
@@ -46,12 +45,13 @@ loop-run-preserved c =
     let put = c.put_character-end.ensures in
     let left = c.range_from-rest.ensures.value in
     let means : meaning_of (chars rest) ≡ in_front escape.character (meaning_of (chars c.range_from-rest.result.now)) =
-    ap (λ v. meaning_of (chars v)) (sym c.as_bytes.ensures.value)
-    ∙ spells-meaning Utf8 _ escape c.in_ok-escape.ensures.spells
-    ∙ ap (λ v. in_front escape.character (meaning_of (chars v))) (ap (λ v. drop escape.length v) c.as_bytes.ensures.value ∙ sym left) in
+    rw (left, ← c.as_bytes.ensures.value) (spells-meaning Utf8 _ escape c.in_ok-escape.ensures.spells) in
     let more = units-more c.args.text.now c.loop-run.run c.put_character-end.new.run (chars rest) (chars c.range_from-rest.result.now)
     c.loop-run.end c.put_character-end.result escape.character held.is_text c.in_ok-escape.ensures.scalar put.text held.meaning means in
-    let fewer : length c.range_from-rest.result.now < length rest = omega (arith, ap length left, length-drop escape.length rest, c.in_ok-escape.ensures.some, c.in_ok-escape.ensures.within, ap length c.as_bytes.ensures.value) in
+    let read = c.in_ok-escape.ensures in
+    let size = ap length c.as_bytes.ensures.value in
+    let fewer : length c.range_from-rest.result.now < length rest =
+    omega (arith, ap length left, length-drop escape.length rest, read.some, read.within, size) in
     record {
       utf8 = c.range_from-rest.utf8;
       same_room = put.same_room ∙ held.same_room;

@@ -1,4 +1,4 @@
-use Rattle.std.proofs.Common.{◌≡◌, ℕ, ◌≤◌, ◌-◌, ◌==◌, List, [], ◌∷◌, length, drop, refl, ap, sym, ◌∙◌, inl, inr, arith}
+use Rattle.std.proofs.Common.{◌≡◌, ℕ, ◌≤◌, ◌-◌, ◌==◌, List, [], ◌∷◌, length, drop, refl, inl, inr, arith}
 use Rattle.std.specs.Str.{IsUtf8, chars}
 use Rattle.std.proofs.lemmas.Bool.{cases_Bool}
 use Rattle.std.proofs.lemmas.Bool.Decides.{nat_tests}
@@ -22,11 +22,7 @@ blanks-text x n u l h =
     let part = without_leading_blanks-part x u in
     let left : length (drop n x) ≡ length x - n = length-drop n x in
     let test : (n == length x) ≡ (length (drop n x) == 0) = grind (arith, nat_tests) in
-    test
-    ∙ ap (λ v. length v == 0) h
-    ∙ sym (is_empty-chars (without_leading_blanks x) part.utf8)
-    ∙ ap is_empty part.same
-    ∙ sym (blanks-empty (chars x))
+    rw (blanks-empty (chars x), ← part.same, is_empty-chars (without_leading_blanks x) part.utf8, ← h) test
 
 pub returns : goal.returns
 returns c =

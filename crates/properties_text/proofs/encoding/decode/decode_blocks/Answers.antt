@@ -1,19 +1,7 @@
-use Rattle.std.proofs.Common.{◌∙◌, ◌≤◌, ◌+◌, ◌-◌, ◌%◌, length, refl, arith}
-use Rattle.std.proofs.lemmas.List.{length-drop}
+use Rattle.std.proofs.Common.{◌∙◌, ◌≤◌, ◌+◌, ◌-◌, ◌%◌, length, arith}
+use Rattle.std.proofs.lemmas.List.{length-drop, take_rest}
 use Rattle.properties_text.proofs.Latin1.{not-in_table, decoded-front}
-use Rattle.properties_text.proofs.TextFronts.{taken-rest}
 use Rattle.properties_text.proofs.encoding.decode.decode_blocks.Goals as goal
-
-pub loop-rest-init : goal.loop-rest-init
-loop-rest-init c = record {
-  same_room = refl;
-  within = c.requires.within;
-  onwards = omega arith;
-  left = omega arith;
-  shorter = omega arith;
-  is_text = c.requires.is_text;
-  text = refl;
-}
 
 pub loop-rest-preserved-then-is_clear_before : goal.loop-rest-preserved-then-is_clear_before
 loop-rest-preserved-then-is_clear_before c =
@@ -28,8 +16,8 @@ loop-rest-preserved-then-is_clear_before c =
       same_room = put.same_room ∙ held.same_room;
       within = omega (arith, put.within, put.same_room, c.if-run-at-ge64.true);
       onwards = omega (arith, held.onwards, put.after);
-      left = rw (taken-rest, length-drop block_size bytes) (omega (arith, held.left));
-      shorter = rw (taken-rest, length-drop block_size bytes) (omega (arith, put.within, held.shorter, c.loop-rest-test.true));
+      left = rw (take_rest, length-drop block_size bytes) (omega (arith, held.left));
+      shorter = rw (take_rest, length-drop block_size bytes) (omega (arith, put.within, held.shorter, c.loop-rest-test.true));
       is_text = front.0;
-      text = rw taken-rest front.1;
+      text = rw take_rest front.1;
     }

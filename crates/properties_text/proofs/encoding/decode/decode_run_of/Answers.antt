@@ -1,21 +1,10 @@
-use Rattle.std.proofs.Common.{◌++◌, refl, ◌≡◌, ◌∷◌, ◌∙◌, ◌<◌, rules, arith, sym, subst, ap, length, take, drop, get_or}
-use Rattle.std.specs.Str.{IsUtf8, chars}
-use Rattle.std.proofs.lemmas.List.{drop_more, length-drop}
-use Rattle.std.proofs.lemmas.Str.{IsUtf8-append, IsUtf8-encode}
+use Rattle.std.proofs.Common.{◌++◌, ◌≡◌, ◌∷◌, ◌∙◌, ◌<◌, rules, arith, sym, ap, length, take, drop, get_or}
+use Rattle.std.specs.Str.{chars}
+use Rattle.std.proofs.lemmas.List.{drop_more, length-drop, take_rest}
 use Rattle.properties_text.specs.Encoding.{encoding_of}
 use Rattle.properties_text.specs.Decoding.{text_of}
-use Rattle.properties_text.proofs.TextFronts.{decoded-one, taken-rest}
+use Rattle.properties_text.proofs.TextFronts.{decoded-one}
 use Rattle.properties_text.proofs.encoding.decode.decode_run_of.Goals as goal
-
-pub loop-encoding-init : goal.loop-encoding-init
-loop-encoding-init c = record {
-  same_room = refl;
-  within = c.requires.within;
-  onwards = omega arith;
-  left = omega arith;
-  is_text = c.requires.is_text;
-  text = refl;
-}
 
 pub loop-encoding-preserved : goal.loop-encoding-preserved
 loop-encoding-preserved c =
@@ -27,13 +16,14 @@ loop-encoding-preserved c =
     let some : 0 < length rest = search (rules, c.is_empty.ensures, c.loop-encoding-test.true) in
     let whole : rest ≡ first ∷ drop 1 rest = drop_more rest 0 0 some in
     let joins = ap (λ v. chars (take c.loop-encoding.at c.loop-encoding.run) ++ text_of c.args.encoding v) (sym whole) ∙ held.text in
-    let shown = rw taken-rest at next.ensures.shown in
+    let shown = rw take_rest at next.ensures.shown in
+    let one = decoded-one (encoding_of c.args.encoding) _ _ _ first (drop 1 rest) _ _ held.is_text put.scalar put.text
+    joins shown.character_is shown.length_is in
     record {
       same_room = put.same_room ∙ held.same_room;
       within = omega (arith, put.within, put.same_room, held.within, c.if-run-at-ge4.true);
       onwards = omega (arith, held.onwards, put.more);
-      left = rw (taken-rest, length-drop next.result.length rest) (omega (arith, put.within, held.left, next.ensures.some, some));
-      is_text = subst IsUtf8 (sym put.text) (IsUtf8-append _ _ held.is_text (IsUtf8-encode _ put.scalar));
-      text = rw (taken-rest, whole) (decoded-one (encoding_of c.args.encoding) _ _ _ first
-          (drop 1 rest) _ _ held.is_text put.scalar put.text joins shown.character_is shown.length_is);
+      left = rw (take_rest, length-drop next.result.length rest) (omega (arith, put.within, held.left, next.ensures.some, some));
+      is_text = one.0;
+      text = rw (take_rest, whole) one.1;
     }

@@ -1,7 +1,7 @@
 use Rattle.std.proofs.Common.{arith, ◌∙◌, subst, sym}
 use Rattle.std.specs.Char.{IsScalar}
 use Rattle.properties_format.proofs.Encodings.WellFormed.{scalar-from_char}
-use Rattle.properties_text.proofs.Spelt.First.{utf_8-first, is-first, the-character, in-range}
+use Rattle.properties_text.proofs.Spelt.First.{utf_8-first, the-character, in-range}
 use Rattle.properties_text.proofs.encoding.utf_8.first_character.Goals as goal
 
 pub slice_bounds-sequence_character-end : goal.slice_bounds-sequence_character-end
@@ -16,7 +16,5 @@ returns c =
     let h = utf_8-first c.args.text.now c.length_by_first-length.result c.requires.well c.requires.some c.length_by_first-length.ensures in
     let code = c.sequence_character-code in
     let s : IsScalar code.result = subst IsScalar (sym code.ensures) h.scalar in
-    is-first c.args.text.now _ h (
-    c.unwrap_or.ensures
-    ∙ the-character c.from_u32.result code.result c.from_u32.ensures.value (c.from_u32.ensures.succeeds (in-range code.result (scalar-from_char code.result s)))
-    ∙ code.ensures)
+    let scalar = c.from_u32.ensures.succeeds (in-range code.result (scalar-from_char code.result s)) in
+    rw (c.unwrap_or.ensures ∙ the-character c.from_u32.result code.result c.from_u32.ensures.value scalar ∙ code.ensures) h

@@ -5,5 +5,6 @@ use Rattle.properties_text.proofs.escape.read.read_escape.Goals as goal
 
 pub returns-then-text-lt128 : goal.returns-then-text-lt128
 returns-then-text-lt128 c =
-    reads-ascii c.args.encoding c.args.text.now c.from.result c.requires.well (omega arith) c.requires.escape c.if-text-eq117.false c.if-text-lt128.true
-    (c.from.ensures ∙ c.escaped_byte.ensures) (char-from_scalar c.from.result (inl (omega (arith, c.from.ensures, c.escaped_byte.type_inv))))
+    let code = c.escaped_byte.ensures in
+    reads-ascii c.requires.well (omega arith) c.requires.escape c.if-text-eq117.false c.if-text-lt128.true (c.from.ensures ∙ code)
+    (char-from_scalar c.from.result (inl (omega (arith, c.from.ensures, c.escaped_byte.type_inv))))

@@ -1,6 +1,5 @@
-use Rattle.std.proofs.Common.{◌≡◌, length, take, sym, subst, ◌∙◌, arith}
+use Rattle.std.proofs.Common.{take, sym, subst, ◌∙◌, arith}
 use Rattle.std.proofs.lemmas.List.{length-take-le}
-use Rattle.std.proofs.lemmas.Result.{err_from_is_err_and}
 use Rattle.properties_format.specs.Text.{backslash}
 use Rattle.properties_text.specs.Spelt.{IsWell}
 use Rattle.properties_text.specs.PrintedTexts.{ArePut, from_on}
@@ -10,11 +9,6 @@ use Rattle.properties_text.proofs.print.text.print_bytes.Goals as goal
 use Rattle.properties_text.proofs.print.text.print_bytes.Given.{Over}
 use Rattle.properties_text.proofs.print.text.print_bytes.Goals.{In_ok-put}
 
-pub returns-in_err-put-clause-printed : goal.returns-in_err-put-clause-printed
-returns-in_err-put-clause-printed g c =
-    let e = err_from_is_err_and c.from_residual.result c.from_residual.ensures.1 in
-    rw (e.1, e.2, c.in_err-put.ensures.refused) tt
-
 -- what the run at the front put
 run-put : (g : Over) (c : In_ok-put g) → let text = take c.args.size c.args.bytes.now in
     let escaped = g.Stops.ByteClass.holds backslash in
@@ -23,30 +17,24 @@ run-put : (g : Over) (c : In_ok-put g) → let text = take c.args.size c.args.by
 run-put g c =
     let text = take c.args.size c.args.bytes.now in
     let run = c.in_ok-put.ensures in
-    let none = put-none c.args.encoding c.args.repertoire (g.Stops.ByteClass.holds backslash) text 0 c.args.at c.args.out.now.items (omega arith) c.requires.at
-    (subst (IsWell c.args.encoding) (sym (past-well c.args.encoding c.args.repertoire text c.requires.well)) c.requires.well) in
-    put-run g.Stops.ByteClass.holds c.args.encoding c.args.repertoire _ text record { read = 0; end = c.args.at } c.in_ok-put.put c.args.out.now.items
-    c.print_run.new.out.items c.requires.stops none run.within (small-take c.args.size c.args.bytes.now (λ i. omega (arith, c.type_inv.bytes i))) run.run
+    let well = subst (IsWell c.args.encoding) (sym (past-well c.args.encoding c.args.repertoire text c.requires.well)) c.requires.well in
+    put-run c.requires.stops (put-none (omega arith) c.requires.at well) run.within
+    (small-take c.args.size c.args.bytes.now (λ i. omega (arith, c.type_inv.bytes i))) run.run
 
 pub print_rest-requires-clause-well : goal.print_rest-requires-clause-well
 print_rest-requires-clause-well g c = (run-put g (goal.at.print_rest-requires-clause-well g c).In_ok-put).well
 
 pub returns-then-put-size-clause-printed : goal.returns-then-put-size-clause-printed
 returns-then-put-size-clause-printed g c =
-    rest-printed c.args.encoding c.args.repertoire (g.Stops.ByteClass.holds backslash) (take c.args.size c.args.bytes.now) c.args.out.now.items c.args.at
-    c.in_ok-put.put c.print_run.new.out.items c.print_rest.new.out.items c.print_rest.result c.requires.well
+    rest-printed c.args.out.now.items c.args.at c.print_rest.new.out.items c.print_rest.result c.requires.well
     (run-put g (goal.at.returns-then-put-size-clause-printed g c).In_ok-put) c.print_rest.ensures.printed
 
 pub returns-clause-printed : goal.returns-clause-printed
 returns-clause-printed g c =
-    let text = take c.args.size c.args.bytes.now in
-    let size : length text ≡ c.args.size = length-take-le c.args.size c.args.bytes.now c.requires.size in
-    put-all c.args.encoding c.args.repertoire (g.Stops.ByteClass.holds backslash) text c.args.out.now.items c.args.at c.in_ok-put.put c.print_run.new.out.items
-    c.requires.well (omega (arith, size, c.if-put-size.false)) (run-put g (goal.at.returns-clause-printed g c).In_ok-put)
+    let size = length-take-le c.args.size c.args.bytes.now c.requires.size in
+    put-all c.requires.well (omega (arith, size, c.if-put-size.false)) (run-put g (goal.at.returns-clause-printed g c).In_ok-put)
 
 pub returns-then-put-size-clause-same : goal.returns-then-put-size-clause-same
 returns-then-put-size-clause-same g c =
-    let run = c.in_ok-put.ensures in
-    let kept = run-kept g.Stops.ByteClass.holds (take c.args.size c.args.bytes.now) c.args.at c.args.at 0 c.in_ok-put.put c.args.out.now.items
-    c.print_run.new.out.items (omega arith) c.requires.at run.run run.within in
+    let kept = run-kept c.args.at (omega arith) c.requires.at c.in_ok-put.ensures.run c.in_ok-put.ensures.within in
     fewer-kept c.print_rest.new.out.items c.print_run.new.out.items c.args.at c.in_ok-put.put.end kept.0 c.print_rest.ensures.same ∙ kept.1

@@ -1,37 +1,28 @@
-use Rattle.std.proofs.Common.{◌≡◌, length, take, refl, ◌∙◌, arith}
-use Rattle.std.proofs.lemmas.List.{length-take-le}
+use Rattle.std.proofs.Common.{◌∙◌, arith}
 use Rattle.std.proofs.lemmas.Result.{err_from_is_err_and}
-use Rattle.properties_format.specs.Text.{backslash}
-use Rattle.properties_text.proofs.PrintedTexts.Runs.{put-none, put-on, put-whole, put-run, stops-refused, fewer-kept, run-kept, small-take}
+use Rattle.properties_text.proofs.PrintedTexts.Runs.{put-on, put-run, stops-refused, fewer-kept, run-kept, small-take}
 use Rattle.properties_text.proofs.print.text.print_rest.Goals as goal
 
 pub loop-put-preserved : goal.loop-put-preserved
 loop-put-preserved g c =
-    let text = take c.args.size c.args.bytes.now in
     let h = c.loop-put.invariant in
     let stops = c.in_ok-put.ensures in
     let run = c.in_ok-put-2.ensures in
-    let next = c.in_ok-put.put in
-    let put = c.in_ok-put-2.put in
-    let middle = c.print_stops.new.out.items in
-    let kept = run-kept g.Stops.ByteClass.holds text c.args.at next.end next.read put middle c.print_run.new.out.items (omega (arith, h.room, stops.after)) stops.put.within
-    run.run run.within in
-    let held = put-on c.args.encoding c.args.repertoire (g.Stops.ByteClass.holds backslash) _ text c.loop-put.put next c.loop-put.out.items middle h.put stops.put in
+    let kept = run-kept c.args.at (omega (arith, h.room, stops.after)) stops.put.within run.run run.within in
     record {
-      front = kept.1 ∙ fewer-kept middle c.loop-put.out.items c.args.at c.loop-put.put.end h.room stops.same ∙ h.front;
+      front = kept.1 ∙ fewer-kept c.print_stops.new.out.items c.loop-put.out.items c.args.at c.loop-put.put.end h.room stops.same ∙ h.front;
       room = kept.0;
       longer = omega (arith, h.longer, stops.longer, run.longer);
       stop = run.stops;
-      put = put-run g.Stops.ByteClass.holds c.args.encoding c.args.repertoire _ text next put middle c.print_run.new.out.items c.requires.stops held run.within
+      put = put-run c.requires.stops (put-on h.put stops.put) run.within
           (small-take c.args.size c.args.bytes.now (λ i. omega (arith, c.type_inv.bytes i))) run.run;
     }
 
 pub returns-in_err-put-clause-printed : goal.returns-in_err-put-clause-printed
 returns-in_err-put-clause-printed g c =
     let e = err_from_is_err_and c.from_residual.result c.from_residual.ensures.1 in
-    rw (e.1, e.2) (
-    stops-refused c.args.encoding c.args.repertoire (g.Stops.ByteClass.holds backslash) (take c.args.size c.args.bytes.now) c.args.out.now.items c.args.at c.args.from
-    c.loop-put.put c.loop-put.out.items c.print_stops.new.out.items c.in_err-put.field-0.0 c.loop-put.invariant.put c.in_err-put.ensures.put)
+    rw (e.1, e.2) (stops-refused c.args.out.now.items c.args.at c.args.from c.print_stops.new.out.items c.in_err-put.field-0.0
+    c.loop-put.invariant.put c.in_err-put.ensures.put)
 
 pub returns-in_err-put-clause-same : goal.returns-in_err-put-clause-same
 returns-in_err-put-clause-same g c =
@@ -45,24 +36,3 @@ returns-in_err-put-2-clause-same g c =
     fewer-kept c.print_run.new.out.items c.print_stops.new.out.items c.args.at c.in_ok-put.put.end (omega (arith, h.room, stops.after)) c.print_run.ensures.same
     ∙ fewer-kept c.print_stops.new.out.items c.loop-put.out.items c.args.at c.loop-put.put.end h.room stops.same
     ∙ h.front
-
-pub returns-clause-printed : goal.returns-clause-printed
-returns-clause-printed g c =
-    let text = take c.args.size c.args.bytes.now in
-    let size : length text ≡ c.args.size = length-take-le c.args.size c.args.bytes.now c.requires.size in
-    let held = c.loop-put.invariant.put in
-    put-whole c.args.encoding c.args.repertoire (g.Stops.ByteClass.holds backslash) _ text c.loop-put.put c.loop-put.out.items
-    (omega (arith, size, held.read, c.loop-put-test.false)) held
-
-pub loop-put-init : goal.loop-put-init
-loop-put-init g c =
-    let text = take c.args.size c.args.bytes.now in
-    let size : length text ≡ c.args.size = length-take-le c.args.size c.args.bytes.now c.requires.size in
-    record {
-      front = refl;
-      room = omega arith;
-      longer = omega arith;
-      stop = c.requires.begins;
-      put = put-none c.args.encoding c.args.repertoire (g.Stops.ByteClass.holds backslash) text c.args.from c.args.at c.args.out.now.items
-          (omega (arith, size, c.requires.from)) c.requires.at c.requires.well;
-    }

@@ -4,11 +4,9 @@ use Rattle.properties_text.proofs.print.text.put_block.Goals as goal
 
 pub returns-clause-run : goal.returns-clause-run
 returns-clause-run g c =
-    block-run g.Stops.ByteClass.holds c.args.out.now c.args.bytes.now c.args.v c.put_with_backslashes-end.new.out c.marks.result c.args.size c.args.so_far c.min-kept.result
-    c.put_with_backslashes-end.result
-    c.requires.size c.requires.from c.requires.controls c.fits-v.0 c.requires.block c.marks.ensures (omega (arith, c.min-kept.ensures, c.clear_front.ensures.value))
-    (omega (arith, c.min-kept.ensures, c.clear_front.ensures.within)) (omega (arith, c.min-kept.ensures))
-    c.put_with_backslashes-end.ensures.within c.put_with_backslashes-end.ensures.printed
+    block-run c.args.bytes.now c.args.v c.args.size c.min-kept.result c.requires.size c.requires.from c.requires.controls c.fits-v.0 c.requires.block
+    c.marks.ensures (omega (arith, c.min-kept.ensures, c.clear_front.ensures.value)) (omega (arith, c.min-kept.ensures, c.clear_front.ensures.within))
+    (omega (arith, c.min-kept.ensures)) c.put_with_backslashes-end.ensures.within c.put_with_backslashes-end.ensures.printed
 
 pub returns-clause-stops : goal.returns-clause-stops
 returns-clause-stops g c = λ few within.

@@ -1,7 +1,5 @@
-use Rattle.std.proofs.Common.{◌++◌, ◌∙◌, ap, take}
-use Rattle.std.specs.Str.{chars}
+use Rattle.std.proofs.Common.{◌∙◌, ap, take, refl}
 use Rattle.std.proofs.lemmas.List.{with_items_is}
-use Rattle.properties_text.specs.Decoding.{text_of}
 use Rattle.properties_text.proofs.encoding.text_buffer.TextBuffer.push_run.Goals as goal
 
 pub returns-clause-text : goal.returns-clause-text
@@ -10,6 +8,4 @@ returns-clause-text c =
     let room = c.deref_mut.ensures in
     let bytes = with_items_is c.make_room.new.bytes run.new.run (run.ensures.front.same_room ∙ room.len) in
     let before = ap (take c.self-inside.inside.0.0.filled) room.value ∙ c.in_ok-make_room.ensures.same ∙ ap (λ s. s.line) c.self-inside.view_is ∙ c.self.view_is in
-    ap (λ v. chars (take run.result.end v) ++ text_of c.args.encoding run.result.rest.now) bytes
-    ∙ run.ensures.front.text
-    ∙ ap (λ v. chars v ++ text_of c.args.encoding c.args.bytes.now) before
+    rw (bytes, run.ensures.front.text, before) refl

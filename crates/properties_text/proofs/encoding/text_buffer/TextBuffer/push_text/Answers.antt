@@ -1,5 +1,5 @@
-use Rattle.std.proofs.Common.{◌++◌, ◌∙◌, ap, ap₂, subst, sym}
-use Rattle.std.specs.Str.{chars, IsUtf8}
+use Rattle.std.proofs.Common.{subst, sym, refl}
+use Rattle.std.specs.Str.{IsUtf8}
 use Rattle.std.proofs.lemmas.Str.{IsUtf8-append, chars-append}
 use Rattle.properties_text.proofs.encoding.text_buffer.TextBuffer.push_text.Goals as goal
 
@@ -9,6 +9,4 @@ invariant_of-self-2 c =
 
 pub returns-clause-appended : goal.returns-clause-appended
 returns-clause-appended c =
-    ap chars c.in_ok-extend.ensures.appended
-    ∙ chars-append _ _ c.self.invariant
-    ∙ ap₂ (λ x y. chars x ++ chars y) c.self.view_is c.as_bytes.ensures.value
+    rw (c.in_ok-extend.ensures.appended, chars-append _ _ c.self.invariant, c.self.view_is, c.as_bytes.ensures.value) refl
