@@ -15,7 +15,7 @@ use Rattle.byte_blocks.proofs.Searching.{long-block}
 use Rattle.memchr.specs.Find.{Nowhere, Passes}
 use Rattle.properties_format.specs.Text as text
 use Rattle.properties_format.specs.Text.{line_feed, carriage_return, backslash, is_line_end}
-use Rattle.properties_format.specs.Encoding.{Encoding, windows_1252, utf_8, utf_16le, utf_16be, ascii_bytes, IsAligned}
+use Rattle.properties_format.specs.Encoding.{Encoding, ascii_bytes, IsAligned}
 use Rattle.properties_format.specs.Lines as format
 use Rattle.properties_format.specs.Lines.{HoldsNoLineEnd}
 use Rattle.properties_format.specs.Cut.{units, HoldsNoLineEndUnit, line_ending_bytes}
@@ -40,7 +40,7 @@ use Rattle.properties_lines.specs.declared.scanner.Front.TheVariants.{Feed, Noth
 use Rattle.properties_lines.specs.declared.scanner.RawLine.{RawLine}
 use Rattle.properties_lines.specs.declared.scanner.Scanner.{Scanner}
 use Rattle.properties_lines.proofs.ScannerFront.{some-units, feed-first}
-use Rattle.properties_lines.proofs.LineSearch.{nothing_searched, length-ascii_bytes, found-byte, searched-bytes}
+use Rattle.properties_lines.proofs.LineSearch.{nothing_searched, length-ascii_bytes, short-units, found-byte, searched-bytes}
 
 -- ---- what the reader does
 
@@ -104,16 +104,7 @@ record EndsAs (e : Encoding) (after : List ℕ) (r : Tail e after) : Type 0 wher
   pub within : feed_at r ≤ length after
 
 pub short-feed : (e : Encoding) (d : List ℕ) → length d < unit_size e → begins_with_lf (units e d) ≡ false
-short-feed windows_1252 [] h = refl
-short-feed windows_1252 (b ∷ d) h = absurd (omega arith)
-short-feed utf_8 [] h = refl
-short-feed utf_8 (b ∷ d) h = absurd (omega arith)
-short-feed utf_16le [] h = refl
-short-feed utf_16le (a ∷ []) h = refl
-short-feed utf_16le (a ∷ b ∷ d) h = absurd (omega arith)
-short-feed utf_16be [] h = refl
-short-feed utf_16be (a ∷ []) h = refl
-short-feed utf_16be (a ∷ b ∷ d) h = absurd (omega arith)
+short-feed e d h = ap begins_with_lf (short-units e d h)
 
 ends-as : (e : Encoding) (after : List ℕ) (r : Tail e after) → EndsAs e after r
 ends-as e after of_lf = record { by = text.lf; division = refl; whole = tt; within = omega arith }
