@@ -11,7 +11,7 @@ use Rattle.properties_items.specs.BorrowedItems.{IsTextIn, IsFoundIn}
 use Rattle.properties_text.specs.Parsing.{bytes_in, IsSpan}
 use Rattle.properties_items.specs.declared.found.FoundContent.TheVariants as found
 use Rattle.properties_text.specs.declared.parse.Span.{Span}
-use Rattle.properties_text.proofs.Texts.Resolving.{holds-part, no_backslash, means_plain}
+use Rattle.properties_text.proofs.Texts.Resolving.{holds-part, holds_backslash-text, no_backslash, means_plain}
 
 -- a slice without a backslash is its own text
 pub plain-text : (line : List ℕ) (span : Span) (slice : List ℕ) → IsSpan line span → slice ≡ bytes_in line span
@@ -20,6 +20,8 @@ plain-text line span slice is same h =
     let raw = chars (bytes_in line span) in
     let none : holds_backslash raw ≡ false = ap (λ v. holds_backslash (chars v)) (sym same) ∙ not-true _ (sym h) in
     record { span = is; means = means_plain raw (meaning_of-plain raw (no_backslash raw none)); resolved = sym none }
+
+pub ruleset plain_texts = (plain-text, holds_backslash-text)
 
 -- the same of a slice of a line without one
 plain-slice : (line : List ℕ) (span : Span) → IsSpan line span → holds_backslash (chars (bytes_in line span)) ≡ false

@@ -29,6 +29,8 @@ blank-item x h = sym (outcome_of-only x ignored h)
 pub empty-item : (line : List ℕ) → (length line == 0) ≡ true → outcome_of (chars line) ≡ ignored
 empty-item line h = rw (nil_from_length line (eqb-true (length line) 0 h), chars-nil) (blank-item [] tt)
 
+pub ruleset blank_items = (blank-item, empty-item)
+
 -- a logical line is broken where its text breaks, or there is no memory
 pub no_item : (x text : List ℕ) (why : UnescapeError) (number : ℕ) (e : PropertiesError) → IsRefused text why
     → ((kind : Malformed) → Breaks text kind → IsOutcome x (broken kind)) → IsUnresolvedError why number e → IsNoItem number x e
