@@ -50,9 +50,9 @@ took-ascii e items h = record {
 }
 
 -- Whatever filtering returned.
-pub filters-ascii : {R W : Type 0} (reader : Reader R) (sink : Sink W) (e : Encoding) (input input' : R) (output output' : W)
+pub filters_ascii : {R W : Type 0} (reader : Reader R) (sink : Sink W) (e : Encoding) (input input' : R) (output output' : W)
     (result : Result Unit PropertiesError) → Filters reader sink e true input output result input' output' → FiltersToAscii reader sink e input output result input' output'
-filters-ascii reader sink e input input' output output' (Ok done) h =
+filters_ascii reader sink e input input' output output' (Ok done) h =
     let ps = pairs_in h.items in
     record {
       items = h.items;
@@ -64,4 +64,4 @@ filters-ascii reader sink e input input' output output' (Ok done) h =
           subst (AreItemsInBoth (pair_lines e true h.items)) (read_back-pairs on 0 ps (pairs-taken ps))
           (wrote-on_both (output_encoding e) on (pair_calls h.items) refl (pairs-keep ps) on-good (calls_of-clean on ps) (calls_of-scalars ps h.scalars));
     }
-filters-ascii reader sink e input input' output output' (Err error) h = took-ascii e h.0 (took h.1.stops)
+filters_ascii reader sink e input input' output output' (Err error) h = took-ascii e h.0 (took h.1.stops)

@@ -163,3 +163,5 @@ ok-is_utf8 P Q bytes (Err e) h = elim (cases_Bool (is_utf8 bytes)) [
   | inl k ↦ absurd (h.0 (IsUtf8-from_is_utf8 bytes k))
   | inr k ↦ sym k
 ]
+
+pub ruleset ill_formed = (scanning-start, flags-ascii)

@@ -60,9 +60,9 @@ module _ {W : Type 0} {sink : Sink W} {e : Encoding} {only : Bool} {items : List
   took (inr (inr h)) = whole (inr (written-failed_flush h.fails.written h.fails.flushed))
 
 -- What filtering says of its output.
-pub filters-settles : {R W : Type 0} (reader : Reader R) (sink : Sink W) (e : Encoding) (input input' : R) (output output' : W)
+pub filters_settles : {R W : Type 0} (reader : Reader R) (sink : Sink W) (e : Encoding) (input input' : R) (output output' : W)
     (result : Result Unit PropertiesError) → Filters reader sink e false input output result input' output' → Settles reader sink e input output result input' output'
-filters-settles reader sink e input input' output output' (Ok done) h = record {
+filters_settles reader sink e input input' output output' (Ok done) h = record {
   items = h.items;
   reads = h.reads;
   bytes = pair_lines e false h.items;
@@ -71,7 +71,7 @@ filters-settles reader sink e input input' output output' (Ok done) h = record {
   only = lines-only e h.items h.scalars;
   same = lines-same e h.items;
 }
-filters-settles reader sink e input input' output output' (Err error) h = record {
+filters_settles reader sink e input input' output output' (Err error) h = record {
   items = h.0;
   stops = h.1;
   takes = let t = took h.1.stops in record { part = t.part; begins = t.begins; taken = t.taken };
