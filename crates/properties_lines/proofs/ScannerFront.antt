@@ -235,11 +235,11 @@ passes-feed old held ended h a k =
     }
 
 -- unless more bytes decide whether it comes
-pub skips-feed : (old new : Scanner) (held : List ℕ) (ended passed : Bool) → Fits old held → old.is_done ≡ false → old.front ≡ Feed
+pub skips_feed : (old new : Scanner) (held : List ℕ) (ended passed : Bool) → Fits old held → old.is_done ≡ false → old.front ≡ Feed
     → SkipsFeed (record old { front = Nothing }) held ended passed new → SkipsFront old held ended passed new
-skips-feed old new held ended true h g a k =
+skips_feed old new held ended true h g a k =
     let P : Scanner → Type 0 = λ v. IsAlike old held ended v in
     subst P (sym k.1) (passes-feed old held ended h a k.0)
-skips-feed old new held ended false h g a k =
+skips_feed old new held ended false h g a k =
     let same : new ≡ old = k.2 ∙ ap (λ v. let w : Scanner = record old { front = v } in w) (sym a) in
     (k.0, same, awaits-unit old held g a k.1, λ w. absurd (cc (a, w)))

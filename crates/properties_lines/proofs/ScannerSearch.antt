@@ -5,7 +5,7 @@ use Rattle.std.specs.Str.{IsAscii}
 use Rattle.std.specs.List.{All}
 use Rattle.std.proofs.Math.Seq.{drop-append_seam}
 use Rattle.std.proofs.lemmas.Bool.{cases_Bool, or_from, or_parts, eqb-true, leb-true, cases_lt}
-use Rattle.std.proofs.lemmas.List.{drop-drop, length-take-le, get_or-take, get_or-drop, length-map, take-take}
+use Rattle.std.proofs.lemmas.List.{take_rest, drop-drop, length-take-le, get_or-take, get_or-drop, length-map, take-take}
 use Rattle.std.proofs.lemmas.List.Elements.{All-get_or, All-head, All-tail, All-take, All-weaker}
 use Rattle.std.proofs.lemmas.Str.Ascii.{IsAscii-from_all, All-from_ascii}
 use Rattle.byte_blocks.specs.Classes.{is_past_ascii}
@@ -444,3 +444,5 @@ plain-found bytes n is_ascii h other =
         | inr none ↦ absurd (other (eqb-true b backslash (subst (λ v. (v || (b == backslash)) ≡ true) none either)))
       ],
     )
+
+pub ruleset takings = (found-end, searches-on, get_or-drop, take_rest)
