@@ -507,5 +507,3 @@ tested-new s held z =
 -- Without the bytes of the last line it is empty.
 pub released-empty : (s new : Scanner) (gone : ℕ) → new ≡ release s gone → new.line.start ≡ new.line.end
 released-empty s new gone is = rw is refl
-
-pub ruleset tested_lines = (some-byte, known-text)

@@ -117,7 +117,6 @@ impl LineReader {
 
     /// Returns whether the bytes of that line are in windows-1252 or in well-formed UTF-8.
     #[inline(always)]
-    #[tactic(auto, using(crate::proofs::Tested::tested_lines))]
     pub fn is_well_formed(&mut self) -> bool
         requires flags { HasRightLineFlags self.old }
         requires decided { self.old.state.is_decided ≡ true }
