@@ -1,5 +1,5 @@
 -- How a scanner searches for the end of a line, and takes the line up to it.
-use Rattle.std.proofs.Common.{inl, inr, ◌≡◌, ◌↔◌, ◌<◌, ◌≤◌, ◌+◌, ◌-◌, ◌==◌, ◌||◌, ℕ, Bool, true, false, List, [], ◌∷◌, ◌++◌, take, drop, length, get_or, map, refl, sym, ap, ap₂, subst, ◌∙◌, append_assoc, length-append, length-drop, arith}
+use Rattle.std.proofs.Common.{inl, inr, ◌≡◌, ◌↔◌, ◌<◌, ◌≤◌, ◌+◌, ◌-◌, ◌==◌, ◌||◌, ℕ, Bool, true, false, List, [], ◌∷◌, ◌++◌, take, drop, length, get_or, map, refl, sym, ap, ap₂, subst, ◌∙◌, append_assoc, length-append, length-drop, arith, rules}
 use Rattle.std.specs.Prelude.{Some}
 use Rattle.std.specs.Str.{IsAscii}
 use Rattle.std.specs.List.{All}
@@ -373,18 +373,8 @@ ready-on s held at ready fresh within clear = record {
 }
 
 pub searches-on : (s new : Scanner) (held : List ℕ) (at : ℕ) (found : Bool) → Searches (record s { searched = at }) held found new → Searches s held found new
-searches-on s new held at true h = record {
-  comes = h.comes;
-  cut = h.cut;
-  ended = h.ended;
-  starts = h.starts;
-  same = h.same;
-  decided = h.decided;
-  short = h.short;
-  fits = h.fits;
-  flags = h.flags;
-}
-searches-on s new held at false h = record { none = h.none; same = h.same }
+searches-on s new held at true h = search rules
+searches-on s new held at false h = search rules
 
 -- ---- after a backslash
 
