@@ -1,5 +1,5 @@
 -- How natural lines are joined, step by step.
-use Rattle.std.proofs.Common.{◌≡◌, ◌+◌, ℕ, Bool, true, false, List, [], ◌∷◌, ◌++◌, refl, sym, ap, ap₂, ◌∙◌, inl, inr, subst, append_assoc, append-nil}
+use Rattle.std.proofs.Common.{◌≡◌, ◌+◌, ℕ, Bool, true, false, List, [], ◌∷◌, ◌++◌, refl, sym, ap, ap₂, ◌∙◌, inl, inr, subst, append_assoc, append-nil, rules}
 use Rattle.std.specs.Prelude.{◌⊎◌, ◌&&◌, not, Option, Some, None, is_some}
 use Rattle.std.specs.Str.{IsAscii}
 use Rattle.std.proofs.lemmas.Bool.{cases_Bool, and_parts}
@@ -209,19 +209,7 @@ module _ {R : Type 0} {reader : Reader R} where
   -- no line came
   pub joins-done : {s t u : ReaderState} {from to next : R} {old r text : List ℕ} → GoesOn reader s from old r text t to → t.is_done ≡ true → u ≡ t → next ≡ to
       → JoinsAll reader s from old text u next
-  joins-done {r = r} h d same kept = rw (same, kept) (record {
-    bytes = r;
-    read = h.read;
-    lines = h.lines;
-    passes = h.passes;
-    end_join = inr (d, h.are_open);
-    is = h.is;
-    encoding = h.encoding;
-    done = λ k. d;
-    ended = h.ended;
-    idle = h.idle;
-    lazy = h.lazy;
-  })
+  joins-done h d same kept = rw (same, kept) (search rules)
 
   -- memory ran out
   pub join-no_room : {s t : ReaderState} {from to next : R} {old r text : List ℕ} {e : LineError} (number : ℕ) (found : LineReading) (u : ReaderState)
