@@ -314,21 +314,16 @@ comes-of {s} {t} {r} {line} h = by h.passes h.ends
 -- a line that is a logical line by itself
 alone-group : {s t : ReaderState} {r : List ℕ} (l : format.Line) → Passes s r (l ∷ []) t → (is_comment_line l.text ≡ true) ⊎ (is_open l.text ≡ false)
     → JoinsGroup s r l t
-alone-group l p (inl c) = record {
+alone-group l p alone = record {
   first = l;
   others = [];
   passes = p;
   number = refl;
-  text = sym (joined-comment_line l [] c);
-  ends = inl (inl (c, refl));
-}
-alone-group l p (inr o) = record {
-  first = l;
-  others = [];
-  passes = p;
-  number = refl;
-  text = sym (joined-closed l o);
-  ends = inl (elim (cases_Bool (is_comment_line l.text)) [ inl c ↦ inl (c, refl) | inr c ↦ inr (c, o) ]);
+  text = elim alone [ inl c ↦ sym (joined-comment_line l [] c) | inr o ↦ sym (joined-closed l o) ];
+  ends = inl (elim (cases_Bool (is_comment_line l.text)) [
+    | inl c ↦ inl (c, refl)
+    | inr c ↦ inr (c, elim alone [ inl k ↦ absurd (cc) | inr o ↦ o ])
+  ]);
 }
 
 -- an open line and those that it is joined to
@@ -605,10 +600,4 @@ module _ {R : Type 0} {reader : Reader R} where
   -- there was no memory for it
   pub joins-no_text : {from to : R} (old new failed : LineJoining) (number : ℕ) → JoinsBytes reader old from number new to → failed.at.state.is_done ≡ true
       → failed.error ≡ Some why.Memory → JoinsNoLine reader old from failed to
-  joins-no_text old new failed number h done error = inr (record {
-    live = h.joins.live;
-    done = done;
-    error = why.Memory;
-    kept = error;
-    why = inr (inr (record { bytes = h.joins.bytes; read = h.joins.read; is = refl; lazy = h.joins.lazy }));
-  })
+  joins-no_text old new failed number h done error = inr (search rules)
