@@ -550,13 +550,7 @@ module _ {R : Type 0} {reader : Reader R} where
   pub joins-none : {from to : R} (before after : LineReading) (line : LogicalLine) (has_backslash : Bool) → Finds reader before from false after to
       → JoinsNoLine reader (joining before line has_backslash) from (joining after line has_backslash) to
   joins-none before after line has_backslash (inl h) = inl (h.0, ap (λ v. joining v line has_backslash) h.1, h.2)
-  joins-none before after line has_backslash (inr h) = inr (record {
-    live = h.live;
-    done = h.failed.done;
-    error = h.error;
-    kept = h.failed.error;
-    why = joins-refused h.why;
-  })
+  joins-none before after line has_backslash (inr h) = inr (let why = joins-refused h.why in search rules)
 
   -- the rest of it was read
   pub joins-rest : {from mid : R} (to : R) (old : LineJoining) (found lines : LineReading) (line : LogicalLine) (result : Option ℕ) (has_backslash : Bool)
