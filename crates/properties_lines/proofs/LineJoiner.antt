@@ -125,7 +125,8 @@ joins-open number text (l ∷ ls) rest ending o =
     ∙ joins-open number (text ++ addition l.text) ls rest ending o.1
     ∙ ap (λ v. joins_after number v rest ending) (append_assoc text (addition l.text) (joined_after ls))
 
-pending-open : {s t : ReaderState} {x y : List ℕ} {ls : List format.Line} {ending : InputEnd} (number : ℕ) (text : List ℕ) → AreOpen ls → Gives s x ls t y ending
+pending-open : {s t : ReaderState} {x y : List ℕ} {ls : List format.Line} {ending : InputEnd} (number : ℕ) (text : List ℕ)
+    → AreOpen ls → Gives s x ls t y ending
     → entries_pending (join_of number text) s x ending ≡ entries_pending (join_of number (text ++ joined_after ls)) t y ending
 unfolding entries_pending
 pending-open {t = t} {y = y} {ls} {ending} number text o g =
@@ -149,7 +150,8 @@ module _ {R : Type 0} {reader : Reader R} where
 
   -- what comes of the join, where the reading goes on
   goes-pending : {s t : ReaderState} {from to : R} {old r text : List ℕ} → GoesOn reader s from old r text t to → t.is_done ≡ false
-      → (number : ℕ) (d : List ℕ) (ending : InputEnd) → entries_pending (join_of number old) s (r ++ d) ending ≡ entries_pending (join_of number text) t d ending
+      → (number : ℕ) (d : List ℕ) (ending : InputEnd)
+      → entries_pending (join_of number old) s (r ++ d) ending ≡ entries_pending (join_of number text) t d ending
   goes-pending {old = old} h g number d ending = rw h.is (pending-open number old h.are_open ((passes-live h.passes g).gives d ending))
 
   -- what was held at first did not close the join, if what is held now gives no line
@@ -226,7 +228,8 @@ module _ {R : Type 0} {reader : Reader R} where
     number = t.passed + 1;
     failed = failed-more h.read f.failed;
     is = f.is;
-    entries = λ first. goes-pending h g first f.bytes fault ∙ pending-broken (join_of first text) t f.bytes (read_fault (t.passed + 1)) f.natural f.last;
+    entries = λ first. goes-pending h g first f.bytes fault
+        ∙ pending-broken (join_of first text) t f.bytes (read_fault (t.passed + 1)) f.natural f.last;
     lazy = lazy-none h g f.lazy;
   })
   join-refused {t = t} {r = r} h g (inr (inl f)) = rw f.untouched (inr (inl (record {
@@ -277,8 +280,8 @@ known-plain f has_backslash h told k = sym (h 0 0).backslash ∙ sym told ∙ k
 -- ---- logical lines
 
 -- what comes of a whole group
-group-comes : {s t : ReaderState} {x y : List ℕ} {ending : InputEnd} (first : format.Line) (others : List format.Line) → Gives s x (first ∷ others) t y ending
-    → IsWhole (first ∷ others)
+group-comes : {s t : ReaderState} {x y : List ℕ} {ending : InputEnd} (first : format.Line) (others : List format.Line)
+    → Gives s x (first ∷ others) t y ending → IsWhole (first ∷ others)
     → items_to_come s x ending ≡ followed first.number (outcome_of (joined (first ∷ others))) (items_to_come t y ending)
 unfolding entries_pending
 group-comes {s} {t} {x} {y} {ending} first others g w =
@@ -288,8 +291,8 @@ group-comes {s} {t} {x} {y} {ending} first others g w =
     ∙ ap (followed first.number (outcome_of (joined (first ∷ others)))) (sym (items_to_come-pending t y ending))
 
 -- and of one in which the input ended
-group-ends : {s t : ReaderState} {x : List ℕ} (first : format.Line) (others : List format.Line) → Gives s x (first ∷ others) t [] end → t.is_done ≡ true
-    → IsUnfinished (first ∷ others) → items_to_come s x end ≡ followed first.number (outcome_of (joined (first ∷ others))) []
+group-ends : {s t : ReaderState} {x : List ℕ} (first : format.Line) (others : List format.Line)
+    → Gives s x (first ∷ others) t [] end → t.is_done ≡ true → IsUnfinished (first ∷ others) → items_to_come s x end ≡ followed first.number (outcome_of (joined (first ∷ others))) []
 unfolding entries_pending
 group-ends {s} {t} {x} first others g d u =
     let none = natural-done t [] end d in

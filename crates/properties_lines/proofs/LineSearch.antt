@@ -71,7 +71,8 @@ whole_units-whole utf_16be n = omega arith
 
 -- before the first byte there is nothing to find
 pub nothing_searched : (e : Encoding) (bytes : List ℕ) → IsSearched e bytes 0
-nothing_searched e bytes = record { within = omega arith; aligned = aligned-length e [] (zero-mod (unit_size e)); none_before = no_end-no_unit e [] tt }
+nothing_searched e bytes =
+    record { within = omega arith; aligned = aligned-length e [] (zero-mod (unit_size e)); none_before = no_end-no_unit e [] tt }
 
 -- what is searched stays so where more bytes come
 pub searched-grown : (e : Encoding) (bytes more : List ℕ) (from : ℕ) → IsSearched e bytes from → IsSearched e (bytes ++ more) from

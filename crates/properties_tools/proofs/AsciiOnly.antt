@@ -51,7 +51,8 @@ took-ascii e items h = record {
 
 -- Whatever filtering returned.
 pub filters_ascii : {R W : Type 0} (reader : Reader R) (sink : Sink W) (e : Encoding) (input input' : R) (output output' : W)
-    (result : Result Unit PropertiesError) → Filters reader sink e true input output result input' output' → FiltersToAscii reader sink e input output result input' output'
+    (result : Result Unit PropertiesError) → Filters reader sink e true input output result input' output'
+    → FiltersToAscii reader sink e input output result input' output'
 filters_ascii reader sink e input input' output output' (Ok done) h =
     let ps = pairs_in h.items in
     record {

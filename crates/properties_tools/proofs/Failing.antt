@@ -8,7 +8,8 @@ use Rattle.properties_tools.specs.Propedit.Failures.{number_of, place_of, messag
 use Rattle.properties_tools.specs.declared.propedit.error.Failure.{Failure}
 
 -- a line without a number, as it is printed
-pub plain_line : (place reason line : List ℕ) → line ≡ codes "propedit: " ++ (place ++ (codes ": " ++ (reason ++ (line_feed ∷ [])))) → line ≡ printed_line (message place None reason)
+pub plain_line : (place reason line : List ℕ) → line ≡ codes "propedit: " ++ (place ++ (codes ": " ++ (reason ++ (line_feed ∷ []))))
+    → line ≡ printed_line (message place None reason)
 plain_line place reason line is = is ∙ simp append_assoc refl
 
 module _ (name : List ℕ) (failure : Failure) {place : List ℕ} (reason line : List ℕ) (is_place : place ≡ place_of name failure) (is_reason : IsReasonOf failure reason) where

@@ -158,7 +158,8 @@ module _ {R W : Type 0} {reader : Reader R} {sink : Sink W} {e : Encoding} {only
       rw is (stops-writing h written failed.number failed.key failed.value (compute-entry failed.gives) failed.writes)
 
 -- from the first item on
-pub copied-all : {R W : Type 0} {reader : Reader R} {sink : Sink W} {e : Encoding} {only : Bool} {it new : Iteration R} {w written : Writing W} {result : Result Unit CopyError}
+pub copied-all : {R W : Type 0} {reader : Reader R} {sink : Sink W} {e : Encoding} {only : Bool}
+    {it new : Iteration R} {w written : Writing W} {result : Result Unit CopyError}
     → it.state ≡ start e → w ≡ pair_writer e only w.sink → Copies reader sink it w result new written
     → Stops reader sink e only it.reader w.sink result new written
 copied-all {reader = reader} {sink} {e} {only} {it} {w = w} fresh new h = copied (passed-none reader sink e only it w fresh new) h

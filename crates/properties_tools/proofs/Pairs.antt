@@ -57,7 +57,8 @@ pub record HasWrittenPairs {W : Type 0} (sink : Sink W) (e : Encoding) (only : B
 bare : {k l : ErrorKind} {error : PropertiesError} → l ≡ k → IsBareError l error → IsBareError k error
 bare same is = record { its_kind = is.its_kind ∙ same; its_line = is.its_line; its_cause = is.its_cause; its_text = is.its_text }
 
-module _ {W : Type 0} {sink : Sink W} {e : Encoding} {only : Bool} {output : W} {items : List Entry} {w : Writing W} (h : HasWrittenPairs sink e only output items w) where
+module _ {W : Type 0} {sink : Sink W} {e : Encoding} {only : Bool} {output : W} {items : List Entry} {w : Writing W}
+    (h : HasWrittenPairs sink e only output items w) where
   -- a comment is not written
   pub pairs-comment : (number : ℕ) (text : List ℕ) → HasWrittenPairs sink e only output (items ++ (item number (comment text) ∷ [])) w
   pairs-comment number text = record { made = rw (pair_calls-append, append-nil) h.made }
@@ -108,14 +109,17 @@ module _ {W : Type 0} {sink : Sink W} {e : Encoding} {only : Bool} {output : W} 
   }
 
   -- the flush after the last pair
-  pub pairs-flushed : {new : Writing W} → HasFlushedSink sink w new → HasWritten sink output (pair_lines e only items) new.sink × (sink.is_flushed new.sink ≡ true)
+  pub pairs-flushed : {new : Writing W} → HasFlushedSink sink w new
+      → HasWritten sink output (pair_lines e only items) new.sink × (sink.is_flushed new.sink ≡ true)
   pairs-flushed k = (written-flushed pairs-written k.flushed, k.flushed.flushed)
 
-  pub pairs-flush-failed : {new : Writing W} {error : PropertiesError} → FailsInFlush sink w error new → FailsAfterPairs sink e only output items error new.sink
+  pub pairs-flush-failed : {new : Writing W} {error : PropertiesError} → FailsInFlush sink w error new
+      → FailsAfterPairs sink e only output items error new.sink
   pairs-flush-failed k = record { middle = w.sink; written = pairs-written; source = k.cause; flushed = k.flushed; is = k.is }
 
   -- a flush whose result is dropped
-  pub pairs-flush : (new : Writing W) (result : Result Unit PropertiesError) → Flushes sink w result new → TakesAndFlushes sink output (pair_lines e only items) new.sink
+  pub pairs-flush : (new : Writing W) (result : Result Unit PropertiesError) → Flushes sink w result new
+      → TakesAndFlushes sink output (pair_lines e only items) new.sink
   pairs-flush new (Ok done) k = inl (pairs-flushed k)
   pairs-flush new (Err error) (inl k) = absurd (let live = pairs-live in let failed = k.failed in cc)
   pairs-flush new (Err error) (inr k) = inr (w.sink, pairs-written, (k.cause, k.flushed))

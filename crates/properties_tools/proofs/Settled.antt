@@ -25,10 +25,12 @@ module _ (e : Encoding) (items : List Entry) where
   module _ (scalars : ArePairsOfScalars (pairs_in items)) where
     -- the lines of pairs of scalar values are read back as these pairs
     lines-read : items_of (output_encoding e) (pair_lines e false items) end ≡ items_after 0 (pairs_in items)
-    lines-read = items_of-pairs (output_encoding e) default_settings (output_encoding-own e) default_settings-good (pairs_in items) (pairs-accepted (pairs_in items)) scalars
+    lines-read = items_of-pairs (output_encoding e) default_settings (output_encoding-own e) default_settings-good
+        (pairs_in items) (pairs-accepted (pairs_in items)) scalars
 
     lines-back : IsItems (output_encoding e) (pair_lines e false items) end (items_after 0 (pairs_in items))
-    lines-back = subst (IsItems (output_encoding e) (pair_lines e false items) end) lines-read (items_of-meets (output_encoding e) (pair_lines e false items) end)
+    lines-back = subst (IsItems (output_encoding e) (pair_lines e false items) end) lines-read
+        (items_of-meets (output_encoding e) (pair_lines e false items) end)
 
     -- and as nothing else
     lines-only : (others : List Entry) → IsItems (output_encoding e) (pair_lines e false items) end others → others ≡ items_after 0 (pairs_in items)
@@ -61,7 +63,8 @@ module _ {W : Type 0} {sink : Sink W} {e : Encoding} {only : Bool} {items : List
 
 -- What filtering says of its output.
 pub filters_settles : {R W : Type 0} (reader : Reader R) (sink : Sink W) (e : Encoding) (input input' : R) (output output' : W)
-    (result : Result Unit PropertiesError) → Filters reader sink e false input output result input' output' → Settles reader sink e input output result input' output'
+    (result : Result Unit PropertiesError) → Filters reader sink e false input output result input' output'
+    → Settles reader sink e input output result input' output'
 filters_settles reader sink e input input' output output' (Ok done) h = record {
   items = h.items;
   reads = h.reads;

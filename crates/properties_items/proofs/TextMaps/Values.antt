@@ -36,7 +36,8 @@ pub ruleset alike = (same-characters)
 
 -- a key of characters is looked up by its bytes
 compares_encoded : (key : List ℕ) → all_scalars key ≡ true → (x : List ℕ) → IsUtf8 x → bytes_eq key (chars x) ≡ bytes_eq (encode_utf8_all key) x
-compares_encoded key s x is = ap (λ v. bytes_eq v (chars x)) (sym (chars-encodes key s)) ∙ sym (same-characters (encode_utf8_all key) x (key, (s, refl)) is)
+compares_encoded key s x is =
+    ap (λ v. bytes_eq v (chars x)) (sym (chars-encodes key s)) ∙ sym (same-characters (encode_utf8_all key) x (key, (s, refl)) is)
 
 -- a test of bytes is the same the other way round
 pub flipped : (x y : List ℕ) → bytes_eq x y ≡ bytes_eq y x
