@@ -1,7 +1,9 @@
 -- What the derived comparisons, hashes and clones say, in the words of `specs/Line.antt`.
-use Rattle.std.proofs.Common.{◌≡◌, ◌↔◌, ℕ, refl, ap, IsTrue, Bool, true, false, ◌&&◌, arith, eq-eqb}
-use Rattle.std.proofs.lemmas.Bool.{eqb-true}
-use Rattle.std.specs.Prelude.{nat_eq}
+use Rattle.std.proofs.Common.{◌≡◌, ◌↔◌, refl, ap, IsTrue, arith}
+pub use Rattle.std.proofs.lemmas.Bool.Decides.{Decides-and as both-tests}
+use Rattle.std.proofs.lemmas.Bool.Decides.{Decides-eqb}
+use denote.Enum.Bare.{same_true, true_same}
+use Rattle.properties_items.specs.contracts.line.LineEnding.{the_type}
 use Rattle.std.specs.Ordering.{nat_cmp, ordering_then}
 use Rattle.std.specs.declared.cmp.Ordering.{Ordering}
 use Rattle.std.specs.declared.cmp.Ordering.TheVariants.{Less, Equal, Greater}
@@ -62,15 +64,6 @@ ending-cmp CRLF CRLF = refl
 
 -- ---- which are equal
 
--- both tests, where each says its fact
-pub both-tests : {P Q : Type 0} (s t : Bool) → (s ≡ true ↔ P) → (t ≡ true ↔ Q) → (s && t) ≡ true ↔ (P × Q)
-both-tests true true e f = ((λ _. (e.0 refl, f.0 refl)), (λ _. refl))
-both-tests true false e f = ((λ h. cc), (λ h. f.1 h.1))
-both-tests false t e f = ((λ h. cc), (λ h. e.1 h.0))
-
-number-test : (m n : ℕ) → nat_eq m n ≡ true ↔ (m ≡ n)
-number-test m n = (eqb-true m n, eq-eqb m n)
-
 -- `==` of two contents
 pub content-eq : (x y : LineContent) → IsTrue ((content_eq.ghosts).eq x y) ↔ IsSameContent x y
 content-eq (Comment x) (Comment y) =
@@ -83,7 +76,7 @@ content-eq (KVPair k v) (KVPair l w) =
 
 -- `==` of two lines
 pub line-eq : (x y : Line) → IsTrue ((line_eq.ghosts).eq x y) ↔ IsSameLine x y
-line-eq x y = both-tests _ _ (number-test (number_of x) (number_of y)) (content-eq (content_of x) (content_of y))
+line-eq x y = both-tests _ _ (Decides-eqb (number_of x) (number_of y)) (content-eq (content_of x) (content_of y))
 
 -- ---- equal items hash alike
 
@@ -109,9 +102,4 @@ line-clone x y e = (cc, content-clone (content_of x) (content_of y) e.1)
 
 -- `==` of two line endings
 pub ending-eq : (x y : LineEnding) → IsTrue ((ending_eq.ghosts).eq x y) ↔ (x ≡ y)
-ending-eq CR CR = ((λ e. refl), (λ h. refl))
-ending-eq CR other = ((λ e. absurd (cc)), (λ h. absurd (cc)))
-ending-eq LF LF = ((λ e. refl), (λ h. refl))
-ending-eq LF other = ((λ e. absurd (cc)), (λ h. absurd (cc)))
-ending-eq CRLF CRLF = ((λ e. refl), (λ h. refl))
-ending-eq CRLF other = ((λ e. absurd (cc)), (λ h. absurd (cc)))
+ending-eq x y = (same_true the_type tt x y, true_same the_type x y)

@@ -1,5 +1,5 @@
 -- Texts that are written as they are: line endings and separators.
-use Rattle.std.proofs.Common.{◌≡◌, ℕ, true, List, ap, sym, ◌∙◌}
+use Rattle.std.proofs.Common.{◌≡◌, ℕ, true, List, [], ◌∷◌, refl, ap, sym, ◌∙◌}
 use Rattle.std.specs.Str.{chars, IsUtf8}
 use Rattle.properties_format.specs.Text.{LineEnding, line_ending_text}
 use Rattle.properties_format.specs.Encoding.{Encoding}
@@ -8,6 +8,11 @@ use Rattle.properties_format.specs.Printing.{encoded_text}
 use Rattle.properties_format.proofs.Printing.Characters.{line_end-ascii, good_separator-ascii}
 use Rattle.properties_format.proofs.Settings.Tests.{IsGoodSeparator-from_test}
 use Rattle.properties_text.proofs.Printing.Characters.{encoded_text-raw}
+
+-- CR, LF and both are their own characters
+pub ending_chars : (chars (13 ∷ []) ≡ 13 ∷ []) × (chars (10 ∷ []) ≡ 10 ∷ []) × (chars (13 ∷ 10 ∷ []) ≡ 13 ∷ 10 ∷ [])
+unfolding chars
+ending_chars = (refl, refl, refl)
 
 -- the bytes of a line ending are its characters, encoded
 pub line_ending-bytes : (e : Encoding) (bs : List ℕ) (by : LineEnding) → IsUtf8 bs → chars bs ≡ line_ending_text by → bs ≡ encoded_text e (line_ending_text by)

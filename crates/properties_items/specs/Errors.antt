@@ -1,9 +1,9 @@
 -- Errors as contracts see them.
-use Rattle.std.specs.Prelude.{◌≡◌, ◌⊎◌, ℕ, Bool, true, false, ◌==◌, ◌&&◌, if◌then◌else◌, List, Option, Some, None}
+use Rattle.std.specs.Prelude.{◌≡◌, ℕ, Bool, true, false, ◌==◌, ◌&&◌, if◌then◌else◌, List, Option, Some, None}
 use Rattle.std.specs.Option.{option_map}
 use Rattle.std.specs.Str.{chars}
 use Rattle.std.specs.String.{string_bytes}
-use Rattle.properties_format.specs.Escapes.{Malformed, Breaks, not_enough_digits, not_hex, invalid_character}
+use Rattle.properties_format.specs.Escapes.{Malformed, not_enough_digits, not_hex, invalid_character}
 use Rattle.properties_text.specs.Escaping.{malformed_in}
 use Rattle.properties_text.specs.declared.escape.UnescapeError.{UnescapeError}
 use Rattle.properties_text.specs.declared.escape.UnescapeError.TheVariants as unescape
@@ -117,10 +117,6 @@ IsMalformed malformed line error = IsError (malformed_kind malformed) (Some line
 abbrev pub IsUnresolvedError : UnescapeError → ℕ → PropertiesError → Type 0
 IsUnresolvedError (unescape.Malformed malformed) line error = IsMalformed (malformed_in malformed) line error
 IsUnresolvedError unescape.Memory line error = IsBareError kind.Memory error
-
--- The text is malformed, and the error reports how, in this line; or memory ran out.
-abbrev pub IsUnresolved : List ℕ → ℕ → PropertiesError → Type 0
-IsUnresolved text line error = ((malformed : Malformed) × Breaks text malformed × IsMalformed malformed line error) ⊎ IsBareError kind.Memory error
 
 -- No line was returned for this reason.
 abbrev pub IsLineError : LineError → PropertiesError → Type 0

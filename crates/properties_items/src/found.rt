@@ -45,6 +45,7 @@ struct FoundText {
 
 /// Finds the item of a logical line that begins in the line with this number. Returns `None` if the logical line is
 /// blank. Fails if one of its escapes is malformed, or if memory runs out.
+#[tactic(auto, using(crate::proofs::BorrowedItems::plain_texts))]
 #[inline(always)]
 pub fn find_item(
     alloc: Global,
@@ -64,6 +65,7 @@ pub fn find_item(
 
 /// Finds the item of a logical line that begins in the line with this number. Returns `None` if the logical line is
 /// blank, and an error if its escapes can't be resolved.
+#[tactic(auto, using(crate::proofs::FoundItems::blank_items))]
 pub fn find_escaped(
     alloc: Global,
     line_number: usize,
@@ -83,6 +85,7 @@ pub fn find_escaped(
 
 /// Finds the item of a logical line without a backslash that begins in the line with this number. Returns `None` if the
 /// logical line is blank. Allocates nothing.
+#[tactic(auto, using(crate::proofs::FoundItems::blank_items))]
 #[inline(always)]
 pub fn find_plain(line_number: usize, line: &str) -> Option<Found>
     requires { holds_backslash (chars line.now) ≡ false }
@@ -133,6 +136,7 @@ fn find_content(
     }
 }
 
+#[tactic(auto, using(crate::proofs::BorrowedItems::plain_texts))]
 fn find_text(alloc: Global, line: &str, span: Span) -> Result<FoundText, UnescapeError>
     requires { IsSpan line.now span }
     ensures { FindsText line.now span result }
@@ -229,6 +233,7 @@ impl FoundText {
     }
 
     // Returns whether the found text equals `text`. Inlined, since a search for a key asks this of every pair.
+    #[tactic(auto, using(crate::proofs::TextMaps::Values::alike))]
     #[inline(always)]
     fn equals(&self, line: &str, text: &str) -> bool
         requires { IsTextIn line.now self.now }

@@ -121,6 +121,7 @@ impl fmt::Display for LineEnding {
 }
 
 /// Returns the characters of a line ending.
+#[tactic(auto, using(crate::proofs::RawTexts::ending_chars))]
 pub fn ending_text(ending: LineEnding) -> &'static str
     ensures { chars result.now ≡ line_ending_text (ending_of ending) }
 {

@@ -35,12 +35,12 @@ keeps-consumes (Some xs) None h = absurd h
 keeps-consumes (Some xs) (Some ys) h = sym h
 
 -- one read into the room from a place on
-pub reads-at : {R : Type 0} (reader : Reader R) (place : ℕ) (buffer part tail : List ℕ) (old new : R) (result : Result ℕ Error)
+pub reads_at : {R : Type 0} (reader : Reader R) (place : ℕ) (buffer part tail : List ℕ) (old new : R) (result : Result ℕ Error)
     → place < length buffer → length part ≡ length buffer - place → ReadsAtMost result part
     → ReadConsumes (reader.remaining old) (reader.remaining new) result part → CountsFault (reader.faults old) (reader.faults new) result
     → ShowsEnd (reader.at_end new) result part → reader.read_gives old result new
     → ReadsAt reader place buffer old result (take place buffer ++ (part ++ tail)) new
-reads-at reader place buffer part tail old new (Ok count) h l most moved same ended given = record {
+reads_at reader place buffer part tail old new (Ok count) h l most moved same ended given = record {
   bytes = take count part;
   read = record { moved = moved.0; faultless = same };
   front = taken-front place count buffer part tail h most.0;
@@ -48,5 +48,5 @@ reads-at reader place buffer part tail old new (Ok count) h l most moved same en
   within = omega arith;
   ended = λ e. ended (none-taken count part most.0 e) (omega arith);
 }
-reads-at reader place buffer part tail old new (Err e) h l most moved same ended given =
+reads_at reader place buffer part tail old new (Err e) h l most moved same ended given =
     (front-kept place buffer part tail h, record { moved = keeps-consumes _ _ moved; risen = same; given = (old, given) })

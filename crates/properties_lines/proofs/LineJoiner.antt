@@ -1,5 +1,5 @@
 -- How natural lines are joined, step by step.
-use Rattle.std.proofs.Common.{◌≡◌, ◌+◌, ℕ, Bool, true, false, List, [], ◌∷◌, ◌++◌, refl, sym, ap, ap₂, ◌∙◌, inl, inr, subst, append_assoc, append-nil}
+use Rattle.std.proofs.Common.{◌≡◌, ◌+◌, ℕ, Bool, true, false, List, [], ◌∷◌, ◌++◌, refl, sym, ap, ap₂, ◌∙◌, inl, inr, subst, append_assoc, append-nil, rules}
 use Rattle.std.specs.Prelude.{◌⊎◌, ◌&&◌, not, Option, Some, None, is_some}
 use Rattle.std.specs.Str.{IsAscii}
 use Rattle.std.proofs.lemmas.Bool.{cases_Bool, and_parts}
@@ -8,15 +8,20 @@ use Rattle.counted_io.proofs.Streams.{read-none, read-more, failed-more}
 use Rattle.properties_format.specs.Encoding.{output_encoding}
 use Rattle.properties_format.specs.Lines as format
 use Rattle.properties_format.specs.Lines.{InputEnd, end, fault, more}
-use Rattle.properties_format.specs.Groups.{is_open, is_comment_line, addition, without_open_backslash, joined_after, AreOpen, EndsClosed, IsWhole, IsUnfinished}
+use Rattle.properties_format.specs.Groups.{is_open, is_comment_line, addition, without_open_backslash, joined, joined_after}
+use Rattle.properties_format.specs.Groups.{AreOpen, EndsClosed, IsWhole, IsUnfinished}
 use Rattle.properties_format.specs.Entries.{Entry, read_fault}
 use Rattle.properties_format.specs.ItemsToCome.{ReaderState}
 use Rattle.properties_format.specs.Computed.Items.{outcome_of, followed}
 use Rattle.properties_format.specs.Computed.ItemsToCome.{items_to_come, natural_to_come, last_to_come, entries_pending, entries_of_logical, logical_pending}
+use Rattle.properties_format.specs.Computed.Logical.{logical, logical_lines, joins_after}
+use Rattle.properties_format.specs.Computed.ReaderSteps.{Gives, ReadsLines}
 use Rattle.properties_format.proofs.Groups.Joined.{joined-comment_line, joined-closed, joined-unmarked, joined_after-append}
-use Rattle.properties_format.proofs.ItemsToCome.Entries.{gives-on, joining-open, joining-closed, joining-done, pending-comment_line, pending-closed, pending-open, pending-done, items_to_come-pending}
-use Rattle.properties_format.proofs.ItemsToCome.Steps.{lines-start, lines-on, on-start, on-open, logical-comment_line, logical-closed}
-use Rattle.properties_format.specs.Computed.ReaderSteps.{Gives}
+use Rattle.properties_format.proofs.Groups.Logical.{joins_after-open}
+use Rattle.properties_format.proofs.Groups.Only.{groups_of-before, groups_of-unfinished}
+use Rattle.properties_format.proofs.ItemsToCome.Entries.{gives-on, pending-done, items_to_come-pending}
+use Rattle.properties_format.proofs.ItemsToCome.Lines.{natural-done}
+use Rattle.properties_format.proofs.ItemsToCome.Steps.{lines-start, lines-on, on-start, on-open}
 use Rattle.properties_text.specs.Escaping.{holds_backslash}
 use Rattle.properties_lines.specs.LineReader.{LineReading, Finds, FindsNext, Passes, PassesSome, PassesAll, IsLazy, HasRightLineFlags, FindsError, found_line}
 use Rattle.properties_text.specs.Encoding.{line_of}
@@ -25,7 +30,8 @@ use Rattle.properties_text.specs.declared.encoding.line.LineEncoding.{LineEncodi
 use Rattle.properties_lines.specs.LogicalLine.{bytes_at, bytes_with, is_natural, IsLineIn, HasText, IsTextOf, IsNotContinued, OpensJoin, unfinished_text}
 use Rattle.properties_lines.specs.declared.logical.Place.{Place}
 use Rattle.properties_lines.specs.declared.logical.Place.TheVariants.{Natural, Decoded, Joined}
-use Rattle.properties_lines.specs.LineJoiner.{line_text, join_of, numbered_bytes, Pends, Closes, AddsOpen, AddsLast, EndJoin, IsLazyJoin, IsLazyItems, GoesOn, JoinsAll, JoinError, JoinsNone, JoinsOn, LineJoining, Comes, Joins, Advances, JoinsNoLine, JoinsBytes, JoinsGroup, JoinsLine, JoinsError, ReadsWhole, ReadsNone, ReadsRest}
+use Rattle.properties_lines.specs.LineJoiner.{line_text, join_of, numbered_bytes, EndJoin, IsLazyJoin, IsLazyItems, GoesOn, JoinsAll, JoinError, JoinsNone, JoinsOn}
+use Rattle.properties_lines.specs.LineJoiner.{LineJoining, Comes, Joins, Advances, JoinsNoLine, JoinsBytes, JoinsGroup, JoinsLine, JoinsError, ReadsWhole, ReadsNone, ReadsRest}
 use Rattle.properties_lines.specs.declared.error.LineError.TheVariants as why
 use Rattle.properties_lines.specs.declared.error.LineError.{LineError}
 use Rattle.properties_lines.specs.declared.logical.LogicalLine.{LogicalLine}
@@ -61,9 +67,12 @@ pub some-on : {s t u : ReaderState} {r q : List ℕ} → PassesSome s r t → Pa
 some-on h k = record { lines = h.lines ++ k.lines; reads = lines-on h.reads k.reads }
 
 -- those that came, where the reading goes on
+passes-live : {s t : ReaderState} {r : List ℕ} {lines : List format.Line} → Passes s r lines t → t.is_done ≡ false → ReadsLines s r lines t
+passes-live (Passes.going_on f reads) g = reads
+passes-live (Passes.at_last f gives) g = absurd (cc)
+
 pub some-come : {s t : ReaderState} {r : List ℕ} {lines : List format.Line} → Passes s r lines t → t.is_done ≡ false → PassesSome s r t
-some-come {lines = lines} (Passes.going_on f reads) g = record { lines = lines; reads = reads }
-some-come (Passes.at_last f gives) g = absurd (cc)
+some-come {lines = lines} p g = record { lines = lines; reads = passes-live p g }
 
 -- no number is left after them
 pub all-on : {s t : ReaderState} {r q : List ℕ} → PassesSome s r t → PassesAll t q → PassesAll s (r ++ q)
@@ -101,95 +110,37 @@ added-more old text new ls l h k =
     ∙ append_assoc old (joined_after ls) (addition l.text)
     ∙ ap (λ v. old ++ v) (sym (joined_after-append ls (l ∷ []) ∙ ap (λ v. joined_after ls ++ v) (append-nil (addition l.text))))
 
-adds-start : (s : ReaderState) (text : List ℕ) → AddsOpen s text [] text s
-adds-start s text = record { lines = []; passes = passes-start s; are_open = tt; is = sym (append-nil text) }
-
-adds-more : {s t u : ReaderState} {old r q text new : List ℕ} (l : format.Line) → AddsOpen s old r text t → t.is_done ≡ false → Passes t q (l ∷ []) u
-    → is_open l.text ≡ true → new ≡ text ++ addition l.text → AddsOpen s old (r ++ q) new u
-adds-more {old = old} {text = text} {new} l h g p o k = record {
-  lines = h.lines ++ l ∷ [];
-  passes = passes-on h.passes g p;
-  are_open = are-open h.lines l h.are_open o;
-  is = added-more old text new h.lines l h.is k;
-}
-
-adds-last : {s t u : ReaderState} {old r q text new : List ℕ} (l : format.Line) → AddsOpen s old r text t → t.is_done ≡ false → Passes t q (l ∷ []) u
-    → is_open l.text ≡ false → new ≡ text ++ addition l.text → AddsLast s old (r ++ q) new u
-adds-last {old = old} {text = text} {new} l h g p o k = record {
-  lines = h.lines ++ l ∷ [];
-  passes = passes-on h.passes g p;
-  end_join = inl (λ m k. ends-closed m h.lines l k h.are_open o);
-  is = added-more old text new h.lines l h.is k;
-}
-
-adds-done : {s t : ReaderState} {old r text : List ℕ} → AddsOpen s old r text t → t.is_done ≡ true → AddsLast s old r text t
-adds-done h d = record { lines = h.lines; passes = h.passes; end_join = inr (d, h.are_open); is = h.is }
-
 -- the reading ended for good at this line, for this reason
 abbrev pub failed : LineReading → LineError → LineReading
 failed found e = record found { state = record found.state { is_done = true }; error = Some e }
 
 -- ---- lines are added to a join
 
-start-pends : (s : ReaderState) (text : List ℕ) → Pends s text [] text s
-start-pends s text = elim (cases_Bool s.is_done) [
-  | inl h ↦ Pends.at_last h (λ number. refl)
-  | inr h ↦ Pends.going_on h (λ number d ending. refl)
-]
+-- open lines go on with a join
+joins-open : (number : ℕ) (text : List ℕ) (ls rest : List format.Line) (ending : InputEnd) → AreOpen ls
+    → joins_after number text (ls ++ rest) ending ≡ joins_after number (text ++ joined_after ls) rest ending
+joins-open number text [] rest ending o = rw append-nil refl
+joins-open number text (l ∷ ls) rest ending o =
+    joins_after-open number text l (ls ++ rest) ending o.0
+    ∙ joins-open number (text ++ addition l.text) ls rest ending o.1
+    ∙ ap (λ v. joins_after number v rest ending) (append_assoc text (addition l.text) (joined_after ls))
 
--- bytes after bytes
-regroup : (join : Option format.Line) (s : ReaderState) (r q d : List ℕ) (ending : InputEnd)
-    → entries_pending join s ((r ++ q) ++ d) ending ≡ entries_pending join s (r ++ (q ++ d)) ending
-regroup join s r q d ending = ap (λ v. entries_pending join s v ending) (append_assoc r q d)
-
-abbrev joint : ℕ → List ℕ → format.Line
-joint number text = record { number = number; text = text }
-
--- an open line goes on with a join
-more-pends : {s t u : ReaderState} {old r q text new : List ℕ} (l : format.Line) → Pends s old r text t → t.is_done ≡ false → Passes t q (l ∷ []) u
-    → is_open l.text ≡ true → new ≡ text ++ addition l.text → Pends s old (r ++ q) new u
-more-pends l (Pends.at_last e m) h p o k = absurd (cc)
-more-pends {s} {u = u} {old} {r} {q} {text} l (Pends.going_on e m) h (Passes.going_on f reads) o k =
-    rw k (Pends.going_on f (λ number d ending.
-    regroup (join_of number old) s r q d ending ∙ m number (q ++ d) ending ∙ joining-open (joint number text) (reads.gives d ending) o))
-more-pends {s} {u = u} {old} {r} {q} {text} l (Pends.going_on e m) h (Passes.at_last f gives) o k =
-    rw k (Pends.at_last f (λ number. m number q end ∙ joining-open (joint number text) gives o))
-
--- any other line closes it
-more-closes : {s t u : ReaderState} {old r q text new : List ℕ} (l : format.Line) → Pends s old r text t → t.is_done ≡ false → Passes t q (l ∷ []) u
-    → is_open l.text ≡ false → new ≡ text ++ addition l.text → Closes s old (r ++ q) new u
-more-closes l (Pends.at_last e m) h p o k = absurd (cc)
-more-closes {s} {u = u} {old} {r} {q} {text} l (Pends.going_on e m) h (Passes.going_on f reads) o k =
-    rw k (Closes.going_on f (λ number d ending.
-    regroup (join_of number old) s r q d ending
-    ∙ m number (q ++ d) ending
-    ∙ joining-closed (joint number text) (reads.gives d ending) o
-    ∙ ap (followed number (outcome_of (text ++ addition l.text))) (sym (items_to_come-pending u d ending))))
-more-closes {s} {u = u} {old} {r} {q} {text} l (Pends.going_on e m) h (Passes.at_last f gives) o k =
-    rw k (Closes.at_last f (λ number.
-    m number q end
-    ∙ joining-closed (joint number text) gives o
-    ∙ ap (followed number (outcome_of (text ++ addition l.text))) (pending-done u [] end f)))
-
--- a fault comes in it
-more-broken : {s t : ReaderState} {old r text : List ℕ} (q : List ℕ) (entry : Entry) → Pends s old r text t → t.is_done ≡ false → natural_to_come t q fault ≡ []
-    → last_to_come t q fault ≡ entry ∷ [] → (number : ℕ) → entries_pending (join_of number old) s (r ++ q) fault ≡ entry ∷ []
-more-broken q entry (Pends.at_last e m) h n k number = absurd (cc)
-more-broken {t = t} {text = text} q entry (Pends.going_on e m) h n k number = m number q fault ∙ pending-broken (join_of number text) t q entry n k
-
--- the input ended in it
-done-closes : {s t : ReaderState} {old r text : List ℕ} → Pends s old r text t → t.is_done ≡ true → Closes s old r text t
-done-closes (Pends.going_on e m) h = absurd (cc)
-done-closes {t = t} {text = text} (Pends.at_last e m) h =
-    Closes.at_last e (λ number. m number ∙ joining-done (record { number = number; text = text }) t [] e)
+pending-open : {s t : ReaderState} {x y : List ℕ} {ls : List format.Line} {ending : InputEnd} (number : ℕ) (text : List ℕ)
+    → AreOpen ls → Gives s x ls t y ending
+    → entries_pending (join_of number text) s x ending ≡ entries_pending (join_of number (text ++ joined_after ls)) t y ending
+unfolding entries_pending
+pending-open {t = t} {y = y} {ls} {ending} number text o g =
+    ap₂ (λ v w. entries_of_logical (joins_after number text v ending) w) g.natural g.last
+    ∙ ap (λ v. entries_of_logical v (last_to_come t y ending)) (joins-open number text ls (natural_to_come t y ending) ending o)
 
 module _ {R : Type 0} {reader : Reader R} where
   pub goes-start : (s : ReaderState) (from : R) (text : List ℕ) → GoesOn reader s from text [] text s from
   goes-start s from text = record {
     read = read-none from;
-    pends = start-pends s text;
-    adds = adds-start s text;
-    passes = λ g. some-start s;
+    lines = [];
+    passes = passes-start s;
+    are_open = tt;
+    is = sym (append-nil text);
     encoding = λ d. (d, refl);
     done = λ e. e;
     ended = λ e. inl e;
@@ -197,20 +148,21 @@ module _ {R : Type 0} {reader : Reader R} where
     lazy = inl (refl, refl);
   }
 
+  -- what comes of the join, where the reading goes on
+  goes-pending : {s t : ReaderState} {from to : R} {old r text : List ℕ} → GoesOn reader s from old r text t to → t.is_done ≡ false
+      → (number : ℕ) (d : List ℕ) (ending : InputEnd)
+      → entries_pending (join_of number old) s (r ++ d) ending ≡ entries_pending (join_of number text) t d ending
+  goes-pending {old = old} h g number d ending = rw h.is (pending-open number old h.are_open ((passes-live h.passes g).gives d ending))
+
   -- what was held at first did not close the join, if what is held now gives no line
   lazy-none : {s t : ReaderState} {from to : R} {old r text : List ℕ} → GoesOn reader s from old r text t to → t.is_done ≡ false
       → natural_to_come t [] more ≡ []
       → (number : ℕ) → entries_pending (join_of number old) s [] more ≡ []
-  lazy-none {s} {t} {from} {to} {old} {r} {text} h g none = by-lazy h.lazy
-    where
-      by-pends : r ≡ [] → Pends s old r text t → (number : ℕ) → entries_pending (join_of number old) s [] more ≡ []
-      by-pends e (Pends.at_last f m) number = absurd (cc)
-      by-pends e (Pends.going_on f m) number =
-          ap (λ v. entries_pending (join_of number old) s (v ++ []) more) (sym e) ∙ m number [] more ∙ pending-lazy (join_of number text) t none
-
-      by-lazy : IsLazyJoin s from old r to → (number : ℕ) → entries_pending (join_of number old) s [] more ≡ []
-      by-lazy (inl e) = by-pends e.1 h.pends
-      by-lazy (inr e) = e
+  lazy-none {s} {t} {old = old} {text = text} h g none = elim h.lazy [
+    | inl e ↦ (λ number. ap (λ v. entries_pending (join_of number old) s (v ++ []) more) (sym e.1)
+        ∙ goes-pending h g number [] more ∙ pending-lazy (join_of number text) t none)
+    | inr e ↦ e
+  ]
 
   -- how lazy it stays
   lazy-more : {s t : ReaderState} {from to next : R} {old r q text : List ℕ} → GoesOn reader s from old r text t to → t.is_done ≡ false → IsLazy t to q next
@@ -225,11 +177,12 @@ module _ {R : Type 0} {reader : Reader R} where
   pub goes-more : {s t : ReaderState} {from to next : R} {old r text new : List ℕ} (number : ℕ) (found : LineReading) → GoesOn reader s from old r text t to
       → (h : FindsNext reader t to number found next) → is_open (line_text found) ≡ true → new ≡ text ++ addition (line_text found)
       → GoesOn reader s from old (r ++ h.bytes) new found.state next
-  goes-more {s} {t} number found h n o e = record {
+  goes-more {s} {t} {old = old} {text = text} {new} number found h n o e = record {
     read = read-more h.read n.read;
-    pends = more-pends (found_line number found) h.pends n.live n.passes o e;
-    adds = adds-more (found_line number found) h.adds n.live n.passes o e;
-    passes = λ g. some-on (h.passes n.live) (some-come n.passes g);
+    lines = h.lines ++ found_line number found ∷ [];
+    passes = passes-on h.passes n.live n.passes;
+    are_open = are-open h.lines (found_line number found) h.are_open o;
+    is = added-more old text new h.lines (found_line number found) h.is e;
     encoding = encoding-on s t found.state h.encoding n.encoding;
     done = λ k. let d = h.done k in let l = n.live in absurd (cc);
     ended = λ k. inr (n.ended k);
@@ -241,12 +194,13 @@ module _ {R : Type 0} {reader : Reader R} where
   pub joins-closed : {s t : ReaderState} {from to next : R} {old r text new : List ℕ} (number : ℕ) (found : LineReading) → GoesOn reader s from old r text t to
       → FindsNext reader t to number found next → is_open (line_text found) ≡ false → new ≡ text ++ addition (line_text found)
       → JoinsAll reader s from old new found.state next
-  joins-closed {s} {t} {r = r} number found h n o e = record {
+  joins-closed {s} {t} {old = old} {r} {text} {new} number found h n o e = record {
     bytes = r ++ n.bytes;
     read = read-more h.read n.read;
-    closes = more-closes (found_line number found) h.pends n.live n.passes o e;
-    adds = adds-last (found_line number found) h.adds n.live n.passes o e;
-    passes = λ g. some-on (h.passes n.live) (some-come n.passes g);
+    lines = h.lines ++ found_line number found ∷ [];
+    passes = passes-on h.passes n.live n.passes;
+    end_join = inl (λ m k. ends-closed m h.lines (found_line number found) k h.are_open o);
+    is = added-more old text new h.lines (found_line number found) h.is e;
     encoding = encoding-on s t found.state h.encoding n.encoding;
     done = λ k. let d = h.done k in let l = n.live in absurd (cc);
     ended = λ k. inr (n.ended k);
@@ -257,18 +211,7 @@ module _ {R : Type 0} {reader : Reader R} where
   -- no line came
   pub joins-done : {s t u : ReaderState} {from to next : R} {old r text : List ℕ} → GoesOn reader s from old r text t to → t.is_done ≡ true → u ≡ t → next ≡ to
       → JoinsAll reader s from old text u next
-  joins-done {r = r} h d same kept = rw (same, kept) (record {
-    bytes = r;
-    read = h.read;
-    closes = done-closes h.pends d;
-    adds = adds-done h.adds d;
-    passes = h.passes;
-    encoding = h.encoding;
-    done = λ k. d;
-    ended = h.ended;
-    idle = h.idle;
-    lazy = h.lazy;
-  })
+  joins-done h d same kept = rw (same, kept) (search rules)
 
   -- memory ran out
   pub join-no_room : {s t : ReaderState} {from to next : R} {old r text : List ℕ} {e : LineError} (number : ℕ) (found : LineReading) (u : ReaderState)
@@ -279,19 +222,20 @@ module _ {R : Type 0} {reader : Reader R} where
   -- a line could not be found
   pub join-refused : {s t u : ReaderState} {from to next : R} {old r text : List ℕ} {e : LineError} → GoesOn reader s from old r text t to → t.is_done ≡ false
       → FindsError reader t to e u next → JoinError reader s from old e u next
-  join-refused {t = t} {r = r} h g (inl f) = inl (record {
+  join-refused {t = t} {r = r} {text} h g (inl f) = inl (record {
     bytes = r ++ f.bytes;
     error = f.error;
     number = t.passed + 1;
     failed = failed-more h.read f.failed;
     is = f.is;
-    entries = more-broken f.bytes (read_fault (t.passed + 1)) h.pends g f.natural f.last;
+    entries = λ first. goes-pending h g first f.bytes fault
+        ∙ pending-broken (join_of first text) t f.bytes (read_fault (t.passed + 1)) f.natural f.last;
     lazy = lazy-none h g f.lazy;
   })
   join-refused {t = t} {r = r} h g (inr (inl f)) = rw f.untouched (inr (inl (record {
     bytes = r;
     read = h.read;
-    passes = record { last = t; passes = h.passes g; passed = f.passed };
+    passes = record { last = t; passes = some-come h.passes g; passed = f.passed };
     is = f.is;
     lazy = h.lazy;
   })))
@@ -335,84 +279,84 @@ known-plain f has_backslash h told k = sym (h 0 0).backslash ∙ sym told ∙ k
 
 -- ---- logical lines
 
-abbrev join_line : ℕ → List ℕ → format.Line
-join_line number text = record { number = number; text = without_open_backslash text }
+-- what comes of a whole group
+group-comes : {s t : ReaderState} {x y : List ℕ} {ending : InputEnd} (first : format.Line) (others : List format.Line)
+    → Gives s x (first ∷ others) t y ending → IsWhole (first ∷ others)
+    → items_to_come s x ending ≡ followed first.number (outcome_of (joined (first ∷ others))) (items_to_come t y ending)
+unfolding entries_pending
+group-comes {s} {t} {x} {y} {ending} first others g w =
+    items_to_come-pending s x ending
+    ∙ ap₂ (λ v w. entries_of_logical (logical_lines v ending) w) g.natural g.last
+    ∙ ap (λ v. entries_of_logical (logical v) (last_to_come t y ending)) (groups_of-before (first ∷ others) (natural_to_come t y ending) ending w)
+    ∙ ap (followed first.number (outcome_of (joined (first ∷ others)))) (sym (items_to_come-pending t y ending))
+
+-- and of one in which the input ended
+group-ends : {s t : ReaderState} {x : List ℕ} (first : format.Line) (others : List format.Line)
+    → Gives s x (first ∷ others) t [] end → t.is_done ≡ true → IsUnfinished (first ∷ others) → items_to_come s x end ≡ followed first.number (outcome_of (joined (first ∷ others))) []
+unfolding entries_pending
+group-ends {s} {t} {x} first others g d u =
+    let none = natural-done t [] end d in
+    let all : natural_to_come s x end ≡ first ∷ others = g.natural ∙ rw none.0 (append-nil (first ∷ others)) in
+    items_to_come-pending s x end
+    ∙ ap₂ (λ v w. entries_of_logical (logical_lines v end) w) all (g.last ∙ none.1)
+    ∙ ap (λ v. entries_of_logical (logical v) []) (groups_of-unfinished (first ∷ others) end u)
+
+-- So a group comes as a logical line.
+comes-of : {s t : ReaderState} {r : List ℕ} {line : format.Line} → JoinsGroup s r line t → Comes s r line t
+comes-of {s} {t} {r} {line} h = by h.passes h.ends
+  where
+    by : Passes s r (h.first ∷ h.others) t → IsWhole (h.first ∷ h.others) ⊎ (t.is_done ≡ true) × IsUnfinished (h.first ∷ h.others) → Comes s r line t
+    by (Passes.going_on f reads) (inl w) =
+        Comes.going_on f (record { items = λ d ending. rw (h.number, h.text) (group-comes h.first h.others (reads.gives d ending) w) })
+    by (Passes.going_on f reads) (inr u) = absurd (let d = u.0 in cc)
+    by (Passes.at_last f gives) (inl w) =
+        let none = items_to_come-pending t [] end ∙ pending-done t [] end f in
+        Comes.at_last f (rw (h.number, h.text) (group-comes h.first h.others gives w ∙ ap (followed h.first.number _) none))
+    by (Passes.at_last f gives) (inr u) = Comes.at_last f (rw (h.number, h.text) (group-ends h.first h.others gives f u.1))
 
 -- a line that is a logical line by itself
-alone-comes : {s t : ReaderState} {r : List ℕ} (l : format.Line) → Passes s r (l ∷ []) t → IsNotContinued l.text → Comes s r l t
-alone-comes {s} l (Passes.going_on f reads) (inl c) = Comes.going_on f (logical-comment_line (on-start s) reads c)
-alone-comes {s} l (Passes.going_on f reads) (inr c) = Comes.going_on f (logical-closed (on-start s) reads c)
-alone-comes {s} {t} {r} l (Passes.at_last f gives) (inl c) =
-    Comes.at_last f (items_to_come-pending s r end ∙ pending-comment_line gives c ∙ ap (followed l.number (outcome_of l.text)) (pending-done t [] end f))
-alone-comes {s} {t} {r} l (Passes.at_last f gives) (inr c) =
-    Comes.at_last f (items_to_come-pending s r end ∙ pending-closed gives c ∙ ap (followed l.number (outcome_of l.text)) (pending-done t [] end f))
-
--- an open line and those that it is joined to
-join-comes : {s t u : ReaderState} {r q text : List ℕ} (l : format.Line) → Passes s r (l ∷ []) t → is_comment_line l.text ≡ false → is_open l.text ≡ true
-    → Closes t (without_open_backslash l.text) q text u → (t.is_done ≡ true → (u.is_done ≡ true) × (q ≡ [])) → Comes s (r ++ q) (record { number = l.number; text = text }) u
-join-comes {s} {t} {u} {r} {q} l (Passes.going_on f reads) c o (Closes.going_on e m) i =
-    Comes.going_on e (record { items = λ d ending. ap (λ v. items_to_come s v ending) (append_assoc r q d) ∙ (on-open (on-start s) reads c o).items (q ++ d) ending ∙ m l.number d ending })
-join-comes {s} {t} {u} {r} {q} l (Passes.going_on f reads) c o (Closes.at_last e m) i =
-    Comes.at_last e ((on-open (on-start s) reads c o).items q end ∙ m l.number)
-join-comes l (Passes.at_last f gives) c o (Closes.going_on e m) i = let d = (i f).0 in absurd (cc)
-join-comes {s} {t} {u} {r} {q} l (Passes.at_last f gives) c o (Closes.at_last e m) i =
-    let none = (i f).1 in
-    Comes.at_last e (
-    ap (λ v. items_to_come s (r ++ v) end) none
-    ∙ ap (λ v. items_to_come s v end) (append-nil r)
-    ∙ items_to_come-pending s r end
-    ∙ pending-open gives c o
-    ∙ ap (λ v. entries_pending (Some (join_line l.number l.text)) t v end) (sym none)
-    ∙ m l.number
-    )
-
--- so is its group
 alone-group : {s t : ReaderState} {r : List ℕ} (l : format.Line) → Passes s r (l ∷ []) t → (is_comment_line l.text ≡ true) ⊎ (is_open l.text ≡ false)
     → JoinsGroup s r l t
-alone-group l p (inl c) = record {
+alone-group l p alone = record {
   first = l;
   others = [];
   passes = p;
   number = refl;
-  text = sym (joined-comment_line l [] c);
-  ends = inl (inl (c, refl));
-}
-alone-group l p (inr o) = record {
-  first = l;
-  others = [];
-  passes = p;
-  number = refl;
-  text = sym (joined-closed l o);
-  ends = inl (elim (cases_Bool (is_comment_line l.text)) [ inl c ↦ inl (c, refl) | inr c ↦ inr (c, o) ]);
+  text = elim alone [ inl c ↦ sym (joined-comment_line l [] c) | inr o ↦ sym (joined-closed l o) ];
+  ends = inl (elim (cases_Bool (is_comment_line l.text)) [
+    | inl c ↦ inl (c, refl)
+    | inr c ↦ inr (c, elim alone [ inl k ↦ absurd (cc) | inr o ↦ o ])
+  ]);
 }
 
--- and the group of an open line and those that it is joined to
-join-group : {s t u : ReaderState} {r q text : List ℕ} (l : format.Line) → Passes s r (l ∷ []) t → is_comment_line l.text ≡ false → is_open l.text ≡ true
-    → AddsLast t (without_open_backslash l.text) q text u → (t.is_done ≡ true → (u.is_done ≡ true) × (q ≡ []))
-    → JoinsGroup s (r ++ q) (record { number = l.number; text = text }) u
-join-group {s} {t} {u} {r} {q} {text} l p c o h i = record {
+-- an open line and those that it is joined to
+join-group : {R : Type 0} {reader : Reader R} {s t u : ReaderState} {to next : R} {r text : List ℕ} (l : format.Line) → Passes s r (l ∷ []) t
+    → is_comment_line l.text ≡ false → is_open l.text ≡ true → (j : JoinsAll reader t to (without_open_backslash l.text) text u next)
+    → JoinsGroup s (r ++ j.bytes) (record { number = l.number; text = text }) u
+join-group {s = s} {t} {u} {r = r} l p c o j = record {
   first = l;
-  others = h.lines;
+  others = j.lines;
   passes = all-lines p;
   number = refl;
-  text = h.is ∙ sym (joined-unmarked l h.lines c);
-  ends = by-end h.end_join;
+  text = j.is ∙ sym (joined-unmarked l j.lines c);
+  ends = by-end j.end_join;
 }
   where
-    by-end : EndJoin h.lines u → IsWhole (l ∷ h.lines) ⊎ (u.is_done ≡ true) × IsUnfinished (l ∷ h.lines)
+    by-end : EndJoin j.lines u → IsWhole (l ∷ j.lines) ⊎ (u.is_done ≡ true) × IsUnfinished (l ∷ j.lines)
     by-end (inl k) = inl (inr (c, k l o))
     by-end (inr k) = inr (k.0, (c, (o, k.1)))
 
-    last-lines : t.is_done ≡ true → Gives s r (l ∷ []) t [] end → q ≡ [] → Passes t q h.lines u → Passes s (r ++ q) (l ∷ h.lines) u
-    last-lines f gives none (Passes.going_on g reads) = let d = (i f).0 in absurd (cc)
-    last-lines f gives none (Passes.at_last g others) =
-        let S : List ℕ → Type 0 = λ v. Gives t v h.lines u [] end in
-        let P : List ℕ → Type 0 = λ v. Gives s v (l ∷ h.lines) u [] end in
+    last-lines : t.is_done ≡ true → Gives s r (l ∷ []) t [] end → Passes t j.bytes j.lines u → Passes s (r ++ j.bytes) (l ∷ j.lines) u
+    last-lines f gives (Passes.going_on g reads) = let d = j.done f in absurd (cc)
+    last-lines f gives (Passes.at_last g others) =
+        let none = (j.idle f).0 in
+        let S : List ℕ → Type 0 = λ v. Gives t v j.lines u [] end in
+        let P : List ℕ → Type 0 = λ v. Gives s v (l ∷ j.lines) u [] end in
         Passes.at_last g (subst P (sym (ap (λ v. r ++ v) none ∙ append-nil r)) (gives-on gives (subst S none others)))
 
-    all-lines : Passes s r (l ∷ []) t → Passes s (r ++ q) (l ∷ h.lines) u
-    all-lines (Passes.going_on f reads) = passes-on (Passes.going_on f reads) f h.passes
-    all-lines (Passes.at_last f gives) = last-lines f gives (i f).1 h.passes
+    all-lines : Passes s r (l ∷ []) t → Passes s (r ++ j.bytes) (l ∷ j.lines) u
+    all-lines (Passes.going_on f reads) = passes-on (Passes.going_on f reads) f j.passes
+    all-lines (Passes.at_last f gives) = last-lines f gives j.passes
 
 lazy-items : {R : Type 0} {from to : R} {r : List ℕ} (s : ReaderState) → IsLazy s from r to → IsLazyItems s from r to
 lazy-items s (inl h) = inl h
@@ -426,9 +370,9 @@ module _ {R : Type 0} {reader : Reader R} where
     bytes = n.bytes;
     read = n.read;
     live = n.live;
-    comes = alone-comes (found_line number found) n.passes c;
+    comes = comes-of (alone-group (found_line number found) n.passes c);
     group = alone-group (found_line number found) n.passes c;
-    passes = λ g. some-come n.passes g;
+    passes = some-come n.passes;
     ended = n.ended;
     lazy = lazy-items s n.lazy;
   }
@@ -459,16 +403,18 @@ module _ {R : Type 0} {reader : Reader R} where
       → is_comment_line (line_text mid) ≡ false → is_open (line_text mid) ≡ true
       → JoinsAll reader mid.state to (without_open_backslash (line_text mid)) text new next
       → JoinsLine reader s from (record { number = number; text = text }) new next
-  joins-joined {next = next} number mid text new n c o j = record {
-    bytes = n.bytes ++ j.bytes;
-    read = read-more n.read j.read;
-    live = n.live;
-    comes = join-comes (found_line number mid) n.passes c o j.closes (λ e. (j.done e, (j.idle e).0));
-    group = join-group (found_line number mid) n.passes c o j.adds (λ e. (j.done e, (j.idle e).0));
-    passes = λ g. some-on (some-come n.passes (elim (cases_Bool mid.state.is_done) [ inl e ↦ let d = j.done e in absurd (cc) | inr e ↦ e ])) (j.passes g);
-    ended = λ e. elim (j.ended e) [ inl k ↦ let P : R → Type 0 = λ v. reader.at_end v ≡ true in subst P (sym (j.idle k).1) (n.ended k) | inr k ↦ k ];
-    lazy = lazy-join number mid n c o j.idle j.lazy;
-  }
+  joins-joined {next = next} number mid text new n c o j =
+      let group = join-group (found_line number mid) n.passes c o j in
+      record {
+        bytes = n.bytes ++ j.bytes;
+        read = read-more n.read j.read;
+        live = n.live;
+        comes = comes-of group;
+        group = group;
+        passes = some-come group.passes;
+        ended = λ e. elim (j.ended e) [ inl k ↦ rw (j.idle k).1 (n.ended k) | inr k ↦ k ];
+        lazy = lazy-join number mid n c o j.idle j.lazy;
+      }
 
   -- no line was found
   pub joins-refused : {s u : ReaderState} {from to : R} {e : LineError} → FindsError reader s from e u to → JoinsError reader s from e u to
@@ -494,28 +440,20 @@ module _ {R : Type 0} {reader : Reader R} where
   pub joins-broken : {s u : ReaderState} {from to next : R} {e : LineError} (number : ℕ) (mid : LineReading) → FindsNext reader s from number mid to
       → is_comment_line (line_text mid) ≡ false → is_open (line_text mid) ≡ true → mid.state.is_done ≡ false
       → JoinError reader mid.state to (without_open_backslash (line_text mid)) e u next → JoinsError reader s from e u next
-  joins-broken {s} {from = from} {to = to} number mid n c o g (inl f) = inl (record {
-    bytes = n.bytes ++ f.bytes;
-    error = f.error;
-    number = f.number;
-    failed = failed-more n.read f.failed;
-    is = f.is;
-    items = by-passes n.passes;
-    lazy = none n.lazy;
-  })
-    where
-      by-passes : Passes s n.bytes (found_line number mid ∷ []) mid.state → items_to_come s (n.bytes ++ f.bytes) fault ≡ read_fault f.number ∷ []
-      by-passes (Passes.at_last k gives) = absurd (cc)
-      by-passes (Passes.going_on k reads) = (on-open (on-start s) reads c o).items f.bytes fault ∙ f.entries number
-
-      on-more : n.bytes ≡ [] → Passes s n.bytes (found_line number mid ∷ []) mid.state → items_to_come s [] more ≡ []
-      on-more e (Passes.at_last k gives) = absurd (cc)
-      on-more e (Passes.going_on k reads) =
-          ap (λ v. items_to_come s (v ++ []) more) (sym e) ∙ (on-open (on-start s) reads c o).items [] more ∙ f.lazy number
-
-      none : IsLazy s from n.bytes to → items_to_come s [] more ≡ []
-      none (inr h) = items_to_come-pending s [] more ∙ pending-lazy None s h
-      none (inl h) = on-more h.1 n.passes
+  joins-broken {s} number mid n c o g (inl f) =
+      let on = on-open (on-start s) (passes-live n.passes g) c o in
+      inl (record {
+        bytes = n.bytes ++ f.bytes;
+        error = f.error;
+        number = f.number;
+        failed = failed-more n.read f.failed;
+        is = f.is;
+        items = on.items f.bytes fault ∙ f.entries number;
+        lazy = elim n.lazy [
+          | inl h ↦ ap (λ v. items_to_come s (v ++ []) more) (sym h.1) ∙ on.items [] more ∙ f.lazy number
+          | inr h ↦ items_to_come-pending s [] more ∙ pending-lazy None s h
+        ];
+      })
   joins-broken number mid n c o g (inr (inl f)) =
       inr (inl (record {
         bytes = n.bytes ++ f.bytes;
@@ -615,13 +553,7 @@ module _ {R : Type 0} {reader : Reader R} where
   pub joins-none : {from to : R} (before after : LineReading) (line : LogicalLine) (has_backslash : Bool) → Finds reader before from false after to
       → JoinsNoLine reader (joining before line has_backslash) from (joining after line has_backslash) to
   joins-none before after line has_backslash (inl h) = inl (h.0, ap (λ v. joining v line has_backslash) h.1, h.2)
-  joins-none before after line has_backslash (inr h) = inr (record {
-    live = h.live;
-    done = h.failed.done;
-    error = h.error;
-    kept = h.failed.error;
-    why = joins-refused h.why;
-  })
+  joins-none before after line has_backslash (inr h) = inr (let why = joins-refused h.why in search rules)
 
   -- the rest of it was read
   pub joins-rest : {from mid : R} (to : R) (old : LineJoining) (found lines : LineReading) (line : LogicalLine) (result : Option ℕ) (has_backslash : Bool)
@@ -665,10 +597,4 @@ module _ {R : Type 0} {reader : Reader R} where
   -- there was no memory for it
   pub joins-no_text : {from to : R} (old new failed : LineJoining) (number : ℕ) → JoinsBytes reader old from number new to → failed.at.state.is_done ≡ true
       → failed.error ≡ Some why.Memory → JoinsNoLine reader old from failed to
-  joins-no_text old new failed number h done error = inr (record {
-    live = h.joins.live;
-    done = done;
-    error = why.Memory;
-    kept = error;
-    why = inr (inr (record { bytes = h.joins.bytes; read = h.joins.read; is = refl; lazy = h.joins.lazy }));
-  })
+  joins-no_text old new failed number h done error = inr (search rules)

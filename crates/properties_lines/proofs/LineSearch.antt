@@ -2,6 +2,7 @@
 use Rattle.std.proofs.Common.{◌≡◌, ◌<◌, ◌≤◌, ◌+◌, ◌-◌, ◌%◌, ◌==◌, ℕ, suc, zero, true, false, Bool, List, [], ◌∷◌, ◌++◌, take, drop, length, get_or}
 use Rattle.std.proofs.Common.{drop-cons, length-append, length-drop, refl, sym, ap, subst, ◌∙◌, arith}
 use Rattle.std.specs.Prelude.{Option, Some, None, option_map}
+use Rattle.std.proofs.Math.Nat.{zero-mod}
 use Rattle.std.proofs.Math.Seq.{take-add}
 use Rattle.std.proofs.lemmas.Bool.{false_from_ne_true}
 use Rattle.std.proofs.lemmas.List.{take-append-drop, take_rest, length-take-le, take-append-le, get_or-drop}
@@ -11,7 +12,7 @@ use Rattle.memchr.specs.Find.{Nowhere, NoneBefore, Passes, IsFirst, IsFirstByte}
 use Rattle.properties_format.specs.Text.{carriage_return, is_line_end}
 use Rattle.properties_format.specs.Lines.{HoldsNoLineEnd}
 use Rattle.properties_format.specs.Encoding.{Encoding, windows_1252, utf_8, utf_16le, utf_16be, IsAligned, ascii_bytes}
-use Rattle.properties_format.specs.Cut.{HoldsNoLineEndUnit}
+use Rattle.properties_format.specs.Cut.{units, HoldsNoLineEndUnit}
 use Rattle.properties_format.proofs.Cut.Units.{no_end_unit-append, no_end_unit-left, no_end-no_unit}
 use Rattle.properties_lines.specs.LineSearch.{unit_size, whole_units, IsSearched, end_character, IsFirstLineEnd}
 use Rattle.properties_lines.specs.declared.search.LineEnd.{LineEnd}
@@ -24,6 +25,22 @@ length-ascii_bytes windows_1252 c = refl
 length-ascii_bytes utf_8 c = refl
 length-ascii_bytes utf_16le c = refl
 length-ascii_bytes utf_16be c = refl
+
+-- bytes that are shorter than a unit have none
+pub short-units : (e : Encoding) (d : List ℕ) → length d < unit_size e → units e d ≡ []
+short-units windows_1252 [] h = refl
+short-units windows_1252 (b ∷ d) h = absurd (omega arith)
+short-units utf_8 [] h = refl
+short-units utf_8 (b ∷ d) h = absurd (omega arith)
+short-units utf_16le [] h = refl
+short-units utf_16le (a ∷ []) h = refl
+short-units utf_16le (a ∷ b ∷ d) h = absurd (omega arith)
+short-units utf_16be [] h = refl
+short-units utf_16be (a ∷ []) h = refl
+short-units utf_16be (a ∷ b ∷ d) h = absurd (omega arith)
+
+pub short-none : (e : Encoding) (d : List ℕ) → length d < unit_size e → HoldsNoLineEndUnit e d
+short-none e d h = rw (short-units e d h) tt
 
 -- bytes are whole units where the size of a unit divides how many they are
 pub aligned-length : (e : Encoding) (d : List ℕ) → length d % unit_size e ≡ 0 → IsAligned e d
@@ -54,13 +71,8 @@ whole_units-whole utf_16be n = omega arith
 
 -- before the first byte there is nothing to find
 pub nothing_searched : (e : Encoding) (bytes : List ℕ) → IsSearched e bytes 0
-nothing_searched e bytes = record { within = omega arith; aligned = aligned-length e [] (nothing e); none_before = no_end-no_unit e [] tt }
-  where
-    nothing : (e : Encoding) → 0 % unit_size e ≡ 0
-    nothing windows_1252 = refl
-    nothing utf_8 = refl
-    nothing utf_16le = refl
-    nothing utf_16be = refl
+nothing_searched e bytes =
+    record { within = omega arith; aligned = aligned-length e [] (zero-mod (unit_size e)); none_before = no_end-no_unit e [] tt }
 
 -- what is searched stays so where more bytes come
 pub searched-grown : (e : Encoding) (bytes more : List ℕ) (from : ℕ) → IsSearched e bytes from → IsSearched e (bytes ++ more) from
@@ -247,24 +259,13 @@ searched-past e bytes at size s le none =
       none_before = subst (HoldsNoLineEndUnit e) (sym same) (no_end_unit-append e (take at bytes) unit s.aligned s.none_before none);
     }
 
--- half a unit is none
-pub half-unit : (e : Encoding) (d : List ℕ) → unit_size e ≡ 2 → length d < 2 → HoldsNoLineEndUnit e d
-half-unit windows_1252 d size h = absurd (omega arith)
-half-unit utf_8 d size h = absurd (omega arith)
-half-unit utf_16le [] size h = tt
-half-unit utf_16le (a ∷ []) size h = tt
-half-unit utf_16le (a ∷ b ∷ d) size h = absurd (omega arith)
-half-unit utf_16be [] size h = tt
-half-unit utf_16be (a ∷ []) size h = tt
-half-unit utf_16be (a ∷ b ∷ d) size h = absurd (omega arith)
-
 -- a last byte alone is no unit
 pub searched-last : (e : Encoding) (bytes : List ℕ) (at : ℕ) → unit_size e ≡ 2 → IsSearched e bytes at → length bytes - at < 2
     → HoldsNoLineEndUnit e bytes
 searched-last e bytes at size s last =
-    let short : length (drop at bytes) < 2 = (let l : length (drop at bytes) ≡ length bytes - at = length-drop at bytes in omega arith) in
+    let short : length (drop at bytes) < unit_size e = omega (arith, size, length-drop at bytes) in
     subst (HoldsNoLineEndUnit e) (take-append-drop at bytes)
-    (no_end_unit-append e (take at bytes) (drop at bytes) s.aligned s.none_before (half-unit e (drop at bytes) size short))
+    (no_end_unit-append e (take at bytes) (drop at bytes) s.aligned s.none_before (short-none e (drop at bytes) short))
 
 -- the unit in which such a byte stands, up to which there is none
 pub searched-hit : (e : Encoding) (bytes : List ℕ) (from hit : ℕ) → unit_size e ≡ 2 → IsSearched e bytes from

@@ -61,3 +61,5 @@ continued-both text h = elim (cases_Bool (is_comment_line text)) [
   | inl c ↦ let k = continued-comment text c in absurd (cc)
   | inr c ↦ (c, sym (continued-other text c) ∙ h)
 ]
+
+pub ruleset open_lines = (open-cut, continued-both, open-unblanked)

@@ -7,7 +7,7 @@ use Rattle.properties_format.specs.Utf16.{low_first, high_first}
 use Rattle.properties_format.specs.Encoding.{Encoding, InForce, windows_1252, utf_8, utf_16le, utf_16be, ascii_bytes}
 use Rattle.properties_format.specs.Lines as format
 use Rattle.properties_format.specs.Lines.{InputEnd, end, more}
-use Rattle.properties_format.specs.Cut.{units, HoldsNoLineEndUnit}
+use Rattle.properties_format.specs.Cut.{units}
 use Rattle.properties_format.specs.Computed.Lines.{begins_with_lf}
 use Rattle.properties_format.specs.Computed.Waiting.{awaits_bom}
 use Rattle.properties_format.specs.ItemsToCome.{ReaderState}
@@ -24,7 +24,7 @@ use Rattle.properties_lines.specs.LineSearch.{unit_size, IsSearched}
 use Rattle.properties_lines.specs.Scanner.{is_decided, after_cr, scanner_state, front_of, without_feed, Fits, Comes, IsAlike, SkipsFront, SkipsFeed, feed_size, is_undecided}
 use Rattle.properties_lines.specs.declared.scanner.Front.TheVariants.{Mark, Feed, Nothing}
 use Rattle.properties_lines.specs.declared.scanner.Scanner.{Scanner}
-use Rattle.properties_lines.proofs.LineSearch.{nothing_searched, searched-grown, length-ascii_bytes, half-unit}
+use Rattle.properties_lines.proofs.LineSearch.{nothing_searched, searched-grown, length-ascii_bytes, short-none}
 
 -- ---- what fits
 
@@ -194,15 +194,6 @@ skips-mark old new held ended h d waits is le same =
 
 -- ---- an LF of the line end before
 
--- bytes that are shorter than a unit hold no line end
-short-none : (e : Encoding) (d : List ℕ) → length d < unit_size e → HoldsNoLineEndUnit e d
-short-none windows_1252 [] h = tt
-short-none windows_1252 (b ∷ d) h = absurd (omega arith)
-short-none utf_8 [] h = tt
-short-none utf_8 (b ∷ d) h = absurd (omega arith)
-short-none utf_16le d h = half-unit utf_16le d refl h
-short-none utf_16be d h = half-unit utf_16be d refl h
-
 awaits-unit : (s : Scanner) (held : List ℕ) → s.is_done ≡ false → s.front ≡ Feed → length (drop s.at held) < unit_size (encoding_of s.encoding)
     → natural_to_come (scanner_state s held) [] more ≡ []
 awaits-unit s held g a short =
@@ -244,11 +235,11 @@ passes-feed old held ended h a k =
     }
 
 -- unless more bytes decide whether it comes
-pub skips-feed : (old new : Scanner) (held : List ℕ) (ended passed : Bool) → Fits old held → old.is_done ≡ false → old.front ≡ Feed
+pub skips_feed : (old new : Scanner) (held : List ℕ) (ended passed : Bool) → Fits old held → old.is_done ≡ false → old.front ≡ Feed
     → SkipsFeed (record old { front = Nothing }) held ended passed new → SkipsFront old held ended passed new
-skips-feed old new held ended true h g a k =
+skips_feed old new held ended true h g a k =
     let P : Scanner → Type 0 = λ v. IsAlike old held ended v in
     subst P (sym k.1) (passes-feed old held ended h a k.0)
-skips-feed old new held ended false h g a k =
+skips_feed old new held ended false h g a k =
     let same : new ≡ old = k.2 ∙ ap (λ v. let w : Scanner = record old { front = v } in w) (sym a) in
     (k.0, same, awaits-unit old held g a k.1, λ w. absurd (cc (a, w)))

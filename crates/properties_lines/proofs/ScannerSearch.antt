@@ -1,11 +1,11 @@
 -- How a scanner searches for the end of a line, and takes the line up to it.
-use Rattle.std.proofs.Common.{inl, inr, ◌≡◌, ◌↔◌, ◌<◌, ◌≤◌, ◌+◌, ◌-◌, ◌==◌, ◌||◌, ℕ, Bool, true, false, List, [], ◌∷◌, ◌++◌, take, drop, length, get_or, map, refl, sym, ap, ap₂, subst, ◌∙◌, append_assoc, length-append, length-drop, arith}
+use Rattle.std.proofs.Common.{inl, inr, ◌≡◌, ◌↔◌, ◌<◌, ◌≤◌, ◌+◌, ◌-◌, ◌==◌, ◌||◌, ℕ, Bool, true, false, List, [], ◌∷◌, ◌++◌, take, drop, length, get_or, map, refl, sym, ap, ap₂, subst, ◌∙◌, append_assoc, length-append, length-drop, arith, rules}
 use Rattle.std.specs.Prelude.{Some}
 use Rattle.std.specs.Str.{IsAscii}
 use Rattle.std.specs.List.{All}
 use Rattle.std.proofs.Math.Seq.{drop-append_seam}
 use Rattle.std.proofs.lemmas.Bool.{cases_Bool, or_from, or_parts, eqb-true, leb-true, cases_lt}
-use Rattle.std.proofs.lemmas.List.{drop-drop, length-take-le, get_or-take, get_or-drop, length-map, take-take}
+use Rattle.std.proofs.lemmas.List.{take_rest, drop-drop, length-take-le, get_or-take, get_or-drop, length-map, take-take}
 use Rattle.std.proofs.lemmas.List.Elements.{All-get_or, All-head, All-tail, All-take, All-weaker}
 use Rattle.std.proofs.lemmas.Str.Ascii.{IsAscii-from_all, All-from_ascii}
 use Rattle.byte_blocks.specs.Classes.{is_past_ascii}
@@ -15,7 +15,7 @@ use Rattle.byte_blocks.proofs.Searching.{long-block}
 use Rattle.memchr.specs.Find.{Nowhere, Passes}
 use Rattle.properties_format.specs.Text as text
 use Rattle.properties_format.specs.Text.{line_feed, carriage_return, backslash, is_line_end}
-use Rattle.properties_format.specs.Encoding.{Encoding, windows_1252, utf_8, utf_16le, utf_16be, ascii_bytes, IsAligned}
+use Rattle.properties_format.specs.Encoding.{Encoding, ascii_bytes, IsAligned}
 use Rattle.properties_format.specs.Lines as format
 use Rattle.properties_format.specs.Lines.{HoldsNoLineEnd}
 use Rattle.properties_format.specs.Cut.{units, HoldsNoLineEndUnit, line_ending_bytes}
@@ -40,7 +40,7 @@ use Rattle.properties_lines.specs.declared.scanner.Front.TheVariants.{Feed, Noth
 use Rattle.properties_lines.specs.declared.scanner.RawLine.{RawLine}
 use Rattle.properties_lines.specs.declared.scanner.Scanner.{Scanner}
 use Rattle.properties_lines.proofs.ScannerFront.{some-units, feed-first}
-use Rattle.properties_lines.proofs.LineSearch.{nothing_searched, length-ascii_bytes, found-byte, searched-bytes}
+use Rattle.properties_lines.proofs.LineSearch.{nothing_searched, length-ascii_bytes, short-units, found-byte, searched-bytes}
 
 -- ---- what the reader does
 
@@ -104,16 +104,7 @@ record EndsAs (e : Encoding) (after : List ℕ) (r : Tail e after) : Type 0 wher
   pub within : feed_at r ≤ length after
 
 pub short-feed : (e : Encoding) (d : List ℕ) → length d < unit_size e → begins_with_lf (units e d) ≡ false
-short-feed windows_1252 [] h = refl
-short-feed windows_1252 (b ∷ d) h = absurd (omega arith)
-short-feed utf_8 [] h = refl
-short-feed utf_8 (b ∷ d) h = absurd (omega arith)
-short-feed utf_16le [] h = refl
-short-feed utf_16le (a ∷ []) h = refl
-short-feed utf_16le (a ∷ b ∷ d) h = absurd (omega arith)
-short-feed utf_16be [] h = refl
-short-feed utf_16be (a ∷ []) h = refl
-short-feed utf_16be (a ∷ b ∷ d) h = absurd (omega arith)
+short-feed e d h = ap begins_with_lf (short-units e d h)
 
 ends-as : (e : Encoding) (after : List ℕ) (r : Tail e after) → EndsAs e after r
 ends-as e after of_lf = record { by = text.lf; division = refl; whole = tt; within = omega arith }
@@ -382,18 +373,8 @@ ready-on s held at ready fresh within clear = record {
 }
 
 pub searches-on : (s new : Scanner) (held : List ℕ) (at : ℕ) (found : Bool) → Searches (record s { searched = at }) held found new → Searches s held found new
-searches-on s new held at true h = record {
-  comes = h.comes;
-  cut = h.cut;
-  ended = h.ended;
-  starts = h.starts;
-  same = h.same;
-  decided = h.decided;
-  short = h.short;
-  fits = h.fits;
-  flags = h.flags;
-}
-searches-on s new held at false h = record { none = h.none; same = h.same }
+searches-on s new held at true h = search rules
+searches-on s new held at false h = search rules
 
 -- ---- after a backslash
 
@@ -453,3 +434,5 @@ plain-found bytes n is_ascii h other =
         | inr none ↦ absurd (other (eqb-true b backslash (subst (λ v. (v || (b == backslash)) ≡ true) none either)))
       ],
     )
+
+pub ruleset takings = (found-end, searches-on, get_or-drop, take_rest)

@@ -4,7 +4,7 @@ use Rattle.std.specs.Str.{chars, IsAscii}
 use Rattle.std.specs.declared.io.Error.{Error}
 use Rattle.counted_io.specs.Streams.{Reader, HasRead, HasFailed}
 use Rattle.properties_format.specs.Lines as format
-use Rattle.properties_format.specs.Lines.{InputEnd, end, fault, more}
+use Rattle.properties_format.specs.Lines.{end, fault, more}
 use Rattle.properties_format.specs.Groups.{is_open, joined, joined_after, AreOpen, EndsClosed, IsWhole, IsUnfinished}
 use Rattle.properties_format.specs.Computed.Cut.{decoded_line}
 use Rattle.properties_format.specs.Entries.{read_fault}
@@ -95,49 +95,21 @@ JoinsError reader old from e new to = JoinsFault reader old from e to ⊎ (Joins
 abbrev pub join_of : ℕ → List ℕ → Option format.Line
 join_of number text = Some (record { number = number; text = text })
 
--- The unfinished line grew from the first text to the second and is still open; or the input ended in it.
-pub data Pends (old : ReaderState) (old_text bytes text : List ℕ) (new : ReaderState) : Type 0 where
-  going_on : new.is_done ≡ false → ((number : ℕ) (d : List ℕ) (ending : InputEnd)
-      → entries_pending (join_of number old_text) old (bytes ++ d) ending ≡ entries_pending (join_of number text) new d ending) → Pends old old_text bytes text new
-  at_last : new.is_done ≡ true → ((number : ℕ) → entries_pending (join_of number old_text) old bytes end ≡ entries_pending (join_of number text) new [] end)
-      → Pends old old_text bytes text new
-
--- The finished line has the second text.
-pub data Closes (old : ReaderState) (old_text bytes text : List ℕ) (new : ReaderState) : Type 0 where
-  going_on : new.is_done ≡ false → ((number : ℕ) (d : List ℕ) (ending : InputEnd)
-      → entries_pending (join_of number old_text) old (bytes ++ d) ending ≡ followed number (outcome_of text) (items_to_come new d ending))
-      → Closes old old_text bytes text new
-  at_last : new.is_done ≡ true → ((number : ℕ) → entries_pending (join_of number old_text) old bytes end ≡ followed number (outcome_of text) [])
-      → Closes old old_text bytes text new
-
--- Open lines were joined to an unfinished line.
-pub record AddsOpen (old : ReaderState) (old_text bytes text : List ℕ) (new : ReaderState) : Type 0 where
-  pub lines : List format.Line
-  pub passes : Passes old bytes lines new
-  pub are_open : AreOpen lines
-  pub is : text ≡ old_text ++ joined_after lines
-
 -- These lines end a group that begins with open lines; or they are open too, and the input ended.
 abbrev pub EndJoin : List format.Line → ReaderState → Type 0
 EndJoin lines new = ((l : format.Line) → is_open l.text ≡ true → EndsClosed l lines) ⊎ (new.is_done ≡ true) × AreOpen lines
-
--- The last lines of a logical line were joined to it.
-pub record AddsLast (old : ReaderState) (old_text bytes text : List ℕ) (new : ReaderState) : Type 0 where
-  pub lines : List format.Line
-  pub passes : Passes old bytes lines new
-  pub end_join : EndJoin lines new
-  pub is : text ≡ old_text ++ joined_after lines
 
 -- Nothing was read; or the bytes already held did not finish the line.
 abbrev pub IsLazyJoin : {R : Type 0} → ReaderState → R → List ℕ → List ℕ → R → Type 0
 IsLazyJoin old from text bytes to = ((to ≡ from) × (bytes ≡ [])) ⊎ ((number : ℕ) → entries_pending (join_of number text) old [] more ≡ [])
 
--- Lines were joined to an unfinished line.
+-- Open lines were joined to an unfinished line.
 pub record GoesOn {R : Type 0} (reader : Reader R) (old : ReaderState) (from : R) (old_text bytes text : List ℕ) (new : ReaderState) (to : R) : Type 0 where
   pub read : HasRead reader from bytes to
-  pub pends : Pends old old_text bytes text new
-  pub adds : AddsOpen old old_text bytes text new
-  pub passes : new.is_done ≡ false → PassesSome old bytes new
+  pub lines : List format.Line
+  pub passes : Passes old bytes lines new
+  pub are_open : AreOpen lines
+  pub is : text ≡ old_text ++ joined_after lines
   pub encoding : KeepsEncoding old new
   pub done : old.is_done ≡ true → new.is_done ≡ true
   pub ended : new.is_done ≡ true → (old.is_done ≡ true) ⊎ (reader.at_end to ≡ true)
@@ -148,9 +120,10 @@ pub record GoesOn {R : Type 0} (reader : Reader R) (old : ReaderState) (from : R
 pub record JoinsAll {R : Type 0} (reader : Reader R) (old : ReaderState) (from : R) (old_text text : List ℕ) (new : ReaderState) (to : R) : Type 0 where
   pub bytes : List ℕ
   pub read : HasRead reader from bytes to
-  pub closes : Closes old old_text bytes text new
-  pub adds : AddsLast old old_text bytes text new
-  pub passes : new.is_done ≡ false → PassesSome old bytes new
+  pub lines : List format.Line
+  pub passes : Passes old bytes lines new
+  pub end_join : EndJoin lines new
+  pub is : text ≡ old_text ++ joined_after lines
   pub encoding : KeepsEncoding old new
   pub done : old.is_done ≡ true → new.is_done ≡ true
   pub ended : new.is_done ≡ true → (old.is_done ≡ true) ⊎ (reader.at_end to ≡ true)

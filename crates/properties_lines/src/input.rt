@@ -93,6 +93,7 @@ impl InputBuffer {
 }
 
 // Reads once, into the bytes from this position on.
+#[tactic(auto, using(crate::proofs::InputBuffer::reads_at))]
 fn read_at<R: CountedRead>(bytes: &mut [u8], place: usize, reader: &mut R) -> io::Result<usize>
     requires { place < length bytes.old }
     ensures reads { ReadsAt R.CountedRead place bytes.old reader.old result bytes.new reader.new }

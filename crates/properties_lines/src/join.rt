@@ -55,6 +55,7 @@ fn is_continued(bytes: &[u8]) -> bool
 
 /// Returns the line without the backslash that leaves it open, if there is one.
 #[inline(always)]
+#[tactic(auto, using(crate::proofs::OpenLines::open_lines))]
 pub fn without_open_backslash(bytes: &[u8]) -> &[u8]
     ensures { result.now ≡ without_open_backslash bytes.now }
 {
@@ -84,6 +85,7 @@ fn after_blanks(bytes: &[u8]) -> &[u8]
 /// Returns whether the next line is joined to the line with these bytes. If so, makes `joined` this line without the
 /// backslash that leaves it open.
 #[inline(always)]
+#[tactic(auto, using(crate::proofs::OpenLines::open_lines))]
 pub fn begin_bytes(joined: &mut LineBuffer, bytes: &[u8]) -> Result<bool, AllocError>
     ensures { BeginsText bytes.now result joined.new }
 {
@@ -97,6 +99,7 @@ pub fn begin_bytes(joined: &mut LineBuffer, bytes: &[u8]) -> Result<bool, AllocE
 
 /// Joins the line with these bytes to `joined`, and returns whether the next line is joined too.
 #[inline(always)]
+#[tactic(auto, using(crate::proofs::OpenLines::open_lines))]
 pub fn join_bytes(joined: &mut LineBuffer, bytes: &[u8]) -> Result<bool, AllocError>
     ensures { AddsText bytes.now joined.old result joined.new }
 {

@@ -210,6 +210,7 @@ impl Scanner {
     }
 
     #[inline(never)]
+    #[tactic(auto, using(crate::proofs::ScannerFront::skips_feed))]
     fn skip_mark_or_feed(&mut self, held: &[u8], ended: bool) -> bool
         requires fits { Fits self.old held.now }
         requires live { self.old.is_done ≡ false }
@@ -318,6 +319,7 @@ impl Scanner {
 
     // Continues to search a line from its first backslash on, where units are one byte long.
     #[inline(never)]
+    #[tactic(auto, using(crate::proofs::ScannerSearch::takings))]
     fn search_escaped(&mut self, held: &[u8], from: usize, is_ascii_before: bool) -> bool
         requires ready { IsReady self.old held.now }
         requires fresh { IsFresh self.old }
@@ -332,6 +334,7 @@ impl Scanner {
 
     // Takes the line up to the end that was found, or continues to search, where units are one byte long.
     #[inline(always)]
+    #[tactic(auto, using(crate::proofs::ScannerSearch::takings))]
     fn take_found(&mut self, held: &[u8], found: BlockSearch, has_backslash: bool) -> bool
         requires ready { IsReady self.old held.now }
         requires fresh { IsFresh self.old }

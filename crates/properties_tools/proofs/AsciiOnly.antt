@@ -1,8 +1,7 @@
 -- What filtering with ASCII alone on writes.
-use Rattle.std.proofs.Common.{◌++◌, ℕ, true, List, [], ◌∷◌, refl, inl, inr, subst}
+use Rattle.std.proofs.Common.{◌++◌, true, List, [], ◌∷◌, refl, inl, inr, subst, append-nil}
 use Rattle.std.specs.Prelude.{Result, Ok, Err}
 use Rattle.counted_io.specs.Streams.{Reader, Sink}
-use Rattle.counted_io.proofs.Streams.{written-failed_flush}
 use Rattle.properties_format.specs.Encoding.{Encoding, output_encoding}
 use Rattle.properties_format.specs.Entries.{Entry, pair}
 use Rattle.properties_format.specs.Settings.{Settings}
@@ -14,8 +13,9 @@ use Rattle.properties_format.proofs.ReadBack.Law.{default_settings-good}
 use Rattle.properties_format.proofs.ReadBack.Lists.{read_back-pairs, calls_of-clean, calls_of-scalars}
 use Rattle.java_properties.specs.AsciiOnly.{TakesAscii}
 use Rattle.properties_items.specs.declared.error.PropertiesError.{PropertiesError}
-use Rattle.properties_tools.specs.Filter.{settings_with, pair_calls, pair_lines, TakesAndFlushes, FailsInPair, FailsAfterPairs, RefusesPair, Filters, FiltersToAscii}
+use Rattle.properties_tools.specs.Filter.{settings_with, pair_calls, pair_lines, Filters, FiltersToAscii}
 use Rattle.properties_tools.proofs.Pairs.{pair-accepted}
+use Rattle.properties_tools.proofs.Settled.{Took, took}
 
 -- the settings with it on
 abbrev on : Settings
@@ -37,31 +37,23 @@ pairs-taken (p ∷ ps) = (pair-accepted true p.0 p.1, pairs-taken ps)
 lines-ascii : (e : Encoding) (items : List Entry) → AreAsciiBytes (pair_lines e true items)
 lines-ascii e items = wrote-on (output_encoding e) on refl on-good.separator 0 (pair_calls items) (pairs-keep (pairs_in items))
 
-module _ {W : Type 0} {sink : Sink W} (e : Encoding) (items : List Entry) {old new : W} where
-  -- the lines were written, and the sink was flushed or its flush failed
-  flushed-ascii : TakesAndFlushes sink old (pair_lines e true items) new → TakesAscii sink old new
-  flushed-ascii (inl h) = record { bytes = pair_lines e true items; taken = inl h.0; ascii = lines-ascii e items }
-  flushed-ascii (inr h) = record { bytes = pair_lines e true items; taken = inr (written-failed_flush h.1 h.2.1); ascii = lines-ascii e items }
-
-  -- a write failed within a line
-  pair-ascii : {key value : List ℕ} {error : PropertiesError} → FailsInPair sink e true old items key value error new → TakesAscii sink old new
-  pair-ascii {key = key} {value = value} h = record {
-    bytes = pair_lines e true items ++ h.part;
-    taken = inr h.faulted;
-    ascii = wrote-on_line (output_encoding e) on refl on-good.separator 0 (pair_calls items) on _ (pair key value) h.part h.begins.others
-        (pairs-keep (pairs_in items)) refl on-good.separator h.begins.whole;
-  }
-
-  refused-ascii : {error : PropertiesError} → RefusesPair sink e true old items error new → TakesAscii sink old new
-  refused-ascii h = record { bytes = pair_lines e true items; taken = inl h.written; ascii = lines-ascii e items }
-
-  after-ascii : {error : PropertiesError} → FailsAfterPairs sink e true old items error new → TakesAscii sink old new
-  after-ascii h = record { bytes = pair_lines e true items; taken = inr (written-failed_flush h.written h.flushed); ascii = lines-ascii e items }
+-- and so is a part of one line more
+took-ascii : {W : Type 0} {sink : Sink W} (e : Encoding) (items : List Entry) {old new : W} → Took sink e true items old new → TakesAscii sink old new
+took-ascii e items h = record {
+  bytes = pair_lines e true items ++ h.part;
+  taken = h.taken;
+  ascii = elim h.begins [
+    | inl none ↦ rw (none, append-nil) (lines-ascii e items)
+    | inr (key, value, b) ↦ wrote-on_line (output_encoding e) on refl on-good.separator 0 (pair_calls items) on _ (pair key value) h.part b.others
+        (pairs-keep (pairs_in items)) refl on-good.separator b.whole
+  ];
+}
 
 -- Whatever filtering returned.
-pub filters-ascii : {R W : Type 0} (reader : Reader R) (sink : Sink W) (e : Encoding) (input input' : R) (output output' : W) (result : Result Unit PropertiesError)
-    → Filters reader sink e true input output result input' output' → FiltersToAscii reader sink e input output result input' output'
-filters-ascii reader sink e input input' output output' (Ok done) h =
+pub filters_ascii : {R W : Type 0} (reader : Reader R) (sink : Sink W) (e : Encoding) (input input' : R) (output output' : W)
+    (result : Result Unit PropertiesError) → Filters reader sink e true input output result input' output'
+    → FiltersToAscii reader sink e input output result input' output'
+filters_ascii reader sink e input input' output output' (Ok done) h =
     let ps = pairs_in h.items in
     record {
       items = h.items;
@@ -73,10 +65,4 @@ filters-ascii reader sink e input input' output output' (Ok done) h =
           subst (AreItemsInBoth (pair_lines e true h.items)) (read_back-pairs on 0 ps (pairs-taken ps))
           (wrote-on_both (output_encoding e) on (pair_calls h.items) refl (pairs-keep ps) on-good (calls_of-clean on ps) (calls_of-scalars ps h.scalars));
     }
-filters-ascii reader sink e input input' output output' (Err error) h = elim h.1.stops [
-  | inl k ↦ flushed-ascii e h.0 k.written
-  | inr k ↦ elim k [
-    | inl w ↦ elim w.fails [ inl f ↦ pair-ascii e h.0 f | inr f ↦ refused-ascii e h.0 f ]
-    | inr w ↦ after-ascii e h.0 w.fails
-  ]
-]
+filters_ascii reader sink e input input' output output' (Err error) h = took-ascii e h.0 (took h.1.stops)

@@ -8,8 +8,9 @@ use Rattle.properties_tools.specs.Propedit.Failures.{number_of, place_of, messag
 use Rattle.properties_tools.specs.declared.propedit.error.Failure.{Failure}
 
 -- a line without a number, as it is printed
-pub plain-line : (place reason line : List ℕ) → line ≡ codes "propedit: " ++ (place ++ (codes ": " ++ (reason ++ (line_feed ∷ [])))) → line ≡ printed_line (message place None reason)
-plain-line place reason line is = is ∙ simp append_assoc refl
+pub plain_line : (place reason line : List ℕ) → line ≡ codes "propedit: " ++ (place ++ (codes ": " ++ (reason ++ (line_feed ∷ []))))
+    → line ≡ printed_line (message place None reason)
+plain_line place reason line is = is ∙ simp append_assoc refl
 
 module _ (name : List ℕ) (failure : Failure) {place : List ℕ} (reason line : List ℕ) (is_place : place ≡ place_of name failure) (is_reason : IsReasonOf failure reason) where
   message-line : (number : Option ℕ) → number ≡ number_of failure → line ≡ printed_line (message place number reason) → IsMessageLine name failure line
@@ -26,4 +27,4 @@ module _ (name : List ℕ) (failure : Failure) {place : List ℕ} (reason line :
 
   -- and without one
   pub unnumbered-line : None ≡ number_of failure → line ≡ codes "propedit: " ++ (place ++ (codes ": " ++ (reason ++ (line_feed ∷ [])))) → IsMessageLine name failure line
-  unnumbered-line is_number is = message-line None is_number (plain-line place reason line is)
+  unnumbered-line is_number is = message-line None is_number (plain_line place reason line is)

@@ -12,7 +12,7 @@ use Rattle.properties_format.specs.Computed.ItemsToCome.{items_to_come}
 use Rattle.properties_format.proofs.Items.Unique.{items_of-meets}
 use Rattle.java_properties.specs.PropertiesIter.{Iteration}
 use Rattle.java_properties.specs.Private.GivenItems.{GivesEntry, GivesNone, GivesMalformed, GivesError}
-use Rattle.java_properties.specs.PropertiesWriter.{Writing, Flushes, HasFlushedSink, RefusesFlush, FailsInFlush}
+use Rattle.java_properties.specs.PropertiesWriter.{Writing, WritesLine, Flushes}
 use Rattle.java_properties.specs.ReadLines.{BeginsItems}
 use Rattle.properties_items.specs.declared.error.PropertiesError.{PropertiesError}
 use Rattle.java_properties.proofs.Readings.{Comes, Collected, collected-start, collected-next, collected-none, collected-malformed, collected-error}
@@ -20,7 +20,7 @@ use Rattle.java_properties.specs.Copying.{HasScalars, WritesIfPair, Copies}
 use Rattle.java_properties.specs.declared.copy.CopyError.{CopyError}
 use Rattle.java_properties.specs.declared.copy.CopyError.TheVariants.{Read, Write}
 use Rattle.java_properties.proofs.StatedItems.{compute-entry, compute-none, compute-error}
-use Rattle.properties_tools.specs.Filter.{pair_writer, HasFiltered, StopsInWriting, Filters}
+use Rattle.properties_tools.specs.Filter.{pair_writer, Filters}
 use Rattle.properties_tools.proofs.Pairs.{HasWrittenPairs, pairs-none, pairs-comment, pairs-more, pairs-live, pairs-fail, pairs-refused, pairs-flushed, pairs-flush, pairs-flush-failed}
 
 -- one item more
@@ -49,14 +49,14 @@ pub record HasPassed {R W : Type 0} (reader : Reader R) (sink : Sink W) (e : Enc
   pub pairs : HasWrittenPairs sink e only output items w
 
 -- before the first item
-pub passed-none : {R W : Type 0} (reader : Reader R) (sink : Sink W) (e : Encoding) (only : Bool) (it : Iteration R) (w : Writing W) → it.state ≡ start e
+passed-none : {R W : Type 0} (reader : Reader R) (sink : Sink W) (e : Encoding) (only : Bool) (it : Iteration R) (w : Writing W) → it.state ≡ start e
     → w ≡ pair_writer e only w.sink → HasPassed reader sink e only it.reader w.sink it w
 passed-none reader sink e only it w fresh new = record {
   items = [];
   whole = tt;
   scalars = tt;
   bytes = [];
-  collected = subst (λ s. Collected reader e it.reader [] [] s it.reader) (sym fresh) (collected-start e it.reader);
+  collected = rw fresh (collected-start e it.reader);
   pairs = subst (λ v. HasWrittenPairs sink e only w.sink [] v) (sym new) (pairs-none sink e only w.sink);
 }
 
@@ -67,12 +67,13 @@ begins {e} {bytes} {items} {s = s} (Comes.going_on g m) =
 begins {e} {bytes} {items} (Comes.at_last d k m) =
     inr (k, ([], subst (IsItems e bytes end) (m ∙ sym (append-nil items)) (items_of-meets e bytes end)))
 
-module _ {R W : Type 0} {reader : Reader R} {sink : Sink W} {e : Encoding} {only : Bool} {input : R} {output : W} {it : Iteration R} {w : Writing W} where
+module _ {R W : Type 0} {reader : Reader R} {sink : Sink W} {e : Encoding} {only : Bool} {input : R} {output : W} {it : Iteration R} {w : Writing W}
+    (h : HasPassed reader sink e only input output it w) where
   -- An item came, and was written if it is a pair.
-  pub passed-more : {next : Iteration R} (new : Writing W) (number : ℕ) (content : Content) → HasPassed reader sink e only input output it w
+  passed-more : {next : Iteration R} (new : Writing W) (number : ℕ) (content : Content)
       → GivesEntry reader it.state it.reader (item number content) next.state next.reader → WritesIfPair sink w content (Ok tt) new
       → HasScalars content → HasPassed reader sink e only input output next new
-  passed-more new number content h n k q = record {
+  passed-more new number content n k q = record {
     items = h.items ++ (item number content ∷ []);
     whole = AreItems-more h.items number content h.whole;
     scalars = scalars-more h.items number content h.scalars q;
@@ -82,76 +83,57 @@ module _ {R W : Type 0} {reader : Reader R} {sink : Sink W} {e : Encoding} {only
   }
     where
       written : (c : Content) → WritesIfPair sink w c (Ok tt) new → HasWrittenPairs sink e only output (h.items ++ (item number c ∷ [])) new
-      written (comment text) k = rw k.1 (pairs-comment number text h.pairs)
-      written (pair key value) k = pairs-more number key value h.pairs k
+      written (comment text) k = rw k.1 (pairs-comment h.pairs number text)
+      written (pair key value) k = pairs-more h.pairs number key value k
 
-module _ {R W : Type 0} {reader : Reader R} {sink : Sink W} {e : Encoding} {only : Bool} {input : R} {output : W} {it : Iteration R} {w : Writing W} {to : R} where
   -- reading stopped, and the sink was flushed
-  pub stops-reading : {error : PropertiesError} (new : Writing W) (flush : Result Unit PropertiesError) → HasPassed reader sink e only input output it w
+  pub stops-reading : {to : R} {error : PropertiesError} (new : Writing W) (flush : Result Unit PropertiesError)
       → it.state.is_done ≡ false → GivesMalformed reader it.state it.reader error to ⊎ GivesError reader it.state it.reader error to
       → Flushes sink w flush new → Filters reader sink e only input output (Err error) to new.sink
-  stops-reading new flush h live k f = (
+  stops-reading new flush live k f = (
     h.items,
     record {
       scalars = h.scalars;
       stops = inl (record {
         whole = h.whole;
         stops = elim k [ inl m ↦ inl (collected-malformed h.collected live m) | inr j ↦ inr (collected-error h.collected live j) ];
-        written = pairs-flush new flush h.pairs f;
+        written = pairs-flush h.pairs new flush f;
       });
     },
   )
 
-module _ {R W : Type 0} {reader : Reader R} {sink : Sink W} {e : Encoding} {only : Bool} {input : R} {output : W} {it : Iteration R} {w : Writing W} {after : ReaderState} {to : R} where
   -- A pair came, and was not written.
-  stops-writing : {error : PropertiesError} (new : Writing W) (number : ℕ) (content : Content) → HasPassed reader sink e only input output it w
-      → GivesEntry reader it.state it.reader (item number content) after to → WritesIfPair sink w content (Err error) new
+  stops-writing : {after : ReaderState} {to : R} {error : PropertiesError} (new : Writing W) (number : ℕ) (key value : List ℕ)
+      → GivesEntry reader it.state it.reader (item number (pair key value)) after to → WritesLine sink w (pair key value) (Err error) new
       → Filters reader sink e only input output (Err error) to new.sink
-  stops-writing {error = error} new number content h n k = (h.items, record { scalars = h.scalars; stops = inr (inl (by-content content (begins came.comes) k)) })
-    where
-      came : Collected reader e input (h.bytes ++ n.bytes) (h.items ++ (item number content ∷ [])) after to
-      came = collected-next h.collected n
+  stops-writing new number key value n k =
+      let came = collected-next h.collected n in (
+        h.items,
+        record {
+          scalars = h.scalars;
+          stops = inr (inl (record {
+            number = number;
+            key = key;
+            value = value;
+            whole = h.whole;
+            bytes = h.bytes ++ n.bytes;
+            read = came.read;
+            begins = begins came.comes;
+            fails = elim k [ inl refused ↦ inr (pairs-refused h.pairs key value refused) | inr failed ↦ inl (pairs-fail h.pairs key value failed) ];
+          }));
+        },
+      )
 
-      by-content : (c : Content) → BeginsItems e (h.bytes ++ n.bytes) (h.items ++ (item number c ∷ [])) (reader.at_end to)
-          → WritesIfPair sink w c (Err error) new
-          → StopsInWriting reader sink e only input output h.items error to new.sink
-      by-content (comment text) b k = absurd (let same = k.0 in cc)
-      by-content (pair key value) b k = record {
-        number = number;
-        key = key;
-        value = value;
-        whole = h.whole;
-        bytes = h.bytes ++ n.bytes;
-        read = came.read;
-        begins = b;
-        fails = elim k [ inl refused ↦ inr (pairs-refused key value h.pairs refused) | inr failed ↦ inl (pairs-fail key value h.pairs failed) ];
-      }
-
-  -- no item came any more, and the sink was flushed
-  filtered : {new : Writing W} → HasPassed reader sink e only input output it w → GivesNone reader it.state it.reader after to
-      → HasFlushedSink sink w new → HasFiltered reader sink e only input output to new.sink
-  filtered h n f =
+  -- no item came any more, and the sink was flushed, or its flush failed
+  pub returns : {after : ReaderState} {to : R} (new : Writing W) (result : Result Unit PropertiesError)
+      → GivesNone reader it.state it.reader after to → Flushes sink w result new → Filters reader sink e only input output result to new.sink
+  returns new (Ok done) n f =
       let k = pairs-flushed h.pairs f in
       record { items = h.items; whole = h.whole; scalars = h.scalars; reads = collected-none h.collected n; written = k.0; flushed = k.1 }
-
-  -- or the flush failed
-  stops-flush : {error : PropertiesError} (new : Writing W) → HasPassed reader sink e only input output it w
-      → GivesNone reader it.state it.reader after to → RefusesFlush w error new ⊎ FailsInFlush sink w error new → Filters reader sink e only input output (Err error) to new.sink
-  stops-flush new h n (inl k) = absurd (let live = pairs-live h.pairs in let failed = k.failed in cc)
-  stops-flush new h n (inr k) = (
-    h.items,
-    record {
-      scalars = h.scalars;
-      stops = inr (inr (record { whole = h.whole; reads = collected-none h.collected n; fails = pairs-flush-failed h.pairs k }));
-    },
-  )
-
-  -- what is returned where no item comes any more
-  pub returns : (new : Writing W) (result : Result Unit PropertiesError) → HasPassed reader sink e only input output it w
-      → GivesNone reader it.state it.reader after to → Flushes sink w result new
-      → Filters reader sink e only input output result to new.sink
-  returns new (Ok done) h n f = filtered h n f
-  returns new (Err error) h n f = stops-flush new h n f
+  returns new (Err error) n (inl k) = absurd (let live = pairs-live h.pairs in let failed = k.failed in cc)
+  returns new (Err error) n (inr k) =
+      let stops = inr (inr (record { whole = h.whole; reads = collected-none h.collected n; fails = pairs-flush-failed h.pairs k })) in
+      (h.items, record { scalars = h.scalars; stops = stops })
 
 -- ---- items that are copied
 
@@ -166,13 +148,18 @@ Stops reader sink e only input output (Err (Write error)) new written = Filters 
 
 module _ {R W : Type 0} {reader : Reader R} {sink : Sink W} {e : Encoding} {only : Bool} {input : R} {output : W} where
   -- Items were copied in turn, up to where copying stopped.
-  pub copied : (it : Iteration R) (w : Writing W) (result : Result Unit CopyError) (new : Iteration R) (written : Writing W) → HasPassed reader sink e only input output it w
+  copied : {it new : Iteration R} {w written : Writing W} {result : Result Unit CopyError} → HasPassed reader sink e only input output it w
       → Copies reader sink it w result new written → Stops reader sink e only input output result new written
-  copied it w result new written h (Copies.goes_on between so_far came rest) =
-      copied between so_far result new written (passed-more so_far came.number came.content h (compute-entry came.gives) came.writes came.scalars) rest
-  copied it w result new written h (Copies.ends is none) =
-      rw is (it, subst (λ v. HasPassed reader sink e only input output it v) (sym none.same) h, compute-none none.gives)
-  copied it w result new written h (Copies.stops_reading error is failed) =
-      rw is (it, subst (λ v. HasPassed reader sink e only input output it v) (sym failed.same) h, failed.live, compute-error failed.why)
-  copied it w result new written h (Copies.stops_writing error is failed) =
-      rw is (stops-writing written failed.number (pair failed.key failed.value) h (compute-entry failed.gives) failed.writes)
+  copied h (Copies.goes_on between so_far came rest) =
+      copied (passed-more h so_far came.number came.content (compute-entry came.gives) came.writes came.scalars) rest
+  copied {it} h (Copies.ends is none) = rw (is, none.same) (it, h, compute-none none.gives)
+  copied {it} h (Copies.stops_reading error is failed) = rw (is, failed.same) (it, h, failed.live, compute-error failed.why)
+  copied {written = written} h (Copies.stops_writing error is failed) =
+      rw is (stops-writing h written failed.number failed.key failed.value (compute-entry failed.gives) failed.writes)
+
+-- from the first item on
+pub copied-all : {R W : Type 0} {reader : Reader R} {sink : Sink W} {e : Encoding} {only : Bool}
+    {it new : Iteration R} {w written : Writing W} {result : Result Unit CopyError}
+    → it.state ≡ start e → w ≡ pair_writer e only w.sink → Copies reader sink it w result new written
+    → Stops reader sink e only it.reader w.sink result new written
+copied-all {reader = reader} {sink} {e} {only} {it} {w = w} fresh new h = copied (passed-none reader sink e only it w fresh new) h

@@ -1,5 +1,5 @@
 -- The lines of a body that are not well-formed UTF-8, found one after another.
-use Rattle.std.proofs.Common.{◌≡◌, ◌≢◌, ℕ, ◌+◌, ◌<◌, Bool, true, false, List, [], ◌∷◌, length}
+use Rattle.std.proofs.Common.{◌≡◌, ◌≢◌, ℕ, ◌+◌, Bool, true, false, List, [], ◌∷◌, length}
 use Rattle.std.proofs.Common.{refl, sym, ap, subst, ◌∙◌, inl, inr, arith}
 use Rattle.std.specs.Prelude.{if◌then◌else◌, Option, Some, None, Result, Ok, Err}
 use Rattle.std.specs.Result.{is_ok, MatchResult}
@@ -149,10 +149,6 @@ found-first body s new (Some number) lines all next =
     let rest = numbers_left body new in
     (rest, (lines (number ∷ rest) (subst (HasIllFormedIn body) next.1 all)).are)
 
--- one line fewer is left
-pub found-fewer : (body : List ℕ) (s new : Scanner) → IsScanning body s → GivesLine s body true new → length (lines_left body new) < length (lines_left body s)
-found-fewer body s new h g = omega (arith, ap length (body-lines_left s new body h.in_body g))
-
 -- ---- a line
 
 -- ASCII is UTF-8
@@ -167,3 +163,5 @@ ok-is_utf8 P Q bytes (Err e) h = elim (cases_Bool (is_utf8 bytes)) [
   | inl k ↦ absurd (h.0 (IsUtf8-from_is_utf8 bytes k))
   | inr k ↦ sym k
 ]
+
+pub ruleset ill_formed = (scanning-start, flags-ascii)

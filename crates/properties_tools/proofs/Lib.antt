@@ -8,9 +8,7 @@ pub mod Borrowed
 pub mod Looked
 pub mod Pairs
 pub mod Prefixes
-pub mod Reports
 pub mod Settled
-pub mod Shown
 pub mod Slices
 pub mod Sound
 pub mod Taking

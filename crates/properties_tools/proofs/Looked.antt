@@ -19,7 +19,9 @@ unbroken (malformed kind n ∷ entries) how number h k = h
 unbroken (read_fault n ∷ entries) how number h k = h
 
 -- So in a sound source a key is looked up unless memory runs out.
-pub looks-up : {Z : Type 0} (e : Encoding) (source key : List ℕ) (result : Result (Option (String Z)) PropertiesError) → TellsValue e source key result → LooksUp e source key result
-looks-up e source key (Ok value) h = h
-looks-up e source key (Err error) (inl k) = λ sound. absurd (unbroken k.first.0 k.how k.number (sound-items e source k.first.0 sound.resolved k.first.1) k.first.2)
-looks-up e source key (Err error) (inr k) = λ sound. k
+pub looks_up : {Z : Type 0} (e : Encoding) (source key : List ℕ) (result : Result (Option (String Z)) PropertiesError)
+    → TellsValue e source key result → LooksUp e source key result
+looks_up e source key (Ok value) h = h
+looks_up e source key (Err error) (inl k) = λ sound.
+    absurd (unbroken k.first.0 k.how k.number (sound-items e source k.first.0 sound.resolved k.first.1) k.first.2)
+looks_up e source key (Err error) (inr k) = λ sound. k

@@ -1,12 +1,12 @@
 -- Pairs that are written one after another.
-use Rattle.std.proofs.Common.{◌≡◌, ◌⊎◌, ◌+◌, ◌^◌, ◌==◌, ◌++◌, ℕ, Bool, true, false, List, [], ◌∷◌}
+use Rattle.std.proofs.Common.{◌≡◌, ◌⊎◌, ◌+◌, ◌^◌, ◌++◌, ℕ, Bool, true, false, List, [], ◌∷◌, length}
 use Rattle.std.proofs.Common.{refl, ap, sym, ◌∙◌, inl, inr, append-nil, add-zero, zero-add, arith}
 use Rattle.std.specs.Prelude.{Result, Ok, Err}
 use Rattle.counted_io.specs.Streams.{Sink, HasWritten}
 use Rattle.counted_io.proofs.Streams.{faulted-more, written-flushed}
-use Rattle.properties_format.specs.Printing.{printed}
-use Rattle.properties_format.specs.Encoding.{Encoding, output_encoding}
+use Rattle.properties_format.specs.Encoding.{Encoding}
 use Rattle.properties_format.specs.Entries.{comment, pair, Entry, item, malformed, read_fault}
+use Rattle.properties_format.specs.Pairs.{Pair, pairs_in, calls_of}
 use Rattle.properties_format.specs.Writing.{pair_call, is_accepted, settings_after, line_count_after}
 use Rattle.java_properties.specs.Calls.{HasMade}
 use Rattle.java_properties.specs.Errors.{kind_of, IsBareError}
@@ -31,21 +31,15 @@ pair-accepted only [] value = refl
 pair-accepted only (c ∷ key) value = refl
 
 -- pairs change no setting
-settings-kept : (only : Bool) (entries : List Entry) → settings_after (settings_with only) (pair_calls entries) ≡ settings_with only
+settings-kept : (only : Bool) (ps : List Pair) → settings_after (settings_with only) (calls_of ps) ≡ settings_with only
 settings-kept only [] = refl
-settings-kept only (item number (comment text) ∷ entries) = settings-kept only entries
-settings-kept only (item number (pair key value) ∷ entries) = settings-kept only entries
-settings-kept only (malformed kind number ∷ entries) = settings-kept only entries
-settings-kept only (read_fault number ∷ entries) = settings-kept only entries
+settings-kept only (p ∷ ps) = settings-kept only ps
 
 -- each pair is one line
-lines-counted : (only : Bool) (n : ℕ) (entries : List Entry) → line_count_after (settings_with only) n (pair_calls entries) ≡ n + pair_count entries
+lines-counted : (only : Bool) (n : ℕ) (ps : List Pair) → line_count_after (settings_with only) n (calls_of ps) ≡ n + length (calls_of ps)
 lines-counted only n [] = sym (add-zero n)
-lines-counted only n (item number (comment text) ∷ entries) = lines-counted only n entries
-lines-counted only n (item number (pair [] value) ∷ entries) = rw (lines-counted only (n + 1) entries) (omega arith)
-lines-counted only n (item number (pair (c ∷ key) value) ∷ entries) = rw (lines-counted only (n + 1) entries) (omega arith)
-lines-counted only n (malformed kind number ∷ entries) = lines-counted only n entries
-lines-counted only n (read_fault number ∷ entries) = lines-counted only n entries
+lines-counted only n (([], value) ∷ ps) = rw (lines-counted only (n + 1) ps) (omega arith)
+lines-counted only n ((c ∷ key, value) ∷ ps) = rw (lines-counted only (n + 1) ps) (omega arith)
 
 -- a pair is refused by want of line numbers or of memory alone
 refused-kind : {W : Type 0} (only : Bool) (w : Writing W) (key value : List ℕ) (k : ErrorKind) → w.failed ≡ false → w.settings ≡ settings_with only
@@ -63,76 +57,72 @@ pub record HasWrittenPairs {W : Type 0} (sink : Sink W) (e : Encoding) (only : B
 bare : {k l : ErrorKind} {error : PropertiesError} → l ≡ k → IsBareError l error → IsBareError k error
 bare same is = record { its_kind = is.its_kind ∙ same; its_line = is.its_line; its_cause = is.its_cause; its_text = is.its_text }
 
-module _ {W : Type 0} {sink : Sink W} {e : Encoding} {only : Bool} {output : W} where
+module _ {W : Type 0} {sink : Sink W} {e : Encoding} {only : Bool} {output : W} {items : List Entry} {w : Writing W}
+    (h : HasWrittenPairs sink e only output items w) where
   -- a comment is not written
-  pub pairs-comment : {items : List Entry} {w : Writing W} (number : ℕ) (text : List ℕ) → HasWrittenPairs sink e only output items w
-      → HasWrittenPairs sink e only output (items ++ (item number (comment text) ∷ [])) w
-  pairs-comment {items = items} number text h = record { made = rw (pair_calls-append, append-nil) h.made }
+  pub pairs-comment : (number : ℕ) (text : List ℕ) → HasWrittenPairs sink e only output (items ++ (item number (comment text) ∷ [])) w
+  pairs-comment number text = record { made = rw (pair_calls-append, append-nil) h.made }
 
   -- a pair is
-  pub pairs-more : {items : List Entry} {w new : Writing W} (number : ℕ) (key value : List ℕ) → HasWrittenPairs sink e only output items w
-      → HasWrittenLine sink w (pair key value) new → HasWrittenPairs sink e only output (items ++ (item number (pair key value) ∷ [])) new
-  pairs-more number key value h k = record { made = rw pair_calls-append (made-more h.made (pair-made key value k)) }
+  pub pairs-more : {new : Writing W} (number : ℕ) (key value : List ℕ) → HasWrittenLine sink w (pair key value) new
+      → HasWrittenPairs sink e only output (items ++ (item number (pair key value) ∷ [])) new
+  pairs-more number key value k = record { made = rw pair_calls-append (made-more h.made (pair-made key value k)) }
 
   -- the bytes that the sink took
-  pub pairs-written : {items : List Entry} {w : Writing W} → HasWrittenPairs sink e only output items w → HasWritten sink output (pair_lines e only items) w.sink
-  pairs-written h = h.made.written
+  pairs-written : HasWritten sink output (pair_lines e only items) w.sink
+  pairs-written = h.made.written
 
   -- the writer has not failed, and is set as at first
-  pub pairs-live : {items : List Entry} {w : Writing W} → HasWrittenPairs sink e only output items w → w.failed ≡ false
-  pairs-live h = ap (λ (v : Writing W). v.failed) h.made.after
+  pub pairs-live : w.failed ≡ false
+  pairs-live = ap (λ (v : Writing W). v.failed) h.made.after
 
-  pub pairs-settings : {items : List Entry} {w : Writing W} → HasWrittenPairs sink e only output items w → w.settings ≡ settings_with only
-  pairs-settings {items = items} h = ap (λ (v : Writing W). v.settings) h.made.after ∙ settings-kept only items
+  pairs-settings : w.settings ≡ settings_with only
+  pairs-settings = ap (λ (v : Writing W). v.settings) h.made.after ∙ settings-kept only (pairs_in items)
 
-  pairs-lines : {items : List Entry} {w : Writing W} → HasWrittenPairs sink e only output items w → w.lines ≡ pair_count items
-  pairs-lines {items = items} h = ap (λ (v : Writing W). v.lines) h.made.after ∙ lines-counted only 0 items ∙ zero-add (pair_count items)
+  pairs-lines : w.lines ≡ pair_count items
+  pairs-lines = ap (λ (v : Writing W). v.lines) h.made.after ∙ lines-counted only 0 (pairs_in items) ∙ zero-add (pair_count items)
 
-  pairs-next : {items : List Entry} {w : Writing W} (key value : List ℕ) → HasWrittenPairs sink e only output items w
-      → next_line w (pair key value) ≡ next_pair_line e only items key value
-  pairs-next {items = items} {w = w} key value h =
-      ap (λ a. printed a w.settings (w.lines == 0) (pair key value)) (ap (λ (v : Writing W). v.encoding) h.made.after)
-      ∙ ap (λ s. printed (output_encoding e) s (w.lines == 0) (pair key value)) (pairs-settings h)
-      ∙ ap (λ n. printed (output_encoding e) (settings_with only) (n == 0) (pair key value)) (pairs-lines h)
+  pairs-next : (key value : List ℕ) → next_line w (pair key value) ≡ next_pair_line e only items key value
+  pairs-next key value = let encoding = ap (λ (v : Writing W). v.encoding) h.made.after in rw (encoding, pairs-settings, pairs-lines) refl
 
   -- a write failed
-  pub pairs-fail : {items : List Entry} {w new : Writing W} {error : PropertiesError} (key value : List ℕ) → HasWrittenPairs sink e only output items w
-      → FailsInLine sink w (pair key value) error new → FailsInPair sink e only output items key value error new.sink
-  pairs-fail key value h k = record {
+  pub pairs-fail : {new : Writing W} {error : PropertiesError} (key value : List ℕ) → FailsInLine sink w (pair key value) error new
+      → FailsInPair sink e only output items key value error new.sink
+  pairs-fail key value k = record {
     part = k.sent.part;
-    begins = rw (pairs-next key value h) at k.sent.begins;
-    faulted = faulted-more (pairs-written h) k.sent.faulted;
+    begins = rw pairs-next at k.sent.begins;
+    faulted = faulted-more pairs-written k.sent.faulted;
     cause = k.cause;
     given = k.sent.given;
-    is = rw (pairs-lines h) at k.is;
+    is = rw pairs-lines at k.is;
   }
 
   -- a pair was refused, and nothing was written
-  pub pairs-refused : {items : List Entry} {w new : Writing W} {error : PropertiesError} (key value : List ℕ) → HasWrittenPairs sink e only output items w
-      → RefusesLine w (pair key value) error new → RefusesPair sink e only output items error new.sink
-  pairs-refused {w = w} {error = error} key value h k = record {
-    written = rw k.same (pairs-written h);
-    is = elim (refused-kind only w key value (kind_of error) (pairs-live h) (pairs-settings h) k.reason) [
+  pub pairs-refused : {new : Writing W} {error : PropertiesError} (key value : List ℕ) → RefusesLine w (pair key value) error new
+      → RefusesPair sink e only output items error new.sink
+  pairs-refused {error = error} key value k = record {
+    written = rw k.same pairs-written;
+    is = elim (refused-kind only w key value (kind_of error) pairs-live pairs-settings k.reason) [
       | inl is ↦ inl (bare is k.is)
-      | inr is ↦ inr (bare is.0 k.is, ap (λ n. n + 1) (sym (pairs-lines h)) ∙ is.1)
+      | inr is ↦ inr (bare is.0 k.is, ap (λ n. n + 1) (sym pairs-lines) ∙ is.1)
     ];
   }
 
   -- the flush after the last pair
-  pub pairs-flushed : {items : List Entry} {w new : Writing W} → HasWrittenPairs sink e only output items w → HasFlushedSink sink w new
+  pub pairs-flushed : {new : Writing W} → HasFlushedSink sink w new
       → HasWritten sink output (pair_lines e only items) new.sink × (sink.is_flushed new.sink ≡ true)
-  pairs-flushed h k = (written-flushed (pairs-written h) k.flushed, k.flushed.flushed)
+  pairs-flushed k = (written-flushed pairs-written k.flushed, k.flushed.flushed)
 
-  pub pairs-flush-failed : {items : List Entry} {w new : Writing W} {error : PropertiesError} → HasWrittenPairs sink e only output items w
-      → FailsInFlush sink w error new → FailsAfterPairs sink e only output items error new.sink
-  pairs-flush-failed {w = w} h k = record { middle = w.sink; written = pairs-written h; source = k.cause; flushed = k.flushed; is = k.is }
+  pub pairs-flush-failed : {new : Writing W} {error : PropertiesError} → FailsInFlush sink w error new
+      → FailsAfterPairs sink e only output items error new.sink
+  pairs-flush-failed k = record { middle = w.sink; written = pairs-written; source = k.cause; flushed = k.flushed; is = k.is }
 
   -- a flush whose result is dropped
-  pub pairs-flush : {items : List Entry} {w : Writing W} (new : Writing W) (result : Result Unit PropertiesError) → HasWrittenPairs sink e only output items w
-      → Flushes sink w result new → TakesAndFlushes sink output (pair_lines e only items) new.sink
-  pairs-flush new (Ok done) h k = inl (pairs-flushed h k)
-  pairs-flush new (Err error) h (inl k) = absurd (let live = pairs-live h in let failed = k.failed in cc)
-  pairs-flush {w = w} new (Err error) h (inr k) = inr (w.sink, pairs-written h, (k.cause, k.flushed))
+  pub pairs-flush : (new : Writing W) (result : Result Unit PropertiesError) → Flushes sink w result new
+      → TakesAndFlushes sink output (pair_lines e only items) new.sink
+  pairs-flush new (Ok done) k = inl (pairs-flushed k)
+  pairs-flush new (Err error) (inl k) = absurd (let live = pairs-live in let failed = k.failed in cc)
+  pairs-flush new (Err error) (inr k) = inr (w.sink, pairs-written, (k.cause, k.flushed))
 
 -- before the first pair
 pub pairs-none : {W : Type 0} (sink : Sink W) (e : Encoding) (only : Bool) (output : W) → HasWrittenPairs sink e only output [] (pair_writer e only output)

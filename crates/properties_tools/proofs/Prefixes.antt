@@ -1,11 +1,10 @@
 -- A text begins with another exactly if its UTF-8 begins with the other's.
-use Rattle.std.proofs.Common.{◌≡◌, ℕ, List, [], ◌∷◌, ◌++◌, refl, ap, ◌∙◌, append_assoc, drop, length, eqb}
+use Rattle.std.proofs.Common.{◌≡◌, ℕ, true, List, [], ◌∷◌, ◌++◌, refl, ap, ◌∙◌, append_assoc, drop, length, eqb}
 use Rattle.std.specs.Prelude.{encode_utf8, encode_utf8_all}
 use Rattle.std.specs.List.{starts_with}
-use Rattle.std.proofs.lemmas.Bool.Decides.{Decides-eqb}
+use Rattle.std.proofs.lemmas.Bool.Decides.{Decides-eqb, same_from_decides}
 use Rattle.std.proofs.lemmas.Slice.Eq.{starts_is}
 use Rattle.std.proofs.lemmas.Str.{cons_from_encodes, encodes-append}
-use Rattle.java_properties.proofs.TextMaps.Values.{together}
 
 front-decoded : (p k t : List ℕ) → encode_utf8_all k ≡ encode_utf8_all p ++ t → (r : List ℕ) × (k ≡ p ++ r)
 front-decoded [] k t h = (k, refl)
@@ -18,6 +17,7 @@ pub starts-encoded : (k p : List ℕ) → starts_with eqb (encode_utf8_all k) (e
 starts-encoded k p =
     let bytes = starts_is Decides-eqb (encode_utf8_all k) (encode_utf8_all p) _ refl in
     let text = starts_is Decides-eqb k p _ refl in
-    together _ _
-    (λ h. let found = front-decoded p k _ (bytes.0 h) in text.1 found.0 found.1)
-    (λ h. bytes.1 (encode_utf8_all (drop (length p) k)) (ap encode_utf8_all (text.0 h) ∙ encodes-append p (drop (length p) k)))
+    same_from_decides {P = starts_with eqb k p ≡ true} _ _ (
+      (λ h. let found = front-decoded p k _ (bytes.0 h) in text.1 found.0 found.1),
+      (λ h. bytes.1 (encode_utf8_all (drop (length p) k)) (ap encode_utf8_all (text.0 h) ∙ encodes-append p (drop (length p) k))),
+    ) ((λ h. h), (λ h. h))

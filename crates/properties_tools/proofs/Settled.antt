@@ -1,7 +1,7 @@
 -- What filtering wrote is read back, and filtering it changes nothing.
-use Rattle.std.proofs.Common.{◌≡◌, ℕ, false, List, [], refl, ap, ◌∙◌, inl, inr, subst, append-nil}
+use Rattle.std.proofs.Common.{◌≡◌, ◌++◌, ℕ, Bool, false, List, [], refl, ◌∙◌, inl, inr, subst, append-nil}
 use Rattle.std.specs.Prelude.{◌⊎◌, Result, Ok, Err}
-use Rattle.counted_io.specs.Streams.{Reader, Sink, HasWritten, HasFaulted}
+use Rattle.counted_io.specs.Streams.{Reader, Sink, HasWritten, HasFaulted, IsProperPrefix}
 use Rattle.counted_io.proofs.Streams.{written-failed_flush}
 use Rattle.properties_format.specs.Encoding.{Encoding, output_encoding}
 use Rattle.properties_format.specs.Entries.{Entry}
@@ -9,67 +9,63 @@ use Rattle.properties_format.specs.Lines.{end}
 use Rattle.properties_format.specs.Items.{IsItems}
 use Rattle.properties_format.specs.Computed.Items.{items_of}
 use Rattle.properties_format.specs.Settings.{default_settings}
-use Rattle.properties_format.specs.Writing.{wrote}
-use Rattle.properties_format.specs.Pairs.{pairs_in, calls_of, items_after, ArePairsOfScalars}
+use Rattle.properties_format.specs.Pairs.{pairs_in, items_after, ArePairsOfScalars}
 use Rattle.properties_format.proofs.Items.Unique.{items_of-meets, items_of-only}
 use Rattle.properties_format.proofs.ReadBack.Law.{default_settings-good, output_encoding-own}
 use Rattle.properties_format.proofs.ReadBack.Lists.{items_of-pairs, pairs_in-items}
 use Rattle.properties_items.specs.declared.error.PropertiesError.{PropertiesError}
 use Rattle.java_properties.proofs.TextMaps.ReadBack.{pairs-accepted}
-use Rattle.properties_tools.specs.Filter.{pair_lines, TakesAndFlushes, FailsInPair, FailsAfterPairs, RefusesPair, StopsInReading, StopsInWriting, StopsInFlush, TakesLines, Filters, Settles}
+use Rattle.properties_tools.specs.Filter.{pair_lines, next_pair_line, StopsInReading, StopsInWriting, StopsInFlush, Filters, Settles}
 
--- the lines of pairs of scalar values are read back as these pairs
-lines-read : (e : Encoding) (items : List Entry) → ArePairsOfScalars (pairs_in items) → items_of (output_encoding e) (pair_lines e false items) end ≡ items_after 0 (pairs_in items)
-lines-read e items scalars = items_of-pairs (output_encoding e) default_settings (output_encoding-own e) default_settings-good (pairs_in items) (pairs-accepted (pairs_in items)) scalars
+module _ (e : Encoding) (items : List Entry) where
+  -- filtering the lines of pairs writes the same
+  lines-same : pair_lines (output_encoding e) false (items_after 0 (pairs_in items)) ≡ pair_lines e false items
+  lines-same = rw (output_encoding-own, pairs_in-items) refl
 
-lines-back : (e : Encoding) (items : List Entry) → ArePairsOfScalars (pairs_in items) → IsItems (output_encoding e) (pair_lines e false items) end (items_after 0 (pairs_in items))
-lines-back e items scalars = subst (IsItems (output_encoding e) (pair_lines e false items) end) (lines-read e items scalars) (items_of-meets (output_encoding e) (pair_lines e false items) end)
+  module _ (scalars : ArePairsOfScalars (pairs_in items)) where
+    -- the lines of pairs of scalar values are read back as these pairs
+    lines-read : items_of (output_encoding e) (pair_lines e false items) end ≡ items_after 0 (pairs_in items)
+    lines-read = items_of-pairs (output_encoding e) default_settings (output_encoding-own e) default_settings-good
+        (pairs_in items) (pairs-accepted (pairs_in items)) scalars
 
--- and as nothing else
-lines-only : (e : Encoding) (items : List Entry) → ArePairsOfScalars (pairs_in items) → (others : List Entry)
-    → IsItems (output_encoding e) (pair_lines e false items) end others → others ≡ items_after 0 (pairs_in items)
-lines-only e items scalars others is = items_of-only (output_encoding e) (pair_lines e false items) end others is ∙ lines-read e items scalars
+    lines-back : IsItems (output_encoding e) (pair_lines e false items) end (items_after 0 (pairs_in items))
+    lines-back = subst (IsItems (output_encoding e) (pair_lines e false items) end) lines-read
+        (items_of-meets (output_encoding e) (pair_lines e false items) end)
 
--- and filtering them writes the same
-lines-same : (e : Encoding) (items : List Entry) → pair_lines (output_encoding e) false (items_after 0 (pairs_in items)) ≡ pair_lines e false items
-lines-same e items =
-    ap (λ v. wrote v default_settings 0 (calls_of (pairs_in (items_after 0 (pairs_in items))))) (output_encoding-own e)
-    ∙ ap (λ v. wrote (output_encoding e) default_settings 0 (calls_of v)) (pairs_in-items 0 (pairs_in items))
+    -- and as nothing else
+    lines-only : (others : List Entry) → IsItems (output_encoding e) (pair_lines e false items) end others → others ≡ items_after 0 (pairs_in items)
+    lines-only others is = items_of-only (output_encoding e) (pair_lines e false items) end others is ∙ lines-read
 
 -- ---- what the sink took
 
-module _ {W : Type 0} {sink : Sink W} (e : Encoding) (items : List Entry) {old new : W} where
-  -- the lines, and no more
-  whole : HasWritten sink old (pair_lines e false items) new ⊎ HasFaulted sink old (pair_lines e false items) new → TakesLines sink e items old new
+-- the lines of the pairs, and then at most a part of one line more
+pub record Took {W : Type 0} (sink : Sink W) (e : Encoding) (only : Bool) (items : List Entry) (old new : W) : Type 0 where
+  pub part : List ℕ
+  pub begins : (part ≡ []) ⊎ ((key : List ℕ) × (value : List ℕ) × IsProperPrefix part (next_pair_line e only items key value))
+  pub taken : HasWritten sink old (pair_lines e only items ++ part) new ⊎ HasFaulted sink old (pair_lines e only items ++ part) new
+
+module _ {W : Type 0} {sink : Sink W} {e : Encoding} {only : Bool} {items : List Entry} {old new : W} where
+  -- no more than the lines
+  whole : HasWritten sink old (pair_lines e only items) new ⊎ HasFaulted sink old (pair_lines e only items) new → Took sink e only items old new
   whole h = record { part = []; begins = inl refl; taken = rw append-nil h }
 
-  flushed : TakesAndFlushes sink old (pair_lines e false items) new → TakesLines sink e items old new
-  flushed (inl h) = whole (inl h.0)
-  flushed (inr h) = whole (inr (written-failed_flush h.1 h.2.1))
-
-  -- a write failed within a line
-  in-line : {key value : List ℕ} {error : PropertiesError} → FailsInPair sink e false old items key value error new → TakesLines sink e items old new
-  in-line {key = key} {value = value} h = record { part = h.part; begins = inr (key, value, h.begins); taken = inr h.faulted }
-
-  refused : {error : PropertiesError} → RefusesPair sink e false old items error new → TakesLines sink e items old new
-  refused h = whole (inl h.written)
-
-  after : {error : PropertiesError} → FailsAfterPairs sink e false old items error new → TakesLines sink e items old new
-  after h = whole (inr (written-failed_flush h.written h.flushed))
-
--- however filtering stopped
-taken-before : {R W : Type 0} (reader : Reader R) (sink : Sink W) (e : Encoding) (input input' : R) (output output' : W) (items : List Entry) (error : PropertiesError)
-    → StopsInReading reader sink e false input output items error input' output'
-    ⊎ (StopsInWriting reader sink e false input output items error input' output' ⊎ StopsInFlush reader sink e false input output items error input' output')
-    → TakesLines sink e items output output'
-taken-before reader sink e input input' output output' items error (inl h) = flushed e items h.written
-taken-before reader sink e input input' output output' items error (inr (inl h)) = elim h.fails [ inl k ↦ in-line e items k | inr k ↦ refused e items k ]
-taken-before reader sink e input input' output output' items error (inr (inr h)) = after e items h.fails
+  -- however filtering stopped
+  pub took : {R : Type 0} {reader : Reader R} {input input' : R} {error : PropertiesError}
+      → StopsInReading reader sink e only input old items error input' new
+      ⊎ (StopsInWriting reader sink e only input old items error input' new ⊎ StopsInFlush reader sink e only input old items error input' new)
+      → Took sink e only items old new
+  took (inl h) = elim h.written [ inl k ↦ whole (inl k.0) | inr k ↦ whole (inr (written-failed_flush k.1 k.2.1)) ]
+  took (inr (inl h)) = elim h.fails [
+    | inl k ↦ record { part = k.part; begins = inr (h.key, h.value, k.begins); taken = inr k.faulted }
+    | inr k ↦ whole (inl k.written)
+  ]
+  took (inr (inr h)) = whole (inr (written-failed_flush h.fails.written h.fails.flushed))
 
 -- What filtering says of its output.
-pub filters-settles : {R W : Type 0} (reader : Reader R) (sink : Sink W) (e : Encoding) (input input' : R) (output output' : W) (result : Result Unit PropertiesError)
-    → Filters reader sink e false input output result input' output' → Settles reader sink e input output result input' output'
-filters-settles reader sink e input input' output output' (Ok done) h = record {
+pub filters_settles : {R W : Type 0} (reader : Reader R) (sink : Sink W) (e : Encoding) (input input' : R) (output output' : W)
+    (result : Result Unit PropertiesError) → Filters reader sink e false input output result input' output'
+    → Settles reader sink e input output result input' output'
+filters_settles reader sink e input input' output output' (Ok done) h = record {
   items = h.items;
   reads = h.reads;
   bytes = pair_lines e false h.items;
@@ -78,10 +74,10 @@ filters-settles reader sink e input input' output output' (Ok done) h = record {
   only = lines-only e h.items h.scalars;
   same = lines-same e h.items;
 }
-filters-settles reader sink e input input' output output' (Err error) h = record {
+filters_settles reader sink e input input' output output' (Err error) h = record {
   items = h.0;
   stops = h.1;
-  takes = taken-before reader sink e input input' output output' h.0 error h.1.stops;
+  takes = let t = took h.1.stops in record { part = t.part; begins = t.begins; taken = t.taken };
   back = lines-back e h.0 h.1.scalars;
   only = lines-only e h.0 h.1.scalars;
   same = lines-same e h.0;

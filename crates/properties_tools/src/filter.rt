@@ -24,6 +24,7 @@ use std::alloc::Global;
 /// filter(alloc, &mut input, &mut output, Encoding::WINDOWS_1252)?;
 /// // The sink holds `b=2` and `a=`, each ended by a line feed.
 /// ```
+#[tactic(auto, using(crate::proofs::Settled::filters_settles))]
 pub fn filter<R: CountedRead, W: CountedWrite>(
     alloc: Global,
     input: &mut R,
@@ -50,6 +51,7 @@ pub fn filter<R: CountedRead, W: CountedWrite>(
 /// filter_ascii(alloc, &mut input, &mut output, Encoding::WINDOWS_1252)?;
 /// // The sink holds `a=caf\u00e9` and a line feed.
 /// ```
+#[tactic(auto, using(crate::proofs::AsciiOnly::filters_ascii))]
 pub fn filter_ascii<R: CountedRead, W: CountedWrite>(
     alloc: Global,
     input: &mut R,

@@ -43,6 +43,7 @@ pub fn get(
 }
 
 // Returns the last value of a key, if a pair has it.
+#[tactic(auto, using(crate::proofs::Looked::looks_up))]
 fn look_up(
     alloc: Global,
     source: &[u8],

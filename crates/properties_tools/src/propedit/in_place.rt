@@ -87,6 +87,7 @@ fn print_replace_error<E: CountedWrite>(
 }
 
 // Returns the line to print.
+#[tactic(auto, using(crate::proofs::Failing::plain_line))]
 fn problem_line(alloc: Global, path: &str, error: &ReplaceError) -> Result<String, AllocError>
     ensures { IfOk result (λ line. IsProblemLine path.now error.now (string_bytes line)) }
 {

@@ -18,6 +18,7 @@ use std::alloc::Global;
 /// ```text
 /// let numbers = ill_formed_lines(alloc, b"a=1\nb=caf\xe9\n", Encoding::UTF_8)?; // line 2
 /// ```
+#[tactic(auto, using(crate::proofs::IllFormed::ill_formed))]
 pub fn ill_formed_lines(
     alloc: Global,
     source: &[u8],
@@ -35,6 +36,7 @@ pub fn ill_formed_lines(
 }
 
 /// Returns the first of these numbers, if there is one.
+#[tactic(auto, using(crate::proofs::IllFormed::ill_formed))]
 pub(crate) fn first_ill_formed_line(source: &[u8], encoding: Encoding) -> Option<usize>
     ensures { FindsFirstIllFormed (encoding_of encoding) source.now result }
 {
@@ -73,6 +75,7 @@ fn next_ill_formed(scanner: &mut Scanner, body: &[u8]) -> Option<usize>
     }
 }
 
+#[tactic(auto, using(crate::proofs::IllFormed::ill_formed))]
 fn is_well_formed(body: &[u8], line: &RawLine) -> bool
     requires { IsFound body.now line.now }
     ensures { result ≡ is_utf8 (bytes_of body.now line.now) }

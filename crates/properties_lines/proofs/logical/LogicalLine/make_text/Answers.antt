@@ -8,12 +8,6 @@ use Rattle.properties_lines.specs.LogicalLine.{bytes_with, IsTextOf}
 use Rattle.properties_lines.proofs.LineTexts.{ascii-text, decoded-text, not-utf_8}
 use Rattle.properties_lines.proofs.logical.LogicalLine.make_text.Goals as goal
 
-pub undecoded-line-requires : goal.undecoded-line-requires
-undecoded-line-requires c = λ decoded.
-    let windows = not-utf_8 c.args.self.now.encoding c.if-eq.ensures in
-    let utf_8 = c.requires.sound decoded in
-    absurd (cc)
-
 pub returns-then-is_some-clause-text : goal.returns-then-is_some-clause-text
 returns-then-is_some-clause-text c =
     let line = c.args.self.now in

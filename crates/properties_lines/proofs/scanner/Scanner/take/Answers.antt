@@ -1,16 +1,10 @@
+use Rattle.std.proofs.Common.{rules}
 use Rattle.properties_lines.proofs.ScannerSearch.{IsTaken, takes-lf, takes-cr}
 use Rattle.properties_lines.proofs.scanner.Scanner.take.Goals as goal
 use Rattle.properties_lines.proofs.scanner.Scanner.take.Goals.{Start}
 
 taken : (c : Start) → IsTaken c.args.self.now c.args.held.now c.args.end c.args.unit c.args.is_ascii c.args.has_backslash
-taken c = record {
-  ready = c.requires.ready;
-  nothing = c.requires.nothing;
-  found = c.requires.found;
-  size = c.requires.unit;
-  ascii = c.requires.ascii;
-  backslash = c.requires.backslash;
-}
+taken c = search rules
 
 pub returns-then-end : goal.returns-then-end
 returns-then-end c =

@@ -3,12 +3,6 @@ use Rattle.properties_text.specs.Encoding.{encoding_of}
 use Rattle.properties_tools.proofs.IllFormed.{scanning-start, found-first}
 use Rattle.properties_tools.proofs.propedit.lines.first_ill_formed_line.Goals as goal
 
-pub next_ill_formed-requires : goal.next_ill_formed-requires
-next_ill_formed-requires c =
-    let body = c.utf_8_body.result.now in
-    let at = c.in_body-scanner.ensures in
-    (scanning-start body c.in_body-scanner.result (ap encoding_of at.encoding) (at.fits body) at.place (at.state body)).0
-
 pub returns : goal.returns
 returns c =
     let body = c.utf_8_body.result.now in

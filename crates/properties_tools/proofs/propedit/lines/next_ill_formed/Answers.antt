@@ -1,8 +1,9 @@
-use Rattle.std.proofs.Common.{◌≡◌, ◌∷◌, true, false, sym, ap, ◌∙◌}
+use Rattle.std.proofs.Common.{◌≡◌, ◌∷◌, true, false, length, sym, ap, ◌∙◌, arith}
 use Rattle.std.specs.Str.{is_utf8}
 use Rattle.properties_lines.specs.Scanner.{bytes_of}
 use Rattle.properties_tools.specs.Private.IllFormed.{numbers_left}
-use Rattle.properties_tools.proofs.IllFormed.{found-scanning, found-numbers, found-fewer}
+use Rattle.properties_lines.proofs.HeldLines.{body-lines_left}
+use Rattle.properties_tools.proofs.IllFormed.{found-scanning, found-numbers}
 use Rattle.properties_tools.proofs.propedit.lines.next_ill_formed.Goals as goal
 
 pub returns-then-not-is_well_formed : goal.returns-then-not-is_well_formed
@@ -18,7 +19,9 @@ returns-then-not-is_well_formed c =
     )
 
 pub loop-scanner-smaller : goal.loop-scanner-smaller
-loop-scanner-smaller c = found-fewer c.args.body.now c.loop-scanner.scanner c.next.new.self c.loop-scanner.invariant.scanning c.in-Line.ensures
+loop-scanner-smaller c =
+    let scanning = c.loop-scanner.invariant.scanning in
+    omega (arith, ap length (body-lines_left c.loop-scanner.scanner c.next.new.self c.args.body.now scanning.in_body c.in-Line.ensures))
 
 pub loop-scanner-preserved : goal.loop-scanner-preserved
 loop-scanner-preserved c =
