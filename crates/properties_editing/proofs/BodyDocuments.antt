@@ -1,6 +1,6 @@
 -- What the calls of a document come to.
 use Rattle.std.proofs.Common.{◌≡◌, ℕ, ◌+◌, Bool, true, false, List, [], ◌∷◌, ◌++◌, length, take, drop, refl, ap, ap₂, sym, ◌∙◌, subst, length-append, arith}
-use Rattle.std.specs.Prelude.{Option, Some, None, Result, Ok, Err, IfOk, OnOk}
+use Rattle.std.specs.Prelude.{bytes_eq, if◌then◌else◌, Option, Some, None, Result, Ok, Err, IfOk, OnOk}
 use Rattle.std.specs.Borrow.{Bor}
 use Rattle.std.specs.Global.{Vec}
 use Rattle.std.specs.List.{cons_option}
@@ -12,34 +12,37 @@ use Rattle.properties_format.specs.Lines.{end}
 use Rattle.properties_format.specs.Entries.{comment, pair, AreItems}
 use Rattle.properties_format.specs.Items.{IsItems, Outcome, ignored, given, broken}
 use Rattle.properties_format.specs.Maps.{IsValue}
-use Rattle.properties_format.specs.Body.{HeldLine}
+use Rattle.properties_format.specs.Body.{HeldLine, group_bytes}
 use Rattle.properties_format.specs.Edited.{bom_of, is_editable}
 use Rattle.properties_format.specs.Edits.{put, remove, set_value}
 use Rattle.properties_format.specs.Computed.Body.{entries_in, held_groups_of}
 use Rattle.properties_format.specs.Computed.Edited.{IsSound, AreSound}
 use Rattle.properties_format.specs.Computed.Items.{followed, items_of}
+use Rattle.properties_format.specs.Computed.Maps.{first_value, value_in}
 use Rattle.properties_format.specs.Computed.Parts.{outcome_key}
 use Rattle.properties_format.proofs.Body.Numbers.{items_of-groups}
 use Rattle.properties_format.proofs.Edited.ByteOrderMarks.{key_set-in_force, key_removed-in_force}
 use Rattle.properties_format.proofs.Items.Unique.{items_of-meets}
 use Rattle.properties_format.proofs.Keys.{are-keys, pair_keys}
+use Rattle.properties_format.proofs.Maps.{first-none, value_in-meets}
 use Rattle.properties_format.proofs.Valued.Marks.{value_set-in_force}
 use Rattle.properties_lines.specs.LineSearch.{unit_size}
 use Rattle.properties_text.specs.Encoding.{encoding_of}
 use Rattle.properties_editing.specs.Private.BodyDocuments.{IsDocument, open_document}
-use Rattle.properties_editing.specs.Private.BodyIndex.{IsIndex, MakesEdit, PutsPair, PutsValue, RemovesPairs, outcome, stored_at, stored_value}
+use Rattle.properties_editing.specs.Private.BodyIndex.{IsIndex, MakesEdit, PairAt, PutsPair, PutsValue, RemovesPairs, last_value, outcome, paired, pairs_from, span_of, stored_at, stored_value}
 use Rattle.properties_editing.specs.Private.BodyIndex.Keys.{IndexesSome, TellsKeys, group_keys}
 use Rattle.properties_editing.specs.Documents.{OpenDocument, HasValueAt, HasKeysInOrder, ChecksHasKey, PutsInto, SetsValueIn, RemovesFrom, characters_of}
 use Rattle.properties_editing.specs.Editing.{AreMade, HasValueSet, IsRemoved, IsSet}
+use Rattle.properties_items.specs.FoundItems.{outcome_pair}
 use Rattle.properties_items.specs.Texts.{characters}
 use Rattle.properties_editing.specs.Private.Sources.{IsInForce}
 use Rattle.properties_editing.specs.declared.edit.document.Document.TheInside.{Inside}
 use Rattle.properties_editing.specs.declared.edit.index.Index.{Index}
+use Rattle.properties_editing.specs.declared.edit.find.BodySpan.{BodySpan}
 use Rattle.properties_editing.specs.declared.edit.source.BodyStart.{BodyStart}
 use Rattle.properties_editing.proofs.Editing.{bom-front, editable, result-made}
 use Rattle.properties_editing.proofs.EditsInTurn.{made-edits}
 use Rattle.properties_editing.proofs.IndexParsed.{kept-index}
-use Rattle.properties_editing.proofs.IndexValues.{map-values}
 
 -- ---- a source after an edit
 
@@ -84,6 +87,20 @@ editable-unit utf_16be h = absurd (cc)
 
 -- ---- what a document tells
 
+-- The value of a key among the entries of groups is that among their pairs.
+value-entries : (n m : ℕ) (gs : List (List HeldLine)) (key : List ℕ) → AreSound gs → value_in (entries_in n gs) key ≡ last_value key (pairs_from m gs)
+value-entries n m [] key s = refl
+value-entries n m (g ∷ gs) key s =
+    let next = m + length (group_bytes g) in
+    by (span_of m g) (pairs_from next gs) (outcome g) s.0 (value-entries (n + length g) next gs key s.1)
+  where
+    by : (span : BodySpan) (ps : List PairAt) (o : Outcome) → IsSound o → value_in (entries_in (n + length g) gs) key ≡ last_value key ps
+        → value_in (followed n o (entries_in (n + length g) gs)) key ≡ last_value key (cons_option (option_map (paired span) (outcome_pair o)) ps)
+    by span ps ignored s h = h
+    by span ps (given (comment text)) s h = ap (λ r. first_value r None) h ∙ first-none (last_value key ps)
+    by span ps (given (pair k v)) s h = ap (λ r. first_value r (if bytes_eq k key then Some v else None)) h
+    by span ps (broken kind) s h = absurd s
+
 -- The entries of groups without malformed escapes are items.
 items-sound : (n : ℕ) (gs : List (List HeldLine)) → AreSound gs → AreItems (entries_in n gs)
 items-sound n [] s = tt
@@ -112,7 +129,7 @@ has-value d i key value is =
       entries = entries_in 1 gs;
       items = subst (IsItems e source end) (own-items d i) (items_of-meets e source end);
       whole = items-sound 1 gs i.sound;
-      is = subst (IsValue (entries_in 1 gs) key) is (map-values 1 gs (stored_value d.index.pairs.entries) i.sound i.is_index.listed.values key);
+      is = subst (IsValue (entries_in 1 gs) key) (value-entries 1 0 gs key i.sound ∙ sym (i.is_index.listed.are_values key) ∙ is) (value_in-meets (entries_in 1 gs) key);
     }
 
 -- Whether it has one tells whether a pair has the key.
@@ -122,13 +139,7 @@ checks_has_key f d key (Some x) h = (f x, h)
 
 -- Its index is that of a body.
 pub index-some : (d : Inside) → IsDocument d → IndexesSome d.index
-index-some d i =
-    record {
-      encoding = encoding_of d.opened.encoding;
-      body = drop d.opened.start d.source.items;
-      editable = i.editable;
-      is_index = i.is_index;
-    }
+index-some d i = record { groups = _; is_index = i.is_index }
 
 -- The keys of groups are those of their entries.
 entries-keys : (n : ℕ) (gs : List (List HeldLine)) → AreSound gs → pair_keys (entries_in n gs) ≡ group_keys gs
@@ -154,7 +165,7 @@ keys-are d i keys tells =
       entries = entries_in 1 gs;
       items = subst (IsItems e source end) (own-items d i) (items_of-meets e source end);
       whole = items-sound 1 gs i.sound;
-      are = are-keys (entries_in 1 gs) (group_keys gs) (characters_of keys) (entries-keys 1 gs i.sound) (tells f body i.editable i.is_index);
+      are = are-keys (entries_in 1 gs) (group_keys gs) (characters_of keys) (entries-keys 1 gs i.sound) (tells gs i.is_index);
     }
 
 -- where there was memory for them.

@@ -185,7 +185,7 @@ looked-more {e} {body} {key} {s} {t} {found} {group} told h k sound is = record 
   pair = place-after key h.groups k.held group found.pair (unwrap_or told false) h.pair
       (ap (λ v. unwrap_or v false) is ∙ told-with key (outcome_of (chars (text_of body t group))) ∙ ap (λ v. is_pair_with key (outcome_of v)) k.text) (k.starts ∙ h.read.placed)
       k.span.unended;
-  last = last-after h.groups k.held group (is_some told) found.last h.last (subst (λ v. IsSound (outcome_of v)) k.text sound)
+  last = last-after h.groups k.held (record { start = group.start; end = group.end }) (is_some told) found.last h.last (subst (λ v. IsSound (outcome_of v)) k.text sound)
       (ap is_some is ∙ told-pair key (outcome_of (chars (text_of body t group))) ∙ ap (λ v. is_pair (outcome_of v)) k.text) (k.starts ∙ h.read.placed) k.span.unended;
   closing = inr (λ ending. ap (separation_by ending) (final_group-push h.groups k.held)
       ∙ separated ending (is_empty_line k.held) (is_left_open k.held)

@@ -10,7 +10,7 @@ use Rattle.properties_format.specs.Groups.{IsWhole, joined}
 use Rattle.properties_format.specs.Entries as content
 use Rattle.properties_format.specs.Items.{given}
 use Rattle.properties_format.specs.Printing.{encoded_text}
-use Rattle.properties_format.specs.Body.{HeldLine, HasKey, as_lines, groups_bytes, ending_bytes, last_ending}
+use Rattle.properties_format.specs.Body.{HeldLine, as_lines, groups_bytes, ending_bytes, last_ending}
 use Rattle.properties_format.specs.Edited.{bom_of, is_editable, is_empty_line, is_left_open, final_group, edited, pair_bytes}
 use Rattle.properties_format.specs.Valued.{HasPair, value_text}
 use Rattle.properties_format.specs.Computed.Body.{held_groups_of}
@@ -24,7 +24,7 @@ use Rattle.properties_format.proofs.Edited.Replaced.{reput-of}
 use Rattle.properties_format.proofs.Items.Unique.{outcome_of-only}
 use Rattle.properties_format.proofs.InTurn.Merged.{AreInTurn, in-turn}
 use Rattle.properties_text.specs.Encoding.{encoding_of}
-use Rattle.properties_editing.specs.Private.BodyIndex.{FollowsPair, IsIndex, IsPairPut, IsValuePut, KeepsNothing, outcome}
+use Rattle.properties_editing.specs.Private.BodyIndex.{FollowsPair, IsIndex, IsPairPut, IsValuePut, KeepsNothing}
 use Rattle.properties_editing.specs.Private.BodyKeys.{IsPlaceOf, IsKeyFound, closing_of}
 use Rattle.properties_editing.specs.Private.BodyValues.{IsPairAlone, revalued_in}
 use Rattle.properties_editing.specs.Private.Sources.{IsInForce}
@@ -36,6 +36,7 @@ use Rattle.properties_editing.proofs.BodyKeys.{separated}
 use Rattle.properties_editing.proofs.Editing.{bom-front, place-split, replaced-result, result-made, set-edits}
 use Rattle.properties_editing.proofs.SetValues.{alone-value, value-edits, revalued-result, found-alone}
 use Rattle.properties_editing.proofs.IndexChanged.{IsLastTold, changed-index, changed-sound, last-told, whole-closed}
+use Rattle.properties_editing.proofs.IndexFound.{said-of}
 use Rattle.properties_editing.proofs.IndexRevalued.{regrouped}
 use Rattle.properties_editing.proofs.IndexSpans.{size-around}
 
@@ -111,9 +112,6 @@ keeps-nothing groups index h = record { stored = λ k. refl; spans = inl refl; c
 
 -- ---- the source after it
 
-some-value : (key : List ℕ) (g : List HeldLine) → HasKey key g → (was : List ℕ) × (outcome g ≡ given (content.pair key was))
-some-value key g (was, h) = (was, sym (outcome_of-only (joined (as_lines g)) (given (content.pair key was)) h))
-
 -- The group that a pair is in, and the source, after it was replaced.
 module _ (e : Encoding) (opened : BodyStart) (old new key value : List ℕ) (pair : BodySpan) (was is : Index) (v : All scalar value) (h : IsInForce old e opened)
     (ok : is_editable (encoding_of opened.encoding) ≡ true) (sound : AreSound (held_groups_of (encoding_of opened.encoding) (drop opened.start old)))
@@ -153,7 +151,7 @@ module _ (e : Encoding) (opened : BodyStart) (old new key value : List ℕ) (pai
       let new_is : pair.end + length new - length old ≡ length (groups_bytes p.before) + length (unended_bytes group) = omega arith in
       let old_is : pair.end ≡ length (groups_bytes p.before) + length (unended_bytes p.group) = omega arith in
       let fits : length (groups_bytes next) < 2 ^ 64 = omega arith in
-      let was_pair = some-value key p.group m.has in
+      let was_pair = said-of key p.group m.has in
       let is_pair = sym (outcome_of-only (joined (as_lines group)) (given (content.pair key value)) has) in
       let turn = subst (AreInTurn f) at.division (in-turn f body gs ok (held_groups_of-meets f body)) in
       let told : IsLastTold (opened.start + pair.end == length old) p.after =

@@ -53,7 +53,6 @@ use Rattle.properties_format.specs.Computed.Valued.{between_if_pair, between_in,
 use Rattle.properties_editing.specs.Private.BodyIndex.{is_pair, outcome}
 use Rattle.properties_format.proofs.Body.Groups.{groups_bytes-append}
 use Rattle.properties_format.proofs.Valued.Made.{last_between-push}
-use Rattle.properties_editing.specs.declared.edit.groups.Group.{Group}
 use Rattle.properties_editing.specs.declared.edit.find.BodySpan.{BodySpan}
 
 -- ---- what separates key and value, if a line is a pair
@@ -80,10 +79,10 @@ between-some (Logical.pair raw_key raw_value) x some = (between_in x, refl)
 -- ---- the last pair
 
 -- the last pair with one more group after it, which is a pair or not
-pub last-after : (groups : List (List HeldLine)) (g : List HeldLine) (group : Group) (told : Bool) (last : Option BodySpan) → IsLastPair groups last → IsSound (outcome g)
-    → told ≡ is_pair (outcome g) → group.start ≡ length (groups_bytes groups) → group.end ≡ group.start + length (unended_bytes g)
-    → IsLastPair (groups ++ g ∷ []) (if told then Some (record { start = group.start; end = group.end }) else last)
-last-after groups g group true last h sound is starts ends =
+pub last-after : (groups : List (List HeldLine)) (g : List HeldLine) (span : BodySpan) (told : Bool) (last : Option BodySpan) → IsLastPair groups last → IsSound (outcome g)
+    → told ≡ is_pair (outcome g) → span.start ≡ length (groups_bytes groups) → span.end ≡ span.start + length (unended_bytes g)
+    → IsLastPair (groups ++ g ∷ []) (if told then Some span else last)
+last-after groups g span true last h sound is starts ends =
     let x = joined (as_lines g) in
     let b = between-some (split_of x) x (sym is) in
     record {
@@ -97,9 +96,9 @@ last-after groups g group true last h sound is starts ends =
       starts = starts;
       ends = ends;
     }
-last-after groups g group false None h sound is starts ends =
+last-after groups g span false None h sound is starts ends =
     last_between-push groups g ∙ ap₂ or_else (between-none (split_of (joined (as_lines g))) (joined (as_lines g)) sound (sym is)) h
-last-after groups g group false (Some span) h sound is starts ends = record {
+last-after groups g span false (Some earlier) h sound is starts ends = record {
   before = h.before;
   group = h.group;
   after = h.after ++ g ∷ [];

@@ -5,10 +5,10 @@ pub mod NewPairs
 pub mod LastPairs
 pub mod SetValues
 pub mod EditsInTurn
+pub mod IndexListed
 pub mod IndexSpans
 pub mod IndexRevalued
 pub mod IndexEdits
-pub mod IndexValues
 pub mod IndexFound
 pub mod IndexStored
 pub mod IndexParsed
