@@ -19,7 +19,7 @@ use Rattle.properties_format.specs.Computed.Parts.{unended_bytes}
 use Rattle.properties_format.specs.Computed.Edited.{AreSound, without, key_removed, key_removed_in, result_by, result_of, key_set, key_set_in, set_at, set_key_result, remove_key_result, KeyPlace, last_place}
 use Rattle.properties_format.proofs.Body.Groups.{groups_bytes-append, held_groups_of-meets, held-body}
 use Rattle.properties_format.proofs.Body.Numbers.{items_of-groups}
-use Rattle.properties_format.proofs.Edited.ByteOrderMarks.{source-whole}
+use Rattle.properties_format.proofs.Edited.ByteOrderMarks.{key_removed-in_force, key_set-in_force, source-whole}
 use Rattle.properties_format.proofs.Edited.Results.{set_key_result-meets, set_key_result-only, remove_key_result-meets, remove_key_result-only}
 use Rattle.properties_format.proofs.Edited.Steps.{result-after}
 use Rattle.properties_format.proofs.InTurn.Lines.{bytes-unended}
@@ -34,7 +34,9 @@ use Rattle.properties_format.proofs.Changed.Occur.{key_set-keeps, key_removed-ke
 use Rattle.properties_format.proofs.Edited.Pair.{editable-own}
 use Rattle.properties_text.specs.Encoding.{encoding_of}
 use Rattle.properties_editing.specs.Private.BodyKeys.{IsErrorOfGroups, IsPlaceOf, IsPlace, IsKeyFound, AreOthersFound, left_bytes, closing_bytes}
+use Rattle.properties_editing.specs.Private.BodyIndex.{IsIndex, IsKept}
 use Rattle.properties_editing.specs.Private.Sources.{IsInForce}
+use Rattle.properties_editing.specs.declared.edit.index.Index.{Index}
 use Rattle.properties_editing.proofs.BodyGroups.{front-of, no-bytes}
 use Rattle.properties_editing.specs.declared.edit.find.BodySpan.{BodySpan}
 use Rattle.properties_editing.specs.declared.edit.find.PairPlaces.{PairPlaces}
@@ -54,12 +56,30 @@ bom-front {source} {e} {opened} h =
     let n : opened.start ≡ length (bom_of source) = omega arith in
     sym (ap₂ take n whole ∙ front-of (bom_of source) body)
 
+-- a source that is edited is in an encoding that is edited
+pub editable : {source : List ℕ} {e : Encoding} {opened : BodyStart} → IsInForce source e opened → is_editable (encoding_of opened.encoding) ≡ true
+    → is_editable (byte_order_mark e source).encoding ≡ true
+editable h ok = ap (λ v. let w : InForce = v in is_editable w.encoding) h.in_force ∙ ok
+
+-- Bytes that keep the byte order mark are in force as the source is.
+pub again : {e : Encoding} {old : List ℕ} {opened : BodyStart} (new body : List ℕ) → IsInForce old e opened → new ≡ bom_of old ++ body
+    → byte_order_mark e new ≡ record { encoding = (byte_order_mark e old).encoding; body = body } → IsInForce new e opened
+again {e} {old} {opened} new body h whole is =
+    let front : new ≡ take opened.start old ++ body = whole ∙ ap (λ v. v ++ body) (bom-front h) in
+    let size : length (take opened.start old) ≡ opened.start = length-take-le opened.start old h.within in
+    let back : drop opened.start new ≡ body = ap₂ drop (sym size) front ∙ drop-append_seam (take opened.start old) body in
+    let all = ap length front ∙ length-append (take opened.start old) body in
+    record {
+      in_force =
+          is ∙ ap₂ (λ f b. let w : InForce = record { encoding = f; body = b } in w) (ap (λ v. let w : InForce = v in w.encoding) h.in_force) (sym back);
+      within = omega arith;
+    }
+
 -- what is read of a source is what its groups say
 groups-of : {source : List ℕ} {e : Encoding} {opened : BodyStart} (made : List ℕ) → IsInForce source e opened → is_editable (encoding_of opened.encoding) ≡ true
     → result_of e source made ≡ result_by (entries_in 1 (held_groups_of (encoding_of opened.encoding) (drop opened.start source))) made
 groups-of {source} {e} {opened} made h ok =
-    let editable = ap (λ v. let w : InForce = v in is_editable w.encoding) h.in_force ∙ ok in
-    cond-true (is_editable (byte_order_mark e source).encoding) (result_by (items_of e source end) made) unsupported editable
+    cond-true (is_editable (byte_order_mark e source).encoding) (result_by (items_of e source end) made) unsupported (editable h ok)
     ∙ ap (λ v. result_by v made) (items_of-groups e source ∙ ap (λ v. let w : InForce = v in entries_in 1 (held_groups_of w.encoding w.body)) h.in_force)
 
 -- where none of them is malformed it has the result that is made
@@ -73,7 +93,7 @@ result-made {source} {e} {opened} made h ok sound =
 
 not-unsupported : {e : Encoding} {source : List ℕ} {opened : BodyStart} → IsInForce source e opened → is_editable (encoding_of opened.encoding) ≡ true
     → is_editable (byte_order_mark e source).encoding ≡ false → ⊥
-not-unsupported h ok none = let yes = ap (λ v. let w : InForce = v in is_editable w.encoding) h.in_force ∙ ok in absurd (cc)
+not-unsupported h ok none = let yes = editable h ok in absurd (cc)
 
 -- The first fault of the groups is the refusal of their source, and what a `?` returns.
 pub refusal : {A : Type 0} {source : List ℕ} {e : Encoding} {opened : BodyStart} {error : PropertiesError} (result : Result A PropertiesError) (Makes : List ℕ → Type 0) (made : List ℕ)
@@ -103,6 +123,15 @@ set-edits {e} {only} {source} {key} {value} {bytes} k v is =
       keeps = key_set-keeps e only source key value bytes meets.2;
       ascii = λ on. set_key-in_ascii e source key value bytes (subst (λ b. IsSetKeyResult e b source key value (edited bytes)) on meets);
     }
+
+-- So it is of the source and its index.
+pub set-kept : {e : Encoding} {opened : BodyStart} {old key value new : List ℕ} {index : Index} → IsInForce old e opened → is_editable (encoding_of opened.encoding) ≡ true
+    → IsSet e opened.ascii_only old key value new
+    → AreSound (held_groups_of (encoding_of opened.encoding) (drop opened.start new)) × IsIndex (held_groups_of (encoding_of opened.encoding) (drop opened.start new)) index
+    → IsKept (IsSet e opened.ascii_only old key value new) e opened new index
+set-kept {e} {opened} {old} {key} {value} {new} h ok s kept =
+    let k = s.edit.result.2 in
+    record { meant = s; in_force = again new k.body h k.whole (key_set-in_force e opened.ascii_only old key value new (editable h ok) k); sound = kept.0; is_index = kept.1 }
 
 -- ---- the printed pair
 
@@ -293,6 +322,14 @@ removed-edits {e} {source} {key} {bytes} is =
       keeps = key_removed-keeps e source key bytes meets.2;
     }
 
+pub removed-kept : {e : Encoding} {opened : BodyStart} {old key new : List ℕ} {index : Index} → IsInForce old e opened → is_editable (encoding_of opened.encoding) ≡ true
+    → IsRemoved e old key new
+    → AreSound (held_groups_of (encoding_of opened.encoding) (drop opened.start new)) × IsIndex (held_groups_of (encoding_of opened.encoding) (drop opened.start new)) index
+    → IsKept (IsRemoved e old key new) e opened new index
+removed-kept {e} {opened} {old} {key} {new} h ok s kept =
+    let k = s.edit.result.2 in
+    record { meant = s; in_force = again new _ h k.whole (key_removed-in_force e old key new (editable h ok) k); sound = kept.0; is_index = kept.1 }
+
 -- The source with what is left of its body is its result.
 pub removed-bytes : {source : List ℕ} {e : Encoding} {opened : BodyStart} (key bytes : List ℕ) → IsInForce source e opened
     → is_editable (encoding_of opened.encoding) ≡ true → AreSound (held_groups_of (encoding_of opened.encoding) (drop opened.start source))
@@ -326,8 +363,3 @@ edits-scalars (variant.SetValue key value ∷ edits) = ((string-scalars key, str
 pub edits_in-more : (edits : List edit.Edit) (i : ℕ) (d : edit.Edit) → i < length edits
     → edits_in (take (i + 1) edits) ≡ edits_in (take i edits) ++ edit_in (get_or edits i d) ∷ []
 edits_in-more edits i d h = ap edits_in (take_more edits i d h) ∙ map-append edit_in (take i edits) (get_or edits i d ∷ [])
-
--- a source that is edited is in an encoding that is edited
-pub editable : {source : List ℕ} {e : Encoding} {opened : BodyStart} → IsInForce source e opened → is_editable (encoding_of opened.encoding) ≡ true
-    → is_editable (byte_order_mark e source).encoding ≡ true
-editable h ok = ap (λ v. let w : InForce = v in is_editable w.encoding) h.in_force ∙ ok

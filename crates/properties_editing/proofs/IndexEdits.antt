@@ -1,5 +1,5 @@
 -- A value in place, and the index then.
-use Rattle.std.proofs.Common.{◌≡◌, ◌==◌, ◌<◌, ◌≤◌, ℕ, ◌+◌, ◌-◌, ◌^◌, true, false, List, [], ◌∷◌, ◌++◌, All, length, take, drop, refl, ap, ap₂, sym, ◌∙◌, subst, inl, inr, length-append, length-drop, arith}
+use Rattle.std.proofs.Common.{◌≡◌, ◌==◌, ◌<◌, ◌≤◌, ℕ, ◌+◌, ◌-◌, ◌^◌, true, false, List, [], ◌∷◌, ◌++◌, All, length, take, drop, refl, ap, ap₂, sym, ◌∙◌, subst, inl, inr, append_assoc, length-append, length-drop, arith}
 use Rattle.std.specs.Prelude.{Some, None}
 use Rattle.std.proofs.Math.Seq.{drop-append_seam}
 use Rattle.std.proofs.lemmas.Bool.{cases_Bool, cond-true, cond-false}
@@ -24,7 +24,8 @@ use Rattle.properties_format.proofs.Edited.Replaced.{reput-of}
 use Rattle.properties_format.proofs.Items.Unique.{outcome_of-only}
 use Rattle.properties_format.proofs.InTurn.Merged.{AreInTurn, in-turn}
 use Rattle.properties_text.specs.Encoding.{encoding_of}
-use Rattle.properties_editing.specs.Private.BodyIndex.{FollowsPair, IsIndex, IsPairPut, IsValuePut, KeepsNothing}
+use Rattle.properties_editing.specs.Private.BodyIndex.{FollowsPair, IsIndex, IsKept, KeepsNothing}
+use Rattle.properties_editing.specs.Editing.{HasValueSet, IsSet}
 use Rattle.properties_editing.specs.Private.BodyKeys.{IsPlaceOf, IsKeyFound, closing_of}
 use Rattle.properties_editing.specs.Private.BodyValues.{IsPairAlone, revalued_in}
 use Rattle.properties_editing.specs.Private.Sources.{IsInForce}
@@ -33,8 +34,8 @@ use Rattle.properties_editing.specs.declared.edit.find.BodySpan.{BodySpan}
 use Rattle.properties_editing.specs.declared.edit.find.PairPlaces.{PairPlaces}
 use Rattle.properties_editing.specs.declared.edit.source.BodyStart.{BodyStart}
 use Rattle.properties_editing.proofs.BodyKeys.{separated}
-use Rattle.properties_editing.proofs.Editing.{bom-front, place-split, replaced-result, result-made, set-edits}
-use Rattle.properties_editing.proofs.SetValues.{alone-value, value-edits, revalued-result, found-alone}
+use Rattle.properties_editing.proofs.Editing.{bom-front, place-split, replaced-result, result-made, set-edits, set-kept}
+use Rattle.properties_editing.proofs.SetValues.{alone-value, value-edits, value-kept, revalued-result, found-alone}
 use Rattle.properties_editing.proofs.IndexChanged.{IsLastTold, changed-index, changed-sound, last-told, whole-closed}
 use Rattle.properties_editing.proofs.IndexFound.{said-of}
 use Rattle.properties_editing.proofs.IndexRevalued.{regrouped}
@@ -68,43 +69,30 @@ module _ (opened : BodyStart) (old : List ℕ) (ok : is_editable (encoding_of op
   pair-alone = found-alone old key opened pair ok (found-at (encoding_of opened.encoding) (drop opened.start old) key pair sound at) refl
 
   -- A source doesn't get shorter than what is kept of it.
+  pub put-size : (text new : List ℕ) → new ≡ take (opened.start + pair.start) old ++ (text ++ drop (opened.start + pair.end) old) → length old ≤ pair.end + length new
+  put-size text new is =
+      let s = opened.start + pair.start in
+      let t = opened.start + pair.end in
+      let inside = pair-within in
+      let all : length new ≡ length (take s old) + (length text + length (drop t old)) =
+      ap length is ∙ length-append (take s old) (text ++ drop t old) ∙ ap (λ n. length (take s old) + n) (length-append text (drop t old)) in
+      let left : length (drop t old) ≡ length old - t = length-drop t old in
+      let first : length (take s old) ≡ s = length-take-le s old (omega arith) in
+      omega arith
+
   pub value-size : (value new : List ℕ) (group : List HeldLine)
       → new ≡ revalued_in (encoding_of opened.encoding) opened.ascii_only old (opened.start + pair.start) (opened.start + pair.end) value group
       → length old ≤ pair.end + length new
   value-size value new group is = elim (cases_Bool (has_value value group)) [
-    | inl there ↦
-        let same = ap length (is ∙ cond-true (has_value value group) old _ there) in
-        omega arith
+    | inl there ↦ let same = ap length (is ∙ cond-true (has_value value group) old _ there) in omega arith
     | inr other ↦
         let e = encoding_of opened.encoding in
         let front = front_of e group in
         let text = encoded_text e (value_text e opened.ascii_only (between_of group) value) in
         let s = opened.start + pair.start in
         let t = opened.start + pair.end in
-        let in_old = pair-within in
-        let ordered = in_old.0 in
-        let within = in_old.1 in
-        let all : length new ≡ length (take s old) + (length front + (length text + length (drop t old))) =
-        ap length (is ∙ cond-false (has_value value group) old _ other)
-        ∙ length-append (take s old) (front ++ (text ++ drop t old))
-        ∙ ap (λ n. length (take s old) + n) (length-append front (text ++ drop t old) ∙ ap (λ n. length front + n) (length-append text (drop t old))) in
-        let left : length (drop t old) ≡ length old - t = length-drop t old in
-        let first : length (take s old) ≡ s = length-take-le s old (omega arith) in
-        omega arith
+        put-size (front ++ text) new (is ∙ cond-false (has_value value group) old _ other ∙ ap (λ v. take s old ++ v) (sym (append_assoc front text (drop t old))))
   ]
-
-  pub put-size : (text new : List ℕ) → new ≡ take (opened.start + pair.start) old ++ (text ++ drop (opened.start + pair.end) old) → length old ≤ pair.end + length new
-  put-size text new is =
-      let s = opened.start + pair.start in
-      let t = opened.start + pair.end in
-      let in_old = pair-within in
-      let ordered = in_old.0 in
-      let within = in_old.1 in
-      let all : length new ≡ length (take s old) + (length text + length (drop t old)) =
-      ap length is ∙ length-append (take s old) (text ++ drop t old) ∙ ap (λ n. length (take s old) + n) (length-append text (drop t old)) in
-      let left : length (drop t old) ≡ length old - t = length-drop t old in
-      let first : length (take s old) ≡ s = length-take-le s old (omega arith) in
-      omega arith
 
 -- Where nothing is done, nothing changes.
 pub keeps-nothing : (groups : List (List HeldLine)) (index : Index) → IsIndex groups index → KeepsNothing index index
@@ -172,7 +160,7 @@ module _ (e : Encoding) (opened : BodyStart) (old new key value : List ℕ) (pai
       × (has_value value group ≡ false)
       × (new ≡ revalued_in (encoding_of opened.encoding) opened.ascii_only old (opened.start + pair.start) (opened.start + pair.end) value group))
       → FollowsPair key value pair.end (pair.end + length new - length old) (opened.start + pair.end == length old) was is
-      → IsValuePut e opened key value old new is
+      → IsKept (HasValueSet e opened.ascii_only old key value new) e opened new is
   revalued-index k revalues follows =
       let f = encoding_of opened.encoding in
       let body = drop opened.start old in
@@ -192,14 +180,14 @@ module _ (e : Encoding) (opened : BodyStart) (old new key value : List ℕ) (pai
       ∙ ap (λ w. bom_of old ++ w) (cond-false (has_value value p.group) (groups_bytes gs) edited_body other) in
       let r = regrouped f opened.ascii_only body key value p ok v m in
       let kept = followed-index r.group edited_body whole r.is_groups r.has_pair r.ending r.full r.whole follows in
-      record { set = value-edits k v result; sound = kept.0; is_index = kept.1 }
+      value-kept h ok (value-edits k v result) kept
 
   -- The printed pair is in its place.
   pub reput-index : All scalar key
       → new ≡ take (opened.start + pair.start) old
       ++ (pair_bytes (output_encoding (encoding_of opened.encoding)) opened.ascii_only (pair.start == 0) key value ++ drop (opened.start + pair.end) old)
       → FollowsPair key value pair.end (pair.end + length new - length old) (opened.start + pair.end == length old) was is
-      → IsPairPut e opened key value old new is
+      → IsKept (IsSet e opened.ascii_only old key value new) e opened new is
   reput-index k bytes follows =
       let f = encoding_of opened.encoding in
       let body = drop opened.start old in
@@ -215,19 +203,16 @@ module _ (e : Encoding) (opened : BodyStart) (old new key value : List ℕ) (pai
       sym set_is ∙ ap (λ w. key_set_in w opened.ascii_only old key value) h.in_force ∙ ap (λ w. bom_of old ++ set_at f opened.ascii_only old gs key value w) at.is in
       let r = reput-of f opened.ascii_only old body key value p.before p.group p.after ok k v m.has m.division in
       let kept = followed-index r.group edited_body whole r.is_groups r.has_pair r.ending r.full r.whole follows in
-      record { set = set-edits k v result; sound = kept.0; is_index = kept.1 }
+      set-kept h ok (set-edits k v result) kept
 
   -- The pair has the value.
   pub same-value : All scalar key
       → ((group : List HeldLine)
       × (held_groups_of (encoding_of opened.encoding) (take ((opened.start + pair.end) - (opened.start + pair.start)) (drop (opened.start + pair.start) old)) ≡ group ∷ [])
       × (has_value value group ≡ true))
-      → IsValuePut e opened key value old old was
+      → IsKept (HasValueSet e opened.ascii_only old key value old) e opened old was
   same-value k there =
       let f = encoding_of opened.encoding in
       let bytes : old ≡ revalued_in f opened.ascii_only old (opened.start + pair.start) (opened.start + pair.end) value there.0 = sym (cond-true (has_value value there.0) old _ there.2) in
-      record {
-        set = value-edits k v (revalued-result key value old pair h ok (found-at f (drop opened.start old) key pair sound at) refl (there.0, there.1, bytes));
-        sound = sound;
-        is_index = index;
-      }
+      let result = revalued-result key value old pair h ok (found-at f (drop opened.start old) key pair sound at) refl (there.0, there.1, bytes) in
+      value-kept h ok (value-edits k v result) (sound, index)

@@ -27,8 +27,9 @@ use Rattle.properties_format.proofs.InTurn.Merged.{AreInTurn, IsEndedGroup, afte
 use Rattle.properties_format.proofs.Edited.Parts.{empty_group, empty-lines, empty-whole}
 use Rattle.properties_format.proofs.InTurn.Unmerged.{AreUnmerged, merged-unmerged}
 use Rattle.properties_text.specs.Encoding.{encoding_of}
-use Rattle.properties_editing.specs.Private.BodyIndex.{ArePairsRemoved, CutsOut, GuardsFront, IsCutOut, IsInSource, IsIndex, IsListed, KeepsNothing, ListsPairs, PutsFirst, all_shifted, ending_size, last_value, outcome, pairs_from, places_of, shifted, span_at, span_of, stored_at, stored_places, stored_value}
+use Rattle.properties_editing.specs.Private.BodyIndex.{CutsOut, GuardsFront, IsCutOut, IsInSource, IsIndex, IsKept, IsListed, KeepsNothing, ListsPairs, PutsFirst, all_shifted, ending_size, last_value, outcome, pairs_from, places_of, shifted, span_at, span_of, stored_at, stored_places, stored_value}
 use Rattle.properties_items.specs.FoundItems.{outcome_pair}
+use Rattle.properties_editing.specs.Editing.{IsRemoved}
 use Rattle.properties_editing.specs.Private.BodyKeys.{closing_of}
 use Rattle.properties_items.specs.Texts.{characters}
 use Rattle.properties_editing.specs.Private.Sources.{IsInForce}
@@ -41,7 +42,7 @@ use Rattle.properties_editing.specs.declared.edit.find.Closing.{Closing}
 use Rattle.properties_editing.specs.declared.edit.find.Closing.TheVariants.{Nothing}
 use Rattle.properties_editing.proofs.BodyGroups.{front-of}
 use Rattle.properties_editing.proofs.BodyKeys.{some-groups, sound-append}
-use Rattle.properties_editing.proofs.Editing.{removed-bytes, removed-edits, unmarked}
+use Rattle.properties_editing.proofs.Editing.{removed-bytes, removed-edits, removed-kept, unmarked}
 use Rattle.properties_editing.proofs.IndexChanged.{IsLastTold, final-behind, last-told, some-ending, turn-behind}
 use Rattle.properties_editing.proofs.IndexCut.{HaveBytes, cut-first}
 use Rattle.properties_editing.proofs.IndexFound.{said-of}
@@ -523,18 +524,14 @@ module _ (e : Encoding) (opened : BodyStart) (old key : List ℕ) (force : IsInF
   is_guarded = opened.start == 0 && begins_like_bom rest
 
   removed-by : (new : List ℕ) (is : Index) (gs : List (List HeldLine)) → IsTurnOf f gs is → new ≡ front ++ ((if is_guarded then line_feed ∷ [] else []) ++ rest)
-      → drop opened.start new ≡ groups_bytes gs → ArePairsRemoved e opened key old new is
+      → drop opened.start new ≡ groups_bytes gs → IsKept (IsRemoved e old key new) e opened new is
   removed-by new is gs turn bytes back =
       let kept = turn-index f gs is ok turn in
-      record {
-        removed = removed-edits (removed-bytes key new force ok sound bytes);
-        sound = subst (λ v. AreSound (held_groups_of f v)) (sym back) kept.0;
-        is_index = subst (λ v. IsIndex (held_groups_of f v) is) (sym back) kept.1;
-      }
+      removed-kept force ok (removed-edits (removed-bytes key new force ok sound bytes)) (subst (λ v. AreSound (held_groups_of f v) × IsIndex (held_groups_of f v) is) (sym back) kept)
 
   -- What is left is guarded if it begins like a mark.
   pub removal-ends : (mid new : List ℕ) (cut is : Index) → IsCutWhole f key (held_groups_of f body) front mid cut → length new < 2 ^ 64
-      → GuardsFront (opened.start == 0 && begins_like_bom mid) mid cut new is → ArePairsRemoved e opened key old new is
+      → GuardsFront (opened.start == 0 && begins_like_bom mid) mid cut new is → IsKept (IsRemoved e old key new) e opened new is
   removal-ends mid new cut is w fits guards = elim (cases_Bool is_guarded) [
     | inl told ↦
         let both = both-true (opened.start == 0) (begins_like_bom rest) told in
@@ -569,7 +566,7 @@ module _ (e : Encoding) (opened : BodyStart) (old key : List ℕ) (force : IsInF
       ]
 
   -- No pair has the key.
-  pub removed-none : (was is : Index) → IsIndex (held_groups_of f body) was → stored_at was.pairs.entries key ≡ None → KeepsNothing was is → ArePairsRemoved e opened key old old is
+  pub removed-none : (was is : Index) → IsIndex (held_groups_of f body) was → stored_at was.pairs.entries key ≡ None → KeepsNothing was is → IsKept (IsRemoved e old key old) e opened old is
   removed-none was is index stored kept =
       let gs = held_groups_of f body in
       let none : NoneHasKey key gs = none-listed gs key index.listed (ap places_of stored) in
@@ -587,7 +584,7 @@ module _ (e : Encoding) (opened : BodyStart) (old key : List ℕ) (force : IsInF
       sym (take-append-drop opened.start old)
       ∙ ap (λ v. front ++ v) (sym rest_is)
       ∙ ap (λ v. front ++ (v ++ rest)) (sym (cond-false (opened.start == 0 && begins_like_bom rest) (line_feed ∷ []) [] unguarded)) in
-      record { removed = removed-edits (removed-bytes key old force ok sound bytes); sound = sound; is_index = kept-index gs was is index kept }
+      removed-kept force ok (removed-edits (removed-bytes key old force ok sound bytes)) (sound, kept-index gs was is index kept)
     where
       not-true : (b : Bool) → not b ≡ true → b ≡ false
       not-true true h = absurd (cc)

@@ -12,7 +12,7 @@ use Rattle.properties_format.specs.Valued.{value_text, separation_by, ending_in,
 use Rattle.properties_format.specs.Computed.Items.{outcome_of}
 use Rattle.properties_format.specs.Computed.Body.{held_groups_of}
 use Rattle.properties_format.specs.Computed.Parts.{unended_bytes}
-use Rattle.properties_format.specs.Computed.Edited.{result_of, last_place}
+use Rattle.properties_format.specs.Computed.Edited.{AreSound, result_of, last_place}
 use Rattle.properties_format.specs.Computed.Valued.{front_of, between_of, has_value, last_between, separator_by, revalued_at, valued_at, value_set, value_set_in, set_value_result}
 use Rattle.properties_format.proofs.Body.Groups.{held_groups_of-meets, held-body}
 use Rattle.properties_format.proofs.Edited.ByteOrderMarks.{source-whole}
@@ -21,10 +21,13 @@ use Rattle.properties_format.proofs.Edited.Made as made
 use Rattle.properties_format.proofs.Edited.Made.{last_place-meets}
 use Rattle.properties_format.proofs.Valued.Made.{group-decoded, set_value_result-meets, set_value_result-only, raw-pair}
 use Rattle.properties_format.proofs.Edits.InAscii.{set_value-in_ascii}
+use Rattle.properties_format.proofs.Valued.Marks.{value_set-in_force}
 use Rattle.properties_format.proofs.Valued.Read.{set_value-reads, value_set-keeps, value_set-keeps_front}
 use Rattle.properties_format.proofs.Valued.Unended.{without_ending, unended-joined, unended-front, unended-between, unended-value}
 use Rattle.properties_format.proofs.Edited.Pair.{editable-own}
 use Rattle.properties_text.specs.Encoding.{encoding_of}
+use Rattle.properties_editing.specs.Private.BodyIndex.{IsIndex, IsKept}
+use Rattle.properties_editing.specs.declared.edit.index.Index.{Index}
 use Rattle.properties_editing.specs.Private.BodyKeys.{IsPlaceOf, IsPlace, IsKeyFound, closing_bytes}
 use Rattle.properties_editing.specs.Private.BodyValues.{IsPairAlone, IsLayoutAfter, revalued_in}
 use Rattle.properties_editing.specs.Editing.{HasValueSet}
@@ -35,7 +38,7 @@ use Rattle.properties_editing.specs.declared.edit.append.Layout.{Layout}
 use Rattle.properties_editing.specs.declared.edit.find.BodySpan.{BodySpan}
 use Rattle.properties_editing.specs.declared.edit.find.PairPlaces.{PairPlaces}
 use Rattle.properties_editing.specs.declared.edit.source.BodyStart.{BodyStart}
-use Rattle.properties_editing.proofs.Editing.{bom-front, result-made}
+use Rattle.properties_editing.proofs.Editing.{again, bom-front, editable, result-made}
 use Rattle.properties_editing.proofs.LastPairs.{IsPartAt, part-at, part-group}
 
 -- ---- a value is set
@@ -183,6 +186,15 @@ value-edits {e} {only} {source} {key} {value} {bytes} k v is =
       keeps_front = value_set-keeps_front e only source key value bytes meets.0 meets.2;
       ascii = λ on. set_value-in_ascii e source key value bytes (subst (λ b. IsSetValueResult e b source key value (edited bytes)) on meets);
     }
+
+-- So it is of the source and its index.
+pub value-kept : {e : Encoding} {opened : BodyStart} {old key value new : List ℕ} {index : Index} → IsInForce old e opened → is_editable (encoding_of opened.encoding) ≡ true
+    → HasValueSet e opened.ascii_only old key value new
+    → AreSound (held_groups_of (encoding_of opened.encoding) (drop opened.start new)) × IsIndex (held_groups_of (encoding_of opened.encoding) (drop opened.start new)) index
+    → IsKept (HasValueSet e opened.ascii_only old key value new) e opened new index
+value-kept {e} {opened} {old} {key} {value} {new} h ok s kept =
+    let k = s.edit.result.2 in
+    record { meant = s; in_force = again new k.body h k.whole (value_set-in_force e opened.ascii_only old key value new (editable h ok) k); sound = kept.0; is_index = kept.1 }
 
 -- The pair that was found in a source is a pair by itself.
 pub found-alone : (source key : List ℕ) (opened : BodyStart) {found : PairPlaces} (pair : BodySpan) → is_editable (encoding_of opened.encoding) ≡ true

@@ -252,49 +252,33 @@ abbrev pub AppendsPair : {E : Type 0} → BodyStart → List ℕ → List ℕ �
 AppendsPair opened key value by line ending old was (Ok done) new is = IsPairAppended opened key value by line ending old was new is
 AppendsPair opened key value by line ending old was (Err error) new is = (new ≡ old) × (stored_at was.pairs.entries key ≡ None → KeepsNothing was is)
 
--- The source has the value for the key, and the index is that of its groups.
-pub record IsValueAdded (opened : BodyStart) (key value old new : List ℕ) (index : Index) : Type 0 where
-  pub set : (e : Encoding) → IsInForce old e opened → HasValueSet e opened.ascii_only old key value new
-  pub sound : AreSound (held_groups_of (encoding_of opened.encoding) (drop opened.start new))
-  pub is_index : IsIndex (held_groups_of (encoding_of opened.encoding) (drop opened.start new)) index
+-- ---- a source and its index after an edit
 
--- So it is; or memory ran out, and nothing changed that is looked at.
-abbrev pub AddsValue : {E : Type 0} → BodyStart → List ℕ → List ℕ → List ℕ → Index → Result Unit E → List ℕ → Index → Type 0
-AddsValue opened key value old was (Ok done) new is = IsValueAdded opened key value old new is
-AddsValue opened key value old was (Err error) new is = (new ≡ old) × KeepsNothing was is
-
--- The source has the printed pair for the key, and the index is that of its groups.
-pub record IsKeyAdded (opened : BodyStart) (key value old new : List ℕ) (index : Index) : Type 0 where
-  pub set : (e : Encoding) → IsInForce old e opened → IsSet e opened.ascii_only old key value new
-  pub sound : AreSound (held_groups_of (encoding_of opened.encoding) (drop opened.start new))
-  pub is_index : IsIndex (held_groups_of (encoding_of opened.encoding) (drop opened.start new)) index
-
-abbrev pub AddsKey : {E : Type 0} → BodyStart → List ℕ → List ℕ → List ℕ → Index → Result Unit E → List ℕ → Index → Type 0
-AddsKey opened key value old was (Ok done) new is = IsKeyAdded opened key value old new is
-AddsKey opened key value old was (Err error) new is = (new ≡ old) × KeepsNothing was is
-
--- ---- a key that is there or not
-
--- The source has the value for the key, and the index is that of its groups.
-pub record IsValuePut (e : Encoding) (opened : BodyStart) (key value old new : List ℕ) (index : Index) : Type 0 where
-  pub set : HasValueSet e opened.ascii_only old key value new
-  pub sound : AreSound (held_groups_of (encoding_of opened.encoding) (drop opened.start new))
-  pub is_index : IsIndex (held_groups_of (encoding_of opened.encoding) (drop opened.start new)) index
+-- The source is what is meant, its body starts where it did, nothing in it is malformed, and the index is that of its groups.
+pub record IsKept (Meant : Type 0) (e : Encoding) (opened : BodyStart) (source : List ℕ) (index : Index) : Type 0 where
+  pub meant : Meant
+  pub in_force : IsInForce source e opened
+  pub sound : AreSound (held_groups_of (encoding_of opened.encoding) (drop opened.start source))
+  pub is_index : IsIndex (held_groups_of (encoding_of opened.encoding) (drop opened.start source)) index
 
 -- So it is in each encoding that may have been requested; or memory ran out, and nothing changed that is looked at.
+abbrev pub Changes : {E : Type 0} → (Encoding → Type 0) → BodyStart → List ℕ → Index → Result Unit E → List ℕ → Index → Type 0
+Changes Meant opened old was (Ok done) new is = (e : Encoding) → IsInForce old e opened → IsKept (Meant e) e opened new is
+Changes Meant opened old was (Err error) new is = (new ≡ old) × KeepsNothing was is
+
+-- The value of a key was set, whether a pair has the key or none,
 abbrev pub PutsValue : {E : Type 0} → BodyStart → List ℕ → List ℕ → List ℕ → Index → Result Unit E → List ℕ → Index → Type 0
-PutsValue opened key value old was (Ok done) new is = (e : Encoding) → IsInForce old e opened → IsValuePut e opened key value old new is
-PutsValue opened key value old was (Err error) new is = (new ≡ old) × KeepsNothing was is
+PutsValue opened key value old was result new is = Changes (λ e. HasValueSet e opened.ascii_only old key value new) opened old was result new is
 
--- The source has the printed pair for the key, and the index is that of its groups.
-pub record IsPairPut (e : Encoding) (opened : BodyStart) (key value old new : List ℕ) (index : Index) : Type 0 where
-  pub set : IsSet e opened.ascii_only old key value new
-  pub sound : AreSound (held_groups_of (encoding_of opened.encoding) (drop opened.start new))
-  pub is_index : IsIndex (held_groups_of (encoding_of opened.encoding) (drop opened.start new)) index
+abbrev pub AddsValue : {E : Type 0} → BodyStart → List ℕ → List ℕ → List ℕ → Index → Result Unit E → List ℕ → Index → Type 0
+AddsValue opened key value old was result new is = PutsValue opened key value old was result new is
 
+-- or a printed pair was put in for it.
 abbrev pub PutsPair : {E : Type 0} → BodyStart → List ℕ → List ℕ → List ℕ → Index → Result Unit E → List ℕ → Index → Type 0
-PutsPair opened key value old was (Ok done) new is = (e : Encoding) → IsInForce old e opened → IsPairPut e opened key value old new is
-PutsPair opened key value old was (Err error) new is = (new ≡ old) × KeepsNothing was is
+PutsPair opened key value old was result new is = Changes (λ e. IsSet e opened.ascii_only old key value new) opened old was result new is
+
+abbrev pub AddsKey : {E : Type 0} → BodyStart → List ℕ → List ℕ → List ℕ → Index → Result Unit E → List ℕ → Index → Type 0
+AddsKey opened key value old was result new is = PutsPair opened key value old was result new is
 
 -- ---- a key that is removed
 
@@ -332,30 +316,19 @@ abbrev pub GuardsFront : Bool → List ℕ → Index → List ℕ → Index → 
 GuardsFront true old was new is = PutsFirst old was new is
 GuardsFront false old was new is = (new ≡ old) × (is ≡ was)
 
--- The source is without the key, and the index is that of its groups.
-pub record ArePairsRemoved (e : Encoding) (opened : BodyStart) (key old new : List ℕ) (index : Index) : Type 0 where
-  pub removed : IsRemoved e old key new
-  pub sound : AreSound (held_groups_of (encoding_of opened.encoding) (drop opened.start new))
-  pub is_index : IsIndex (held_groups_of (encoding_of opened.encoding) (drop opened.start new)) index
-
+-- The key was removed.
 abbrev pub RemovesPairs : BodyStart → List ℕ → List ℕ → List ℕ → Index → Type 0
-RemovesPairs opened key old new is = (e : Encoding) → IsInForce old e opened → ArePairsRemoved e opened key old new is
+RemovesPairs opened key old new is = (e : Encoding) → IsInForce old e opened → IsKept (IsRemoved e old key new) e opened new is
 
 -- ---- an edit
 
--- The source was edited, and the index is that of its groups.
-pub record IsEditMade (e : Encoding) (opened : BodyStart) (edit : Edit) (old new : List ℕ) (index : Index) : Type 0 where
-  pub result : IsEditResult e old (IsEdited e opened.ascii_only old edit) (edited new)
-  pub in_force : IsInForce new e opened
-  pub sound : AreSound (held_groups_of (encoding_of opened.encoding) (drop opened.start new))
-  pub is_index : IsIndex (held_groups_of (encoding_of opened.encoding) (drop opened.start new)) index
-
+-- An edit was made,
 abbrev pub MakesEdit : BodyStart → Edit → List ℕ → List ℕ → Index → Type 0
-MakesEdit opened edit old new is = (e : Encoding) → IsInForce old e opened → IsEditMade e opened edit old new is
+MakesEdit opened edit old new is =
+    (e : Encoding) → IsInForce old e opened
+    → IsKept (IsEditResult e old (IsEdited e opened.ascii_only old edit) (edited new)) e opened new is
 
--- So it is of edits in turn.
-pub record AreEditsMade (e : Encoding) (opened : BodyStart) (source : List ℕ) (edits : List Edit) (bytes : List ℕ) (index : Index) : Type 0 where
-  pub result : IsEditAllResult e opened.ascii_only source edits (edited bytes)
-  pub in_force : IsInForce bytes e opened
-  pub sound : AreSound (held_groups_of (encoding_of opened.encoding) (drop opened.start bytes))
-  pub is_index : IsIndex (held_groups_of (encoding_of opened.encoding) (drop opened.start bytes)) index
+-- or edits in turn.
+abbrev pub AreEditsMade : Encoding → BodyStart → List ℕ → List Edit → List ℕ → Index → Type 0
+AreEditsMade e opened source edits bytes index =
+    IsKept (IsEditAllResult e opened.ascii_only source edits (edited bytes)) e opened bytes index

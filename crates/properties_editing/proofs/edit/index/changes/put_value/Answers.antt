@@ -3,7 +3,6 @@ use Rattle.std.specs.Str.{chars}
 use Rattle.properties_format.specs.Computed.Body.{held_groups_of}
 use Rattle.properties_text.specs.Encoding.{encoding_of}
 use Rattle.properties_editing.specs.Private.BodyKeys.{IsPlace}
-use Rattle.properties_editing.proofs.IndexAdded.{puts-value}
 use Rattle.properties_editing.proofs.IndexFound.{found-place, new-key}
 use Rattle.properties_editing.proofs.edit.index.changes.put_value.Goals as goal
 
@@ -16,7 +15,3 @@ pub add_value-requires-clause-is_new : goal.add_value-requires-clause-is_new
 add_value-requires-clause-is_new c =
     let gs = held_groups_of (encoding_of c.args.opened.encoding) (drop c.args.opened.start c.args.source.now.items) in
     new-key gs c.args.index.now c.requires.is_index (chars c.args.key.now) (sym c.in-None.ensures)
-
-pub returns-in-None : goal.returns-in-None
-returns-in-None c =
-    puts-value c.args.opened (chars c.args.key.now) (chars c.args.value.now) c.args.source.now.items c.add_value.new.source.items c.args.index.now c.add_value.new.index c.add_value.result c.add_value.ensures
