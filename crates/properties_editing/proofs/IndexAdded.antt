@@ -159,7 +159,7 @@ found-none e body key index sound h none =
     let gs = held_groups_of e body in
     record {
       sound = sound;
-      pair = subst (IsPlace key gs) (ap (last_span index.spans.items) none) (found-place gs index h key);
+      pair = subst (IsPlace key gs) (ap (last_span index.spans.items) none) (found-place h key);
       closing = λ ending. elim h.closing [
         | inl empty ↦ absurd (some-groups e body empty)
         | inr told ↦ separated ending (is_empty_line (final_group gs)) (is_left_open (final_group gs)) ∙ ap (closing_bytes ending) (sym told)

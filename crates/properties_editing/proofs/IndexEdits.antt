@@ -55,8 +55,7 @@ found-at e body key pair sound at = record {
   closing = λ ending. separated ending (is_empty_line (final_group (held_groups_of e body))) (is_left_open (final_group (held_groups_of e body)));
 }
 
-module _ (opened : BodyStart) (old : List ℕ) (ok : is_editable (encoding_of opened.encoding) ≡ true) (start_in : opened.start ≤ length old)
-    (sound : AreSound (held_groups_of (encoding_of opened.encoding) (drop opened.start old))) (pair : BodySpan) (key : List ℕ)
+module _ (opened : BodyStart) (old : List ℕ) (ok : is_editable (encoding_of opened.encoding) ≡ true) (start_in : opened.start ≤ length old) (pair : BodySpan) (key : List ℕ)
     (at : IsPlaceOf key (held_groups_of (encoding_of opened.encoding) (drop opened.start old)) pair) where
   pub pair-within : (pair.start ≤ pair.end) × (opened.start + pair.end ≤ length old)
   pair-within =
@@ -65,8 +64,11 @@ module _ (opened : BodyStart) (old : List ℕ) (ok : is_editable (encoding_of op
       let size : length (drop opened.start old) ≡ length old - opened.start = length-drop opened.start old in
       (split.ordered, omega arith)
 
-  pub pair-alone : IsPairAlone (encoding_of opened.encoding) (take (pair.end - pair.start) (drop (opened.start + pair.start) old))
-  pair-alone = found-alone old key opened pair ok (found-at (encoding_of opened.encoding) (drop opened.start old) key pair sound at) refl
+  pub pair-alone : AreSound (held_groups_of (encoding_of opened.encoding) (drop opened.start old))
+      → IsPairAlone (encoding_of opened.encoding) (take ((opened.start + pair.end) - (opened.start + pair.start)) (drop (opened.start + pair.start) old))
+  pair-alone sound =
+      let size : (opened.start + pair.end) - (opened.start + pair.start) ≡ pair.end - pair.start = omega arith in
+      rw size (found-alone old key opened pair ok (found-at (encoding_of opened.encoding) (drop opened.start old) key pair sound at) refl)
 
   -- A source doesn't get shorter than what is kept of it.
   pub put-size : (text new : List ℕ) → new ≡ take (opened.start + pair.start) old ++ (text ++ drop (opened.start + pair.end) old) → length old ≤ pair.end + length new

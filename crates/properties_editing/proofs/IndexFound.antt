@@ -51,7 +51,7 @@ some-places : (spans : List (Option BodySpan)) (o : Option IndexedPair) (ns : Li
 some-places spans None ns n h = absurd (no-end ns n h)
 some-places spans (Some p) ns n h = ap (span_at spans) (same-last p.earlier.items ns p.place n h)
 
-module _ (groups : List (List HeldLine)) (index : Index) (h : IsIndex groups index) (key : List ℕ) where
+module _ {groups : List (List HeldLine)} {index : Index} (h : IsIndex groups index) (key : List ℕ) where
   -- A key that no group has isn't stored.
   none-stored : NoneHasKey key groups → stored_at index.pairs.entries key ≡ None
   none-stored none = no-places (stored_at index.pairs.entries key) (listed-none groups key h.listed none)

@@ -1,7 +1,7 @@
 use Rattle.std.proofs.Common.{◌≡◌, ◌<◌, ◌≤◌, ◌-◌, ℕ, suc, List, [], ◌∷◌, ◌++◌, take, length, refl, ap, sym, ◌∙◌, arith}
 use Rattle.std.specs.Prelude.{Option, Some, None, get_or}
 use Rattle.std.proofs.Math.Seq.{take-suc}
-use Rattle.std.proofs.lemmas.List.{get_or_default, take_all}
+use Rattle.std.proofs.lemmas.List.{get_or_default}
 use Rattle.properties_editing.specs.Private.BodyIndex.{last_live, span_or}
 use Rattle.properties_editing.specs.declared.edit.find.BodySpan.{BodySpan}
 use Rattle.properties_editing.proofs.edit.index.Index.last_pair.Goals as goal
@@ -29,12 +29,6 @@ step spans m now some low read h =
     let at : now ≡ get_or spans n None = read ∙ get_or_default spans n now None inside in
     h ∙ ap (λ i. last_live (take i spans)) size ∙ last-more spans n inside ∙ ap (λ o. span_or o (last_live (take n spans))) (sym at)
 
-pub loop-place-init : goal.loop-place-init
-loop-place-init c =
-    let spans = c.args.self.now.spans.items in
-    let size : c.len-place.result ≡ length spans = c.len-place.ensures ∙ c.args.self.now.spans.ok.0 in
-    ((omega arith), ap last_live (sym (take_all c.len-place.result spans (omega arith))))
-
 pub returns-in-Some : goal.returns-in-Some
 returns-in-Some c =
     let spans = c.args.self.now.spans.items in
@@ -49,9 +43,3 @@ loop-place-preserved c =
     let low = inv.0 in
     let known = step spans c.loop-place.place c.index.result.now c.loop-place-test.true inv.0 c.index.ensures inv.1 in
     ((omega arith), known ∙ ap (λ o. span_or o (last_live (take (c.loop-place.place - 1) spans))) c.in_default.is)
-
-pub returns : goal.returns
-returns c =
-    let spans = c.args.self.now.spans.items in
-    let none : c.loop-place.place ≡ 0 = let over = c.loop-place-test.false in omega arith in
-    sym (c.loop-place.invariant.1 ∙ ap (λ i. last_live (take i spans)) none)

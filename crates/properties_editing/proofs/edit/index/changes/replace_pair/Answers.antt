@@ -3,7 +3,7 @@ use Rattle.std.specs.Str.{chars}
 use Rattle.std.proofs.lemmas.Result.{err_from_is_err_and}
 use Rattle.properties_editing.specs.Private.BodyIndex.{FollowsPair}
 use Rattle.properties_items.proofs.Scalars.{chars-scalars}
-use Rattle.properties_editing.proofs.IndexEdits.{keeps-nothing, pair-within, put-size, reput-index}
+use Rattle.properties_editing.proofs.IndexEdits.{keeps-nothing, pair-within, reput-index}
 use Rattle.properties_editing.proofs.edit.index.changes.replace_pair.Goals as goal
 
 pub returns-in_err-text : goal.returns-in_err-text
@@ -14,7 +14,7 @@ returns-in_err-text c =
 pub with_pair_replaced-requires-clause-within : goal.with_pair_replaced-requires-clause-within
 with_pair_replaced-requires-clause-within c =
     let r = c.requires in
-    rw c.deref.ensures.value (pair-within c.args.opened c.args.source.now.items r.editable r.start r.sound c.args.pair (chars c.args.key.now) r.placed).1
+    rw c.deref.ensures.value (pair-within c.args.opened c.args.source.now.items r.editable r.start c.args.pair (chars c.args.key.now) r.placed).1
 
 pub returns-in_err-bytes : goal.returns-in_err-bytes
 returns-in_err-bytes c =
@@ -24,13 +24,7 @@ returns-in_err-bytes c =
 pub replace_source-requires-clause-within : goal.replace_source-requires-clause-within
 replace_source-requires-clause-within c =
     let r = c.requires in
-    (pair-within c.args.opened c.args.source.now.items r.editable r.start r.sound c.args.pair (chars c.args.key.now) r.placed).1
-
-pub replace_source-requires-clause-longer : goal.replace_source-requires-clause-longer
-replace_source-requires-clause-longer c =
-    let r = c.requires in
-    let made = rw c.deref.ensures.value at c.in_ok-bytes.ensures in
-    put-size c.args.opened c.args.source.now.items r.editable r.start r.sound c.args.pair (chars c.args.key.now) r.placed _ c.in_ok-bytes.bytes.items made
+    (pair-within c.args.opened c.args.source.now.items r.editable r.start c.args.pair (chars c.args.key.now) r.placed).1
 
 pub returns : goal.returns
 returns c = λ e force.
