@@ -26,7 +26,7 @@ use Rattle.properties_lines.specs.LineSearch.{unit_size}
 use Rattle.properties_text.specs.Encoding.{encoding_of}
 use Rattle.properties_editing.specs.Private.BodyDocuments.{IsDocument, open_document}
 use Rattle.properties_editing.specs.Private.BodyIndex.{Changes, IsIndex, IsKept, KeepsNothing, MakesEdit, PairAt, PutsPair, PutsValue, RemovesPairs, last_value, outcome, paired, pairs_from, span_of, stored_at, stored_value}
-use Rattle.properties_editing.specs.Private.BodyIndex.Keys.{IndexesSome, TellsKeys, group_keys}
+use Rattle.properties_editing.specs.Private.BodyIndex.Keys.{TellsKeys, group_keys}
 use Rattle.properties_editing.specs.Documents.{OpenDocument, HasValueAt, HasKeysInOrder, ChecksHasKey, PutsInto, SetsValueIn, RemovesFrom, characters_of}
 use Rattle.properties_editing.specs.Editing.{AreMade}
 use Rattle.properties_items.specs.FoundItems.{outcome_pair}
@@ -100,10 +100,6 @@ has-value d i key value is =
 pub checks_has_key : {X : Type 0} (f : X → List ℕ) (d : OpenDocument) (key : List ℕ) (o : Option X) → HasValueAt d key (option_map f o) → ChecksHasKey d key (is_some o)
 checks_has_key f d key None h = h
 checks_has_key f d key (Some x) h = (f x, h)
-
--- Its index is that of a body.
-pub index-some : (d : Inside) → IsDocument d → IndexesSome d.index
-index-some d i = record { groups = _; is_index = i.is_index }
 
 -- The keys of groups are those of their entries.
 entries-keys : (n : ℕ) (gs : List (List HeldLine)) → AreSound gs → pair_keys (entries_in n gs) ≡ group_keys gs

@@ -31,7 +31,7 @@ use Rattle.properties_lines.specs.declared.scanner.RawLine.{RawLine}
 use Rattle.properties_lines.specs.declared.logical.LogicalLine.{LogicalLine}
 use Rattle.properties_lines.specs.declared.scanner.Scanner.{Scanner}
 use Rattle.properties_lines.proofs.Tested.{ascii-line}
-use Rattle.properties_text.specs.Spelt.{text_in, IsWell}
+use Rattle.properties_text.specs.Spelt.{text_in}
 use Rattle.properties_lines.proofs.HeldLines.{body-next, body-after, body-lines_left}
 use Rattle.properties_editing.specs.Private.BodyGroups.{IsWithin, groups_left, IsBegun, TakesLine, IsSpanOf, TakesGroup, groups_from, ReadsGroup, bytes_at}
 use Rattle.properties_editing.specs.declared.edit.groups.Group.{Group}
@@ -173,37 +173,6 @@ not-left text (inr h) = elim (cases_Bool (is_comment_line text)) [ inl k ↦ rw 
 -- The line that is unfinished has the text that was joined.
 unfinished-has : (e : Encoding) (l : LogicalLine) (natural text : List ℕ) → IsUnfinished e l → unfinished_text l ≡ text → HasText l natural text
 unfinished-has e l natural text u h = record { well = rw u.place u.well; is = rw u.place h }
-
--- The line of a group that was read so far.
-pub group-begun : (E : Type 0) (body : List ℕ) (old found : GroupReader) (l : LogicalLine) (group : Group) (told : Bool) → TakesLine body old found
-    → Begins {E = E} (encoding_of found.scanner.encoding) (bytes_of body found.scanner.line) (Ok told) l → IsSound l
-    → group.start ≡ found.scanner.line.start → group.end ≡ found.scanner.line.end → group.is_open ≡ told
-    → IsBegun body (record found { line = l }) group
-group-begun E body old found l group told k begins sound starts ends opens =
-    let ordered = k.ordered in
-    let placed = k.placed in
-    let within = k.within.within_body.fits.within in
-    record {
-      within = record { bytes = k.within.bytes; within_body = k.within.within_body };
-      ordered = omega arith;
-      placed = omega arith;
-      within_body = omega arith;
-      well = well-begun told begins (ap₂ (λ m n. take (m - n) (drop n body)) ends starts);
-      unfinished = λ h. open-begun told begins (sym opens ∙ h);
-      sound = sound;
-    }
-  where
-    bytes : List ℕ
-    bytes = bytes_of body found.scanner.line
-
-    well-begun : (told : Bool) → Begins {E = E} (encoding_of found.scanner.encoding) bytes (Ok told) l → bytes_at body group ≡ bytes
-        → IsWell l.encoding (bytes_with l (bytes_at body group))
-    well-begun true b same = rw b.unfinished.place b.unfinished.well
-    well-begun false b same = subst (λ v. IsWell l.encoding (bytes_with l v)) (sym same) b.1.well
-
-    open-begun : (told : Bool) → Begins {E = E} (encoding_of found.scanner.encoding) bytes (Ok told) l → told ≡ true → IsUnfinished (encoding_of found.scanner.encoding) l
-    open-begun true b h = b.unfinished
-    open-begun false b h = absurd (cc)
 
 -- The first line of a group was read.
 pub group-first : (E : Type 0) (body : List ℕ) (old found : GroupReader) (l : LogicalLine) (group : Group) (told : Bool) (k : TakesLine body old found)

@@ -461,11 +461,6 @@ alone-line : {e : Encoding} {body : List ℕ} {group : Group} {s : GroupReader} 
     → chars line ≡ joined (as_lines a.group)
 alone-line line is f a = ap chars is ∙ f.text ∙ ap (λ g. joined (as_lines g)) (same-group f a)
 
--- It has no malformed escape.
-pub alone-sound : {e : Encoding} {body : List ℕ} {group : Group} {s : GroupReader} (line : List ℕ) → line ≡ text_of body s group → IsFirstGroup e body group s → IsPairAlone e body
-    → IsSound (outcome_of (chars line))
-alone-sound line is f a = subst IsSound (sym (ap outcome_of (alone-line line is f a) ∙ a.is_pair)) tt
-
 -- How many bytes come before the value in the logical line of a pair by itself.
 pub before-value : {e : Encoding} {body : List ℕ} {group : Group} {s : GroupReader} (line : List ℕ) (span : Span) → IsUtf8 line → line ≡ text_of body s group
     → IsFirstGroup e body group s → IsPairAlone e body → IsBetweenAt line span → IsBeforeValue e body span.end

@@ -1,22 +1,21 @@
 -- A value in place, and the index then.
-use Rattle.std.proofs.Common.{◌≡◌, ◌==◌, ◌<◌, ◌≤◌, ℕ, ◌+◌, ◌-◌, ◌^◌, true, false, List, [], ◌∷◌, ◌++◌, All, length, take, drop, refl, ap, ap₂, sym, ◌∙◌, subst, inl, inr, append_assoc, length-append, length-drop, arith}
+use Rattle.std.proofs.Common.{◌≡◌, ◌==◌, ◌<◌, ◌≤◌, ℕ, ◌+◌, ◌-◌, ◌^◌, true, false, List, [], ◌∷◌, ◌++◌, All, length, take, drop, refl, ap, ap₂, sym, ◌∙◌, subst, inl, length-append, length-drop, arith}
 use Rattle.std.specs.Prelude.{Some, None}
 use Rattle.std.proofs.Math.Seq.{drop-append_seam}
-use Rattle.std.proofs.lemmas.Bool.{cases_Bool, cond-true, cond-false}
+use Rattle.std.proofs.lemmas.Bool.{cond-true, cond-false}
 use Rattle.std.proofs.lemmas.List.{length-take-le}
 use Rattle.properties_format.specs.Text.{scalar}
 use Rattle.properties_format.specs.Encoding.{Encoding, output_encoding}
 use Rattle.properties_format.specs.Groups.{IsWhole, joined}
 use Rattle.properties_format.specs.Entries as content
 use Rattle.properties_format.specs.Items.{given}
-use Rattle.properties_format.specs.Printing.{encoded_text}
 use Rattle.properties_format.specs.Body.{HeldLine, as_lines, groups_bytes, ending_bytes, last_ending}
 use Rattle.properties_format.specs.Edited.{bom_of, is_editable, is_empty_line, is_left_open, final_group, edited, pair_bytes}
-use Rattle.properties_format.specs.Valued.{HasPair, value_text}
+use Rattle.properties_format.specs.Valued.{HasPair}
 use Rattle.properties_format.specs.Computed.Body.{held_groups_of}
 use Rattle.properties_format.specs.Computed.Edited.{AreSound, key_set, key_set_in, set_at}
 use Rattle.properties_format.specs.Computed.Parts.{unended_bytes}
-use Rattle.properties_format.specs.Computed.Valued.{front_of, between_of, has_value, revalued_at, valued_at, value_set, value_set_in}
+use Rattle.properties_format.specs.Computed.Valued.{has_value, revalued_at, valued_at, value_set, value_set_in}
 use Rattle.properties_format.proofs.Body.Groups.{held_groups_of-meets, held-body}
 use Rattle.properties_format.proofs.Edited.Made as made
 use Rattle.properties_format.proofs.Edited.Made.{last_place-meets}
@@ -69,32 +68,6 @@ module _ (opened : BodyStart) (old : List ℕ) (ok : is_editable (encoding_of op
   pair-alone sound =
       let size : (opened.start + pair.end) - (opened.start + pair.start) ≡ pair.end - pair.start = omega arith in
       rw size (found-alone old key opened pair ok (found-at (encoding_of opened.encoding) (drop opened.start old) key pair sound at) refl)
-
-  -- A source doesn't get shorter than what is kept of it.
-  pub put-size : (text new : List ℕ) → new ≡ take (opened.start + pair.start) old ++ (text ++ drop (opened.start + pair.end) old) → length old ≤ pair.end + length new
-  put-size text new is =
-      let s = opened.start + pair.start in
-      let t = opened.start + pair.end in
-      let inside = pair-within in
-      let all : length new ≡ length (take s old) + (length text + length (drop t old)) =
-      ap length is ∙ length-append (take s old) (text ++ drop t old) ∙ ap (λ n. length (take s old) + n) (length-append text (drop t old)) in
-      let left : length (drop t old) ≡ length old - t = length-drop t old in
-      let first : length (take s old) ≡ s = length-take-le s old (omega arith) in
-      omega arith
-
-  pub value-size : (value new : List ℕ) (group : List HeldLine)
-      → new ≡ revalued_in (encoding_of opened.encoding) opened.ascii_only old (opened.start + pair.start) (opened.start + pair.end) value group
-      → length old ≤ pair.end + length new
-  value-size value new group is = elim (cases_Bool (has_value value group)) [
-    | inl there ↦ let same = ap length (is ∙ cond-true (has_value value group) old _ there) in omega arith
-    | inr other ↦
-        let e = encoding_of opened.encoding in
-        let front = front_of e group in
-        let text = encoded_text e (value_text e opened.ascii_only (between_of group) value) in
-        let s = opened.start + pair.start in
-        let t = opened.start + pair.end in
-        put-size (front ++ text) new (is ∙ cond-false (has_value value group) old _ other ∙ ap (λ v. take s old ++ v) (sym (append_assoc front text (drop t old))))
-  ]
 
 -- Where nothing is done, nothing changes.
 pub keeps-nothing : (groups : List (List HeldLine)) (index : Index) → IsIndex groups index → KeepsNothing index index

@@ -13,7 +13,6 @@ pub mod IndexFound
 pub mod IndexStored
 pub mod IndexParsed
 pub mod IndexCut
-pub mod IndexCutOut
 pub mod IndexMerged
 pub mod IndexKeys
 pub mod IndexRemoved
