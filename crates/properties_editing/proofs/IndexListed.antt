@@ -258,41 +258,43 @@ module _ {ps : List PairAt} {places : List ℕ → List ℕ} {values : List ℕ 
       let place_is : place ≡ length s.before = cc in
       let all : (k : List ℕ) → places_with k 0 s.before ++ places_with k (suc first) s.after ≡ places_with k 0 (c ++ None ∷ d) = λ k.
       ap₂ (λ v w. v ++ w) (m.places k 0) (n.places k (suc first) ∙ ap (λ i. places_with k (suc (0 + i)) d) (sym (length-map s.before (option_and_then (moved f)))))
-      ∙ sym (places-append k 0 c (None ∷ d)) in
-      (ap₂ span_at parts place_is ∙ part-at s.before p s.after, record {
-        slots = c ++ None ∷ d;
-        are_pairs = live-append c (None ∷ d) ∙ ap₂ (λ v w. v ++ w) m.are n.are;
-        are_spans = ap (map (option_and_then f)) (parts ∙ map-append part_of s.before (Some p ∷ s.after))
-            ∙ map-append (option_and_then f) (map part_of s.before) (map part_of (Some p ∷ s.after))
-            ∙ ap₂ (λ v w. v ++ w) m.parts (ap₂ (λ v w. v ∷ w) gone n.parts)
-            ∙ sym (map-append part_of c (None ∷ d));
-        are_places = λ k. elim (cases_Bool (bytes_eq p.key k)) [
-          | inl b ↦
-              let rest : others ≡ places_with p.key (suc first) s.after = cc in
-              cond-true (bytes_eq p.key k) others (places k) b
-              ∙ rest
-              ∙ ap (λ v. v ++ places_with p.key (suc first) s.after) (sym nothing)
-              ∙ all p.key
-              ∙ ap (λ j. places_with j 0 (c ++ None ∷ d)) ((bytes_eq-Decides p.key k).0 b)
-          | inr b ↦
-              cond-false (bytes_eq p.key k) others (places k) b
-              ∙ at k
-              ∙ ap (λ v. places_with k 0 s.before ++ place_if v first (places_with k (suc first) s.after)) b
-              ∙ all k
-        ];
-        are_values = λ k. elim (cases_Bool (bytes_eq p.key k)) [
-          | inl b ↦
-              cond-true (bytes_eq p.key k) (last_value p.key (new_front ++ new_back)) (values k) b
-              ∙ ap (λ j. last_value j (new_front ++ new_back)) ((bytes_eq-Decides p.key k).0 b)
-          | inr b ↦
-              cond-false (bytes_eq p.key k) (last_value p.key (new_front ++ new_back)) (values k) b
-              ∙ h.are_values k
-              ∙ ap (last_value k) are
-              ∙ last-append k front (p ∷ back)
-              ∙ ap (λ v. first_value (first_value (last_value k back) (if v then Some p.value else None)) (last_value k front)) b
-              ∙ ap₂ first_value
-              (first-none (last_value k back) ∙ ap (last_value k) (sym s.is_back) ∙ n.values k)
-              (ap (last_value k) (sym s.is_front) ∙ m.values k)
-              ∙ sym (last-append k new_front new_back)
-        ];
-      })
+      ∙ sym (places-append k 0 c (None ∷ d)) in (
+        ap₂ span_at parts place_is ∙ part-at s.before p s.after,
+        record {
+          slots = c ++ None ∷ d;
+          are_pairs = live-append c (None ∷ d) ∙ ap₂ (λ v w. v ++ w) m.are n.are;
+          are_spans = ap (map (option_and_then f)) (parts ∙ map-append part_of s.before (Some p ∷ s.after))
+              ∙ map-append (option_and_then f) (map part_of s.before) (map part_of (Some p ∷ s.after))
+              ∙ ap₂ (λ v w. v ++ w) m.parts (ap₂ (λ v w. v ∷ w) gone n.parts)
+              ∙ sym (map-append part_of c (None ∷ d));
+          are_places = λ k. elim (cases_Bool (bytes_eq p.key k)) [
+            | inl b ↦
+                let rest : others ≡ places_with p.key (suc first) s.after = cc in
+                cond-true (bytes_eq p.key k) others (places k) b
+                ∙ rest
+                ∙ ap (λ v. v ++ places_with p.key (suc first) s.after) (sym nothing)
+                ∙ all p.key
+                ∙ ap (λ j. places_with j 0 (c ++ None ∷ d)) ((bytes_eq-Decides p.key k).0 b)
+            | inr b ↦
+                cond-false (bytes_eq p.key k) others (places k) b
+                ∙ at k
+                ∙ ap (λ v. places_with k 0 s.before ++ place_if v first (places_with k (suc first) s.after)) b
+                ∙ all k
+          ];
+          are_values = λ k. elim (cases_Bool (bytes_eq p.key k)) [
+            | inl b ↦
+                cond-true (bytes_eq p.key k) (last_value p.key (new_front ++ new_back)) (values k) b
+                ∙ ap (λ j. last_value j (new_front ++ new_back)) ((bytes_eq-Decides p.key k).0 b)
+            | inr b ↦
+                cond-false (bytes_eq p.key k) (last_value p.key (new_front ++ new_back)) (values k) b
+                ∙ h.are_values k
+                ∙ ap (last_value k) are
+                ∙ last-append k front (p ∷ back)
+                ∙ ap (λ v. first_value (first_value (last_value k back) (if v then Some p.value else None)) (last_value k front)) b
+                ∙ ap₂ first_value
+                (first-none (last_value k back) ∙ ap (last_value k) (sym s.is_back) ∙ n.values k)
+                (ap (last_value k) (sym s.is_front) ∙ m.values k)
+                ∙ sym (last-append k new_front new_back)
+          ];
+        },
+      )

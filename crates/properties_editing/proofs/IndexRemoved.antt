@@ -291,11 +291,13 @@ module _ {e : Encoding} {key : List ℕ} {gs : List (List HeldLine)} {front sour
       let all = whole-size in
       let left = left-size in
       let listed = subst (λ w. IsListed (pairs_from 0 w) (changed_at f key (place ∷ places)) (changed_at v key (last_value key (pairs_from 0 w))) index.spans.items) all-groups h.listed in
-      let cut = cut-first skip g after key said.0 place places (ended-bytes e skip skip-ended) some-bytes (omega arith) skip-none said.1 own-places listed in
-      (cut.0, listed-as cut.1 refl refl
-      (λ j. sym (put-after key (place ∷ places) places f (changed_at f key (place ∷ places)) (λ k. refl) j))
-      (λ j. sym (put-after key (last_value key (pairs_from 0 (skip ++ g ∷ after))) (last_value key (pairs_from 0 (skip ++ after))) v
-      (changed_at v key (last_value key (pairs_from 0 (skip ++ g ∷ after)))) (λ k. refl) j)))
+      let cut = cut-first skip g after key said.0 place places (ended-bytes e skip skip-ended) some-bytes (omega arith) skip-none said.1 own-places listed in (
+        cut.0,
+        listed-as cut.1 refl refl
+            (λ j. sym (put-after key (place ∷ places) places f (changed_at f key (place ∷ places)) (λ k. refl) j))
+            (λ j. sym (put-after key (last_value key (pairs_from 0 (skip ++ g ∷ after))) (last_value key (pairs_from 0 (skip ++ after))) v
+            (changed_at v key (last_value key (pairs_from 0 (skip ++ g ∷ after)))) (λ k. refl) j)),
+      )
 
   -- Its part is one of the source.
   pub cut-inside : IsInSource start source (span_at index.spans.items place)
