@@ -41,8 +41,6 @@ returns c =
     let first = c.is_first-first.ensures (ending_of layout.ending) ∙ ap (λ v. is_empty (v ++ closing_bytes ending was.closing)) body in
     let pair = ap₂ (λ b s. unended_pair out opened.ascii_only b key (chars s) value) first c.as_str-separator.ensures.value in
     let printed = c.as_slice.ensures ∙ c.in_ok-print_new_pair.ensures ∙ ap₂ (λ v w. v ++ w) c.new-line.ensures pair in
-    let small = c.append_pair.new.source.small in
-    let len = c.append_pair.new.source.ok in
     appended-changes c.append_pair.result (λ e. HasValueSet e opened.ascii_only old key value new) opened key value ending c.as_slice.result.now ending old new was is
     (pair-added opened old new key value c.as_slice.result.now was is (editable-bytes (encoding_of opened.encoding) c.requires.unit) c.requires.start c.requires.sound c.requires.is_index
     c.requires.is_new (chars-scalars c.args.key.now c.utf8.key) (chars-scalars c.args.value.now c.utf8.value) (omega arith) layout laid printed)

@@ -45,31 +45,21 @@ loop-place-init c =
 
 pub remove_pair_at-requires : goal.remove_pair_at-requires
 remove_pair_at-requires c =
-    let small = c.loop-place.source.small in
-    let size = c.loop-place.source.ok in
     let next = subst (IsCutTo _ _ _ _ _ _) (ap (λ v. v ++ c.in-Some.pair.place ∷ []) (drop_more c.deref-place-items.result.now c.loop-place.place-index 0 c.loop-place-test.true)) c.loop-place.invariant in
     cut-inside c.args.opened.start (sym (length-take-le c.args.opened.start c.args.source.now.items c.requires.start)) next (omega arith)
 
 pub loop-place-preserved : goal.loop-place-preserved
 loop-place-preserved c =
-    let small = c.loop-place.source.small in
-    let size = c.loop-place.source.ok in
     let next = subst (IsCutTo _ _ _ _ _ _) (ap (λ v. v ++ c.in-Some.pair.place ∷ []) (drop_more c.deref-place-items.result.now c.loop-place.place-index 0 c.loop-place-test.true)) c.loop-place.invariant in
     cut-step c.args.opened.start (sym (length-take-le c.args.opened.start c.args.source.now.items c.requires.start)) next (omega arith) _ _ c.remove_pair_at.ensures.cuts
 
 pub remove_pair_at-requires-2 : goal.remove_pair_at-requires-2
 remove_pair_at-requires-2 c =
-    let small = c.loop-place.source.small in
-    let size = c.loop-place.source.ok in
     let last = subst (IsCutTo _ _ _ _ _ _) (ap (λ v. v ++ c.in-Some.pair.place ∷ []) (drop_of_length-le c.deref-place-items.result.now c.loop-place-test.false)) c.loop-place.invariant in
     cut-inside c.args.opened.start (sym (length-take-le c.args.opened.start c.args.source.now.items c.requires.start)) last (omega arith)
 
 pub guard_front-requires : goal.guard_front-requires
 guard_front-requires c =
-    let small = c.loop-place.source.small in
-    let size = c.loop-place.source.ok in
-    let new_size = c.remove_pair_at-2.new.source.ok in
-    let room = c.remove_pair_at-2.ensures.capacity in
     let last = subst (IsCutTo _ _ _ _ _ _) (ap (λ v. v ++ c.in-Some.pair.place ∷ []) (drop_of_length-le c.deref-place-items.result.now c.loop-place-test.false)) c.loop-place.invariant in
     let shorter = cut-shorter c.args.opened.start (sym (length-take-le c.args.opened.start c.args.source.now.items c.requires.start)) last (omega arith) _ _ c.remove_pair_at-2.ensures.cuts in
     omega arith
@@ -82,10 +72,6 @@ returns-clause-told c =
 pub returns-clause-removes : goal.returns-clause-removes
 returns-clause-removes c = λ e force.
     let r = c.requires in
-    let small = c.loop-place.source.small in
-    let size = c.loop-place.source.ok in
-    let new_small = c.guard_front.new.source.small in
-    let new_size = c.guard_front.new.source.ok in
     let last = subst (IsCutTo _ _ _ _ _ _) (ap (λ v. v ++ c.in-Some.pair.place ∷ []) (drop_of_length-le c.deref-place-items.result.now c.loop-place-test.false)) c.loop-place.invariant in
     let done = cut-step c.args.opened.start (sym (length-take-le c.args.opened.start c.args.source.now.items r.start)) last (omega arith) _ _ c.remove_pair_at-2.ensures.cuts in
     removal-ends e c.args.opened c.args.source.now.items (chars c.args.key.now) force r.editable r.sound _ _ _ _ (cut-whole done) (omega arith) c.guard_front.ensures

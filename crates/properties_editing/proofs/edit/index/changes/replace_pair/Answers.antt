@@ -39,10 +39,6 @@ returns c = λ e force.
     let was = c.args.index.now in
     let is = c.replace_source.new.index in
     let made = rw c.deref.ensures.value at c.in_ok-bytes.ensures in
-    let old_small = c.args.source.now.small in
-    let old_len = c.args.source.now.ok in
-    let small = c.replace_source.new.source.small in
-    let len = c.replace_source.new.source.ok in
     let told : FollowsPair key value pair.end (pair.end + length bytes - length old) (opened.start + pair.end == length old) was is =
     subst (λ v. FollowsPair key v pair.end (pair.end + length bytes - length old) (opened.start + pair.end == length old) was is) (ap chars c.in_ok-text.ensures.ok) c.replace_source.ensures.follows in
     let follows : FollowsPair key value pair.end (pair.end + length new - length old) (opened.start + pair.end == length old) was is =

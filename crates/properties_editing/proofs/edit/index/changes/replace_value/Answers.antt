@@ -19,32 +19,24 @@ pub overflow_add-start : goal.overflow_add-start
 overflow_add-start c =
     let r = c.requires in
     let at = pair-within c.args.opened c.args.source.now.items (editable-bytes _ r.unit) r.start c.args.pair (chars c.args.key.now) r.placed in
-    let small = c.args.source.now.small in
-    let len = c.args.source.now.ok in
     omega arith
 
 pub overflow_add-end : goal.overflow_add-end
 overflow_add-end c =
     let r = c.requires in
     let at = pair-within c.args.opened c.args.source.now.items (editable-bytes _ r.unit) r.start c.args.pair (chars c.args.key.now) r.placed in
-    let small = c.args.source.now.small in
-    let len = c.args.source.now.ok in
     omega arith
 
 pub slice_bounds-new_value-end : goal.slice_bounds-new_value-end
 slice_bounds-new_value-end c =
     let r = c.requires in
     let at = pair-within c.args.opened c.args.source.now.items (editable-bytes _ r.unit) r.start c.args.pair (chars c.args.key.now) r.placed in
-    let small = c.args.source.now.small in
-    let len = c.args.source.now.ok in
     omega arith
 
 pub overflow_add-front : goal.overflow_add-front
 overflow_add-front c =
     let r = c.requires in
     let at = pair-within c.args.opened c.args.source.now.items (editable-bytes _ r.unit) r.start c.args.pair (chars c.args.key.now) r.placed in
-    let small = c.args.source.now.small in
-    let len = c.args.source.now.ok in
     let start = c.args.opened.start + c.args.pair.start in
     let end = c.args.opened.start + c.args.pair.end in
     let n : IsNewValue (encoding_of c.args.opened.encoding) c.args.opened.ascii_only (take (end - start) (drop start c.args.source.now.items)) (chars c.args.value.now) c.in-Some.new =
@@ -57,8 +49,6 @@ pub slice_bounds-front-end : goal.slice_bounds-front-end
 slice_bounds-front-end c =
     let r = c.requires in
     let at = pair-within c.args.opened c.args.source.now.items (editable-bytes _ r.unit) r.start c.args.pair (chars c.args.key.now) r.placed in
-    let small = c.args.source.now.small in
-    let len = c.args.source.now.ok in
     let start = c.args.opened.start + c.args.pair.start in
     let end = c.args.opened.start + c.args.pair.end in
     let n : IsNewValue (encoding_of c.args.opened.encoding) c.args.opened.ascii_only (take (end - start) (drop start c.args.source.now.items)) (chars c.args.value.now) c.in-Some.new =
@@ -72,16 +62,12 @@ pub slice_bounds-concatenated-count : goal.slice_bounds-concatenated-count
 slice_bounds-concatenated-count c =
     let r = c.requires in
     let at = pair-within c.args.opened c.args.source.now.items (editable-bytes _ r.unit) r.start c.args.pair (chars c.args.key.now) r.placed in
-    let small = c.args.source.now.small in
-    let len = c.args.source.now.ok in
     omega arith
 
 pub slice_bounds-concatenated-start : goal.slice_bounds-concatenated-start
 slice_bounds-concatenated-start c =
     let r = c.requires in
     let at = pair-within c.args.opened c.args.source.now.items (editable-bytes _ r.unit) r.start c.args.pair (chars c.args.key.now) r.placed in
-    let small = c.args.source.now.small in
-    let len = c.args.source.now.ok in
     omega arith
 
 pub replace_source-requires-clause-within : goal.replace_source-requires-clause-within
@@ -107,8 +93,6 @@ returns-in_err-bytes c =
 pub returns-in_default : goal.returns-in_default
 returns-in_default c = λ e force.
     let r = c.requires in
-    let small = c.args.source.now.small in
-    let len = c.args.source.now.ok in
     let there = rw (c.in_default.is, c.deref.ensures.value) at c.in_ok-new.ensures in
     same-value e c.args.opened c.args.source.now.items c.args.source.now.items (chars c.args.key.now) (chars c.args.value.now) c.args.pair c.args.index.now c.args.index.now
     (chars-scalars c.args.value.now c.utf8.value) force (editable-bytes _ r.unit) r.sound r.placed r.is_index (omega arith) (omega arith) (chars-scalars c.args.key.now c.utf8.key) there
@@ -119,10 +103,6 @@ returns c = λ e force.
     let opened = c.args.opened in
     let old = c.args.source.now.items in
     let put = c.replace_source.new.source.items in
-    let old_small = c.args.source.now.small in
-    let old_len = c.args.source.now.ok in
-    let small = c.replace_source.new.source.small in
-    let len = c.replace_source.new.source.ok in
     let start = opened.start + c.args.pair.start in
     let end = opened.start + c.args.pair.end in
     let n : IsNewValue (encoding_of opened.encoding) opened.ascii_only (take (end - start) (drop start old)) (chars c.args.value.now) c.in-Some.new =
