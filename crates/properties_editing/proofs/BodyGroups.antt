@@ -144,9 +144,7 @@ span-one body old new group k starts ends opens empty =
     let by = ending_bytes k.ending in
     let sizes = has-sizes body old new k in
     let size = sizes.line in
-    let ending_size = sizes.ending_size in
     let ordered = k.ordered in
-    let placed = k.placed in
     let all : length (bytes ++ (by ++ [])) ≡ length bytes + length by = ap (λ v. length (bytes ++ v)) (append-nil by) ∙ length-append bytes by in
     record {
       unended = omega arith;
@@ -216,9 +214,6 @@ group-first E body old found l group true k begins number starts ends opens empt
     let open_text = b.opens in
     let leaves : closes [] line ≡ false = rw (other, open_text) refl in
     let left : (not (is_comment_line h.text) && is_open h.text) ≡ true = rw (other, open_text) refl in
-    let ordered = k.ordered in
-    let placed = k.placed in
-    let within = k.within.within_body.fits.within in
     record {
       first = h;
       more = [];
@@ -257,12 +252,7 @@ group-more E body before group mid found l stop told j opened k unfinished added
     let g = j.first ∷ j.more in
     let by = ending_bytes k.ending in
     let sizes = has-sizes body mid found k in
-    let size = sizes.line in
-    let ending_size = sizes.ending_size in
-    let within = sizes.within in
     let starts = k.starts in
-    let ordered = k.ordered in
-    let placed = k.placed in
     let next = j.span.next in
     let other = j.opened opened in
     let same_line : found.line ≡ mid.line = ap (λ v. let w : GroupReader = v in w.line) k.same in
@@ -279,7 +269,6 @@ group-more E body before group mid found l stop told j opened k unfinished added
     let all : length (group_bytes (g ++ h ∷ [])) ≡ length (group_bytes g) + length (bytes ++ (by ++ [])) =
     ap length (group_bytes-append g (h ∷ [])) ∙ length-append (group_bytes g) (bytes ++ (by ++ [])) in
     let passed = k.passed in
-    let before_passed = j.passed in
     record {
       first = j.first;
       more = j.more ++ h ∷ [];
@@ -305,9 +294,6 @@ pub more-begun : (body : List ℕ) (mid found : GroupReader) (l : LogicalLine) (
     → IsUnfinished (encoding_of found.scanner.encoding) l → IsSound l → joined.start ≡ group.start → joined.end ≡ found.scanner.line.end
     → IsBegun body (record found { line = l }) joined
 more-begun body mid found l group joined b k u sound starts ends =
-    let before = b.ordered in
-    let behind = b.placed in
-    let from = k.starts in
     let ordered = k.ordered in
     let placed = k.placed in
     let within = k.within.within_body.fits.within in

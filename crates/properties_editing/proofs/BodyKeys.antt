@@ -76,11 +76,8 @@ pub read-more : {e : Encoding} {body : List ℕ} {groups : List (List HeldLine)}
     → (k : TakesGroup body s group t) → IsSound (outcome_of (chars (text_of body t group))) → HasRead e body (groups ++ k.held ∷ []) t
 read-more {e} {body} {groups} {s} {t} {group} h k sound =
     let one : groups_bytes (k.held ∷ []) ≡ group_bytes k.held = append-nil (group_bytes k.held) in
-    let next = k.span.next in
-    let starts = k.starts in
     let placed = h.placed in
     let counted = h.counted in
-    let passed = k.passed in
     let all : length (groups_bytes (groups ++ k.held ∷ [])) ≡ length (groups_bytes groups) + length (group_bytes k.held) =
     ap length (groups_bytes-append groups (k.held ∷ []) ∙ ap (λ v. groups_bytes groups ++ v) one) ∙ length-append (groups_bytes groups) (group_bytes k.held) in
     let lines : length (held_in (groups ++ k.held ∷ [])) ≡ length (held_in groups) + length k.held =
@@ -107,8 +104,6 @@ pub read-fault : {e : Encoding} {body : List ℕ} {groups : List (List HeldLine)
     → IsErrorOfGroups (held_groups_of e body) error
 read-fault {e} {body} {groups} {s} {t} {group} error h k (inl (how, breaks, is)) =
     let broke : outcome_of (joined (as_lines k.held)) ≡ broken how = ap outcome_of (sym k.text) ∙ breaks in
-    let number = k.number in
-    let counted = h.counted in
     let first : group.number ≡ 1 + length (held_in groups) = omega arith in
     inl (
       how,
@@ -298,7 +293,6 @@ kept-removed {e} {body} {key} {s} {t} {others} {start} {group} more h k sound is
     let has : has_key key k.held ≡ true = ap (λ v. is_pair_with key (outcome_of v)) (sym k.text) ∙ sym is in
     let starts = k.starts in
     let ordered = h.ordered in
-    let place = h.read.within.within_body.fits.within in
     let within = within-append body others (record { start = start; end = group.start } ∷ []) h.within ((omega arith), (omega arith), tt) in
     record {
       groups = h.groups ++ k.held ∷ [];
@@ -330,8 +324,6 @@ group-part {e} {body} {groups} {s} {t} {group} ok h k =
     let g = group_bytes k.held in
     let rest = groups_bytes (groups_left body t) in
     let whole = group-whole ok h k in
-    let next = k.span.next in
-    let starts = k.starts in
     let placed = h.placed in
     let size : t.scanner.at - s.scanner.at ≡ length g = omega arith in (
       ap₂ (λ n d. take n d) size (ap₂ drop placed whole ∙ drop-append_seam front (g ++ rest)) ∙ front-of g rest,
@@ -346,7 +338,6 @@ kept-more {e} {body} {key} {s} {t} {others} {start} {group} ok h k sound is =
     let has : has_key key k.held ≡ false = ap (λ v. is_pair_with key (outcome_of v)) (sym k.text) ∙ sym is in
     let part = group-part ok h.read k in
     let ordered = h.ordered in
-    let after = part.1 in
     let sum : t.scanner.at - start ≡ (s.scanner.at - start) + (t.scanner.at - s.scanner.at) = omega arith in
     let place : start + (s.scanner.at - start) ≡ s.scanner.at = omega arith in
     let grown : take (t.scanner.at - start) (drop start body) ≡ take (s.scanner.at - start) (drop start body) ++ group_bytes k.held =

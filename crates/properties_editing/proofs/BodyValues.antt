@@ -159,8 +159,6 @@ between-pair line key value u at k v meets =
     let rest = bytes_in line value in
     let d = at.division in
     let starts = at.value_start in
-    let key_start = at.key_start in
-    let key_end = at.key_end in
     let parts : line ≡ (d.indent ++ key_bytes) ++ (d.between ++ rest) = d.whole ∙ sym (append_assoc d.indent key_bytes (d.between ++ rest)) in
     let front = length-append d.indent key_bytes in
     let is : bytes_in line span ≡ d.between =
@@ -301,7 +299,6 @@ pub taken-sizes : {e : Encoding} {body : List ℕ} {new : GroupReader} {first : 
     → (length added + open_count text ≤ length text) × (open_count text ≤ length (bytes_of body new.scanner.line))
 taken-sizes {e} {body} {new} {first} {text} {added} t =
     let s = sizes-of first text added t.text_utf8 t.added_utf8 t.adds in
-    let sum = s.sum in
     let alike = open-alike text t.text_utf8 in (
       (omega arith),
       subst (λ n. n ≤ length (bytes_of body new.scanner.line)) alike (elim (cases_Bool (is_open (chars text))) [
@@ -338,8 +335,6 @@ walking-found {e} {body} {old} {new} {first} {left} text added head ok w k t l w
     let s = sizes-of first text added t.text_utf8 t.added_utf8 t.adds in
     let added_size : utf8_size (added_by first h.text) ≡ length added = ap (λ v. utf8_size (added_by first v)) same ∙ s.added_size in
     let alike = open-alike text t.text_utf8 in
-    let size = w.size in
-    let starts = k.starts in
     let front : length (front_of e w.group) ≡ old.scanner.at + length (front_in e first w.rest (h ∷ hs)) =
     w.front ∙ ap (λ v. old.scanner.at + length (front_in e first w.rest v)) lines in
     let is : length (front_in e first w.rest (h ∷ hs)) ≡ head =
@@ -391,16 +386,12 @@ walking-on {e} {body} {old} {new} {first} {left} text added w k t l =
     let size = w.size in
     let on = walk-on e first h hs w.rest w.value is_before (omega arith) in
     let later = front_size-later e first h hs w.rest on.next on.whole on.is_before.some in
-    let starts = k.starts in
-    let ordered = k.ordered in
-    let placed = k.placed in
     let inside = k.within.within_body.fits.within in
     let line_size : length bytes ≡ new.scanner.line.end - new.scanner.line.start = length-slice body new.scanner.line.start new.scanner.line.end (omega arith) in
     let ending_size : length (ending_bytes k.ending) ≡ new.scanner.at - new.scanner.line.end =
     ap length (sym k.ends) ∙ length-slice body new.scanner.line.end new.scanner.at inside in
     let front : length (front_of e w.group) ≡ old.scanner.at + length (front_in e first w.rest (h ∷ hs)) =
     w.front ∙ ap (λ v. old.scanner.at + length (front_in e first w.rest v)) lines in
-    let next_size = on.size in
     record {
       group = w.group;
       is_group = w.is_group;
@@ -530,7 +521,6 @@ pub revalued-made : (e : Encoding) (only : Bool) (source : List ℕ) (start end 
     → bytes ≡ take (start + new.front_size) source ++ (new.bytes ++ drop end source) → bytes ≡ revalued_in e only source start end value n.group
 revalued-made e only source start end value bytes new n made =
     let part = drop start source in
-    let within = n.within in
     let sized : length (take (end - start) part) ≤ end - start = length-take-most (end - start) part in
     let short : take new.front_size part ≡ front_of e n.group =
     sym (take-take new.front_size (end - start) part (omega arith)) ∙ n.front in

@@ -52,7 +52,6 @@ bom-front {source} {e} {opened} h =
     let whole : source ≡ bom_of source ++ body = source-whole e source ∙ ap (λ v. let w : InForce = v in bom_of source ++ w.body) h.in_force in
     let sizes : length source ≡ length (bom_of source) + length body = ap length whole ∙ length-append (bom_of source) body in
     let left : length body ≡ length source - opened.start = length-drop opened.start source in
-    let within = h.within in
     let n : opened.start ≡ length (bom_of source) = omega arith in
     sym (ap₂ take n whole ∙ front-of (bom_of source) body)
 
@@ -232,8 +231,6 @@ replaced-result {source} {e} {opened} {found} key value bytes pair h ok k is mad
     let place : IsPlaceOf key gs pair = subst (IsPlace key gs) is k.pair in
     let at = place-split f body key pair ok place in
     let before = groups_bytes place.place.before in
-    let ordered = at.ordered in
-    let within = at.within in
     let first : (pair.start == 0) ≡ is_empty before = start-first body pair.start (omega arith) ∙ ap is_empty at.front in
     let printed : pair_bytes (output_encoding f) opened.ascii_only (pair.start == 0) key value ≡ pair_bytes f opened.ascii_only (is_empty before) key value =
     ap₂ (λ v b. pair_bytes v opened.ascii_only b key value) (editable-own f ok) first in
@@ -286,9 +283,7 @@ span-within {source} {e} {opened} {found} {key} pair h ok k is =
     let f = encoding_of opened.encoding in
     let body = drop opened.start source in
     let at = place-split f body key pair ok (subst (IsPlace key (held_groups_of f body)) is k.pair) in
-    let within = at.within in
     let left : length body ≡ length source - opened.start = length-drop opened.start source in
-    let start = h.within in
     omega arith
 
 -- ---- a byte order mark at the front

@@ -39,7 +39,6 @@ module _ (start end : ℕ) (some : start < end) where
   cut-before (g ∷ gs) n b low =
       let size = length-append (group_bytes g) (groups_bytes gs) in
       let own_size = group-size g in
-      let has = b.0 in
       let other : n ≢ start = λ q. absurd (omega arith) in
       let own : shifted (shift.Cut start end) (span_of n g) ≡ Some (span_of n g) =
       cut-other (span_of n g) other

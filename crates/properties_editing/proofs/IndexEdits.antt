@@ -59,7 +59,6 @@ module _ (opened : BodyStart) (old : List ℕ) (ok : is_editable (encoding_of op
   pub pair-within : (pair.start ≤ pair.end) × (opened.start + pair.end ≤ length old)
   pair-within =
       let split = place-split (encoding_of opened.encoding) (drop opened.start old) key pair ok at in
-      let within = split.within in
       let size : length (drop opened.start old) ≡ length old - opened.start = length-drop opened.start old in
       (split.ordered, omega arith)
 
@@ -99,7 +98,6 @@ module _ (e : Encoding) (opened : BodyStart) (old new key value : List ℕ) (pai
       let new_size : length new ≡ opened.start + length edited_body =
       ap length front ∙ length-append (take opened.start old) edited_body ∙ ap (λ n. n + length edited_body) start_size in
       let old_size : length body ≡ length old - opened.start = length-drop opened.start old in
-      let start_in = h.within in
       let next : List (List HeldLine) = p.before ++ group ∷ p.after in
       let next_groups : next ≡ held_groups_of f (drop opened.start new) = groups ∙ ap (held_groups_of f) (sym rest) in
       let next_size : length (groups_bytes next) ≡ length edited_body =
@@ -108,8 +106,6 @@ module _ (e : Encoding) (opened : BodyStart) (old new key value : List ℕ) (pai
       let old_whole = ap length (sym all ∙ ap groups_bytes at.division) in
       let old_parts : length body ≡ _ = old_whole ∙ size-around p.before p.group p.after in
       let ending_size = ap (λ o. length (ending_bytes o)) ending in
-      let starts = at.starts in
-      let ends = at.ends in
       let some = (regrouped f opened.ascii_only body key value p ok v m).old_size in
       let new_is : pair.end + length new - length old ≡ length (groups_bytes p.before) + length (unended_bytes group) = omega arith in
       let old_is : pair.end ≡ length (groups_bytes p.before) + length (unended_bytes p.group) = omega arith in

@@ -161,7 +161,6 @@ module _ {Y : Type 0} {values : List ℕ → Option (List ℕ)} {spans : List (O
   first-inside : (key : List ℕ) (i : ℕ) → IsFirstIn entries key i → i < length spans
   first-inside key i p =
       let m = found-first key i p in
-      let is = m.is in
       let low = some-inside h.slots m.behind m.pair m.at in
       let size = ap length h.are_spans ∙ length-map h.slots part_of in
       omega arith
@@ -171,8 +170,6 @@ module _ {Y : Type 0} {values : List ℕ → Option (List ℕ)} {spans : List (O
   first-only key other i p q =
       let m = found-first key i p in
       let n = found-first other i q in
-      let m_is = m.is in
-      let n_is = n.is in
       let place : m.behind ≡ n.behind = omega arith in
       let at : Some m.pair ≡ Some n.pair = sym m.at ∙ ap (λ v. get_or h.slots v None) place ∙ n.at in
       let pair : m.pair ≡ n.pair = cc in

@@ -107,8 +107,6 @@ revalued-result {source} {e} {opened} {found} key value bytes pair h ok k is (gr
     let front_is : front_of f group ≡ front_of f p.group = ap (front_of f) same ∙ unended-front f p.group m.0 m.1 ok decoded m.2 in
     let between_is : between_of group ≡ between_of p.group = ap between_of same ∙ unended-between p.group in
     let has_is : has_value value group ≡ has_value value p.group = ap (has_value value) same ∙ unended-value value p.group in
-    let ordered = part.ordered in
-    let within = part.within in
     let front : take (opened.start + pair.start) source ≡ bom_of source ++ groups_bytes p.before =
     take-add opened.start pair.start source ∙ ap₂ (λ v w. v ++ w) (sym (bom-front h)) part.front in
     let back : drop (opened.start + pair.end) source ≡ ending_bytes (last_ending p.group) ++ groups_bytes p.after =

@@ -19,5 +19,4 @@ returns c =
     let inv = c.loop-place.invariant in
     let size : c.args.spans.now.len ≡ length c.args.spans.now.items = c.args.spans.now.ok.0 in
     let end : c.len-place-end.result ≡ c.args.spans.now.len = c.len-place-end.ensures in
-    let past = c.loop-place-test.false in
     all-same c.args.change c.args.spans.now.items c.loop-place.spans.items inv.size (λ i low. inv.done i (omega arith))

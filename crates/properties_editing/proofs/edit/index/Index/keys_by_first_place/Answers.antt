@@ -22,7 +22,6 @@ index_mut-requires c =
     let at = subst (λ v. IsPlacing c.args.self.now.pairs.entries v (map key_at c.loop-key.firsts.items)) c.in-Some.ensures.steps c.loop-key.invariant.1 in
     let next = placing-next c.args.self.now c.next.new.self c.loop-key.firsts.items c.in-Some.key.now c.in-Some.pair.now c.first_place.result c.as_str.result
     c.requires at c.first_place.ensures c.as_str.ensures.value c.loop-key.invariant.0 in
-    let inside = next.0 in
     omega arith
 
 pub loop-key-preserved : goal.loop-key-preserved

@@ -40,6 +40,5 @@ pub loop-place-preserved : goal.loop-place-preserved
 loop-place-preserved c =
     let spans = c.args.self.now.spans.items in
     let inv = c.loop-place.invariant in
-    let low = inv.0 in
     let known = step spans c.loop-place.place c.index.result.now c.loop-place-test.true inv.0 c.index.ensures inv.1 in
     ((omega arith), known ∙ ap (λ o. span_or o (last_live (take (c.loop-place.place - 1) spans))) c.in_default.is)
