@@ -9,10 +9,10 @@ use Rattle.properties_format.specs.Entries as content
 use Rattle.std.proofs.lemmas.Bool.{cases_Bool, cond-true, cond-false}
 use Rattle.std.proofs.lemmas.List.{drop-drop, take_more}
 use Rattle.std.proofs.Math.Seq.{drop-append_seam}
-use Rattle.properties_format.specs.Edited.{is_editable}
-use Rattle.properties_format.specs.Computed.Edited.{without}
-use Rattle.properties_format.proofs.Body.Groups.{held-body, held_groups_of-meets}
-use Rattle.properties_format.proofs.Edited.Steps.{without-append}
+use Rattle.properties_format.specs.Edited.{is_editable, unreadable, final_group, is_empty_line, is_left_open}
+use Rattle.properties_format.specs.Computed.Edited.{without, IsSound, AreSound, result_by}
+use Rattle.properties_format.proofs.Body.Groups.{held-body, held_groups_of-meets, groups_bytes-append, groups-close, groups-leave}
+use Rattle.properties_format.proofs.Edited.Steps.{without-append, last_place-new, last_place-other, with_after, final_group-push, result-after}
 use Rattle.properties_editing.specs.Private.BodyKeys.{spans_bytes, AreWithin, AreOthersFound, IsErrorOfGroups, IsPlace, closing_of, closing_bytes, IsKeyFound, places_with, key_told}
 use Rattle.properties_editing.specs.Private.BodyIndex.{is_pair}
 use Rattle.properties_editing.specs.Private.BodyValues.{IsLastPair, FindsLastPair}
@@ -26,15 +26,11 @@ use Rattle.properties_format.specs.Computed.Groups.{closes}
 use Rattle.properties_format.specs.Computed.Cut.{cut_of}
 use Rattle.properties_format.specs.Body.{HeldLine, as_lines, held_in, group_bytes, groups_bytes}
 use Rattle.properties_format.specs.Valued.{separation_by}
-use Rattle.properties_format.specs.Edited.{unreadable, final_group, is_empty_line, is_left_open}
 use Rattle.properties_format.specs.Items.{Outcome, ignored, given, broken}
 use Rattle.properties_format.specs.Computed.Items.{outcome_of, followed}
 use Rattle.properties_format.specs.Computed.Body.{is_pair_with, has_key, entries_in, held_of, held_lines_of, held_groups_after, held_groups_of}
 use Rattle.properties_format.specs.Computed.Parts.{unended_bytes}
-use Rattle.properties_format.specs.Computed.Edited.{IsSound, AreSound, result_by}
-use Rattle.properties_format.proofs.Body.Groups.{groups_bytes-append, groups-close, groups-leave}
 use Rattle.properties_format.proofs.Edited.Made.{has_key-true}
-use Rattle.properties_format.proofs.Edited.Steps.{last_place-new, last_place-other, with_after, final_group-push, result-after}
 use Rattle.properties_format.proofs.Valued.Lined.{held_in-append}
 use Rattle.properties_text.specs.Encoding.{encoding_of}
 use Rattle.properties_editing.proofs.BodyGroups.{front-of}

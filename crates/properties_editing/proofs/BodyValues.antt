@@ -1,75 +1,56 @@
 -- How the value of a key is set in a body that is held in memory.
-use Rattle.std.proofs.Common.{◌≡◌, ◌<◌, ◌≤◌, ℕ, zero, suc, ◌+◌, ◌-◌, Bool, true, false, List, [], ◌∷◌, ◌++◌, length, take, drop, get_or, refl, inl, inr, ap, ap₂, sym, ◌∙◌, subst, arith, append-nil, append_assoc, length-append}
-use Rattle.std.specs.Prelude.{if◌then◌else◌, nat_lt}
+use Rattle.std.proofs.Common.{◌≡◌, ◌<◌, ◌≤◌, ℕ, zero, suc, ◌+◌, ◌-◌, Bool, true, false, List, [], ◌∷◌, ◌++◌, length, take, drop, get_or, refl, inl, inr, ap, ap₂, sym, ◌∙◌, subst, arith, append-nil, append_assoc, length-append, take-add}
+use Rattle.std.specs.Prelude.{if◌then◌else◌, nat_lt, Some, None, bytes_eq, nat_le}
 use Rattle.std.proofs.lemmas.Bool.{cases_Bool, cond-true, cond-false}
-use Rattle.std.proofs.lemmas.List.{drop_more, take_more, drop_all}
-use Rattle.std.specs.Prelude.{Some, None, bytes_eq}
-use Rattle.std.proofs.lemmas.List.{length-drop}
-use Rattle.std.proofs.lemmas.Str.{chars-nil}
-use Rattle.properties_editing.specs.Private.BodyGroups.{TakesGroup, IsFirstGroup}
+use Rattle.std.proofs.lemmas.List.{drop_more, take_more, drop_all, length-drop, length-take-le, length-take, take_rest, take-append-drop}
+use Rattle.std.proofs.lemmas.Str.{chars-nil, chars-append, IsUtf8-take, IsUtf8-between}
+use Rattle.properties_editing.specs.Private.BodyGroups.{TakesGroup, IsFirstGroup, IsWithin, TakesLine, text_of}
 use Rattle.properties_editing.specs.declared.edit.groups.Group.{Group}
 use Rattle.properties_editing.specs.declared.edit.groups.GroupReader.{GroupReader}
-use Rattle.std.specs.Prelude.{nat_le}
-use Rattle.std.proofs.lemmas.List.{length-take-le}
 use Rattle.properties_format.specs.Encoding.{Encoding}
 use Rattle.properties_format.specs.Lines.{Lines}
 use Rattle.properties_format.specs.Groups.{is_open, joined}
-use Rattle.properties_format.specs.Body.{HeldLine, as_lines, held_in, ending_bytes, AreGroupsOf}
+use Rattle.properties_format.specs.Body.{HeldLine, as_lines, held_in, ending_bytes, AreGroupsOf, group_bytes, last_ending}
 use Rattle.properties_format.specs.Edited.{is_editable}
 use Rattle.properties_format.specs.Computed.Cut.{decoded_line}
 use Rattle.properties_format.specs.Computed.Body.{held_of, held_lines_of, held_groups_of}
-use Rattle.properties_format.specs.Computed.Valued.{added_by, without_indent, front_in, front_of, last_between}
-use Rattle.properties_format.proofs.Body.Groups.{held_groups_of-meets, held_of-only}
+use Rattle.properties_format.specs.Computed.Valued.{added_by, without_indent, front_in, front_of, last_between, between_of, is_pair_to, has_value, ascii_count, after_ascii, after_key, written_value, between_in, before_value, between_if_pair, without_end}
+use Rattle.properties_format.proofs.Body.Groups.{held_groups_of-meets, held_of-only, held-body}
 use Rattle.properties_format.proofs.Cut.Only.{cut_of-only}
-use Rattle.properties_format.proofs.Valued.Fronts.{AreDecoded, indented, joined_by, open_backslash, shut-whole, split-longer}
+use Rattle.properties_format.proofs.Valued.Fronts.{AreDecoded, indented, joined_by, open_backslash, shut-whole, split-longer, front_of-meets}
 use Rattle.properties_format.proofs.Valued.Made.{group-decoded}
-use Rattle.properties_format.proofs.Valued.Sizes.{count-text}
+use Rattle.properties_format.proofs.Valued.Sizes.{count-text, count-append}
 use Rattle.properties_format.proofs.Valued.Steps.{front_size-end, front_size-later}
-use Rattle.properties_format.proofs.Valued.Walks.{utf8_size, size-text, text-cut, added-size, open-some, IsWalkBefore, walk-begins, walk-here, walk-inside, walk-on, size-append}
+use Rattle.properties_format.proofs.Valued.Walks.{utf8_size, size-text, text-cut, added-size, open-some, IsWalkBefore, walk-begins, walk-here, walk-inside, walk-on, size-append, front-within}
 use Rattle.properties_text.specs.Encoding.{encoding_of}
 use Rattle.properties_lines.specs.Private.HeldLines.{held_line, lines_left}
 use Rattle.properties_lines.specs.Scanner.{bytes_of}
 use Rattle.properties_lines.specs.declared.scanner.RawLine.{RawLine}
-use Rattle.properties_editing.specs.Private.BodyGroups.{IsWithin, TakesLine}
 use Rattle.properties_format.specs.Printing.{encoded_text}
 use Rattle.properties_format.specs.Valued.{value_text}
-use Rattle.properties_format.specs.Body.{group_bytes, last_ending}
 use Rattle.properties_format.specs.Escapes.{Malformed, Means, Breaks, Meaning, means, breaks}
 use Rattle.properties_format.specs.Computed.Escapes.{meaning_of}
 use Rattle.properties_format.specs.Computed.Items.{outcome_of, pair_outcome, split_outcome}
 use Rattle.properties_format.specs.Computed.Edited.{IsSound}
 use Rattle.properties_format.proofs.Escapes.Unique.{means-only, meaning_of-only}
 use Rattle.properties_format.specs.Computed.Parts.{unended_bytes}
-use Rattle.properties_format.specs.Computed.Valued.{between_of, is_pair_to}
-use Rattle.properties_format.proofs.Body.Groups.{held-body}
 use Rattle.properties_format.proofs.InTurn.Lines.{bytes-unended}
-use Rattle.properties_format.proofs.Valued.Fronts.{front_of-meets}
 use Rattle.properties_format.proofs.Valued.Read.{front-unended}
-use Rattle.properties_format.proofs.Valued.Walks.{front-within}
-use Rattle.properties_editing.specs.Private.BodyGroups.{text_of}
-use Rattle.properties_editing.specs.Private.BodyValues.{IsBeforeValue, IsFrontSize, IsPairAlone, IsNewValue, IsGroupAlone, revalued_in}
+use Rattle.properties_editing.specs.Private.BodyValues.{IsBeforeValue, IsFrontSize, IsPairAlone, IsNewValue, IsGroupAlone, revalued_in, IsBetweenAt}
 use Rattle.properties_editing.specs.declared.edit.new_value.NewValue.{NewValue}
-use Rattle.std.proofs.Common.{take-add}
-use Rattle.std.proofs.lemmas.List.{length-take}
-use Rattle.properties_format.specs.Computed.Valued.{has_value}
 use Rattle.std.specs.Str.{IsUtf8, chars}
 use Rattle.properties_text.specs.declared.encoding.line.LineEncoding.TheVariants.{Utf8}
 use Rattle.properties_lines.proofs.LineTexts.{joins-alike}
 use Rattle.std.proofs.Math.Seq.{take-append_seam, drop-append_seam}
-use Rattle.std.proofs.lemmas.List.{take_rest, take-append-drop}
-use Rattle.std.proofs.lemmas.Str.{chars-append, IsUtf8-take, IsUtf8-between}
 use Rattle.properties_format.specs.Text.{without_leading_blanks}
 use Rattle.properties_format.specs.Split as split
 use Rattle.properties_format.specs.Split.{IsSplit, IsPair}
 use Rattle.properties_format.specs.Computed.Split.{split_of}
-use Rattle.properties_format.specs.Computed.Valued.{ascii_count, after_ascii, after_key, written_value, between_in, before_value, between_if_pair, without_end}
 use Rattle.properties_format.proofs.Split.Unique.{split_of-only}
 use Rattle.properties_format.proofs.Valued.Parts.{without_end-append, written_value-pair, after_key-pair}
-use Rattle.properties_format.proofs.Valued.Sizes.{count-append}
 use Rattle.properties_text.specs.Parsing.{bytes_in, IsSpan, IsPairAt}
 use Rattle.properties_text.specs.declared.parse.Span.{Span}
 use Rattle.properties_text.proofs.Texts.Split.{rest_of, rest_of-part, without_leading_blanks-part}
-use Rattle.properties_editing.specs.Private.BodyValues.{IsBetweenAt}
 
 -- ---- ASCII among bytes
 

@@ -2,7 +2,7 @@
 use Rattle.std.proofs.Common.{◌≡◌, ◌≢◌, ◌<◌, ◌≤◌, ℕ, ◌+◌, Bool, true, false, List, [], ◌∷◌, ◌++◌, None, All, take, drop, ◌-◌, ◌^◌, length, length-drop, refl, ap, ap₂, sym, ◌∙◌, inl, inr, append_assoc, length-append, subst, arith}
 use Rattle.std.specs.Prelude.{Result, Ok, Err, if◌then◌else◌}
 use Rattle.properties_format.specs.Text.{LineEnding, lf, cr, scalar, line_ending_text}
-use Rattle.properties_format.specs.Encoding.{Encoding}
+use Rattle.properties_format.specs.Encoding.{Encoding, output_encoding}
 use Rattle.properties_format.specs.Lines.{HoldsNoLineEnd}
 use Rattle.properties_format.specs.Computed.Lines.{ends_in_cr}
 use Rattle.properties_format.specs.Computed.Cut.{decoded_line}
@@ -20,7 +20,7 @@ use Rattle.properties_format.proofs.Body.Groups.{held-body, held_groups_of-meets
 use Rattle.properties_format.proofs.Edited.AppendedPair.{appended_groups, appended-held}
 use Rattle.properties_format.proofs.Edited.Closed.{IsSeam, closed-by, opened_by, put-seam, value-seam}
 use Rattle.properties_format.proofs.Edited.Contents.{ends-right}
-use Rattle.properties_format.proofs.Edited.Pair.{pair_text, pair-decoded, pair-whole, pair-outcome, pair-plain}
+use Rattle.properties_format.proofs.Edited.Pair.{pair_text, pair-decoded, pair-whole, pair-outcome, pair-plain, editable-own}
 use Rattle.properties_format.proofs.Edited.Steps.{final_group-push}
 use Rattle.properties_format.proofs.Items.Unique.{outcome_of-only}
 use Rattle.properties_format.proofs.Edited.Parts.{pair-some}
@@ -29,9 +29,7 @@ use Rattle.properties_format.proofs.Valued.Made.{new_separator-meets}
 use Rattle.properties_format.proofs.Valued.Separators.{new_separator-fit, added-pair, added_bytes}
 use Rattle.std.proofs.Math.Seq.{drop-append_seam}
 use Rattle.std.proofs.lemmas.List.{length-take-le, take-append-drop}
-use Rattle.properties_format.specs.Encoding.{output_encoding}
 use Rattle.properties_format.specs.Writing.{is_empty}
-use Rattle.properties_format.proofs.Edited.Pair.{editable-own}
 use Rattle.properties_text.specs.Encoding.{encoding_of}
 use Rattle.properties_editing.specs.Private.BodyIndex.{AppendsPair, Changes, GrowsIndex, IsIndex, IsKept, IsPairAppended, last_span, opened_bytes, stored_at}
 use Rattle.properties_editing.specs.Private.BodyKeys.{IsKeyFound, IsPlace, closing_bytes, closing_of}

@@ -6,18 +6,16 @@ use Rattle.std.proofs.lemmas.List.{drop_more, take-append-drop}
 use borrow.Author.Tests.{eqb-true}
 use Rattle.properties_format.specs.Text as text
 use Rattle.properties_format.specs.Text.{line_feed, carriage_return, line_ending_text, equals_sign}
-use Rattle.properties_format.specs.Lines.{HoldsNoLineEnd}
-use Rattle.properties_format.specs.Computed.Lines.{ends_in_cr}
-use Rattle.properties_format.specs.Lines.{Ended, Lines}
-use Rattle.properties_format.specs.Computed.Lines.{lines_of}
-use Rattle.properties_format.specs.Body.{held_in}
-use Rattle.properties_format.specs.Valued.{ending_among}
+use Rattle.properties_format.specs.Lines.{HoldsNoLineEnd, Ended, Lines}
+use Rattle.properties_format.specs.Computed.Lines.{ends_in_cr, lines_of}
+use Rattle.properties_format.specs.Body.{held_in, ending_bytes, last_ending, AreGroupsOf, HeldLine, as_lines, groups_bytes}
+use Rattle.properties_format.specs.Valued.{ending_among, separator_after}
 use Rattle.properties_format.proofs.Lines.Plain.{last-plain, plain-no_lf}
 use Rattle.properties_format.proofs.Lines.Steps.{lines_of-line}
 use Rattle.properties_format.proofs.Lines.Only.{lines_of-only, lines_of-plain}
 use Rattle.properties_format.proofs.Lines.Cut.{PartsNoEnd, lines_of-append}
 use Rattle.properties_format.proofs.Body.Decoded.{IsCut-lines}
-use Rattle.properties_format.proofs.Body.Groups.{held_of-only}
+use Rattle.properties_format.proofs.Body.Groups.{held_of-only, held-body, held_groups_of-meets, groups_bytes-append}
 use Rattle.properties_format.proofs.Valued.Lined.{last_by, last_by-append}
 use Rattle.properties_format.proofs.Valued.Added.{ending-held}
 use Rattle.properties_items.specs.LineEndings.{ending_of}
@@ -26,22 +24,18 @@ use Rattle.properties_items.specs.declared.line.LineEnding.{LineEnding}
 use Rattle.properties_items.specs.declared.line.LineEnding.TheVariants.{CR, LF, CRLF}
 use Rattle.std.proofs.Math.Seq.{take-append_seam, drop-append_seam}
 use Rattle.properties_format.specs.Settings.{IsGoodSeparator}
-use Rattle.properties_format.specs.Body.{ending_bytes, last_ending, AreGroupsOf}
 use Rattle.properties_format.specs.Edited.{is_editable}
-use Rattle.properties_format.specs.Valued.{separator_after}
 use Rattle.properties_format.specs.Computed.Settings.{is_good_separator}
-use Rattle.properties_format.specs.Computed.Valued.{separator_by}
-use Rattle.properties_format.proofs.Body.Groups.{held-body, held_groups_of-meets}
+use Rattle.properties_format.specs.Computed.Valued.{separator_by, between_if_pair, between_in, last_between, or_else}
 use Rattle.properties_format.proofs.Settings.Tests.{is_good_separator-from}
 use Rattle.properties_format.proofs.InTurn.Lines.{bytes-unended}
-use Rattle.properties_format.proofs.Valued.Made.{new_separator-meets}
+use Rattle.properties_format.proofs.Valued.Made.{new_separator-meets, last_between-push}
 use Rattle.properties_format.proofs.Valued.Separators.{new_separator-fit}
 use Rattle.properties_format.proofs.Valued.Unended.{without_ending, unended-groups, unended-joined}
 use Rattle.properties_editing.proofs.BodyValues.{middle-of}
 use Rattle.properties_format.specs.Encoding.{Encoding}
 use Rattle.properties_format.specs.Groups.{joined}
 use Rattle.properties_format.specs.Computed.Split.{split_of}
-use Rattle.properties_format.specs.Body.{HeldLine, as_lines, groups_bytes}
 use Rattle.properties_format.specs.Computed.Body.{held_groups_of}
 use Rattle.properties_format.specs.Computed.Parts.{unended_bytes}
 use Rattle.properties_format.specs.Split.{Logical}
@@ -49,10 +43,7 @@ use Rattle.properties_format.specs.Escapes.{Meaning, means, breaks}
 use Rattle.properties_format.specs.Computed.Escapes.{meaning_of}
 use Rattle.properties_format.specs.Computed.Items.{comment_outcome, pair_outcome, split_outcome}
 use Rattle.properties_format.specs.Computed.Edited.{IsSound}
-use Rattle.properties_format.specs.Computed.Valued.{between_if_pair, between_in, last_between, or_else}
 use Rattle.properties_editing.specs.Private.BodyIndex.{is_pair, outcome}
-use Rattle.properties_format.proofs.Body.Groups.{groups_bytes-append}
-use Rattle.properties_format.proofs.Valued.Made.{last_between-push}
 use Rattle.properties_editing.specs.declared.edit.find.BodySpan.{BodySpan}
 
 -- ---- what separates key and value, if a line is a pair
