@@ -7,9 +7,6 @@ use Rattle.properties_editing.proofs.IndexKeys.{found-more, found-none, tells-ke
 use Rattle.properties_editing.proofs.edit.index.Index.keys.Goals as goal
 use Rattle.properties_editing.proofs.edit.index.Index.keys.Goals.{in-Some+in_ok-push, in_default}
 
-pub loop-first-init : goal.loop-first-init
-loop-first-init c = ap characters_of c.in_ok-keys.ensures.items
-
 pub loop-first-preserved : goal.loop-first-preserved
 loop-first-preserved c =
     let firsts = c.deref-first-items.result.now in
