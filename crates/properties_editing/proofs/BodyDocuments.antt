@@ -84,7 +84,8 @@ own-items d i =
     ∙ ap (λ v. let w : InForce = v in entries_in 1 (held_groups_of w.encoding w.body)) i.in_force.in_force
 
 -- What it has stored of a key is its value.
-pub has-value : (d : Inside) → IsDocument d → (key : List ℕ) (value : Option (List ℕ)) → stored_value d.index.pairs.entries key ≡ value → HasValueAt (open_document d) key value
+pub has-value : (d : Inside) → IsDocument d → (key : List ℕ) (value : Option (List ℕ))
+    → stored_value d.index.pairs.entries key ≡ value → HasValueAt (open_document d) key value
 has-value d i key value is =
     let e = encoding_of d.encoding in
     let source = d.source.items in
@@ -93,11 +94,13 @@ has-value d i key value is =
       entries = entries_in 1 gs;
       items = subst (IsItems e source end) (own-items d i) (items_of-meets e source end);
       whole = items-sound 1 gs i.sound;
-      is = subst (IsValue (entries_in 1 gs) key) (value-entries 1 0 gs key i.sound ∙ sym (i.is_index.listed.are_values key) ∙ is) (value_in-meets (entries_in 1 gs) key);
+      is = subst (IsValue (entries_in 1 gs) key) (value-entries 1 0 gs key i.sound ∙ sym (i.is_index.listed.are_values key) ∙ is)
+          (value_in-meets (entries_in 1 gs) key);
     }
 
 -- Whether it has one tells whether a pair has the key.
-pub checks_has_key : {X : Type 0} (f : X → List ℕ) (d : OpenDocument) (key : List ℕ) (o : Option X) → HasValueAt d key (option_map f o) → ChecksHasKey d key (is_some o)
+pub checks_has_key : {X : Type 0} (f : X → List ℕ) (d : OpenDocument) (key : List ℕ) (o : Option X)
+    → HasValueAt d key (option_map f o) → ChecksHasKey d key (is_some o)
 checks_has_key f d key None h = h
 checks_has_key f d key (Some x) h = (f x, h)
 
@@ -158,24 +161,28 @@ module _ (d : Inside) (i : IsDocument d) (source : Vec ℕ) (index : Index) wher
       )
 
   -- A key was set, or it is as it was,
-  pub put-ends : {E : Type 0} (key value : List ℕ) (result : Result Unit E) → PutsPair d.opened key value d.source.items d.index result source.items index
+  pub put-ends : {E : Type 0} (key value : List ℕ) (result : Result Unit E)
+      → PutsPair d.opened key value d.source.items d.index result source.items index
       → IsDocument after × PutsInto key value (open_document d) result (open_document after)
   put-ends key value (Ok done) h = let k = h (encoding_of d.encoding) i.in_force in (document k, (refl, refl, k.meant))
   put-ends key value (Err error) h = unchanged h
 
   -- the value of a key was,
-  pub value-ends : {E : Type 0} (key value : List ℕ) (result : Result Unit E) → PutsValue d.opened key value d.source.items d.index result source.items index
+  pub value-ends : {E : Type 0} (key value : List ℕ) (result : Result Unit E)
+      → PutsValue d.opened key value d.source.items d.index result source.items index
       → IsDocument after × SetsValueIn key value (open_document d) result (open_document after)
   value-ends key value (Ok done) h = let k = h (encoding_of d.encoding) i.in_force in (document k, (refl, refl, k.meant))
   value-ends key value (Err error) h = unchanged h
 
   -- or a key was removed.
-  pub remove-ends : (key : List ℕ) (told : Bool) → told ≡ is_some (stored_at d.index.pairs.entries key) → RemovesPairs d.opened key d.source.items source.items index
+  pub remove-ends : (key : List ℕ) (told : Bool) → told ≡ is_some (stored_at d.index.pairs.entries key)
+      → RemovesPairs d.opened key d.source.items source.items index
       → IsDocument after × RemovesFrom key (open_document d) told (open_document after)
   remove-ends key told is h =
       let k = h (encoding_of d.encoding) i.in_force in
       let stored = stored_at d.index.pairs.entries key in
-      let checked = checks_has_key (λ p. characters p.value) (open_document d) key stored (has-value d i key (stored_value d.index.pairs.entries key) refl) in
+      let checked =
+      checks_has_key (λ p. characters p.value) (open_document d) key stored (has-value d i key (stored_value d.index.pairs.entries key) refl) in
       (document k, record { encoding = refl; ascii_only = refl; removed = k.meant; checked = subst (ChecksHasKey (open_document d) key) (sym is) checked })
 
 -- ---- a document that is opened
@@ -193,7 +200,8 @@ own-opened d i off = record {
   made = made-edits [] tt (result-made d.source.items i.in_force i.editable i.sound);
 }
 
-pub opens-document : (d : Inside) (source : List ℕ) → d.source.items ≡ source → IsInForce source (encoding_of d.encoding) d.opened → is_editable (encoding_of d.opened.encoding) ≡ true
+pub opens-document : (d : Inside) (source : List ℕ) → d.source.items ≡ source
+    → IsInForce source (encoding_of d.encoding) d.opened → is_editable (encoding_of d.opened.encoding) ≡ true
     → d.opened.ascii_only ≡ false → AreSound (held_groups_of (encoding_of d.opened.encoding) (drop d.opened.start source))
     → IsIndex (held_groups_of (encoding_of d.opened.encoding) (drop d.opened.start source)) d.index → IsOpened d source
 opens-document d source copy force ok off sound index =
@@ -208,13 +216,16 @@ opens-document d source copy force ok off sound index =
 -- ---- an edit of a list
 
 -- What is kept is kept as something else.
-pub kept-as : {Meant Other : Type 0} {e : Encoding} {opened : BodyStart} {source : List ℕ} {index : Index} → (Meant → Other) → IsKept Meant e opened source index
+pub kept-as : {Meant Other : Type 0} {e : Encoding} {opened : BodyStart} {source : List ℕ} {index : Index} → (Meant → Other)
+    → IsKept Meant e opened source index
     → IsKept Other e opened source index
 kept-as f k = record { meant = f k.meant; in_force = k.in_force; sound = k.sound; is_index = k.is_index }
 
 -- So it is of what a call returns.
-pub edit-made : {E : Type 0} (opened : BodyStart) (edit : Edit) (Meant : Encoding → Type 0) (old new : List ℕ) (was is : Index) (result : Result Unit E)
-    → ((e : Encoding) → Meant e → IsEditResult e old (IsEdited e opened.ascii_only old edit) (edited new)) → Changes Meant opened old was result new is
+pub edit-made : {E : Type 0} (opened : BodyStart) (edit : Edit) (Meant : Encoding → Type 0) (old new : List ℕ) (was is : Index)
+    (result : Result Unit E)
+    → ((e : Encoding) → Meant e → IsEditResult e old (IsEdited e opened.ascii_only old edit) (edited new))
+    → Changes Meant opened old was result new is
     → OnOk result (MakesEdit opened edit old new is)
 edit-made opened edit Meant old new was is (Ok done) f h = λ e force. kept-as (f e) (h e force)
 edit-made opened edit Meant old new was is (Err error) f h = tt

@@ -82,7 +82,8 @@ added-index : (e : Encoding) (by second : LineEnding) (body key value line added
     → AreSound (held_groups_of e body) → IsIndex (held_groups_of e body) old → length added < 2 ^ 64
     → added ≡ body ++ (closing_bytes (line_ending_text by) old.closing ++ (line ++ line_ending_text second))
     → (let start = length body + length (closing_bytes (line_ending_text by) old.closing) in
-    GrowsIndex key value (record { start = start; end = start + length line }) (length body) (length (opened_bytes (line_ending_text by) old.closing)) old new)
+    GrowsIndex key value (record { start = start; end = start + length line }) (length body)
+    (length (opened_bytes (line_ending_text by) old.closing)) old new)
     → AreSound (held_groups_of e added) × IsIndex (held_groups_of e added) new
 added-index e by second body key value line added old new ok seam p sounds h fits is grows =
     let gs = held_groups_of e body in
@@ -92,13 +93,19 @@ added-index e by second body key value line added old new ok seam p sounds h fit
     let start = length body + length separation in
     let final : final_group gs ≡ k.final = ap final_group k.division ∙ final_group-push k.before k.final in
     let told : old.closing ≡ closing_of (is_empty_line k.final) (is_left_open k.final) =
-    elim h.closing [ inl none ↦ absurd (some-groups e body none) | inr stored ↦ stored ∙ ap (λ v. closing_of (is_empty_line v) (is_left_open v)) final ] in
-    let sep : separation ≡ separation_by ending k.final = ap (closing_bytes ending) told ∙ sym (separated ending (is_empty_line k.final) (is_left_open k.final)) in
+    elim h.closing [
+      | inl none ↦ absurd (some-groups e body none)
+      | inr stored ↦ stored
+          ∙ ap (λ v. closing_of (is_empty_line v) (is_left_open v)) final
+    ] in
+    let sep : separation ≡ separation_by ending k.final =
+    ap (closing_bytes ending) told ∙ sym (separated ending (is_empty_line k.final) (is_left_open k.final)) in
     let extra : opened_bytes ending old.closing ≡ opened_by ending k.final =
     ap (opened_bytes ending) told ∙ opened ending (is_empty_line k.final) (is_left_open k.final) in
     let all : groups_bytes gs ≡ body = held-body e body gs ok (held_groups_of-meets e body) in
     let bytes : added ≡ (groups_bytes gs ++ separation_by ending k.final) ++ (line ++ line_ending_text second) =
-    is ∙ sym (append_assoc body separation (line ++ line_ending_text second)) ∙ ap₂ (λ v w. (v ++ w) ++ (line ++ line_ending_text second)) (sym all) sep in
+    is ∙ sym (append_assoc body separation (line ++ line_ending_text second))
+    ∙ ap₂ (λ v w. (v ++ w) ++ (line ++ line_ending_text second)) (sym all) sep in
     let body_size = ap length all in
     let sep_size = ap length sep in
     let closed_size = ap length k.bytes ∙ length-append (groups_bytes gs) (separation_by ending k.final) in
@@ -109,7 +116,8 @@ added-index e by second body key value line added old new ok seam p sounds h fit
     let added_size = ap length is ∙ length-append body (separation ++ (line ++ line_ending_text second))
     ∙ ap (λ n. length body + n) (length-append separation (line ++ line_ending_text second)) in
     let place_fits : length (groups_bytes gs) + length (opened_bytes ending old.closing) < 2 ^ 64 = omega arith in
-    let grows_at = subst (λ n. GrowsIndex key value (record { start = start; end = start + length line }) n (length (opened_bytes ending old.closing)) old new) (sym body_size) grows in
+    let grows_at =
+    subst (λ n. GrowsIndex key value (record { start = start; end = start + length line }) n (length (opened_bytes ending old.closing)) old new) (sym body_size) grows in
     let groups : appended_groups e by second gs key value line ok k p.plain p.some p.whole p.said ≡ held_groups_of e added =
     appended-held e by second gs key value line ok k p.plain p.some p.whole p.said added bytes in (
       subst AreSound groups (appended-sound e by second gs key value line ok k p.plain p.some p.whole p.said sounds),
@@ -130,9 +138,11 @@ value-line e only first body key value by ok k v =
     record { plain = p.plain; some = p.some; whole = p.whole; said = sym (outcome_of-only _ (given (pair key value)) p.has_pair) }
 
 -- The pair that setting a key adds.
-pair-line : (e : Encoding) (only first : Bool) (key value : List ℕ) → is_editable e ≡ true → All scalar key → All scalar value → IsPairLine e key value (pair_bytes e only first key value)
+pair-line : (e : Encoding) (only first : Bool) (key value : List ℕ) → is_editable e ≡ true → All scalar key → All scalar value
+    → IsPairLine e key value (pair_bytes e only first key value)
 pair-line e only first key value ok k v =
-    let text : pair_text e only first key value ≡ decoded_line e (pair_bytes e only first key value) = sym (pair-decoded e only first key value ok k v) in
+    let text : pair_text e only first key value ≡ decoded_line e (pair_bytes e only first key value) =
+    sym (pair-decoded e only first key value ok k v) in
     record {
       plain = pair-plain e only first key value ok k v;
       some = pair-some e only first key value;
@@ -164,8 +174,10 @@ found-none e body key index sound h none =
       ];
     }
 
-module _ (opened : BodyStart) (old new key value line : List ℕ) (was is : Index) (ok : is_editable (encoding_of opened.encoding) ≡ true) (start : opened.start ≤ length old)
-    (sound : AreSound (held_groups_of (encoding_of opened.encoding) (drop opened.start old))) (h : IsIndex (held_groups_of (encoding_of opened.encoding) (drop opened.start old)) was)
+module _ (opened : BodyStart) (old new key value line : List ℕ) (was is : Index)
+    (ok : is_editable (encoding_of opened.encoding) ≡ true) (start : opened.start ≤ length old)
+    (sound : AreSound (held_groups_of (encoding_of opened.encoding) (drop opened.start old)))
+    (h : IsIndex (held_groups_of (encoding_of opened.encoding) (drop opened.start old)) was)
     (none : stored_at was.pairs.entries key ≡ None) (k : All scalar key) (v : All scalar value) (fits : length new < 2 ^ 64) where
   abbrev f : Encoding
   f = encoding_of opened.encoding
@@ -174,9 +186,11 @@ module _ (opened : BodyStart) (old new key value line : List ℕ) (was is : Inde
   body = drop opened.start old
 
   -- The index after a line that was appended to the source.
-  appended : (by second : LineEnding) → IsSeam by (groups-lined f body (held_groups_of f body) ok (held_groups_of-meets f body)) → IsPairLine f key value line
+  appended : (by second : LineEnding) → IsSeam by (groups-lined f body (held_groups_of f body) ok (held_groups_of-meets f body))
+      → IsPairLine f key value line
       → IsPairAppended opened key value (line_ending_text by) line (line_ending_text second) old was new is
-      → AreSound (held_groups_of (encoding_of opened.encoding) (drop opened.start new)) × IsIndex (held_groups_of (encoding_of opened.encoding) (drop opened.start new)) is
+      → AreSound (held_groups_of (encoding_of opened.encoding) (drop opened.start new))
+      × IsIndex (held_groups_of (encoding_of opened.encoding) (drop opened.start new)) is
   appended by second seam p made =
       let place : length old - opened.start ≡ length body = sym (length-drop opened.start old) in
       let tail = closing_bytes (line_ending_text by) was.closing ++ (line ++ line_ending_text second) in
@@ -202,7 +216,9 @@ module _ (opened : BodyStart) (old new key value line : List ℕ) (was is : Inde
       let set = value-edits k v
       (new_pair-result key value new layout force ok (found-none f body key was sound h none) refl l
       (made.bytes ∙ ap (λ w. old ++ (separation ++ (w ++ ending))) printed
-      ∙ ap (λ c. old ++ (closing_bytes ending c ++ (unended_pair (output_encoding f) opened.ascii_only (is_empty (body ++ closing_bytes ending c)) key (characters layout.separator) value ++ ending))) (sym l.closes))) in
+      ∙ ap (λ c. old
+      ++ (closing_bytes ending c
+      ++ (unended_pair (output_encoding f) opened.ascii_only (is_empty (body ++ closing_bytes ending c)) key (characters layout.separator) value ++ ending))) (sym l.closes))) in
       value-kept force ok set (appended by by seam p made)
 
   -- and that setting a key does.
@@ -219,7 +235,8 @@ module _ (opened : BodyStart) (old new key value line : List ℕ) (was is : Inde
       let p = subst (IsPairLine f key value) (sym line_is) (pair-line f opened.ascii_only first key value ok k v) in
       let all : groups_bytes gs ≡ body = held-body f body gs ok (held_groups_of-meets f body) in
       let seam = put-seam f gs (groups-lined f body gs ok (held_groups_of-meets f body)) by (λ q.
-      let whole : ends_in_cr old ≡ true = ap ends_in_cr (sym (take-append-drop opened.start old)) ∙ ends-right (take opened.start old) body (ap ends_in_cr (sym all) ∙ q) in
+      let whole : ends_in_cr old ≡ true =
+      ap ends_in_cr (sym (take-append-drop opened.start old)) ∙ ends-right (take opened.start old) body (ap ends_in_cr (sym all) ∙ q) in
       ends ∙ cond-true (ends_in_cr old) cr lf whole) in
       let set = set-edits k v
       (appended-result key value new force ok (found-none f body key was sound h none) refl
@@ -229,8 +246,10 @@ module _ (opened : BodyStart) (old new key value line : List ℕ) (was is : Inde
       set-kept force ok set (appended by lf seam p made)
 
 -- What is returned where a pair was appended, and where memory ran out.
-pub appended-changes : {E : Type 0} (result : Result Unit E) (Meant : Encoding → Type 0) (opened : BodyStart) (key value by line ending old new : List ℕ) (was is : Index)
+pub appended-changes : {E : Type 0} (result : Result Unit E) (Meant : Encoding → Type 0) (opened : BodyStart)
+    (key value by line ending old new : List ℕ) (was is : Index)
     → (IsPairAppended opened key value by line ending old was new is → (e : Encoding) → IsInForce old e opened → IsKept (Meant e) e opened new is)
-    → stored_at was.pairs.entries key ≡ None → AppendsPair opened key value by line ending old was result new is → Changes Meant opened old was result new is
+    → stored_at was.pairs.entries key ≡ None → AppendsPair opened key value by line ending old was result new is
+    → Changes Meant opened old was result new is
 appended-changes (Ok done) Meant opened key value by line ending old new was is made none h = made h
 appended-changes (Err error) Meant opened key value by line ending old new was is made none h = (h.0, h.1 none)

@@ -45,7 +45,8 @@ end-kept p place more none fits = elim (cases_Bool (p == place)) [
   | inr t ↦ cond-false (p == place) (min (place + more) (2 ^ 64 - 1)) p t
 ]
 
-end-moved : (p place more q : ℕ) → p ≡ place → q ≡ place + more → place + more < 2 ^ 64 → (if p == place then min (place + more) (2 ^ 64 - 1) else p) ≡ q
+end-moved : (p place more q : ℕ) → p ≡ place → q ≡ place + more → place + more < 2 ^ 64
+    → (if p == place then min (place + more) (2 ^ 64 - 1) else p) ≡ q
 end-moved p place more q same is fits =
     let t : (p == place) ≡ true = grind (arith, nat_tests) in
     cond-true (p == place) (min (place + more) (2 ^ 64 - 1)) p t ∙ (let m : min (place + more) (2 ^ 64 - 1) ≡ q = omega arith in m)
@@ -86,7 +87,8 @@ module _ (e : Encoding) (by : LineEnding) (gs : List (List HeldLine)) (k : AreCl
       ∙ shift-append f (pairs_from 0 k.before) (pairs_from n (k.final ∷ [])) (pairs_from 0 k.before) (pairs_from n k.left) before-kept last-part
       ∙ ap (map Some) (sym (pairs-join k.before k.left))
     where
-      last-part : IsShift (shifted (shift.Lengthened place more)) (pairs_from (length (groups_bytes k.before)) (k.final ∷ [])) (pairs_from (length (groups_bytes k.before)) k.left)
+      last-part : IsShift (shifted (shift.Lengthened place more)) (pairs_from (length (groups_bytes k.before)) (k.final ∷ []))
+          (pairs_from (length (groups_bytes k.before)) k.left)
       last-part = elim k.is_left [
         | inl gone ↦
             let n = length (groups_bytes k.before) in
@@ -129,7 +131,8 @@ final-two xs x y = ap final_group (sym (append_assoc xs (x ∷ []) (y ∷ []))) 
 
 -- ---- the index with the pair
 
-module _ (e : Encoding) (by second : LineEnding) (gs : List (List HeldLine)) (key value pb : List ℕ) (ok : is_editable e ≡ true) (k : AreClosedBy e by gs)
+module _ (e : Encoding) (by second : LineEnding) (gs : List (List HeldLine)) (key value pb : List ℕ) (ok : is_editable e ≡ true)
+    (k : AreClosedBy e by gs)
     (plain : HoldsNoLineEnd pb) (some : pb ≢ []) (whole : IsWhole (record { number = 0; text = decoded_line e pb } ∷ []))
     (said : outcome_of (joined (record { number = 0; text = decoded_line e pb } ∷ [])) ≡ given (pair key value)) where
   abbrev line : HeldLine
@@ -149,7 +152,8 @@ module _ (e : Encoding) (by second : LineEnding) (gs : List (List HeldLine)) (ke
 
   pub appended-sound : AreSound gs → AreSound groups
   appended-sound sounds =
-      sound-append closed ((line ∷ []) ∷ last ∷ []) (closed-sound e by gs k sounds) (subst IsSound (sym said) tt, (subst IsSound (sym empty-said) tt, tt))
+      sound-append closed ((line ∷ []) ∷ last ∷ []) (closed-sound e by gs k sounds)
+      (subst IsSound (sym said) tt, (subst IsSound (sym empty-said) tt, tt))
 
   -- The index with the pair is that of the groups with it.
   pub appended-index : (start more : ℕ) (old new : Index) → IsIndex gs old → more ≡ length (opened_by (line_ending_text by) k.final)
@@ -165,8 +169,10 @@ module _ (e : Encoding) (by second : LineEnding) (gs : List (List HeldLine)) (ke
       let closed_spans = all_shifted (shift.Lengthened place more) old.spans.items in
       let fits_by = subst (λ n. place + n < 2 ^ 64) more_is fits in
       let closes : IsListed (pairs_from 0 closed) (stored_places entries) (stored_value entries) closed_spans =
-      listed-shifted f h.listed (pairs_from 0 closed) (subst (λ n. IsShift (shifted (shift.Lengthened place n)) (pairs_from 0 gs) (pairs_from 0 closed)) (sym more_is) (closed-shift e by gs k fits_by)) in
-      let own : f span ≡ Some span = ap Some (span-is start _ start (start + length pb) refl (end-kept (start + length pb) place more (λ q. absurd (omega arith)) fits)) in
+      listed-shifted f h.listed (pairs_from 0 closed)
+      (subst (λ n. IsShift (shifted (shift.Lengthened place n)) (pairs_from 0 gs) (pairs_from 0 closed)) (sym more_is) (closed-shift e by gs k fits_by)) in
+      let own : f span ≡ Some span =
+      ap Some (span-is start _ start (start + length pb) refl (end-kept (start + length pb) place more (λ q. absurd (omega arith)) fits)) in
       let spans_are : new.spans.items ≡ closed_spans ++ Some span ∷ [] =
       grows.longer
       ∙ ap (all_shifted (shift.Lengthened place more)) keeps.spans
@@ -174,13 +180,16 @@ module _ (e : Encoding) (by second : LineEnding) (gs : List (List HeldLine)) (ke
       ∙ ap (λ v. closed_spans ++ v ∷ []) own in
       let places = keeps.places ∙ ap (λ n. stored_places entries key ++ n ∷ []) (sym (length-map old.spans.items (option_and_then f))) in
       let one = listed-stored entries closes grows.mid.pairs.entries key value span keeps.pair keeps.has_value keeps.stored places in
-      let at : span_of (length (groups_bytes closed)) (line ∷ []) ≡ span = span-is _ _ start (start + length pb) (sym start_is) (ap (λ n. n + length pb) (sym start_is)) in
+      let at : span_of (length (groups_bytes closed)) (line ∷ []) ≡ span =
+      span-is _ _ start (start + length pb) (sym start_is) (ap (λ n. n + length pb) (sym start_is)) in
       let pairs : pairs_from 0 groups ≡ pairs_from 0 closed ++ paired span (key, value) ∷ [] =
       pairs-around closed (line ∷ []) (last ∷ []) (Some (key, value)) (ap outcome_pair said)
-      ∙ ap (λ s. pairs_from 0 closed ++ paired s (key, value) ∷ pairs_from (length (groups_bytes closed) + length (group_bytes (line ∷ []))) (last ∷ [])) at
+      ∙ ap (λ s. pairs_from 0 closed
+      ++ paired s (key, value) ∷ pairs_from (length (groups_bytes closed) + length (group_bytes (line ∷ []))) (last ∷ [])) at
       ∙ ap (λ v. pairs_from 0 closed ++ paired span (key, value) ∷ v) (pairs-first _ last [] None (ap outcome_pair empty-said)) in
       record {
-        listed = listed-as one pairs spans_are (λ j. ap (λ m. stored_places m.entries j) grows.pairs) (λ j. ap (λ m. stored_value m.entries j) grows.pairs);
+        listed = listed-as one pairs spans_are (λ j. ap (λ m. stored_places m.entries j) grows.pairs)
+            (λ j. ap (λ m. stored_value m.entries j) grows.pairs);
         closing = inr (grows.closing ∙ ap (λ v. closing_of (is_empty_line v) (is_left_open v)) (sym (final-two closed (line ∷ []) last)));
         ordered = subst (IsOrdered string_cmp) (sym grows.pairs) keeps.ordered;
       }

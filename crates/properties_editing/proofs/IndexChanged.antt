@@ -43,7 +43,8 @@ final-behind (x ∷ []) g gs = refl
 final-behind (x ∷ y ∷ xs) g gs = final-behind (y ∷ xs) g gs
 
 -- Groups in turn, without the first of them.
-pub turn-behind : (e : Encoding) (xs : List (List HeldLine)) (g : List HeldLine) (gs : List (List HeldLine)) → AreInTurn e (xs ++ g ∷ gs) → AreInTurn e (g ∷ gs)
+pub turn-behind : (e : Encoding) (xs : List (List HeldLine)) (g : List HeldLine) (gs : List (List HeldLine))
+    → AreInTurn e (xs ++ g ∷ gs) → AreInTurn e (g ∷ gs)
 turn-behind e [] g gs h = h
 turn-behind e (x ∷ []) g gs h = h.1
 turn-behind e (x ∷ y ∷ xs) g gs h = turn-behind e (y ∷ xs) g gs h.1
@@ -59,8 +60,10 @@ some-ending cr = omega arith
 some-ending crlf = omega arith
 
 -- A part that ends where the groups end is the last.
-pub last-told : (e : Encoding) (before : List (List HeldLine)) (g : List HeldLine) (after : List (List HeldLine)) (m n start : ℕ) → AreInTurn e (before ++ g ∷ after)
-    → m ≡ start + (length (groups_bytes before) + length (unended_bytes g)) → n ≡ start + length (groups_bytes (before ++ g ∷ after)) → IsLastTold (m == n) after
+pub last-told : (e : Encoding) (before : List (List HeldLine)) (g : List HeldLine) (after : List (List HeldLine)) (m n start : ℕ)
+    → AreInTurn e (before ++ g ∷ after)
+    → m ≡ start + (length (groups_bytes before) + length (unended_bytes g))
+    → n ≡ start + length (groups_bytes (before ++ g ∷ after)) → IsLastTold (m == n) after
 last-told e before g [] m n start turn m_is n_is =
     let t = turn-behind e before g [] turn in
     let none = ap (λ o. length (ending_bytes o)) (ending-of e None g t.0) in
@@ -77,7 +80,8 @@ last-told e before g (h ∷ after) m n start turn m_is n_is =
 
 -- ---- groups that say the same
 
-sound-changed : (before : List (List HeldLine)) (g h : List HeldLine) (after : List (List HeldLine)) → IsSound (outcome h) → AreSound (before ++ g ∷ after)
+sound-changed : (before : List (List HeldLine)) (g h : List HeldLine) (after : List (List HeldLine)) → IsSound (outcome h)
+    → AreSound (before ++ g ∷ after)
     → AreSound (before ++ h ∷ after)
 sound-changed [] g h after s k = (s, k.1)
 sound-changed (x ∷ before) g h after s k = (k.0, sound-changed before g h after s k.1)
@@ -88,8 +92,10 @@ no-groups (x ∷ xs) g gs h = absurd (cc)
 
 -- ---- a pair takes the place of the last pair with its key
 
-module _ (before : List (List HeldLine)) (g h : List HeldLine) (after : List (List HeldLine)) (key was value : List ℕ) (g_is : outcome g ≡ given (pair key was))
-    (h_is : outcome h ≡ given (pair key value)) (none : NoneHasKey key after) (ending : last_ending h ≡ last_ending g) (some : 0 < length (unended_bytes g))
+module _ (before : List (List HeldLine)) (g h : List HeldLine) (after : List (List HeldLine)) (key was value : List ℕ)
+    (g_is : outcome g ≡ given (pair key was))
+    (h_is : outcome h ≡ given (pair key value)) (none : NoneHasKey key after) (ending : last_ending h ≡ last_ending g)
+    (some : 0 < length (unended_bytes g))
     (old_end new_end : ℕ) (old_is : old_end ≡ length (groups_bytes before) + length (unended_bytes g))
     (new_is : new_end ≡ length (groups_bytes before) + length (unended_bytes h)) (fits : length (groups_bytes (before ++ h ∷ after)) < 2 ^ 64)
     (full : is_empty_line h ≡ false) (closed : is_left_open h ≡ false) where
@@ -97,8 +103,10 @@ module _ (before : List (List HeldLine)) (g h : List HeldLine) (after : List (Li
   changed-sound k = sound-changed before g h after (subst IsSound (sym h_is) tt) k
 
   closes : (rest : List (List HeldLine)) (b : Bool) (old new : Closing) → IsLastTold b rest → new ≡ (if b then OneEnding else old)
-      → (before ++ g ∷ rest ≡ []) ⊎ (old ≡ closing_of (is_empty_line (final_group (before ++ g ∷ rest))) (is_left_open (final_group (before ++ g ∷ rest))))
-      → (before ++ h ∷ rest ≡ []) ⊎ (new ≡ closing_of (is_empty_line (final_group (before ++ h ∷ rest))) (is_left_open (final_group (before ++ h ∷ rest))))
+      → (before ++ g ∷ rest ≡ [])
+      ⊎ (old ≡ closing_of (is_empty_line (final_group (before ++ g ∷ rest))) (is_left_open (final_group (before ++ g ∷ rest))))
+      → (before ++ h ∷ rest ≡ [])
+      ⊎ (new ≡ closing_of (is_empty_line (final_group (before ++ h ∷ rest))) (is_left_open (final_group (before ++ h ∷ rest))))
   closes [] b old new told is k =
       let final = final-behind before h [] in
       inr (is ∙ cond-true b OneEnding old told ∙ ap₂ closing_of (sym (ap is_empty_line final ∙ full)) (sym (ap is_left_open final ∙ closed)))
@@ -108,7 +116,8 @@ module _ (before : List (List HeldLine)) (g h : List HeldLine) (after : List (Li
       ∙ ap (λ v. closing_of (is_empty_line v) (is_left_open v)) (final-behind before g (r ∷ rest) ∙ sym (final-behind before h (r ∷ rest))))
 
   -- Its index is that of the groups then.
-  pub changed-index : (is_last : Bool) (old new : Index) → IsLastTold is_last after → IsIndex (before ++ g ∷ after) old → FollowsPair key value old_end new_end is_last old new
+  pub changed-index : (is_last : Bool) (old new : Index) → IsLastTold is_last after → IsIndex (before ++ g ∷ after) old
+      → FollowsPair key value old_end new_end is_last old new
       → IsIndex (before ++ h ∷ after) new
   changed-index is_last old new told i k =
       let f = shifted (shift.Moved old_end new_end) in
@@ -126,7 +135,9 @@ module _ (before : List (List HeldLine)) (g h : List HeldLine) (after : List (Li
       (moved-before old_end new_end before 0 (omega arith))
       (shift-option f (Some (key, was)) (span_of n g) (span_of n h) (pairs_from (n + length (group_bytes g)) after) back (moved-own old_end new_end n g h some old_is new_is (omega arith))
       (moved-behind old_end new_end after (n + length (group_bytes g)) (n + length (group_bytes h)) (omega arith) (omega arith) (omega arith))) in
-      let listed = listed-revalued (listed-shifted f i.listed (front ++ p ∷ back) shift) front p back value refl (none-with key (n + length (group_bytes h)) after none) in
+      let listed =
+      listed-revalued (listed-shifted f i.listed (front ++ p ∷ back) shift) front p back value refl
+      (none-with key (n + length (group_bytes h)) after none) in
       let pairs = pairs-around before h after (Some (key, value)) (ap outcome_pair h_is) in
       record {
         listed = listed-as listed pairs k.spans k.places k.values;

@@ -54,7 +54,8 @@ found-at e body key pair sound at = record {
   closing = λ ending. separated ending (is_empty_line (final_group (held_groups_of e body))) (is_left_open (final_group (held_groups_of e body)));
 }
 
-module _ (opened : BodyStart) (old : List ℕ) (ok : is_editable (encoding_of opened.encoding) ≡ true) (start_in : opened.start ≤ length old) (pair : BodySpan) (key : List ℕ)
+module _ (opened : BodyStart) (old : List ℕ) (ok : is_editable (encoding_of opened.encoding) ≡ true)
+    (start_in : opened.start ≤ length old) (pair : BodySpan) (key : List ℕ)
     (at : IsPlaceOf key (held_groups_of (encoding_of opened.encoding) (drop opened.start old)) pair) where
   pub pair-within : (pair.start ≤ pair.end) × (opened.start + pair.end ≤ length old)
   pair-within =
@@ -75,16 +76,20 @@ keeps-nothing groups index h = record { stored = λ k. refl; spans = inl refl; c
 -- ---- the source after it
 
 -- The group that a pair is in, and the source, after it was replaced.
-module _ (e : Encoding) (opened : BodyStart) (old new key value : List ℕ) (pair : BodySpan) (was is : Index) (v : All scalar value) (h : IsInForce old e opened)
+module _ (e : Encoding) (opened : BodyStart) (old new key value : List ℕ) (pair : BodySpan) (was is : Index)
+    (v : All scalar value) (h : IsInForce old e opened)
     (ok : is_editable (encoding_of opened.encoding) ≡ true) (sound : AreSound (held_groups_of (encoding_of opened.encoding) (drop opened.start old)))
     (at : IsPlaceOf key (held_groups_of (encoding_of opened.encoding) (drop opened.start old)) pair)
-    (index : IsIndex (held_groups_of (encoding_of opened.encoding) (drop opened.start old)) was) (old_fits : length old < 2 ^ 63) (new_fits : length new < 2 ^ 63) where
+    (index : IsIndex (held_groups_of (encoding_of opened.encoding) (drop opened.start old)) was) (old_fits : length old < 2 ^ 63)
+    (new_fits : length new < 2 ^ 63) where
   -- The groups of the new source are those of the old one with one replaced, and the index follows.
-  pub followed-index : (group : List HeldLine) (edited_body : List ℕ) → new ≡ bom_of old ++ edited_body → at.place.before ++ group ∷ at.place.after ≡ held_groups_of (encoding_of opened.encoding) edited_body
+  pub followed-index : (group : List HeldLine) (edited_body : List ℕ) → new ≡ bom_of old ++ edited_body
+      → at.place.before ++ group ∷ at.place.after ≡ held_groups_of (encoding_of opened.encoding) edited_body
       → HasPair key value group
       → last_ending group ≡ last_ending at.place.group → is_empty_line group ≡ false → IsWhole (as_lines group)
       → FollowsPair key value pair.end (pair.end + length new - length old) (opened.start + pair.end == length old) was is
-      → AreSound (held_groups_of (encoding_of opened.encoding) (drop opened.start new)) × IsIndex (held_groups_of (encoding_of opened.encoding) (drop opened.start new)) is
+      → AreSound (held_groups_of (encoding_of opened.encoding) (drop opened.start new))
+      × IsIndex (held_groups_of (encoding_of opened.encoding) (drop opened.start new)) is
   followed-index group edited_body whole groups has ending full closed follows =
       let f = encoding_of opened.encoding in
       let body = drop opened.start old in
@@ -156,7 +161,8 @@ module _ (e : Encoding) (opened : BodyStart) (old new key value : List ℕ) (pai
   -- The printed pair is in its place.
   pub reput-index : All scalar key
       → new ≡ take (opened.start + pair.start) old
-      ++ (pair_bytes (output_encoding (encoding_of opened.encoding)) opened.ascii_only (pair.start == 0) key value ++ drop (opened.start + pair.end) old)
+      ++ (pair_bytes (output_encoding (encoding_of opened.encoding)) opened.ascii_only (pair.start == 0) key value
+      ++ drop (opened.start + pair.end) old)
       → FollowsPair key value pair.end (pair.end + length new - length old) (opened.start + pair.end == length old) was is
       → IsKept (IsSet e opened.ascii_only old key value new) e opened new is
   reput-index k bytes follows =
@@ -171,7 +177,8 @@ module _ (e : Encoding) (opened : BodyStart) (old new key value : List ℕ) (pai
       let set_is : set ≡ new = cc in
       let edited_body = set_at f opened.ascii_only old gs key value (Some p) in
       let whole : new ≡ bom_of old ++ edited_body =
-      sym set_is ∙ ap (λ w. key_set_in w opened.ascii_only old key value) h.in_force ∙ ap (λ w. bom_of old ++ set_at f opened.ascii_only old gs key value w) at.is in
+      sym set_is ∙ ap (λ w. key_set_in w opened.ascii_only old key value) h.in_force
+      ∙ ap (λ w. bom_of old ++ set_at f opened.ascii_only old gs key value w) at.is in
       let r = reput-of f opened.ascii_only old body key value p.before p.group p.after ok k v m.has m.division in
       let kept = followed-index r.group edited_body whole r.is_groups r.has_pair r.ending r.full r.whole follows in
       set-kept h ok (set-edits k v result) kept
@@ -184,6 +191,7 @@ module _ (e : Encoding) (opened : BodyStart) (old new key value : List ℕ) (pai
       → IsKept (HasValueSet e opened.ascii_only old key value old) e opened old was
   same-value k there =
       let f = encoding_of opened.encoding in
-      let bytes : old ≡ revalued_in f opened.ascii_only old (opened.start + pair.start) (opened.start + pair.end) value there.0 = sym (cond-true (has_value value there.0) old _ there.2) in
+      let bytes : old ≡ revalued_in f opened.ascii_only old (opened.start + pair.start) (opened.start + pair.end) value there.0 =
+      sym (cond-true (has_value value there.0) old _ there.2) in
       let result = revalued-result key value old pair h ok (found-at f (drop opened.start old) key pair sound at) refl (there.0, there.1, bytes) in
       value-kept h ok (value-edits k v result) (sound, index)

@@ -47,7 +47,8 @@ no-places None h = refl
 no-places (Some p) h = absurd (no-end p.earlier.items p.place (sym h))
 
 -- What is stored has its last place.
-some-places : (spans : List (Option BodySpan)) (o : Option IndexedPair) (ns : List ℕ) (n : ℕ) → places_of o ≡ ns ++ n ∷ [] → last_span spans o ≡ span_at spans n
+some-places : (spans : List (Option BodySpan)) (o : Option IndexedPair) (ns : List ℕ) (n : ℕ) → places_of o ≡ ns ++ n ∷ []
+    → last_span spans o ≡ span_at spans n
 some-places spans None ns n h = absurd (no-end ns n h)
 some-places spans (Some p) ns n h = ap (span_at spans) (same-last p.earlier.items ns p.place n h)
 
@@ -107,13 +108,15 @@ live-last [] = refl
 live-last (None ∷ slots) = or-none (last_live (map part_of slots)) ∙ live-last slots
 live-last (Some p ∷ slots) = ap (λ o. span_or o (Some p.span)) (live-last slots)
 
-last-end : (ps : List PairAt) (s : BodySpan) (told : Option (List ℕ × List ℕ)) → last_of (ps ++ cons_option (option_map (paired s) told) []) ≡ (if is_some told then Some s else last_of ps)
+last-end : (ps : List PairAt) (s : BodySpan) (told : Option (List ℕ × List ℕ))
+    → last_of (ps ++ cons_option (option_map (paired s) told) []) ≡ (if is_some told then Some s else last_of ps)
 last-end ps s None = ap last_of (append-nil ps)
 last-end [] s (Some said) = refl
 last-end (p ∷ ps) s (Some said) = ap (λ o. span_or o (Some p.span)) (last-end ps s (Some said))
 
 -- It is the last one of these groups and of more.
-last-on : (done rest : List (List HeldLine)) → IsLastPair done (last_of (pairs_from 0 done)) → AreSound rest → IsLastPair (done ++ rest) (last_of (pairs_from 0 (done ++ rest)))
+last-on : (done rest : List (List HeldLine)) → IsLastPair done (last_of (pairs_from 0 done)) → AreSound rest
+    → IsLastPair (done ++ rest) (last_of (pairs_from 0 (done ++ rest)))
 last-on done [] h sound = subst (λ v. IsLastPair v (last_of (pairs_from 0 v))) (sym (append-nil done)) h
 last-on done (g ∷ rest) h sound =
     let s = span_of (length (groups_bytes done)) g in
@@ -125,6 +128,8 @@ last-on done (g ∷ rest) h sound =
     (last-on (done ++ g ∷ []) rest (subst (IsLastPair (done ++ g ∷ [])) (sym last) next) sound.1)
 
 -- The last part that is there is the last pair.
-pub found-last : (groups : List (List HeldLine)) (index : Index) → AreSound groups → IsIndex groups index → IsLastPair groups (last_live index.spans.items)
+pub found-last : (groups : List (List HeldLine)) (index : Index) → AreSound groups → IsIndex groups index
+    → IsLastPair groups (last_live index.spans.items)
 found-last groups index sound h =
-    subst (IsLastPair groups) (sym (ap last_live h.listed.are_spans ∙ live-last h.listed.slots ∙ ap last_of h.listed.are_pairs)) (last-on [] groups refl sound)
+    subst (IsLastPair groups) (sym (ap last_live h.listed.are_spans ∙ live-last h.listed.slots ∙ ap last_of h.listed.are_pairs))
+    (last-on [] groups refl sound)

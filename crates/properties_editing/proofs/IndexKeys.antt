@@ -42,9 +42,11 @@ keys_of pairs = map (λ p. p.key) pairs
 keys-pairs : (n : ℕ) (gs : List (List HeldLine)) → keys_of (pairs_from n gs) ≡ group_keys gs
 keys-pairs n [] = refl
 keys-pairs n (g ∷ gs) =
-    by (span_of n g) (pairs_from (n + length (group_bytes g)) gs) (outcome g) ∙ ap (cons_option (outcome_key (outcome g))) (keys-pairs (n + length (group_bytes g)) gs)
+    by (span_of n g) (pairs_from (n + length (group_bytes g)) gs) (outcome g)
+    ∙ ap (cons_option (outcome_key (outcome g))) (keys-pairs (n + length (group_bytes g)) gs)
   where
-    by : (s : BodySpan) (ps : List PairAt) (o : Outcome) → keys_of (cons_option (option_map (paired s) (outcome_pair o)) ps) ≡ cons_option (outcome_key o) (keys_of ps)
+    by : (s : BodySpan) (ps : List PairAt) (o : Outcome)
+        → keys_of (cons_option (option_map (paired s) (outcome_pair o)) ps) ≡ cons_option (outcome_key o) (keys_of ps)
     by s ps ignored = refl
     by s ps (given (comment text)) = refl
     by s ps (given (pair key value)) = refl
@@ -61,7 +63,8 @@ at-key (Some q ∷ slots) (suc i) p e = inr (at-key slots i p e)
 -- ---- the first place of a key
 
 -- It is that of the pair at hand, or a later one.
-first-step : (key : List ℕ) (n : ℕ) (p : PairAt) (slots : List (Option PairAt)) (i : ℕ) (rest : List ℕ) → places_with key n (Some p ∷ slots) ≡ i ∷ rest
+first-step : (key : List ℕ) (n : ℕ) (p : PairAt) (slots : List (Option PairAt)) (i : ℕ) (rest : List ℕ)
+    → places_with key n (Some p ∷ slots) ≡ i ∷ rest
     → ((p.key ≡ key) × (n ≡ i)) ⊎ ((p.key ≢ key) × (places_with key (suc n) slots ≡ i ∷ rest))
 first-step key n p slots i rest h = elim (cases_Bool (bytes_eq p.key key)) [
   | inl b ↦
@@ -78,7 +81,8 @@ record IsFound (slots : List (Option PairAt)) (key : List ℕ) (n i : ℕ) : Typ
   at : get_or slots behind None ≡ Some pair
   same : pair.key ≡ key
 
-first-found : (key : List ℕ) (n : ℕ) (slots : List (Option PairAt)) (i : ℕ) (rest : List ℕ) → places_with key n slots ≡ i ∷ rest → IsFound slots key n i
+first-found : (key : List ℕ) (n : ℕ) (slots : List (Option PairAt)) (i : ℕ) (rest : List ℕ) → places_with key n slots ≡ i ∷ rest
+    → IsFound slots key n i
 first-found key n [] i rest h = absurd (cc)
 first-found key n (None ∷ slots) i rest h =
     let m = first-found key (suc n) slots i rest h in
@@ -93,7 +97,8 @@ first-found key n (Some p ∷ slots) i rest h = elim (first-step key n p slots i
 ]
 
 -- A key of a pair has one.
-has-place : (key : List ℕ) (n : ℕ) (slots : List (Option PairAt)) → Has key (keys_of (live slots)) → (i : ℕ) × (rest : List ℕ) × (places_with key n slots ≡ i ∷ rest)
+has-place : (key : List ℕ) (n : ℕ) (slots : List (Option PairAt)) → Has key (keys_of (live slots))
+    → (i : ℕ) × (rest : List ℕ) × (places_with key n slots ≡ i ∷ rest)
 has-place key n [] h = absurd h
 has-place key n (None ∷ slots) h = has-place key (suc n) slots h
 has-place key n (Some p ∷ slots) h = elim (cases_Bool (bytes_eq p.key key)) [
@@ -108,14 +113,16 @@ has-place key n (Some p ∷ slots) h = elim (cases_Bool (bytes_eq p.key key)) [
     later (inr m) b = m
 
 -- A key whose first place is before that of another comes before it.
-comes-before : (key other : List ℕ) (n : ℕ) (slots : List (Option PairAt)) (i j : ℕ) (is js : List ℕ) → places_with key n slots ≡ i ∷ is → places_with other n slots ≡ j ∷ js → i < j
+comes-before : (key other : List ℕ) (n : ℕ) (slots : List (Option PairAt)) (i j : ℕ) (is js : List ℕ)
+    → places_with key n slots ≡ i ∷ is → places_with other n slots ≡ j ∷ js → i < j
     → ComesBefore (keys_of (live slots)) key other
 comes-before key other n [] i j is js p q low = absurd (cc)
 comes-before key other n (None ∷ slots) i j is js p q low = comes-before key other (suc n) slots i j is js p q low
 comes-before key other n (Some x ∷ slots) i j is js p q low = elim (first-step key n x slots i is p) [
   | inl own ↦ elim (first-step other n x slots j js q) [
     | inl both ↦ let a = own.1 in let b = both.1 in absurd (omega arith)
-    | inr later ↦ record { before = []; after = keys_of (live slots); division = ap (λ v. v ∷ keys_of (live slots)) own.0; none_before = tt; differ = λ e. later.0 (own.0 ∙ e) }
+    | inr later ↦
+        record { before = []; after = keys_of (live slots); division = ap (λ v. v ∷ keys_of (live slots)) own.0; none_before = tt; differ = λ e. later.0 (own.0 ∙ e) }
   ]
   | inr later ↦ elim (first-step other n x slots j js q) [
     | inl own ↦ let a = (first-found key (suc n) slots i is later.1).is in let b = own.1 in absurd (omega arith)
@@ -152,7 +159,8 @@ has-at (None ∷ firsts) key h = let m = has-at firsts key h in (suc m.0, m.1)
 has-at (Some k ∷ firsts) key (inl e) = (0, ap Some e)
 has-at (Some k ∷ firsts) key (inr h) = let m = has-at firsts key h in (suc m.0, m.1)
 
-module _ {Y : Type 0} {values : List ℕ → Option (List ℕ)} {spans : List (Option BodySpan)} (gs : List (List HeldLine)) (entries : List (String Y × IndexedPair))
+module _ {Y : Type 0} {values : List ℕ → Option (List ℕ)} {spans : List (Option BodySpan)} (gs : List (List HeldLine))
+    (entries : List (String Y × IndexedPair))
     (h : IsListed (pairs_from 0 gs) (stored_places entries) values spans) where
   -- The first place of a key is among the places.
   found-first : (key : List ℕ) (i : ℕ) → IsFirstIn entries key i → IsFound h.slots key 0 i
@@ -226,7 +234,8 @@ module _ {Y : Type 0} {values : List ℕ → Option (List ℕ)} {spans : List (O
             at-has firsts m.0 key (a.every key m.0 (m.1, h.are_places key ∙ m.2));
         in_order = λ i j d l m.
             let o = apart i j d l m in
-            comes-before _ _ 0 h.slots o.place o.other_place o.is_place.0 o.is_other.0 (sym (h.are_places _) ∙ o.is_place.1) (sym (h.are_places _) ∙ o.is_other.1) o.below;
+            comes-before _ _ 0 h.slots o.place o.other_place o.is_place.0 o.is_other.0 (sym (h.are_places _) ∙ o.is_place.1)
+            (sym (h.are_places _) ∙ o.is_other.1) o.below;
       })
 
 -- ---- what an entry of a map says
@@ -387,7 +396,8 @@ keys-mapped f (x ∷ xs) = ap (cons_option (f x)) (keys-mapped f xs)
 pub tells-keys : (index : Index) (firsts : List (Option (Bor (List ℕ)))) (keys : List (Bor (List ℕ))) → ArePlaced index.pairs.entries firsts
     → characters_of keys ≡ filter_map key_at firsts → TellsKeys index keys
 tells-keys index firsts keys placed is groups i =
-    subst (AreFirstOf (group_keys groups)) (keys-mapped key_at firsts ∙ sym is) (first-keys groups index.pairs.entries i.listed (map key_at firsts) placed)
+    subst (AreFirstOf (group_keys groups)) (keys-mapped key_at firsts ∙ sym is)
+    (first-keys groups index.pairs.entries i.listed (map key_at firsts) placed)
 
 -- The key at one place more is read, if one is there,
 pub found-more : (firsts : List (Option (Bor (List ℕ)))) (i : ℕ) (keys : List (Bor (List ℕ))) (key : Bor (List ℕ)) → i < length firsts

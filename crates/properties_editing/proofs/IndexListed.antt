@@ -25,7 +25,8 @@ place-append : (b : Bool) (n : ℕ) (xs ys : List ℕ) → place_if b n (xs ++ y
 place-append true n xs ys = refl
 place-append false n xs ys = refl
 
-pub places-append : (key : List ℕ) (n : ℕ) (xs ys : List (Option PairAt)) → places_with key n (xs ++ ys) ≡ places_with key n xs ++ places_with key (n + length xs) ys
+pub places-append : (key : List ℕ) (n : ℕ) (xs ys : List (Option PairAt))
+    → places_with key n (xs ++ ys) ≡ places_with key n xs ++ places_with key (n + length xs) ys
 places-append key n [] ys = let same : n ≡ n + 0 = omega arith in ap (λ m. places_with key m ys) same
 places-append key n (None ∷ xs) ys =
     let same : suc n + length xs ≡ n + suc (length xs) = omega arith in
@@ -77,7 +78,8 @@ pub record IsDivided (slots : List (Option PairAt)) (front : List PairAt) (p : P
   pub is_front : live before ≡ front
   pub is_back : live after ≡ back
 
-pub divided : (slots : List (Option PairAt)) (front : List PairAt) (p : PairAt) (back : List PairAt) → live slots ≡ front ++ p ∷ back → IsDivided slots front p back
+pub divided : (slots : List (Option PairAt)) (front : List PairAt) (p : PairAt) (back : List PairAt)
+    → live slots ≡ front ++ p ∷ back → IsDivided slots front p back
 divided [] [] p back h = absurd (cc)
 divided [] (x ∷ front) p back h = absurd (cc)
 divided (None ∷ slots) front p back h =
@@ -92,15 +94,18 @@ divided (Some q ∷ slots) (x ∷ front) p back h =
     record { before = Some q ∷ m.before; after = m.after; division = ap (λ v. Some q ∷ v) m.division; is_front = ap₂ (λ a b. a ∷ b) same m.is_front; is_back = m.is_back }
 
 -- The part in its place is its part.
-pub part-at : (before : List (Option PairAt)) (p : PairAt) (after : List (Option PairAt)) → span_at (map part_of (before ++ Some p ∷ after)) (length before) ≡ Some p.span
+pub part-at : (before : List (Option PairAt)) (p : PairAt) (after : List (Option PairAt))
+    → span_at (map part_of (before ++ Some p ∷ after)) (length before) ≡ Some p.span
 part-at [] p after = refl
 part-at (o ∷ before) p after = part-at before p after
 
 -- ---- changes
 
-module _ {ps : List PairAt} {places : List ℕ → List ℕ} {values : List ℕ → Option (List ℕ)} {spans : List (Option BodySpan)} (h : IsListed ps places values spans) where
+module _ {ps : List PairAt} {places : List ℕ → List ℕ} {values : List ℕ → Option (List ℕ)} {spans : List (Option BodySpan)}
+    (h : IsListed ps places values spans) where
   -- What is the same is listed.
-  pub listed-as : {qs : List PairAt} {others : List ℕ → List ℕ} {told : List ℕ → Option (List ℕ)} {parts : List (Option BodySpan)} → qs ≡ ps → parts ≡ spans
+  pub listed-as : {qs : List PairAt} {others : List ℕ → List ℕ} {told : List ℕ → Option (List ℕ)}
+      {parts : List (Option BodySpan)} → qs ≡ ps → parts ≡ spans
       → ((k : List ℕ) → others k ≡ places k) → ((k : List ℕ) → told k ≡ values k) → IsListed qs others told parts
   listed-as pairs same is was = record {
     slots = h.slots;
@@ -160,13 +165,17 @@ module _ {ps : List PairAt} {places : List ℕ → List ℕ} {values : List ℕ 
       record {
         slots = s.before ++ Some q ∷ s.after;
         are_pairs = live-append s.before (Some q ∷ s.after) ∙ ap₂ (λ v w. v ++ q ∷ w) s.is_front s.is_back;
-        are_spans = h.are_spans ∙ ap (map part_of) s.division ∙ map-append part_of s.before (Some p ∷ s.after) ∙ sym (map-append part_of s.before (Some q ∷ s.after));
-        are_places = λ k. h.are_places k ∙ ap (places_with k 0) s.division ∙ places-append k 0 s.before (Some p ∷ s.after) ∙ sym (places-append k 0 s.before (Some q ∷ s.after));
+        are_spans = h.are_spans ∙ ap (map part_of) s.division ∙ map-append part_of s.before (Some p ∷ s.after)
+            ∙ sym (map-append part_of s.before (Some q ∷ s.after));
+        are_places = λ k. h.are_places k ∙ ap (places_with k 0) s.division ∙ places-append k 0 s.before (Some p ∷ s.after)
+            ∙ sym (places-append k 0 s.before (Some q ∷ s.after));
         are_values = λ k.
-            ap (λ o. if bytes_eq p.key k then option_map (λ v. value) o else o) (h.are_values k ∙ ap (last_value k) are ∙ last-append k front (p ∷ back))
+            ap (λ o. if bytes_eq p.key k then option_map (λ v. value) o else o)
+            (h.are_values k ∙ ap (last_value k) are ∙ last-append k front (p ∷ back))
             ∙ elim (cases_Bool (bytes_eq p.key k)) [
               | inl b ↦
-                  let nothing : last_value k back ≡ None = ap (λ j. last_value j back) (sym ((bytes_eq-Decides p.key k).0 b)) ∙ none-value p.key back none in
+                  let nothing : last_value k back ≡ None =
+                  ap (λ j. last_value j back) (sym ((bytes_eq-Decides p.key k).0 b)) ∙ none-value p.key back none in
                   rw (b, nothing) refl
               | inr b ↦ rw b refl
             ]
@@ -222,7 +231,8 @@ shifted-slots f (Some p ∷ slots) (q ∷ qs) h =
     own None = refl
     own (Some s) = refl
 
-module _ {ps : List PairAt} {places : List ℕ → List ℕ} {values : List ℕ → Option (List ℕ)} {spans : List (Option BodySpan)} (f : BodySpan → Option BodySpan)
+module _ {ps : List PairAt} {places : List ℕ → List ℕ} {values : List ℕ → Option (List ℕ)} {spans : List (Option BodySpan)}
+    (f : BodySpan → Option BodySpan)
     (h : IsListed ps places values spans) where
   -- All pairs stay.
   pub listed-shifted : (qs : List PairAt) → IsShift f ps qs → IsListed qs places values (map (option_and_then f) spans)
@@ -237,10 +247,12 @@ module _ {ps : List PairAt} {places : List ℕ → List ℕ} {values : List ℕ 
       }
 
   -- The first pair with its key is cut out.
-  pub listed-cut : (front new_front : List PairAt) (p : PairAt) (back new_back : List PairAt) (place : ℕ) (others : List ℕ) → ps ≡ front ++ p ∷ back → NoneWith p.key front → f p.span ≡ None
+  pub listed-cut : (front new_front : List PairAt) (p : PairAt) (back new_back : List PairAt) (place : ℕ) (others : List ℕ)
+      → ps ≡ front ++ p ∷ back → NoneWith p.key front → f p.span ≡ None
       → IsShift f front new_front → IsShift f back new_back → places p.key ≡ place ∷ others
       → (span_at spans place ≡ Some p.span)
-      × IsListed (new_front ++ new_back) (changed_at places p.key others) (changed_at values p.key (last_value p.key (new_front ++ new_back))) (map (option_and_then f) spans)
+      × IsListed (new_front ++ new_back) (changed_at places p.key others)
+      (changed_at values p.key (last_value p.key (new_front ++ new_back))) (map (option_and_then f) spans)
   listed-cut front new_front p back new_back place others are none gone front_shift back_shift own =
       let s = divided h.slots front p back (h.are_pairs ∙ are) in
       let m = shifted-slots f s.before new_front (ap (map (moved f)) s.is_front ∙ front_shift) in
@@ -253,11 +265,13 @@ module _ {ps : List PairAt} {places : List ℕ → List ℕ} {values : List ℕ 
       h.are_places k ∙ ap (places_with k 0) s.division ∙ places-append k 0 s.before (Some p ∷ s.after) in
       let nothing : places_with p.key 0 s.before ≡ [] = none-places p.key 0 s.before (rw s.is_front none) in
       let mine : place ∷ others ≡ first ∷ places_with p.key (suc first) s.after =
-      sym own ∙ at p.key ∙ ap₂ (λ v b. v ++ place_if b first (places_with p.key (suc first) s.after)) nothing ((bytes_eq-Decides p.key p.key).1 refl) in
+      sym own ∙ at p.key
+      ∙ ap₂ (λ v b. v ++ place_if b first (places_with p.key (suc first) s.after)) nothing ((bytes_eq-Decides p.key p.key).1 refl) in
       let size : first ≡ length s.before = omega arith in
       let place_is : place ≡ length s.before = cc in
       let all : (k : List ℕ) → places_with k 0 s.before ++ places_with k (suc first) s.after ≡ places_with k 0 (c ++ None ∷ d) = λ k.
-      ap₂ (λ v w. v ++ w) (m.places k 0) (n.places k (suc first) ∙ ap (λ i. places_with k (suc (0 + i)) d) (sym (length-map s.before (option_and_then (moved f)))))
+      ap₂ (λ v w. v ++ w) (m.places k 0)
+      (n.places k (suc first) ∙ ap (λ i. places_with k (suc (0 + i)) d) (sym (length-map s.before (option_and_then (moved f)))))
       ∙ sym (places-append k 0 c (None ∷ d)) in (
         ap₂ span_at parts place_is ∙ part-at s.before p s.after,
         record {

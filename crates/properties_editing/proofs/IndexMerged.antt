@@ -42,7 +42,8 @@ turn-lines e h [] a = (None, a.0)
 turn-lines e h (i ∷ gs) a = (Some a.0.0, a.0.1)
 
 -- A pair has bytes.
-pub pair-bytes : (e : Encoding) (key : List ℕ) (g : List HeldLine) (gs : List (List HeldLine)) → AreInTurn e (g ∷ gs) → has_key key g ≡ true → 0 < length (unended_bytes g)
+pub pair-bytes : (e : Encoding) (key : List ℕ) (g : List HeldLine) (gs : List (List HeldLine)) → AreInTurn e (g ∷ gs)
+    → has_key key g ≡ true → 0 < length (unended_bytes g)
 pair-bytes e key g gs t has = of-bytes (unended_bytes g) refl
   where
     of-bytes : (x : List ℕ) → x ≡ unended_bytes g → 0 < length (unended_bytes g)
@@ -89,7 +90,8 @@ module _ (e : Encoding) where
   merged-sound (g ∷ h ∷ gs) (a, r) s = elim (cases_Bool (are_one_ending g h)) [
     | inl k ↦
         let m = one-ending g h k in
-        subst AreSound (sym (merged-one g h gs k)) (subst IsSound (sym (with-said (Some crlf) g)) s.0, merged-sound gs (after-lf e h gs r m.by_lf) s.1.1)
+        subst AreSound (sym (merged-one g h gs k))
+        (subst IsSound (sym (with-said (Some crlf) g)) s.0, merged-sound gs (after-lf e h gs r m.by_lf) s.1.1)
     | inr k ↦ subst AreSound (sym (merged-two g h gs k)) (s.0, merged-sound (h ∷ gs) r s.1)
   ]
 
@@ -100,7 +102,8 @@ module _ (e : Encoding) where
 -- ---- a line in front
 
 -- With a group of one byte that says nothing in front of others all parts move by one.
-pub front-shift : (g : List HeldLine) (gs : List (List HeldLine)) → outcome g ≡ ignored → length (group_bytes g) ≡ 1 → 1 + length (groups_bytes gs) < 2 ^ 64
+pub front-shift : (g : List HeldLine) (gs : List (List HeldLine)) → outcome g ≡ ignored → length (group_bytes g) ≡ 1
+    → 1 + length (groups_bytes gs) < 2 ^ 64
     → IsShift (shifted (shift.Moved 0 1)) (pairs_from 0 gs) (pairs_from 0 (g ∷ gs))
 front-shift g gs none one fits =
     let next : 0 + length (group_bytes g) ≡ 1 = omega arith in

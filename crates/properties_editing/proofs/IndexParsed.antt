@@ -34,7 +34,8 @@ use Rattle.properties_editing.proofs.IndexStored.{update-made}
 -- ---- what is stored
 
 -- A pair more is stored.
-module _ {Y Z : Type 0} {ps : List PairAt} (old : List (String Y × IndexedPair)) {spans : List (Option BodySpan)} (h : IsListed ps (stored_places old) (stored_value old) spans)
+module _ {Y Z : Type 0} {ps : List PairAt} (old : List (String Y × IndexedPair)) {spans : List (Option BodySpan)}
+    (h : IsListed ps (stored_places old) (stored_value old) spans)
     (new : List (String Z × IndexedPair)) (key value : List ℕ) (span : BodySpan) (stored : IndexedPair) (is_value : characters stored.value ≡ value)
     (updates : (j : List ℕ) → stored_at new j ≡ update bytes_eq (stored_at old) key (Some stored) j)
     (places_are : places_of (Some stored) ≡ stored_places old key ++ length spans ∷ []) where
@@ -66,7 +67,8 @@ pub record HasIndexed (e : Encoding) (body : List ℕ) (reader : GroupReader) (i
   pub read : HasRead e body groups reader
   pub is_index : IsIndex groups index
 
-pub indexed-none : (body : List ℕ) (s : GroupReader) (index : Index) → s.scanner.at ≡ 0 → s.scanner.passed ≡ 0 → s.scanner.is_done ≡ false → IsWithin body s
+pub indexed-none : (body : List ℕ) (s : GroupReader) (index : Index) → s.scanner.at ≡ 0 → s.scanner.passed ≡ 0
+    → s.scanner.is_done ≡ false → IsWithin body s
     → index.pairs.entries ≡ [] → IsOrdered string_cmp index.pairs → index.spans.items ≡ [] → HasIndexed (encoding_of s.scanner.encoding) body s index
 indexed-none body s index at passed going w empty ordered none = record {
   groups = [];
@@ -80,7 +82,8 @@ indexed-none body s index at passed going w empty ordered none = record {
 }
 
 -- what separates a new pair from a group more
-closing-after : (groups : List (List HeldLine)) (g : List HeldLine) (group : Group) (index : Index) → index.closing ≡ closing_of group.is_empty group.is_open
+closing-after : (groups : List (List HeldLine)) (g : List HeldLine) (group : Group) (index : Index)
+    → index.closing ≡ closing_of group.is_empty group.is_open
     → group.is_empty ≡ is_empty_line g → group.is_open ≡ is_left_open g
     → index.closing ≡ closing_of (is_empty_line (final_group (groups ++ g ∷ []))) (is_left_open (final_group (groups ++ g ∷ [])))
 closing-after groups g group index is empty opens =
@@ -92,7 +95,8 @@ span-same n g start end starts ends =
     ap₂ (λ v w. let s : BodySpan = record { start = v; end = w } in s) (sym starts) (sym (ends ∙ ap (λ v. v + length (unended_bytes g)) starts))
 
 -- A group more was stored.
-index-more : (groups : List (List HeldLine)) (g : List HeldLine) (span : BodySpan) (old new : Index) (told : Option (List ℕ × List ℕ)) → IsIndex groups old
+index-more : (groups : List (List HeldLine)) (g : List HeldLine) (span : BodySpan) (old new : Index)
+    (told : Option (List ℕ × List ℕ)) → IsIndex groups old
     → outcome_pair (outcome g) ≡ told → AddsPair told span old new → span_of (length (groups_bytes groups)) g ≡ span
     → new.closing ≡ closing_of (is_empty_line (final_group (groups ++ g ∷ []))) (is_left_open (final_group (groups ++ g ∷ [])))
     → IsIndex (groups ++ g ∷ []) new
@@ -102,18 +106,23 @@ index-more groups g span old new told h said k at closing =
     let both = by told k in
     record { listed = subst (λ v. ListsPairs v new) (sym pairs) both.0; closing = inr closing; ordered = both.1 }
   where
-    by : (told : Option (List ℕ × List ℕ)) → AddsPair told span old new → ListsPairs (pairs_from 0 groups ++ cons_option (option_map (paired span) told) []) new × IsOrdered string_cmp new.pairs
+    by : (told : Option (List ℕ × List ℕ)) → AddsPair told span old new
+        → ListsPairs (pairs_from 0 groups ++ cons_option (option_map (paired span) told) []) new × IsOrdered string_cmp new.pairs
     by None k = (
-      listed-as h.listed (append-nil (pairs_from 0 groups)) (ap (λ v. v.items) k.1) (λ j. ap (λ m. stored_places m.entries j) k.0) (λ j. ap (λ m. stored_value m.entries j) k.0),
+      listed-as h.listed (append-nil (pairs_from 0 groups)) (ap (λ v. v.items) k.1)
+          (λ j. ap (λ m. stored_places m.entries j) k.0) (λ j. ap (λ m. stored_value m.entries j) k.0),
       subst (IsOrdered string_cmp) (sym k.0) h.ordered,
     )
     by (Some (key, value)) k = (
-      listed-as (listed-stored old.pairs.entries h.listed new.pairs.entries key value span k.pair k.has_value k.stored k.places) refl k.spans (λ j. refl) (λ j. refl),
+      listed-as (listed-stored old.pairs.entries h.listed new.pairs.entries key value span k.pair k.has_value k.stored k.places)
+          refl k.spans (λ j. refl) (λ j. refl),
       k.ordered,
     )
 
-pub indexed-more : {e : Encoding} {body : List ℕ} {s t : GroupReader} {group : Group} (old new : Index) (told : Option (List ℕ × List ℕ)) → HasIndexed e body s old
-    → TakesGroup body s group t → IsSound (outcome_of (chars (text_of body t group))) → told ≡ outcome_pair (outcome_of (chars (text_of body t group)))
+pub indexed-more : {e : Encoding} {body : List ℕ} {s t : GroupReader} {group : Group} (old new : Index)
+    (told : Option (List ℕ × List ℕ)) → HasIndexed e body s old
+    → TakesGroup body s group t → IsSound (outcome_of (chars (text_of body t group)))
+    → told ≡ outcome_pair (outcome_of (chars (text_of body t group)))
     → AddsGroup group told old new → HasIndexed e body t new
 indexed-more {e} {body} {s} {t} {group} old new told h k sound is adds =
     record {

@@ -76,7 +76,8 @@ turn-front e [] g gs h = tt
 turn-front e (x ∷ []) g gs h = (h.0, tt)
 turn-front e (x ∷ y ∷ xs) g gs h = (h.0, turn-front e (y ∷ xs) g gs h.1)
 
-pub turn-join : (e : Encoding) (xs : List (List HeldLine)) (g : List HeldLine) (gs : List (List HeldLine)) → AreEnded e xs → AreInTurn e (g ∷ gs) → AreInTurn e (xs ++ g ∷ gs)
+pub turn-join : (e : Encoding) (xs : List (List HeldLine)) (g : List HeldLine) (gs : List (List HeldLine)) → AreEnded e xs
+    → AreInTurn e (g ∷ gs) → AreInTurn e (xs ++ g ∷ gs)
 turn-join e [] g gs h k = k
 turn-join e (x ∷ []) g gs h k = (h.0, k)
 turn-join e (x ∷ y ∷ xs) g gs h k = (h.0, turn-join e (y ∷ xs) g gs h.1 k)
@@ -101,7 +102,8 @@ rest-behind e g (i ∷ gs) h = (h.0.1, h.1.1)
 
 -- ---- the line ending of a group
 
-ending-size : (o : Option LineEnding) (rest : List ℕ) → (o ≡ Some cr → begins_with_lf rest ≡ false) → (o ≡ None → rest ≡ []) → ending_size (ending_bytes o ++ rest) ≡ length (ending_bytes o)
+ending-size : (o : Option LineEnding) (rest : List ℕ) → (o ≡ Some cr → begins_with_lf rest ≡ false) → (o ≡ None → rest ≡ [])
+    → ending_size (ending_bytes o ++ rest) ≡ length (ending_bytes o)
 ending-size None rest h k = ap ending_size (k refl)
 ending-size (Some lf) rest h k = refl
 ending-size (Some cr) rest h k = rw (h refl) refl
@@ -149,14 +151,18 @@ none-append key (x ∷ xs) ys h k = (h.0, none-append key xs ys h.1 k)
 -- Groups without a key are all left without it.
 pub without-none : (key : List ℕ) (gs : List (List HeldLine)) → NoneHasKey key gs → without key gs ≡ groups_bytes gs
 without-none key [] h = refl
-without-none key (g ∷ gs) h = cond-false (has_key key g) (without key gs) (group_bytes g ++ without key gs) (no-key g h.0) ∙ ap (λ v. group_bytes g ++ v) (without-none key gs h.1)
+without-none key (g ∷ gs) h =
+    cond-false (has_key key g) (without key gs) (group_bytes g ++ without key gs) (no-key g h.0)
+    ∙ ap (λ v. group_bytes g ++ v) (without-none key gs h.1)
   where
     no-key : (g : List HeldLine) → ¬ (HasKey key g) → has_key key g ≡ false
     no-key g n = elim (cases_Bool (has_key key g)) [ inl h ↦ absurd (n (has_key-true key g h)) | inr h ↦ h ]
 
-without-cut : (key : List ℕ) (xs : List (List HeldLine)) (g : List HeldLine) (ys : List (List HeldLine)) → has_key key g ≡ true → without key (xs ++ g ∷ ys) ≡ without key (xs ++ ys)
+without-cut : (key : List ℕ) (xs : List (List HeldLine)) (g : List HeldLine) (ys : List (List HeldLine)) → has_key key g ≡ true
+    → without key (xs ++ g ∷ ys) ≡ without key (xs ++ ys)
 without-cut key xs g ys is =
-    without-append key xs (g ∷ ys) ∙ ap (λ v. without key xs ++ v) (cond-true (has_key key g) (without key ys) (group_bytes g ++ without key ys) is) ∙ sym (without-append key xs ys)
+    without-append key xs (g ∷ ys)
+    ∙ ap (λ v. without key xs ++ v) (cond-true (has_key key g) (without key ys) (group_bytes g ++ without key ys) is) ∙ sym (without-append key xs ys)
 
 -- ---- what is known while the pairs are cut out
 
@@ -185,11 +191,14 @@ sound-cut : (xs : List (List HeldLine)) (g : List HeldLine) (ys : List (List Hel
 sound-cut [] g ys h = h.1
 sound-cut (x ∷ xs) g ys h = (h.0, sound-cut xs g ys h.1)
 
-closing-behind : (xs : List (List HeldLine)) (g : List HeldLine) (ys : List (List HeldLine)) (b : Bool) (now next : Closing) → IsLastTold b ys → ClosesAfter (xs ++ g ∷ ys) now
+closing-behind : (xs : List (List HeldLine)) (g : List HeldLine) (ys : List (List HeldLine)) (b : Bool) (now next : Closing)
+    → IsLastTold b ys → ClosesAfter (xs ++ g ∷ ys) now
     → next ≡ (if b then Nothing else now) → ClosesAfter (xs ++ rest_of ys) next
-closing-behind xs g [] b now next told h is = is ∙ cond-true b Nothing now told ∙ ap (λ v. closing_of (is_empty_line v) (is_left_open v)) (sym (final_group-push xs (empty_group None)))
+closing-behind xs g [] b now next told h is =
+    is ∙ cond-true b Nothing now told ∙ ap (λ v. closing_of (is_empty_line v) (is_left_open v)) (sym (final_group-push xs (empty_group None)))
 closing-behind xs g (y ∷ ys) b now next told h is =
-    is ∙ cond-false b Nothing now told ∙ h ∙ ap (λ v. closing_of (is_empty_line v) (is_left_open v)) (final-behind xs g (y ∷ ys) ∙ sym (final-behind xs y ys))
+    is ∙ cond-false b Nothing now told ∙ h
+    ∙ ap (λ v. closing_of (is_empty_line v) (is_left_open v)) (final-behind xs g (y ∷ ys) ∙ sym (final-behind xs y ys))
 
 -- A line without bytes at the end changes nothing else.
 record IsSameRest (key : List ℕ) (xs ys : List (List HeldLine)) : Type 0 where
@@ -218,7 +227,8 @@ drop-at n x y is = ap (λ m. drop m (x ++ y)) is ∙ drop-append_seam x y
 take-at : (n : ℕ) (x y : List ℕ) → n ≡ length x → take n (x ++ y) ≡ x
 take-at n x y is = ap (λ m. take m (x ++ y)) is ∙ front-of x y
 
-module _ {e : Encoding} {key : List ℕ} {gs : List (List HeldLine)} {front source : List ℕ} {index : Index} {place : ℕ} {places : List ℕ} (start : ℕ) (start_is : start ≡ length front)
+module _ {e : Encoding} {key : List ℕ} {gs : List (List HeldLine)} {front source : List ℕ} {index : Index} {place : ℕ}
+    {places : List ℕ} (start : ℕ) (start_is : start ≡ length front)
     (h : IsCutTo e key gs front source index (place ∷ places)) (fits : length source < 2 ^ 64) where
   own-places : changed_at (stored_places index.pairs.entries) key (place ∷ places) key ≡ place ∷ places
   own-places = update-same (stored_places index.pairs.entries) key (place ∷ places)
@@ -267,7 +277,9 @@ module _ {e : Encoding} {key : List ℕ} {gs : List (List HeldLine)} {front sour
   whole = h.bytes ∙ ap (λ v. front ++ groups_bytes v) all-groups
 
   whole-size : length source ≡ start + length (groups_bytes (skip ++ g ∷ after))
-  whole-size = ap length whole ∙ length-append front (groups_bytes (skip ++ g ∷ after)) ∙ ap (λ m. m + length (groups_bytes (skip ++ g ∷ after))) (sym start_is)
+  whole-size =
+      ap length whole ∙ length-append front (groups_bytes (skip ++ g ∷ after))
+      ∙ ap (λ m. m + length (groups_bytes (skip ++ g ∷ after))) (sym start_is)
 
   left-size : length (groups_bytes (skip ++ after)) + length (group_bytes g) ≡ length (groups_bytes (skip ++ g ∷ after))
   left-size =
@@ -282,7 +294,8 @@ module _ {e : Encoding} {key : List ℕ} {gs : List (List HeldLine)} {front sour
   -- what is listed of the others
   abbrev IsListedOf : List (List HeldLine) → List (Option BodySpan) → Type 0
   IsListedOf rest spans =
-      IsListed (pairs_from 0 rest) (changed_at (stored_places index.pairs.entries) key places) (changed_at (stored_value index.pairs.entries) key (last_value key (pairs_from 0 rest))) spans
+      IsListed (pairs_from 0 rest) (changed_at (stored_places index.pairs.entries) key places)
+      (changed_at (stored_value index.pairs.entries) key (last_value key (pairs_from 0 rest))) spans
 
   first : (span_at index.spans.items place ≡ Some (span_of n g)) × IsListedOf (skip ++ after) (all_shifted (shift.Cut n end) index.spans.items)
   first =
@@ -290,8 +303,10 @@ module _ {e : Encoding} {key : List ℕ} {gs : List (List HeldLine)} {front sour
       let v = stored_value index.pairs.entries in
       let all = whole-size in
       let left = left-size in
-      let listed = subst (λ w. IsListed (pairs_from 0 w) (changed_at f key (place ∷ places)) (changed_at v key (last_value key (pairs_from 0 w))) index.spans.items) all-groups h.listed in
-      let cut = cut-first skip g after key said.0 place places (ended-bytes e skip skip-ended) some-bytes (omega arith) skip-none said.1 own-places listed in (
+      let listed =
+      subst (λ w. IsListed (pairs_from 0 w) (changed_at f key (place ∷ places)) (changed_at v key (last_value key (pairs_from 0 w))) index.spans.items) all-groups h.listed in
+      let cut = cut-first skip g after key said.0 place places (ended-bytes e skip skip-ended) some-bytes
+      (omega arith) skip-none said.1 own-places listed in (
         cut.0,
         listed-as cut.1 refl refl
             (λ j. sym (put-after key (place ∷ places) places f (changed_at f key (place ∷ places)) (λ k. refl) j))
@@ -312,7 +327,8 @@ module _ {e : Encoding} {key : List ℕ} {gs : List (List HeldLine)} {front sour
       let x = front ++ (groups_bytes skip ++ unended_bytes g) in
       let y = ending_bytes (last_ending g) ++ groups_bytes after in
       let size : start + (n + length (unended_bytes g)) ≡ length x =
-      let a = length-append front (groups_bytes skip ++ unended_bytes g) in let b = length-append (groups_bytes skip) (unended_bytes g) in omega arith in
+      let a = length-append front (groups_bytes skip ++ unended_bytes g) in let b = length-append (groups_bytes skip)
+      (unended_bytes g) in omega arith in
       let parts : source ≡ x ++ y =
       whole
       ∙ ap (λ v. front ++ v)
@@ -330,35 +346,41 @@ module _ {e : Encoding} {key : List ℕ} {gs : List (List HeldLine)} {front sour
   cut-end = let size = group-size g in let own = own-size in omega arith
 
   -- the bytes without it
-  cut-made : (new : List ℕ) (is : Index) → CutsOut start (span_at index.spans.items place) source index new is → new ≡ front ++ groups_bytes (skip ++ after)
+  cut-made : (new : List ℕ) (is : Index) → CutsOut start (span_at index.spans.items place) source index new is
+      → new ≡ front ++ groups_bytes (skip ++ after)
   cut-made new is cuts =
       let k : IsCutOut start (span_of n g) source index new is = subst (λ o. CutsOut start o source index new is) first.0 cuts in
       let x = front ++ groups_bytes skip in
       let front_size : start + n ≡ length x = let a = length-append front (groups_bytes skip) in omega arith in
       let head : take (start + n) source ≡ x =
-      ap (take (start + n)) (whole ∙ ap (λ v. front ++ v) (groups_bytes-append skip (g ∷ after)) ∙ sym (append_assoc front (groups_bytes skip) (groups_bytes (g ∷ after))))
+      ap (take (start + n))
+      (whole ∙ ap (λ v. front ++ v) (groups_bytes-append skip (g ∷ after)) ∙ sym (append_assoc front (groups_bytes skip) (groups_bytes (g ∷ after))))
       ∙ take-at (start + n) x (groups_bytes (g ∷ after)) front_size in
       let text_end = start + (n + length (unended_bytes g)) in
       let tail : drop (text_end + ending_size (drop text_end source)) source ≡ groups_bytes after =
       sym (drop-drop (ending_size (drop text_end source)) text_end source)
       ∙ ap₂ drop own-size behind
       ∙ drop-at (length (ending_bytes (last_ending g))) (ending_bytes (last_ending g)) (groups_bytes after) refl in
-      k.bytes ∙ ap₂ (λ v w. v ++ w) head tail ∙ append_assoc front (groups_bytes skip) (groups_bytes after) ∙ ap (λ v. front ++ v) (sym (groups_bytes-append skip after))
+      k.bytes ∙ ap₂ (λ v w. v ++ w) head tail ∙ append_assoc front (groups_bytes skip) (groups_bytes after)
+      ∙ ap (λ v. front ++ v) (sym (groups_bytes-append skip after))
 
   -- They are fewer.
   pub cut-shorter : (new : List ℕ) (is : Index) → CutsOut start (span_at index.spans.items place) source index new is → length new < length source
   cut-shorter new is cuts =
-      let made : length new ≡ length front + length (groups_bytes (skip ++ after)) = ap length (cut-made new is cuts) ∙ length-append front (groups_bytes (skip ++ after)) in
+      let made : length new ≡ length front + length (groups_bytes (skip ++ after)) =
+      ap length (cut-made new is cuts) ∙ length-append front (groups_bytes (skip ++ after)) in
       let all = whole-size in
       let left = left-size in
       let some = some-bytes in
       omega arith
 
   -- Without the pair it is known of the source and of the index what was.
-  pub cut-step : (new : List ℕ) (is : Index) → CutsOut start (span_at index.spans.items place) source index new is → IsCutTo e key gs front new is places
+  pub cut-step : (new : List ℕ) (is : Index) → CutsOut start (span_at index.spans.items place) source index new is
+      → IsCutTo e key gs front new is places
   cut-step new is cuts =
       let k : IsCutOut start (span_of n g) source index new is = subst (λ o. CutsOut start o source index new is) first.0 cuts in
-      let spans : is.spans.items ≡ all_shifted (shift.Cut n end) index.spans.items = k.spans ∙ ap (λ m. all_shifted (shift.Cut n m) index.spans.items) cut-end in
+      let spans : is.spans.items ≡ all_shifted (shift.Cut n end) index.spans.items =
+      k.spans ∙ ap (λ m. all_shifted (shift.Cut n m) index.spans.items) cut-end in
       let text_end = start + (n + length (unended_bytes g)) in
       let all_turn = turn-join e skip g after skip-ended group-rest.0 in
       let told : IsLastTold (text_end == length source) after = last-told e skip g after text_end (length source) start all_turn refl whole-size in
@@ -375,7 +397,8 @@ module _ {e : Encoding} {key : List ℕ} {gs : List (List HeldLine)} {front sour
         listed = listed-as first.1 same.pairs spans (λ j. ap (λ m. changed_at (stored_places m.entries) key places j) k.pairs)
             (λ j. ap₂ (λ m ps. changed_at (stored_value m.entries) key (last_value key ps) j) k.pairs same.pairs);
         gone = ap (λ m. stored_at m.entries key) k.pairs ∙ h.gone;
-        closing = closing-behind skip g after (text_end == length source) index.closing is.closing told (subst (λ v. ClosesAfter v index.closing) all-groups h.closing) k.closing;
+        closing = closing-behind skip g after (text_end == length source) index.closing is.closing told
+            (subst (λ v. ClosesAfter v index.closing) all-groups h.closing) k.closing;
         ordered = subst (IsOrdered string_cmp) (sym k.pairs) h.ordered;
       }
 
@@ -393,9 +416,11 @@ held-rest e body ok =
 
 -- A removal begins with all of the body.
 pub cut-begin : (e : Encoding) (key : List ℕ) (start : ℕ) (source : List ℕ) (old mid : Index) (pair : IndexedPair) → is_editable e ≡ true
-    → IsIndex (held_groups_of e (drop start source)) old → AreSound (held_groups_of e (drop start source)) → stored_at old.pairs.entries key ≡ Some pair
+    → IsIndex (held_groups_of e (drop start source)) old → AreSound (held_groups_of e (drop start source))
+    → stored_at old.pairs.entries key ≡ Some pair
     → ((j : List ℕ) → stored_at mid.pairs.entries j ≡ update bytes_eq (stored_at old.pairs.entries) key None j) → IsOrdered string_cmp mid.pairs
-    → mid.spans ≡ old.spans → mid.closing ≡ old.closing → IsCutTo e key (held_groups_of e (drop start source)) (take start source) source mid (places_of (Some pair))
+    → mid.spans ≡ old.spans → mid.closing ≡ old.closing
+    → IsCutTo e key (held_groups_of e (drop start source)) (take start source) source mid (places_of (Some pair))
 cut-begin e key start source old mid pair ok h sound stored updates ordered spans closing =
     let body = drop start source in
     let gs = held_groups_of e body in
@@ -447,7 +472,8 @@ turn-all e xs [] h k = absurd k
 turn-all e xs (g ∷ gs) h k = turn-join e xs g gs h k
 
 -- All pairs with the key were cut out.
-pub cut-whole : {e : Encoding} {key : List ℕ} {gs : List (List HeldLine)} {front source : List ℕ} {index : Index} → IsCutTo e key gs front source index []
+pub cut-whole : {e : Encoding} {key : List ℕ} {gs : List (List HeldLine)} {front source : List ℕ} {index : Index}
+    → IsCutTo e key gs front source index []
     → IsCutWhole e key gs front source index
 cut-whole {e} {key} {gs} {front} {source} {index} h =
     let groups = h.kept ++ h.rest in
@@ -487,7 +513,8 @@ turn-index e gs index ok h =
     (subst AreSound held (merged-sound e gs h.turn h.sound), subst (λ v. IsIndex v index) held is_index)
 
 -- The index with an LF in front of them.
-front-turn : (e : Encoding) (gs : List (List HeldLine)) (mid new : List ℕ) (old is : Index) → IsTurnOf e gs old → PutsFirst mid old new is → 1 + length (groups_bytes gs) < 2 ^ 64
+front-turn : (e : Encoding) (gs : List (List HeldLine)) (mid new : List ℕ) (old is : Index) → IsTurnOf e gs old
+    → PutsFirst mid old new is → 1 + length (groups_bytes gs) < 2 ^ 64
     → IsTurnOf e (empty_group (Some lf) ∷ gs) is
 front-turn e [] mid new old is h k fits = absurd h.turn
 front-turn e (g ∷ gs) mid new old is h k fits =
@@ -504,7 +531,8 @@ front-turn e (g ∷ gs) mid new old is h k fits =
 
 -- ---- what a removal comes to
 
-module _ (e : Encoding) (opened : BodyStart) (old key : List ℕ) (force : IsInForce old e opened) (ok : is_editable (encoding_of opened.encoding) ≡ true)
+module _ (e : Encoding) (opened : BodyStart) (old key : List ℕ) (force : IsInForce old e opened)
+    (ok : is_editable (encoding_of opened.encoding) ≡ true)
     (sound : AreSound (held_groups_of (encoding_of opened.encoding) (drop opened.start old))) where
   abbrev f : Encoding
   f = encoding_of opened.encoding
@@ -525,11 +553,13 @@ module _ (e : Encoding) (opened : BodyStart) (old key : List ℕ) (force : IsInF
   abbrev is_guarded : Bool
   is_guarded = opened.start == 0 && begins_like_bom rest
 
-  removed-by : (new : List ℕ) (is : Index) (gs : List (List HeldLine)) → IsTurnOf f gs is → new ≡ front ++ ((if is_guarded then line_feed ∷ [] else []) ++ rest)
+  removed-by : (new : List ℕ) (is : Index) (gs : List (List HeldLine)) → IsTurnOf f gs is
+      → new ≡ front ++ ((if is_guarded then line_feed ∷ [] else []) ++ rest)
       → drop opened.start new ≡ groups_bytes gs → IsKept (IsRemoved e old key new) e opened new is
   removed-by new is gs turn bytes back =
       let kept = turn-index f gs is ok turn in
-      removed-kept force ok (removed-edits (removed-bytes key new force ok sound bytes)) (subst (λ v. AreSound (held_groups_of f v) × IsIndex (held_groups_of f v) is) (sym back) kept)
+      removed-kept force ok (removed-edits (removed-bytes key new force ok sound bytes))
+      (subst (λ v. AreSound (held_groups_of f v) × IsIndex (held_groups_of f v) is) (sym back) kept)
 
   -- What is left is guarded if it begins like a mark.
   pub removal-ends : (mid new : List ℕ) (cut is : Index) → IsCutWhole f key (held_groups_of f body) front mid cut → length new < 2 ^ 64
@@ -568,7 +598,8 @@ module _ (e : Encoding) (opened : BodyStart) (old key : List ℕ) (force : IsInF
       ]
 
   -- No pair has the key.
-  pub removed-none : (was is : Index) → IsIndex (held_groups_of f body) was → stored_at was.pairs.entries key ≡ None → KeepsNothing was is → IsKept (IsRemoved e old key old) e opened old is
+  pub removed-none : (was is : Index) → IsIndex (held_groups_of f body) was → stored_at was.pairs.entries key ≡ None
+      → KeepsNothing was is → IsKept (IsRemoved e old key old) e opened old is
   removed-none was is index stored kept =
       let gs = held_groups_of f body in
       let none : NoneHasKey key gs = none-listed gs key index.listed (ap places_of stored) in

@@ -27,7 +27,8 @@ group-size g = ap length (bytes-unended g) ∙ length-append (unended_bytes g) (
 
 -- The size of groups around one of them.
 pub size-around : (xs : List (List HeldLine)) (g : List HeldLine) (ys : List (List HeldLine))
-    → length (groups_bytes (xs ++ g ∷ ys)) ≡ length (groups_bytes xs) + ((length (unended_bytes g) + length (ending_bytes (last_ending g))) + length (groups_bytes ys))
+    → length (groups_bytes (xs ++ g ∷ ys))
+    ≡ length (groups_bytes xs) + ((length (unended_bytes g) + length (ending_bytes (last_ending g))) + length (groups_bytes ys))
 size-around xs g ys =
     ap length (groups_bytes-append xs (g ∷ ys))
     ∙ length-append (groups_bytes xs) (group_bytes g ++ groups_bytes ys)
@@ -62,17 +63,23 @@ pub pairs-first : (n : ℕ) (g : List HeldLine) (gs : List (List HeldLine)) (tol
 pairs-first n g gs told is = ap (λ o. cons_option (option_map (paired (span_of n g)) o) (pairs_from (n + length (group_bytes g)) gs)) is
 
 -- So it is of a group among others.
-pub pairs-around : (xs : List (List HeldLine)) (g : List HeldLine) (ys : List (List HeldLine)) (told : Option (List ℕ × List ℕ)) → outcome_pair (outcome g) ≡ told
+pub pairs-around : (xs : List (List HeldLine)) (g : List HeldLine) (ys : List (List HeldLine)) (told : Option (List ℕ × List ℕ))
+    → outcome_pair (outcome g) ≡ told
     → pairs_from 0 (xs ++ g ∷ ys)
-    ≡ pairs_from 0 xs ++ cons_option (option_map (paired (span_of (length (groups_bytes xs)) g)) told) (pairs_from (length (groups_bytes xs) + length (group_bytes g)) ys)
+    ≡ pairs_from 0 xs
+    ++ cons_option (option_map (paired (span_of (length (groups_bytes xs)) g)) told)
+    (pairs_from (length (groups_bytes xs) + length (group_bytes g)) ys)
 pairs-around xs g ys told is = pairs-join xs (g ∷ ys) ∙ ap (λ v. pairs_from 0 xs ++ v) (pairs-first (length (groups_bytes xs)) g ys told is)
 
 -- Groups without a key have no pair with it.
 pub none-with : (key : List ℕ) (n : ℕ) (gs : List (List HeldLine)) → NoneHasKey key gs → NoneWith key (pairs_from n gs)
 none-with key n [] h = tt
-none-with key n (g ∷ gs) h = by (span_of n g) (pairs_from (n + length (group_bytes g)) gs) (outcome g) (no_key-test key g h.0) (none-with key (n + length (group_bytes g)) gs h.1)
+none-with key n (g ∷ gs) h =
+    by (span_of n g) (pairs_from (n + length (group_bytes g)) gs) (outcome g) (no_key-test key g h.0)
+    (none-with key (n + length (group_bytes g)) gs h.1)
   where
-    by : (s : BodySpan) (ps : List PairAt) (o : Outcome) → is_pair_with key o ≡ false → NoneWith key ps → NoneWith key (cons_option (option_map (paired s) (outcome_pair o)) ps)
+    by : (s : BodySpan) (ps : List PairAt) (o : Outcome) → is_pair_with key o ≡ false → NoneWith key ps
+        → NoneWith key (cons_option (option_map (paired s) (outcome_pair o)) ps)
     by s ps ignored none k = k
     by s ps (given (comment text)) none k = k
     by s ps (given (pair own value)) none k = (none, k)
@@ -84,25 +91,29 @@ with-none key n (g ∷ gs) h =
     let m = by (span_of n g) (pairs_from (n + length (group_bytes g)) gs) (outcome g) h in
     (has_key-false key g m.0, with-none key (n + length (group_bytes g)) gs m.1)
   where
-    by : (s : BodySpan) (ps : List PairAt) (o : Outcome) → NoneWith key (cons_option (option_map (paired s) (outcome_pair o)) ps) → (is_pair_with key o ≡ false) × NoneWith key ps
+    by : (s : BodySpan) (ps : List PairAt) (o : Outcome) → NoneWith key (cons_option (option_map (paired s) (outcome_pair o)) ps)
+        → (is_pair_with key o ≡ false) × NoneWith key ps
     by s ps ignored k = (refl, k)
     by s ps (given (comment text)) k = (refl, k)
     by s ps (given (pair own value)) k = k
     by s ps (broken kind) k = (refl, k)
 
 -- So it has no places,
-pub listed-none : (gs : List (List HeldLine)) {places : List ℕ → List ℕ} {values : List ℕ → Option (List ℕ)} {spans : List (Option BodySpan)} (key : List ℕ)
+pub listed-none : (gs : List (List HeldLine)) {places : List ℕ → List ℕ} {values : List ℕ → Option (List ℕ)}
+    {spans : List (Option BodySpan)} (key : List ℕ)
     → IsListed (pairs_from 0 gs) places values spans → NoneHasKey key gs → places key ≡ []
 listed-none gs key h none = h.are_places key ∙ none-places key 0 h.slots (subst (NoneWith key) (sym h.are_pairs) (none-with key 0 gs none))
 
 -- and a key without places is in none.
-pub none-listed : (gs : List (List HeldLine)) {places : List ℕ → List ℕ} {values : List ℕ → Option (List ℕ)} {spans : List (Option BodySpan)} (key : List ℕ)
+pub none-listed : (gs : List (List HeldLine)) {places : List ℕ → List ℕ} {values : List ℕ → Option (List ℕ)}
+    {spans : List (Option BodySpan)} (key : List ℕ)
     → IsListed (pairs_from 0 gs) places values spans → places key ≡ [] → NoneHasKey key gs
 none-listed gs key h none = with-none key 0 gs (subst (NoneWith key) h.are_pairs (places-none key 0 h.slots (sym (h.are_places key) ∙ none)))
 
 -- ---- a change of parts
 
-pub shift-option : (f : BodySpan → Option BodySpan) (told : Option (List ℕ × List ℕ)) (s t : BodySpan) (ps qs : List PairAt) → f s ≡ Some t → IsShift f ps qs
+pub shift-option : (f : BodySpan → Option BodySpan) (told : Option (List ℕ × List ℕ)) (s t : BodySpan) (ps qs : List PairAt)
+    → f s ≡ Some t → IsShift f ps qs
     → IsShift f (cons_option (option_map (paired s) told) ps) (cons_option (option_map (paired t) told) qs)
 shift-option f None s t ps qs h k = k
 shift-option f (Some said) s t ps qs h k = ap₂ (λ o v. option_map (λ w. paired w said) o ∷ v) h k
@@ -114,7 +125,8 @@ pub shift-all : (f : BodySpan → Option BodySpan) (n m : ℕ) (gs : List (List 
 shift-all f n m [] each = refl
 shift-all f n m (g ∷ gs) each =
     let size = length-append (group_bytes g) (groups_bytes gs) in
-    shift-option f (outcome_pair (outcome g)) (span_of n g) (span_of m g) (pairs_from (n + length (group_bytes g)) gs) (pairs_from (m + length (group_bytes g)) gs)
+    shift-option f (outcome_pair (outcome g)) (span_of n g) (span_of m g) (pairs_from (n + length (group_bytes g)) gs)
+    (pairs_from (m + length (group_bytes g)) gs)
     (each g n m (omega arith) (omega arith) (omega arith))
     (shift-all f (n + length (group_bytes g)) (m + length (group_bytes g)) gs (λ h i j low high same. each h i j (omega arith) (omega arith) (omega arith)))
 
@@ -125,13 +137,16 @@ moved-low old new p low = cond-true (nat_lt p old) p (min (p - old + new) (2 ^ 6
 
 pub moved-high : (old new p q : ℕ) → old ≤ p → q + old ≡ p + new → q < 2 ^ 64 → moved_to old new p ≡ q
 moved-high old new p q high is fits =
-    cond-false (nat_lt p old) p (min (p - old + new) (2 ^ 64 - 1)) (grind (arith, nat_tests)) ∙ (let small : min (p - old + new) (2 ^ 64 - 1) ≡ q = omega arith in small)
+    cond-false (nat_lt p old) p (min (p - old + new) (2 ^ 64 - 1)) (grind (arith, nat_tests))
+    ∙ (let small : min (p - old + new) (2 ^ 64 - 1) ≡ q = omega arith in small)
 
-pub span-is : (a b c d : ℕ) → a ≡ c → b ≡ d → (let s : BodySpan = record { start = a; end = b } in s) ≡ (let t : BodySpan = record { start = c; end = d } in t)
+pub span-is : (a b c d : ℕ) → a ≡ c → b ≡ d
+    → (let s : BodySpan = record { start = a; end = b } in s) ≡ (let t : BodySpan = record { start = c; end = d } in t)
 span-is a b c d h k = ap₂ (λ v w. let s : BodySpan = record { start = v; end = w } in s) h k
 
 -- Parts before a change stay,
-pub moved-before : (old new : ℕ) (gs : List (List HeldLine)) (n : ℕ) → n + length (groups_bytes gs) < old → IsShift (shifted (shift.Moved old new)) (pairs_from n gs) (pairs_from n gs)
+pub moved-before : (old new : ℕ) (gs : List (List HeldLine)) (n : ℕ) → n + length (groups_bytes gs) < old
+    → IsShift (shifted (shift.Moved old new)) (pairs_from n gs) (pairs_from n gs)
 moved-before old new gs n low = shift-all (shifted (shift.Moved old new)) n n gs (λ g i j a b c.
     let size = group-size g in
     let same : i ≡ j = omega arith in
@@ -150,11 +165,13 @@ moved-behind old new gs n m high is fits = shift-all (shifted (shift.Moved old n
     (moved-high old new (i + length (unended_bytes g)) (j + length (unended_bytes g)) (omega arith) (omega arith) (omega arith))))
 
 -- Where a group gets longer or shorter, its end moves.
-pub moved-own : (old new n : ℕ) (g h : List HeldLine) → 0 < length (unended_bytes g) → old ≡ n + length (unended_bytes g) → new ≡ n + length (unended_bytes h) → new < 2 ^ 64
+pub moved-own : (old new n : ℕ) (g h : List HeldLine) → 0 < length (unended_bytes g) → old ≡ n + length (unended_bytes g)
+    → new ≡ n + length (unended_bytes h) → new < 2 ^ 64
     → shifted (shift.Moved old new) (span_of n g) ≡ Some (span_of n h)
 moved-own old new n g h some old_is new_is fits =
     ap Some (span-is _ _ n (n + length (unended_bytes h))
-    (moved-low old new n (omega arith)) (moved-high old new (n + length (unended_bytes g)) (n + length (unended_bytes h)) (omega arith) (omega arith) (omega arith)))
+    (moved-low old new n (omega arith))
+    (moved-high old new (n + length (unended_bytes g)) (n + length (unended_bytes h)) (omega arith) (omega arith) (omega arith)))
 
 -- ---- parts that get no longer
 

@@ -19,7 +19,9 @@ returns-in_err-index c =
     let source = c.args.source.now in
     let edits = edits_in c.args.edits.now in
     let opened = c.in_ok-opened.ensures in
-    let refused = refusal c.from_residual-in_err-index.result (AreEdited e only source edits) (edits_made e only source edits) opened.0 opened.1 (edit_all_result-meets e only source edits)
+    let refused =
+    refusal c.from_residual-in_err-index.result (AreEdited e only source edits)
+    (edits_made e only source edits) opened.0 opened.1 (edit_all_result-meets e only source edits)
     c.in_err-index.ensures c.from_residual-in_err-index.ensures.1 in
     rw refused.1 refused.2
 
@@ -34,7 +36,8 @@ loop-edit-init c =
     let copy = c.in_ok-bytes.ensures.items_if_clones_equal (λ x y same. same) in
     let index = c.in_ok-index.index in
     let made : AreEditsMade e opened source [] source index = record {
-      meant = subst (IsEditAllResult e opened.ascii_only source []) (editing.result-made source force.0 force.1 parsed.0) (edit_all_result-meets e opened.ascii_only source []);
+      meant = subst (IsEditAllResult e opened.ascii_only source []) (editing.result-made source force.0 force.1 parsed.0)
+          (edit_all_result-meets e opened.ascii_only source []);
       in_force = force.0;
       sound = parsed.0;
       is_index = parsed.1;
@@ -64,4 +67,5 @@ returns c =
     let bytes = c.loop-edit.bytes.items in
     let all : edits_in done ≡ edits_in edits = ap edits_in (take_all c.loop-edit.edit-index edits (omega arith)) in
     let made = result-made (edits_in done) (edits-scalars done) c.loop-edit.invariant.meant in
-    subst (λ b. AreMade e b source (edits_in edits) bytes) c.in_ok-opened.ensures.2 (subst (λ v. AreMade e c.in_ok-opened.opened.ascii_only source v bytes) all made)
+    subst (λ b. AreMade e b source (edits_in edits) bytes) c.in_ok-opened.ensures.2
+    (subst (λ v. AreMade e c.in_ok-opened.opened.ascii_only source v bytes) all made)

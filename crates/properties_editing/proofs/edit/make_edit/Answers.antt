@@ -13,7 +13,8 @@ returns-in-Put c =
     let value = chars c.deref-in-Put.result.now in
     let old = c.args.source.now.items in
     let new = c.put_pair.new.source.items in
-    let made = edit-made c.args.opened (put key value) (λ e. IsSet e c.args.opened.ascii_only old key value new) old new c.args.index.now c.put_pair.new.index c.put_pair.result
+    let made = edit-made c.args.opened (put key value)
+    (λ e. IsSet e c.args.opened.ascii_only old key value new) old new c.args.index.now c.put_pair.new.index c.put_pair.result
     (λ e s. s.edit.result) c.put_pair.ensures in
     let told = rw (c.deref.ensures, c.deref-in-Put.ensures) at made in
     rw c.in-Put.is told
@@ -24,10 +25,12 @@ returns-in-SetValue c =
     let value = chars c.deref-in-SetValue-2.result.now in
     let old = c.args.source.now.items in
     let new = c.put_value.new.source.items in
-    let made = edit-made c.args.opened (set_value key value) (λ e. HasValueSet e c.args.opened.ascii_only old key value new) old new c.args.index.now c.put_value.new.index c.put_value.result
+    let made = edit-made c.args.opened (set_value key value)
+    (λ e. HasValueSet e c.args.opened.ascii_only old key value new) old new c.args.index.now c.put_value.new.index c.put_value.result
     (λ e s. s.edit.result) c.put_value.ensures in
     let told = rw (c.deref-in-SetValue.ensures, c.deref-in-SetValue-2.ensures) at made in
     rw c.in-SetValue.is told
 
 pub returns-in-Remove : goal.returns-in-Remove
-returns-in-Remove c = rw c.in-Remove.is (λ e force. kept-as (λ s. s.edit.result) (rw c.deref-in-Remove.ensures at (c.remove_pairs.ensures.removes e force)))
+returns-in-Remove c =
+    rw c.in-Remove.is (λ e force. kept-as (λ s. s.edit.result) (rw c.deref-in-Remove.ensures at (c.remove_pairs.ensures.removes e force)))

@@ -20,7 +20,8 @@ last-more : (xs : List (Option BodySpan)) (n : ℕ) → n < length xs → last_l
 last-more xs n low = ap last_live (take-suc xs n None low) ∙ last-push (take n xs) (get_or xs n None)
 
 -- One place less is left when the part in it was read.
-step : (spans : List (Option BodySpan)) (m : ℕ) (now : Option BodySpan) → 0 < m → m ≤ length spans → now ≡ get_or spans (m - 1) now → last_live spans ≡ last_live (take m spans)
+step : (spans : List (Option BodySpan)) (m : ℕ) (now : Option BodySpan) → 0 < m → m ≤ length spans
+    → now ≡ get_or spans (m - 1) now → last_live spans ≡ last_live (take m spans)
     → last_live spans ≡ span_or now (last_live (take (m - 1) spans))
 step spans m now some low read h =
     let n = m - 1 in

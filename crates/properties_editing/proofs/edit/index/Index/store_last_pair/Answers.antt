@@ -37,7 +37,8 @@ returns-clause-kept c =
           (at_chars-updated old.pairs c.remove-known.new.self bytes utf8 None removed) k;
       places = ap₂ (λ v w. v ++ w ∷ [])
           (c.in_ok-earlier.ensures ∙ ap places_of (found ∙ sym (at_chars-sorted old.pairs bytes utf8))) size;
-      spans = ap (λ v. set v c.len-place.result (Some c.args.span)) c.in_ok-push.ensures.items ∙ set-end old.spans.items c.len-place.result (Some c.args.span) size;
+      spans = ap (λ v. set v c.len-place.result (Some c.args.span)) c.in_ok-push.ensures.items
+          ∙ set-end old.spans.items c.len-place.result (Some c.args.span) size;
       ordered = c.insert.ensures.ordered;
     }
 

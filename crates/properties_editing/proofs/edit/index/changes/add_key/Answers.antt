@@ -26,11 +26,14 @@ returns c =
     let value = chars c.args.value.now in
     let by = ending_of c.safe_ending_after-by.result in
     let out = output_encoding (encoding_of opened.encoding) in
-    let fits : by ≡ (if ends_in_cr old then cr else lf) = c.safe_ending_after-by.ensures ∙ ap (λ v. if ends_in_cr v then cr else lf) c.deref.ensures.value in
+    let fits : by ≡ (if ends_in_cr old then cr else lf) =
+    c.safe_ending_after-by.ensures ∙ ap (λ v. if ends_in_cr v then cr else lf) c.deref.ensures.value in
     let body = ap (λ v. take (length v - opened.start) (drop opened.start v)) c.deref-2.ensures.value ∙ take_rest old opened.start in
     let first = c.is_first-first.ensures by ∙ ap (λ v. is_empty (v ++ closing_bytes (line_ending_text by) was.closing)) body in
-    let printed = c.as_slice.ensures ∙ c.in_ok-print_new.ensures ∙ ap₂ (λ v b. v ++ pair_bytes out opened.ascii_only b key value) c.new-line.ensures first in
-    appended-changes c.append_pair.result (λ e. IsSet e opened.ascii_only old key value new) opened key value (line_ending_text by) c.as_slice.result.now (line_ending_text lf) old new was is
+    let printed =
+    c.as_slice.ensures ∙ c.in_ok-print_new.ensures ∙ ap₂ (λ v b. v ++ pair_bytes out opened.ascii_only b key value) c.new-line.ensures first in
+    appended-changes c.append_pair.result (λ e. IsSet e opened.ascii_only old key value new) opened key value
+    (line_ending_text by) c.as_slice.result.now (line_ending_text lf) old new was is
     (key-added opened old new key value c.as_slice.result.now was is c.requires.editable c.requires.start c.requires.sound c.requires.is_index c.requires.is_new
     (chars-scalars c.args.key.now c.utf8.key) (chars-scalars c.args.value.now c.utf8.value) (omega arith) by fits printed)
     c.requires.is_new c.append_pair.ensures

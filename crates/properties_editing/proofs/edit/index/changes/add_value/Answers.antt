@@ -20,7 +20,8 @@ pub layout_at-requires-clause-last : goal.layout_at-requires-clause-last
 layout_at-requires-clause-last c =
     let old = c.args.source.now.items in
     let opened = c.args.opened in
-    let found = found-last (held_groups_of (encoding_of opened.encoding) (drop opened.start old)) c.args.index.now c.requires.sound c.requires.is_index in
+    let found = found-last (held_groups_of (encoding_of opened.encoding) (drop opened.start old)) c.args.index.now
+    c.requires.sound c.requires.is_index in
     let last = subst (IsLastPair (held_groups_of (encoding_of opened.encoding) (drop opened.start old))) (sym c.last_pair.ensures) found in
     rw (c.deref.ensures.value, take_rest old opened.start) last
 
@@ -41,7 +42,8 @@ returns c =
     let first = c.is_first-first.ensures (ending_of layout.ending) ∙ ap (λ v. is_empty (v ++ closing_bytes ending was.closing)) body in
     let pair = ap₂ (λ b s. unended_pair out opened.ascii_only b key (chars s) value) first c.as_str-separator.ensures.value in
     let printed = c.as_slice.ensures ∙ c.in_ok-print_new_pair.ensures ∙ ap₂ (λ v w. v ++ w) c.new-line.ensures pair in
-    appended-changes c.append_pair.result (λ e. HasValueSet e opened.ascii_only old key value new) opened key value ending c.as_slice.result.now ending old new was is
+    appended-changes c.append_pair.result
+    (λ e. HasValueSet e opened.ascii_only old key value new) opened key value ending c.as_slice.result.now ending old new was is
     (pair-added opened old new key value c.as_slice.result.now was is (editable-bytes (encoding_of opened.encoding) c.requires.unit) c.requires.start c.requires.sound c.requires.is_index
     c.requires.is_new (chars-scalars c.args.key.now c.utf8.key) (chars-scalars c.args.value.now c.utf8.value) (omega arith) layout laid printed)
     c.requires.is_new c.append_pair.ensures

@@ -38,30 +38,40 @@ loop-place-init c =
     let now = c.remove.new.self in
     let pair = c.in-Some.pair in
     let mid : Index = record was { pairs = now } in
-    let stored : stored_at was.pairs.entries (chars c.args.key.now) ≡ Some pair = at_chars-sorted was.pairs c.args.key.now c.utf8.key ∙ sym c.in-Some.ensures.value in
+    let stored : stored_at was.pairs.entries (chars c.args.key.now) ≡ Some pair =
+    at_chars-sorted was.pairs c.args.key.now c.utf8.key ∙ sym c.in-Some.ensures.value in
     let updates = at_chars-updated was.pairs now c.args.key.now c.utf8.key None c.in-Some.ensures.updates in
-    let begins = cut-begin _ (chars c.args.key.now) c.args.opened.start c.args.source.now.items was mid pair r.editable r.is_index r.sound stored updates c.in-Some.ensures.ordered refl refl in
+    let begins =
+    cut-begin _ (chars c.args.key.now) c.args.opened.start c.args.source.now.items was mid pair r.editable r.is_index r.sound
+    stored updates c.in-Some.ensures.ordered refl refl in
     subst (IsCutTo _ _ _ _ _ _) (ap (λ v. v ++ pair.place ∷ []) (sym c.deref-place-items.ensures.value)) begins
 
 pub remove_pair_at-requires : goal.remove_pair_at-requires
 remove_pair_at-requires c =
-    let next = subst (IsCutTo _ _ _ _ _ _) (ap (λ v. v ++ c.in-Some.pair.place ∷ []) (drop_more c.deref-place-items.result.now c.loop-place.place-index 0 c.loop-place-test.true)) c.loop-place.invariant in
+    let next = subst (IsCutTo _ _ _ _ _ _)
+    (ap (λ v. v ++ c.in-Some.pair.place ∷ []) (drop_more c.deref-place-items.result.now c.loop-place.place-index 0 c.loop-place-test.true)) c.loop-place.invariant in
     cut-inside c.args.opened.start (sym (length-take-le c.args.opened.start c.args.source.now.items c.requires.start)) next (omega arith)
 
 pub loop-place-preserved : goal.loop-place-preserved
 loop-place-preserved c =
-    let next = subst (IsCutTo _ _ _ _ _ _) (ap (λ v. v ++ c.in-Some.pair.place ∷ []) (drop_more c.deref-place-items.result.now c.loop-place.place-index 0 c.loop-place-test.true)) c.loop-place.invariant in
-    cut-step c.args.opened.start (sym (length-take-le c.args.opened.start c.args.source.now.items c.requires.start)) next (omega arith) _ _ c.remove_pair_at.ensures.cuts
+    let next = subst (IsCutTo _ _ _ _ _ _)
+    (ap (λ v. v ++ c.in-Some.pair.place ∷ []) (drop_more c.deref-place-items.result.now c.loop-place.place-index 0 c.loop-place-test.true)) c.loop-place.invariant in
+    cut-step c.args.opened.start (sym (length-take-le c.args.opened.start c.args.source.now.items c.requires.start)) next
+    (omega arith) _ _ c.remove_pair_at.ensures.cuts
 
 pub remove_pair_at-requires-2 : goal.remove_pair_at-requires-2
 remove_pair_at-requires-2 c =
-    let last = subst (IsCutTo _ _ _ _ _ _) (ap (λ v. v ++ c.in-Some.pair.place ∷ []) (drop_of_length-le c.deref-place-items.result.now c.loop-place-test.false)) c.loop-place.invariant in
+    let last = subst (IsCutTo _ _ _ _ _ _)
+    (ap (λ v. v ++ c.in-Some.pair.place ∷ []) (drop_of_length-le c.deref-place-items.result.now c.loop-place-test.false)) c.loop-place.invariant in
     cut-inside c.args.opened.start (sym (length-take-le c.args.opened.start c.args.source.now.items c.requires.start)) last (omega arith)
 
 pub guard_front-requires : goal.guard_front-requires
 guard_front-requires c =
-    let last = subst (IsCutTo _ _ _ _ _ _) (ap (λ v. v ++ c.in-Some.pair.place ∷ []) (drop_of_length-le c.deref-place-items.result.now c.loop-place-test.false)) c.loop-place.invariant in
-    let shorter = cut-shorter c.args.opened.start (sym (length-take-le c.args.opened.start c.args.source.now.items c.requires.start)) last (omega arith) _ _ c.remove_pair_at-2.ensures.cuts in
+    let last = subst (IsCutTo _ _ _ _ _ _)
+    (ap (λ v. v ++ c.in-Some.pair.place ∷ []) (drop_of_length-le c.deref-place-items.result.now c.loop-place-test.false)) c.loop-place.invariant in
+    let shorter =
+    cut-shorter c.args.opened.start (sym (length-take-le c.args.opened.start c.args.source.now.items c.requires.start)) last
+    (omega arith) _ _ c.remove_pair_at-2.ensures.cuts in
     omega arith
 
 pub returns-clause-told : goal.returns-clause-told
@@ -72,6 +82,9 @@ returns-clause-told c =
 pub returns-clause-removes : goal.returns-clause-removes
 returns-clause-removes c = λ e force.
     let r = c.requires in
-    let last = subst (IsCutTo _ _ _ _ _ _) (ap (λ v. v ++ c.in-Some.pair.place ∷ []) (drop_of_length-le c.deref-place-items.result.now c.loop-place-test.false)) c.loop-place.invariant in
-    let done = cut-step c.args.opened.start (sym (length-take-le c.args.opened.start c.args.source.now.items r.start)) last (omega arith) _ _ c.remove_pair_at-2.ensures.cuts in
-    removal-ends e c.args.opened c.args.source.now.items (chars c.args.key.now) force r.editable r.sound _ _ _ _ (cut-whole done) (omega arith) c.guard_front.ensures
+    let last = subst (IsCutTo _ _ _ _ _ _)
+    (ap (λ v. v ++ c.in-Some.pair.place ∷ []) (drop_of_length-le c.deref-place-items.result.now c.loop-place-test.false)) c.loop-place.invariant in
+    let done = cut-step c.args.opened.start (sym (length-take-le c.args.opened.start c.args.source.now.items r.start)) last
+    (omega arith) _ _ c.remove_pair_at-2.ensures.cuts in
+    removal-ends e c.args.opened c.args.source.now.items (chars c.args.key.now) force r.editable r.sound _ _ _ _ (cut-whole done)
+    (omega arith) c.guard_front.ensures

@@ -40,8 +40,11 @@ returns c = λ e force.
     let is = c.replace_source.new.index in
     let made = rw c.deref.ensures.value at c.in_ok-bytes.ensures in
     let told : FollowsPair key value pair.end (pair.end + length bytes - length old) (opened.start + pair.end == length old) was is =
-    subst (λ v. FollowsPair key v pair.end (pair.end + length bytes - length old) (opened.start + pair.end == length old) was is) (ap chars c.in_ok-text.ensures.ok) c.replace_source.ensures.follows in
+    subst (λ v. FollowsPair key v pair.end (pair.end + length bytes - length old) (opened.start + pair.end == length old) was is)
+    (ap chars c.in_ok-text.ensures.ok) c.replace_source.ensures.follows in
     let follows : FollowsPair key value pair.end (pair.end + length new - length old) (opened.start + pair.end == length old) was is =
-    subst (λ v. FollowsPair key value pair.end (pair.end + length v - length old) (opened.start + pair.end == length old) was is) (sym c.replace_source.ensures.bytes) told in
-    reput-index e opened old new key value pair was is (chars-scalars c.args.value.now c.utf8.value) force r.editable r.sound r.placed r.is_index (omega arith) (omega arith)
+    subst (λ v. FollowsPair key value pair.end (pair.end + length v - length old) (opened.start + pair.end == length old) was is)
+    (sym c.replace_source.ensures.bytes) told in
+    reput-index e opened old new key value pair was is
+    (chars-scalars c.args.value.now c.utf8.value) force r.editable r.sound r.placed r.is_index (omega arith) (omega arith)
     (chars-scalars c.args.key.now c.utf8.key) (c.replace_source.ensures.bytes ∙ made) follows

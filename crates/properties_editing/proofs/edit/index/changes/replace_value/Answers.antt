@@ -13,7 +13,8 @@ use Rattle.properties_editing.proofs.edit.index.changes.replace_value.Goals as g
 pub new_value-requires-clause-alone : goal.new_value-requires-clause-alone
 new_value-requires-clause-alone c =
     let r = c.requires in
-    rw c.deref.ensures.value (pair-alone c.args.opened c.args.source.now.items (editable-bytes _ r.unit) r.start c.args.pair (chars c.args.key.now) r.placed r.sound)
+    rw c.deref.ensures.value
+    (pair-alone c.args.opened c.args.source.now.items (editable-bytes _ r.unit) r.start c.args.pair (chars c.args.key.now) r.placed r.sound)
 
 pub overflow_add-start : goal.overflow_add-start
 overflow_add-start c =
@@ -39,7 +40,8 @@ overflow_add-front c =
     let at = pair-within c.args.opened c.args.source.now.items (editable-bytes _ r.unit) r.start c.args.pair (chars c.args.key.now) r.placed in
     let start = c.args.opened.start + c.args.pair.start in
     let end = c.args.opened.start + c.args.pair.end in
-    let n : IsNewValue (encoding_of c.args.opened.encoding) c.args.opened.ascii_only (take (end - start) (drop start c.args.source.now.items)) (chars c.args.value.now) c.in-Some.new =
+    let n : IsNewValue (encoding_of c.args.opened.encoding) c.args.opened.ascii_only
+    (take (end - start) (drop start c.args.source.now.items)) (chars c.args.value.now) c.in-Some.new =
     rw (c.in-Some.is, c.deref.ensures.value) at c.in_ok-new.ensures in
     let left = length-drop start c.args.source.now.items in
     let size = length-take (end - start) (drop start c.args.source.now.items) in
@@ -51,7 +53,8 @@ slice_bounds-front-end c =
     let at = pair-within c.args.opened c.args.source.now.items (editable-bytes _ r.unit) r.start c.args.pair (chars c.args.key.now) r.placed in
     let start = c.args.opened.start + c.args.pair.start in
     let end = c.args.opened.start + c.args.pair.end in
-    let n : IsNewValue (encoding_of c.args.opened.encoding) c.args.opened.ascii_only (take (end - start) (drop start c.args.source.now.items)) (chars c.args.value.now) c.in-Some.new =
+    let n : IsNewValue (encoding_of c.args.opened.encoding) c.args.opened.ascii_only
+    (take (end - start) (drop start c.args.source.now.items)) (chars c.args.value.now) c.in-Some.new =
     rw (c.in-Some.is, c.deref.ensures.value) at c.in_ok-new.ensures in
     let left = length-drop start c.args.source.now.items in
     let size = length-take (end - start) (drop start c.args.source.now.items) in
@@ -94,8 +97,10 @@ pub returns-in_default : goal.returns-in_default
 returns-in_default c = λ e force.
     let r = c.requires in
     let there = rw (c.in_default.is, c.deref.ensures.value) at c.in_ok-new.ensures in
-    same-value e c.args.opened c.args.source.now.items c.args.source.now.items (chars c.args.key.now) (chars c.args.value.now) c.args.pair c.args.index.now c.args.index.now
-    (chars-scalars c.args.value.now c.utf8.value) force (editable-bytes _ r.unit) r.sound r.placed r.is_index (omega arith) (omega arith) (chars-scalars c.args.key.now c.utf8.key) there
+    same-value e c.args.opened c.args.source.now.items c.args.source.now.items (chars c.args.key.now)
+    (chars c.args.value.now) c.args.pair c.args.index.now c.args.index.now
+    (chars-scalars c.args.value.now c.utf8.value) force (editable-bytes _ r.unit) r.sound r.placed r.is_index (omega arith)
+    (omega arith) (chars-scalars c.args.key.now c.utf8.key) there
 
 pub returns : goal.returns
 returns c = λ e force.
@@ -110,6 +115,7 @@ returns c = λ e force.
     let made = rw (c.deref-2.ensures.value, c.as_slice.ensures, c.deref-3.ensures.value, take_rest old end) at c.in_ok-bytes.ensures in
     let bytes = revalued-made _ opened.ascii_only old start end (chars c.args.value.now) c.in_ok-bytes.bytes.items c.in-Some.new n made in
     let follows = rw (ap chars c.in_ok-text.ensures.ok, ← c.replace_source.ensures.bytes) at c.replace_source.ensures.follows in
-    revalued-index e opened old put (chars c.args.key.now) (chars c.args.value.now) c.args.pair c.args.index.now c.replace_source.new.index (chars-scalars c.args.value.now c.utf8.value) force
+    revalued-index e opened old put (chars c.args.key.now)
+    (chars c.args.value.now) c.args.pair c.args.index.now c.replace_source.new.index (chars-scalars c.args.value.now c.utf8.value) force
     (editable-bytes _ r.unit) r.sound r.placed r.is_index (omega arith) (omega arith) (chars-scalars c.args.key.now c.utf8.key)
     (n.group, n.is_group, n.other, c.replace_source.ensures.bytes ∙ bytes) follows
