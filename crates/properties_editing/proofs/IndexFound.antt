@@ -19,7 +19,7 @@ use Rattle.properties_editing.specs.Private.BodyValues.{IsLastPair}
 use Rattle.properties_editing.specs.declared.edit.index.Index.{Index}
 use Rattle.properties_editing.specs.declared.edit.index.IndexedPair.{IndexedPair}
 use Rattle.properties_editing.specs.declared.edit.find.BodySpan.{BodySpan}
-use Rattle.properties_editing.proofs.IndexListed.{NoneWith, divided, none-places, part-at, places-append}
+use Rattle.properties_editing.proofs.IndexListed.{listed-last}
 use Rattle.properties_editing.proofs.IndexSpans.{listed-none, none-with, pairs-around}
 use Rattle.properties_editing.proofs.LastPairs.{last-after}
 
@@ -73,16 +73,8 @@ module _ {groups : List (List HeldLine)} {index : Index} (h : IsIndex groups ind
           let pair = paired s (key, said.0) in
           let next = n + length (group_bytes p.group) in
           let pairs = ap (pairs_from 0) m.division ∙ pairs-around p.before p.group p.after (Some (key, said.0)) (ap outcome_pair said.1) in
-          let d = divided h.listed.slots (pairs_from 0 p.before) pair (pairs_from next p.after) (h.listed.are_pairs ∙ pairs) in
-          let none = none-places key _ d.after (subst (NoneWith key) (sym d.is_back) (none-with key next p.after m.no_later)) in
-          let places : stored_places index.pairs.entries key ≡ places_with key 0 d.before ++ (0 + length d.before) ∷ [] =
-          h.listed.are_places key
-          ∙ ap (places_with key 0) d.division
-          ∙ places-append key 0 d.before (Some pair ∷ d.after)
-          ∙ ap₂ (λ b v. places_with key 0 d.before ++ place_if b (0 + length d.before) v) ((bytes_eq-Decides key key).1 refl) none in
-          let at : span_at index.spans.items (0 + length d.before) ≡ Some s =
-          ap₂ span_at (h.listed.are_spans ∙ ap (map part_of) d.division) (omega arith) ∙ part-at d.before pair d.after in
-          let is = some-places index.spans.items (stored_at index.pairs.entries key) (places_with key 0 d.before) (0 + length d.before) places ∙ at in
+          let last = listed-last h.listed (pairs_from 0 p.before) pair (pairs_from next p.after) pairs (none-with key next p.after m.no_later) in
+          let is = some-places index.spans.items (stored_at index.pairs.entries key) last.0 last.1 last.2 ∙ last.3 in
           let place : IsPlaceOf key groups s = record { place = p; is = some; division = m.division; starts = refl; ends = refl } in
           subst (IsPlace key groups) (sym is) place
 

@@ -25,7 +25,7 @@ place-append : (b : Bool) (n : ℕ) (xs ys : List ℕ) → place_if b n (xs ++ y
 place-append true n xs ys = refl
 place-append false n xs ys = refl
 
-pub places-append : (key : List ℕ) (n : ℕ) (xs ys : List (Option PairAt))
+places-append : (key : List ℕ) (n : ℕ) (xs ys : List (Option PairAt))
     → places_with key n (xs ++ ys) ≡ places_with key n xs ++ places_with key (n + length xs) ys
 places-append key n [] ys = let same : n ≡ n + 0 = omega arith in ap (λ m. places_with key m ys) same
 places-append key n (None ∷ xs) ys =
@@ -84,14 +84,14 @@ divided [] [] p back h = absurd (cc)
 divided [] (x ∷ front) p back h = absurd (cc)
 divided (None ∷ slots) front p back h =
     let m = divided slots front p back h in
-    record { before = None ∷ m.before; after = m.after; division = ap (λ v. None ∷ v) m.division; is_front = m.is_front; is_back = m.is_back }
+    record { before = None ∷ m.before; after = m.after; division = ap (λ v. None ∷ v) {y = m.before ++ Some p ∷ m.after} m.division; is_front = m.is_front; is_back = m.is_back }
 divided (Some q ∷ slots) [] p back h =
     let same : q ≡ p = cc in
     record { before = []; after = slots; division = ap (λ v. Some v ∷ slots) same; is_front = refl; is_back = cc }
 divided (Some q ∷ slots) (x ∷ front) p back h =
     let same : q ≡ x = cc in
     let m = divided slots front p back (cc) in
-    record { before = Some q ∷ m.before; after = m.after; division = ap (λ v. Some q ∷ v) m.division; is_front = ap₂ (λ a b. a ∷ b) same m.is_front; is_back = m.is_back }
+    record { before = Some q ∷ m.before; after = m.after; division = ap (λ v. Some q ∷ v) {y = m.before ++ Some p ∷ m.after} m.division; is_front = ap₂ (λ a b. a ∷ b) same m.is_front; is_back = m.is_back }
 
 -- The part in its place is its part.
 pub part-at : (before : List (Option PairAt)) (p : PairAt) (after : List (Option PairAt))
@@ -181,6 +181,26 @@ module _ {ps : List PairAt} {places : List ℕ → List ℕ} {values : List ℕ 
             ]
             ∙ sym (last-append k front (q ∷ back));
       }
+
+  -- The last pair with its key is in the last place of it.
+  pub listed-last : (front : List PairAt) (p : PairAt) (back : List PairAt) → ps ≡ front ++ p ∷ back → NoneWith p.key back
+      → (before : List ℕ) × (n : ℕ) × (places p.key ≡ before ++ n ∷ []) × (span_at spans n ≡ Some p.span)
+  listed-last front p back are none = of-divided (divided h.slots front p back (h.are_pairs ∙ are))
+    where
+      of-divided : IsDivided h.slots front p back → (before : List ℕ) × (n : ℕ) × (places p.key ≡ before ++ n ∷ []) × (span_at spans n ≡ Some p.span)
+      of-divided d =
+          let later = none-places p.key (suc (0 + length d.before)) d.after (rw d.is_back none) in
+          let own : place_if (bytes_eq p.key p.key) (0 + length d.before) [] ≡ length d.before ∷ [] =
+          ap₂ (λ b n. place_if b n []) ((bytes_eq-Decides p.key p.key).1 refl) (omega arith) in (
+            places_with p.key 0 d.before,
+            length d.before,
+            h.are_places p.key
+                ∙ ap (places_with p.key 0) d.division
+                ∙ places-append p.key 0 d.before (Some p ∷ d.after)
+                ∙ ap (λ v. places_with p.key 0 d.before ++ place_if (bytes_eq p.key p.key) (0 + length d.before) v) later
+                ∙ ap (λ v. places_with p.key 0 d.before ++ v) own,
+            ap (λ v. span_at v (length d.before)) (h.are_spans ∙ ap (map part_of) d.division) ∙ part-at d.before p d.after,
+          )
 
 -- ---- a change of parts
 
