@@ -1,9 +1,8 @@
 -- What an index tells of a body: where a key is, and where the last pair is.
-use Rattle.std.proofs.Common.{◌≡◌, ℕ, ◌+◌, List, [], ◌∷◌, ◌++◌, Option, Some, None, length, refl, ap, ap₂, sym, ◌∙◌, subst, append-nil, append_assoc, arith}
+use Rattle.std.proofs.Common.{◌≡◌, ℕ, ◌+◌, List, [], ◌∷◌, ◌++◌, Option, Some, None, length, refl, ap, sym, ◌∙◌, subst, append-nil, append_assoc}
 use Rattle.std.specs.Prelude.{map, if◌then◌else◌}
 use Rattle.std.specs.List.{cons_option}
 use Rattle.std.specs.Option.{is_some, option_map}
-use Rattle.std.proofs.lemmas.Slice.Eq.{bytes_eq-Decides}
 use Rattle.properties_format.specs.Groups.{joined}
 use Rattle.properties_format.specs.Body.{HeldLine, HasKey, NoneHasKey, as_lines, groups_bytes, group_bytes}
 use Rattle.properties_format.specs.Entries as content
@@ -13,7 +12,7 @@ use Rattle.properties_format.proofs.Edited.Made as made
 use Rattle.properties_format.proofs.Edited.Made.{last_place-meets}
 use Rattle.properties_format.proofs.Items.Unique.{outcome_of-only}
 use Rattle.properties_items.specs.FoundItems.{outcome_pair}
-use Rattle.properties_editing.specs.Private.BodyIndex.{IsIndex, PairAt, found_span, last_live, last_span, live, outcome, paired, pairs_from, part_of, places_of, places_with, place_if, span_at, span_of, span_or, stored_at, stored_places}
+use Rattle.properties_editing.specs.Private.BodyIndex.{IsIndex, PairAt, found_span, last_live, last_span, live, outcome, paired, pairs_from, part_of, places_of, span_at, span_of, span_or, stored_at}
 use Rattle.properties_editing.specs.Private.BodyKeys.{IsPlace, IsPlaceOf}
 use Rattle.properties_editing.specs.Private.BodyValues.{IsLastPair}
 use Rattle.properties_editing.specs.declared.edit.index.Index.{Index}

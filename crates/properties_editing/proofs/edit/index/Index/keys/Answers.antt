@@ -2,7 +2,6 @@ use Rattle.std.proofs.Common.{ap, ◌∙◌}
 use Rattle.std.specs.Prelude.{filter_map}
 use Rattle.std.proofs.lemmas.List.{take_all}
 use Rattle.properties_editing.specs.Private.BodyIndex.Keys.{key_at}
-use Rattle.properties_editing.specs.Documents.{characters_of}
 use Rattle.properties_editing.proofs.IndexKeys.{found-more, found-none, tells-keys}
 use Rattle.properties_editing.proofs.edit.index.Index.keys.Goals as goal
 use Rattle.properties_editing.proofs.edit.index.Index.keys.Goals.{in-Some+in_ok-push, in_default}
