@@ -186,9 +186,6 @@ group-first E body old found l group false k begins number starts ends opens emp
     let b = subst (λ v. IsNotContinued (decoded_line v bytes) × HasText l bytes (decoded_line v bytes)) k.encoding begins in
     let alone = not-left h.text b.0 in
     let same : take (group.end - group.start) (drop group.start body) ≡ bytes = ap₂ (λ m n. take (m - n) (drop n body)) ends starts in
-    let ordered = k.ordered in
-    let placed = k.placed in
-    let within = k.within.within_body.fits.within in
     record {
       first = h;
       more = [];

@@ -40,7 +40,6 @@ end-kept : (p place more : ℕ) → (p ≡ place → more ≡ 0) → place + mor
 end-kept p place more none fits = elim (cases_Bool (p == place)) [
   | inl t ↦
       let same : p ≡ place = grind (arith, nat_tests) in
-      let nothing = none same in
       cond-true (p == place) (min (place + more) (2 ^ 64 - 1)) p t ∙ (let m : min (place + more) (2 ^ 64 - 1) ≡ p = omega arith in m)
   | inr t ↦ cond-false (p == place) (min (place + more) (2 ^ 64 - 1)) p t
 ]

@@ -68,7 +68,6 @@ first-step : (key : List ℕ) (n : ℕ) (p : PairAt) (slots : List (Option PairA
     → ((p.key ≡ key) × (n ≡ i)) ⊎ ((p.key ≢ key) × (places_with key (suc n) slots ≡ i ∷ rest))
 first-step key n p slots i rest h = elim (cases_Bool (bytes_eq p.key key)) [
   | inl b ↦
-      let taken : n ∷ places_with key (suc n) slots ≡ i ∷ rest = sym (ap (λ v. place_if v n (places_with key (suc n) slots)) b) ∙ h in
       inl ((bytes_eq-Decides p.key key).0 b, cc)
   | inr b ↦ inr ((λ q. let t = (bytes_eq-Decides p.key key).1 q in absurd (cc)), sym (ap (λ v. place_if v n (places_with key (suc n) slots)) b) ∙ h)
 ]
@@ -179,7 +178,6 @@ module _ {Y : Type 0} {values : List ℕ → Option (List ℕ)} {spans : List (O
       let m = found-first key i p in
       let n = found-first other i q in
       let place : m.behind ≡ n.behind = omega arith in
-      let at : Some m.pair ≡ Some n.pair = sym m.at ∙ ap (λ v. get_or h.slots v None) place ∙ n.at in
       let pair : m.pair ≡ n.pair = cc in
       sym m.same ∙ ap (λ v. v.key) pair ∙ n.same
 

@@ -30,7 +30,6 @@ loop-edit-init c =
     let e = encoding_of c.args.encoding in
     let source = c.args.source.now in
     let opened = c.in_ok-opened.opened in
-    let f = encoding_of opened.encoding in
     let force = c.in_ok-opened.ensures in
     let parsed = rw (take_rest source opened.start) at c.in_ok-index.ensures in
     let copy = c.in_ok-bytes.ensures.items_if_clones_equal (λ x y same. same) in

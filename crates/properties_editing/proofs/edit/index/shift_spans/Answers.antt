@@ -17,6 +17,4 @@ all-same change (o ∷ old) (n ∷ new) size each =
 pub returns : goal.returns
 returns c =
     let inv = c.loop-place.invariant in
-    let size : c.args.spans.now.len ≡ length c.args.spans.now.items = c.args.spans.now.ok.0 in
-    let end : c.len-place-end.result ≡ c.args.spans.now.len = c.len-place-end.ensures in
     all-same c.args.change c.args.spans.now.items c.loop-place.spans.items inv.size (λ i low. inv.done i (omega arith))
