@@ -15,14 +15,12 @@ use Rattle.properties_format.specs.Body.{ending_bytes, groups_bytes, last_ending
 use Rattle.properties_format.specs.Edited.{bom_of, pair_bytes, separation, added_ending, is_editable, edited, unsupported, IsEditResult, IsSetKeyResult, IsRemoveKeyResult}
 use Rattle.properties_format.specs.Computed.Items.{items_of}
 use Rattle.properties_format.specs.Computed.Body.{held_groups_of, entries_in}
-use Rattle.properties_format.specs.Computed.Parts.{unended_bytes}
-use Rattle.properties_format.specs.Computed.Edited.{AreSound, without, key_removed, key_removed_in, result_by, result_of, key_set, key_set_in, set_at, set_key_result, remove_key_result, KeyPlace, last_place}
-use Rattle.properties_format.proofs.Body.Groups.{groups_bytes-append, held_groups_of-meets, held-body}
+use Rattle.properties_format.specs.Computed.Edited.{AreSound, without, key_removed, key_removed_in, result_by, result_of, key_set, key_set_in, set_at, set_key_result, remove_key_result, last_place}
+use Rattle.properties_format.proofs.Body.Groups.{held_groups_of-meets, held-body}
 use Rattle.properties_format.proofs.Body.Numbers.{items_of-groups}
 use Rattle.properties_format.proofs.Edited.ByteOrderMarks.{key_removed-in_force, key_set-in_force, source-whole}
 use Rattle.properties_format.proofs.Edited.Results.{set_key_result-meets, set_key_result-only, remove_key_result-meets, remove_key_result-only}
 use Rattle.properties_format.proofs.Edited.Steps.{result-after}
-use Rattle.properties_format.proofs.InTurn.Lines.{bytes-unended}
 use Rattle.properties_format.proofs.Changed.Read.{set_key-reads, remove_key-reads}
 use Rattle.properties_format.proofs.Edits.InAscii.{set_key-in_ascii}
 use Rattle.properties_format.specs.Edits.{AreScalarEdits}
@@ -38,6 +36,7 @@ use Rattle.properties_editing.specs.Private.BodyIndex.{IsIndex, IsKept}
 use Rattle.properties_editing.specs.Private.Sources.{IsInForce}
 use Rattle.properties_editing.specs.declared.edit.index.Index.{Index}
 use Rattle.properties_editing.proofs.BodyGroups.{front-of, no-bytes}
+use Rattle.properties_editing.proofs.LastPairs.{IsPartAt, part-at}
 use Rattle.properties_editing.specs.declared.edit.find.BodySpan.{BodySpan}
 use Rattle.properties_editing.specs.declared.edit.find.PairPlaces.{PairPlaces}
 use Rattle.properties_editing.specs.declared.edit.source.BodyStart.{BodyStart}
@@ -172,48 +171,10 @@ appended source start separation closed pair printed ending ended all h i j k m 
 
 -- ---- a pair is replaced
 
--- what comes before the last pair, and what after it
-pub record IsSplitAt (body : List ℕ) (k : KeyPlace) (pair : BodySpan) : Type 0 where
-  pub front : take pair.start body ≡ groups_bytes k.before
-  pub back : drop pair.end body ≡ ending_bytes (last_ending k.group) ++ groups_bytes k.after
-  pub ordered : pair.start ≤ pair.end
-  pub within : pair.end ≤ length body
-
-split-at : (a b c : List ℕ) (start end : ℕ) → start ≡ length a → end ≡ start + length b
-    → (take start (a ++ (b ++ c)) ≡ a) × (drop end (a ++ (b ++ c)) ≡ c) × (start ≤ end) × (end ≤ length (a ++ (b ++ c)))
-split-at a b c start after is ends =
-    let both : length (a ++ b) ≡ after = length-append a b ∙ (omega arith) in
-    let all : length (a ++ (b ++ c)) ≡ length a + (length b + length c) = length-append a (b ++ c) ∙ ap (λ n. length a + n) (length-append b c) in (
-      ap (λ n. take n (a ++ (b ++ c))) is ∙ front-of a (b ++ c),
-      ap₂ drop (sym both) (sym (append_assoc a b c)) ∙ drop-append_seam (a ++ b) c,
-      (omega arith),
-      (omega arith),
-    )
-
-pub place-split : (e : Encoding) (body key : List ℕ) (pair : BodySpan) → is_editable e ≡ true → (k : IsPlaceOf key (held_groups_of e body) pair) → IsSplitAt body k.place pair
-place-split e body key pair ok k =
-    let gs = held_groups_of e body in
-    let p = k.place in
-    let bytes = unended_bytes p.group in
-    let ending = ending_bytes (last_ending p.group) in
-    let rest = ending ++ groups_bytes p.after in
-    let whole : body ≡ groups_bytes p.before ++ (bytes ++ rest) =
-    sym (held-body e body gs ok (held_groups_of-meets e body))
-    ∙ ap groups_bytes k.division
-    ∙ groups_bytes-append p.before (p.group ∷ p.after)
-    ∙ ap (λ v. groups_bytes p.before ++ (v ++ groups_bytes p.after)) (bytes-unended p.group)
-    ∙ ap (λ v. groups_bytes p.before ++ v) (append_assoc bytes ending (groups_bytes p.after)) in
-    let parts = split-at (groups_bytes p.before) bytes rest pair.start pair.end k.starts k.ends in
-    record {
-      front = ap (take pair.start) whole ∙ parts.0;
-      back = ap (drop pair.end) whole ∙ parts.1;
-      ordered = parts.2;
-      within = subst (λ v. pair.end ≤ length v) (sym whole) parts.3;
-    }
-
--- a first part of a source
-part-of : (source : List ℕ) (start n : ℕ) → start ≤ length source → take (start + n) source ≡ take start source ++ take n (drop start source)
-part-of source start n h = take-add start n source
+-- where it is
+pub place-split : (e : Encoding) (body key : List ℕ) (pair : BodySpan) → is_editable e ≡ true → (k : IsPlaceOf key (held_groups_of e body) pair)
+    → IsPartAt body k.place.before k.place.group k.place.after pair.start pair.end
+place-split e body key pair ok k = part-at e body k.place.before k.place.group k.place.after pair.start pair.end ok k.division k.starts k.ends
 
 start-first : (body : List ℕ) (start : ℕ) → start ≤ length body → (start == 0) ≡ is_empty (take start body)
 start-first body start h = ap (λ n. n == 0) (sym (length-take-le start body h)) ∙ no-bytes (take start body)
@@ -235,7 +196,7 @@ replaced-result {source} {e} {opened} {found} key value bytes pair h ok k is mad
     let printed : pair_bytes (output_encoding f) opened.ascii_only (pair.start == 0) key value ≡ pair_bytes f opened.ascii_only (is_empty before) key value =
     ap₂ (λ v b. pair_bytes v opened.ascii_only b key value) (editable-own f ok) first in
     let front : take (opened.start + pair.start) source ≡ bom_of source ++ before =
-    part-of source opened.start pair.start h.within ∙ ap₂ (λ v w. v ++ w) (sym (bom-front h)) at.front in
+    take-add opened.start pair.start source ∙ ap₂ (λ v w. v ++ w) (sym (bom-front h)) at.front in
     let back : drop (opened.start + pair.end) source ≡ ending_bytes (last_ending place.place.group) ++ groups_bytes place.place.after =
     sym (drop-drop pair.end opened.start source) ∙ at.back in
     let set : key_set e opened.ascii_only source key value ≡ bytes =

@@ -241,10 +241,9 @@ separator-none key None h = refl
 separator-none key (Some between) h = absurd (cc)
 
 -- The separator of a new pair is a good one.
-pub groups-good : (groups : List (List HeldLine)) (key separator : List ℕ) → separator ≡ separator_by key (last_between groups) → is_good_separator separator ≡ true
-groups-good groups key separator h =
+pub separator-good : (e : Encoding) (body key separator : List ℕ) → separator ≡ separator_by key (last_between (held_groups_of e body))
+    → is_good_separator separator ≡ true
+separator-good e body key separator h =
+    let gs = held_groups_of e body in
     is_good_separator-from separator
-    (subst IsGoodSeparator (sym h) (new_separator-fit groups key (separator_by key (last_between groups)) (new_separator-meets groups key)).good)
-
-pub separator-good : (e : Encoding) (body key separator : List ℕ) → separator ≡ separator_by key (last_between (held_groups_of e body)) → is_good_separator separator ≡ true
-separator-good e body key separator h = groups-good (held_groups_of e body) key separator h
+    (subst IsGoodSeparator (sym h) (new_separator-fit gs key (separator_by key (last_between gs)) (new_separator-meets gs key)).good)
