@@ -1,79 +1,46 @@
 -- What the calls of a document come to.
-use Rattle.std.proofs.Common.{◌≡◌, ℕ, ◌+◌, Bool, true, false, List, [], ◌∷◌, ◌++◌, length, take, drop, refl, ap, ap₂, sym, ◌∙◌, subst, length-append, arith}
-use Rattle.std.specs.Prelude.{Option, Some, None, Result, Ok, Err, IfOk, OnOk}
+use Rattle.std.proofs.Common.{◌≡◌, ℕ, ◌+◌, Bool, true, false, List, [], ◌∷◌, length, drop, refl, ap, sym, ◌∙◌, subst}
+use Rattle.std.specs.Prelude.{bytes_eq, if◌then◌else◌, Option, Some, None, Result, Ok, Err, IfOk, OnOk}
 use Rattle.std.specs.Borrow.{Bor}
 use Rattle.std.specs.Global.{Vec}
 use Rattle.std.specs.List.{cons_option}
 use Rattle.std.specs.Option.{is_some, option_map}
-use Rattle.std.proofs.Math.Seq.{drop-append_seam}
-use Rattle.std.proofs.lemmas.List.{length-take-le}
-use Rattle.properties_format.specs.Encoding.{Encoding, InForce, byte_order_mark, windows_1252, utf_8, utf_16le, utf_16be}
+use Rattle.properties_format.specs.Encoding.{Encoding, InForce, windows_1252, utf_8, utf_16le, utf_16be}
 use Rattle.properties_format.specs.Lines.{end}
 use Rattle.properties_format.specs.Entries.{comment, pair, AreItems}
 use Rattle.properties_format.specs.Items.{IsItems, Outcome, ignored, given, broken}
 use Rattle.properties_format.specs.Maps.{IsValue}
-use Rattle.properties_format.specs.Body.{HeldLine}
-use Rattle.properties_format.specs.Edited.{bom_of, is_editable}
-use Rattle.properties_format.specs.Edits.{put, remove, set_value}
+use Rattle.properties_format.specs.Body.{HeldLine, group_bytes}
+use Rattle.properties_format.specs.Edited.{IsEditResult, edited, is_editable}
+use Rattle.properties_format.specs.Edits.{Edit, IsEdited}
 use Rattle.properties_format.specs.Computed.Body.{entries_in, held_groups_of}
 use Rattle.properties_format.specs.Computed.Edited.{IsSound, AreSound}
 use Rattle.properties_format.specs.Computed.Items.{followed, items_of}
+use Rattle.properties_format.specs.Computed.Maps.{first_value, value_in}
 use Rattle.properties_format.specs.Computed.Parts.{outcome_key}
 use Rattle.properties_format.proofs.Body.Numbers.{items_of-groups}
-use Rattle.properties_format.proofs.Edited.ByteOrderMarks.{key_set-in_force, key_removed-in_force}
 use Rattle.properties_format.proofs.Items.Unique.{items_of-meets}
 use Rattle.properties_format.proofs.Keys.{are-keys, pair_keys}
-use Rattle.properties_format.proofs.Valued.Marks.{value_set-in_force}
+use Rattle.properties_format.proofs.Maps.{first-none, value_in-meets}
 use Rattle.properties_lines.specs.LineSearch.{unit_size}
 use Rattle.properties_text.specs.Encoding.{encoding_of}
 use Rattle.properties_editing.specs.Private.BodyDocuments.{IsDocument, open_document}
-use Rattle.properties_editing.specs.Private.BodyIndex.{IsIndex, MakesEdit, PutsPair, PutsValue, RemovesPairs, outcome, stored_at, stored_value}
-use Rattle.properties_editing.specs.Private.BodyIndex.Keys.{IndexesSome, TellsKeys, group_keys}
+use Rattle.properties_editing.specs.Private.BodyIndex.{Changes, IsIndex, IsKept, KeepsNothing, MakesEdit, PairAt, PutsPair, PutsValue, RemovesPairs, last_value, outcome, paired, pairs_from, span_of, stored_at, stored_value}
+use Rattle.properties_editing.specs.Private.BodyIndex.Keys.{TellsKeys, group_keys}
 use Rattle.properties_editing.specs.Documents.{OpenDocument, HasValueAt, HasKeysInOrder, ChecksHasKey, PutsInto, SetsValueIn, RemovesFrom, characters_of}
-use Rattle.properties_editing.specs.Editing.{AreMade, HasValueSet, IsRemoved, IsSet}
+use Rattle.properties_editing.specs.Editing.{AreMade}
+use Rattle.properties_items.specs.FoundItems.{outcome_pair}
 use Rattle.properties_items.specs.Texts.{characters}
 use Rattle.properties_editing.specs.Private.Sources.{IsInForce}
 use Rattle.properties_editing.specs.declared.edit.document.Document.TheInside.{Inside}
 use Rattle.properties_editing.specs.declared.edit.index.Index.{Index}
+use Rattle.properties_editing.specs.declared.edit.find.BodySpan.{BodySpan}
 use Rattle.properties_editing.specs.declared.edit.source.BodyStart.{BodyStart}
-use Rattle.properties_editing.proofs.Editing.{bom-front, editable, result-made}
+use Rattle.properties_editing.proofs.Editing.{result-made}
 use Rattle.properties_editing.proofs.EditsInTurn.{made-edits}
 use Rattle.properties_editing.proofs.IndexParsed.{kept-index}
-use Rattle.properties_editing.proofs.IndexValues.{map-values}
 
--- ---- a source after an edit
-
--- Bytes that keep the byte order mark are in force as the source is.
-again : {e : Encoding} {old : List ℕ} {opened : BodyStart} (new body : List ℕ) → IsInForce old e opened → new ≡ bom_of old ++ body
-    → byte_order_mark e new ≡ record { encoding = (byte_order_mark e old).encoding; body = body } → IsInForce new e opened
-again {e} {old} {opened} new body h whole is =
-    let front : new ≡ take opened.start old ++ body = whole ∙ ap (λ v. v ++ body) (bom-front h) in
-    let size : length (take opened.start old) ≡ opened.start = length-take-le opened.start old h.within in
-    let back : drop opened.start new ≡ body = ap₂ drop (sym size) front ∙ drop-append_seam (take opened.start old) body in
-    let all = ap length front ∙ length-append (take opened.start old) body in
-    record {
-      in_force =
-          is ∙ ap₂ (λ f b. let w : InForce = record { encoding = f; body = b } in w) (ap (λ v. let w : InForce = v in w.encoding) h.in_force) (sym back);
-      within = omega arith;
-    }
-
-pub set-again : {e : Encoding} {old : List ℕ} {opened : BodyStart} (key value new : List ℕ) → IsInForce old e opened → is_editable (encoding_of opened.encoding) ≡ true
-    → IsSet e opened.ascii_only old key value new → IsInForce new e opened
-set-again {e} {old} {opened} key value new h ok s =
-    let k = s.edit.result.2 in
-    again new k.body h k.whole (key_set-in_force e opened.ascii_only old key value new (editable h ok) k)
-
-pub value-again : {e : Encoding} {old : List ℕ} {opened : BodyStart} (key value new : List ℕ) → IsInForce old e opened → is_editable (encoding_of opened.encoding) ≡ true
-    → HasValueSet e opened.ascii_only old key value new → IsInForce new e opened
-value-again {e} {old} {opened} key value new h ok s =
-    let k = s.edit.result.2 in
-    again new k.body h k.whole (value_set-in_force e opened.ascii_only old key value new (editable h ok) k)
-
-pub removed-again : {e : Encoding} {old : List ℕ} {opened : BodyStart} (key new : List ℕ) → IsInForce old e opened → is_editable (encoding_of opened.encoding) ≡ true
-    → IsRemoved e old key new → IsInForce new e opened
-removed-again {e} {old} key new h ok s =
-    let k = s.edit.result.2 in
-    again new _ h k.whole (key_removed-in_force e old key new (editable h ok) k)
+-- ---- encodings
 
 -- The units of an encoding that is edited are one byte long.
 pub editable-unit : (e : Encoding) → is_editable e ≡ true → unit_size e ≡ 1
@@ -83,6 +50,20 @@ editable-unit utf_16le h = absurd (cc)
 editable-unit utf_16be h = absurd (cc)
 
 -- ---- what a document tells
+
+-- The value of a key among the entries of groups is that among their pairs.
+value-entries : (n m : ℕ) (gs : List (List HeldLine)) (key : List ℕ) → AreSound gs → value_in (entries_in n gs) key ≡ last_value key (pairs_from m gs)
+value-entries n m [] key s = refl
+value-entries n m (g ∷ gs) key s =
+    let next = m + length (group_bytes g) in
+    by (span_of m g) (pairs_from next gs) (outcome g) s.0 (value-entries (n + length g) next gs key s.1)
+  where
+    by : (span : BodySpan) (ps : List PairAt) (o : Outcome) → IsSound o → value_in (entries_in (n + length g) gs) key ≡ last_value key ps
+        → value_in (followed n o (entries_in (n + length g) gs)) key ≡ last_value key (cons_option (option_map (paired span) (outcome_pair o)) ps)
+    by span ps ignored s h = h
+    by span ps (given (comment text)) s h = ap (λ r. first_value r None) h ∙ first-none (last_value key ps)
+    by span ps (given (pair k v)) s h = ap (λ r. first_value r (if bytes_eq k key then Some v else None)) h
+    by span ps (broken kind) s h = absurd s
 
 -- The entries of groups without malformed escapes are items.
 items-sound : (n : ℕ) (gs : List (List HeldLine)) → AreSound gs → AreItems (entries_in n gs)
@@ -103,7 +84,8 @@ own-items d i =
     ∙ ap (λ v. let w : InForce = v in entries_in 1 (held_groups_of w.encoding w.body)) i.in_force.in_force
 
 -- What it has stored of a key is its value.
-pub has-value : (d : Inside) → IsDocument d → (key : List ℕ) (value : Option (List ℕ)) → stored_value d.index.pairs.entries key ≡ value → HasValueAt (open_document d) key value
+pub has-value : (d : Inside) → IsDocument d → (key : List ℕ) (value : Option (List ℕ))
+    → stored_value d.index.pairs.entries key ≡ value → HasValueAt (open_document d) key value
 has-value d i key value is =
     let e = encoding_of d.encoding in
     let source = d.source.items in
@@ -112,23 +94,15 @@ has-value d i key value is =
       entries = entries_in 1 gs;
       items = subst (IsItems e source end) (own-items d i) (items_of-meets e source end);
       whole = items-sound 1 gs i.sound;
-      is = subst (IsValue (entries_in 1 gs) key) is (map-values 1 gs (stored_value d.index.pairs.entries) i.sound i.is_index.listed.values key);
+      is = subst (IsValue (entries_in 1 gs) key) (value-entries 1 0 gs key i.sound ∙ sym (i.is_index.listed.are_values key) ∙ is)
+          (value_in-meets (entries_in 1 gs) key);
     }
 
 -- Whether it has one tells whether a pair has the key.
-pub checks_has_key : {X : Type 0} (f : X → List ℕ) (d : OpenDocument) (key : List ℕ) (o : Option X) → HasValueAt d key (option_map f o) → ChecksHasKey d key (is_some o)
+pub checks_has_key : {X : Type 0} (f : X → List ℕ) (d : OpenDocument) (key : List ℕ) (o : Option X)
+    → HasValueAt d key (option_map f o) → ChecksHasKey d key (is_some o)
 checks_has_key f d key None h = h
 checks_has_key f d key (Some x) h = (f x, h)
-
--- Its index is that of a body.
-pub index-some : (d : Inside) → IsDocument d → IndexesSome d.index
-index-some d i =
-    record {
-      encoding = encoding_of d.opened.encoding;
-      body = drop d.opened.start d.source.items;
-      editable = i.editable;
-      is_index = i.is_index;
-    }
 
 -- The keys of groups are those of their entries.
 entries-keys : (n : ℕ) (gs : List (List HeldLine)) → AreSound gs → pair_keys (entries_in n gs) ≡ group_keys gs
@@ -154,7 +128,7 @@ keys-are d i keys tells =
       entries = entries_in 1 gs;
       items = subst (IsItems e source end) (own-items d i) (items_of-meets e source end);
       whole = items-sound 1 gs i.sound;
-      are = are-keys (entries_in 1 gs) (group_keys gs) (characters_of keys) (entries-keys 1 gs i.sound) (tells f body i.editable i.is_index);
+      are = are-keys (entries_in 1 gs) (group_keys gs) (characters_of keys) (entries-keys 1 gs i.sound) (tells gs i.is_index);
     }
 
 -- where there was memory for them.
@@ -169,48 +143,47 @@ module _ (d : Inside) (i : IsDocument d) (source : Vec ℕ) (index : Index) wher
   abbrev after : Inside
   after = record d { source = source; index = index }
 
-  same-bytes : source.items ≡ d.source.items → open_document after ≡ open_document d
-  same-bytes is = ap (λ v. let w : OpenDocument = record { encoding = encoding_of d.encoding; bytes = v; ascii_only = d.opened.ascii_only } in w) is
+  document : {Meant : Type 0} → IsKept Meant (encoding_of d.encoding) d.opened source.items index → IsDocument after
+  document k = record { in_force = k.in_force; editable = i.editable; sound = k.sound; is_index = k.is_index }
 
-  kept : source.items ≡ d.source.items → IsIndex (held_groups_of (encoding_of d.opened.encoding) (drop d.opened.start d.source.items)) index → IsDocument after
-  kept is h =
+  -- It is as it was.
+  unchanged : (source.items ≡ d.source.items) × KeepsNothing d.index index → IsDocument after × (open_document after ≡ open_document d)
+  unchanged h =
       let f = encoding_of d.opened.encoding in
-      record {
-        in_force = subst (λ v. IsInForce v (encoding_of d.encoding) d.opened) (sym is) i.in_force;
-        editable = i.editable;
-        sound = subst (λ v. AreSound (held_groups_of f (drop d.opened.start v))) (sym is) i.sound;
-        is_index = subst (λ v. IsIndex (held_groups_of f (drop d.opened.start v)) index) (sym is) h;
-      }
+      let back = sym h.0 in (
+        record {
+          in_force = subst (λ v. IsInForce v (encoding_of d.encoding) d.opened) back i.in_force;
+          editable = i.editable;
+          sound = subst (λ v. AreSound (held_groups_of f (drop d.opened.start v))) back i.sound;
+          is_index = subst (λ v. IsIndex (held_groups_of f (drop d.opened.start v)) index) back (kept-index _ d.index index i.is_index h.1);
+        },
+        ap (λ v. let w : OpenDocument = record (open_document d) { bytes = v } in w) h.0,
+      )
 
-  -- A key was set, or it is as it was.
-  pub put-ends : {E : Type 0} (key value : List ℕ) (result : Result Unit E) → PutsPair d.opened key value d.source.items d.index result source.items index
+  -- A key was set, or it is as it was,
+  pub put-ends : {E : Type 0} (key value : List ℕ) (result : Result Unit E)
+      → PutsPair d.opened key value d.source.items d.index result source.items index
       → IsDocument after × PutsInto key value (open_document d) result (open_document after)
-  put-ends key value (Ok done) h =
-      let k = h (encoding_of d.encoding) i.in_force in (
-        record { in_force = set-again key value source.items i.in_force i.editable k.set; editable = i.editable; sound = k.sound; is_index = k.is_index },
-        (refl, refl, k.set),
-      )
-  put-ends key value (Err error) h = (kept h.0 (kept-index _ d.index index i.is_index h.1), same-bytes h.0)
+  put-ends key value (Ok done) h = let k = h (encoding_of d.encoding) i.in_force in (document k, (refl, refl, k.meant))
+  put-ends key value (Err error) h = unchanged h
 
-  -- The value of a key was set, or it is as it was.
-  pub value-ends : {E : Type 0} (key value : List ℕ) (result : Result Unit E) → PutsValue d.opened key value d.source.items d.index result source.items index
+  -- the value of a key was,
+  pub value-ends : {E : Type 0} (key value : List ℕ) (result : Result Unit E)
+      → PutsValue d.opened key value d.source.items d.index result source.items index
       → IsDocument after × SetsValueIn key value (open_document d) result (open_document after)
-  value-ends key value (Ok done) h =
-      let k = h (encoding_of d.encoding) i.in_force in (
-        record { in_force = value-again key value source.items i.in_force i.editable k.set; editable = i.editable; sound = k.sound; is_index = k.is_index },
-        (refl, refl, k.set),
-      )
-  value-ends key value (Err error) h = (kept h.0 (kept-index _ d.index index i.is_index h.1), same-bytes h.0)
+  value-ends key value (Ok done) h = let k = h (encoding_of d.encoding) i.in_force in (document k, (refl, refl, k.meant))
+  value-ends key value (Err error) h = unchanged h
 
-  -- A key was removed.
-  pub remove-ends : (key : List ℕ) (told : Bool) → told ≡ is_some (stored_at d.index.pairs.entries key) → RemovesPairs d.opened key d.source.items source.items index
+  -- or a key was removed.
+  pub remove-ends : (key : List ℕ) (told : Bool) → told ≡ is_some (stored_at d.index.pairs.entries key)
+      → RemovesPairs d.opened key d.source.items source.items index
       → IsDocument after × RemovesFrom key (open_document d) told (open_document after)
   remove-ends key told is h =
       let k = h (encoding_of d.encoding) i.in_force in
-      let checked = checks_has_key (λ p. characters p.value) (open_document d) key (stored_at d.index.pairs.entries key) (has-value d i key (stored_value d.index.pairs.entries key) refl) in (
-        record { in_force = removed-again key source.items i.in_force i.editable k.removed; editable = i.editable; sound = k.sound; is_index = k.is_index },
-        record { encoding = refl; ascii_only = refl; removed = k.removed; checked = subst (ChecksHasKey (open_document d) key) (sym is) checked },
-      )
+      let stored = stored_at d.index.pairs.entries key in
+      let checked =
+      checks_has_key (λ p. characters p.value) (open_document d) key stored (has-value d i key (stored_value d.index.pairs.entries key) refl) in
+      (document k, record { encoding = refl; ascii_only = refl; removed = k.meant; checked = subst (ChecksHasKey (open_document d) key) (sym is) checked })
 
 -- ---- a document that is opened
 
@@ -227,7 +200,8 @@ own-opened d i off = record {
   made = made-edits [] tt (result-made d.source.items i.in_force i.editable i.sound);
 }
 
-pub opens-document : (d : Inside) (source : List ℕ) → d.source.items ≡ source → IsInForce source (encoding_of d.encoding) d.opened → is_editable (encoding_of d.opened.encoding) ≡ true
+pub opens-document : (d : Inside) (source : List ℕ) → d.source.items ≡ source
+    → IsInForce source (encoding_of d.encoding) d.opened → is_editable (encoding_of d.opened.encoding) ≡ true
     → d.opened.ascii_only ≡ false → AreSound (held_groups_of (encoding_of d.opened.encoding) (drop d.opened.start source))
     → IsIndex (held_groups_of (encoding_of d.opened.encoding) (drop d.opened.start source)) d.index → IsOpened d source
 opens-document d source copy force ok off sound index =
@@ -241,21 +215,17 @@ opens-document d source copy force ok off sound index =
 
 -- ---- an edit of a list
 
-module _ {E : Type 0} (opened : BodyStart) (ok : is_editable (encoding_of opened.encoding) ≡ true) (old new : List ℕ) (was is : Index) where
-  pub edit-put : (key value : List ℕ) (result : Result Unit E) → PutsPair opened key value old was result new is → OnOk result (MakesEdit opened (put key value) old new is)
-  edit-put key value (Ok done) h = λ e force.
-      let k = h e force in
-      record { result = k.set.edit.result; in_force = set-again key value new force ok k.set; sound = k.sound; is_index = k.is_index }
-  edit-put key value (Err error) h = tt
+-- What is kept is kept as something else.
+pub kept-as : {Meant Other : Type 0} {e : Encoding} {opened : BodyStart} {source : List ℕ} {index : Index} → (Meant → Other)
+    → IsKept Meant e opened source index
+    → IsKept Other e opened source index
+kept-as f k = record { meant = f k.meant; in_force = k.in_force; sound = k.sound; is_index = k.is_index }
 
-  pub edit-value : (key value : List ℕ) (result : Result Unit E) → PutsValue opened key value old was result new is → OnOk result (MakesEdit opened (set_value key value) old new is)
-  edit-value key value (Ok done) h = λ e force.
-      let k = h e force in
-      record { result = k.set.edit.result; in_force = value-again key value new force ok k.set; sound = k.sound; is_index = k.is_index }
-  edit-value key value (Err error) h = tt
-
-pub edit-removed : (opened : BodyStart) → is_editable (encoding_of opened.encoding) ≡ true → (old new : List ℕ) (is : Index) (key : List ℕ) → RemovesPairs opened key old new is
-    → MakesEdit opened (remove key) old new is
-edit-removed opened ok old new is key h = λ e force.
-    let k = h e force in
-    record { result = k.removed.edit.result; in_force = removed-again key new force ok k.removed; sound = k.sound; is_index = k.is_index }
+-- So it is of what a call returns.
+pub edit-made : {E : Type 0} (opened : BodyStart) (edit : Edit) (Meant : Encoding → Type 0) (old new : List ℕ) (was is : Index)
+    (result : Result Unit E)
+    → ((e : Encoding) → Meant e → IsEditResult e old (IsEdited e opened.ascii_only old edit) (edited new))
+    → Changes Meant opened old was result new is
+    → OnOk result (MakesEdit opened edit old new is)
+edit-made opened edit Meant old new was is (Ok done) f h = λ e force. kept-as (f e) (h e force)
+edit-made opened edit Meant old new was is (Err error) f h = tt

@@ -1,6 +1,5 @@
 -- The groups of a body that is held whole.
-use Rattle.std.proofs.Common.{◌≡◌, ◌==◌, ℕ, ◌+◌, ◌-◌, ◌≤◌, List, [], ◌∷◌, ◌++◌, length, take, drop, refl, ap, ap₂, sym, ◌∙◌, subst, inl, inr, arith}
-use Rattle.std.proofs.Common.{append-nil, length-append, length-drop}
+use Rattle.std.proofs.Common.{◌≡◌, ◌==◌, ℕ, ◌+◌, ◌-◌, ◌≤◌, List, [], ◌∷◌, ◌++◌, length, take, drop, refl, ap, ap₂, sym, ◌∙◌, subst, inl, inr, arith, append-nil, length-append, length-drop}
 use Rattle.std.specs.Prelude.{◌⊎◌, ◌&&◌, ◌||◌, not, Bool, true, false, Option, Some, None, Ok}
 use Rattle.std.proofs.lemmas.Bool.{cases_Bool}
 use Rattle.std.proofs.Math.Seq.{drop-append_seam, take-length}
@@ -31,7 +30,7 @@ use Rattle.properties_lines.specs.declared.scanner.RawLine.{RawLine}
 use Rattle.properties_lines.specs.declared.logical.LogicalLine.{LogicalLine}
 use Rattle.properties_lines.specs.declared.scanner.Scanner.{Scanner}
 use Rattle.properties_lines.proofs.Tested.{ascii-line}
-use Rattle.properties_text.specs.Spelt.{text_in, IsWell}
+use Rattle.properties_text.specs.Spelt.{text_in}
 use Rattle.properties_lines.proofs.HeldLines.{body-next, body-after, body-lines_left}
 use Rattle.properties_editing.specs.Private.BodyGroups.{IsWithin, groups_left, IsBegun, TakesLine, IsSpanOf, TakesGroup, groups_from, ReadsGroup, bytes_at}
 use Rattle.properties_editing.specs.declared.edit.groups.Group.{Group}
@@ -144,9 +143,7 @@ span-one body old new group k starts ends opens empty =
     let by = ending_bytes k.ending in
     let sizes = has-sizes body old new k in
     let size = sizes.line in
-    let ending_size = sizes.ending_size in
     let ordered = k.ordered in
-    let placed = k.placed in
     let all : length (bytes ++ (by ++ [])) ≡ length bytes + length by = ap (λ v. length (bytes ++ v)) (append-nil by) ∙ length-append bytes by in
     record {
       unended = omega arith;
@@ -174,37 +171,6 @@ not-left text (inr h) = elim (cases_Bool (is_comment_line text)) [ inl k ↦ rw 
 unfinished-has : (e : Encoding) (l : LogicalLine) (natural text : List ℕ) → IsUnfinished e l → unfinished_text l ≡ text → HasText l natural text
 unfinished-has e l natural text u h = record { well = rw u.place u.well; is = rw u.place h }
 
--- The line of a group that was read so far.
-pub group-begun : (E : Type 0) (body : List ℕ) (old found : GroupReader) (l : LogicalLine) (group : Group) (told : Bool) → TakesLine body old found
-    → Begins {E = E} (encoding_of found.scanner.encoding) (bytes_of body found.scanner.line) (Ok told) l → IsSound l
-    → group.start ≡ found.scanner.line.start → group.end ≡ found.scanner.line.end → group.is_open ≡ told
-    → IsBegun body (record found { line = l }) group
-group-begun E body old found l group told k begins sound starts ends opens =
-    let ordered = k.ordered in
-    let placed = k.placed in
-    let within = k.within.within_body.fits.within in
-    record {
-      within = record { bytes = k.within.bytes; within_body = k.within.within_body };
-      ordered = omega arith;
-      placed = omega arith;
-      within_body = omega arith;
-      well = well-begun told begins (ap₂ (λ m n. take (m - n) (drop n body)) ends starts);
-      unfinished = λ h. open-begun told begins (sym opens ∙ h);
-      sound = sound;
-    }
-  where
-    bytes : List ℕ
-    bytes = bytes_of body found.scanner.line
-
-    well-begun : (told : Bool) → Begins {E = E} (encoding_of found.scanner.encoding) bytes (Ok told) l → bytes_at body group ≡ bytes
-        → IsWell l.encoding (bytes_with l (bytes_at body group))
-    well-begun true b same = rw b.unfinished.place b.unfinished.well
-    well-begun false b same = subst (λ v. IsWell l.encoding (bytes_with l v)) (sym same) b.1.well
-
-    open-begun : (told : Bool) → Begins {E = E} (encoding_of found.scanner.encoding) bytes (Ok told) l → told ≡ true → IsUnfinished (encoding_of found.scanner.encoding) l
-    open-begun true b h = b.unfinished
-    open-begun false b h = absurd (cc)
-
 -- The first line of a group was read.
 pub group-first : (E : Type 0) (body : List ℕ) (old found : GroupReader) (l : LogicalLine) (group : Group) (told : Bool) (k : TakesLine body old found)
     → Begins {E = E} (encoding_of found.scanner.encoding) (bytes_of body found.scanner.line) (Ok told) l
@@ -220,9 +186,6 @@ group-first E body old found l group false k begins number starts ends opens emp
     let b = subst (λ v. IsNotContinued (decoded_line v bytes) × HasText l bytes (decoded_line v bytes)) k.encoding begins in
     let alone = not-left h.text b.0 in
     let same : take (group.end - group.start) (drop group.start body) ≡ bytes = ap₂ (λ m n. take (m - n) (drop n body)) ends starts in
-    let ordered = k.ordered in
-    let placed = k.placed in
-    let within = k.within.within_body.fits.within in
     record {
       first = h;
       more = [];
@@ -247,9 +210,6 @@ group-first E body old found l group true k begins number starts ends opens empt
     let open_text = b.opens in
     let leaves : closes [] line ≡ false = rw (other, open_text) refl in
     let left : (not (is_comment_line h.text) && is_open h.text) ≡ true = rw (other, open_text) refl in
-    let ordered = k.ordered in
-    let placed = k.placed in
-    let within = k.within.within_body.fits.within in
     record {
       first = h;
       more = [];
@@ -288,12 +248,7 @@ group-more E body before group mid found l stop told j opened k unfinished added
     let g = j.first ∷ j.more in
     let by = ending_bytes k.ending in
     let sizes = has-sizes body mid found k in
-    let size = sizes.line in
-    let ending_size = sizes.ending_size in
-    let within = sizes.within in
     let starts = k.starts in
-    let ordered = k.ordered in
-    let placed = k.placed in
     let next = j.span.next in
     let other = j.opened opened in
     let same_line : found.line ≡ mid.line = ap (λ v. let w : GroupReader = v in w.line) k.same in
@@ -310,7 +265,6 @@ group-more E body before group mid found l stop told j opened k unfinished added
     let all : length (group_bytes (g ++ h ∷ [])) ≡ length (group_bytes g) + length (bytes ++ (by ++ [])) =
     ap length (group_bytes-append g (h ∷ [])) ∙ length-append (group_bytes g) (bytes ++ (by ++ [])) in
     let passed = k.passed in
-    let before_passed = j.passed in
     record {
       first = j.first;
       more = j.more ++ h ∷ [];
@@ -336,9 +290,6 @@ pub more-begun : (body : List ℕ) (mid found : GroupReader) (l : LogicalLine) (
     → IsUnfinished (encoding_of found.scanner.encoding) l → IsSound l → joined.start ≡ group.start → joined.end ≡ found.scanner.line.end
     → IsBegun body (record found { line = l }) joined
 more-begun body mid found l group joined b k u sound starts ends =
-    let before = b.ordered in
-    let behind = b.placed in
-    let from = k.starts in
     let ordered = k.ordered in
     let placed = k.placed in
     let within = k.within.within_body.fits.within in

@@ -9,10 +9,10 @@ use Rattle.properties_format.specs.Entries as content
 use Rattle.std.proofs.lemmas.Bool.{cases_Bool, cond-true, cond-false}
 use Rattle.std.proofs.lemmas.List.{drop-drop, take_more}
 use Rattle.std.proofs.Math.Seq.{drop-append_seam}
-use Rattle.properties_format.specs.Edited.{is_editable}
-use Rattle.properties_format.specs.Computed.Edited.{without}
-use Rattle.properties_format.proofs.Body.Groups.{held-body, held_groups_of-meets}
-use Rattle.properties_format.proofs.Edited.Steps.{without-append}
+use Rattle.properties_format.specs.Edited.{is_editable, unreadable, final_group, is_empty_line, is_left_open}
+use Rattle.properties_format.specs.Computed.Edited.{without, IsSound, AreSound, result_by}
+use Rattle.properties_format.proofs.Body.Groups.{held-body, held_groups_of-meets, groups_bytes-append, groups-close, groups-leave}
+use Rattle.properties_format.proofs.Edited.Steps.{without-append, last_place-new, last_place-other, with_after, final_group-push, result-after}
 use Rattle.properties_editing.specs.Private.BodyKeys.{spans_bytes, AreWithin, AreOthersFound, IsErrorOfGroups, IsPlace, closing_of, closing_bytes, IsKeyFound, places_with, key_told}
 use Rattle.properties_editing.specs.Private.BodyIndex.{is_pair}
 use Rattle.properties_editing.specs.Private.BodyValues.{IsLastPair, FindsLastPair}
@@ -26,15 +26,11 @@ use Rattle.properties_format.specs.Computed.Groups.{closes}
 use Rattle.properties_format.specs.Computed.Cut.{cut_of}
 use Rattle.properties_format.specs.Body.{HeldLine, as_lines, held_in, group_bytes, groups_bytes}
 use Rattle.properties_format.specs.Valued.{separation_by}
-use Rattle.properties_format.specs.Edited.{unreadable, final_group, is_empty_line, is_left_open}
 use Rattle.properties_format.specs.Items.{Outcome, ignored, given, broken}
 use Rattle.properties_format.specs.Computed.Items.{outcome_of, followed}
 use Rattle.properties_format.specs.Computed.Body.{is_pair_with, has_key, entries_in, held_of, held_lines_of, held_groups_after, held_groups_of}
 use Rattle.properties_format.specs.Computed.Parts.{unended_bytes}
-use Rattle.properties_format.specs.Computed.Edited.{IsSound, AreSound, result_by}
-use Rattle.properties_format.proofs.Body.Groups.{groups_bytes-append, groups-close, groups-leave}
 use Rattle.properties_format.proofs.Edited.Made.{has_key-true}
-use Rattle.properties_format.proofs.Edited.Steps.{last_place-new, last_place-other, with_after, final_group-push, result-after}
 use Rattle.properties_format.proofs.Valued.Lined.{held_in-append}
 use Rattle.properties_text.specs.Encoding.{encoding_of}
 use Rattle.properties_editing.proofs.BodyGroups.{front-of}
@@ -76,11 +72,8 @@ pub read-more : {e : Encoding} {body : List ℕ} {groups : List (List HeldLine)}
     → (k : TakesGroup body s group t) → IsSound (outcome_of (chars (text_of body t group))) → HasRead e body (groups ++ k.held ∷ []) t
 read-more {e} {body} {groups} {s} {t} {group} h k sound =
     let one : groups_bytes (k.held ∷ []) ≡ group_bytes k.held = append-nil (group_bytes k.held) in
-    let next = k.span.next in
-    let starts = k.starts in
     let placed = h.placed in
     let counted = h.counted in
-    let passed = k.passed in
     let all : length (groups_bytes (groups ++ k.held ∷ [])) ≡ length (groups_bytes groups) + length (group_bytes k.held) =
     ap length (groups_bytes-append groups (k.held ∷ []) ∙ ap (λ v. groups_bytes groups ++ v) one) ∙ length-append (groups_bytes groups) (group_bytes k.held) in
     let lines : length (held_in (groups ++ k.held ∷ [])) ≡ length (held_in groups) + length k.held =
@@ -107,8 +100,6 @@ pub read-fault : {e : Encoding} {body : List ℕ} {groups : List (List HeldLine)
     → IsErrorOfGroups (held_groups_of e body) error
 read-fault {e} {body} {groups} {s} {t} {group} error h k (inl (how, breaks, is)) =
     let broke : outcome_of (joined (as_lines k.held)) ≡ broken how = ap outcome_of (sym k.text) ∙ breaks in
-    let number = k.number in
-    let counted = h.counted in
     let first : group.number ≡ 1 + length (held_in groups) = omega arith in
     inl (
       how,
@@ -185,7 +176,7 @@ looked-more {e} {body} {key} {s} {t} {found} {group} told h k sound is = record 
   pair = place-after key h.groups k.held group found.pair (unwrap_or told false) h.pair
       (ap (λ v. unwrap_or v false) is ∙ told-with key (outcome_of (chars (text_of body t group))) ∙ ap (λ v. is_pair_with key (outcome_of v)) k.text) (k.starts ∙ h.read.placed)
       k.span.unended;
-  last = last-after h.groups k.held group (is_some told) found.last h.last (subst (λ v. IsSound (outcome_of v)) k.text sound)
+  last = last-after h.groups k.held (record { start = group.start; end = group.end }) (is_some told) found.last h.last (subst (λ v. IsSound (outcome_of v)) k.text sound)
       (ap is_some is ∙ told-pair key (outcome_of (chars (text_of body t group))) ∙ ap (λ v. is_pair (outcome_of v)) k.text) (k.starts ∙ h.read.placed) k.span.unended;
   closing = inr (λ ending. ap (separation_by ending) (final_group-push h.groups k.held)
       ∙ separated ending (is_empty_line k.held) (is_left_open k.held)
@@ -298,7 +289,6 @@ kept-removed {e} {body} {key} {s} {t} {others} {start} {group} more h k sound is
     let has : has_key key k.held ≡ true = ap (λ v. is_pair_with key (outcome_of v)) (sym k.text) ∙ sym is in
     let starts = k.starts in
     let ordered = h.ordered in
-    let place = h.read.within.within_body.fits.within in
     let within = within-append body others (record { start = start; end = group.start } ∷ []) h.within ((omega arith), (omega arith), tt) in
     record {
       groups = h.groups ++ k.held ∷ [];
@@ -330,8 +320,6 @@ group-part {e} {body} {groups} {s} {t} {group} ok h k =
     let g = group_bytes k.held in
     let rest = groups_bytes (groups_left body t) in
     let whole = group-whole ok h k in
-    let next = k.span.next in
-    let starts = k.starts in
     let placed = h.placed in
     let size : t.scanner.at - s.scanner.at ≡ length g = omega arith in (
       ap₂ (λ n d. take n d) size (ap₂ drop placed whole ∙ drop-append_seam front (g ++ rest)) ∙ front-of g rest,
@@ -346,7 +334,6 @@ kept-more {e} {body} {key} {s} {t} {others} {start} {group} ok h k sound is =
     let has : has_key key k.held ≡ false = ap (λ v. is_pair_with key (outcome_of v)) (sym k.text) ∙ sym is in
     let part = group-part ok h.read k in
     let ordered = h.ordered in
-    let after = part.1 in
     let sum : t.scanner.at - start ≡ (s.scanner.at - start) + (t.scanner.at - s.scanner.at) = omega arith in
     let place : start + (s.scanner.at - start) ≡ s.scanner.at = omega arith in
     let grown : take (t.scanner.at - start) (drop start body) ≡ take (s.scanner.at - start) (drop start body) ++ group_bytes k.held =

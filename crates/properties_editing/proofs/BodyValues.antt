@@ -1,75 +1,56 @@
 -- How the value of a key is set in a body that is held in memory.
-use Rattle.std.proofs.Common.{◌≡◌, ◌<◌, ◌≤◌, ℕ, zero, suc, ◌+◌, ◌-◌, Bool, true, false, List, [], ◌∷◌, ◌++◌, length, take, drop, get_or, refl, inl, inr, ap, ap₂, sym, ◌∙◌, subst, arith, append-nil, append_assoc, length-append}
-use Rattle.std.specs.Prelude.{if◌then◌else◌, nat_lt}
+use Rattle.std.proofs.Common.{◌≡◌, ◌<◌, ◌≤◌, ℕ, zero, suc, ◌+◌, ◌-◌, Bool, true, false, List, [], ◌∷◌, ◌++◌, length, take, drop, get_or, refl, inl, inr, ap, ap₂, sym, ◌∙◌, subst, arith, append-nil, append_assoc, length-append, take-add}
+use Rattle.std.specs.Prelude.{if◌then◌else◌, nat_lt, Some, None, bytes_eq, nat_le}
 use Rattle.std.proofs.lemmas.Bool.{cases_Bool, cond-true, cond-false}
-use Rattle.std.proofs.lemmas.List.{drop_more, take_more, drop_all}
-use Rattle.std.specs.Prelude.{Some, None, bytes_eq}
-use Rattle.std.proofs.lemmas.List.{length-drop}
-use Rattle.std.proofs.lemmas.Str.{chars-nil}
-use Rattle.properties_editing.specs.Private.BodyGroups.{TakesGroup, IsFirstGroup}
+use Rattle.std.proofs.lemmas.List.{drop_more, take_more, drop_all, length-drop, length-take-le, length-take, take_rest, take-append-drop}
+use Rattle.std.proofs.lemmas.Str.{chars-nil, chars-append, IsUtf8-take, IsUtf8-between}
+use Rattle.properties_editing.specs.Private.BodyGroups.{TakesGroup, IsFirstGroup, IsWithin, TakesLine, text_of}
 use Rattle.properties_editing.specs.declared.edit.groups.Group.{Group}
 use Rattle.properties_editing.specs.declared.edit.groups.GroupReader.{GroupReader}
-use Rattle.std.specs.Prelude.{nat_le}
-use Rattle.std.proofs.lemmas.List.{length-take-le}
 use Rattle.properties_format.specs.Encoding.{Encoding}
 use Rattle.properties_format.specs.Lines.{Lines}
 use Rattle.properties_format.specs.Groups.{is_open, joined}
-use Rattle.properties_format.specs.Body.{HeldLine, as_lines, held_in, ending_bytes, AreGroupsOf}
+use Rattle.properties_format.specs.Body.{HeldLine, as_lines, held_in, ending_bytes, AreGroupsOf, group_bytes, last_ending}
 use Rattle.properties_format.specs.Edited.{is_editable}
 use Rattle.properties_format.specs.Computed.Cut.{decoded_line}
 use Rattle.properties_format.specs.Computed.Body.{held_of, held_lines_of, held_groups_of}
-use Rattle.properties_format.specs.Computed.Valued.{added_by, without_indent, front_in, front_of, last_between}
-use Rattle.properties_format.proofs.Body.Groups.{held_groups_of-meets, held_of-only}
+use Rattle.properties_format.specs.Computed.Valued.{added_by, without_indent, front_in, front_of, last_between, between_of, is_pair_to, has_value, ascii_count, after_ascii, after_key, written_value, between_in, before_value, between_if_pair, without_end}
+use Rattle.properties_format.proofs.Body.Groups.{held_groups_of-meets, held_of-only, held-body}
 use Rattle.properties_format.proofs.Cut.Only.{cut_of-only}
-use Rattle.properties_format.proofs.Valued.Fronts.{AreDecoded, indented, joined_by, open_backslash, shut-whole, split-longer}
+use Rattle.properties_format.proofs.Valued.Fronts.{AreDecoded, indented, joined_by, open_backslash, shut-whole, split-longer, front_of-meets}
 use Rattle.properties_format.proofs.Valued.Made.{group-decoded}
-use Rattle.properties_format.proofs.Valued.Sizes.{count-text}
+use Rattle.properties_format.proofs.Valued.Sizes.{count-text, count-append}
 use Rattle.properties_format.proofs.Valued.Steps.{front_size-end, front_size-later}
-use Rattle.properties_format.proofs.Valued.Walks.{utf8_size, size-text, text-cut, added-size, open-some, IsWalkBefore, walk-begins, walk-here, walk-inside, walk-on, size-append}
+use Rattle.properties_format.proofs.Valued.Walks.{utf8_size, size-text, text-cut, added-size, open-some, IsWalkBefore, walk-begins, walk-here, walk-inside, walk-on, size-append, front-within}
 use Rattle.properties_text.specs.Encoding.{encoding_of}
 use Rattle.properties_lines.specs.Private.HeldLines.{held_line, lines_left}
 use Rattle.properties_lines.specs.Scanner.{bytes_of}
 use Rattle.properties_lines.specs.declared.scanner.RawLine.{RawLine}
-use Rattle.properties_editing.specs.Private.BodyGroups.{IsWithin, TakesLine}
 use Rattle.properties_format.specs.Printing.{encoded_text}
 use Rattle.properties_format.specs.Valued.{value_text}
-use Rattle.properties_format.specs.Body.{group_bytes, last_ending}
 use Rattle.properties_format.specs.Escapes.{Malformed, Means, Breaks, Meaning, means, breaks}
 use Rattle.properties_format.specs.Computed.Escapes.{meaning_of}
 use Rattle.properties_format.specs.Computed.Items.{outcome_of, pair_outcome, split_outcome}
 use Rattle.properties_format.specs.Computed.Edited.{IsSound}
 use Rattle.properties_format.proofs.Escapes.Unique.{means-only, meaning_of-only}
 use Rattle.properties_format.specs.Computed.Parts.{unended_bytes}
-use Rattle.properties_format.specs.Computed.Valued.{between_of, is_pair_to}
-use Rattle.properties_format.proofs.Body.Groups.{held-body}
 use Rattle.properties_format.proofs.InTurn.Lines.{bytes-unended}
-use Rattle.properties_format.proofs.Valued.Fronts.{front_of-meets}
 use Rattle.properties_format.proofs.Valued.Read.{front-unended}
-use Rattle.properties_format.proofs.Valued.Walks.{front-within}
-use Rattle.properties_editing.specs.Private.BodyGroups.{text_of}
-use Rattle.properties_editing.specs.Private.BodyValues.{IsBeforeValue, IsFrontSize, IsPairAlone, IsNewValue, IsGroupAlone, revalued_in}
+use Rattle.properties_editing.specs.Private.BodyValues.{IsBeforeValue, IsFrontSize, IsPairAlone, IsNewValue, IsGroupAlone, revalued_in, IsBetweenAt}
 use Rattle.properties_editing.specs.declared.edit.new_value.NewValue.{NewValue}
-use Rattle.std.proofs.Common.{take-add}
-use Rattle.std.proofs.lemmas.List.{length-take}
-use Rattle.properties_format.specs.Computed.Valued.{has_value}
 use Rattle.std.specs.Str.{IsUtf8, chars}
 use Rattle.properties_text.specs.declared.encoding.line.LineEncoding.TheVariants.{Utf8}
 use Rattle.properties_lines.proofs.LineTexts.{joins-alike}
 use Rattle.std.proofs.Math.Seq.{take-append_seam, drop-append_seam}
-use Rattle.std.proofs.lemmas.List.{take_rest, take-append-drop}
-use Rattle.std.proofs.lemmas.Str.{chars-append, IsUtf8-take, IsUtf8-between}
 use Rattle.properties_format.specs.Text.{without_leading_blanks}
 use Rattle.properties_format.specs.Split as split
 use Rattle.properties_format.specs.Split.{IsSplit, IsPair}
 use Rattle.properties_format.specs.Computed.Split.{split_of}
-use Rattle.properties_format.specs.Computed.Valued.{ascii_count, after_ascii, after_key, written_value, between_in, before_value, between_if_pair, without_end}
 use Rattle.properties_format.proofs.Split.Unique.{split_of-only}
 use Rattle.properties_format.proofs.Valued.Parts.{without_end-append, written_value-pair, after_key-pair}
-use Rattle.properties_format.proofs.Valued.Sizes.{count-append}
 use Rattle.properties_text.specs.Parsing.{bytes_in, IsSpan, IsPairAt}
 use Rattle.properties_text.specs.declared.parse.Span.{Span}
 use Rattle.properties_text.proofs.Texts.Split.{rest_of, rest_of-part, without_leading_blanks-part}
-use Rattle.properties_editing.specs.Private.BodyValues.{IsBetweenAt}
 
 -- ---- ASCII among bytes
 
@@ -159,8 +140,6 @@ between-pair line key value u at k v meets =
     let rest = bytes_in line value in
     let d = at.division in
     let starts = at.value_start in
-    let key_start = at.key_start in
-    let key_end = at.key_end in
     let parts : line ≡ (d.indent ++ key_bytes) ++ (d.between ++ rest) = d.whole ∙ sym (append_assoc d.indent key_bytes (d.between ++ rest)) in
     let front = length-append d.indent key_bytes in
     let is : bytes_in line span ≡ d.between =
@@ -301,7 +280,6 @@ pub taken-sizes : {e : Encoding} {body : List ℕ} {new : GroupReader} {first : 
     → (length added + open_count text ≤ length text) × (open_count text ≤ length (bytes_of body new.scanner.line))
 taken-sizes {e} {body} {new} {first} {text} {added} t =
     let s = sizes-of first text added t.text_utf8 t.added_utf8 t.adds in
-    let sum = s.sum in
     let alike = open-alike text t.text_utf8 in (
       (omega arith),
       subst (λ n. n ≤ length (bytes_of body new.scanner.line)) alike (elim (cases_Bool (is_open (chars text))) [
@@ -338,8 +316,6 @@ walking-found {e} {body} {old} {new} {first} {left} text added head ok w k t l w
     let s = sizes-of first text added t.text_utf8 t.added_utf8 t.adds in
     let added_size : utf8_size (added_by first h.text) ≡ length added = ap (λ v. utf8_size (added_by first v)) same ∙ s.added_size in
     let alike = open-alike text t.text_utf8 in
-    let size = w.size in
-    let starts = k.starts in
     let front : length (front_of e w.group) ≡ old.scanner.at + length (front_in e first w.rest (h ∷ hs)) =
     w.front ∙ ap (λ v. old.scanner.at + length (front_in e first w.rest v)) lines in
     let is : length (front_in e first w.rest (h ∷ hs)) ≡ head =
@@ -391,16 +367,12 @@ walking-on {e} {body} {old} {new} {first} {left} text added w k t l =
     let size = w.size in
     let on = walk-on e first h hs w.rest w.value is_before (omega arith) in
     let later = front_size-later e first h hs w.rest on.next on.whole on.is_before.some in
-    let starts = k.starts in
-    let ordered = k.ordered in
-    let placed = k.placed in
     let inside = k.within.within_body.fits.within in
     let line_size : length bytes ≡ new.scanner.line.end - new.scanner.line.start = length-slice body new.scanner.line.start new.scanner.line.end (omega arith) in
     let ending_size : length (ending_bytes k.ending) ≡ new.scanner.at - new.scanner.line.end =
     ap length (sym k.ends) ∙ length-slice body new.scanner.line.end new.scanner.at inside in
     let front : length (front_of e w.group) ≡ old.scanner.at + length (front_in e first w.rest (h ∷ hs)) =
     w.front ∙ ap (λ v. old.scanner.at + length (front_in e first w.rest v)) lines in
-    let next_size = on.size in
     record {
       group = w.group;
       is_group = w.is_group;
@@ -460,11 +432,6 @@ same-group f a = let q = sym f.groups ∙ a.is_group in cc
 alone-line : {e : Encoding} {body : List ℕ} {group : Group} {s : GroupReader} (line : List ℕ) → line ≡ text_of body s group → IsFirstGroup e body group s → (a : IsPairAlone e body)
     → chars line ≡ joined (as_lines a.group)
 alone-line line is f a = ap chars is ∙ f.text ∙ ap (λ g. joined (as_lines g)) (same-group f a)
-
--- It has no malformed escape.
-pub alone-sound : {e : Encoding} {body : List ℕ} {group : Group} {s : GroupReader} (line : List ℕ) → line ≡ text_of body s group → IsFirstGroup e body group s → IsPairAlone e body
-    → IsSound (outcome_of (chars line))
-alone-sound line is f a = subst IsSound (sym (ap outcome_of (alone-line line is f a) ∙ a.is_pair)) tt
 
 -- How many bytes come before the value in the logical line of a pair by itself.
 pub before-value : {e : Encoding} {body : List ℕ} {group : Group} {s : GroupReader} (line : List ℕ) (span : Span) → IsUtf8 line → line ≡ text_of body s group
@@ -535,7 +502,6 @@ pub revalued-made : (e : Encoding) (only : Bool) (source : List ℕ) (start end 
     → bytes ≡ take (start + new.front_size) source ++ (new.bytes ++ drop end source) → bytes ≡ revalued_in e only source start end value n.group
 revalued-made e only source start end value bytes new n made =
     let part = drop start source in
-    let within = n.within in
     let sized : length (take (end - start) part) ≤ end - start = length-take-most (end - start) part in
     let short : take new.front_size part ≡ front_of e n.group =
     sym (take-take new.front_size (end - start) part (omega arith)) ∙ n.front in

@@ -15,14 +15,12 @@ use Rattle.properties_format.specs.Body.{ending_bytes, groups_bytes, last_ending
 use Rattle.properties_format.specs.Edited.{bom_of, pair_bytes, separation, added_ending, is_editable, edited, unsupported, IsEditResult, IsSetKeyResult, IsRemoveKeyResult}
 use Rattle.properties_format.specs.Computed.Items.{items_of}
 use Rattle.properties_format.specs.Computed.Body.{held_groups_of, entries_in}
-use Rattle.properties_format.specs.Computed.Parts.{unended_bytes}
-use Rattle.properties_format.specs.Computed.Edited.{AreSound, without, key_removed, key_removed_in, result_by, result_of, key_set, key_set_in, set_at, set_key_result, remove_key_result, KeyPlace, last_place}
-use Rattle.properties_format.proofs.Body.Groups.{groups_bytes-append, held_groups_of-meets, held-body}
+use Rattle.properties_format.specs.Computed.Edited.{AreSound, without, key_removed, key_removed_in, result_by, result_of, key_set, key_set_in, set_at, set_key_result, remove_key_result, last_place}
+use Rattle.properties_format.proofs.Body.Groups.{held_groups_of-meets, held-body}
 use Rattle.properties_format.proofs.Body.Numbers.{items_of-groups}
-use Rattle.properties_format.proofs.Edited.ByteOrderMarks.{source-whole}
+use Rattle.properties_format.proofs.Edited.ByteOrderMarks.{key_removed-in_force, key_set-in_force, source-whole}
 use Rattle.properties_format.proofs.Edited.Results.{set_key_result-meets, set_key_result-only, remove_key_result-meets, remove_key_result-only}
 use Rattle.properties_format.proofs.Edited.Steps.{result-after}
-use Rattle.properties_format.proofs.InTurn.Lines.{bytes-unended}
 use Rattle.properties_format.proofs.Changed.Read.{set_key-reads, remove_key-reads}
 use Rattle.properties_format.proofs.Edits.InAscii.{set_key-in_ascii}
 use Rattle.properties_format.specs.Edits.{AreScalarEdits}
@@ -34,8 +32,11 @@ use Rattle.properties_format.proofs.Changed.Occur.{key_set-keeps, key_removed-ke
 use Rattle.properties_format.proofs.Edited.Pair.{editable-own}
 use Rattle.properties_text.specs.Encoding.{encoding_of}
 use Rattle.properties_editing.specs.Private.BodyKeys.{IsErrorOfGroups, IsPlaceOf, IsPlace, IsKeyFound, AreOthersFound, left_bytes, closing_bytes}
+use Rattle.properties_editing.specs.Private.BodyIndex.{IsIndex, IsKept}
 use Rattle.properties_editing.specs.Private.Sources.{IsInForce}
+use Rattle.properties_editing.specs.declared.edit.index.Index.{Index}
 use Rattle.properties_editing.proofs.BodyGroups.{front-of, no-bytes}
+use Rattle.properties_editing.proofs.LastPairs.{IsPartAt, part-at}
 use Rattle.properties_editing.specs.declared.edit.find.BodySpan.{BodySpan}
 use Rattle.properties_editing.specs.declared.edit.find.PairPlaces.{PairPlaces}
 use Rattle.properties_editing.specs.declared.edit.source.BodyStart.{BodyStart}
@@ -50,16 +51,33 @@ bom-front {source} {e} {opened} h =
     let whole : source ≡ bom_of source ++ body = source-whole e source ∙ ap (λ v. let w : InForce = v in bom_of source ++ w.body) h.in_force in
     let sizes : length source ≡ length (bom_of source) + length body = ap length whole ∙ length-append (bom_of source) body in
     let left : length body ≡ length source - opened.start = length-drop opened.start source in
-    let within = h.within in
     let n : opened.start ≡ length (bom_of source) = omega arith in
     sym (ap₂ take n whole ∙ front-of (bom_of source) body)
+
+-- a source that is edited is in an encoding that is edited
+pub editable : {source : List ℕ} {e : Encoding} {opened : BodyStart} → IsInForce source e opened → is_editable (encoding_of opened.encoding) ≡ true
+    → is_editable (byte_order_mark e source).encoding ≡ true
+editable h ok = ap (λ v. let w : InForce = v in is_editable w.encoding) h.in_force ∙ ok
+
+-- Bytes that keep the byte order mark are in force as the source is.
+pub again : {e : Encoding} {old : List ℕ} {opened : BodyStart} (new body : List ℕ) → IsInForce old e opened → new ≡ bom_of old ++ body
+    → byte_order_mark e new ≡ record { encoding = (byte_order_mark e old).encoding; body = body } → IsInForce new e opened
+again {e} {old} {opened} new body h whole is =
+    let front : new ≡ take opened.start old ++ body = whole ∙ ap (λ v. v ++ body) (bom-front h) in
+    let size : length (take opened.start old) ≡ opened.start = length-take-le opened.start old h.within in
+    let back : drop opened.start new ≡ body = ap₂ drop (sym size) front ∙ drop-append_seam (take opened.start old) body in
+    let all = ap length front ∙ length-append (take opened.start old) body in
+    record {
+      in_force =
+          is ∙ ap₂ (λ f b. let w : InForce = record { encoding = f; body = b } in w) (ap (λ v. let w : InForce = v in w.encoding) h.in_force) (sym back);
+      within = omega arith;
+    }
 
 -- what is read of a source is what its groups say
 groups-of : {source : List ℕ} {e : Encoding} {opened : BodyStart} (made : List ℕ) → IsInForce source e opened → is_editable (encoding_of opened.encoding) ≡ true
     → result_of e source made ≡ result_by (entries_in 1 (held_groups_of (encoding_of opened.encoding) (drop opened.start source))) made
 groups-of {source} {e} {opened} made h ok =
-    let editable = ap (λ v. let w : InForce = v in is_editable w.encoding) h.in_force ∙ ok in
-    cond-true (is_editable (byte_order_mark e source).encoding) (result_by (items_of e source end) made) unsupported editable
+    cond-true (is_editable (byte_order_mark e source).encoding) (result_by (items_of e source end) made) unsupported (editable h ok)
     ∙ ap (λ v. result_by v made) (items_of-groups e source ∙ ap (λ v. let w : InForce = v in entries_in 1 (held_groups_of w.encoding w.body)) h.in_force)
 
 -- where none of them is malformed it has the result that is made
@@ -73,7 +91,7 @@ result-made {source} {e} {opened} made h ok sound =
 
 not-unsupported : {e : Encoding} {source : List ℕ} {opened : BodyStart} → IsInForce source e opened → is_editable (encoding_of opened.encoding) ≡ true
     → is_editable (byte_order_mark e source).encoding ≡ false → ⊥
-not-unsupported h ok none = let yes = ap (λ v. let w : InForce = v in is_editable w.encoding) h.in_force ∙ ok in absurd (cc)
+not-unsupported h ok none = let yes = editable h ok in absurd (cc)
 
 -- The first fault of the groups is the refusal of their source, and what a `?` returns.
 pub refusal : {A : Type 0} {source : List ℕ} {e : Encoding} {opened : BodyStart} {error : PropertiesError} (result : Result A PropertiesError) (Makes : List ℕ → Type 0) (made : List ℕ)
@@ -103,6 +121,15 @@ set-edits {e} {only} {source} {key} {value} {bytes} k v is =
       keeps = key_set-keeps e only source key value bytes meets.2;
       ascii = λ on. set_key-in_ascii e source key value bytes (subst (λ b. IsSetKeyResult e b source key value (edited bytes)) on meets);
     }
+
+-- So it is of the source and its index.
+pub set-kept : {e : Encoding} {opened : BodyStart} {old key value new : List ℕ} {index : Index} → IsInForce old e opened → is_editable (encoding_of opened.encoding) ≡ true
+    → IsSet e opened.ascii_only old key value new
+    → AreSound (held_groups_of (encoding_of opened.encoding) (drop opened.start new)) × IsIndex (held_groups_of (encoding_of opened.encoding) (drop opened.start new)) index
+    → IsKept (IsSet e opened.ascii_only old key value new) e opened new index
+set-kept {e} {opened} {old} {key} {value} {new} h ok s kept =
+    let k = s.edit.result.2 in
+    record { meant = s; in_force = again new k.body h k.whole (key_set-in_force e opened.ascii_only old key value new (editable h ok) k); sound = kept.0; is_index = kept.1 }
 
 -- ---- the printed pair
 
@@ -144,48 +171,10 @@ appended source start separation closed pair printed ending ended all h i j k m 
 
 -- ---- a pair is replaced
 
--- what comes before the last pair, and what after it
-pub record IsSplitAt (body : List ℕ) (k : KeyPlace) (pair : BodySpan) : Type 0 where
-  pub front : take pair.start body ≡ groups_bytes k.before
-  pub back : drop pair.end body ≡ ending_bytes (last_ending k.group) ++ groups_bytes k.after
-  pub ordered : pair.start ≤ pair.end
-  pub within : pair.end ≤ length body
-
-split-at : (a b c : List ℕ) (start end : ℕ) → start ≡ length a → end ≡ start + length b
-    → (take start (a ++ (b ++ c)) ≡ a) × (drop end (a ++ (b ++ c)) ≡ c) × (start ≤ end) × (end ≤ length (a ++ (b ++ c)))
-split-at a b c start after is ends =
-    let both : length (a ++ b) ≡ after = length-append a b ∙ (omega arith) in
-    let all : length (a ++ (b ++ c)) ≡ length a + (length b + length c) = length-append a (b ++ c) ∙ ap (λ n. length a + n) (length-append b c) in (
-      ap (λ n. take n (a ++ (b ++ c))) is ∙ front-of a (b ++ c),
-      ap₂ drop (sym both) (sym (append_assoc a b c)) ∙ drop-append_seam (a ++ b) c,
-      (omega arith),
-      (omega arith),
-    )
-
-pub place-split : (e : Encoding) (body key : List ℕ) (pair : BodySpan) → is_editable e ≡ true → (k : IsPlaceOf key (held_groups_of e body) pair) → IsSplitAt body k.place pair
-place-split e body key pair ok k =
-    let gs = held_groups_of e body in
-    let p = k.place in
-    let bytes = unended_bytes p.group in
-    let ending = ending_bytes (last_ending p.group) in
-    let rest = ending ++ groups_bytes p.after in
-    let whole : body ≡ groups_bytes p.before ++ (bytes ++ rest) =
-    sym (held-body e body gs ok (held_groups_of-meets e body))
-    ∙ ap groups_bytes k.division
-    ∙ groups_bytes-append p.before (p.group ∷ p.after)
-    ∙ ap (λ v. groups_bytes p.before ++ (v ++ groups_bytes p.after)) (bytes-unended p.group)
-    ∙ ap (λ v. groups_bytes p.before ++ v) (append_assoc bytes ending (groups_bytes p.after)) in
-    let parts = split-at (groups_bytes p.before) bytes rest pair.start pair.end k.starts k.ends in
-    record {
-      front = ap (take pair.start) whole ∙ parts.0;
-      back = ap (drop pair.end) whole ∙ parts.1;
-      ordered = parts.2;
-      within = subst (λ v. pair.end ≤ length v) (sym whole) parts.3;
-    }
-
--- a first part of a source
-part-of : (source : List ℕ) (start n : ℕ) → start ≤ length source → take (start + n) source ≡ take start source ++ take n (drop start source)
-part-of source start n h = take-add start n source
+-- where it is
+pub place-split : (e : Encoding) (body key : List ℕ) (pair : BodySpan) → is_editable e ≡ true → (k : IsPlaceOf key (held_groups_of e body) pair)
+    → IsPartAt body k.place.before k.place.group k.place.after pair.start pair.end
+place-split e body key pair ok k = part-at e body k.place.before k.place.group k.place.after pair.start pair.end ok k.division k.starts k.ends
 
 start-first : (body : List ℕ) (start : ℕ) → start ≤ length body → (start == 0) ≡ is_empty (take start body)
 start-first body start h = ap (λ n. n == 0) (sym (length-take-le start body h)) ∙ no-bytes (take start body)
@@ -203,13 +192,11 @@ replaced-result {source} {e} {opened} {found} key value bytes pair h ok k is mad
     let place : IsPlaceOf key gs pair = subst (IsPlace key gs) is k.pair in
     let at = place-split f body key pair ok place in
     let before = groups_bytes place.place.before in
-    let ordered = at.ordered in
-    let within = at.within in
     let first : (pair.start == 0) ≡ is_empty before = start-first body pair.start (omega arith) ∙ ap is_empty at.front in
     let printed : pair_bytes (output_encoding f) opened.ascii_only (pair.start == 0) key value ≡ pair_bytes f opened.ascii_only (is_empty before) key value =
     ap₂ (λ v b. pair_bytes v opened.ascii_only b key value) (editable-own f ok) first in
     let front : take (opened.start + pair.start) source ≡ bom_of source ++ before =
-    part-of source opened.start pair.start h.within ∙ ap₂ (λ v w. v ++ w) (sym (bom-front h)) at.front in
+    take-add opened.start pair.start source ∙ ap₂ (λ v w. v ++ w) (sym (bom-front h)) at.front in
     let back : drop (opened.start + pair.end) source ≡ ending_bytes (last_ending place.place.group) ++ groups_bytes place.place.after =
     sym (drop-drop pair.end opened.start source) ∙ at.back in
     let set : key_set e opened.ascii_only source key value ≡ bytes =
@@ -257,9 +244,7 @@ span-within {source} {e} {opened} {found} {key} pair h ok k is =
     let f = encoding_of opened.encoding in
     let body = drop opened.start source in
     let at = place-split f body key pair ok (subst (IsPlace key (held_groups_of f body)) is k.pair) in
-    let within = at.within in
     let left : length body ≡ length source - opened.start = length-drop opened.start source in
-    let start = h.within in
     omega arith
 
 -- ---- a byte order mark at the front
@@ -292,6 +277,14 @@ removed-edits {e} {source} {key} {bytes} is =
       };
       keeps = key_removed-keeps e source key bytes meets.2;
     }
+
+pub removed-kept : {e : Encoding} {opened : BodyStart} {old key new : List ℕ} {index : Index} → IsInForce old e opened → is_editable (encoding_of opened.encoding) ≡ true
+    → IsRemoved e old key new
+    → AreSound (held_groups_of (encoding_of opened.encoding) (drop opened.start new)) × IsIndex (held_groups_of (encoding_of opened.encoding) (drop opened.start new)) index
+    → IsKept (IsRemoved e old key new) e opened new index
+removed-kept {e} {opened} {old} {key} {new} h ok s kept =
+    let k = s.edit.result.2 in
+    record { meant = s; in_force = again new _ h k.whole (key_removed-in_force e old key new (editable h ok) k); sound = kept.0; is_index = kept.1 }
 
 -- The source with what is left of its body is its result.
 pub removed-bytes : {source : List ℕ} {e : Encoding} {opened : BodyStart} (key bytes : List ℕ) → IsInForce source e opened
@@ -326,8 +319,3 @@ edits-scalars (variant.SetValue key value ∷ edits) = ((string-scalars key, str
 pub edits_in-more : (edits : List edit.Edit) (i : ℕ) (d : edit.Edit) → i < length edits
     → edits_in (take (i + 1) edits) ≡ edits_in (take i edits) ++ edit_in (get_or edits i d) ∷ []
 edits_in-more edits i d h = ap edits_in (take_more edits i d h) ∙ map-append edit_in (take i edits) (get_or edits i d ∷ [])
-
--- a source that is edited is in an encoding that is edited
-pub editable : {source : List ℕ} {e : Encoding} {opened : BodyStart} → IsInForce source e opened → is_editable (encoding_of opened.encoding) ≡ true
-    → is_editable (byte_order_mark e source).encoding ≡ true
-editable h ok = ap (λ v. let w : InForce = v in is_editable w.encoding) h.in_force ∙ ok

@@ -1,29 +1,28 @@
 -- The index of a body in which the last pair with a key gets another value.
 use Rattle.std.proofs.Common.{◌≡◌, ◌<◌, ℕ, ◌+◌, ◌^◌, ◌==◌, Bool, true, false, List, [], ◌∷◌, ◌++◌, Some, None, length, refl, ap, ap₂, sym, ◌∙◌, subst, inl, inr, arith}
-use Rattle.std.specs.Prelude.{◌⊎◌, bytes_eq, if◌then◌else◌, map}
-use Rattle.std.specs.Option.{option_map}
+use Rattle.std.specs.Prelude.{◌⊎◌, if◌then◌else◌, map}
 use Rattle.std.proofs.lemmas.Bool.{cond-true, cond-false}
 use Rattle.std.proofs.lemmas.Bool.Decides.{nat_tests}
 use Rattle.properties_format.specs.Text.{LineEnding, lf, cr, crlf, line_ending_text}
 use Rattle.properties_format.specs.Encoding.{Encoding}
 use Rattle.properties_format.specs.Groups.{EndsClosed, IsWhole}
 use Rattle.properties_format.specs.Entries.{pair}
-use Rattle.properties_format.specs.Items.{Outcome, given}
-use Rattle.properties_format.specs.Body.{HeldLine, NoneHasKey, as_lines, ending_bytes, groups_bytes, last_ending}
+use Rattle.properties_format.specs.Items.{given}
+use Rattle.properties_format.specs.Body.{HeldLine, NoneHasKey, as_lines, ending_bytes, group_bytes, groups_bytes, last_ending}
 use Rattle.properties_format.specs.Edited.{final_group, is_empty_line, is_last_open, is_left_open}
-use Rattle.properties_format.specs.Computed.Body.{is_pair_with}
 use Rattle.properties_format.specs.Computed.Edited.{IsSound, AreSound}
 use Rattle.properties_format.specs.Computed.Parts.{unended_bytes}
 use Rattle.properties_format.proofs.InTurn.Lines.{ending-of}
 use Rattle.properties_format.proofs.InTurn.Merged.{AreInTurn}
-use Rattle.properties_editing.specs.Private.BodyIndex.{FollowsPair, IsIndex, is_pair, live_spans, outcome, places_of, shifted, span_at, spans_where, stored_at}
+use Rattle.properties_items.specs.FoundItems.{outcome_pair}
+use Rattle.properties_editing.specs.Private.BodyIndex.{FollowsPair, IsIndex, outcome, paired, pairs_from, shifted, span_of}
 use Rattle.properties_editing.specs.Private.BodyKeys.{closing_of}
 use Rattle.properties_editing.specs.declared.edit.index.Index.{Index}
 use Rattle.properties_editing.specs.declared.edit.index.Shift.TheVariants as shift
 use Rattle.properties_editing.specs.declared.edit.find.Closing.{Closing}
 use Rattle.properties_editing.specs.declared.edit.find.Closing.TheVariants.{OneEnding}
-use Rattle.properties_editing.proofs.IndexSpans.{IsShift, live-shifted, places-shifted, replaced-shift, size-around}
-use Rattle.properties_editing.proofs.IndexValues.{last-replaced}
+use Rattle.properties_editing.proofs.IndexListed.{IsShift, listed-as, listed-revalued, listed-shifted, moved, shift-append}
+use Rattle.properties_editing.proofs.IndexSpans.{group-size, moved-before, moved-behind, moved-own, none-with, pairs-around, shift-option, size-around}
 
 -- ---- how groups end
 
@@ -44,7 +43,8 @@ final-behind (x ∷ []) g gs = refl
 final-behind (x ∷ y ∷ xs) g gs = final-behind (y ∷ xs) g gs
 
 -- Groups in turn, without the first of them.
-pub turn-behind : (e : Encoding) (xs : List (List HeldLine)) (g : List HeldLine) (gs : List (List HeldLine)) → AreInTurn e (xs ++ g ∷ gs) → AreInTurn e (g ∷ gs)
+pub turn-behind : (e : Encoding) (xs : List (List HeldLine)) (g : List HeldLine) (gs : List (List HeldLine))
+    → AreInTurn e (xs ++ g ∷ gs) → AreInTurn e (g ∷ gs)
 turn-behind e [] g gs h = h
 turn-behind e (x ∷ []) g gs h = h.1
 turn-behind e (x ∷ y ∷ xs) g gs h = turn-behind e (y ∷ xs) g gs h.1
@@ -60,8 +60,10 @@ some-ending cr = omega arith
 some-ending crlf = omega arith
 
 -- A part that ends where the groups end is the last.
-pub last-told : (e : Encoding) (before : List (List HeldLine)) (g : List HeldLine) (after : List (List HeldLine)) (m n start : ℕ) → AreInTurn e (before ++ g ∷ after)
-    → m ≡ start + (length (groups_bytes before) + length (unended_bytes g)) → n ≡ start + length (groups_bytes (before ++ g ∷ after)) → IsLastTold (m == n) after
+pub last-told : (e : Encoding) (before : List (List HeldLine)) (g : List HeldLine) (after : List (List HeldLine)) (m n start : ℕ)
+    → AreInTurn e (before ++ g ∷ after)
+    → m ≡ start + (length (groups_bytes before) + length (unended_bytes g))
+    → n ≡ start + length (groups_bytes (before ++ g ∷ after)) → IsLastTold (m == n) after
 last-told e before g [] m n start turn m_is n_is =
     let t = turn-behind e before g [] turn in
     let none = ap (λ o. length (ending_bytes o)) (ending-of e None g t.0) in
@@ -78,7 +80,8 @@ last-told e before g (h ∷ after) m n start turn m_is n_is =
 
 -- ---- groups that say the same
 
-sound-changed : (before : List (List HeldLine)) (g h : List HeldLine) (after : List (List HeldLine)) → IsSound (outcome h) → AreSound (before ++ g ∷ after)
+sound-changed : (before : List (List HeldLine)) (g h : List HeldLine) (after : List (List HeldLine)) → IsSound (outcome h)
+    → AreSound (before ++ g ∷ after)
     → AreSound (before ++ h ∷ after)
 sound-changed [] g h after s k = (s, k.1)
 sound-changed (x ∷ before) g h after s k = (k.0, sound-changed before g h after s k.1)
@@ -89,21 +92,21 @@ no-groups (x ∷ xs) g gs h = absurd (cc)
 
 -- ---- a pair takes the place of the last pair with its key
 
-module _ (before : List (List HeldLine)) (g h : List HeldLine) (after : List (List HeldLine)) (key was value : List ℕ) (g_is : outcome g ≡ given (pair key was))
-    (h_is : outcome h ≡ given (pair key value)) (none : NoneHasKey key after) (ending : last_ending h ≡ last_ending g) (some : 0 < length (unended_bytes g))
+module _ (before : List (List HeldLine)) (g h : List HeldLine) (after : List (List HeldLine)) (key was value : List ℕ)
+    (g_is : outcome g ≡ given (pair key was))
+    (h_is : outcome h ≡ given (pair key value)) (none : NoneHasKey key after) (ending : last_ending h ≡ last_ending g)
+    (some : 0 < length (unended_bytes g))
     (old_end new_end : ℕ) (old_is : old_end ≡ length (groups_bytes before) + length (unended_bytes g))
     (new_is : new_end ≡ length (groups_bytes before) + length (unended_bytes h)) (fits : length (groups_bytes (before ++ h ∷ after)) < 2 ^ 64)
     (full : is_empty_line h ≡ false) (closed : is_left_open h ≡ false) where
   pub changed-sound : AreSound (before ++ g ∷ after) → AreSound (before ++ h ∷ after)
   changed-sound k = sound-changed before g h after (subst IsSound (sym h_is) tt) k
 
-  shift-by : (such : Outcome → Bool) → such (outcome h) ≡ such (outcome g)
-      → IsShift (shifted (shift.Moved old_end new_end)) (spans_where such 0 (before ++ g ∷ after)) (spans_where such 0 (before ++ h ∷ after))
-  shift-by such same = replaced-shift such before g h after old_end new_end same ending some old_is new_is fits
-
   closes : (rest : List (List HeldLine)) (b : Bool) (old new : Closing) → IsLastTold b rest → new ≡ (if b then OneEnding else old)
-      → (before ++ g ∷ rest ≡ []) ⊎ (old ≡ closing_of (is_empty_line (final_group (before ++ g ∷ rest))) (is_left_open (final_group (before ++ g ∷ rest))))
-      → (before ++ h ∷ rest ≡ []) ⊎ (new ≡ closing_of (is_empty_line (final_group (before ++ h ∷ rest))) (is_left_open (final_group (before ++ h ∷ rest))))
+      → (before ++ g ∷ rest ≡ [])
+      ⊎ (old ≡ closing_of (is_empty_line (final_group (before ++ g ∷ rest))) (is_left_open (final_group (before ++ g ∷ rest))))
+      → (before ++ h ∷ rest ≡ [])
+      ⊎ (new ≡ closing_of (is_empty_line (final_group (before ++ h ∷ rest))) (is_left_open (final_group (before ++ h ∷ rest))))
   closes [] b old new told is k =
       let final = final-behind before h [] in
       inr (is ∙ cond-true b OneEnding old told ∙ ap₂ closing_of (sym (ap is_empty_line final ∙ full)) (sym (ap is_left_open final ∙ closed)))
@@ -113,27 +116,31 @@ module _ (before : List (List HeldLine)) (g h : List HeldLine) (after : List (Li
       ∙ ap (λ v. closing_of (is_empty_line v) (is_left_open v)) (final-behind before g (r ∷ rest) ∙ sym (final-behind before h (r ∷ rest))))
 
   -- Its index is that of the groups then.
-  pub changed-index : (is_last : Bool) (old new : Index) → IsLastTold is_last after → IsIndex (before ++ g ∷ after) old → FollowsPair key value old_end new_end is_last old new
+  pub changed-index : (is_last : Bool) (old new : Index) → IsLastTold is_last after → IsIndex (before ++ g ∷ after) old
+      → FollowsPair key value old_end new_end is_last old new
       → IsIndex (before ++ h ∷ after) new
   changed-index is_last old new told i k =
       let f = shifted (shift.Moved old_end new_end) in
+      let n = length (groups_bytes before) in
+      let front = pairs_from 0 before in
+      let back = pairs_from (n + length (group_bytes h)) after in
+      let p = paired (span_of n h) (key, was) in
+      let size = size-around before h after in
+      let g_size = group-size g in
+      let h_size = group-size h in
+      let ends = ap (λ o. length (ending_bytes o)) ending in
+      let shift : IsShift f (pairs_from 0 (before ++ g ∷ after)) (front ++ p ∷ back) =
+      ap (map (moved f)) (pairs-around before g after (Some (key, was)) (ap outcome_pair g_is))
+      ∙ shift-append f front (paired (span_of n g) (key, was) ∷ pairs_from (n + length (group_bytes g)) after) front (p ∷ back)
+      (moved-before old_end new_end before 0 (omega arith))
+      (shift-option f (Some (key, was)) (span_of n g) (span_of n h) (pairs_from (n + length (group_bytes g)) after) back (moved-own old_end new_end n g h some old_is new_is (omega arith))
+      (moved-behind old_end new_end after (n + length (group_bytes g)) (n + length (group_bytes h)) (omega arith) (omega arith) (omega arith))) in
+      let listed =
+      listed-revalued (listed-shifted f i.listed (front ++ p ∷ back) shift) front p back value refl
+      (none-with key (n + length (group_bytes h)) after none) in
+      let pairs = pairs-around before h after (Some (key, value)) (ap outcome_pair h_is) in
       record {
-        listed =
-            record {
-              live =
-                  ap live_spans k.spans
-                  ∙ live-shifted f old.spans.items (spans_where is_pair 0 (before ++ g ∷ after)) (spans_where is_pair 0 (before ++ h ∷ after)) i.listed.live
-                  (shift-by is_pair (ap is_pair h_is ∙ sym (ap is_pair g_is)));
-              stored = λ j.
-                  ap₂ (λ v w. map (span_at v) w) k.spans (k.places j)
-                  ∙ places-shifted f old.spans.items (places_of (stored_at old.pairs.entries j)) (spans_where (is_pair_with j) 0 (before ++ g ∷ after))
-                  (spans_where (is_pair_with j) 0 (before ++ h ∷ after))
-                  (i.listed.stored j) (shift-by (is_pair_with j) (ap (is_pair_with j) h_is ∙ sym (ap (is_pair_with j) g_is)));
-              values = λ j.
-                  k.values j
-                  ∙ ap (λ o. if bytes_eq key j then option_map (λ v. value) o else o) (i.listed.values j)
-                  ∙ sym (last-replaced key was value before g h after g_is h_is none j);
-            };
+        listed = listed-as listed pairs k.spans k.places k.values;
         closing = closes after is_last old.closing new.closing told k.closing i.closing;
         ordered = k.ordered;
       }

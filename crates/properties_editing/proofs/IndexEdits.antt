@@ -1,22 +1,21 @@
 -- A value in place, and the index then.
-use Rattle.std.proofs.Common.{◌≡◌, ◌==◌, ◌<◌, ◌≤◌, ℕ, ◌+◌, ◌-◌, ◌^◌, true, false, List, [], ◌∷◌, ◌++◌, All, length, take, drop, refl, ap, ap₂, sym, ◌∙◌, subst, inl, inr, length-append, length-drop, arith}
+use Rattle.std.proofs.Common.{◌≡◌, ◌==◌, ◌<◌, ◌≤◌, ℕ, ◌+◌, ◌-◌, ◌^◌, true, false, List, [], ◌∷◌, ◌++◌, All, length, take, drop, refl, ap, ap₂, sym, ◌∙◌, subst, inl, length-append, length-drop, arith}
 use Rattle.std.specs.Prelude.{Some, None}
 use Rattle.std.proofs.Math.Seq.{drop-append_seam}
-use Rattle.std.proofs.lemmas.Bool.{cases_Bool, cond-true, cond-false}
+use Rattle.std.proofs.lemmas.Bool.{cond-true, cond-false}
 use Rattle.std.proofs.lemmas.List.{length-take-le}
 use Rattle.properties_format.specs.Text.{scalar}
 use Rattle.properties_format.specs.Encoding.{Encoding, output_encoding}
 use Rattle.properties_format.specs.Groups.{IsWhole, joined}
 use Rattle.properties_format.specs.Entries as content
 use Rattle.properties_format.specs.Items.{given}
-use Rattle.properties_format.specs.Printing.{encoded_text}
-use Rattle.properties_format.specs.Body.{HeldLine, HasKey, as_lines, groups_bytes, ending_bytes, last_ending}
+use Rattle.properties_format.specs.Body.{HeldLine, as_lines, groups_bytes, ending_bytes, last_ending}
 use Rattle.properties_format.specs.Edited.{bom_of, is_editable, is_empty_line, is_left_open, final_group, edited, pair_bytes}
-use Rattle.properties_format.specs.Valued.{HasPair, value_text}
+use Rattle.properties_format.specs.Valued.{HasPair}
 use Rattle.properties_format.specs.Computed.Body.{held_groups_of}
 use Rattle.properties_format.specs.Computed.Edited.{AreSound, key_set, key_set_in, set_at}
 use Rattle.properties_format.specs.Computed.Parts.{unended_bytes}
-use Rattle.properties_format.specs.Computed.Valued.{front_of, between_of, has_value, revalued_at, valued_at, value_set, value_set_in}
+use Rattle.properties_format.specs.Computed.Valued.{has_value, revalued_at, valued_at, value_set, value_set_in}
 use Rattle.properties_format.proofs.Body.Groups.{held_groups_of-meets, held-body}
 use Rattle.properties_format.proofs.Edited.Made as made
 use Rattle.properties_format.proofs.Edited.Made.{last_place-meets}
@@ -24,7 +23,8 @@ use Rattle.properties_format.proofs.Edited.Replaced.{reput-of}
 use Rattle.properties_format.proofs.Items.Unique.{outcome_of-only}
 use Rattle.properties_format.proofs.InTurn.Merged.{AreInTurn, in-turn}
 use Rattle.properties_text.specs.Encoding.{encoding_of}
-use Rattle.properties_editing.specs.Private.BodyIndex.{FollowsPair, IsIndex, IsPairPut, IsValuePut, KeepsNothing, outcome}
+use Rattle.properties_editing.specs.Private.BodyIndex.{FollowsPair, IsIndex, IsKept, KeepsNothing}
+use Rattle.properties_editing.specs.Editing.{HasValueSet, IsSet}
 use Rattle.properties_editing.specs.Private.BodyKeys.{IsPlaceOf, IsKeyFound, closing_of}
 use Rattle.properties_editing.specs.Private.BodyValues.{IsPairAlone, revalued_in}
 use Rattle.properties_editing.specs.Private.Sources.{IsInForce}
@@ -33,9 +33,10 @@ use Rattle.properties_editing.specs.declared.edit.find.BodySpan.{BodySpan}
 use Rattle.properties_editing.specs.declared.edit.find.PairPlaces.{PairPlaces}
 use Rattle.properties_editing.specs.declared.edit.source.BodyStart.{BodyStart}
 use Rattle.properties_editing.proofs.BodyKeys.{separated}
-use Rattle.properties_editing.proofs.Editing.{bom-front, place-split, replaced-result, result-made, set-edits}
-use Rattle.properties_editing.proofs.SetValues.{alone-value, value-edits, revalued-result, found-alone}
+use Rattle.properties_editing.proofs.Editing.{bom-front, place-split, replaced-result, result-made, set-edits, set-kept}
+use Rattle.properties_editing.proofs.SetValues.{alone-value, value-edits, value-kept, revalued-result, found-alone}
 use Rattle.properties_editing.proofs.IndexChanged.{IsLastTold, changed-index, changed-sound, last-told, whole-closed}
+use Rattle.properties_editing.proofs.IndexFound.{said-of}
 use Rattle.properties_editing.proofs.IndexRevalued.{regrouped}
 use Rattle.properties_editing.proofs.IndexSpans.{size-around}
 
@@ -53,57 +54,20 @@ found-at e body key pair sound at = record {
   closing = λ ending. separated ending (is_empty_line (final_group (held_groups_of e body))) (is_left_open (final_group (held_groups_of e body)));
 }
 
-module _ (opened : BodyStart) (old : List ℕ) (ok : is_editable (encoding_of opened.encoding) ≡ true) (start_in : opened.start ≤ length old)
-    (sound : AreSound (held_groups_of (encoding_of opened.encoding) (drop opened.start old))) (pair : BodySpan) (key : List ℕ)
+module _ (opened : BodyStart) (old : List ℕ) (ok : is_editable (encoding_of opened.encoding) ≡ true)
+    (start_in : opened.start ≤ length old) (pair : BodySpan) (key : List ℕ)
     (at : IsPlaceOf key (held_groups_of (encoding_of opened.encoding) (drop opened.start old)) pair) where
   pub pair-within : (pair.start ≤ pair.end) × (opened.start + pair.end ≤ length old)
   pair-within =
       let split = place-split (encoding_of opened.encoding) (drop opened.start old) key pair ok at in
-      let within = split.within in
       let size : length (drop opened.start old) ≡ length old - opened.start = length-drop opened.start old in
       (split.ordered, omega arith)
 
-  pub pair-alone : IsPairAlone (encoding_of opened.encoding) (take (pair.end - pair.start) (drop (opened.start + pair.start) old))
-  pair-alone = found-alone old key opened pair ok (found-at (encoding_of opened.encoding) (drop opened.start old) key pair sound at) refl
-
-  -- A source doesn't get shorter than what is kept of it.
-  pub value-size : (value new : List ℕ) (group : List HeldLine)
-      → new ≡ revalued_in (encoding_of opened.encoding) opened.ascii_only old (opened.start + pair.start) (opened.start + pair.end) value group
-      → length old ≤ pair.end + length new
-  value-size value new group is = elim (cases_Bool (has_value value group)) [
-    | inl there ↦
-        let same = ap length (is ∙ cond-true (has_value value group) old _ there) in
-        omega arith
-    | inr other ↦
-        let e = encoding_of opened.encoding in
-        let front = front_of e group in
-        let text = encoded_text e (value_text e opened.ascii_only (between_of group) value) in
-        let s = opened.start + pair.start in
-        let t = opened.start + pair.end in
-        let in_old = pair-within in
-        let ordered = in_old.0 in
-        let within = in_old.1 in
-        let all : length new ≡ length (take s old) + (length front + (length text + length (drop t old))) =
-        ap length (is ∙ cond-false (has_value value group) old _ other)
-        ∙ length-append (take s old) (front ++ (text ++ drop t old))
-        ∙ ap (λ n. length (take s old) + n) (length-append front (text ++ drop t old) ∙ ap (λ n. length front + n) (length-append text (drop t old))) in
-        let left : length (drop t old) ≡ length old - t = length-drop t old in
-        let first : length (take s old) ≡ s = length-take-le s old (omega arith) in
-        omega arith
-  ]
-
-  pub put-size : (text new : List ℕ) → new ≡ take (opened.start + pair.start) old ++ (text ++ drop (opened.start + pair.end) old) → length old ≤ pair.end + length new
-  put-size text new is =
-      let s = opened.start + pair.start in
-      let t = opened.start + pair.end in
-      let in_old = pair-within in
-      let ordered = in_old.0 in
-      let within = in_old.1 in
-      let all : length new ≡ length (take s old) + (length text + length (drop t old)) =
-      ap length is ∙ length-append (take s old) (text ++ drop t old) ∙ ap (λ n. length (take s old) + n) (length-append text (drop t old)) in
-      let left : length (drop t old) ≡ length old - t = length-drop t old in
-      let first : length (take s old) ≡ s = length-take-le s old (omega arith) in
-      omega arith
+  pub pair-alone : AreSound (held_groups_of (encoding_of opened.encoding) (drop opened.start old))
+      → IsPairAlone (encoding_of opened.encoding) (take ((opened.start + pair.end) - (opened.start + pair.start)) (drop (opened.start + pair.start) old))
+  pair-alone sound =
+      let size : (opened.start + pair.end) - (opened.start + pair.start) ≡ pair.end - pair.start = omega arith in
+      rw size (found-alone old key opened pair ok (found-at (encoding_of opened.encoding) (drop opened.start old) key pair sound at) refl)
 
 -- Where nothing is done, nothing changes.
 pub keeps-nothing : (groups : List (List HeldLine)) (index : Index) → IsIndex groups index → KeepsNothing index index
@@ -111,20 +75,21 @@ keeps-nothing groups index h = record { stored = λ k. refl; spans = inl refl; c
 
 -- ---- the source after it
 
-some-value : (key : List ℕ) (g : List HeldLine) → HasKey key g → (was : List ℕ) × (outcome g ≡ given (content.pair key was))
-some-value key g (was, h) = (was, sym (outcome_of-only (joined (as_lines g)) (given (content.pair key was)) h))
-
 -- The group that a pair is in, and the source, after it was replaced.
-module _ (e : Encoding) (opened : BodyStart) (old new key value : List ℕ) (pair : BodySpan) (was is : Index) (v : All scalar value) (h : IsInForce old e opened)
+module _ (e : Encoding) (opened : BodyStart) (old new key value : List ℕ) (pair : BodySpan) (was is : Index)
+    (v : All scalar value) (h : IsInForce old e opened)
     (ok : is_editable (encoding_of opened.encoding) ≡ true) (sound : AreSound (held_groups_of (encoding_of opened.encoding) (drop opened.start old)))
     (at : IsPlaceOf key (held_groups_of (encoding_of opened.encoding) (drop opened.start old)) pair)
-    (index : IsIndex (held_groups_of (encoding_of opened.encoding) (drop opened.start old)) was) (old_fits : length old < 2 ^ 63) (new_fits : length new < 2 ^ 63) where
+    (index : IsIndex (held_groups_of (encoding_of opened.encoding) (drop opened.start old)) was) (old_fits : length old < 2 ^ 63)
+    (new_fits : length new < 2 ^ 63) where
   -- The groups of the new source are those of the old one with one replaced, and the index follows.
-  pub followed-index : (group : List HeldLine) (edited_body : List ℕ) → new ≡ bom_of old ++ edited_body → at.place.before ++ group ∷ at.place.after ≡ held_groups_of (encoding_of opened.encoding) edited_body
+  pub followed-index : (group : List HeldLine) (edited_body : List ℕ) → new ≡ bom_of old ++ edited_body
+      → at.place.before ++ group ∷ at.place.after ≡ held_groups_of (encoding_of opened.encoding) edited_body
       → HasPair key value group
       → last_ending group ≡ last_ending at.place.group → is_empty_line group ≡ false → IsWhole (as_lines group)
       → FollowsPair key value pair.end (pair.end + length new - length old) (opened.start + pair.end == length old) was is
-      → AreSound (held_groups_of (encoding_of opened.encoding) (drop opened.start new)) × IsIndex (held_groups_of (encoding_of opened.encoding) (drop opened.start new)) is
+      → AreSound (held_groups_of (encoding_of opened.encoding) (drop opened.start new))
+      × IsIndex (held_groups_of (encoding_of opened.encoding) (drop opened.start new)) is
   followed-index group edited_body whole groups has ending full closed follows =
       let f = encoding_of opened.encoding in
       let body = drop opened.start old in
@@ -138,7 +103,6 @@ module _ (e : Encoding) (opened : BodyStart) (old new key value : List ℕ) (pai
       let new_size : length new ≡ opened.start + length edited_body =
       ap length front ∙ length-append (take opened.start old) edited_body ∙ ap (λ n. n + length edited_body) start_size in
       let old_size : length body ≡ length old - opened.start = length-drop opened.start old in
-      let start_in = h.within in
       let next : List (List HeldLine) = p.before ++ group ∷ p.after in
       let next_groups : next ≡ held_groups_of f (drop opened.start new) = groups ∙ ap (held_groups_of f) (sym rest) in
       let next_size : length (groups_bytes next) ≡ length edited_body =
@@ -147,13 +111,11 @@ module _ (e : Encoding) (opened : BodyStart) (old new key value : List ℕ) (pai
       let old_whole = ap length (sym all ∙ ap groups_bytes at.division) in
       let old_parts : length body ≡ _ = old_whole ∙ size-around p.before p.group p.after in
       let ending_size = ap (λ o. length (ending_bytes o)) ending in
-      let starts = at.starts in
-      let ends = at.ends in
       let some = (regrouped f opened.ascii_only body key value p ok v m).old_size in
       let new_is : pair.end + length new - length old ≡ length (groups_bytes p.before) + length (unended_bytes group) = omega arith in
       let old_is : pair.end ≡ length (groups_bytes p.before) + length (unended_bytes p.group) = omega arith in
       let fits : length (groups_bytes next) < 2 ^ 64 = omega arith in
-      let was_pair = some-value key p.group m.has in
+      let was_pair = said-of key p.group m.has in
       let is_pair = sym (outcome_of-only (joined (as_lines group)) (given (content.pair key value)) has) in
       let turn = subst (AreInTurn f) at.division (in-turn f body gs ok (held_groups_of-meets f body)) in
       let told : IsLastTold (opened.start + pair.end == length old) p.after =
@@ -174,7 +136,7 @@ module _ (e : Encoding) (opened : BodyStart) (old new key value : List ℕ) (pai
       × (has_value value group ≡ false)
       × (new ≡ revalued_in (encoding_of opened.encoding) opened.ascii_only old (opened.start + pair.start) (opened.start + pair.end) value group))
       → FollowsPair key value pair.end (pair.end + length new - length old) (opened.start + pair.end == length old) was is
-      → IsValuePut e opened key value old new is
+      → IsKept (HasValueSet e opened.ascii_only old key value new) e opened new is
   revalued-index k revalues follows =
       let f = encoding_of opened.encoding in
       let body = drop opened.start old in
@@ -194,14 +156,15 @@ module _ (e : Encoding) (opened : BodyStart) (old new key value : List ℕ) (pai
       ∙ ap (λ w. bom_of old ++ w) (cond-false (has_value value p.group) (groups_bytes gs) edited_body other) in
       let r = regrouped f opened.ascii_only body key value p ok v m in
       let kept = followed-index r.group edited_body whole r.is_groups r.has_pair r.ending r.full r.whole follows in
-      record { set = value-edits k v result; sound = kept.0; is_index = kept.1 }
+      value-kept h ok (value-edits k v result) kept
 
   -- The printed pair is in its place.
   pub reput-index : All scalar key
       → new ≡ take (opened.start + pair.start) old
-      ++ (pair_bytes (output_encoding (encoding_of opened.encoding)) opened.ascii_only (pair.start == 0) key value ++ drop (opened.start + pair.end) old)
+      ++ (pair_bytes (output_encoding (encoding_of opened.encoding)) opened.ascii_only (pair.start == 0) key value
+      ++ drop (opened.start + pair.end) old)
       → FollowsPair key value pair.end (pair.end + length new - length old) (opened.start + pair.end == length old) was is
-      → IsPairPut e opened key value old new is
+      → IsKept (IsSet e opened.ascii_only old key value new) e opened new is
   reput-index k bytes follows =
       let f = encoding_of opened.encoding in
       let body = drop opened.start old in
@@ -214,22 +177,21 @@ module _ (e : Encoding) (opened : BodyStart) (old new key value : List ℕ) (pai
       let set_is : set ≡ new = cc in
       let edited_body = set_at f opened.ascii_only old gs key value (Some p) in
       let whole : new ≡ bom_of old ++ edited_body =
-      sym set_is ∙ ap (λ w. key_set_in w opened.ascii_only old key value) h.in_force ∙ ap (λ w. bom_of old ++ set_at f opened.ascii_only old gs key value w) at.is in
+      sym set_is ∙ ap (λ w. key_set_in w opened.ascii_only old key value) h.in_force
+      ∙ ap (λ w. bom_of old ++ set_at f opened.ascii_only old gs key value w) at.is in
       let r = reput-of f opened.ascii_only old body key value p.before p.group p.after ok k v m.has m.division in
       let kept = followed-index r.group edited_body whole r.is_groups r.has_pair r.ending r.full r.whole follows in
-      record { set = set-edits k v result; sound = kept.0; is_index = kept.1 }
+      set-kept h ok (set-edits k v result) kept
 
   -- The pair has the value.
   pub same-value : All scalar key
       → ((group : List HeldLine)
       × (held_groups_of (encoding_of opened.encoding) (take ((opened.start + pair.end) - (opened.start + pair.start)) (drop (opened.start + pair.start) old)) ≡ group ∷ [])
       × (has_value value group ≡ true))
-      → IsValuePut e opened key value old old was
+      → IsKept (HasValueSet e opened.ascii_only old key value old) e opened old was
   same-value k there =
       let f = encoding_of opened.encoding in
-      let bytes : old ≡ revalued_in f opened.ascii_only old (opened.start + pair.start) (opened.start + pair.end) value there.0 = sym (cond-true (has_value value there.0) old _ there.2) in
-      record {
-        set = value-edits k v (revalued-result key value old pair h ok (found-at f (drop opened.start old) key pair sound at) refl (there.0, there.1, bytes));
-        sound = sound;
-        is_index = index;
-      }
+      let bytes : old ≡ revalued_in f opened.ascii_only old (opened.start + pair.start) (opened.start + pair.end) value there.0 =
+      sym (cond-true (has_value value there.0) old _ there.2) in
+      let result = revalued-result key value old pair h ok (found-at f (drop opened.start old) key pair sound at) refl (there.0, there.1, bytes) in
+      value-kept h ok (value-edits k v result) (sound, index)

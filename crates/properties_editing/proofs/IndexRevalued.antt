@@ -39,9 +39,11 @@ some-size (c ∷ x) h = omega arith
 pair-size : (e : Encoding) (group : List HeldLine) (between front : List ℕ) (f : IsFrontOf e group between front) → 0 < length (unended_bytes group)
 pair-size e group between front f =
     let head : 0 < length f.head =
-    some-size f.head (λ q. f.not_blank (subst AreBlanks (sym (decoded_line-only e f.head f.head_text f.is_head ∙ ap (decoded_line e) q ∙ decoded-nil e)) tt)) in
+    some-size f.head
+    (λ q. f.not_blank (subst AreBlanks (sym (decoded_line-only e f.head f.head_text f.is_head ∙ ap (decoded_line e) q ∙ decoded-nil e)) tt)) in
     let rest = unended_bytes (record { bytes = f.tail; text = f.line.text; ending = f.line.ending } ∷ f.more) in
-    let whole : length (unended_bytes group) ≡ length front + length rest = ap length (front-unended e group between front f) ∙ length-append front rest in
+    let whole : length (unended_bytes group) ≡ length front + length rest =
+    ap length (front-unended e group between front f) ∙ length-append front rest in
     let front_size : length front ≡ length (group_bytes f.kept) + length f.head = ap length f.bytes ∙ length-append (group_bytes f.kept) f.head in
     omega arith
 
@@ -58,7 +60,8 @@ pub record IsRegrouped (e : Encoding) (only : Bool) (key value : List ℕ) (p : 
   pub full : is_empty_line group ≡ false
   pub whole : IsWhole (as_lines group)
 
-pub regrouped : (e : Encoding) (only : Bool) (body key value : List ℕ) (p : KeyPlace) → is_editable e ≡ true → All scalar value → made.IsLastPlace key (held_groups_of e body) p
+pub regrouped : (e : Encoding) (only : Bool) (body key value : List ℕ) (p : KeyPlace) → is_editable e ≡ true → All scalar value
+    → made.IsLastPlace key (held_groups_of e body) p
     → IsRegrouped e only key value p
 regrouped e only body key value p ok v m =
     let gs = held_groups_of e body in
@@ -68,7 +71,8 @@ regrouped e only body key value p ok v m =
     let front = front_of e p.group in
     let f = front_of-meets e p.group raw.0 raw.1 ok (group-decoded e body gs p.before p.group p.after held m.division) raw.2 in
     let l = groups-lined e body gs ok held in
-    let lined : AreLined e (p.before ++ (f.kept ++ f.line ∷ f.more) ∷ p.after) = subst (AreLined e) (m.division ∙ ap (λ w. p.before ++ w ∷ p.after) f.division) l in
+    let lined : AreLined e (p.before ++ (f.kept ++ f.line ∷ f.more) ∷ p.after) =
+    subst (AreLined e) (m.division ∙ ap (λ w. p.before ++ w ∷ p.after) f.division) l in
     let fit : IsLastFit p.group = fit-first p.group p.after (fit-parts p.before p.group p.after (subst AreFit m.division l.fit)).1 in
     let line_plain = plain-lines f.kept f.line f.more (group-plain e p.before (f.kept ++ f.line ∷ f.more) p.after lined) in
     let ending = last_ending (f.kept ++ f.line ∷ f.more) in
@@ -77,13 +81,16 @@ regrouped e only body key value p ok v m =
     let line = new_line e only f.head between value ending in
     let g = f.kept ++ line ∷ [] in
     let groups = p.before ++ g ∷ p.after in
-    let next : AreLined e groups = changed-lined e p.before f.kept f.line f.more p.after (new_bytes e only f.head between value) lined c.plain c.some c.whole in
+    let next : AreLined e groups =
+    changed-lined e p.before f.kept f.line f.more p.after (new_bytes e only f.head between value) lined c.plain c.some c.whole in
     let bytes : groups_bytes groups ≡ revalued_at e only value p =
     revalued-bytes e only p.before f.kept f.head between front value ending p.after f.bytes
-    ∙ ap (λ o. groups_bytes p.before ++ (front ++ (encoded_text e (value_text e only between value) ++ (ending_bytes o ++ groups_bytes p.after)))) ends in
+    ∙ ap (λ o. groups_bytes p.before
+    ++ (front ++ (encoded_text e (value_text e only between value) ++ (ending_bytes o ++ groups_bytes p.after)))) ends in
     record {
       group = g;
-      is_groups = held_groups_of-only e (revalued_at e only value p) groups (subst (λ w. AreGroupsOf e w groups) bytes (lined-groups e groups ok next));
+      is_groups = held_groups_of-only e (revalued_at e only value p) groups
+          (subst (λ w. AreGroupsOf e w groups) bytes (lined-groups e groups ok next));
       has_pair = c.has_pair;
       ending = last_ending-push f.kept line ∙ ends;
       bytes =

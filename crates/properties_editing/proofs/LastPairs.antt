@@ -6,18 +6,16 @@ use Rattle.std.proofs.lemmas.List.{drop_more, take-append-drop}
 use borrow.Author.Tests.{eqb-true}
 use Rattle.properties_format.specs.Text as text
 use Rattle.properties_format.specs.Text.{line_feed, carriage_return, line_ending_text, equals_sign}
-use Rattle.properties_format.specs.Lines.{HoldsNoLineEnd}
-use Rattle.properties_format.specs.Computed.Lines.{ends_in_cr}
-use Rattle.properties_format.specs.Lines.{Ended, Lines}
-use Rattle.properties_format.specs.Computed.Lines.{lines_of}
-use Rattle.properties_format.specs.Body.{held_in}
-use Rattle.properties_format.specs.Valued.{ending_among}
+use Rattle.properties_format.specs.Lines.{HoldsNoLineEnd, Ended, Lines}
+use Rattle.properties_format.specs.Computed.Lines.{ends_in_cr, lines_of}
+use Rattle.properties_format.specs.Body.{held_in, ending_bytes, last_ending, AreGroupsOf, HeldLine, as_lines, groups_bytes}
+use Rattle.properties_format.specs.Valued.{ending_among, separator_after}
 use Rattle.properties_format.proofs.Lines.Plain.{last-plain, plain-no_lf}
 use Rattle.properties_format.proofs.Lines.Steps.{lines_of-line}
 use Rattle.properties_format.proofs.Lines.Only.{lines_of-only, lines_of-plain}
 use Rattle.properties_format.proofs.Lines.Cut.{PartsNoEnd, lines_of-append}
 use Rattle.properties_format.proofs.Body.Decoded.{IsCut-lines}
-use Rattle.properties_format.proofs.Body.Groups.{held_of-only}
+use Rattle.properties_format.proofs.Body.Groups.{held_of-only, held-body, held_groups_of-meets, groups_bytes-append}
 use Rattle.properties_format.proofs.Valued.Lined.{last_by, last_by-append}
 use Rattle.properties_format.proofs.Valued.Added.{ending-held}
 use Rattle.properties_items.specs.LineEndings.{ending_of}
@@ -26,22 +24,18 @@ use Rattle.properties_items.specs.declared.line.LineEnding.{LineEnding}
 use Rattle.properties_items.specs.declared.line.LineEnding.TheVariants.{CR, LF, CRLF}
 use Rattle.std.proofs.Math.Seq.{take-append_seam, drop-append_seam}
 use Rattle.properties_format.specs.Settings.{IsGoodSeparator}
-use Rattle.properties_format.specs.Body.{ending_bytes, last_ending, AreGroupsOf}
 use Rattle.properties_format.specs.Edited.{is_editable}
-use Rattle.properties_format.specs.Valued.{separator_after}
 use Rattle.properties_format.specs.Computed.Settings.{is_good_separator}
-use Rattle.properties_format.specs.Computed.Valued.{separator_by}
-use Rattle.properties_format.proofs.Body.Groups.{held-body, held_groups_of-meets}
+use Rattle.properties_format.specs.Computed.Valued.{separator_by, between_if_pair, between_in, last_between, or_else}
 use Rattle.properties_format.proofs.Settings.Tests.{is_good_separator-from}
 use Rattle.properties_format.proofs.InTurn.Lines.{bytes-unended}
-use Rattle.properties_format.proofs.Valued.Made.{new_separator-meets}
+use Rattle.properties_format.proofs.Valued.Made.{new_separator-meets, last_between-push}
 use Rattle.properties_format.proofs.Valued.Separators.{new_separator-fit}
 use Rattle.properties_format.proofs.Valued.Unended.{without_ending, unended-groups, unended-joined}
 use Rattle.properties_editing.proofs.BodyValues.{middle-of}
 use Rattle.properties_format.specs.Encoding.{Encoding}
 use Rattle.properties_format.specs.Groups.{joined}
 use Rattle.properties_format.specs.Computed.Split.{split_of}
-use Rattle.properties_format.specs.Body.{HeldLine, as_lines, groups_bytes}
 use Rattle.properties_format.specs.Computed.Body.{held_groups_of}
 use Rattle.properties_format.specs.Computed.Parts.{unended_bytes}
 use Rattle.properties_format.specs.Split.{Logical}
@@ -49,11 +43,7 @@ use Rattle.properties_format.specs.Escapes.{Meaning, means, breaks}
 use Rattle.properties_format.specs.Computed.Escapes.{meaning_of}
 use Rattle.properties_format.specs.Computed.Items.{comment_outcome, pair_outcome, split_outcome}
 use Rattle.properties_format.specs.Computed.Edited.{IsSound}
-use Rattle.properties_format.specs.Computed.Valued.{between_if_pair, between_in, last_between, or_else}
 use Rattle.properties_editing.specs.Private.BodyIndex.{is_pair, outcome}
-use Rattle.properties_format.proofs.Body.Groups.{groups_bytes-append}
-use Rattle.properties_format.proofs.Valued.Made.{last_between-push}
-use Rattle.properties_editing.specs.declared.edit.groups.Group.{Group}
 use Rattle.properties_editing.specs.declared.edit.find.BodySpan.{BodySpan}
 
 -- ---- what separates key and value, if a line is a pair
@@ -80,10 +70,10 @@ between-some (Logical.pair raw_key raw_value) x some = (between_in x, refl)
 -- ---- the last pair
 
 -- the last pair with one more group after it, which is a pair or not
-pub last-after : (groups : List (List HeldLine)) (g : List HeldLine) (group : Group) (told : Bool) (last : Option BodySpan) → IsLastPair groups last → IsSound (outcome g)
-    → told ≡ is_pair (outcome g) → group.start ≡ length (groups_bytes groups) → group.end ≡ group.start + length (unended_bytes g)
-    → IsLastPair (groups ++ g ∷ []) (if told then Some (record { start = group.start; end = group.end }) else last)
-last-after groups g group true last h sound is starts ends =
+pub last-after : (groups : List (List HeldLine)) (g : List HeldLine) (span : BodySpan) (told : Bool) (last : Option BodySpan) → IsLastPair groups last → IsSound (outcome g)
+    → told ≡ is_pair (outcome g) → span.start ≡ length (groups_bytes groups) → span.end ≡ span.start + length (unended_bytes g)
+    → IsLastPair (groups ++ g ∷ []) (if told then Some span else last)
+last-after groups g span true last h sound is starts ends =
     let x = joined (as_lines g) in
     let b = between-some (split_of x) x (sym is) in
     record {
@@ -97,9 +87,9 @@ last-after groups g group true last h sound is starts ends =
       starts = starts;
       ends = ends;
     }
-last-after groups g group false None h sound is starts ends =
+last-after groups g span false None h sound is starts ends =
     last_between-push groups g ∙ ap₂ or_else (between-none (split_of (joined (as_lines g))) (joined (as_lines g)) sound (sym is)) h
-last-after groups g group false (Some span) h sound is starts ends = record {
+last-after groups g span false (Some earlier) h sound is starts ends = record {
   before = h.before;
   group = h.group;
   after = h.after ++ g ∷ [];
@@ -251,10 +241,9 @@ separator-none key None h = refl
 separator-none key (Some between) h = absurd (cc)
 
 -- The separator of a new pair is a good one.
-pub groups-good : (groups : List (List HeldLine)) (key separator : List ℕ) → separator ≡ separator_by key (last_between groups) → is_good_separator separator ≡ true
-groups-good groups key separator h =
+pub separator-good : (e : Encoding) (body key separator : List ℕ) → separator ≡ separator_by key (last_between (held_groups_of e body))
+    → is_good_separator separator ≡ true
+separator-good e body key separator h =
+    let gs = held_groups_of e body in
     is_good_separator-from separator
-    (subst IsGoodSeparator (sym h) (new_separator-fit groups key (separator_by key (last_between groups)) (new_separator-meets groups key)).good)
-
-pub separator-good : (e : Encoding) (body key separator : List ℕ) → separator ≡ separator_by key (last_between (held_groups_of e body)) → is_good_separator separator ≡ true
-separator-good e body key separator h = groups-good (held_groups_of e body) key separator h
+    (subst IsGoodSeparator (sym h) (new_separator-fit gs key (separator_by key (last_between gs)) (new_separator-meets gs key)).good)

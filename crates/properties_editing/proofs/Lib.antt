@@ -5,15 +5,14 @@ pub mod NewPairs
 pub mod LastPairs
 pub mod SetValues
 pub mod EditsInTurn
+pub mod IndexListed
 pub mod IndexSpans
 pub mod IndexRevalued
 pub mod IndexEdits
-pub mod IndexValues
 pub mod IndexFound
 pub mod IndexStored
 pub mod IndexParsed
 pub mod IndexCut
-pub mod IndexCutOut
 pub mod IndexMerged
 pub mod IndexKeys
 pub mod IndexRemoved

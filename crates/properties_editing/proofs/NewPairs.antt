@@ -1,6 +1,5 @@
 -- The bytes of a value that is set, and of a new pair that looks like the last one.
-use Rattle.std.proofs.Common.{◌≡◌, ◌≢◌, ℕ, Bool, true, false, List, [], ◌∷◌, ◌++◌, length, refl, inl, inr, ap, ap₂, sym, ◌∙◌, append-nil, append_assoc}
-use Rattle.std.proofs.Common.{lit<}
+use Rattle.std.proofs.Common.{◌≡◌, ◌≢◌, ℕ, Bool, true, false, List, [], ◌∷◌, ◌++◌, length, refl, inl, inr, ap, ap₂, sym, ◌∙◌, append-nil, append_assoc, lit<}
 use Rattle.std.specs.Prelude.{◌&&◌, ◌==◌, if◌then◌else◌, unwrap_or}
 use Rattle.std.specs.Str.{chars, IsUtf8}
 use Rattle.std.proofs.lemmas.Bool.{cases_Bool, cond-true, cond-false}

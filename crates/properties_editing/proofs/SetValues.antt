@@ -11,8 +11,7 @@ use Rattle.properties_format.specs.Edited.{bom_of, is_editable, final_group, edi
 use Rattle.properties_format.specs.Valued.{value_text, separation_by, ending_in, new_pair_bytes, IsSetValueResult}
 use Rattle.properties_format.specs.Computed.Items.{outcome_of}
 use Rattle.properties_format.specs.Computed.Body.{held_groups_of}
-use Rattle.properties_format.specs.Computed.Parts.{unended_bytes}
-use Rattle.properties_format.specs.Computed.Edited.{result_of, last_place}
+use Rattle.properties_format.specs.Computed.Edited.{AreSound, result_of, last_place}
 use Rattle.properties_format.specs.Computed.Valued.{front_of, between_of, has_value, last_between, separator_by, revalued_at, valued_at, value_set, value_set_in, set_value_result}
 use Rattle.properties_format.proofs.Body.Groups.{held_groups_of-meets, held-body}
 use Rattle.properties_format.proofs.Edited.ByteOrderMarks.{source-whole}
@@ -21,10 +20,13 @@ use Rattle.properties_format.proofs.Edited.Made as made
 use Rattle.properties_format.proofs.Edited.Made.{last_place-meets}
 use Rattle.properties_format.proofs.Valued.Made.{group-decoded, set_value_result-meets, set_value_result-only, raw-pair}
 use Rattle.properties_format.proofs.Edits.InAscii.{set_value-in_ascii}
+use Rattle.properties_format.proofs.Valued.Marks.{value_set-in_force}
 use Rattle.properties_format.proofs.Valued.Read.{set_value-reads, value_set-keeps, value_set-keeps_front}
 use Rattle.properties_format.proofs.Valued.Unended.{without_ending, unended-joined, unended-front, unended-between, unended-value}
 use Rattle.properties_format.proofs.Edited.Pair.{editable-own}
 use Rattle.properties_text.specs.Encoding.{encoding_of}
+use Rattle.properties_editing.specs.Private.BodyIndex.{IsIndex, IsKept}
+use Rattle.properties_editing.specs.declared.edit.index.Index.{Index}
 use Rattle.properties_editing.specs.Private.BodyKeys.{IsPlaceOf, IsPlace, IsKeyFound, closing_bytes}
 use Rattle.properties_editing.specs.Private.BodyValues.{IsPairAlone, IsLayoutAfter, revalued_in}
 use Rattle.properties_editing.specs.Editing.{HasValueSet}
@@ -35,15 +37,10 @@ use Rattle.properties_editing.specs.declared.edit.append.Layout.{Layout}
 use Rattle.properties_editing.specs.declared.edit.find.BodySpan.{BodySpan}
 use Rattle.properties_editing.specs.declared.edit.find.PairPlaces.{PairPlaces}
 use Rattle.properties_editing.specs.declared.edit.source.BodyStart.{BodyStart}
-use Rattle.properties_editing.proofs.Editing.{bom-front, result-made}
-use Rattle.properties_editing.proofs.LastPairs.{IsPartAt, part-at, part-group}
+use Rattle.properties_editing.proofs.Editing.{again, bom-front, editable, place-split, result-made}
+use Rattle.properties_editing.proofs.LastPairs.{part-group}
 
 -- ---- a value is set
-
--- where the last pair with a key is
-value-part : (e : Encoding) (body key : List ℕ) (pair : BodySpan) → is_editable e ≡ true → (k : IsPlaceOf key (held_groups_of e body) pair)
-    → IsPartAt body k.place.before k.place.group k.place.after pair.start pair.end
-value-part e body key pair ok k = part-at e body k.place.before k.place.group k.place.after pair.start pair.end ok k.division k.starts k.ends
 
 has-key : (gs : List (List HeldLine)) (key : List ℕ) (pair : BodySpan) (k : IsPlaceOf key gs pair) → HasKey key k.place.group
 has-key gs key pair k = let m = subst (made.IsPlace key gs) k.is (last_place-meets key gs) in m.has
@@ -53,7 +50,7 @@ value-alone : (e : Encoding) (body key : List ℕ) (pair : BodySpan) (bytes : Li
     → bytes ≡ take (pair.end - pair.start) (drop pair.start body) → IsPairAlone e bytes
 value-alone e body key pair bytes ok k is =
     let p = k.place in
-    let part = value-part e body key pair ok k in
+    let part = place-split e body key pair ok k in
     let m = key-outcome key p.group (has-key (held_groups_of e body) key pair k) in
     record {
       group = without_ending p.group;
@@ -63,22 +60,30 @@ value-alone e body key pair bytes ok k is =
       is_pair = ap outcome_of (unended-joined p.group) ∙ m.1;
     }
 
--- Whether the pair has a value doesn't depend on its last line ending.
-pub alone-value : (source key value : List ℕ) (opened : BodyStart) (pair : BodySpan) → is_editable (encoding_of opened.encoding) ≡ true
+-- By itself it is what it is without its last line ending,
+alone-group : (source key : List ℕ) (opened : BodyStart) (pair : BodySpan) → is_editable (encoding_of opened.encoding) ≡ true
     → (at : IsPlaceOf key (held_groups_of (encoding_of opened.encoding) (drop opened.start source)) pair) → (group : List HeldLine)
-    → held_groups_of (encoding_of opened.encoding) (take ((opened.start + pair.end) - (opened.start + pair.start)) (drop (opened.start + pair.start) source)) ≡ group ∷ []
-    → has_value value group ≡ has_value value at.place.group
-alone-value source key value opened pair ok at group alone =
+    → held_groups_of (encoding_of opened.encoding)
+    (take ((opened.start + pair.end) - (opened.start + pair.start)) (drop (opened.start + pair.start) source)) ≡ group ∷ []
+    → group ≡ without_ending at.place.group
+alone-group source key opened pair ok at group alone =
     let f = encoding_of opened.encoding in
     let body = drop opened.start source in
     let p = at.place in
-    let part = value-part f body key pair ok at in
+    let part = place-split f body key pair ok at in
     let size : (opened.start + pair.end) - (opened.start + pair.start) ≡ pair.end - pair.start = omega arith in
-    let bytes_are : take ((opened.start + pair.end) - (opened.start + pair.start)) (drop (opened.start + pair.start) source) ≡ unended_bytes p.group =
-    ap₂ take size (sym (drop-drop pair.start opened.start source)) ∙ part.part in
+    let bytes_are = ap₂ take size (sym (drop-drop pair.start opened.start source)) ∙ part.part in
     let one = part-group f body p.before p.group p.after _ ok at.division bytes_are in
-    let same : group ≡ without_ending p.group = let q = sym alone ∙ one in cc in
-    ap (has_value value) same ∙ unended-value value p.group
+    let q = sym alone ∙ one in cc
+
+-- on which it doesn't depend whether it has a value.
+pub alone-value : (source key value : List ℕ) (opened : BodyStart) (pair : BodySpan) → is_editable (encoding_of opened.encoding) ≡ true
+    → (at : IsPlaceOf key (held_groups_of (encoding_of opened.encoding) (drop opened.start source)) pair) → (group : List HeldLine)
+    → held_groups_of (encoding_of opened.encoding)
+    (take ((opened.start + pair.end) - (opened.start + pair.start)) (drop (opened.start + pair.start) source)) ≡ group ∷ []
+    → has_value value group ≡ has_value value at.place.group
+alone-value source key value opened pair ok at group alone =
+    ap (has_value value) (alone-group source key opened pair ok at group alone) ∙ unended-value value at.place.group
 
 -- The source with the value of the pair is its result.
 pub revalued-result : {source : List ℕ} {e : Encoding} {opened : BodyStart} {found : PairPlaces} (key value bytes : List ℕ) (pair : BodySpan) → IsInForce source e opened
@@ -93,19 +98,13 @@ revalued-result {source} {e} {opened} {found} key value bytes pair h ok k is (gr
     let gs = held_groups_of f body in
     let at : IsPlaceOf key gs pair = subst (IsPlace key gs) is k.pair in
     let p = at.place in
-    let part = value-part f body key pair ok at in
-    let size : (opened.start + pair.end) - (opened.start + pair.start) ≡ pair.end - pair.start = omega arith in
-    let bytes_are : take ((opened.start + pair.end) - (opened.start + pair.start)) (drop (opened.start + pair.start) source) ≡ unended_bytes p.group =
-    ap₂ take size (sym (drop-drop pair.start opened.start source)) ∙ part.part in
-    let one = part-group f body p.before p.group p.after _ ok at.division bytes_are in
-    let same : group ≡ without_ending p.group = let q = sym alone ∙ one in cc in
+    let part = place-split f body key pair ok at in
+    let same = alone-group source key opened pair ok at group alone in
     let m = raw-pair key p.group (has-key gs key pair at) in
     let decoded = group-decoded f body gs p.before p.group p.after (held_groups_of-meets f body) at.division in
     let front_is : front_of f group ≡ front_of f p.group = ap (front_of f) same ∙ unended-front f p.group m.0 m.1 ok decoded m.2 in
     let between_is : between_of group ≡ between_of p.group = ap between_of same ∙ unended-between p.group in
     let has_is : has_value value group ≡ has_value value p.group = ap (has_value value) same ∙ unended-value value p.group in
-    let ordered = part.ordered in
-    let within = part.within in
     let front : take (opened.start + pair.start) source ≡ bom_of source ++ groups_bytes p.before =
     take-add opened.start pair.start source ∙ ap₂ (λ v w. v ++ w) (sym (bom-front h)) part.front in
     let back : drop (opened.start + pair.end) source ≡ ending_bytes (last_ending p.group) ++ groups_bytes p.after =
@@ -183,6 +182,15 @@ value-edits {e} {only} {source} {key} {value} {bytes} k v is =
       keeps_front = value_set-keeps_front e only source key value bytes meets.0 meets.2;
       ascii = λ on. set_value-in_ascii e source key value bytes (subst (λ b. IsSetValueResult e b source key value (edited bytes)) on meets);
     }
+
+-- So it is of the source and its index.
+pub value-kept : {e : Encoding} {opened : BodyStart} {old key value new : List ℕ} {index : Index} → IsInForce old e opened → is_editable (encoding_of opened.encoding) ≡ true
+    → HasValueSet e opened.ascii_only old key value new
+    → AreSound (held_groups_of (encoding_of opened.encoding) (drop opened.start new)) × IsIndex (held_groups_of (encoding_of opened.encoding) (drop opened.start new)) index
+    → IsKept (HasValueSet e opened.ascii_only old key value new) e opened new index
+value-kept {e} {opened} {old} {key} {value} {new} h ok s kept =
+    let k = s.edit.result.2 in
+    record { meant = s; in_force = again new k.body h k.whole (value_set-in_force e opened.ascii_only old key value new (editable h ok) k); sound = kept.0; is_index = kept.1 }
 
 -- The pair that was found in a source is a pair by itself.
 pub found-alone : (source key : List ℕ) (opened : BodyStart) {found : PairPlaces} (pair : BodySpan) → is_editable (encoding_of opened.encoding) ≡ true

@@ -1,7 +1,8 @@
 -- Which pair a logical line is, and what an index of a body's pairs says.
 pub mod Keys
-use Rattle.std.specs.Prelude.{◌≡◌, ◌⊎◌, bytes_eq, nat_lt, ◌==◌, ℕ, ◌+◌, ◌-◌, ◌^◌, ◌≤◌, ◌<◌, min, Bool, true, false, if◌then◌else◌, List, [], ◌∷◌, ◌++◌, map, length, take, drop, get_or, Option, Some, None, option_and_then, Result, Ok, Err}
-use Rattle.std.specs.Option.{option_map}
+use Rattle.std.specs.Prelude.{◌≡◌, ◌⊎◌, bytes_eq, nat_lt, ◌==◌, ℕ, ◌+◌, ◌-◌, ◌^◌, ◌≤◌, ◌<◌, min, Bool, true, false, if◌then◌else◌, List, [], ◌∷◌, ◌++◌, map, length, take, drop, get_or, filter_map, suc, Option, Some, None, option_and_then, Result, Ok, Err}
+use Rattle.std.specs.List.{cons_option}
+use Rattle.std.specs.Option.{is_some, option_map}
 use Rattle.std.specs.Map.{lookup, update}
 use Rattle.std.specs.BTreeMap.{IsOrdered}
 use Rattle.std.specs.String.{string_cmp}
@@ -42,44 +43,39 @@ abbrev pub FindsPairOfLine : {Y Z : Type 0} → List ℕ → ℕ → Result (Opt
 FindsPairOfLine line number (Ok answer) = IsSound (outcome_of line) × (option_map pair_characters answer ≡ outcome_pair (outcome_of line))
 FindsPairOfLine line number (Err e) = IsNoItem number line e
 
--- ---- the parts of groups
+-- ---- the pairs of groups
 
 -- what a group says
 abbrev pub outcome : List HeldLine → Outcome
 outcome g = outcome_of (joined (as_lines g))
 
--- a part, if there is one, before others
-abbrev pub some_span : Bool → BodySpan → List BodySpan → List BodySpan
-some_span true s ss = s ∷ ss
-some_span false s ss = ss
+-- whether a logical line is a pair
+abbrev pub is_pair : Outcome → Bool
+is_pair o = is_some (outcome_pair o)
 
 -- the part of a group that starts here, without its last line ending
 abbrev pub span_of : ℕ → List HeldLine → BodySpan
 span_of n g = record { start = n; end = n + length (unended_bytes g) }
 
--- the parts of the groups that say such things, where the first group starts here
-abbrev pub spans_where : (Outcome → Bool) → ℕ → List (List HeldLine) → List BodySpan
-spans_where such n [] = []
-spans_where such n (g ∷ gs) = some_span (such (outcome g)) (span_of n g) (spans_where such (n + length (group_bytes g)) gs)
+-- a pair of a body: its part, its key and its value
+pub record PairAt : Type 0 where
+  pub span : BodySpan
+  pub key : List ℕ
+  pub value : List ℕ
 
--- whether a logical line is a pair
-abbrev pub is_pair : Outcome → Bool
-is_pair ignored = false
-is_pair (given (comment text)) = false
-is_pair (given (pair key value)) = true
-is_pair (broken kind) = false
+abbrev pub paired : BodySpan → List ℕ × List ℕ → PairAt
+paired span said = record { span = span; key = said.0; value = said.1 }
 
--- the value that a logical line gives a key
-abbrev pub value_by : List ℕ → Outcome → Option (List ℕ)
-value_by key ignored = None
-value_by key (given (comment text)) = None
-value_by key (given (pair k value)) = if bytes_eq k key then Some value else None
-value_by key (broken kind) = None
+-- the pairs of groups, where the first group starts here
+abbrev pub pairs_from : ℕ → List (List HeldLine) → List PairAt
+pairs_from n [] = []
+pairs_from n (g ∷ gs) =
+    cons_option (option_map (paired (span_of n g)) (outcome_pair (outcome g))) (pairs_from (n + length (group_bytes g)) gs)
 
--- the value of a key in groups: that of the last pair with it
-abbrev pub last_value : List ℕ → List (List HeldLine) → Option (List ℕ)
+-- the value of a key among pairs: that of the last pair with it
+abbrev pub last_value : List ℕ → List PairAt → Option (List ℕ)
 last_value key [] = None
-last_value key (g ∷ gs) = first_value (last_value key gs) (value_by key (outcome g))
+last_value key (p ∷ ps) = first_value (last_value key ps) (if bytes_eq p.key key then Some p.value else None)
 
 -- ---- what is stored
 
@@ -96,6 +92,9 @@ abbrev pub places_of : Option IndexedPair → List ℕ
 places_of None = []
 places_of (Some p) = p.earlier.items ++ p.place ∷ []
 
+abbrev pub stored_places : {Y : Type 0} → List (String Y × IndexedPair) → List ℕ → List ℕ
+stored_places entries key = places_of (stored_at entries key)
+
 -- the part in a place, if there is one
 abbrev pub span_at : List (Option BodySpan) → ℕ → Option BodySpan
 span_at spans place = get_or spans place None
@@ -107,12 +106,6 @@ last_span spans (Some p) = span_at spans p.place
 
 abbrev pub found_span : Index → List ℕ → Option BodySpan
 found_span index key = last_span index.spans.items (stored_at index.pairs.entries key)
-
--- the parts that are there
-abbrev pub live_spans : List (Option BodySpan) → List BodySpan
-live_spans [] = []
-live_spans (None ∷ spans) = live_spans spans
-live_spans (Some s ∷ spans) = s ∷ live_spans spans
 
 -- the first if there is one, otherwise the second
 abbrev pub span_or : Option BodySpan → Option BodySpan → Option BodySpan
@@ -151,16 +144,41 @@ pub record AddsGroup (group : Group) (told : Option (List ℕ × List ℕ)) (old
 
 -- ---- an index of groups
 
--- The parts that are there are those of all pairs of these groups, in order. In the places of each key are the parts of the
--- pairs with it, in order, and the value of the last one is stored.
-pub record IsListed {Y : Type 0} (groups : List (List HeldLine)) (entries : List (String Y × IndexedPair)) (spans : List (Option BodySpan)) : Type 0 where
-  pub live : live_spans spans ≡ spans_where is_pair 0 groups
-  pub stored : (k : List ℕ) → map (span_at spans) (places_of (stored_at entries k)) ≡ map Some (spans_where (is_pair_with k) 0 groups)
-  pub values : (k : List ℕ) → stored_value entries k ≡ last_value k groups
+-- the pairs that are there, of a list of places
+abbrev pub live : List (Option PairAt) → List PairAt
+live slots = filter_map (λ o. o) slots
 
--- So it is of an index, which also says what separates a new pair from the last group.
+-- the part that is in a place
+abbrev pub part_of : Option PairAt → Option BodySpan
+part_of slot = option_map (λ p. p.span) slot
+
+-- a place before others, or not
+abbrev pub place_if : Bool → ℕ → List ℕ → List ℕ
+place_if true n places = n ∷ places
+place_if false n places = places
+
+-- the places of the pairs with a key, where the first place is this one
+abbrev pub places_with : List ℕ → ℕ → List (Option PairAt) → List ℕ
+places_with key n [] = []
+places_with key n (None ∷ slots) = places_with key (suc n) slots
+places_with key n (Some p ∷ slots) = place_if (bytes_eq p.key key) n (places_with key (suc n) slots)
+
+-- Each of these pairs is in a place, in order, and its part is the one there. For each key, these are the places of the
+-- pairs with it, and this is the value of the last one.
+pub record IsListed (pairs : List PairAt) (places : List ℕ → List ℕ) (values : List ℕ → Option (List ℕ)) (spans : List (Option BodySpan)) : Type 0 where
+  pub slots : List (Option PairAt)
+  pub are_pairs : live slots ≡ pairs
+  pub are_spans : spans ≡ map part_of slots
+  pub are_places : (key : List ℕ) → places key ≡ places_with key 0 slots
+  pub are_values : (key : List ℕ) → values key ≡ last_value key pairs
+
+-- So it is of pairs and of what is stored,
+abbrev pub ListsPairs : List PairAt → Index → Type 0
+ListsPairs pairs index = IsListed pairs (stored_places index.pairs.entries) (stored_value index.pairs.entries) index.spans.items
+
+-- and so of groups and their index, which also says what separates a new pair from the last group.
 pub record IsIndex (groups : List (List HeldLine)) (index : Index) : Type 0 where
-  pub listed : IsListed groups index.pairs.entries index.spans.items
+  pub listed : ListsPairs (pairs_from 0 groups) index
   pub closing : (groups ≡ []) ⊎ (index.closing ≡ closing_of (is_empty_line (final_group groups)) (is_left_open (final_group groups)))
   pub ordered : IsOrdered string_cmp index.pairs
 
@@ -234,49 +252,33 @@ abbrev pub AppendsPair : {E : Type 0} → BodyStart → List ℕ → List ℕ �
 AppendsPair opened key value by line ending old was (Ok done) new is = IsPairAppended opened key value by line ending old was new is
 AppendsPair opened key value by line ending old was (Err error) new is = (new ≡ old) × (stored_at was.pairs.entries key ≡ None → KeepsNothing was is)
 
--- The source has the value for the key, and the index is that of its groups.
-pub record IsValueAdded (opened : BodyStart) (key value old new : List ℕ) (index : Index) : Type 0 where
-  pub set : (e : Encoding) → IsInForce old e opened → HasValueSet e opened.ascii_only old key value new
-  pub sound : AreSound (held_groups_of (encoding_of opened.encoding) (drop opened.start new))
-  pub is_index : IsIndex (held_groups_of (encoding_of opened.encoding) (drop opened.start new)) index
+-- ---- a source and its index after an edit
 
--- So it is; or memory ran out, and nothing changed that is looked at.
-abbrev pub AddsValue : {E : Type 0} → BodyStart → List ℕ → List ℕ → List ℕ → Index → Result Unit E → List ℕ → Index → Type 0
-AddsValue opened key value old was (Ok done) new is = IsValueAdded opened key value old new is
-AddsValue opened key value old was (Err error) new is = (new ≡ old) × KeepsNothing was is
-
--- The source has the printed pair for the key, and the index is that of its groups.
-pub record IsKeyAdded (opened : BodyStart) (key value old new : List ℕ) (index : Index) : Type 0 where
-  pub set : (e : Encoding) → IsInForce old e opened → IsSet e opened.ascii_only old key value new
-  pub sound : AreSound (held_groups_of (encoding_of opened.encoding) (drop opened.start new))
-  pub is_index : IsIndex (held_groups_of (encoding_of opened.encoding) (drop opened.start new)) index
-
-abbrev pub AddsKey : {E : Type 0} → BodyStart → List ℕ → List ℕ → List ℕ → Index → Result Unit E → List ℕ → Index → Type 0
-AddsKey opened key value old was (Ok done) new is = IsKeyAdded opened key value old new is
-AddsKey opened key value old was (Err error) new is = (new ≡ old) × KeepsNothing was is
-
--- ---- a key that is there or not
-
--- The source has the value for the key, and the index is that of its groups.
-pub record IsValuePut (e : Encoding) (opened : BodyStart) (key value old new : List ℕ) (index : Index) : Type 0 where
-  pub set : HasValueSet e opened.ascii_only old key value new
-  pub sound : AreSound (held_groups_of (encoding_of opened.encoding) (drop opened.start new))
-  pub is_index : IsIndex (held_groups_of (encoding_of opened.encoding) (drop opened.start new)) index
+-- The source is what is meant, its body starts where it did, nothing in it is malformed, and the index is that of its groups.
+pub record IsKept (Meant : Type 0) (e : Encoding) (opened : BodyStart) (source : List ℕ) (index : Index) : Type 0 where
+  pub meant : Meant
+  pub in_force : IsInForce source e opened
+  pub sound : AreSound (held_groups_of (encoding_of opened.encoding) (drop opened.start source))
+  pub is_index : IsIndex (held_groups_of (encoding_of opened.encoding) (drop opened.start source)) index
 
 -- So it is in each encoding that may have been requested; or memory ran out, and nothing changed that is looked at.
+abbrev pub Changes : {E : Type 0} → (Encoding → Type 0) → BodyStart → List ℕ → Index → Result Unit E → List ℕ → Index → Type 0
+Changes Meant opened old was (Ok done) new is = (e : Encoding) → IsInForce old e opened → IsKept (Meant e) e opened new is
+Changes Meant opened old was (Err error) new is = (new ≡ old) × KeepsNothing was is
+
+-- The value of a key was set, whether a pair has the key or none,
 abbrev pub PutsValue : {E : Type 0} → BodyStart → List ℕ → List ℕ → List ℕ → Index → Result Unit E → List ℕ → Index → Type 0
-PutsValue opened key value old was (Ok done) new is = (e : Encoding) → IsInForce old e opened → IsValuePut e opened key value old new is
-PutsValue opened key value old was (Err error) new is = (new ≡ old) × KeepsNothing was is
+PutsValue opened key value old was result new is = Changes (λ e. HasValueSet e opened.ascii_only old key value new) opened old was result new is
 
--- The source has the printed pair for the key, and the index is that of its groups.
-pub record IsPairPut (e : Encoding) (opened : BodyStart) (key value old new : List ℕ) (index : Index) : Type 0 where
-  pub set : IsSet e opened.ascii_only old key value new
-  pub sound : AreSound (held_groups_of (encoding_of opened.encoding) (drop opened.start new))
-  pub is_index : IsIndex (held_groups_of (encoding_of opened.encoding) (drop opened.start new)) index
+abbrev pub AddsValue : {E : Type 0} → BodyStart → List ℕ → List ℕ → List ℕ → Index → Result Unit E → List ℕ → Index → Type 0
+AddsValue opened key value old was result new is = PutsValue opened key value old was result new is
 
+-- or a printed pair was put in for it.
 abbrev pub PutsPair : {E : Type 0} → BodyStart → List ℕ → List ℕ → List ℕ → Index → Result Unit E → List ℕ → Index → Type 0
-PutsPair opened key value old was (Ok done) new is = (e : Encoding) → IsInForce old e opened → IsPairPut e opened key value old new is
-PutsPair opened key value old was (Err error) new is = (new ≡ old) × KeepsNothing was is
+PutsPair opened key value old was result new is = Changes (λ e. IsSet e opened.ascii_only old key value new) opened old was result new is
+
+abbrev pub AddsKey : {E : Type 0} → BodyStart → List ℕ → List ℕ → List ℕ → Index → Result Unit E → List ℕ → Index → Type 0
+AddsKey opened key value old was result new is = PutsPair opened key value old was result new is
 
 -- ---- a key that is removed
 
@@ -314,30 +316,19 @@ abbrev pub GuardsFront : Bool → List ℕ → Index → List ℕ → Index → 
 GuardsFront true old was new is = PutsFirst old was new is
 GuardsFront false old was new is = (new ≡ old) × (is ≡ was)
 
--- The source is without the key, and the index is that of its groups.
-pub record ArePairsRemoved (e : Encoding) (opened : BodyStart) (key old new : List ℕ) (index : Index) : Type 0 where
-  pub removed : IsRemoved e old key new
-  pub sound : AreSound (held_groups_of (encoding_of opened.encoding) (drop opened.start new))
-  pub is_index : IsIndex (held_groups_of (encoding_of opened.encoding) (drop opened.start new)) index
-
+-- The key was removed.
 abbrev pub RemovesPairs : BodyStart → List ℕ → List ℕ → List ℕ → Index → Type 0
-RemovesPairs opened key old new is = (e : Encoding) → IsInForce old e opened → ArePairsRemoved e opened key old new is
+RemovesPairs opened key old new is = (e : Encoding) → IsInForce old e opened → IsKept (IsRemoved e old key new) e opened new is
 
 -- ---- an edit
 
--- The source was edited, and the index is that of its groups.
-pub record IsEditMade (e : Encoding) (opened : BodyStart) (edit : Edit) (old new : List ℕ) (index : Index) : Type 0 where
-  pub result : IsEditResult e old (IsEdited e opened.ascii_only old edit) (edited new)
-  pub in_force : IsInForce new e opened
-  pub sound : AreSound (held_groups_of (encoding_of opened.encoding) (drop opened.start new))
-  pub is_index : IsIndex (held_groups_of (encoding_of opened.encoding) (drop opened.start new)) index
-
+-- An edit was made,
 abbrev pub MakesEdit : BodyStart → Edit → List ℕ → List ℕ → Index → Type 0
-MakesEdit opened edit old new is = (e : Encoding) → IsInForce old e opened → IsEditMade e opened edit old new is
+MakesEdit opened edit old new is =
+    (e : Encoding) → IsInForce old e opened
+    → IsKept (IsEditResult e old (IsEdited e opened.ascii_only old edit) (edited new)) e opened new is
 
--- So it is of edits in turn.
-pub record AreEditsMade (e : Encoding) (opened : BodyStart) (source : List ℕ) (edits : List Edit) (bytes : List ℕ) (index : Index) : Type 0 where
-  pub result : IsEditAllResult e opened.ascii_only source edits (edited bytes)
-  pub in_force : IsInForce bytes e opened
-  pub sound : AreSound (held_groups_of (encoding_of opened.encoding) (drop opened.start bytes))
-  pub is_index : IsIndex (held_groups_of (encoding_of opened.encoding) (drop opened.start bytes)) index
+-- or edits in turn.
+abbrev pub AreEditsMade : Encoding → BodyStart → List ℕ → List Edit → List ℕ → Index → Type 0
+AreEditsMade e opened source edits bytes index =
+    IsKept (IsEditAllResult e opened.ascii_only source edits (edited bytes)) e opened bytes index

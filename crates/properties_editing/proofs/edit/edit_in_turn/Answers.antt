@@ -7,6 +7,7 @@ use Rattle.properties_text.specs.Encoding.{encoding_of}
 use Rattle.properties_editing.specs.Private.BodyIndex.{AreEditsMade}
 use Rattle.properties_editing.specs.Editing.{AreMade, edit_in, edits_in}
 use Rattle.properties_editing.proofs.Editing.{edits_in-more, edits-scalars, refusal}
+use Rattle.properties_editing.proofs.BodyDocuments.{kept-as}
 use Rattle.properties_editing.proofs.Editing as editing
 use Rattle.properties_editing.proofs.EditsInTurn.{result-made, result-more}
 use Rattle.properties_editing.proofs.edit.edit_in_turn.Goals as goal
@@ -18,7 +19,9 @@ returns-in_err-index c =
     let source = c.args.source.now in
     let edits = edits_in c.args.edits.now in
     let opened = c.in_ok-opened.ensures in
-    let refused = refusal c.from_residual-in_err-index.result (AreEdited e only source edits) (edits_made e only source edits) opened.0 opened.1 (edit_all_result-meets e only source edits)
+    let refused =
+    refusal c.from_residual-in_err-index.result (AreEdited e only source edits)
+    (edits_made e only source edits) opened.0 opened.1 (edit_all_result-meets e only source edits)
     c.in_err-index.ensures c.from_residual-in_err-index.ensures.1 in
     rw refused.1 refused.2
 
@@ -27,13 +30,13 @@ loop-edit-init c =
     let e = encoding_of c.args.encoding in
     let source = c.args.source.now in
     let opened = c.in_ok-opened.opened in
-    let f = encoding_of opened.encoding in
     let force = c.in_ok-opened.ensures in
     let parsed = rw (take_rest source opened.start) at c.in_ok-index.ensures in
     let copy = c.in_ok-bytes.ensures.items_if_clones_equal (λ x y same. same) in
     let index = c.in_ok-index.index in
     let made : AreEditsMade e opened source [] source index = record {
-      result = subst (IsEditAllResult e opened.ascii_only source []) (editing.result-made source force.0 force.1 parsed.0) (edit_all_result-meets e opened.ascii_only source []);
+      meant = subst (IsEditAllResult e opened.ascii_only source []) (editing.result-made source force.0 force.1 parsed.0)
+          (edit_all_result-meets e opened.ascii_only source []);
       in_force = force.0;
       sound = parsed.0;
       is_index = parsed.1;
@@ -52,7 +55,7 @@ loop-edit-preserved c =
     let h = c.loop-edit.invariant in
     let made = c.in_ok-make_edit.ensures e h.in_force in
     subst (λ v. AreEditsMade e c.in_ok-opened.opened source v c.make_edit.new.source.items c.make_edit.new.index) (sym all)
-    (record { result = result-more c.in_ok-opened.opened.ascii_only before (edit_in edit) c.make_edit.new.source.items h.result made.result; in_force = made.in_force; sound = made.sound; is_index = made.is_index })
+    (kept-as (result-more c.in_ok-opened.opened.ascii_only before (edit_in edit) c.make_edit.new.source.items h.meant) made)
 
 pub returns : goal.returns
 returns c =
@@ -62,5 +65,6 @@ returns c =
     let done = take c.loop-edit.edit-index edits in
     let bytes = c.loop-edit.bytes.items in
     let all : edits_in done ≡ edits_in edits = ap edits_in (take_all c.loop-edit.edit-index edits (omega arith)) in
-    let made = result-made (edits_in done) (edits-scalars done) c.loop-edit.invariant.result in
-    subst (λ b. AreMade e b source (edits_in edits) bytes) c.in_ok-opened.ensures.2 (subst (λ v. AreMade e c.in_ok-opened.opened.ascii_only source v bytes) all made)
+    let made = result-made (edits_in done) (edits-scalars done) c.loop-edit.invariant.meant in
+    subst (λ b. AreMade e b source (edits_in edits) bytes) c.in_ok-opened.ensures.2
+    (subst (λ v. AreMade e c.in_ok-opened.opened.ascii_only source v bytes) all made)

@@ -36,9 +36,6 @@ with_value-requires-clause-alone c =
     let found = (rw (take_rest c.args.source.now opened.start) at c.in_ok-place.ensures).0 in
     found-alone c.args.source.now (chars c.args.key.now) opened c.in-Some.pair c.in_ok-opened.ensures.1 found c.in-Some.is
 
-pub layout_at-requires-clause-last : goal.layout_at-requires-clause-last
-layout_at-requires-clause-last c = c.in_ok-place.ensures.1
-
 pub returns : goal.returns
 returns c =
     let e = encoding_of c.args.encoding in

@@ -1,5 +1,5 @@
 use Rattle.properties_format.proofs.Valued.Laws.{setting-own_value, setting-value_twice, setting-value_again, setting-value_gives}
-use Rattle.properties_format.proofs.EditLaws.{removing-no_pair, setting-twice, setting-gives, removing-takes, no_edits-nothing, one_edit-call, lists-follow}
+use Rattle.properties_format.proofs.EditLaws.{removing-no_pair, setting-twice, setting-gives, removing-takes, lists-follow}
 use Rattle.properties_editing.proofs.laws.editing.Goals as goal
 
 pub returns-clause-absent : goal.returns-clause-absent
@@ -25,12 +25,6 @@ returns-clause-value_again c = setting-value_again
 
 pub returns-clause-value : goal.returns-clause-value
 returns-clause-value c = setting-value_gives
-
-pub returns-clause-none : goal.returns-clause-none
-returns-clause-none c = no_edits-nothing
-
-pub returns-clause-one : goal.returns-clause-one
-returns-clause-one c = one_edit-call
 
 pub returns-clause-lists : goal.returns-clause-lists
 returns-clause-lists c = lists-follow

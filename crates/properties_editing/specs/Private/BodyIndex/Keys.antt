@@ -1,13 +1,10 @@
 -- The keys of an index, borrowed, and the places of their first pairs.
-use Rattle.std.specs.Prelude.{◌≡◌, ℕ, true, List, ◌∷◌, map, filter_map, get_or, Option, Some, None}
+use Rattle.std.specs.Prelude.{◌≡◌, ℕ, List, ◌∷◌, map, filter_map, get_or, Option, Some, None}
 use Rattle.std.specs.Borrow.{Bor}
 use Rattle.std.specs.Option.{option_map}
 use Rattle.std.specs.Str.{chars}
 use Rattle.std.specs.declared.string.String.{String}
-use Rattle.properties_format.specs.Encoding.{Encoding}
 use Rattle.properties_format.specs.Body.{HeldLine}
-use Rattle.properties_format.specs.Edited.{is_editable}
-use Rattle.properties_format.specs.Computed.Body.{held_groups_of}
 use Rattle.properties_format.specs.Computed.Keys.{AreFirstOf}
 use Rattle.properties_format.specs.Computed.Parts.{outcome_key}
 use Rattle.properties_editing.specs.Private.BodyIndex.{IsIndex, outcome, places_of, stored_at}
@@ -19,12 +16,10 @@ use Rattle.properties_editing.specs.declared.edit.index.IndexedPair.{IndexedPair
 abbrev pub group_keys : List (List HeldLine) → List (List ℕ)
 group_keys groups = filter_map (λ g. outcome_key (outcome g)) groups
 
--- It is the index of some body in an encoding that is edited.
+-- It is the index of some groups.
 pub record IndexesSome (index : Index) : Type 0 where
-  pub encoding : Encoding
-  pub body : List ℕ
-  pub editable : is_editable encoding ≡ true
-  pub is_index : IsIndex (held_groups_of encoding body) index
+  pub groups : List (List HeldLine)
+  pub is_index : IsIndex groups index
 
 -- The first pair with the key is in this place.
 abbrev pub IsFirstIn : {Y : Type 0} → List (String Y × IndexedPair) → List ℕ → ℕ → Type 0
@@ -43,7 +38,6 @@ key_at place = option_map (λ key. chars key.now) place
 abbrev pub ArePlaced : {Y : Type 0} → List (String Y × IndexedPair) → List (Option (Bor (List ℕ))) → Type 0
 ArePlaced entries firsts = AreFirsts entries (map key_at firsts)
 
--- These are the keys of the pairs of the body that it is the index of, each once, in the order of their first pairs.
+-- These are the keys of the pairs of the groups that it is the index of, each once, in the order of their first pairs.
 abbrev pub TellsKeys : Index → List (Bor (List ℕ)) → Type 0
-TellsKeys index keys = (e : Encoding) (body : List ℕ) → is_editable e ≡ true → IsIndex (held_groups_of e body) index
-    → AreFirstOf (group_keys (held_groups_of e body)) (characters_of keys)
+TellsKeys index keys = (groups : List (List HeldLine)) → IsIndex groups index → AreFirstOf (group_keys groups) (characters_of keys)

@@ -19,5 +19,4 @@ returns-in-13 c =
 
 pub returns : goal.returns
 returns c =
-    let over = c.loop-end-test.false in
     last-none c.args.body.now c.loop-end.end (omega arith) c.loop-end.invariant.plain

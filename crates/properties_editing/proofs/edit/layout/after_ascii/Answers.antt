@@ -14,5 +14,4 @@ loop-left-preserved c =
 
 pub returns-else-place-bytes-clause-place : goal.returns-else-place-bytes-clause-place
 returns-else-place-bytes-clause-place c =
-    let over = c.if-place-bytes.false in
     after-end c.args.bytes.now c.loop-left.place c.loop-left.left _ (omega arith) c.loop-left.invariant.place

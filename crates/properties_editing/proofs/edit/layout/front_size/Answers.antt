@@ -40,5 +40,4 @@ returns-then-wanted-added c =
 pub loop-text-preserved : goal.loop-text-preserved
 loop-text-preserved c =
     let takes = rw c.if-branch.true at c.in_ok-find_line.ensures in
-    let more = c.if-wanted-added.false in
     walking-on c.as_bytes-line_text.result.now c.added_by-added.result.now c.loop-text.invariant takes (came (goal.at.loop-text-preserved c).After-added_by-added) (omega arith)

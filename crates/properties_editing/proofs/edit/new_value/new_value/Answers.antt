@@ -2,11 +2,8 @@ use Rattle.std.specs.Str.{chars}
 use Rattle.properties_format.proofs.Edited.Pair.{editable-own}
 use Rattle.properties_text.specs.Encoding.{encoding_of}
 use Rattle.properties_editing.proofs.BodyKeys.{editable-bytes}
-use Rattle.properties_editing.proofs.BodyValues.{alone-sound, before-value, value-new}
+use Rattle.properties_editing.proofs.BodyValues.{before-value, value-new}
 use Rattle.properties_editing.proofs.edit.new_value.new_value.Goals as goal
-
-pub has_value-requires-clause-sound : goal.has_value-requires-clause-sound
-has_value-requires-clause-sound c = alone-sound c.line-line.result.now c.line-line.ensures c.in_ok-groups.ensures c.requires.alone
 
 pub front_size-requires-clause-before : goal.front_size-requires-clause-before
 front_size-requires-clause-before c =

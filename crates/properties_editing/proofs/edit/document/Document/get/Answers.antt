@@ -11,7 +11,8 @@ pub returns-in_err-get : goal.returns-in_err-get
 returns-in_err-get c =
     let d = c.self.inside in
     let found = at_chars-sorted d.index.pairs c.args.key.now c.utf8.key ∙ sym c.in_err-get.ensures.value in
-    rw (sym c.self.view_is, c.from_residual.ensures) (has-value d c.self.invariant (chars c.args.key.now) None (ap (option_map (λ p. characters p.value)) found))
+    rw (sym c.self.view_is, c.from_residual.ensures)
+    (has-value d c.self.invariant (chars c.args.key.now) None (ap (option_map (λ p. characters p.value)) found))
 
 pub returns : goal.returns
 returns c =

@@ -18,7 +18,9 @@ returns-in_err-index-clause-opens c =
     let e = encoding_of c.args.encoding in
     let source = c.args.source.now in
     let opened = c.in_ok-opened.ensures in
-    let refused = refusal c.from_residual-in_err-index.result (AreEdited e false source []) (edits_made e false source []) opened.0 opened.1 (edit_all_result-meets e false source [])
+    let refused =
+    refusal c.from_residual-in_err-index.result (AreEdited e false source []) (edits_made e false source []) opened.0 opened.1
+    (edit_all_result-meets e false source [])
     c.in_err-index.ensures c.from_residual-in_err-index.ensures.1 in
     rw refused.1 refused.2
 
@@ -45,7 +47,8 @@ is-opened c =
     let source = c.args.source.now in
     let opened = c.in_ok-opened in
     let parsed = rw (take_rest source opened.opened.start) at c.in_ok-index.ensures in
-    opens-document (document c) source (c.in_ok-to_vec.ensures.items_if_clones_equal (λ x y same. same)) opened.ensures.0 opened.ensures.1 opened.ensures.2 parsed.0 parsed.1
+    opens-document (document c) source
+    (c.in_ok-to_vec.ensures.items_if_clones_equal (λ x y same. same)) opened.ensures.0 opened.ensures.1 opened.ensures.2 parsed.0 parsed.1
 
 pub invariant_of-result : goal.invariant_of-result
 unfolding document

@@ -3,11 +3,6 @@ use Rattle.std.specs.Str.{chars}
 use Rattle.properties_editing.proofs.BodyDocuments.{remove-ends}
 use Rattle.properties_editing.proofs.edit.document.Document.remove.Goals as goal
 
-pub invariant_of-self : goal.invariant_of-self
-invariant_of-self c =
-    (remove-ends c.self.inside c.self.invariant c.remove_pairs.new.source c.remove_pairs.new.index (chars c.args.key.now) c.remove_pairs.result c.remove_pairs.ensures.told
-    c.remove_pairs.ensures.removes).0
-
 pub returns : goal.returns
 returns c =
     rw (sym c.self.view_is)

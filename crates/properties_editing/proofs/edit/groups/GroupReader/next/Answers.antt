@@ -5,25 +5,8 @@ use Rattle.properties_text.specs.Encoding.{encoding_of}
 use Rattle.properties_lines.specs.LogicalLine.{Begins}
 use Rattle.properties_lines.specs.Scanner.{bytes_of}
 use Rattle.properties_lines.specs.declared.scanner.RawLine.{RawLine}
-use Rattle.properties_editing.proofs.BodyGroups.{group-begun, group-first}
+use Rattle.properties_editing.proofs.BodyGroups.{group-first}
 use Rattle.properties_editing.proofs.edit.groups.GroupReader.next.Goals as goal
-
-pub is_line-is_line-requires : goal.is_line-is_line-requires
-is_line-is_line-requires c =
-    let taken = rw c.if-not-branch.false at c.in_ok-find_line.ensures in
-    rw (c.line-line.ensures, c.encoding-encoding.ensures) taken.flags
-
-pub join-requires : goal.join-requires
-join-requires c =
-    let body = c.args.body.now in
-    let found = c.find_line.new.self in
-    let line = c.line-line.ensures in
-    let answer : Result Bool AllocError = Ok c.in_ok-is_open.is_open in
-    let taken = rw c.if-not-branch.false at c.in_ok-find_line.ensures in
-    let read = subst (λ v. Begins (encoding_of c.encoding-encoding.result) (bytes_of body v) answer c.begin.new.self) line c.in_ok-is_open.ensures.begins in
-    let begins = subst (λ v. Begins (encoding_of v) (bytes_of body found.scanner.line) answer c.begin.new.self) c.encoding-encoding.ensures read in
-    group-begun AllocError body c.args.self.now found c.begin.new.self _ c.in_ok-is_open.is_open taken begins c.begin.ensures.sound
-    (ap (λ v. let w : RawLine = v in w.start) line) (ap (λ v. let w : RawLine = v in w.end) line) refl
 
 pub returns : goal.returns
 returns c =

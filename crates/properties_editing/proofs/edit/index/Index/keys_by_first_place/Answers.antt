@@ -13,22 +13,26 @@ loop-key-init c =
     let none = made.items_if_clones_equal (only-none _ (λ x never. never)) in
     let size = c.len.ensures in (
       sym c.in_ok-firsts.firsts.ok.0 ∙ made.len ∙ size ∙ c.args.self.now.spans.ok.0,
-      placing-none c.args.self.now.pairs.entries c.into_iter-key-iterator.result c.len.result c.in_ok-firsts.firsts.items c.into_iter-key-iterator.ensures.into_iter_gives.0 none,
+      placing-none c.args.self.now.pairs.entries c.into_iter-key-iterator.result c.len.result c.in_ok-firsts.firsts.items
+          c.into_iter-key-iterator.ensures.into_iter_gives.0 none,
     )
 
 -- the entry at hand is placed
 pub index_mut-requires : goal.index_mut-requires
 index_mut-requires c =
-    let at = subst (λ v. IsPlacing c.args.self.now.pairs.entries v (map key_at c.loop-key.firsts.items)) c.in-Some.ensures.steps c.loop-key.invariant.1 in
-    let next = placing-next c.args.self.now c.next.new.self c.loop-key.firsts.items c.in-Some.key.now c.in-Some.pair.now c.first_place.result c.as_str.result
+    let at = subst (λ v. IsPlacing c.args.self.now.pairs.entries v (map key_at c.loop-key.firsts.items)) c.in-Some.ensures.steps
+    c.loop-key.invariant.1 in
+    let next = placing-next c.args.self.now c.next.new.self c.loop-key.firsts.items c.in-Some.key.now c.in-Some.pair.now
+    c.first_place.result c.as_str.result
     c.requires at c.first_place.ensures c.as_str.ensures.value c.loop-key.invariant.0 in
-    let inside = next.0 in
     omega arith
 
 pub loop-key-preserved : goal.loop-key-preserved
 loop-key-preserved c =
-    let at = subst (λ v. IsPlacing c.args.self.now.pairs.entries v (map key_at c.loop-key.firsts.items)) c.in-Some.ensures.steps c.loop-key.invariant.1 in
-    let next = placing-next c.args.self.now c.next.new.self c.loop-key.firsts.items c.in-Some.key.now c.in-Some.pair.now c.first_place.result c.as_str.result
+    let at = subst (λ v. IsPlacing c.args.self.now.pairs.entries v (map key_at c.loop-key.firsts.items)) c.in-Some.ensures.steps
+    c.loop-key.invariant.1 in
+    let next = placing-next c.args.self.now c.next.new.self c.loop-key.firsts.items c.in-Some.key.now c.in-Some.pair.now
+    c.first_place.result c.as_str.result
     c.requires at c.first_place.ensures c.as_str.ensures.value c.loop-key.invariant.0 in (
       length-set c.loop-key.firsts.items c.first_place.result (Some c.as_str.result) ∙ c.loop-key.invariant.0,
       next.1,

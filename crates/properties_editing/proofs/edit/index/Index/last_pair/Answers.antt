@@ -1,7 +1,7 @@
 use Rattle.std.proofs.Common.{◌≡◌, ◌<◌, ◌≤◌, ◌-◌, ℕ, suc, List, [], ◌∷◌, ◌++◌, take, length, refl, ap, sym, ◌∙◌, arith}
 use Rattle.std.specs.Prelude.{Option, Some, None, get_or}
 use Rattle.std.proofs.Math.Seq.{take-suc}
-use Rattle.std.proofs.lemmas.List.{get_or_default, take_all}
+use Rattle.std.proofs.lemmas.List.{get_or_default}
 use Rattle.properties_editing.specs.Private.BodyIndex.{last_live, span_or}
 use Rattle.properties_editing.specs.declared.edit.find.BodySpan.{BodySpan}
 use Rattle.properties_editing.proofs.edit.index.Index.last_pair.Goals as goal
@@ -20,7 +20,8 @@ last-more : (xs : List (Option BodySpan)) (n : ℕ) → n < length xs → last_l
 last-more xs n low = ap last_live (take-suc xs n None low) ∙ last-push (take n xs) (get_or xs n None)
 
 -- One place less is left when the part in it was read.
-step : (spans : List (Option BodySpan)) (m : ℕ) (now : Option BodySpan) → 0 < m → m ≤ length spans → now ≡ get_or spans (m - 1) now → last_live spans ≡ last_live (take m spans)
+step : (spans : List (Option BodySpan)) (m : ℕ) (now : Option BodySpan) → 0 < m → m ≤ length spans
+    → now ≡ get_or spans (m - 1) now → last_live spans ≡ last_live (take m spans)
     → last_live spans ≡ span_or now (last_live (take (m - 1) spans))
 step spans m now some low read h =
     let n = m - 1 in
@@ -28,12 +29,6 @@ step spans m now some low read h =
     let inside : n < length spans = omega arith in
     let at : now ≡ get_or spans n None = read ∙ get_or_default spans n now None inside in
     h ∙ ap (λ i. last_live (take i spans)) size ∙ last-more spans n inside ∙ ap (λ o. span_or o (last_live (take n spans))) (sym at)
-
-pub loop-place-init : goal.loop-place-init
-loop-place-init c =
-    let spans = c.args.self.now.spans.items in
-    let size : c.len-place.result ≡ length spans = c.len-place.ensures ∙ c.args.self.now.spans.ok.0 in
-    ((omega arith), ap last_live (sym (take_all c.len-place.result spans (omega arith))))
 
 pub returns-in-Some : goal.returns-in-Some
 returns-in-Some c =
@@ -46,12 +41,5 @@ pub loop-place-preserved : goal.loop-place-preserved
 loop-place-preserved c =
     let spans = c.args.self.now.spans.items in
     let inv = c.loop-place.invariant in
-    let low = inv.0 in
     let known = step spans c.loop-place.place c.index.result.now c.loop-place-test.true inv.0 c.index.ensures inv.1 in
     ((omega arith), known ∙ ap (λ o. span_or o (last_live (take (c.loop-place.place - 1) spans))) c.in_default.is)
-
-pub returns : goal.returns
-returns c =
-    let spans = c.args.self.now.spans.items in
-    let none : c.loop-place.place ≡ 0 = let over = c.loop-place-test.false in omega arith in
-    sym (c.loop-place.invariant.1 ∙ ap (λ i. last_live (take i spans)) none)

@@ -19,7 +19,8 @@ loop-index-init c =
     let same = ap encoding_of new.encoding in
     let within : IsWithin body reader = record { bytes = ap unit_size same ∙ c.requires; within_body = new.within_body body } in
     let index : Index = record { pairs = c.new.result; spans = c.new-2.result; closing = Nothing } in
-    subst (λ e. HasIndexed e body reader index) same (indexed-none body reader index new.start new.none new.going within c.new.ensures.empty c.new.ensures.ordered c.new-2.ensures.items)
+    subst (λ e. HasIndexed e body reader index) same
+    (indexed-none body reader index new.start new.none new.going within c.new.ensures.empty c.new.ensures.ordered c.new-2.ensures.items)
 
 pub returns-in_err-pair : goal.returns-in_err-pair
 returns-in_err-pair c =
@@ -32,4 +33,5 @@ pub loop-index-preserved : goal.loop-index-preserved
 loop-index-preserved c =
     let came = rw c.in-Some.is at c.in_ok-group.ensures in
     let told = rw c.line.ensures at c.in_ok-pair.ensures in
-    indexed-more c.loop-index.index c.add_group.new.self (option_map pair_characters c.in_ok-pair.pair) c.loop-index.invariant came told.0 told.1 c.in_ok-add_group.ensures
+    indexed-more c.loop-index.index c.add_group.new.self
+    (option_map pair_characters c.in_ok-pair.pair) c.loop-index.invariant came told.0 told.1 c.in_ok-add_group.ensures

@@ -7,7 +7,7 @@ use Rattle.properties_editing.specs.Private.BodyIndex.{places_of, stored_at}
 use Rattle.properties_items.specs.Texts.{characters}
 use Rattle.properties_editing.specs.declared.edit.index.IndexedPair.{IndexedPair}
 use Rattle.properties_editing.specs.declared.edit.find.BodySpan.{BodySpan}
-use Rattle.properties_editing.proofs.IndexParsed.{none-removed, put-after}
+use Rattle.properties_editing.proofs.IndexStored.{none-removed, put-after}
 use Rattle.properties_items.proofs.TextMaps.Values.{at_chars-sorted, at_chars-updated}
 use Rattle.properties_editing.proofs.edit.index.Index.store_last_pair.Goals as goal
 
@@ -33,11 +33,12 @@ returns-clause-kept c =
       has_value = refl;
       stored = λ k.
           at_chars-updated c.remove-known.new.self c.insert.new.self bytes utf8 (Some pair) c.in_ok-insert.ensures.updates k
-          ∙ put-after (characters key) (Some pair) (stored_at old.pairs.entries) (stored_at c.remove-known.new.self.entries)
+          ∙ put-after (characters key) None (Some pair) (stored_at old.pairs.entries) (stored_at c.remove-known.new.self.entries)
           (at_chars-updated old.pairs c.remove-known.new.self bytes utf8 None removed) k;
       places = ap₂ (λ v w. v ++ w ∷ [])
           (c.in_ok-earlier.ensures ∙ ap places_of (found ∙ sym (at_chars-sorted old.pairs bytes utf8))) size;
-      spans = ap (λ v. set v c.len-place.result (Some c.args.span)) c.in_ok-push.ensures.items ∙ set-end old.spans.items c.len-place.result (Some c.args.span) size;
+      spans = ap (λ v. set v c.len-place.result (Some c.args.span)) c.in_ok-push.ensures.items
+          ∙ set-end old.spans.items c.len-place.result (Some c.args.span) size;
       ordered = c.insert.ensures.ordered;
     }
 
@@ -49,7 +50,7 @@ returns-in_err-earlier-clause-same c =
     let utf8 = IsUtf8-string_bytes key in
     let removed = rw c.as_str.ensures.value at c.remove-known.ensures.updates in
     at-error c.from_residual-in_err-earlier.result (λ none. record {
-      stored = none-removed (characters key) (stored_at old.pairs.entries) (stored_at c.remove-known.new.self.entries)
+      stored = none-removed (characters key) None (stored_at old.pairs.entries) (stored_at c.remove-known.new.self.entries)
           (at_chars-updated old.pairs c.remove-known.new.self bytes utf8 None removed) none;
       spans = inr c.in_ok-push.ensures.items;
       closing = refl;
@@ -66,7 +67,7 @@ returns-in_err-insert-clause-same c =
     let same : c.insert.new.self.entries ≡ c.remove-known.new.self.entries = c.in_err-insert.ensures.err in
     at-error c.from_residual-in_err-insert.result (λ none. record {
       stored = λ j. ap (λ es. stored_at es j) same
-          ∙ none-removed (characters key) (stored_at old.pairs.entries) (stored_at c.remove-known.new.self.entries)
+          ∙ none-removed (characters key) None (stored_at old.pairs.entries) (stored_at c.remove-known.new.self.entries)
           (at_chars-updated old.pairs c.remove-known.new.self bytes utf8 None removed) none j;
       spans = inr c.in_ok-push.ensures.items;
       closing = refl;

@@ -1,22 +1,11 @@
-use Rattle.std.proofs.Common.{sym, subst, drop}
+use Rattle.std.proofs.Common.{sym, subst}
 use Rattle.std.specs.Str.{chars}
-use Rattle.properties_format.specs.Computed.Body.{held_groups_of}
-use Rattle.properties_text.specs.Encoding.{encoding_of}
 use Rattle.properties_editing.specs.Private.BodyKeys.{IsPlace}
-use Rattle.properties_editing.proofs.IndexAdded.{puts-value}
 use Rattle.properties_editing.proofs.IndexFound.{found-place, new-key}
 use Rattle.properties_editing.proofs.edit.index.changes.put_value.Goals as goal
 
 pub replace_value-requires-clause-placed : goal.replace_value-requires-clause-placed
-replace_value-requires-clause-placed c =
-    let gs = held_groups_of (encoding_of c.args.opened.encoding) (drop c.args.opened.start c.args.source.now.items) in
-    subst (IsPlace (chars c.args.key.now) gs) (sym c.in-Some.ensures) (found-place gs c.args.index.now c.requires.is_index (chars c.args.key.now))
+replace_value-requires-clause-placed c = subst (IsPlace _ _) (sym c.in-Some.ensures) (found-place c.requires.is_index (chars c.args.key.now))
 
 pub add_value-requires-clause-is_new : goal.add_value-requires-clause-is_new
-add_value-requires-clause-is_new c =
-    let gs = held_groups_of (encoding_of c.args.opened.encoding) (drop c.args.opened.start c.args.source.now.items) in
-    new-key gs c.args.index.now c.requires.is_index (chars c.args.key.now) (sym c.in-None.ensures)
-
-pub returns-in-None : goal.returns-in-None
-returns-in-None c =
-    puts-value c.args.opened (chars c.args.key.now) (chars c.args.value.now) c.args.source.now.items c.add_value.new.source.items c.args.index.now c.add_value.new.index c.add_value.result c.add_value.ensures
+add_value-requires-clause-is_new c = new-key c.requires.is_index (chars c.args.key.now) (sym c.in-None.ensures)

@@ -8,5 +8,5 @@ use Rattle.properties_editing.proofs.edit.index.changes.remove_pairs.Given as go
 abbrev pub invariant-loop-place : goal.invariant-loop-place
 invariant-loop-place l =
     let f = encoding_of l.fn.opened.encoding in
-    IsCutTo f (chars l.fn.key) (held_groups_of f (drop l.fn.opened.start l.fn.source.items)) (take l.fn.opened.start l.fn.source.items) l.fn.index.closing
+    IsCutTo f (chars l.fn.key) (held_groups_of f (drop l.fn.opened.start l.fn.source.items)) (take l.fn.opened.start l.fn.source.items)
     l.source.items l.index (drop l.place-index l.place-items ++ l.last ∷ [])
