@@ -38,7 +38,7 @@ use Rattle.properties_format.proofs.ReadBack.Lists.{items_of-pairs, pairs_in-ite
 -- ---- One reading.
 
 -- A value that meets it is the only one, if every value that meets it is equal to it.
-one : {A : Type 0} {Meets : A → Type 0} (value : A) → Meets value → ((other : A) → Meets other → other ≡ value) → HasOne Meets
+abbrev pub one : {A : Type 0} {Meets : A → Type 0} (value : A) → Meets value → ((other : A) → Meets other → other ≡ value) → HasOne Meets
 one value meets only = record { value = value; meets = meets; only = only }
 
 -- Bytes have exactly one list of pieces.

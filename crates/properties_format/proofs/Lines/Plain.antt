@@ -21,13 +21,13 @@ pub plain-right : (x y : List ℕ) → HoldsNoLineEnd (x ++ y) → HoldsNoLineEn
 plain-right [] y h = h
 plain-right (c ∷ x) y h = plain-right x y h.1
 
--- The last line of a text contains no line end.
+-- The last of a text's lines contains no line end.
+pub plain-last : (ls : List Ended) (last : List ℕ) → AreLines ls last → HoldsNoLineEnd last
+plain-last [] last h = h
+plain-last (l ∷ ls) last h = plain-last ls last h.2
+
 pub last-plain : (x : List ℕ) → HoldsNoLineEnd (lines_of x).last
-last-plain x = of_lines (lines_of x).ended (lines_of x).last (lines_of-meets x).are_lines
-  where
-    of_lines : (ls : List Ended) (last : List ℕ) → AreLines ls last → HoldsNoLineEnd last
-    of_lines [] last h = h
-    of_lines (l ∷ ls) last h = of_lines ls last h.2
+last-plain x = plain-last (lines_of x).ended (lines_of x).last (lines_of-meets x).are_lines
 
 -- A text without line ends doesn't begin with an LF.
 pub plain-no_lf : (x : List ℕ) → HoldsNoLineEnd x → begins_with_lf x ≡ false

@@ -58,6 +58,10 @@ fit-groups (g ∷ i ∷ gs) h =
       are_groups = ap (λ v. as_lines g ∷ v) m.are_groups;
     }
 
+-- They are the groups of their lines.
+pub groups-fit : (gs : List (List HeldLine)) → AreFit gs → IsGroups (as_lines (held_in gs)) end (as_groups gs)
+groups-fit gs h = subst (λ v. IsGroups v end (as_groups gs)) (sym (texts-in gs)) (fit-groups gs h)
+
 -- Lines of a text are those of the same bytes.
 lines-cut : (e : Encoding) (d : List ℕ) (lines : Lines) → is_editable e ≡ true → IsLines d lines → IsCut e d lines
 lines-cut e d lines ok h = subst (IsCut e d) (sym (lines_of-only d lines h ∙ sym (cut_of-lines e d ok))) (cut_of-meets e d)
@@ -74,7 +78,7 @@ lined-groups e gs ok h =
       cut = lines;
       is_cut = lines-cut e (groups_bytes gs) lines ok whole;
       are_held = rw h.held (held_of-meets e h.ended h.last);
-      grouped = subst (λ v. IsGroups v end (as_groups gs)) (sym (texts-in gs)) (fit-groups gs h.fit);
+      grouped = groups-fit gs h.fit;
     }
 
 -- ---- lines one after the other

@@ -1,5 +1,5 @@
 -- What a source with a value set contains, what stays unchanged, and the result of setting another value.
-use Rattle.std.proofs.Common.{◌≡◌, ℕ, true, List, [], ◌∷◌, ◌++◌, refl, ap, ap₂, sym, ◌∙◌, inl, inr, append_assoc, append-nil, subst, All, Bool}
+use Rattle.std.proofs.Common.{◌≡◌, ℕ, true, List, [], ◌∷◌, ◌++◌, refl, ap, ap₂, sym, ◌∙◌, inl, inr, append_assoc, subst, All, Bool}
 use Rattle.std.proofs.lemmas.List.{append_cancel_right}
 use Rattle.properties_format.specs.Text.{scalar}
 use Rattle.properties_format.specs.Encoding.{Encoding, InForce, byte_order_mark}
@@ -13,14 +13,15 @@ use Rattle.properties_format.specs.Computed.Body.{held_groups_of}
 use Rattle.properties_format.specs.Computed.Edited.{last_place}
 use Rattle.properties_format.specs.Computed.Parts.{unended_bytes}
 use Rattle.properties_format.specs.Computed.Valued.{front_of, between_of, valued_at, value_set}
-use Rattle.properties_format.proofs.Body.Groups.{held_groups_of-only, held-groups, held-body, groups_bytes-append}
-use Rattle.properties_format.proofs.Edited.Outcomes.{outcomes_in, givens}
-use Rattle.properties_format.proofs.Edited.Contents.{told-groups}
+use Rattle.properties_format.proofs.Body.Groups.{held_groups_of-only, held-body, groups_bytes-append}
+use Rattle.properties_format.proofs.Edited.Contents.{groups-come}
 use Rattle.properties_format.proofs.Edited.ByteOrderMarks.{source-whole}
 use Rattle.properties_format.proofs.Changed.Laws.{IsReadable, source_contents, IsReadTo, read-to, groups-contents}
 use Rattle.properties_format.proofs.Changed.Read.{readable, reads-after}
 use Rattle.properties_format.proofs.Changed.Maps.{map-edited}
 use Rattle.properties_format.proofs.Changed.Occur.{occur-after, occur-before, occur-all, occur-alone}
+use Rattle.properties_format.proofs.InTurn.Lines.{bytes-unended}
+use Rattle.properties_format.proofs.Valued.Lined.{last_ending-append}
 use Rattle.properties_format.proofs.Valued.Made.{group-decoded}
 use Rattle.properties_format.proofs.Valued.Fronts.{front_of-meets}
 use Rattle.properties_format.proofs.Valued.Groups.{IsNotAt, IsValued, body-valued}
@@ -44,12 +45,9 @@ value_set-contents e only source key value result r k v h =
     let f = byte_order_mark e source in
     let m = valued-body e only source key value result r.editable k v h in
     let t = m.contents_set (source_contents e source) (groups-contents e source h.groups r h.held) in
-    let same : outcomes_in f.encoding h.body ≡ givens t.0 =
-    ap (outcomes_in f.encoding) (sym (held-body f.encoding h.body m.groups r.editable m.held))
-    ∙ told-groups f.encoding m.groups (held-groups f.encoding h.body m.groups r.editable m.held)
-    ∙ t.2 in
     read-to e result (record { encoding = f.encoding; body = h.body }) (IsSetIn key value (source_contents e source)) r.editable
-    (value_set-in_force e only source key value result r.editable h) (t.0, t.1, same)
+    (value_set-in_force e only source key value result r.editable h)
+    (groups-come f.encoding h.body (IsSetIn key value (source_contents e source)) m.groups r.editable m.held t)
 
 -- The result of setting a value reads as the source with that value.
 pub set_value-reads : (e : Encoding) (only : Bool) (source key value result : List ℕ) → All scalar key → All scalar value → IsSetValueResult e only source key value (edited result)
@@ -118,23 +116,9 @@ value_set-keeps e only source key value result h = elim h.edited [
   )
 ]
 
--- Lines are their bytes up to the last line ending, followed by that ending.
-ended-whole : (h : HeldLine) (hs : List HeldLine) → group_bytes (h ∷ hs) ≡ unended_bytes (h ∷ hs) ++ ending_bytes (last_ending (h ∷ hs))
-ended-whole h [] = ap (λ v. h.bytes ++ v) (append-nil (ending_bytes h.ending))
-ended-whole h (i ∷ hs) =
-    ap (λ v. h.bytes ++ (ending_bytes h.ending ++ v)) (ended-whole i hs)
-    ∙ ap (λ v. h.bytes ++ v) (sym (append_assoc (ending_bytes h.ending) (unended_bytes (i ∷ hs)) (ending_bytes (last_ending (i ∷ hs)))))
-    ∙ sym (append_assoc h.bytes (ending_bytes h.ending ++ unended_bytes (i ∷ hs)) (ending_bytes (last_ending (i ∷ hs))))
-
 -- what follows the front of a pair, up to its last line ending
 abbrev after_front : HeldLine → List ℕ → List HeldLine → List ℕ
 after_front line tail more = unended_bytes (record { bytes = tail; text = line.text; ending = line.ending } ∷ more)
-
--- The line ending of the last of some lines.
-last-ending : (a : List HeldLine) (h : HeldLine) (b : List HeldLine) → last_ending (a ++ h ∷ b) ≡ last_ending (h ∷ b)
-last-ending [] h b = refl
-last-ending (i ∷ []) h b = refl
-last-ending (i ∷ j ∷ a) h b = last-ending (j ∷ a) h b
 
 -- The line ending doesn't depend on the bytes.
 same-ending : (line : HeldLine) (tail : List ℕ) (more : List HeldLine)
@@ -147,8 +131,8 @@ pair-bytes : (e : Encoding) (group : List HeldLine) (between front : List ℕ) (
     → group_bytes group ≡ front ++ (after_front f.line f.tail f.more ++ ending_bytes (last_ending group))
 pair-bytes e group between front f =
     front-bytes e group between front f
-    ∙ ap (λ v. front ++ v) (ended-whole (record { bytes = f.tail; text = f.line.text; ending = f.line.ending }) f.more)
-    ∙ ap (λ o. front ++ (after_front f.line f.tail f.more ++ ending_bytes o)) (same-ending f.line f.tail f.more ∙ sym (ap last_ending f.division ∙ last-ending f.kept f.line f.more))
+    ∙ ap (λ v. front ++ v) (bytes-unended (record { bytes = f.tail; text = f.line.text; ending = f.line.ending } ∷ f.more))
+    ∙ ap (λ o. front ++ (after_front f.line f.tail f.more ++ ending_bytes o)) (same-ending f.line f.tail f.more ∙ sym (ap last_ending f.division ∙ last_ending-append f.kept (f.line ∷ f.more) (λ q. cc)))
 
 -- The front of a pair comes before its last line ending.
 pub front-unended : (e : Encoding) (group : List HeldLine) (between front : List ℕ) (f : IsFrontOf e group between front)
@@ -162,7 +146,7 @@ front-unended e (i ∷ is) between front f =
     let by = ending_bytes (last_ending (i ∷ is)) in
     let after = after_front f.line f.tail f.more in
     append_cancel_right (unended_bytes (i ∷ is)) (front ++ after) by
-    (sym (ended-whole i is) ∙ pair-bytes e (i ∷ is) between front f ∙ sym (append_assoc front after by))
+    (sym (bytes-unended (i ∷ is)) ∙ pair-bytes e (i ∷ is) between front f ∙ sym (append_assoc front after by))
 
 -- A source that contains such a pair, divided around the pair's value.
 around-source : (e : Encoding) (source : List ℕ) (before : List (List HeldLine)) (group : List HeldLine) (after : List (List HeldLine)) (between front : List ℕ)
