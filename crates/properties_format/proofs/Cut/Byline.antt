@@ -1,7 +1,8 @@
 -- Splitting commutes with decoding: the lines that are found in undecoded bytes and decoded one by one are the lines of
 -- the decoded text.
-use Rattle.std.proofs.Common.{◌≡◌, ℕ, ◌<◌, ◌⊎◌, ◌==◌, eqb-true, true, List, [], ◌∷◌, ◌++◌, refl, ap, ap₂, sym, ◌∙◌, subst, inl, inr, lit<, append_assoc}
-use Rattle.std.proofs.lemmas.Bool.{cases_Bool, or_cases}
+use Rattle.std.proofs.Common.{◌≡◌, ℕ, ◌<◌, ◌⊎◌, true, List, [], ◌∷◌, ◌++◌, refl, ap, ap₂, sym, ◌∙◌, subst, inl, inr, lit<, append_assoc, arith}
+use Rattle.std.proofs.lemmas.Bool.{cases_Bool}
+use Rattle.std.proofs.lemmas.Bool.Decides.{nat_tests}
 use Rattle.properties_format.specs.Text.{line_feed, carriage_return, is_line_end, LineEnding, lf, cr, crlf, line_ending_text}
 use Rattle.properties_format.specs.Lines.{Ended, Lines, put_together, HoldsNoLineEnd, BeginsWithNoLoneLf, AreLines, IsLines}
 use Rattle.properties_format.specs.Pieces.{characters}
@@ -52,10 +53,7 @@ first-end (c ∷ x) = elim (cases_Bool (is_line_end c)) [
 
 -- A line end is an ASCII character.
 pub end-ascii : (c : ℕ) → is_line_end c ≡ true → c < 0x80
-end-ascii c h = elim (or_cases (c == line_feed) (c == carriage_return) h) [
-  | inl e ↦ rw (eqb-true c line_feed e) (lit< tt)
-  | inr e ↦ rw (eqb-true c carriage_return e) (lit< tt)
-]
+end-ascii c h = grind (arith, nat_tests)
 
 -- Bytes without a line end unit decode to a text without a line end.
 pub no_end-decoded : (e : Encoding) (d : List ℕ) → HoldsNoLineEndUnit e d → HoldsNoLineEnd (decoded_line e d)

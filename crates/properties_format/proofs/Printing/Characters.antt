@@ -2,9 +2,10 @@
 use Rattle.std.proofs.Common.{◌≡◌, ℕ, ◌+◌, ◌/◌, ◌%◌, ◌<◌, ◌==◌, ◌||◌, ◌&&◌, not, Bool, true, false, cond, List, [], ◌∷◌, ◌++◌, refl, ap, sym, ◌∙◌, inl, inr, append_assoc, arith, lit<, lt-ltb, eqb-true}
 use Rattle.std.specs.Prelude.{Some, is_some, unwrap_or, nat_lt}
 use Rattle.std.specs.Char.{digit_char}
-use Rattle.std.proofs.lemmas.Bool.{cond_both, or_cases, and_from, and_parts}
+use Rattle.std.proofs.lemmas.Bool.{cond_both, and_from, and_parts}
 use Rattle.std.proofs.lemmas.Str.{encode_ascii}
-use Rattle.properties_format.specs.Text.{scalar, line_ending_text, LineEnding, lf, cr, crlf, is_blank, space, backslash, is_separator, is_comment_sign}
+use Rattle.std.proofs.lemmas.Bool.Decides.{nat_tests}
+use Rattle.properties_format.specs.Text.{scalar, line_ending_text, LineEnding, lf, cr, crlf, is_blank, space, backslash, is_separator}
 use Rattle.properties_format.specs.Encoding.{Encoding, windows_1252, utf_8, utf_16le, utf_16be, encoded, one_byte}
 use Rattle.properties_format.specs.Entries.{Content, comment, pair}
 use Rattle.properties_format.specs.Split.{AreBlanks}
@@ -134,16 +135,7 @@ is-ascii c k h e = rw (eqb-true c k e) h
 
 -- A character that is escaped with a backslash is ASCII.
 pub special-ascii : (c : ℕ) → is_special c ≡ true → c < 0x80
-special-ascii c h = elim (or_cases (c == backslash) (c == space || (is_separator c || is_comment_sign c)) h) [
-  | inl e ↦ is-ascii c backslash (lit< tt) e
-  | inr h ↦ elim (or_cases (c == space) (is_separator c || is_comment_sign c) h) [
-    | inl e ↦ is-ascii c space (lit< tt) e
-    | inr h ↦ elim (or_cases (is_separator c) (is_comment_sign c) h) [
-      | inl h ↦ elim (or_cases (c == 0x3d) (c == 0x3a) h) [ inl e ↦ is-ascii c 0x3d (lit< tt) e | inr e ↦ is-ascii c 0x3a (lit< tt) e ]
-      | inr h ↦ elim (or_cases (c == 0x23) (c == 0x21) h) [ inl e ↦ is-ascii c 0x23 (lit< tt) e | inr e ↦ is-ascii c 0x21 (lit< tt) e ]
-    ]
-  ]
-]
+special-ascii c h = grind (arith, nat_tests)
 
 -- A character that may be written unescaped can be encoded.
 may_be_unescaped-encodable : (e : Encoding) (only : Bool) (c : ℕ) → may_be_unescaped e only c ≡ true → is_some (encoded e c) ≡ true
@@ -209,14 +201,11 @@ printed_key-encodable e only first key =
 
 -- a blank is an ASCII character
 pub blank-ascii : (c : ℕ) → is_blank c ≡ true → c < 0x80
-blank-ascii c h = elim (or_cases (c == 0x20) (c == 0x09 || c == 0x0c) h) [
-  | inl e ↦ is-ascii c 0x20 (lit< tt) e
-  | inr h ↦ elim (or_cases (c == 0x09) (c == 0x0c) h) [ inl e ↦ is-ascii c 0x09 (lit< tt) e | inr e ↦ is-ascii c 0x0c (lit< tt) e ]
-]
+blank-ascii c h = grind (arith, nat_tests)
 
 -- A separator is an ASCII character.
 pub separator-ascii : (c : ℕ) → is_separator c ≡ true → c < 0x80
-separator-ascii c h = elim (or_cases (c == 0x3d) (c == 0x3a) h) [ inl e ↦ is-ascii c 0x3d (lit< tt) e | inr e ↦ is-ascii c 0x3a (lit< tt) e ]
+separator-ascii c h = grind (arith, nat_tests)
 
 -- blanks are an ASCII text
 pub blanks-ascii : (x : List ℕ) → AreBlanks x → AreAscii x

@@ -1,7 +1,8 @@
 -- A printed pair is a line of its own, and is read as that pair.
-use Rattle.std.proofs.Common.{◌≡◌, ◌≢◌, ℕ, ◌==◌, ◌&&◌, ◌||◌, Bool, true, false, List, [], ◌∷◌, ◌++◌, map, refl, ap, sym, ◌∙◌, inl, inr, append_assoc, eqb-true, ap₂}
+use Rattle.std.proofs.Common.{◌≡◌, ◌≢◌, ℕ, ◌==◌, ◌&&◌, Bool, true, false, List, [], ◌∷◌, ◌++◌, map, refl, ap, sym, ◌∙◌, inl, inr, append_assoc, ap₂, arith}
 use Rattle.std.specs.List.{AllByRecursion}
-use Rattle.std.proofs.lemmas.Bool.{cases_Bool, cond-true, cond-false, or_cases}
+use Rattle.std.proofs.lemmas.Bool.{cases_Bool, cond-true, cond-false}
+use Rattle.std.proofs.lemmas.Bool.Decides.{nat_tests}
 use Rattle.properties_format.specs.Text.{scalar, backslash, is_blank, is_blanks, is_line_end, is_separator}
 use Rattle.properties_format.specs.Encoding.{Encoding}
 use Rattle.properties_format.specs.Lines.{HoldsNoLineEnd}
@@ -56,14 +57,11 @@ key-printed e only first key h = elim (cases_Bool (first && is_bom_like e only k
 
 -- A separator isn't a backslash or a line end.
 separator-other : (c : ℕ) → is_separator c ≡ true → ((c == backslash) ≡ false) × (is_line_end c ≡ false)
-separator-other c h = elim (or_cases (c == 0x3d) (c == 0x3a) h) [ inl e ↦ rw (eqb-true c 0x3d e) (refl, refl) | inr e ↦ rw (eqb-true c 0x3a e) (refl, refl) ]
+separator-other c h = (grind (arith, nat_tests), grind (arith, nat_tests))
 
 -- A blank isn't a line end.
 blank-plain : (c : ℕ) → is_blank c ≡ true → is_line_end c ≡ false
-blank-plain c h = elim (or_cases (c == 0x20) (c == 0x09 || c == 0x0c) h) [
-  | inl e ↦ rw (eqb-true c 0x20 e) refl
-  | inr h ↦ elim (or_cases (c == 0x09) (c == 0x0c) h) [ inl e ↦ rw (eqb-true c 0x09 e) refl | inr e ↦ rw (eqb-true c 0x0c e) refl ]
-]
+blank-plain c h = grind (arith, nat_tests)
 
 -- A quiet text: it contains no backslash and no line end.
 pub record IsQuiet (x : List ℕ) : Type 0 where

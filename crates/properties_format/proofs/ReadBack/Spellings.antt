@@ -1,7 +1,8 @@
 -- What is printed for a character is a spelling of that character.
-use Rattle.std.proofs.Common.{◌≡◌, ◌⊎◌, ℕ, ◌<◌, ◌≤◌, ◌==◌, ◌||◌, true, false, cond, List, [], ◌∷◌, ◌++◌, refl, sym, ◌∙◌, inl, inr, arith, lit<, eqb-true, ltb-true, ltb-false, le-ltb, subst, ap₂}
+use Rattle.std.proofs.Common.{◌≡◌, ◌⊎◌, ℕ, ◌<◌, ◌≤◌, ◌==◌, ◌||◌, true, false, cond, List, [], ◌∷◌, ◌++◌, refl, sym, ◌∙◌, inl, inr, arith, eqb-true, ltb-true, ltb-false, le-ltb, subst, ap₂}
 use Rattle.std.specs.Prelude.{Bool, nat_lt, nat_le}
-use Rattle.std.proofs.lemmas.Bool.{cases_Bool, cond-true, cond-false, and_left, and_right, or_from, or_cases, or_parts, lt-leb}
+use Rattle.std.proofs.lemmas.Bool.{cases_Bool, cond-true, cond-false, and_left, and_right, or_from, or_cases, or_parts, lt-leb, cond_both}
+use Rattle.std.proofs.lemmas.Bool.Decides.{nat_tests}
 use Rattle.properties_format.specs.Text.{scalar, tab, line_feed, form_feed, carriage_return, space, backslash, is_blank, is_line_end, is_comment_sign, is_separator}
 use Rattle.properties_format.specs.Encoding.{Encoding}
 use Rattle.properties_format.specs.Escapes.{letter_u, escaped_character, are_hexadecimal, code_unit, is_high, is_low, is_surrogate, pair_character, Spelling, itself, escaped, unicode, surrogates, last, spelling_text, spelling_character, IsSpelling}
@@ -9,7 +10,7 @@ use Rattle.properties_format.specs.Printing.{in_key_or_value, in_comment, unit_e
 use Rattle.properties_format.specs.Printing.{printed_character}
 use Rattle.properties_format.proofs.Escapes.Digits.{unit_digits, unit_digits-hexadecimal, unit_digits-unit, high_surrogate-high, low_surrogate-low, pair_character-surrogates}
 use Rattle.properties_format.proofs.Escapes.Trimmed.{KeepsBlanks, KeepsBlanks-itself, KeepsBlanks-escaped, KeepsBlanks-unicode, KeepsBlanks-surrogates}
-use Rattle.properties_format.proofs.Printing.Characters.{may_be_unescaped-ascii, below-scalar}
+use Rattle.properties_format.proofs.Printing.Characters.{may_be_unescaped-ascii, below-scalar, blank-ascii}
 
 -- the spelling may be used in a key or a value
 abbrev pub IsSafe : Spelling → Type 0
@@ -99,34 +100,23 @@ same-plainly x y c e s = record { spelling = s.spelling; text = e ∙ s.text; ch
 -- `\u` escapes are a safe spelling of a scalar value.
 pub unicode-printed : (c : ℕ) → scalar c → IsSafelyPrinted (unicode_escape c) c
 unicode-printed c h =
-    let whole = unit_escape c in
-    let two = unit_escape (high_surrogate c) ++ unit_escape (low_surrogate c) in
-    elim (cases_Bool (nat_lt c 0x1_0000)) [
-      | inl k ↦ same-printed (unicode_escape c) whole c (cond-true (nat_lt c 0x1_0000) whole two k) (unit-printed c h (ltb-true c 0x1_0000 k))
-      | inr k ↦ same-printed (unicode_escape c) two c (cond-false (nat_lt c 0x1_0000) whole two k) (pair-printed c h (ltb-false c 0x1_0000 k))
-    ]
+    cond_both (nat_lt c 0x1_0000) (unit_escape c) (unit_escape (high_surrogate c) ++ unit_escape (low_surrogate c)) (λ x. IsSafelyPrinted x c)
+    (λ k. unit-printed c h (ltb-true c 0x1_0000 k)) (λ k. pair-printed c h (ltb-false c 0x1_0000 k))
 
 -- `\u` escapes are a plain spelling of a scalar value that isn't a blank.
 pub unicode-plainly : (c : ℕ) → scalar c → is_blank c ≡ false → IsPlainlyPrinted (unicode_escape c) c
 unicode-plainly c h b =
-    let whole = unit_escape c in
-    let two = unit_escape (high_surrogate c) ++ unit_escape (low_surrogate c) in
-    elim (cases_Bool (nat_lt c 0x1_0000)) [
-      | inl k ↦
-          let s = unit-printed c h (ltb-true c 0x1_0000 k) in
-          same-plainly (unicode_escape c) whole c (cond-true (nat_lt c 0x1_0000) whole two k)
-          (record { spelling = unicode (unit_digits c); text = refl; character = s.character; safe = inl s.safe; keeps = unit-keeps c (ltb-true c 0x1_0000 k) b })
-      | inr k ↦
-          let s = pair-printed c h (ltb-false c 0x1_0000 k) in
-          same-plainly (unicode_escape c) two c (cond-false (nat_lt c 0x1_0000) whole two k)
-          (record {
-            spelling = surrogates (unit_digits (high_surrogate c)) (unit_digits (low_surrogate c));
-            text = refl;
-            character = s.character;
-            safe = inl s.safe;
-            keeps = pair-keeps c h (ltb-false c 0x1_0000 k) b;
-          })
-    ]
+    cond_both (nat_lt c 0x1_0000) (unit_escape c) (unit_escape (high_surrogate c) ++ unit_escape (low_surrogate c)) (λ x. IsPlainlyPrinted x c)
+    (λ k. let s = unit-printed c h (ltb-true c 0x1_0000 k) in
+    record { spelling = unicode (unit_digits c); text = refl; character = s.character; safe = inl s.safe; keeps = unit-keeps c (ltb-true c 0x1_0000 k) b })
+    (λ k. let s = pair-printed c h (ltb-false c 0x1_0000 k) in
+    record {
+      spelling = surrogates (unit_digits (high_surrogate c)) (unit_digits (low_surrogate c));
+      text = refl;
+      character = s.character;
+      safe = inl s.safe;
+      keeps = pair-keeps c h (ltb-false c 0x1_0000 k) b;
+    })
 
 -- ---- unescaped characters, and escapes of a backslash and one character
 
@@ -140,22 +130,7 @@ at-character c d x e s = rw (eqb-true c d e) s
 
 -- A backslash and a special character are a safe spelling of that character.
 pub special-printed : (c : ℕ) → is_special c ≡ true → IsSafelyPrinted (backslash ∷ c ∷ []) c
-special-printed c h = elim (or_cases (c == backslash) (c == space || (is_separator c || is_comment_sign c)) h) [
-  | inl e ↦ at-character c backslash (λ v. backslash ∷ v ∷ []) e (escape-printed backslash backslash refl refl refl)
-  | inr h ↦ elim (or_cases (c == space) (is_separator c || is_comment_sign c) h) [
-    | inl e ↦ at-character c space (λ v. backslash ∷ v ∷ []) e (escape-printed space space refl refl refl)
-    | inr h ↦ elim (or_cases (is_separator c) (is_comment_sign c) h) [
-      | inl h ↦ elim (or_cases (c == 0x3d) (c == 0x3a) h) [
-        | inl e ↦ at-character c 0x3d (λ v. backslash ∷ v ∷ []) e (escape-printed 0x3d 0x3d refl refl refl)
-        | inr e ↦ at-character c 0x3a (λ v. backslash ∷ v ∷ []) e (escape-printed 0x3a 0x3a refl refl refl)
-      ]
-      | inr h ↦ elim (or_cases (c == 0x23) (c == 0x21) h) [
-        | inl e ↦ at-character c 0x23 (λ v. backslash ∷ v ∷ []) e (escape-printed 0x23 0x23 refl refl refl)
-        | inr e ↦ at-character c 0x21 (λ v. backslash ∷ v ∷ []) e (escape-printed 0x21 0x21 refl refl refl)
-      ]
-    ]
-  ]
-]
+special-printed c h = escape-printed c c (grind (arith, nat_tests)) (grind (arith, nat_tests)) (grind (arith, nat_tests))
 
 -- A backslash and a letter are a safe spelling of the character that has that letter escape.
 letter-printed : (c : ℕ) → has_letter c ≡ true → IsSafelyPrinted (letter_escape c) c
@@ -235,13 +210,7 @@ at-character_plainly c d x e s = rw (eqb-true c d e) s
 
 -- A blank may be written unescaped, because it is ASCII.
 blank-stands : (e : Encoding) (only : Bool) (c : ℕ) → is_blank c ≡ true → may_be_unescaped e only c ≡ true
-blank-stands e only c h = elim (or_cases (c == space) (c == tab || c == form_feed) h) [
-  | inl k ↦ may_be_unescaped-ascii e only c (rw (eqb-true c space k) (lit< tt))
-  | inr h ↦ elim (or_cases (c == tab) (c == form_feed) h) [
-    | inl k ↦ may_be_unescaped-ascii e only c (rw (eqb-true c tab k) (lit< tt))
-    | inr k ↦ may_be_unescaped-ascii e only c (rw (eqb-true c form_feed k) (lit< tt))
-  ]
-]
+blank-stands e only c h = may_be_unescaped-ascii e only c (blank-ascii c h)
 
 -- A character that may not be written unescaped isn't a blank.
 escaped-full : (e : Encoding) (only : Bool) (c : ℕ) → may_be_unescaped e only c ≡ false → is_blank c ≡ false

@@ -1,6 +1,7 @@
 -- The tests of settings pass for exactly the good settings.
-use Rattle.std.proofs.Common.{◌≡◌, ℕ, ◌==◌, ◌&&◌, ◌||◌, not, true, false, List, [], ◌∷◌, ◌++◌, refl, ap, sym, ◌∙◌, inl, inr}
-use Rattle.std.proofs.lemmas.Bool.{cases_Bool, cond-true, cond-false, and_parts, and_from, or_cases, or_left, or_right, not-true, not_from_false, eqb-true}
+use Rattle.std.proofs.Common.{◌≡◌, ℕ, ◌&&◌, not, true, false, List, [], ◌∷◌, ◌++◌, refl, ap, sym, ◌∙◌, inl, inr, arith}
+use Rattle.std.proofs.lemmas.Bool.{cases_Bool, cond-true, cond-false, and_parts, and_from, or_cases, or_left, or_right, not-true, not_from_false}
+use Rattle.std.proofs.lemmas.Bool.Decides.{nat_tests}
 use Rattle.properties_format.specs.Text.{is_blank, is_blanks, is_line_end, is_comment_sign, is_separator}
 use Rattle.properties_format.specs.Lines.{HoldsNoLineEnd}
 use Rattle.properties_format.specs.Split.{AreBlanks}
@@ -35,10 +36,7 @@ holds_no_line_end-from (c ∷ x) h = and_from (not (is_line_end c)) (holds_no_li
 
 -- No blank is a comment sign.
 pub blank_not_sign : (c : ℕ) → is_blank c ≡ true → is_comment_sign c ≡ false
-blank_not_sign c h = elim (or_cases (c == 0x20) (c == 0x09 || c == 0x0c) h) [
-  | inl e ↦ ap is_comment_sign (eqb-true c 0x20 e)
-  | inr k ↦ elim (or_cases (c == 0x09) (c == 0x0c) k) [ inl e ↦ ap is_comment_sign (eqb-true c 0x09 e) | inr e ↦ ap is_comment_sign (eqb-true c 0x0c e) ]
-]
+blank_not_sign c h = grind (arith, nat_tests)
 
 -- ---- prefixes
 

@@ -1,6 +1,7 @@
 -- Where a key ends: the units of a key, and the computation that divides it from the rest.
-use Rattle.std.proofs.Common.{◌≡◌, ℕ, ◌==◌, Bool, true, false, List, [], ◌∷◌, ◌++◌, refl, ap, sym, ◌∙◌, inl, inr, append_assoc, append-nil}
-use Rattle.std.proofs.lemmas.Bool.{cases_Bool, both_ways, eqb-true}
+use Rattle.std.proofs.Common.{◌≡◌, ℕ, ◌==◌, Bool, true, false, List, [], ◌∷◌, ◌++◌, refl, ap, sym, ◌∙◌, inl, inr, append_assoc, append-nil, arith}
+use Rattle.std.proofs.lemmas.Bool.{cases_Bool, eqb-true}
+use Rattle.std.proofs.lemmas.Bool.Decides.{nat_tests}
 use Rattle.properties_format.specs.Text.{backslash, is_blank, is_separator}
 use Rattle.properties_format.specs.Split.{KeyUnit, plain, escaped, last, unit_text, units_before, IsUnit, AreUnits, IsKey}
 use Rattle.properties_format.specs.Computed.Split.{Cut, with_front, ends_key, cut_key}
@@ -25,17 +26,11 @@ ends_key-plain c b s = rw b s
 
 -- A character that doesn't end a key is neither a blank nor a separator.
 plain-parts : (c : ℕ) → ends_key c ≡ false → (is_blank c ≡ false) × (is_separator c ≡ false)
-plain-parts c e = elim (cases_Bool (is_blank c)) [
-  | inl b ↦ absurd (both_ways (ends_key c) e (rw b refl))
-  | inr b ↦ (b, rw b at e)
-]
+plain-parts c e = (grind (arith, nat_tests), grind (arith, nat_tests))
 
 -- A character that ends a key isn't a backslash.
 pub ends_key-backslash : (c : ℕ) → ends_key c ≡ true → (c == backslash) ≡ false
-ends_key-backslash c e = elim (cases_Bool (c == backslash)) [
-  | inl b ↦ absurd (both_ways (ends_key c) (rw (eqb-true c backslash b) refl) e)
-  | inr b ↦ b
-]
+ends_key-backslash c e = grind (arith, nat_tests)
 
 -- If the key ends at once, it is empty.
 pub cut_key-ends : (rest : List ℕ) → ends_here rest ≡ true → cut_key rest false ≡ record { key = []; rest = rest }

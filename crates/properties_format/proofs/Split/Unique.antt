@@ -1,6 +1,7 @@
 -- Each line is blank, a comment or a pair, in exactly one way.
 use Rattle.std.proofs.Common.{◌≡◌, ◌≢◌, ℕ, true, false, List, [], ◌∷◌, ◌++◌, refl, ap, sym, ◌∙◌, inl, inr, append_assoc, append-nil, arith}
 use Rattle.std.proofs.lemmas.Bool.{cases_Bool, both_ways}
+use Rattle.std.proofs.lemmas.Bool.Decides.{nat_tests}
 use Rattle.properties_format.specs.Text.{is_blank, is_comment_sign, is_separator, without_leading_blanks}
 use Rattle.properties_format.specs.Split.{Logical, blank, comment, pair, AreBlanks, begins, IsKey, IsBetween, nothing, blanks, separator, IsSplit}
 use Rattle.properties_format.specs.Computed.Split.{Cut, trimmed, cut_key, past_separator, pair_of, split_full, split_of, ends_key}
@@ -11,10 +12,7 @@ use Rattle.properties_format.proofs.Split.Keys.{ends_here, cut_key-only, IsCut, 
 
 -- A separator isn't a blank.
 pub separator-full : (c : ℕ) → is_separator c ≡ true → is_blank c ≡ false
-separator-full c e = elim (cases_Bool (is_blank c)) [
-  | inl b ↦ absurd (grind (arith))
-  | inr b ↦ b
-]
+separator-full c e = grind (arith, nat_tests)
 
 -- a blank ends a key
 ends_key-blank : (c : ℕ) → is_blank c ≡ true → ends_key c ≡ true
@@ -125,10 +123,7 @@ split_of-meets line = let p : IsPast line (without_leading_blanks line) =
 
 -- A comment sign isn't a blank.
 pub sign-full : (c : ℕ) → is_comment_sign c ≡ true → is_blank c ≡ false
-sign-full c e = elim (cases_Bool (is_blank c)) [
-  | inl b ↦ absurd (grind (arith))
-  | inr b ↦ b
-]
+sign-full c e = grind (arith, nat_tests)
 
 -- a line of blanks
 pub split_of-blank : (line : List ℕ) → AreBlanks line → split_of line ≡ blank

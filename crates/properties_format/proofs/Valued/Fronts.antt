@@ -1,10 +1,11 @@
 -- The front of a pair: the computed front is the front of its group, and the only one.
-use Rattle.std.proofs.Common.{◌≡◌, ◌≢◌, ◌⊎◌, ◌<◌, ◌≤◌, ℕ, ◌==◌, ◌||◌, not, Bool, true, false, List, [], ◌∷◌, ◌++◌}
-use Rattle.std.proofs.Common.{None, length, drop, refl, ap, ap₂, sym, ◌∙◌, inl, inr, arith, append_assoc, append-nil, length-append, lit<, eqb-true, subst}
+use Rattle.std.proofs.Common.{◌≡◌, ◌≢◌, ◌⊎◌, ◌<◌, ◌≤◌, ℕ, not, Bool, true, false, List, [], ◌∷◌, ◌++◌, arith}
+use Rattle.std.proofs.Common.{None, length, drop, refl, ap, ap₂, sym, ◌∙◌, inl, inr, arith, append_assoc, append-nil, length-append, subst}
 use Rattle.std.specs.Prelude.{nat_le, if◌then◌else◌}
 use Rattle.std.proofs.Math.Seq.{drop-append_seam}
-use Rattle.std.proofs.lemmas.Bool.{cases_Bool, or_cases, not-true}
+use Rattle.std.proofs.lemmas.Bool.{cases_Bool, not-true}
 use Rattle.std.proofs.lemmas.List.{append_cancel_left}
+use Rattle.std.proofs.lemmas.Bool.Decides.{nat_tests}
 use Rattle.properties_format.specs.Text.{backslash, is_blank, is_separator, without_leading_blanks}
 use Rattle.properties_format.specs.Encoding.{Encoding}
 use Rattle.properties_format.specs.Cut.{IsDecodedLine}
@@ -163,17 +164,14 @@ ends-right kind (c ∷ []) [] h = absurd (h refl)
 ends-right kind (c ∷ []) (d ∷ p) h = refl
 ends-right kind (c ∷ b ∷ a) p h = ends-right kind (b ∷ a) p h
 
+-- If a text may end, so may its second part.
+pub may-later : (a q p v : List ℕ) → q ≢ [] → p ≡ a ++ q → MayEnd p v → MayEnd q v
+may-later a q p v more t (inl z) = inl (sym (ends-right ends_key a q more) ∙ ap (ends ends_key) (sym t) ∙ z)
+may-later a q p v more t (inr z) = inr z
+
 -- A character that ends a key is an ASCII character.
 pub ends_key-ascii : (c : ℕ) → ends_key c ≡ true → c < 0x80
-ends_key-ascii c h = elim (cases_Bool (is_blank c)) [
-  | inl b ↦ elim (or_cases (c == 0x20) (c == 0x09 || c == 0x0c) b) [
-    | inl e ↦ rw (eqb-true c 0x20 e) (lit< tt)
-    | inr e ↦ elim (or_cases (c == 0x09) (c == 0x0c) e) [ inl f ↦ rw (eqb-true c 0x09 f) (lit< tt) | inr f ↦ rw (eqb-true c 0x0c f) (lit< tt) ]
-  ]
-  | inr b ↦
-      let s : is_separator c ≡ true = rw b at h in
-      elim (or_cases (c == 0x3d) (c == 0x3a) s) [ inl e ↦ rw (eqb-true c 0x3d e) (lit< tt) | inr e ↦ rw (eqb-true c 0x3a e) (lit< tt) ]
-]
+ends_key-ascii c h = grind (arith, nat_tests)
 
 -- ---- the head of a line
 
@@ -225,12 +223,7 @@ may-closed y q r s (inr k) = ap is_open (sym (s ∙ ap (λ v. q ++ v) k ∙ appe
 -- The size of the head.
 pub head-size : (first : Bool) (x b q r : List ℕ) → x ≡ b ++ (q ++ r) → without_indent first x ≡ q ++ r → head_size first x q ≡ length (b ++ q)
 head-size first x b q r s t =
-    let a : length x ≡ length (b ++ (q ++ r)) = ap length s in
-    let c : length (without_indent first x) ≡ length (q ++ r) = ap length t in
-    let d = length-append b (q ++ r) in
-    let f = length-append q r in
-    let g = length-append b q in
-    omega arith
+    omega (arith, ap length s, ap length t, length-append b (q ++ r), length-append q r, length-append b q)
 
 -- The computed head of a line.
 head-meets : (e : Encoding) (first : Bool) (line : HeldLine) (q r : List ℕ) → is_editable e ≡ true → decoded_line e line.bytes ≡ line.text
@@ -351,17 +344,13 @@ front_in-meets e first (h ∷ hs) p v ok d s k some = elim (cases_Bool (nat_le (
       let l : length p ≡ length a = ap length (m.1 ∙ ap (λ w. a ++ w) q ∙ append-nil a) in
       absurd (grind (arith)) in
       subst (HasFront e first (h ∷ hs) p) (sym t)
-      (after-line e first h hs p m.0 (front_in e false m.0 hs) m.1 (front_in-meets e false hs m.0 v ok d.1 m.2 (may-later a m.0 more m.1 k) more))
+      (after-line e first h hs p m.0 (front_in e false m.0 hs) m.1 (front_in-meets e false hs m.0 v ok d.1 m.2 (may-later a m.0 p v more m.1 k) more))
 ]
   where
     may-here : (r : List ℕ) → v ≡ r ++ joined_by false hs → MayEnd p v → MayEnd p r
     may-here r t (inl q) = inl q
     may-here [] t (inr q) = inr refl
     may-here (c ∷ r) t (inr q) = absurd (cc)
-
-    may-later : (a q : List ℕ) → q ≢ [] → p ≡ a ++ q → MayEnd p v → MayEnd q v
-    may-later a q more t (inl z) = inl (sym (ends-right ends_key a q more) ∙ ap (ends ends_key) (sym t) ∙ z)
-    may-later a q more t (inr z) = inr z
 
 -- ---- there is only one front
 
@@ -470,13 +459,9 @@ front_in-only e first (i ∷ kept) line more p v q head ok d s k h u =
     append_assoc i.bytes (ending_bytes i.ending ++ group_bytes kept) head
     ∙ ap (λ w. i.bytes ++ w) (append_assoc (ending_bytes i.ending) (group_bytes kept) head)
     ∙ ap (λ w. i.bytes ++ (ending_bytes i.ending ++ w))
-    (front_in-only e false kept line more j v q head ok d.1 rest (may-later j some t k) (subst (λ b. IsHead e b line q head) (sym (after-later kept)) h) refl)
+    (front_in-only e false kept line more j v q head ok d.1 rest (may-later a j p v some t k) (subst (λ b. IsHead e b line q head) (sym (after-later kept)) h) refl)
     ∙ ap (λ w. i.bytes ++ (ending_bytes i.ending ++ front_in e false w (kept ++ line ∷ more))) (sym (ap (drop (length a)) t ∙ drop-append_seam a j))
     ∙ sym (front-later e first p i (kept ++ line ∷ more) n)
-  where
-    may-later : (w : List ℕ) → w ≢ [] → p ≡ added_by first i.text ++ w → MayEnd p v → MayEnd w v
-    may-later w f t (inl z) = inl (sym (ends-right ends_key (added_by first i.text) w f) ∙ ap (ends ends_key) (sym t) ∙ z)
-    may-later w f t (inr z) = inr z
 
 -- ---- the front of a pair
 

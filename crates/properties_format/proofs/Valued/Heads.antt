@@ -111,10 +111,7 @@ ascii-among e u c v ok l =
 
 -- A text isn't equal to itself with more after it.
 no-more : (x : List ℕ) (c : ℕ) (y : List ℕ) → x ≡ x ++ c ∷ y → ⊥
-no-more x c y h =
-    let l : length x ≡ length (x ++ c ∷ y) = ap length h in
-    let m = length-append x (c ∷ y) in
-    absurd (omega arith)
+no-more x c y h = absurd (omega (arith, ap length h, length-append x (c ∷ y)))
 
 -- Two fronts of the same bytes, each before the same character, with the same text.
 same-fronts : (e : Encoding) (u v : List ℕ) (c : ℕ) (y z : List ℕ) → is_editable e ≡ true → c < 0x80 → u ++ c ∷ y ≡ v ++ c ∷ z

@@ -1,9 +1,10 @@
 -- What is printed for a value that is set in place: it means the value, and can follow what separates the key from the
 -- value.
-use Rattle.std.proofs.Common.{◌≡◌, ◌⊎◌, ◌<◌, ℕ, ◌==◌, ◌&&◌, ◌||◌, Bool, true, false, List, [], ◌∷◌, ◌++◌, map, refl, ap, ap₂, sym, ◌∙◌, inl, inr, append_assoc, append-nil, eqb-true, lit<, subst}
+use Rattle.std.proofs.Common.{◌≡◌, ◌⊎◌, ◌<◌, ℕ, ◌==◌, ◌&&◌, ◌||◌, Bool, true, false, List, [], ◌∷◌, ◌++◌, map, refl, ap, ap₂, sym, ◌∙◌, inl, inr, append_assoc, append-nil, eqb-true, lit<, subst, arith}
 use Rattle.std.specs.List.{AllByRecursion}
-use Rattle.std.proofs.lemmas.Bool.{cases_Bool, cond_both, cond-true, cond-false, and_parts, or_cases, or_parts}
-use Rattle.properties_format.specs.Text.{scalar, space, backslash, is_blank, is_line_end, is_separator, is_comment_sign}
+use Rattle.std.proofs.lemmas.Bool.{cond_both, or_parts}
+use Rattle.std.proofs.lemmas.Bool.Decides.{nat_tests}
+use Rattle.properties_format.specs.Text.{scalar, space, backslash, is_blank, is_line_end, is_separator}
 use Rattle.properties_format.specs.Encoding.{Encoding}
 use Rattle.properties_format.specs.Lines.{HoldsNoLineEnd}
 use Rattle.properties_format.specs.Groups.{is_open}
@@ -60,10 +61,6 @@ loose-one x c s =
 safely-loose : (x : List ℕ) (c : ℕ) → IsSafelyPrinted x c → IsLooselyPrinted x c
 safely-loose x c s = record { spelling = s.spelling; text = s.text; character = s.character; loose = inl s.safe }
 
--- A text equal to a loose spelling is a loose spelling.
-same-loose : (x y : List ℕ) (c : ℕ) → x ≡ y → IsLooselyPrinted y c → IsLooselyPrinted x c
-same-loose x y c e s = record { spelling = s.spelling; text = e ∙ s.text; character = s.character; loose = s.loose }
-
 -- ---- what they mean
 
 -- A loose spelling is whole.
@@ -113,47 +110,24 @@ loosely-closed x y z s o = ap (λ v. is_open (x ++ v)) s.text ∙ are_loose-clos
 
 -- A character that a value may have unescaped isn't a backslash or a line end.
 pub free-plain : (c : ℕ) → is_free c ≡ true → ((c == backslash) ≡ false) × (is_line_end c ≡ false) × (c < 0x80)
-free-plain c h = elim (or_cases (c == space) (is_separator c || is_comment_sign c) h) [
-  | inl e ↦ rw (eqb-true c space e) (refl, refl, lit< tt)
-  | inr h ↦ elim (or_cases (is_separator c) (is_comment_sign c) h) [
-    | inl h ↦ elim (or_cases (c == 0x3d) (c == 0x3a) h) [ inl e ↦ rw (eqb-true c 0x3d e) (refl, refl, lit< tt) | inr e ↦ rw (eqb-true c 0x3a e) (refl, refl, lit< tt) ]
-    | inr h ↦ elim (or_cases (c == 0x23) (c == 0x21) h) [ inl e ↦ rw (eqb-true c 0x23 e) (refl, refl, lit< tt) | inr e ↦ rw (eqb-true c 0x21 e) (refl, refl, lit< tt) ]
-  ]
-]
+free-plain c h = (grind (arith, nat_tests), grind (arith, nat_tests), grind (arith, nat_tests))
 
 -- A space and a separator are special.
 pub first-special : (after_blanks : Bool) (c : ℕ) → (c == space || (after_blanks && is_separator c)) ≡ true → is_special c ≡ true
-first-special after_blanks c h = elim (or_cases (c == space) (after_blanks && is_separator c) h) [
-  | inl e ↦ rw (eqb-true c space e) refl
-  | inr h ↦ elim (or_cases (c == 0x3d) (c == 0x3a) (and_parts after_blanks (is_separator c) h).1) [
-    | inl e ↦ rw (eqb-true c 0x3d e) refl
-    | inr e ↦ rw (eqb-true c 0x3a e) refl
-  ]
-]
+first-special after_blanks c h = grind (arith, nat_tests)
 
 -- A character inside a value is loosely spelt.
 inside-loose : (e : Encoding) (only : Bool) (c : ℕ) → scalar c → IsLooselyPrinted (printed_inside e only c) c
-inside-loose e only c h = elim (cases_Bool (is_free c)) [
-  | inl k ↦
-      let f = free-plain c k in
-      same-loose (printed_inside e only c) (c ∷ []) c (cond-true (is_free c) (c ∷ []) (printed_character e only in_key_or_value c) k)
-      (record { spelling = itself c; text = refl; character = refl; loose = inr (c, refl, f.0, f.1) })
-  | inr k ↦
-      same-loose (printed_inside e only c) (printed_character e only in_key_or_value c) c (cond-false (is_free c) (c ∷ []) (printed_character e only in_key_or_value c) k)
-      (safely-loose (printed_character e only in_key_or_value c) c (in_key_or_value-printed e only c h))
-]
+inside-loose e only c h =
+    cond_both (is_free c) (c ∷ []) (printed_character e only in_key_or_value c) (λ x. IsLooselyPrinted x c)
+    (λ k. let f = free-plain c k in record { spelling = itself c; text = refl; character = refl; loose = inr (c, refl, f.0, f.1) })
+    (λ k. safely-loose (printed_character e only in_key_or_value c) c (in_key_or_value-printed e only c h))
 
 -- A character at the front of a value is loosely spelt.
 first-loose : (e : Encoding) (only : Bool) (after_blanks : Bool) (c : ℕ) → scalar c → IsLooselyPrinted (printed_first e only after_blanks c) c
-first-loose e only after_blanks c h = elim (cases_Bool (c == space || (after_blanks && is_separator c))) [
-  | inl k ↦
-      same-loose (printed_first e only after_blanks c) (backslash ∷ c ∷ []) c
-      (cond-true (c == space || (after_blanks && is_separator c)) (backslash ∷ c ∷ []) (printed_inside e only c) k)
-      (safely-loose (backslash ∷ c ∷ []) c (special-printed c (first-special after_blanks c k)))
-  | inr k ↦
-      same-loose (printed_first e only after_blanks c) (printed_inside e only c) c
-      (cond-false (c == space || (after_blanks && is_separator c)) (backslash ∷ c ∷ []) (printed_inside e only c) k) (inside-loose e only c h)
-]
+first-loose e only after_blanks c h =
+    cond_both (c == space || (after_blanks && is_separator c)) (backslash ∷ c ∷ []) (printed_inside e only c) (λ x. IsLooselyPrinted x c)
+    (λ k. safely-loose (backslash ∷ c ∷ []) c (special-printed c (first-special after_blanks c k))) (λ k. inside-loose e only c h)
 
 -- A space as `\u0020` is loosely spelt.
 space-loose : (c : ℕ) → (c == space) ≡ true → IsLooselyPrinted (unit_escape space) c
@@ -161,10 +135,8 @@ space-loose c k = rw (eqb-true c space k) (safely-loose (unit_escape space) spac
 
 -- A character at the end of a value is loosely spelt.
 last-loose : (e : Encoding) (only : Bool) (c : ℕ) → scalar c → IsLooselyPrinted (printed_last e only c) c
-last-loose e only c h = elim (cases_Bool (c == space)) [
-  | inl k ↦ same-loose (printed_last e only c) (unit_escape space) c (cond-true (c == space) (unit_escape space) (printed_inside e only c) k) (space-loose c k)
-  | inr k ↦ same-loose (printed_last e only c) (printed_inside e only c) c (cond-false (c == space) (unit_escape space) (printed_inside e only c) k) (inside-loose e only c h)
-]
+last-loose e only c h =
+    cond_both (c == space) (unit_escape space) (printed_inside e only c) (λ x. IsLooselyPrinted x c) (λ k. space-loose c k) (λ k. inside-loose e only c h)
 
 -- The characters after the first are loosely spelt.
 rest-loose : (e : Encoding) (only : Bool) (cs : List ℕ) → AllByRecursion scalar cs → AreLooselyPrinted (printed_rest e only cs) cs
@@ -181,16 +153,9 @@ alone-space c (d ∷ cs) h = absurd (cc)
 pub value-loose : (e : Encoding) (only : Bool) (after_blanks : Bool) (value : List ℕ) → AllByRecursion scalar value → AreLooselyPrinted (printed_value e only after_blanks value) value
 value-loose e only after_blanks [] h = record { spellings = []; text = refl; characters = refl; loose = tt }
 value-loose e only after_blanks (c ∷ cs) h =
-    let more = printed_first e only after_blanks c ++ printed_rest e only cs in
-    elim (cases_Bool (is_empty cs && c == space)) [
-      | inl k ↦
-          let a = alone-space c cs k in
-          subst (λ v. AreLooselyPrinted v (c ∷ cs)) (sym (cond-true (is_empty cs && c == space) (unit_escape space) more k))
-          (subst (λ v. AreLooselyPrinted (unit_escape space) (c ∷ v)) (sym a.0) (loose-one (unit_escape space) c (space-loose c a.1)))
-      | inr k ↦
-          subst (λ v. AreLooselyPrinted v (c ∷ cs)) (sym (cond-false (is_empty cs && c == space) (unit_escape space) more k))
-          (loose-cons (printed_first e only after_blanks c) (printed_rest e only cs) c cs (first-loose e only after_blanks c h.0) (rest-loose e only cs h.1))
-    ]
+    cond_both (is_empty cs && c == space) (unit_escape space) (printed_first e only after_blanks c ++ printed_rest e only cs) (λ x. AreLooselyPrinted x (c ∷ cs))
+    (λ k. let a = alone-space c cs k in subst (λ v. AreLooselyPrinted (unit_escape space) (c ∷ v)) (sym a.0) (loose-one (unit_escape space) c (space-loose c a.1)))
+    (λ k. loose-cons (printed_first e only after_blanks c) (printed_rest e only cs) c cs (first-loose e only after_blanks c h.0) (rest-loose e only cs h.1))
 
 -- ---- how it begins
 
@@ -204,49 +169,25 @@ free-begins : (after_blanks : Bool) (c : ℕ) (y : List ℕ) → is_free c ≡ t
     → BeginsAfter after_blanks (c ∷ y)
 free-begins after_blanks c y h k =
     let p = or_parts (c == space) (after_blanks && is_separator c) k in
-    record {
-      no_blank = blank (cases_Bool (is_separator c)) p.0;
-      no_separator = λ q. rw q at p.1;
-    }
-  where
-    blank : (is_separator c ≡ true) ⊎ (is_separator c ≡ false) → (c == space) ≡ false → is_blank c ≡ false
-    blank (inl s) n = elim (or_cases (c == 0x3d) (c == 0x3a) s) [ inl e ↦ rw (eqb-true c 0x3d e) refl | inr e ↦ rw (eqb-true c 0x3a e) refl ]
-    blank (inr s) n =
-        let m : is_comment_sign c ≡ true = rw (n, s) at h in
-        elim (or_cases (c == 0x23) (c == 0x21) m) [ inl e ↦ rw (eqb-true c 0x23 e) refl | inr e ↦ rw (eqb-true c 0x21 e) refl ]
+    record { no_blank = grind (arith, nat_tests); no_separator = λ q. rw q at p.1 }
 
 -- The first character of a value, before any text.
 first-begins : (e : Encoding) (only : Bool) (after_blanks : Bool) (c : ℕ) (y : List ℕ) → scalar c → BeginsAfter after_blanks (printed_first e only after_blanks c ++ y)
-first-begins e only after_blanks c y h = elim (cases_Bool (c == space || (after_blanks && is_separator c))) [
-  | inl k ↦
-      subst (λ v. BeginsAfter after_blanks (v ++ y)) (sym (cond-true (c == space || (after_blanks && is_separator c)) (backslash ∷ c ∷ []) (printed_inside e only c) k))
-      (record { no_blank = refl; no_separator = λ q. refl })
-  | inr k ↦
-      subst (λ v. BeginsAfter after_blanks (v ++ y)) (sym (cond-false (c == space || (after_blanks && is_separator c)) (backslash ∷ c ∷ []) (printed_inside e only c) k))
-      (elim (cases_Bool (is_free c)) [
-        | inl m ↦
-            subst (λ v. BeginsAfter after_blanks (v ++ y)) (sym (cond-true (is_free c) (c ∷ []) (printed_character e only in_key_or_value c) m))
-            (free-begins after_blanks c y m k)
-        | inr m ↦
-            let s = in_key_or_value-printed e only c h in
-            let b = safe-begins s.spelling y s.safe in
-            subst (λ v. BeginsAfter after_blanks (v ++ y)) (sym (cond-false (is_free c) (c ∷ []) (printed_character e only in_key_or_value c) m ∙ s.text))
-            (record { no_blank = b.no_blank; no_separator = λ q. b.no_separator })
-      ])
-]
+first-begins e only after_blanks c y h =
+    cond_both (c == space || (after_blanks && is_separator c)) (backslash ∷ c ∷ []) (printed_inside e only c) (λ x. BeginsAfter after_blanks (x ++ y))
+    (λ k. record { no_blank = refl; no_separator = λ q. refl })
+    (λ k. cond_both (is_free c) (c ∷ []) (printed_character e only in_key_or_value c) (λ x. BeginsAfter after_blanks (x ++ y))
+    (λ m. free-begins after_blanks c y m k)
+    (λ m. let s = in_key_or_value-printed e only c h in
+    let b = safe-begins s.spelling y s.safe in
+    subst (λ x. BeginsAfter after_blanks (x ++ y)) (sym s.text) (record { no_blank = b.no_blank; no_separator = λ q. b.no_separator })))
 
 -- What is printed for a value doesn't begin with a blank, and after blanks it doesn't begin with a separator.
 pub value-begins : (e : Encoding) (only : Bool) (after_blanks : Bool) (value : List ℕ) → AllByRecursion scalar value → BeginsAfter after_blanks (printed_value e only after_blanks value)
 value-begins e only after_blanks [] h = record { no_blank = refl; no_separator = λ q. refl }
 value-begins e only after_blanks (c ∷ cs) h =
-    let more = printed_first e only after_blanks c ++ printed_rest e only cs in
-    elim (cases_Bool (is_empty cs && c == space)) [
-      | inl k ↦
-          subst (BeginsAfter after_blanks) (sym (cond-true (is_empty cs && c == space) (unit_escape space) more k))
-          (record { no_blank = refl; no_separator = λ q. refl })
-      | inr k ↦
-          subst (BeginsAfter after_blanks) (sym (cond-false (is_empty cs && c == space) (unit_escape space) more k)) (first-begins e only after_blanks c (printed_rest e only cs) h.0)
-    ]
+    cond_both (is_empty cs && c == space) (unit_escape space) (printed_first e only after_blanks c ++ printed_rest e only cs) (BeginsAfter after_blanks)
+    (λ k. record { no_blank = refl; no_separator = λ q. refl }) (λ k. first-begins e only after_blanks c (printed_rest e only cs) h.0)
 
 -- ---- it can be written
 
