@@ -139,24 +139,17 @@ line-shared e f s n (Some line) on g = printed-shared e f s (n == 0) line on g
 
 -- A call that doesn't turn it off leaves it on.
 call-on : (s : Settings) (call : Call) → s.ascii_only ≡ true → KeepsAsciiOnly call → (settings_after_call s call).ascii_only ≡ true
-call-on s (comment_call text) on k = on
-call-on s (pair_call key value) on k = on
 call-on s (prefix_call prefix) on k = cond_both (is_good_prefix prefix) (record s { comment_prefix = prefix }) s (λ v. v.ascii_only ≡ true) (λ h. on) (λ h. on)
 call-on s (separator_call separator) on k = cond_both (is_good_separator separator) (record s { kv_separator = separator }) s (λ v. v.ascii_only ≡ true) (λ h. on) (λ h. on)
-call-on s (ending_call line_ending) on k = on
-call-on s flush_call on k = on
 call-on s (ascii_only_call mode) on k = k
+call-on s call on k = on
 
 -- A good separator stays good after a call.
 separator-kept : (s : Settings) (call : Call) → IsGoodSeparator s.kv_separator → IsGoodSeparator (settings_after_call s call).kv_separator
-separator-kept s (comment_call text) g = g
-separator-kept s (pair_call key value) g = g
 separator-kept s (prefix_call prefix) g = cond_both (is_good_prefix prefix) (record s { comment_prefix = prefix }) s (λ v. IsGoodSeparator v.kv_separator) (λ h. g) (λ h. g)
 separator-kept s (separator_call separator) g =
     cond_both (is_good_separator separator) (record s { kv_separator = separator }) s (λ v. IsGoodSeparator v.kv_separator) (λ h. IsGoodSeparator-from_test separator h) (λ h. g)
-separator-kept s (ending_call line_ending) g = g
-separator-kept s flush_call g = g
-separator-kept s (ascii_only_call mode) g = g
+separator-kept s call g = g
 
 -- The bytes of calls that don't turn it off are shared.
 wrote-shared : (e f : Encoding) (s : Settings) (n : ℕ) (calls : List Call) → s.ascii_only ≡ true → AllKeepAsciiOnly calls

@@ -42,11 +42,10 @@ use Rattle.properties_format.proofs.Changed.Read.{readable, set_key-reads, remov
 -- entries contain none.
 followed-none : (key : List ℕ) (n : ℕ) (o : Outcome) (entries : List Entry) → AreItems (followed n o entries) → HasNoPair key (followed n o entries)
     → (is_pair_with key o ≡ false) × AreItems entries × HasNoPair key entries
-followed-none key n ignored entries h k = (refl, h, k)
-followed-none key n (given (comment text)) entries h k = (refl, h, k)
 followed-none key n (given (pair l v)) entries h k =
     (false_from_ne_true (bytes_eq l key) (λ t. k.0 ((bytes_eq-Decides l key).0 t)), h, k.1)
 followed-none key n (broken kind) entries h k = absurd h
+followed-none key n o entries h k = (refl, h, k)
 
 -- If no item is a pair with the key, no group is one.
 none-have : (key : List ℕ) (n : ℕ) (gs : List (List HeldLine)) → AreItems (entries_in n gs) → HasNoPair key (entries_in n gs) → NoneHasKey key gs

@@ -28,9 +28,7 @@ pair-says n k v key false e = rw e (λ entries h. ((λ q. not_same k key e q), h
 -- The computed value of an entry is the one that it gives.
 says : (entry : Entry) (key : List ℕ) → IsValueBy key entry (value_of entry key)
 says (item n (pair k v)) key = pair-says n k v key (bytes_eq k key) refl
-says (item n (comment text)) key = λ entries h. h
-says (malformed kind n) key = λ entries h. h
-says (read_fault n) key = λ entries h. h
+says entry key = λ entries h. h
 
 -- The value of a key in entries with one more at the front.
 with_front : (entry : Entry) (entries : List Entry) (key : List ℕ) (r o : Option (List ℕ)) → IsValue entries key r → IsValueBy key entry o → IsValue (entry ∷ entries) key (first_value r o)

@@ -111,9 +111,8 @@ pub comments : (d : List ℕ) → is_comment_line (characters_of d) ≡ is_comme
 comments d = ap begins_with_comment_sign (leading-blanks d) ∙ sign (without_leading_blanks d)
 
 last-off : (d : List ℕ) → without_last (characters_of d) ≡ characters_of (without_last d)
-last-off [] = refl
-last-off (b ∷ []) = refl
 last-off (b ∷ c ∷ d) = ap (λ v. windows_1252_character b ∷ v) (last-off (c ∷ d))
+last-off d = refl
 
 pub closed : (d : List ℕ) → without_open_backslash (characters_of d) ≡ characters_of (without_open_backslash d)
 closed d = elim (cases_Bool (is_open d)) [

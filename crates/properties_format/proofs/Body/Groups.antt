@@ -94,25 +94,23 @@ held_groups_of-meets e body =
 -- Lists of lines with the same texts have the same length, so they cut the same lines off a list.
 split-same : (g h x y : List HeldLine) → as_lines g ≡ as_lines h → g ++ x ≡ h ++ y → (g ≡ h) × (x ≡ y)
 split-same [] [] x y t s = (refl, s)
-split-same [] (b ∷ h) x y t s = absurd (cc)
-split-same (a ∷ g) [] x y t s = absurd (cc)
 split-same (a ∷ g) (b ∷ h) x y t s =
     let q : as_lines g ≡ as_lines h = cc in
     let r : g ++ x ≡ h ++ y = cc in
     let p : a ≡ b = cc in
     let m = split-same g h x y q r in
     (ap₂ (λ v w. v ∷ w) p m.0, m.1)
+split-same g h x y t s = absurd (cc)
 
 -- Groups with the same texts and the same lines are equal.
 groups-same : (gs hs : List (List HeldLine)) → as_groups gs ≡ as_groups hs → held_in gs ≡ held_in hs → gs ≡ hs
 groups-same [] [] t s = refl
-groups-same [] (h ∷ hs) t s = absurd (cc)
-groups-same (g ∷ gs) [] t s = absurd (cc)
 groups-same (g ∷ gs) (h ∷ hs) t s =
     let q : as_lines g ≡ as_lines h = cc in
     let r : as_groups gs ≡ as_groups hs = cc in
     let m = split-same g h (held_in gs) (held_in hs) q s in
     ap₂ (λ v w. v ∷ w) m.0 (groups-same gs hs r m.1)
+groups-same gs hs t s = absurd (cc)
 
 -- The groups of a body have the lines of its bytes.
 held-lines : (e : Encoding) (body : List ℕ) (gs : List (List HeldLine)) → AreGroupsOf e body gs → held_in gs ≡ held_lines_of e body
@@ -224,9 +222,8 @@ held-texts e (l ∷ ls) last = ap (λ v. record { number = 0; text = decoded_lin
 
 -- The last line of a body has no line ending.
 pub held-last : (e : Encoding) (ls : List Ended) (last : List ℕ) → last_ending (held_of e ls last) ≡ None
-held-last e [] last = refl
-held-last e (l ∷ []) last = refl
 held-last e (l ∷ m ∷ ls) last = held-last e (m ∷ ls) last
+held-last e ls last = refl
 
 -- The last of some ended lines has a line ending.
 ended-last : (e : Encoding) (l : Ended) (ls : List Ended) → (by : LineEnding) × (last_ending (held_ended e (l ∷ ls)) ≡ Some by)

@@ -126,12 +126,11 @@ decoded_ended-meets e (l ∷ ls) = (decoded_line-meets e l.text, refl, decoded_e
 -- They decode to no other lines.
 decoded_ended-only : (e : Encoding) (ls ts : List Ended) → AreDecodedLines e ls ts → ts ≡ decoded_ended e ls
 decoded_ended-only e [] [] h = refl
-decoded_ended-only e [] (t ∷ ts) h = absurd h
-decoded_ended-only e (l ∷ ls) [] h = absurd h
 decoded_ended-only e (l ∷ ls) (t ∷ ts) h =
     let p : t ≡ record { text = decoded_line e l.text; by = l.by } =
     ap₂ (λ v w. let s : Ended = record { text = v; by = w } in s) (decoded_line-only e l.text t.text h.0) (sym h.1) in
     ap₂ (λ v vs. v ∷ vs) p (decoded_ended-only e ls ts h.2)
+decoded_ended-only e ls ts h = absurd h
 
 -- The computed lines are the lines of the input's bytes, each decoded by itself.
 pub byline_of-meets : (e : Encoding) (b : List ℕ) → IsByline e b (byline_of e b)

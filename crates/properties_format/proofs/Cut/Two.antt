@@ -20,9 +20,8 @@ unit-plain u a b lines h = cond-false (is_line_end u) (before u lines) (two_befo
 
 -- Bytes without a line end unit are one line.
 pub two-plain : (unit : ℕ → ℕ → ℕ) (d : List ℕ) → HoldsNoLineEnd (units_of_two unit d) → cut_of_two unit d ≡ record { ended = []; last = d }
-two-plain unit [] h = refl
-two-plain unit (a ∷ []) h = refl
 two-plain unit (a ∷ b ∷ d) h = ap (unit_before (unit a b) a b) (two-plain unit d h.1) ∙ unit-plain (unit a b) a b (record { ended = []; last = d }) h.0
+two-plain unit d h = refl
 
 -- A line end at the front.
 two-end : (e : Encoding) (unit : ℕ → ℕ → ℕ) (by : LineEnding) (y : List ℕ) (ls : List Ended) (last : List ℕ) → ReadsEnds e unit

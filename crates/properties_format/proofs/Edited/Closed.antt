@@ -29,9 +29,8 @@ use Rattle.properties_format.proofs.Valued.Lined.{AreLined, last_by, lines-join,
 -- All lines of a body, with a line ending after the last.
 ended-held : (e : Encoding) (by : LineEnding) (ls : List Ended) (last : List ℕ)
     → with_ending (Some by) (held_of e ls last) ≡ held_ended e (ls ++ record { text = last; by = by } ∷ [])
-ended-held e by [] last = refl
-ended-held e by (l ∷ []) last = refl
 ended-held e by (l ∷ m ∷ ls) last = ap (λ v. record { bytes = l.text; text = decoded_line e l.text; ending = Some l.by } ∷ v) (ended-held e by (m ∷ ls) last)
+ended-held e by ls last = refl
 
 -- A list with a group consists of some groups and a last one.
 last-group : (g : List HeldLine) (gs : List (List HeldLine)) → (init : List (List HeldLine)) × (final : List HeldLine) × (g ∷ gs ≡ init ++ final ∷ [])
@@ -60,8 +59,7 @@ whole-join (g ∷ gs) hs w k = (w.0, whole-join gs hs w.1 k)
 -- A line ending isn't empty.
 ending-size : (by : LineEnding) → 0 < length (line_ending_text by)
 ending-size lf = omega arith
-ending-size cr = omega arith
-ending-size crlf = omega arith
+ending-size by = omega arith
 
 -- A last group has bytes, unless it is an empty line.
 last-size : (e : Encoding) (ls : List Ended) (last : List ℕ) → is_empty_line (held_of e ls last) ≡ false → 0 < length (unended_bytes (held_of e ls last))

@@ -34,8 +34,7 @@ outcome g = outcome_of (joined (as_lines g))
 -- An outcome before two lists of outcomes.
 pub outcome_before-append : (o : Outcome) (xs ys : List Outcome) → outcome_before o (xs ++ ys) ≡ outcome_before o xs ++ ys
 outcome_before-append ignored xs ys = refl
-outcome_before-append (given content) xs ys = refl
-outcome_before-append (broken kind) xs ys = refl
+outcome_before-append o xs ys = refl
 
 -- Lines that are a whole group, or one that ends open, have that group as their only group at the end of the input.
 fit-group : (x : List Line) → IsWhole x ⊎ EndsOpen x → groups_of x end ≡ x ∷ []
@@ -235,13 +234,12 @@ left-kept key (broken kind) os left (c ∷ cs) other h rest = absurd (cc)
 -- A group with the key is left out.
 left-out : (key value : List ℕ) (os left : List Outcome) (old : List Content) → given (pair key value) ∷ os ≡ givens old
     → ((cs : List Content) → os ≡ givens cs → IsLeft key cs left) → IsLeft key old left
-left-out key value os left [] h rest = absurd (cc)
-left-out key value os left (comment text ∷ cs) h rest = absurd (cc)
 left-out key value os left (pair k v ∷ cs) h rest =
     let p : k ≡ key = cc in
     let q : os ≡ givens cs = cc in
     let m = rest cs q in
     (m.0, inl (p, m.1), m.2)
+left-out key value os left old h rest = absurd (cc)
 
 -- Of an empty list of contents, nothing is left.
 nothing-left : (key : List ℕ) (cs : List Content) → [] ≡ givens cs → IsLeft key cs []

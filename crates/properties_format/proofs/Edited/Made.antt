@@ -20,10 +20,8 @@ use Rattle.properties_format.proofs.Body.Groups.{held_groups_of-meets, held_grou
 
 -- An outcome that passes the test is a pair with the key.
 pair-with : (key : List ℕ) (o : Outcome) → is_pair_with key o ≡ true → (value : List ℕ) × (o ≡ given (pair key value))
-pair-with key ignored h = absurd (cc)
-pair-with key (given (comment text)) h = absurd (cc)
 pair-with key (given (pair k v)) h = (v, ap (λ x. given (pair x v)) ((bytes_eq-Decides k key).0 h))
-pair-with key (broken kind) h = absurd (cc)
+pair-with key o h = absurd (cc)
 
 -- A group that passes the test is a pair with the key.
 pub has_key-true : (key : List ℕ) (g : List HeldLine) → has_key key g ≡ true → HasKey key g

@@ -46,10 +46,9 @@ pair-writable e only first key value h k =
 
 -- An encoding that can be edited can be written.
 pub editable-own : (e : Encoding) → is_editable e ≡ true → output_encoding e ≡ e
-editable-own windows_1252 h = refl
-editable-own utf_8 h = refl
 editable-own utf_16le h = absurd (cc)
 editable-own utf_16be h = absurd (cc)
+editable-own e h = refl
 
 -- The bytes of the printed pair decode to its characters.
 pub pair-decoded : (e : Encoding) (only : Bool) (first : Bool) (key value : List ℕ) → is_editable e ≡ true → All scalar key → All scalar value

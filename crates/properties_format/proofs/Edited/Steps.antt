@@ -67,23 +67,20 @@ without-append key (g ∷ gs) hs = elim (cases_Bool (has_key key g)) [
 
 -- The last of the groups, after one more.
 pub final_group-push : (gs : List (List HeldLine)) (g : List HeldLine) → final_group (gs ++ g ∷ []) ≡ g
-final_group-push [] g = refl
-final_group-push (f ∷ []) g = refl
 final_group-push (f ∷ h ∷ gs) g = final_group-push (h ∷ gs) g
+final_group-push gs g = refl
 
 -- ---- a group with one more line
 
 -- The last line is the new one.
 pub last_ending-push : (g : List HeldLine) (h : HeldLine) → last_ending (g ++ h ∷ []) ≡ h.ending
-last_ending-push [] h = refl
-last_ending-push (i ∷ []) h = refl
 last_ending-push (i ∷ j ∷ g) h = last_ending-push (j ∷ g) h
+last_ending-push g h = refl
 
 -- Whether the last line is open depends on the new one.
 pub is_last_open-push : (g : List HeldLine) (h : HeldLine) → is_last_open (g ++ h ∷ []) ≡ is_open h.text
-is_last_open-push [] h = refl
-is_last_open-push (i ∷ []) h = refl
 is_last_open-push (i ∷ j ∷ g) h = is_last_open-push (j ∷ g) h
+is_last_open-push g h = refl
 
 -- The first line is unchanged.
 pub is_left_open-push : (i : HeldLine) (g : List HeldLine) (h : HeldLine) → is_left_open (i ∷ g ++ h ∷ []) ≡ (not (is_comment_line i.text) && is_open h.text)
@@ -98,9 +95,8 @@ is_empty_line-push i (j ∷ g) h = refl
 
 -- A group without a malformed escape doesn't change the result.
 pub result-sound : (n : ℕ) (o : Outcome) (entries : List Entry) (made : List ℕ) → IsSound o → result_by (followed n o entries) made ≡ result_by entries made
-result-sound n ignored entries made h = refl
-result-sound n (given content) entries made h = refl
 result-sound n (broken kind) entries made h = absurd h
+result-sound n o entries made h = refl
 
 -- After groups without malformed escapes, the first malformed escape is that of the following groups.
 pub result-after : (n : ℕ) (gs hs : List (List HeldLine)) (made : List ℕ) → AreSound gs

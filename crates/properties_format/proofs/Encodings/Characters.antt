@@ -38,9 +38,7 @@ utf_8-encoded c bs y h e =
 -- In the encoding that is written, the bytes of a scalar value are a piece of it, whatever follows.
 pub encoded-piece : (e : Encoding) (c : ℕ) (bs y : List ℕ) → scalar c → encoded e c ≡ Some bs → IsPiece (output_encoding e) (piece bs c) y
 encoded-piece windows_1252 c bs y h k = windows_1252-encoded c bs y (windows_1252_byte c) refl k
-encoded-piece utf_8 c bs y h k = utf_8-encoded c bs y h k
-encoded-piece utf_16le c bs y h k = utf_8-encoded c bs y h k
-encoded-piece utf_16be c bs y h k = utf_8-encoded c bs y h k
+encoded-piece e c bs y h k = utf_8-encoded c bs y h k
 
 -- Decoding inverts encoding: an encoded character at the front is its piece, whatever follows.
 pub pieces_of-encoded : (e : Encoding) (c : ℕ) (bs y : List ℕ) → scalar c → encoded e c ≡ Some bs

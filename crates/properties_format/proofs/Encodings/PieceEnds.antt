@@ -92,10 +92,9 @@ piece-less utf_16be p rest z l h = utf_16-less high_first p rest z l h
 
 -- An empty list ends at a unit's boundary.
 pub aligned-nil : (e : Encoding) → IsAligned e []
-aligned-nil windows_1252 = tt
-aligned-nil utf_8 = tt
 aligned-nil utf_16le = refl
 aligned-nil utf_16be = refl
+aligned-nil e = tt
 
 -- An even number of bytes followed by an even number is an even number of bytes.
 even-append : (x y : List ℕ) → IsEven x → IsEven y → IsEven (x ++ y)
@@ -107,17 +106,15 @@ even-back x y h k = let l = length-append x y in omega arith
 
 -- Whole units followed by whole units end at a unit's boundary.
 pub aligned-append : (e : Encoding) (x y : List ℕ) → IsAligned e x → IsAligned e y → IsAligned e (x ++ y)
-aligned-append windows_1252 x y h k = tt
-aligned-append utf_8 x y h k = tt
 aligned-append utf_16le x y h k = even-append x y h k
 aligned-append utf_16be x y h k = even-append x y h k
+aligned-append e x y h k = tt
 
 -- If whole units come first and the whole ends at a unit's boundary, so does the second part.
 pub aligned-back : (e : Encoding) (x y : List ℕ) → IsAligned e x → IsAligned e (x ++ y) → IsAligned e y
-aligned-back windows_1252 x y h k = tt
-aligned-back utf_8 x y h k = tt
 aligned-back utf_16le x y h k = even-back x y h k
 aligned-back utf_16be x y h k = even-back x y h k
+aligned-back e x y h k = tt
 
 -- In UTF-16, a piece that a byte follows has an even number of bytes.
 utf_16-even : (unit : ℕ → ℕ → ℕ) (p : Piece) (b : ℕ) (rest : List ℕ) → IsUtf16Piece unit p (b ∷ rest) → IsEven p.bytes
@@ -132,10 +129,9 @@ utf_16-even unit p b rest (both_last a1 a2 a3 e h s) = absurd (cc)
 -- A piece that a byte follows ends at a unit's boundary.
 pub piece-aligned : (e : Encoding) (p : Piece) (rest : List ℕ) → 0 < length rest → IsPiece e p rest → IsAligned e p.bytes
 piece-aligned e p [] l h = absurd (omega arith)
-piece-aligned windows_1252 p (b ∷ rest) l h = tt
-piece-aligned utf_8 p (b ∷ rest) l h = tt
 piece-aligned utf_16le p (b ∷ rest) l h = utf_16-even low_first p b rest h
 piece-aligned utf_16be p (b ∷ rest) l h = utf_16-even high_first p b rest h
+piece-aligned e p (b ∷ rest) l h = tt
 
 -- ---- Bytes before which any piece ends.
 

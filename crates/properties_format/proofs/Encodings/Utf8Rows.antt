@@ -43,9 +43,8 @@ front-of_row (r ∷ rs) (b ∷ bs) more h = (h.0, front-of_row rs bs more h.1)
 -- Bytes that fit a row are as many as its ranges.
 pub length-row : (rs : List Range) (bs : List ℕ) → FitsRow rs bs → length bs ≡ length rs
 length-row [] [] h = refl
-length-row [] (b ∷ bs) h = absurd h
-length-row (r ∷ rs) [] h = absurd h
 length-row (r ∷ rs) (b ∷ bs) h = ap suc (length-row rs bs h.1)
+length-row rs bs h = absurd h
 
 -- Bytes that fit a row together with more bytes are fewer than its ranges.
 pub shorter-than_row : (rs : List Range) (bs : List ℕ) (next : ℕ) (more : List ℕ) → FitsRow rs (bs ++ next ∷ more) → length bs < length rs
@@ -88,15 +87,13 @@ longer-of_front (r ∷ rs) (b ∷ bs) filled h short =
 -- Bytes that fit the row are the longest front that fits, whatever follows.
 pub fitting-row : (rs : List Range) (bs rest : List ℕ) → FitsRow rs bs → fitting rs (bs ++ rest) ≡ bs
 fitting-row [] [] rest h = refl
-fitting-row [] (b ∷ bs) rest h = absurd h
-fitting-row (r ∷ rs) [] rest h = absurd h
 fitting-row (r ∷ rs) (b ∷ bs) rest h = rw (is_in-true r b h.0) (ap (λ v. b ∷ v) (fitting-row rs bs rest h.1))
+fitting-row rs bs rest h = absurd h
 
 -- If the first byte doesn't fit, the longest front that fits is empty.
 fitting-none : (rs : List Range) (rest : List ℕ) → Breaks rs [] rest → fitting rs rest ≡ []
-fitting-none [] rest h = refl
-fitting-none (r ∷ rs) [] h = refl
 fitting-none (r ∷ rs) (b ∷ rest) h = cond-false (is_in r b) (b ∷ fitting rs rest) [] (is_in-false r b (λ k. h (k, tt)))
+fitting-none rs rest h = refl
 
 -- If the next byte doesn't fit after some bytes, it doesn't fit after them without the first byte and its range.
 breaks-tail : (r : Range) (rs : List Range) (b : ℕ) (bs rest : List ℕ) → IsIn r b → Breaks (r ∷ rs) (b ∷ bs) rest → Breaks rs bs rest

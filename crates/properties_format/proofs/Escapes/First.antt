@@ -33,11 +33,9 @@ low-low high low rest h k = rw h (rw k refl)
 
 -- The spelling at the front is found.
 pub spelling_of-only : (p : Spelling) (rest : List ℕ) → IsSpelling p rest → spelling_of (spelling_text p ++ rest) ≡ Some p
-spelling_of-only (itself c) rest h = rw h refl
-spelling_of-only (escaped c) rest h = rw h refl
 spelling_of-only (unicode d) rest h = digits-unicode d rest h.0 h.1
 spelling_of-only (surrogates high low) rest h = digits-high high (backslash ∷ letter_u ∷ four_text low ++ rest) h.0 h.1 ∙ low-low high low rest h.2 h.3
-spelling_of-only last rest h = rw h refl
+spelling_of-only p rest h = rw h refl
 
 -- If no spelling is found, there is none.
 pub spelling_of-none : (x : List ℕ) → spelling_of x ≡ None → NoSpelling x

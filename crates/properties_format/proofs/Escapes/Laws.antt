@@ -41,11 +41,8 @@ AreWhole (p ∷ ps) = IsWhole p × AreWhole ps
 
 -- A whole spelling may come before any text.
 pub IsWhole-spelling : (p : Spelling) (rest : List ℕ) → IsWhole p → IsSpelling p rest
-IsWhole-spelling (itself c) rest h = h
-IsWhole-spelling (escaped c) rest h = h
-IsWhole-spelling (unicode d) rest h = h
-IsWhole-spelling (surrogates high low) rest h = h
 IsWhole-spelling last rest h = absurd h
+IsWhole-spelling p rest h = h
 
 -- Each of several whole spellings may come before what follows it.
 pub AreWhole-spellings : (ps : List Spelling) (rest : List ℕ) → AreWhole ps → AreSpellings ps rest

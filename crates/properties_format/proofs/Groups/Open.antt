@@ -72,9 +72,8 @@ blank-other c h = elim (eqb_tells c backslash) [
 
 -- A text with one more character, without its last character, is that text.
 pub without_last-push : (x : List ℕ) (c : ℕ) → without_last (x ++ c ∷ []) ≡ x
-without_last-push [] c = refl
-without_last-push (d ∷ []) c = refl
 without_last-push (d ∷ b ∷ x) c = ap (λ v. d ∷ v) (without_last-push (b ∷ x) c)
+without_last-push x c = refl
 
 -- a text is empty, or has a last character
 pub last_character : (x : List ℕ) → (x ≡ []) ⊎ ((y : List ℕ) × (c : ℕ) × (x ≡ y ++ c ∷ []))

@@ -161,8 +161,7 @@ after-cr e g h gs a s k = of-turn gs a
     no_lf (c ∷ x) o y p q n = p
     no_lf [] None y p q n = ap begins_with_lf (n refl)
     no_lf [] (Some lf) y p q n = absurd (cc)
-    no_lf [] (Some cr) y p q n = refl
-    no_lf [] (Some crlf) y p q n = refl
+    no_lf [] o y p q n = refl
 
     other : (is_by_lf (last_ending h) && is_empty (unended_bytes h)) ≡ false
     other = ap (λ o. is_by_cr o && (is_by_lf (last_ending h) && is_empty (unended_bytes h))) (sym s) ∙ k
@@ -237,12 +236,11 @@ final-next g (h ∷ gs) n = refl
 
 -- If there is a group, there is one once line endings are made one.
 merged-some : (gs : List (List HeldLine)) → gs ≢ [] → merged gs ≢ []
-merged-some [] n = n
-merged-some (g ∷ []) n = n
 merged-some (g ∷ h ∷ gs) n = elim (cases_Bool (are_one_ending g h)) [
   | inl k ↦ let s = merged-one g h gs k in λ q. cc
   | inr k ↦ let s = merged-two g h gs k in λ q. cc
 ]
+merged-some gs n = n
 
 -- Groups in turn are at least one.
 pub turn-some : (e : Encoding) (gs : List (List HeldLine)) → AreInTurn e gs → gs ≢ []

@@ -31,9 +31,8 @@ last_line more = 0
 -- The numbers of the lines after n line ends ascend, start above n, and are at most n plus their count.
 numbered-within : (n : ℕ) (ls : List Ended) (last : List ℕ) (ending : InputEnd) (high : ℕ) → n + length ls + last_line ending ≤ high → LinesWithin n high (numbered n ls last ending)
 numbered-within n [] last end high h = (omega arith, omega arith)
-numbered-within n [] last fault high h = omega arith
-numbered-within n [] last more high h = omega arith
 numbered-within n (l ∷ ls) last ending high h = (omega arith, numbered-within (n + 1) ls last ending high (omega arith))
+numbered-within n [] last ending high h = omega arith
 
 -- If lines lie within two numbers, the first number isn't above the second.
 lines-bounded : (low high : ℕ) (ls : List Line) → LinesWithin low high ls → low ≤ high
@@ -60,8 +59,7 @@ lines-behind_first low high xs ys zs h = lines-after low high xs (ys ++ zs) (sub
 firsts-of_last : (low high : ℕ) (ls : List Line) (ending : InputEnd) → LinesWithin low high ls → FirstsWithin low high (last_group ls ending)
 firsts-of_last low high [] ending h = h
 firsts-of_last low high (l ∷ ls) end h = (h.0, lines-bounded l.number high ls h.1)
-firsts-of_last low high (l ∷ ls) fault h = lines-bounded low high (l ∷ ls) h
-firsts-of_last low high (l ∷ ls) more h = lines-bounded low high (l ∷ ls) h
+firsts-of_last low high (l ∷ ls) ending h = lines-bounded low high (l ∷ ls) h
 
 -- The numbers of whole groups and of a last one lie within those that their lines lie within.
 firsts-of : (low high : ℕ) (whole : List (List Line)) (unfinished : List Line) (ending : InputEnd) → AreWhole whole → LinesWithin low high (lines_in whole ++ unfinished)
@@ -90,9 +88,8 @@ ascend-lower low less (x ∷ xs) k h = (let b = h.0 in omega arith, h.1)
 
 -- A read that fails after n line ends has a number above n, and above those of the lines before it.
 last-ascend : (low high n : ℕ) (ending : InputEnd) → high ≤ n + last_line ending → low ≤ high → NumbersAscend low (last_entries n ending)
-last-ascend low high n end h k = tt
 last-ascend low high n fault h k = (omega arith, tt)
-last-ascend low high n more h k = tt
+last-ascend low high n ending h k = tt
 
 -- The numbers of the entries of groups ascend if those of the groups' first lines do.
 entries-ascend : (low high n : ℕ) (ending : InputEnd) (gs : List (List Line)) → high ≤ n + last_line ending → FirstsWithin low high gs → NumbersAscend low (entries_of n ending gs)

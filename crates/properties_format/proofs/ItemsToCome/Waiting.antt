@@ -18,37 +18,31 @@ IsPlainFront e b = (byte_order_mark e b ≡ record { encoding = e; body = b }) �
 -- this holds for no bytes
 front-none : (e : Encoding) → IsPlainFront e []
 front-none windows_1252 = (refl, tt)
-front-none utf_8 = (refl, tt)
-front-none utf_16le = (refl, tt)
-front-none utf_16be = (refl, tt)
+front-none e = (refl, tt)
 
 -- for the byte EF
 front-ef : (e : Encoding) → IsPlainFront e (0xef ∷ [])
-front-ef windows_1252 = (refl, (refl, tt))
-front-ef utf_8 = (refl, (refl, tt))
 front-ef utf_16le = (refl, tt)
 front-ef utf_16be = (refl, tt)
+front-ef e = (refl, (refl, tt))
 
 -- for the byte FE
 front-fe : (e : Encoding) → IsPlainFront e (0xfe ∷ [])
-front-fe windows_1252 = (refl, (refl, tt))
-front-fe utf_8 = (refl, (refl, tt))
 front-fe utf_16le = (refl, tt)
 front-fe utf_16be = (refl, tt)
+front-fe e = (refl, (refl, tt))
 
 -- for the byte FF
 front-ff : (e : Encoding) → IsPlainFront e (0xff ∷ [])
-front-ff windows_1252 = (refl, (refl, tt))
-front-ff utf_8 = (refl, (refl, tt))
 front-ff utf_16le = (refl, tt)
 front-ff utf_16be = (refl, tt)
+front-ff e = (refl, (refl, tt))
 
 -- for the bytes EF BB
 front-ef_bb : (e : Encoding) → IsPlainFront e (0xef ∷ 0xbb ∷ [])
-front-ef_bb windows_1252 = (refl, (refl, (refl, tt)))
-front-ef_bb utf_8 = (refl, (refl, (refl, tt)))
 front-ef_bb utf_16le = (refl, (refl, tt))
 front-ef_bb utf_16be = (refl, (refl, tt))
+front-ef_bb e = (refl, (refl, (refl, tt)))
 
 -- for one byte that waits for a byte order mark
 front-one : (e : Encoding) (b : ℕ) → awaits_bom (b ∷ []) ≡ true → IsPlainFront e (b ∷ [])

@@ -22,9 +22,7 @@ cr-meets-line : (text : List ℕ) (by : LineEnding) (ls : List Ended) (last x : 
     → IsLines x (record { ended = record { text = text; by = by } ∷ ls; last = last })
     → IsLines (carriage_return ∷ x) (record { ended = cr_before (record { text = text; by = by } ∷ ls); last = last })
 cr-meets-line [] lf ls last x h = record { text = ap (λ v. carriage_return ∷ v) h.text; are_lines = (tt, (λ k. absurd (cc)), h.are_lines.2) }
-cr-meets-line [] cr ls last x h = record { text = ap (λ v. carriage_return ∷ v) h.text; are_lines = (tt, (λ k p. absurd (cc)), h.are_lines) }
-cr-meets-line [] crlf ls last x h = record { text = ap (λ v. carriage_return ∷ v) h.text; are_lines = (tt, (λ k p. absurd (cc)), h.are_lines) }
-cr-meets-line (c ∷ cs) by ls last x h = record { text = ap (λ v. carriage_return ∷ v) h.text; are_lines = (tt, (λ k p. absurd (cc)), h.are_lines) }
+cr-meets-line text by ls last x h = record { text = ap (λ v. carriage_return ∷ v) h.text; are_lines = (tt, (λ k p. absurd (cc)), h.are_lines) }
 
 -- A CR before any lines, or before none.
 cr-meets : (ended : List Ended) (last x : List ℕ) → IsLines x (record { ended = ended; last = last })

@@ -73,9 +73,8 @@ without_leading_lf-none (c ∷ cs) h = rw h refl
 
 -- A text ends as its last part ends.
 pub ends_in_cr-append : (x : List ℕ) (c : ℕ) (y : List ℕ) → ends_in_cr (x ++ c ∷ y) ≡ ends_in_cr (c ∷ y)
-ends_in_cr-append [] c y = refl
-ends_in_cr-append (b ∷ []) c y = refl
 ends_in_cr-append (b ∷ d ∷ x) c y = ends_in_cr-append (d ∷ x) c y
+ends_in_cr-append x c y = refl
 
 -- A text with characters after a line end ends in a CR exactly if those characters do.
 pub ends-after : (text : List ℕ) (by : LineEnding) (c : ℕ) (x : List ℕ) → ends_in_cr (text ++ (line_ending_text by ++ c ∷ x)) ≡ ends_in_cr (c ∷ x)

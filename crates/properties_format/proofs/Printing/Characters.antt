@@ -68,9 +68,7 @@ AreEncodable-append e (c ∷ x) y h k = (h.0, AreEncodable-append e x y h.1 k)
 -- An ASCII character is encoded as itself in every encoding.
 pub encoded-ascii : (e : Encoding) (c : ℕ) → c < 0x80 → encoded e c ≡ Some (c ∷ [])
 encoded-ascii windows_1252 c h = ap one_byte (windows_1252_byte-ascii c h)
-encoded-ascii utf_8 c h = ap Some (encode_ascii c h)
-encoded-ascii utf_16le c h = ap Some (encode_ascii c h)
-encoded-ascii utf_16be c h = ap Some (encode_ascii c h)
+encoded-ascii e c h = ap Some (encode_ascii c h)
 
 -- every character of the text is ASCII
 abbrev pub AreAscii : List ℕ → Type 0
@@ -94,9 +92,8 @@ encoded_text-ascii e (c ∷ x) h = ap (λ o. unwrap_or o [] ++ encoded_text e x)
 
 -- a line ending is an ASCII text
 pub line_end-ascii : (by : LineEnding) → AreAscii (line_ending_text by)
-line_end-ascii lf = (lit< tt, tt)
-line_end-ascii cr = (lit< tt, tt)
 line_end-ascii crlf = (lit< tt, (lit< tt, tt))
+line_end-ascii by = (lit< tt, tt)
 
 -- ---- what is printed can be encoded
 

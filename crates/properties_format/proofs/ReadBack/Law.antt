@@ -30,9 +30,7 @@ default_settings-good =
 -- An output encoding is its own output encoding.
 pub output_encoding-own : (e : Encoding) → output_encoding (output_encoding e) ≡ output_encoding e
 output_encoding-own windows_1252 = refl
-output_encoding-own utf_8 = refl
-output_encoding-own utf_16le = refl
-output_encoding-own utf_16be = refl
+output_encoding-own e = refl
 
 -- In an encoding that can be written, the bytes that are written decode to what was printed.
 pub wrote-decoded : (e : Encoding) (s : Settings) (calls : List Call) → output_encoding e ≡ e → AreGoodSettings s → AreOfScalars calls → decoded_of e (wrote e s 0 calls) ≡ wrote_text e s 0 calls

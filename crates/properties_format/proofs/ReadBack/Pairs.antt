@@ -135,8 +135,7 @@ some-after p ps y h = rw (append_assoc (spelling_text p) (spellings_before ps []
 -- Three texts together aren't empty if the second isn't.
 append-some : (x y z : List ℕ) → y ≢ [] → x ++ (y ++ z) ≢ []
 append-some [] [] z some q = some refl
-append-some [] (c ∷ y) z some q = cc
-append-some (c ∷ x) y z some q = cc
+append-some x y z some q = cc
 
 -- A key and a value of safe spellings around a good separator, which isn't blanks only if the key is empty.
 split-pair : (ks vs : List Spelling) (sep : List ℕ) → AreSafe ks → AreSafe vs → IsGoodSeparator sep → (ks ≡ [] → is_blanks sep ≡ false)

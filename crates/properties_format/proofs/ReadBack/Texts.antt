@@ -47,9 +47,7 @@ texts-printed e only (c ∷ x) h =
 pub safe-whole : (p : Spelling) → IsSafe p → IsWhole p
 safe-whole (itself c) h = h.0
 safe-whole (escaped c) h = h.0
-safe-whole (unicode d) h = h
-safe-whole (surrogates high low) h = h
-safe-whole last h = h
+safe-whole p h = h
 
 -- Safe spellings are whole.
 are_safe-whole : (ps : List Spelling) → AreSafe ps → AreWhole ps
@@ -152,10 +150,8 @@ pub record BeginsFull (x : List ℕ) : Type 0 where
 -- A text with a safe spelling at its front doesn't begin with a blank, a separator or a comment sign.
 pub safe-begins : (p : Spelling) (y : List ℕ) → IsSafe p → BeginsFull (spelling_text p ++ y)
 safe-begins (itself c) y h = record { no_blank = h.1; no_separator = h.2; no_sign = h.3 }
-safe-begins (escaped c) y h = record { no_blank = refl; no_separator = refl; no_sign = refl }
-safe-begins (unicode d) y h = record { no_blank = refl; no_separator = refl; no_sign = refl }
-safe-begins (surrogates high low) y h = record { no_blank = refl; no_separator = refl; no_sign = refl }
 safe-begins last y h = absurd h
+safe-begins p y h = record { no_blank = refl; no_separator = refl; no_sign = refl }
 
 -- The text of safe spellings doesn't begin with a blank, a separator or a comment sign.
 pub are_safe-begin : (ps : List Spelling) → AreSafe ps → BeginsFull (spellings_before ps [])

@@ -159,10 +159,9 @@ ends-last kind (c ∷ d ∷ p) h = let m = ends-last kind (d ∷ p) h in (c ∷ 
 
 -- The last character of a text that another text precedes.
 pub ends-right : (kind : ℕ → Bool) (a p : List ℕ) → p ≢ [] → ends kind (a ++ p) ≡ ends kind p
-ends-right kind [] p h = refl
 ends-right kind (c ∷ []) [] h = absurd (h refl)
-ends-right kind (c ∷ []) (d ∷ p) h = refl
 ends-right kind (c ∷ b ∷ a) p h = ends-right kind (b ∷ a) p h
+ends-right kind a p h = refl
 
 -- If a text may end, so may its second part.
 pub may-later : (a q p v : List ℕ) → q ≢ [] → p ≡ a ++ q → MayEnd p v → MayEnd q v

@@ -17,10 +17,9 @@ use Rattle.properties_format.proofs.Cut.Byline.{nothing-decoded}
 
 -- In an encoding that can be edited, every byte is at a unit's boundary.
 pub aligned-editable : (e : Encoding) (d : List ℕ) → is_editable e ≡ true → IsAligned e d
-aligned-editable windows_1252 d ok = tt
-aligned-editable utf_8 d ok = tt
 aligned-editable utf_16le d ok = absurd (cc)
 aligned-editable utf_16be d ok = absurd (cc)
+aligned-editable e d ok = tt
 
 -- Bytes that are cut after these pieces: the head has the bytes of these pieces, and the rest has those of the others.
 record IsCutAfter (e : Encoding) (d : List ℕ) (ps : List Piece) (x y : List ℕ) : Type 0 where
@@ -84,10 +83,9 @@ EndsInAscii x = (w : List ℕ) × (c : ℕ) × (x ≡ w ++ c ∷ []) × (c < 0x8
 
 -- Only the bytes of an ASCII character decode to it.
 pub ascii-own : (e : Encoding) (c : ℕ) → is_editable e ≡ true → ascii_bytes e c ≡ c ∷ []
-ascii-own windows_1252 c ok = refl
-ascii-own utf_8 c ok = refl
 ascii-own utf_16le c ok = absurd (cc)
 ascii-own utf_16be c ok = absurd (cc)
+ascii-own e c ok = refl
 
 -- Bytes whose text ends in an ASCII character end in that character, and the bytes before it decode to the text before
 -- it.

@@ -36,10 +36,9 @@ use Rattle.properties_format.proofs.Valued.Read.{value_set-contents, set_value-r
 -- If an outcome isn't a pair with the key, neither is its entry.
 followed-other : (key : List ℕ) (n : ℕ) (o : Outcome) (entries : List Entry) → ((v : List ℕ) → o ≡ given (pair key v) → ⊥) → AreItems (followed n o entries)
     → (AreItems entries → HasNoPair key entries) → HasNoPair key (followed n o entries)
-followed-other key n ignored entries h a k = k a
-followed-other key n (given (comment text)) entries h a k = k a
 followed-other key n (given (pair l v)) entries h a k = ((λ s. h v (ap (λ x. given (pair x v)) s)), k a)
 followed-other key n (broken kind) entries h a k = absurd a
+followed-other key n o entries h a k = k a
 
 -- If no group has the key, no item is a pair with it.
 none-pairs : (key : List ℕ) (n : ℕ) (gs : List (List HeldLine)) → NoneHasKey key gs → AreItems (entries_in n gs) → HasNoPair key (entries_in n gs)

@@ -103,10 +103,9 @@ lines-seam (l ∷ m ∷ x) y last h q = lines-seam (m ∷ x) y last h.2 q
 
 -- The line ending of the last of two lists of lines.
 pub last_by-append : (x y : List Ended) → y ≢ [] → last_by (x ++ y) ≡ last_by y
-last_by-append [] y h = refl
 last_by-append (l ∷ []) [] h = absurd (h refl)
-last_by-append (l ∷ []) (m ∷ y) h = refl
 last_by-append (l ∷ m ∷ x) y h = last_by-append (m ∷ x) y h
+last_by-append x y h = refl
 
 -- With another last line, they are still lines.
 pub lines-last : (x : List Ended) (last : List ℕ) → AreLines x [] → HoldsNoLineEnd last → AreLines x last
@@ -125,16 +124,14 @@ held_ended-append e (l ∷ x) y = ap (λ v. record { bytes = l.text; text = deco
 
 -- The line ending of the last of them.
 pub last_ending-ended : (e : Encoding) (x : List Ended) → last_ending (held_ended e x) ≡ last_by x
-last_ending-ended e [] = refl
-last_ending-ended e (l ∷ []) = refl
 last_ending-ended e (l ∷ m ∷ x) = last_ending-ended e (m ∷ x)
+last_ending-ended e x = refl
 
 -- The line ending of the last line of two parts.
 pub last_ending-append : (a b : List HeldLine) → b ≢ [] → last_ending (a ++ b) ≡ last_ending b
-last_ending-append [] b h = refl
 last_ending-append (l ∷ []) [] h = absurd (h refl)
-last_ending-append (l ∷ []) (m ∷ b) h = refl
 last_ending-append (l ∷ m ∷ a) b h = last_ending-append (m ∷ a) b h
+last_ending-append a b h = refl
 
 -- ---- groups one after the other
 

@@ -25,9 +25,8 @@ without_ending (h ∷ i ∷ hs) = h ∷ without_ending (i ∷ hs)
 
 -- They have the same texts.
 pub unended-texts : (g : List HeldLine) → as_lines (without_ending g) ≡ as_lines g
-unended-texts [] = refl
-unended-texts (h ∷ []) = refl
 unended-texts (h ∷ i ∷ g) = ap (λ v. record { number = 0; text = h.text } ∷ v) (unended-texts (i ∷ g))
+unended-texts g = refl
 
 -- Their bytes are those up to the last line ending.
 pub unended-bytes : (g : List HeldLine) → group_bytes (without_ending g) ≡ unended_bytes g
@@ -37,9 +36,8 @@ unended-bytes (h ∷ i ∷ g) = ap (λ v. h.bytes ++ (ending_bytes h.ending ++ v
 
 -- The last line of a body has no line ending to lose.
 unended-held : (e : Encoding) (ls : List Ended) (last : List ℕ) → without_ending (held_of e ls last) ≡ held_of e ls last
-unended-held e [] last = refl
-unended-held e (l ∷ []) last = refl
 unended-held e (l ∷ m ∷ ls) last = ap (λ v. record { bytes = l.text; text = decoded_line e l.text; ending = Some l.by } ∷ v) (unended-held e (m ∷ ls) last)
+unended-held e ls last = refl
 
 -- the ended lines except the last
 abbrev all_but_last : List Ended → List Ended
@@ -125,9 +123,8 @@ unended-groups e body before g after ok h =
 -- The lines that are kept before another line.
 unended-kept : (kept : List HeldLine) (line : HeldLine) (more : List HeldLine)
     → without_ending (kept ++ line ∷ more) ≡ kept ++ without_ending (line ∷ more)
-unended-kept [] line more = refl
-unended-kept (i ∷ []) line more = refl
 unended-kept (i ∷ j ∷ kept) line more = ap (λ v. i ∷ v) (unended-kept (j ∷ kept) line more)
+unended-kept kept line more = refl
 
 -- A line with the same bytes and text.
 record IsAlikeLine (line : HeldLine) (more : List HeldLine) : Type 0 where
