@@ -7,7 +7,7 @@ use Rattle.properties_format.specs.Lines.{InputEnd, end, fault, Line, line_ends,
 use Rattle.properties_format.specs.Computed.Lines.{lines_of}
 use Rattle.properties_format.specs.Groups.{IsGroups, joined, first_number}
 use Rattle.properties_format.specs.Computed.Groups.{groups_of}
-use Rattle.properties_format.specs.Items.{Entry, read_fault, Outcome, ignored, given, broken}
+use Rattle.properties_format.specs.Items.{Entry, read_fault, Outcome, ignored}
 use Rattle.properties_format.specs.Computed.Items.{outcome_of, followed}
 use Rattle.properties_format.specs.ItemsToCome.{ReaderState, start}
 use Rattle.properties_format.specs.Computed.ItemsToCome.{items_to_come, natural_to_come, last_to_come, entries_of_logical, logical_pending, entries_pending}

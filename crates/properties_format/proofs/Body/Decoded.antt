@@ -2,7 +2,7 @@
 -- with these numbers.
 use Rattle.std.proofs.Common.{◌≡◌, ℕ, true, List, [], refl, ap, sym, ◌∙◌, subst}
 use Rattle.properties_format.specs.Pieces.{characters}
-use Rattle.properties_format.specs.Encoding.{Encoding, windows_1252, utf_8, utf_16le, utf_16be}
+use Rattle.properties_format.specs.Encoding.{Encoding, utf_16le, utf_16be}
 use Rattle.properties_format.specs.Lines.{Lines, HoldsNoLineEnd, IsLines}
 use Rattle.properties_format.specs.Computed.Lines.{lines_of}
 use Rattle.properties_format.specs.Cut.{HoldsNoLineEndUnit, IsCut}

@@ -82,28 +82,18 @@ set-other cs ds key value k h =
 changed-value : (key value : List ℕ) (old new : List Content) (k : List ℕ) → IsLastChanged key value old new
     → value_among new k ≡ map_edited (put key value) (value_among old) k
 changed-value key value old new k h = elim (cases_Bool (bytes_eq k key)) [
-  | inl t ↦
-      ap (λ v. value_among v k) h.now
-      ∙ set-last h.before h.after key value k h.no_later ((bytes_eq-Decides k key).0 t)
-      ∙ sym (cond-true (bytes_eq k key) (Some value) (value_among old k) t)
+  | inl t ↦ rw (h.now, t) (set-last h.before h.after key value k h.no_later ((bytes_eq-Decides k key).0 t))
   | inr t ↦
-      ap (λ v. value_among v k) h.now
-      ∙ set-other h.before h.after key value k (not-back k key t)
-      ∙ sym (set-other h.before h.after key h.old_value k (not-back k key t))
-      ∙ ap (λ v. value_among v k) (sym h.was)
-      ∙ sym (cond-false (bytes_eq k key) (Some value) (value_among old k) t)
+      let n = not-back k key t in
+      rw (h.now, h.was, t) (set-other h.before h.after key value k n ∙ sym (set-other h.before h.after key h.old_value k n))
 ]
 
 -- If a new last pair is added, each key has its value in the map with that key set.
 appended-value : (key value : List ℕ) (old new : List Content) (k : List ℕ) → new ≡ old ++ pair key value ∷ []
     → value_among new k ≡ map_edited (put key value) (value_among old) k
 appended-value key value old new k h = elim (cases_Bool (bytes_eq k key)) [
-  | inl t ↦
-      ap (λ v. value_among v k) h
-      ∙ set-last old [] key value k tt ((bytes_eq-Decides k key).0 t)
-      ∙ sym (cond-true (bytes_eq k key) (Some value) (value_among old k) t)
-  | inr t ↦
-      ap (λ v. value_among v k) h ∙ set-other old [] key value k (not-back k key t) ∙ sym (cond-false (bytes_eq k key) (Some value) (value_among old k) t)
+  | inl t ↦ rw (h, t) (set-last old [] key value k tt ((bytes_eq-Decides k key).0 t))
+  | inr t ↦ rw (h, t) (set-other old [] key value k (not-back k key t))
 ]
 
 -- If a key is set, each key has its value in the map with that key set.

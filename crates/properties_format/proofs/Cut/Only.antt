@@ -1,6 +1,6 @@
 -- Some bytes have exactly one list of lines, and a line before bytes is a line before their lines.
 use Rattle.std.proofs.Common.{◌≡◌, List, [], ◌∷◌, ◌++◌, ℕ, refl, ap, sym, ◌∙◌}
-use Rattle.properties_format.specs.Text.{LineEnding, lf, cr, crlf, line_ending_text}
+use Rattle.properties_format.specs.Text.{LineEnding, lf, cr, line_ending_text}
 use Rattle.properties_format.specs.Lines.{Ended, Lines, BeginsWithNoLoneLf}
 use Rattle.properties_format.specs.Utf16.{low_first, high_first}
 use Rattle.properties_format.specs.Encoding.{Encoding, windows_1252, utf_8, utf_16le, utf_16be, IsAligned}

@@ -1,6 +1,6 @@
 -- Finding the lines of undecoded bytes from the front: a line and its end, and then the lines of what follows.
 use Rattle.std.proofs.Common.{◌≡◌, ℕ, false, List, [], ◌∷◌, ◌++◌, refl, ap, sym, ◌∙◌}
-use Rattle.properties_format.specs.Text.{line_feed, LineEnding, lf, cr, crlf}
+use Rattle.properties_format.specs.Text.{line_feed, LineEnding, lf, cr}
 use Rattle.properties_format.specs.Lines.{Ended, Lines, BeginsWithNoLoneLf}
 use Rattle.properties_format.specs.Encoding.{Encoding, IsAligned}
 use Rattle.properties_format.specs.Cut.{units, HoldsNoLineEndUnit, line_ending_bytes, bytes_together}

@@ -4,8 +4,8 @@ use Rattle.std.proofs.lemmas.Bool.{cond-true, cond-false, false_from_ne_true}
 use Rattle.std.proofs.lemmas.Slice.Eq.{bytes_eq-Decides}
 use Rattle.properties_format.specs.Encoding.{Encoding, byte_order_mark}
 use Rattle.properties_format.specs.Groups.{joined}
-use Rattle.properties_format.specs.Entries.{comment, pair}
-use Rattle.properties_format.specs.Items.{Outcome, ignored, given, broken}
+use Rattle.properties_format.specs.Entries.{pair}
+use Rattle.properties_format.specs.Items.{Outcome, given}
 use Rattle.properties_format.specs.Computed.Items.{outcome_of}
 use Rattle.properties_format.specs.Body.{HeldLine, as_lines, group_bytes, HasKey, NoneHasKey}
 use Rattle.properties_format.specs.Edited.{IsReplaced, IsAppended, IsKeySet, IsWithout, IsKeyRemoved}

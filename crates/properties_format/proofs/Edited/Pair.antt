@@ -4,7 +4,7 @@ use Rattle.std.specs.Prelude.{All}
 use Rattle.std.proofs.lemmas.Bool.{cases_Bool}
 use Rattle.std.proofs.lemmas.List.Elements.{recursion_from_All}
 use Rattle.properties_format.specs.Text.{scalar, equals_sign}
-use Rattle.properties_format.specs.Encoding.{Encoding, windows_1252, utf_8, utf_16le, utf_16be, output_encoding}
+use Rattle.properties_format.specs.Encoding.{Encoding, utf_16le, utf_16be, output_encoding}
 use Rattle.properties_format.specs.Lines.{HoldsNoLineEnd, Line}
 use Rattle.properties_format.specs.Groups.{is_comment_line, IsWhole, joined}
 use Rattle.properties_format.specs.Entries.{pair}

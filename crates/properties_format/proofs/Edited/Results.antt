@@ -5,7 +5,7 @@ use Rattle.properties_format.specs.Encoding.{Encoding, byte_order_mark}
 use Rattle.properties_format.specs.Lines.{end}
 use Rattle.properties_format.specs.Escapes.{Malformed}
 use Rattle.properties_format.specs.Entries.{Content, Entry, item, malformed, read_fault, AreItems}
-use Rattle.properties_format.specs.Items.{Outcome, ignored, given, broken}
+use Rattle.properties_format.specs.Items.{Outcome, broken}
 use Rattle.properties_format.specs.Groups.{joined}
 use Rattle.properties_format.specs.Body.{HeldLine, as_lines}
 use Rattle.properties_format.specs.Computed.Items.{outcome_of, followed, items_of}

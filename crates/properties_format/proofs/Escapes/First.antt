@@ -2,7 +2,7 @@
 use Rattle.std.proofs.Common.{◌≡◌, ℕ, ◌==◌, ◌&&◌, true, false, List, [], ◌∷◌, ◌++◌, Option, Some, None, refl, ap, ◌∙◌, inl, inr}
 use Rattle.std.proofs.lemmas.Bool.{cases_Bool, eqb-true, and_parts, or_parts, or_from}
 use Rattle.properties_format.specs.Text.{backslash}
-use Rattle.properties_format.specs.Escapes.{letter_u, Four, four_text, are_hexadecimal, code_unit, is_high, is_low, is_surrogate, Spelling, itself, escaped, unicode, surrogates, last, spelling_text, IsSpelling, NoSpelling}
+use Rattle.properties_format.specs.Escapes.{letter_u, Four, four_text, are_hexadecimal, code_unit, is_high, is_low, is_surrogate, Spelling, unicode, surrogates, spelling_text, IsSpelling, NoSpelling}
 use Rattle.properties_format.specs.Computed.Escapes.{with_low, with_digits, after_u, after_backslash, first_spelling}
 
 -- the spelling that the text begins with, if there is one

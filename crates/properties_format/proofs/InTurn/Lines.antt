@@ -1,6 +1,6 @@
 -- The lines of a group by itself, and these lines with another last line ending.
 use Rattle.std.proofs.Common.{◌≡◌, ◌≢◌, ℕ, true, false, List, [], ◌∷◌, ◌++◌, Option, Some, None, refl, ap, ap₂, sym, ◌∙◌, append_assoc, append-nil}
-use Rattle.properties_format.specs.Text.{LineEnding, lf, cr, crlf, line_ending_text}
+use Rattle.properties_format.specs.Text.{LineEnding, lf, cr, line_ending_text}
 use Rattle.properties_format.specs.Encoding.{Encoding}
 use Rattle.properties_format.specs.Lines.{Lines, HoldsNoLineEnd}
 use Rattle.properties_format.specs.Computed.Lines.{begins_with_lf, ends_in_cr}

@@ -1,7 +1,7 @@
 -- Where a text may be cut so that the lines of the two parts are the lines of the whole: anywhere except between a CR
 -- and an LF.
 use Rattle.std.proofs.Common.{◌≡◌, ℕ, true, false, List, [], ◌∷◌, ◌++◌, refl, ap, ◌∙◌}
-use Rattle.properties_format.specs.Text.{carriage_return, LineEnding, lf, cr, crlf, line_ending_text}
+use Rattle.properties_format.specs.Text.{carriage_return, LineEnding, cr, line_ending_text}
 use Rattle.properties_format.specs.Lines.{Ended, Lines, put_together, AreLines}
 use Rattle.properties_format.specs.Computed.Lines.{begins_with_lf, ends_in_cr, lines_of}
 use Rattle.properties_format.proofs.Lines.Meets.{lines_of-meets}

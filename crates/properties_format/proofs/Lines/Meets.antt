@@ -2,7 +2,7 @@
 use Rattle.std.proofs.Common.{◌≡◌, ℕ, ◌==◌, false, List, [], ◌∷◌, refl, ap, inl, inr}
 use Rattle.std.proofs.lemmas.Bool.{or_from, or_parts}
 use Rattle.std.proofs.lemmas.Bool.Decides.{eqb_tells}
-use Rattle.properties_format.specs.Text.{line_feed, carriage_return, is_line_end, LineEnding, lf, cr, crlf}
+use Rattle.properties_format.specs.Text.{line_feed, carriage_return, is_line_end, LineEnding, lf}
 use Rattle.properties_format.specs.Lines.{Ended, Lines, IsLines}
 use Rattle.properties_format.specs.Computed.Lines.{end_before, cr_before, character_before, before, lines_of}
 

@@ -5,8 +5,8 @@ use Rattle.std.specs.Char.{digit_char}
 use Rattle.std.proofs.lemmas.Bool.{cond_both, and_from, and_parts}
 use Rattle.std.proofs.lemmas.Str.{encode_ascii}
 use Rattle.std.proofs.lemmas.Bool.Decides.{nat_tests}
-use Rattle.properties_format.specs.Text.{scalar, line_ending_text, LineEnding, lf, cr, crlf, is_blank, space, backslash, is_separator}
-use Rattle.properties_format.specs.Encoding.{Encoding, windows_1252, utf_8, utf_16le, utf_16be, encoded, one_byte}
+use Rattle.properties_format.specs.Text.{scalar, line_ending_text, LineEnding, crlf, is_blank, space, backslash, is_separator}
+use Rattle.properties_format.specs.Encoding.{Encoding, windows_1252, encoded, one_byte}
 use Rattle.properties_format.specs.Entries.{Content, comment, pair}
 use Rattle.properties_format.specs.Split.{AreBlanks}
 use Rattle.properties_format.specs.Settings.{Settings, IsGoodSeparator}

@@ -2,7 +2,7 @@
 use Rattle.std.proofs.Common.{◌≡◌, List, [], ◌∷◌, refl, ap, ◌∙◌, lit<, inl, subst}
 use Rattle.std.proofs.lemmas.List.Elements.{All-from_recursion}
 use Rattle.properties_format.specs.Text.{scalar, number_sign, space}
-use Rattle.properties_format.specs.Encoding.{Encoding, windows_1252, utf_8, utf_16le, utf_16be, output_encoding, characters}
+use Rattle.properties_format.specs.Encoding.{Encoding, windows_1252, output_encoding, characters}
 use Rattle.properties_format.specs.Computed.Encoding.{pieces_of, decoded_of}
 use Rattle.properties_format.specs.Lines.{end, line_ends}
 use Rattle.properties_format.specs.Computed.Lines.{lines_of}

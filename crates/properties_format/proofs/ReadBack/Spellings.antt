@@ -1,7 +1,7 @@
 -- What is printed for a character is a spelling of that character.
-use Rattle.std.proofs.Common.{◌≡◌, ◌⊎◌, ℕ, ◌<◌, ◌≤◌, ◌==◌, ◌||◌, true, false, cond, List, [], ◌∷◌, ◌++◌, refl, sym, ◌∙◌, inl, inr, arith, eqb-true, ltb-true, ltb-false, le-ltb, subst, ap₂}
+use Rattle.std.proofs.Common.{◌≡◌, ◌⊎◌, ℕ, ◌<◌, ◌≤◌, ◌==◌, ◌||◌, true, false, List, [], ◌∷◌, ◌++◌, refl, sym, ◌∙◌, inl, inr, arith, eqb-true, ltb-true, ltb-false, le-ltb, subst, ap₂}
 use Rattle.std.specs.Prelude.{Bool, nat_lt, nat_le}
-use Rattle.std.proofs.lemmas.Bool.{cases_Bool, cond-true, cond-false, and_left, and_right, or_from, or_cases, or_parts, lt-leb, cond_both}
+use Rattle.std.proofs.lemmas.Bool.{cases_Bool, and_left, and_right, or_from, or_cases, or_parts, lt-leb, cond_both}
 use Rattle.std.proofs.lemmas.Bool.Decides.{nat_tests}
 use Rattle.properties_format.specs.Text.{scalar, tab, line_feed, form_feed, carriage_return, space, backslash, is_blank, is_line_end, is_comment_sign, is_separator}
 use Rattle.properties_format.specs.Encoding.{Encoding}
@@ -152,50 +152,32 @@ record IsOrdinary (c : ℕ) : Type 0 where
   special : is_special c ≡ false
   letter : has_letter c ≡ false
 
--- A character that isn't a space, a tab or a form feed isn't a blank.
-blank-cases : (c : ℕ) → (c == space) ≡ false → (c == tab) ≡ false → (c == form_feed) ≡ false → is_blank c ≡ false
-blank-cases c a b d = or_from (c == space) (c == tab || c == form_feed) a (or_from (c == tab) (c == form_feed) b d)
-
 -- Such a character is a safe spelling of itself.
 itself-printed : (c : ℕ) → IsOrdinary c → IsSafelyPrinted (c ∷ []) c
 itself-printed c o =
-    let a = or_parts (c == backslash) (c == space || (is_separator c || is_comment_sign c)) o.special in
-    let b = or_parts (c == space) (is_separator c || is_comment_sign c) a.1 in
-    let d = or_parts (is_separator c) (is_comment_sign c) b.1 in
-    let f = or_parts (c == tab || c == line_feed) (c == form_feed || c == carriage_return) o.letter in
-    let g = or_parts (c == tab) (c == line_feed) f.0 in
-    let i = or_parts (c == form_feed) (c == carriage_return) f.1 in
+    let a = o.special in
+    let b = o.letter in
+    let plain : is_line_end c ≡ false = grind (arith, nat_tests) in
+    let d = or_parts (c == backslash) (c == space || (is_separator c || is_comment_sign c)) a in
     record {
       spelling = itself c;
       text = refl;
       character = refl;
-      safe = (a.0, blank-cases c b.0 g.0 i.0, d.0, d.1, or_from (c == line_feed) (c == carriage_return) g.1 i.1);
+      safe = (d.0, grind (arith, nat_tests), grind (arith, nat_tests), grind (arith, nat_tests), plain);
     }
 
 -- Unescaped if that is allowed, otherwise escaped, such a character is safely spelt.
 literal-printed : (e : Encoding) (only : Bool) (c : ℕ) → scalar c → IsOrdinary c → IsSafelyPrinted (literal e only c) c
-literal-printed e only c h o = elim (cases_Bool (may_be_unescaped e only c)) [
-  | inl k ↦ same-printed (literal e only c) (c ∷ []) c (cond-true (may_be_unescaped e only c) (c ∷ []) (unicode_escape c) k) (itself-printed c o)
-  | inr k ↦ same-printed (literal e only c) (unicode_escape c) c (cond-false (may_be_unescaped e only c) (c ∷ []) (unicode_escape c) k) (unicode-printed c h)
-]
+literal-printed e only c h o =
+    cond_both (may_be_unescaped e only c) (c ∷ []) (unicode_escape c) (λ x. IsSafelyPrinted x c) (λ k. itself-printed c o) (λ k. unicode-printed c h)
 
 -- What is printed for a character in a key or a value is a safe spelling of it.
 pub in_key_or_value-printed : (e : Encoding) (only : Bool) (c : ℕ) → scalar c → IsSafelyPrinted (printed_character e only in_key_or_value c) c
 in_key_or_value-printed e only c h =
-    let last_two = cond (nat_lt c space) (unicode_escape c) (literal e only c) in
-    let last_three = cond (has_letter c) (letter_escape c) last_two in
-    elim (cases_Bool (is_special c)) [
-      | inl k ↦ same-printed _ (backslash ∷ c ∷ []) c (cond-true (is_special c) (backslash ∷ c ∷ []) last_three k) (special-printed c k)
-      | inr k ↦ same-printed _ last_three c (cond-false (is_special c) (backslash ∷ c ∷ []) last_three k)
-          (elim (cases_Bool (has_letter c)) [
-            | inl l ↦ same-printed _ (letter_escape c) c (cond-true (has_letter c) (letter_escape c) last_two l) (letter-printed c l)
-            | inr l ↦ same-printed _ last_two c (cond-false (has_letter c) (letter_escape c) last_two l)
-                (elim (cases_Bool (nat_lt c space)) [
-                  | inl m ↦ same-printed _ (unicode_escape c) c (cond-true (nat_lt c space) (unicode_escape c) (literal e only c) m) (unicode-printed c h)
-                  | inr m ↦ same-printed _ (literal e only c) c (cond-false (nat_lt c space) (unicode_escape c) (literal e only c) m) (literal-printed e only c h (record { special = k; letter = l }))
-                ])
-          ])
-    ]
+    cond_both (is_special c) (backslash ∷ c ∷ []) _ (λ x. IsSafelyPrinted x c) (special-printed c) (λ k.
+    cond_both (has_letter c) (letter_escape c) _ (λ x. IsSafelyPrinted x c) (letter-printed c) (λ l.
+    cond_both (nat_lt c space) (unicode_escape c) (literal e only c) (λ x. IsSafelyPrinted x c) (λ m. unicode-printed c h)
+    (λ m. literal-printed e only c h (record { special = k; letter = l }))))
 
 -- ---- comments and prefixes
 
@@ -208,36 +190,25 @@ escape-plainly c d u l e b f = record { spelling = escaped d; text = refl; chara
 at-character_plainly : (c d : ℕ) (x : ℕ → List ℕ) → (c == d) ≡ true → IsPlainlyPrinted (x d) d → IsPlainlyPrinted (x c) c
 at-character_plainly c d x e s = rw (eqb-true c d e) s
 
--- A blank may be written unescaped, because it is ASCII.
-blank-stands : (e : Encoding) (only : Bool) (c : ℕ) → is_blank c ≡ true → may_be_unescaped e only c ≡ true
-blank-stands e only c h = may_be_unescaped-ascii e only c (blank-ascii c h)
-
 -- A character that may not be written unescaped isn't a blank.
 escaped-full : (e : Encoding) (only : Bool) (c : ℕ) → may_be_unescaped e only c ≡ false → is_blank c ≡ false
-escaped-full e only c h = elim (cases_Bool (is_blank c)) [ inl b ↦ (let k = blank-stands e only c b in cc) | inr b ↦ b ]
+escaped-full e only c h = elim (cases_Bool (is_blank c)) [ inl b ↦ (let k = may_be_unescaped-ascii e only c (blank-ascii c b) in cc) | inr b ↦ b ]
 
 -- Unescaped if that is allowed, otherwise escaped, a character that isn't a backslash or a line end is plainly spelt.
 pub literal-plainly : (e : Encoding) (only : Bool) (c : ℕ) → scalar c → (c == backslash) ≡ false → is_line_end c ≡ false → IsPlainlyPrinted (literal e only c) c
-literal-plainly e only c h b l = elim (cases_Bool (may_be_unescaped e only c)) [
-  | inl k ↦ same-plainly (literal e only c) (c ∷ []) c (cond-true (may_be_unescaped e only c) (c ∷ []) (unicode_escape c) k)
-      (record { spelling = itself c; text = refl; character = refl; safe = inr (refl, b, l); keeps = KeepsBlanks-itself c })
-  | inr k ↦ same-plainly (literal e only c) (unicode_escape c) c (cond-false (may_be_unescaped e only c) (c ∷ []) (unicode_escape c) k) (unicode-plainly c h (escaped-full e only c k))
-]
+literal-plainly e only c h b l =
+    cond_both (may_be_unescaped e only c) (c ∷ []) (unicode_escape c) (λ x. IsPlainlyPrinted x c)
+    (λ k. record { spelling = itself c; text = refl; character = refl; safe = inr (refl, b, l); keeps = KeepsBlanks-itself c })
+    (λ k. unicode-plainly c h (escaped-full e only c k))
 
 -- What is printed for a character in a comment is a plain spelling of it.
 pub in_comment-printed : (e : Encoding) (only : Bool) (c : ℕ) → scalar c → IsPlainlyPrinted (printed_character e only in_comment c) c
 in_comment-printed e only c h =
-    let rest = cond (c == line_feed || c == carriage_return) (letter_escape c) (literal e only c) in
-    elim (cases_Bool (c == backslash)) [
-      | inl k ↦ same-plainly _ (backslash ∷ backslash ∷ []) c (cond-true (c == backslash) (backslash ∷ backslash ∷ []) rest k)
-          (at-character_plainly c backslash (λ v. backslash ∷ backslash ∷ []) k (escape-plainly backslash backslash refl refl refl refl refl))
-      | inr k ↦ same-plainly _ rest c (cond-false (c == backslash) (backslash ∷ backslash ∷ []) rest k)
-          (elim (cases_Bool (c == line_feed || c == carriage_return)) [
-            | inl l ↦ same-plainly _ (letter_escape c) c (cond-true (c == line_feed || c == carriage_return) (letter_escape c) (literal e only c) l)
-                (elim (or_cases (c == line_feed) (c == carriage_return) l) [
-                  | inl m ↦ at-character_plainly c line_feed letter_escape m (escape-plainly line_feed 0x6e refl refl refl refl refl)
-                  | inr m ↦ at-character_plainly c carriage_return letter_escape m (escape-plainly carriage_return 0x72 refl refl refl refl refl)
-                ])
-            | inr l ↦ same-plainly _ (literal e only c) c (cond-false (c == line_feed || c == carriage_return) (letter_escape c) (literal e only c) l) (literal-plainly e only c h k l)
-          ])
-    ]
+    cond_both (c == backslash) (backslash ∷ backslash ∷ []) _ (λ x. IsPlainlyPrinted x c)
+    (λ k. at-character_plainly c backslash (λ v. backslash ∷ backslash ∷ []) k (escape-plainly backslash backslash refl refl refl refl refl)) (λ k.
+    cond_both (c == line_feed || c == carriage_return) (letter_escape c) (literal e only c) (λ x. IsPlainlyPrinted x c)
+    (λ l. elim (or_cases (c == line_feed) (c == carriage_return) l) [
+      | inl m ↦ at-character_plainly c line_feed letter_escape m (escape-plainly line_feed 0x6e refl refl refl refl refl)
+      | inr m ↦ at-character_plainly c carriage_return letter_escape m (escape-plainly carriage_return 0x72 refl refl refl refl refl)
+    ])
+    (λ l. literal-plainly e only c h k l))

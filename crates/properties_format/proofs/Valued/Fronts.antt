@@ -398,23 +398,12 @@ head-less e first line q head h =
     let t = head-line e first line q head h in
     elim (cases_Bool (is_open y)) [
       | inl k ↦
-          let a : length y ≡ length (without_last y ++ backslash ∷ []) = ap length (open-ends y k) in
-          let b = length-append (without_last y) (backslash ∷ []) in
-          let c : length y ≡ length (q ++ h.rest) = ap length t in
-          let d = length-append q h.rest in
-          let w : without_open_backslash y ≡ without_last y = rw k refl in
-          let l : length (without_open_backslash y) ≡ length (without_last y) = ap length w in
           let more : h.rest ≢ [] = λ n.
           let u : is_open y ≡ is_open q = ap is_open (t ∙ ap (λ v. q ++ v) n ∙ append-nil q) in
           let o : is_open q ≡ false = ap is_open (sym h.adds) ∙ open-indent first h.text ∙ h.closed in
           absurd (cc) in
-          let f : 1 ≤ length h.rest = some-length h.rest more in
-          omega arith
-      | inr k ↦
-          let w : without_open_backslash y ≡ q ++ h.rest = without_open_backslash-closed y k ∙ t in
-          let l : length (without_open_backslash y) ≡ length (q ++ h.rest) = ap length w in
-          let d = length-append q h.rest in
-          omega arith
+          rw k (omega (arith, ap length (open-ends y k), length-append (without_last y) (backslash ∷ []), ap length t, length-append q h.rest, some-length h.rest more))
+      | inr k ↦ rw k (omega (arith, ap length t, length-append q h.rest))
     ]
 
 -- A head is the computed one.
@@ -423,11 +412,8 @@ head-only : (e : Encoding) (first : Bool) (line : HeldLine) (more : List HeldLin
     → head ≡ head_of e (head_size first line.text q) line.bytes
 head-only e first line more q v head ok d h s k =
     let t = head-line e first line q head h in
-    let a : length line.text ≡ length (h.text ++ h.rest) = ap length h.cut_text in
-    let b = length-append h.text h.rest in
-    let c : length (without_indent first line.text) ≡ length (q ++ h.rest) = ap length t in
-    let f = length-append q h.rest in
-    let size : length h.text ≡ head_size first line.text q = omega arith in
+    let size : length h.text ≡ head_size first line.text q =
+    omega (arith, ap length h.cut_text, length-append h.text h.rest, ap length t, length-append q h.rest) in
     heads-same e line.bytes h.text h.rest head (head_of e (length h.text) line.bytes) ok (head-ends e first line more q v head h s k) h.is_head
     (head_of-meets e line.bytes h.text h.rest ok (d ∙ h.cut_text))
     ∙ ap (λ n. head_of e n line.bytes) size

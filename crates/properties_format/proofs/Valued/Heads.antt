@@ -3,7 +3,7 @@ use Rattle.std.proofs.Common.{◌≡◌, ◌⊎◌, ◌<◌, ℕ, true, List, []
 use Rattle.std.proofs.lemmas.List.{append_cancel_right}
 use Rattle.properties_format.specs.Text.{backslash}
 use Rattle.properties_format.specs.Pieces.{Piece, characters}
-use Rattle.properties_format.specs.Encoding.{Encoding, windows_1252, utf_8, utf_16le, utf_16be, IsPiece, IsPieces, IsAligned, ascii_bytes}
+use Rattle.properties_format.specs.Encoding.{Encoding, utf_16le, utf_16be, IsPiece, IsPieces, IsAligned, ascii_bytes}
 use Rattle.properties_format.specs.Computed.Encoding.{pieces_of}
 use Rattle.properties_format.specs.Computed.Cut.{decoded_line}
 use Rattle.properties_format.specs.Edited.{is_editable}

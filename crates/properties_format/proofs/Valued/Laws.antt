@@ -4,7 +4,7 @@ use Rattle.std.proofs.lemmas.Bool.{cases_Bool, cond-true, false_from_ne_true}
 use Rattle.properties_format.specs.Encoding.{Encoding, byte_order_mark}
 use Rattle.properties_format.specs.Lines.{end}
 use Rattle.properties_format.specs.Groups.{joined}
-use Rattle.properties_format.specs.Entries.{comment, pair, Entry, item, AreItems}
+use Rattle.properties_format.specs.Entries.{pair, Entry, item, AreItems}
 use Rattle.properties_format.specs.Items.{Outcome, ignored, given, broken, IsOutcome}
 use Rattle.properties_format.specs.Computed.Items.{outcome_of, followed, items_of}
 use Rattle.properties_format.specs.Maps.{HasNoPair, IsLastValue, HasValue}

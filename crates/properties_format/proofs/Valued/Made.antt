@@ -200,7 +200,7 @@ valued-meets e only body key value gs (Some p) ok g h = elim (cases_Bool (has_va
         division = h.division;
         has_pair = has_value-true key value p.group h.has k;
         no_later = h.no_later;
-        bytes = cond-true (has_value value p.group) (groups_bytes gs) (revalued_at e only value p) k;
+        bytes = rw k refl;
       })
   | inr k ↦
       let m = raw-pair key p.group h.has in
@@ -215,7 +215,7 @@ valued-meets e only body key value gs (Some p) ok g h = elim (cases_Bool (has_va
         between = between_of p.group;
         front = front_of e p.group;
         is_front = front_of-meets e p.group m.0 m.1 ok (group-decoded e body gs p.before p.group p.after g h.division) m.2;
-        bytes = cond-false (has_value value p.group) (groups_bytes gs) (revalued_at e only value p) k;
+        bytes = rw k refl;
       }))
 ]
 

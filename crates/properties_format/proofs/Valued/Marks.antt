@@ -1,8 +1,9 @@
 -- The encoding in force of a source with a value set is that of the source: the byte order mark stays, and no new one
 -- appears.
-use Rattle.std.proofs.Common.{◌≡◌, ◌<◌, ℕ, ◌==◌, ◌||◌, true, false, List, [], ◌∷◌, ◌++◌, refl, ap, sym, ◌∙◌, inl, inr, append_assoc, append-nil, lit<, Bool}
+use Rattle.std.proofs.Common.{◌≡◌, ◌<◌, ℕ, ◌==◌, true, false, List, [], ◌∷◌, ◌++◌, refl, ap, sym, ◌∙◌, inl, inr, append_assoc, append-nil, lit<, Bool, arith}
 use Rattle.std.specs.Prelude.{unwrap_or}
-use Rattle.std.proofs.lemmas.Bool.{and_parts, and_from, or_cases, or_left, or_right, false_from_ne_true}
+use Rattle.std.proofs.lemmas.Bool.{and_parts, and_from, false_from_ne_true}
+use Rattle.std.proofs.lemmas.Bool.Decides.{nat_tests}
 use Rattle.properties_format.specs.Text.{equals_sign, LineEnding, lf, line_ending_text, is_blanks}
 use Rattle.properties_format.specs.Encoding.{Encoding, byte_order_mark, begins_with, begins_like_bom, utf_8_bom, utf_16be_bom, utf_16le_bom}
 use Rattle.properties_format.specs.Printing.{encoded_text, printed_key}
@@ -30,16 +31,10 @@ begins-more (c ∷ m) (d ∷ b) z h =
 -- Bytes that begin like a byte order mark still do with more after them.
 like-more : (b z : List ℕ) → begins_like_bom b ≡ true → begins_like_bom (b ++ z) ≡ true
 like-more b z h =
-    let x = begins_with utf_8_bom (b ++ z) in
-    let y = begins_with utf_16be_bom (b ++ z) in
-    let w = begins_with utf_16le_bom (b ++ z) in
-    elim (or_cases (begins_with utf_8_bom b) (begins_with utf_16be_bom b || begins_with utf_16le_bom b) h) [
-      | inl k ↦ or_left x (y || w) (begins-more utf_8_bom b z k)
-      | inr k ↦ elim (or_cases (begins_with utf_16be_bom b) (begins_with utf_16le_bom b) k) [
-        | inl m ↦ or_right x (y || w) (or_left y w (begins-more utf_16be_bom b z m))
-        | inr m ↦ or_right x (y || w) (or_right y w (begins-more utf_16le_bom b z m))
-      ]
-    ]
+    let m = begins-more utf_8_bom b z in
+    let n = begins-more utf_16be_bom b z in
+    let o = begins-more utf_16le_bom b z in
+    grind (arith, nat_tests)
 
 -- If bytes don't begin like a byte order mark, neither does their front followed by an ASCII character and any bytes.
 prefix-unmarked : (b z : List ℕ) (c : ℕ) (y : List ℕ) → c < 0x80 → begins_like_bom (b ++ z) ≡ false → begins_like_bom (b ++ c ∷ y) ≡ false
