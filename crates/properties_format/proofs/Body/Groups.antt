@@ -3,6 +3,7 @@
 use Rattle.std.proofs.Common.{◌≡◌, ◌≢◌, ◌<◌, ◌⊎◌, ℕ, true, false, List, [], ◌∷◌, ◌++◌, Some, None, refl, ap, ap₂, sym, ◌∙◌, inl, inr, append_assoc}
 use Rattle.std.proofs.Common.{append-nil, subst, lit<}
 use Rattle.std.proofs.lemmas.Bool.{cases_Bool}
+use Rattle.properties_format.proofs.Encodings.PieceEnds.{none-right}
 use Rattle.properties_format.specs.Text.{line_feed, carriage_return, LineEnding, lf, cr, crlf, line_ending_text}
 use Rattle.properties_format.specs.Encoding.{Encoding}
 use Rattle.properties_format.specs.Lines.{Ended, Lines, end, Line, put_together, BeginsWithNoLoneLf, AreLines}
@@ -162,11 +163,6 @@ fit (g ∷ i ∷ gs) (w ∷ whole) u t h k =
 abbrev pub held_ended : Encoding → List Ended → List HeldLine
 held_ended e [] = []
 held_ended e (l ∷ ls) = record { bytes = l.text; text = decoded_line e l.text; ending = Some l.by } ∷ held_ended e ls
-
--- If two lists of lines together are empty, the second is empty.
-none-right : (x y : List HeldLine) → x ++ y ≡ [] → y ≡ []
-none-right [] y h = h
-none-right (a ∷ x) y h = absurd (cc)
 
 -- Lines were cut off before the last one.
 pub record IsCutOff (e : Encoding) (g rest : List HeldLine) (ls : List Ended) (last : List ℕ) : Type 0 where

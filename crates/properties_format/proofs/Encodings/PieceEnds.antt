@@ -57,9 +57,14 @@ utf_8-less p rest z (stray a e h) = stray a e h
 utf_8-less p rest z (broken a bs e h k) = broken a bs e h (breaks-less (a ∷ bs) rest z k)
 
 -- The front of an empty list is empty.
-pub no-front : (rest z : List ℕ) → rest ++ z ≡ [] → rest ≡ []
+pub no-front : {A : Type 0} (rest z : List A) → rest ++ z ≡ [] → rest ≡ []
 no-front [] z h = refl
 no-front (b ∷ rest) z h = cc
+
+-- So is its rest.
+pub none-right : {A : Type 0} (x y : List A) → x ++ y ≡ [] → y ≡ []
+none-right [] y h = h
+none-right (c ∷ x) y h = absurd (cc)
 
 -- A high surrogate before a unit that isn't low stays unpaired if fewer units follow it.
 alone-less : (unit : ℕ → ℕ → ℕ) (a b c d : ℕ) (more rest z : List ℕ) → IsEven rest → is_high (unit a b) ≡ true → rest ++ z ≡ c ∷ d ∷ more → is_low (unit c d) ≡ false

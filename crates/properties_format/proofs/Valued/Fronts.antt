@@ -25,7 +25,7 @@ use Rattle.properties_format.proofs.Split.Unique.{separator-full}
 use Rattle.properties_format.proofs.Cut.Byline.{decoded_line-meets, decoded_line-only}
 use Rattle.properties_format.proofs.Valued.Parts.{pair-line, between_in-pair, before_value-pair, comment_line-no_pair}
 use Rattle.properties_format.proofs.Valued.Heads.{EndsInAscii, IsLittle, IsHeadOf, head_of-meets, heads-same}
-use Rattle.properties_format.proofs.Encodings.PieceEnds.{no-front}
+use Rattle.properties_format.proofs.Encodings.PieceEnds.{no-front, none-right}
 
 -- ---- what a line adds
 
@@ -118,11 +118,6 @@ joined_by-append first (h ∷ a) b =
     ∙ sym (append_assoc (added_by first h.text) (joined_by false a) (joined_by false b))
 
 -- ---- empty texts
-
--- If two texts together are empty, the second is.
-pub none-right : (x y : List ℕ) → x ++ y ≡ [] → y ≡ []
-none-right [] y h = h
-none-right (c ∷ x) y h = absurd (cc)
 
 -- If the second of two texts isn't empty, the two together aren't.
 pub right-some : (x y : List ℕ) → y ≢ [] → x ++ y ≢ []

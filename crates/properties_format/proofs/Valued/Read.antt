@@ -4,11 +4,11 @@ use Rattle.std.proofs.lemmas.List.{append_cancel_right}
 use Rattle.properties_format.specs.Text.{scalar}
 use Rattle.properties_format.specs.Encoding.{Encoding, InForce, byte_order_mark}
 use Rattle.properties_format.specs.Printing.{encoded_text}
-use Rattle.properties_format.specs.Body.{HeldLine, group_bytes, groups_bytes, ending_bytes, last_ending}
+use Rattle.properties_format.specs.Body.{HasKey, HeldLine, NoneHasKey, group_bytes, groups_bytes, ending_bytes, last_ending}
 use Rattle.properties_format.specs.Edited.{bom_of, final_group, edited, is_editable}
 use Rattle.properties_format.specs.Edits.{put}
 use Rattle.properties_format.specs.Changed.{IsSetIn, map_edited, AreOthersThanLast, OccurIn, ReadsAfter, KeepsOthers}
-use Rattle.properties_format.specs.Valued.{value_text, ending_in, separation_by, new_pair_bytes, IsFrontOf, IsValueSet, IsSetValueResult, KeepsFront}
+use Rattle.properties_format.specs.Valued.{IsAlikeAround, value_text, ending_in, separation_by, new_pair_bytes, IsFrontOf, IsValueSet, IsSetValueResult, KeepsFront}
 use Rattle.properties_format.specs.Computed.Body.{held_groups_of}
 use Rattle.properties_format.specs.Computed.Edited.{last_place}
 use Rattle.properties_format.specs.Computed.Parts.{unended_bytes}
@@ -163,6 +163,34 @@ around-source e source before group after between front f s =
     ∙ ap (λ v. groups_bytes before ++ v) (append_assoc front (old ++ by) (groups_bytes after) ∙ ap (λ v. front ++ v) (append_assoc old by (groups_bytes after)))
     ∙ sym (append_assoc (groups_bytes before) front (old ++ (by ++ groups_bytes after))))
 
+-- Such a source, and a result with other bytes instead of that value.
+alike-around : (e : Encoding) (source key new result : List ℕ) (groups before : List (List HeldLine)) (group : List HeldLine) (after : List (List HeldLine)) (between front : List ℕ)
+    → groups ≡ before ++ group ∷ after → HasKey key group → NoneHasKey key after → (byte_order_mark e source).body ≡ groups_bytes groups
+    → IsFrontOf (byte_order_mark e source).encoding group between front
+    → result ≡ bom_of source ++ ((groups_bytes before ++ front) ++ (new ++ (ending_bytes (last_ending group) ++ groups_bytes after)))
+    → IsAlikeAround (byte_order_mark e source).encoding source groups key result
+alike-around e source key new result groups before group after between front s has none body f is = record {
+  front = groups_bytes before ++ front;
+  back = ending_bytes (last_ending group) ++ groups_bytes after;
+  around = record {
+    before = before;
+    group = group;
+    after = after;
+    division = s;
+    has_key = has;
+    no_later = none;
+    between = between;
+    pair_front = front;
+    is_front = f;
+    front_bytes = refl;
+    back_bytes = refl;
+  };
+  old = after_front f.line f.tail f.more;
+  new = new;
+  source_is = around-source e source before group after between front f (body ∙ ap groups_bytes s);
+  result_is = is;
+}
+
 -- If a value is set, every byte outside the old value is unchanged.
 pub value_set-keeps_front : (e : Encoding) (only : Bool) (source key value result : List ℕ) → is_editable (byte_order_mark e source).encoding ≡ true
     → IsValueSet e only source key value result
@@ -177,55 +205,16 @@ value_set-keeps_front e only source key value result ok h =
           let s = around-source e source r.before r.group r.after (between_of r.group) (front_of f.encoding r.group) m (body ∙ ap groups_bytes r.division) in (
             h.groups,
             h.held,
-            inl (record {
-              front = groups_bytes r.before ++ front_of f.encoding r.group;
-              back = ending_bytes (last_ending r.group) ++ groups_bytes r.after;
-              around = record {
-                before = r.before;
-                group = r.group;
-                after = r.after;
-                division = r.division;
-                has_key = (value, r.has_pair);
-                no_later = r.no_later;
-                between = between_of r.group;
-                pair_front = front_of f.encoding r.group;
-                is_front = m;
-                front_bytes = refl;
-                back_bytes = refl;
-              };
-              old = after_front m.line m.tail m.more;
-              new = after_front m.line m.tail m.more;
-              source_is = s;
-              result_is = h.whole ∙ ap (λ v. bom_of source ++ v) (r.bytes ∙ sym body) ∙ sym (source-whole e source) ∙ s;
-            }),
+            inl (alike-around e source key (after_front m.line m.tail m.more) result h.groups r.before r.group r.after (between_of r.group) (front_of f.encoding r.group)
+                r.division (value, r.has_pair) r.no_later body m (h.whole ∙ ap (λ v. bom_of source ++ v) (r.bytes ∙ sym body) ∙ sym (source-whole e source) ∙ s)),
           )
       | inr (inl r) ↦
-          let m = r.is_front in
           let back = ending_bytes (last_ending r.group) ++ groups_bytes r.after in
           let new = encoded_text f.encoding (value_text f.encoding only r.between value) in (
             h.groups,
             h.held,
-            inl (record {
-              front = groups_bytes r.before ++ r.front;
-              back = back;
-              around = record {
-                before = r.before;
-                group = r.group;
-                after = r.after;
-                division = r.division;
-                has_key = r.has_key;
-                no_later = r.no_later;
-                between = r.between;
-                pair_front = r.front;
-                is_front = m;
-                front_bytes = refl;
-                back_bytes = refl;
-              };
-              old = after_front m.line m.tail m.more;
-              new = new;
-              source_is = around-source e source r.before r.group r.after r.between r.front m (body ∙ ap groups_bytes r.division);
-              result_is = h.whole ∙ ap (λ v. bom_of source ++ v) (r.bytes ∙ sym (append_assoc (groups_bytes r.before) r.front (new ++ back)));
-            }),
+            inl (alike-around e source key new result h.groups r.before r.group r.after r.between r.front r.division r.has_key r.no_later body r.is_front
+                (h.whole ∙ ap (λ v. bom_of source ++ v) (r.bytes ∙ sym (append_assoc (groups_bytes r.before) r.front (new ++ back))))),
           )
       | inr (inr r) ↦
           let separation = separation_by (ending_in h.groups) (final_group h.groups) in

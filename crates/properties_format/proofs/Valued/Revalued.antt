@@ -25,9 +25,9 @@ use Rattle.properties_format.proofs.Body.Groups.{IsLastFit}
 use Rattle.properties_format.proofs.Edited.Pair.{editable-own}
 use Rattle.properties_format.proofs.Valued.Heads.{ascii-end, ascii-among}
 use Rattle.properties_format.proofs.Valued.Fronts.{indented, open-indent, indent-head, shut-closed, joined_by, joined-by, is_first_after, joined_by-append}
-use Rattle.properties_format.proofs.Valued.Fronts.{none-right, right-some, ends-last, ends-right, ends_key-ascii, between-end, front-text}
+use Rattle.properties_format.proofs.Valued.Fronts.{right-some, ends-last, ends-right, ends_key-ascii, between-end, front-text}
 use Rattle.properties_format.proofs.Valued.Texts.{BeginsAfter}
-use Rattle.properties_format.proofs.Encodings.PieceEnds.{no-front}
+use Rattle.properties_format.proofs.Encodings.PieceEnds.{no-front, none-right}
 
 -- ---- whether two texts together are open
 
@@ -134,6 +134,24 @@ pub record IsPairAnew (line key value indent between : List ℕ) : Type 0 where
   pub is_pair : IsPair line key value
   pub indent_is : is_pair.indent ≡ indent
   pub between_is : is_pair.between ≡ between
+
+-- An equal line is the same pair.
+pub pair-moved : (line other key value : List ℕ) → other ≡ line → (h : IsPair line key value) → IsPairAnew other key value h.indent h.between
+pair-moved line other key value s h = record {
+  is_pair = record {
+    indent = h.indent;
+    between = h.between;
+    whole = s ∙ h.whole;
+    indent_blank = h.indent_blank;
+    not_empty = h.not_empty;
+    begins_full = h.begins_full;
+    no_comment = h.no_comment;
+    is_key = h.is_key;
+    is_between = h.is_between;
+  };
+  indent_is = refl;
+  between_is = refl;
+}
 
 -- After the change, the line is the pair with the new value.
 pub pair-anew : (line key old new : List ℕ) (h : IsPair line key old) (between other : List ℕ) → between ≡ h.between

@@ -29,10 +29,10 @@ use Rattle.properties_format.proofs.ReadBack.Texts.{AreSafe, AreSafelyPrinted, p
 use Rattle.properties_format.proofs.ReadBack.Pairs.{key-printed, separator-some, separator-quiet, closed-after}
 use Rattle.properties_format.proofs.ReadBack.Bytes.{AreWritable, writable-append, key-scalars}
 use Rattle.properties_format.proofs.Body.Decoded.{decoded-nil, plain-bytes}
-use Rattle.properties_format.proofs.Valued.Fronts.{blanks-right, none-right, right-some}
+use Rattle.properties_format.proofs.Valued.Fronts.{blanks-right, right-some}
 use Rattle.properties_format.proofs.Valued.Texts.{BeginsAfter, value-loose, loose-means, loosely-plain, loosely-closed, value-begins, ascii-writable, value-writable}
-use Rattle.properties_format.proofs.Valued.Revalued.{text-own}
-use Rattle.properties_format.proofs.Encodings.PieceEnds.{no-front}
+use Rattle.properties_format.proofs.Valued.Revalued.{pair-moved, text-own}
+use Rattle.properties_format.proofs.Encodings.PieceEnds.{no-front, none-right}
 
 -- ---- the separator
 
@@ -233,7 +233,7 @@ added-pair e only first key sep value by ok k v f =
     ap (λ x. let l : HeldLine = record { bytes = added_bytes e only first key sep value; text = x; ending = Some by } in l) (sym decoded) in
     let joined_is : joined (as_lines (added_line e only first key sep value by ∷ [])) ≡ written ++ (sep ++ va) =
     ap (λ x. joined (as_lines (x ∷ []))) (sym same) ∙ joined-closed (record { number = 0; text = written ++ (sep ++ va) }) closed in
-    let p = again (joined (as_lines (added_line e only first key sep value by ∷ []))) written sep va joined_is n in
+    let p = pair-moved (written ++ (sep ++ va)) (joined (as_lines (added_line e only first key sep value by ∷ []))) written va joined_is n.is_pair in
     record {
       plain = plain-bytes e (added_bytes e only first key sep value) ok (subst HoldsNoLineEnd (sym decoded) plain_text);
       some = text-some e (written ++ (sep ++ va)) ok writable (λ q. sep_some (no-front sep va (none-right written (sep ++ va) q)));
@@ -241,7 +241,7 @@ added-pair e only first key sep value by ok k v f =
       has_pair = record {
         raw_key = written;
         raw_value = va;
-        split = p.0;
+        split = p.is_pair;
         key_means = rw (printed-means written key printed_character) at (meaning_of-meets written);
         value_means = rw (loose-means va value loose) at (meaning_of-meets va);
       };
@@ -263,12 +263,12 @@ added-pair e only first key sep value by ok k v f =
         closed = closed_front;
         key = written;
         value = va;
-        is_pair = p.0;
-        is_between = sym p.2;
+        is_pair = p.is_pair;
+        is_between = sym p.between_is;
         up_to =
             joined-closed (record { number = 0; text = written ++ sep }) closed_front
             ∙ sym n.front
-            ∙ ap (λ x. x ++ (written ++ n.is_pair.between)) (sym p.1);
+            ∙ ap (λ x. x ++ (written ++ n.is_pair.between)) (sym p.indent_is);
         bytes = refl;
       };
       between_some = n.some;
@@ -277,25 +277,6 @@ added-pair e only first key sep value by ok k v f =
   where
     alone : (l : Line) → is_open l.text ≡ false → IsWhole (l ∷ [])
     alone l c = elim (cases_Bool (is_comment_line l.text)) [ inl m ↦ inl (m, refl) | inr m ↦ inr (m, c) ]
-
-    again : (line written sep va : List ℕ) → line ≡ written ++ (sep ++ va) → (n : IsNewPair written sep va)
-        → (p : IsPair line written va) × (p.indent ≡ n.is_pair.indent) × (p.between ≡ n.is_pair.between)
-    again line written sep va s n =
-        let h = n.is_pair in (
-          record {
-            indent = h.indent;
-            between = h.between;
-            whole = s ∙ h.whole;
-            indent_blank = h.indent_blank;
-            not_empty = h.not_empty;
-            begins_full = h.begins_full;
-            no_comment = h.no_comment;
-            is_key = h.is_key;
-            is_between = h.is_between;
-          },
-          refl,
-          refl,
-        )
 
     not-blank : (written sep va : List ℕ) (n : IsNewPair written sep va) → ¬ (AreBlanks (written ++ sep))
     not-blank written sep va n b =
