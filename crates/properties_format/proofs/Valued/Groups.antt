@@ -90,16 +90,7 @@ pub revalued-bytes : (e : Encoding) (only : Bool) (before : List (List HeldLine)
     → groups_bytes (before ++ (kept ++ new_line e only head between value ending ∷ []) ∷ after)
     ≡ groups_bytes before ++ (front ++ (encoded_text e (value_text e only between value) ++ (ending_bytes ending ++ groups_bytes after)))
 revalued-bytes e only before kept head between front value ending after s =
-    let x = encoded_text e (value_text e only between value) in
-    let rest = ending_bytes ending ++ groups_bytes after in
-    groups_bytes-append before ((kept ++ new_line e only head between value ending ∷ []) ∷ after)
-    ∙ ap (λ v. groups_bytes before ++ (v ++ groups_bytes after))
-    (group_bytes-append kept (new_line e only head between value ending ∷ [])
-    ∙ ap (λ v. group_bytes kept ++ ((head ++ x) ++ v)) (append-nil (ending_bytes ending))
-    ∙ ap (λ v. group_bytes kept ++ v) (append_assoc head x (ending_bytes ending))
-    ∙ sym (append_assoc (group_bytes kept) head (x ++ ending_bytes ending))
-    ∙ ap (λ v. v ++ (x ++ ending_bytes ending)) (sym s))
-    ∙ ap (λ v. groups_bytes before ++ v) (append_assoc front (x ++ ending_bytes ending) (groups_bytes after) ∙ ap (λ v. front ++ v) (append_assoc x (ending_bytes ending) (groups_bytes after)))
+    rw (s, groups_bytes-append, group_bytes-append) (simp (append_assoc, append-nil))
 
 -- What follows the front, if that is the old front followed by what was missing.
 after-missing : (e : Encoding) (only : Bool) (between value : List ℕ) → value_text e only (between_after between) value ≡ value_after e only between value

@@ -47,13 +47,7 @@ prefix-unmarked b z c y l h =
 pub front-bytes : (e : Encoding) (group : List HeldLine) (between front : List ℕ) (f : IsFrontOf e group between front)
     → group_bytes group ≡ front ++ (f.tail ++ (ending_bytes f.line.ending ++ group_bytes f.more))
 front-bytes e group between front f =
-    let rest = ending_bytes f.line.ending ++ group_bytes f.more in
-    ap group_bytes f.division
-    ∙ group_bytes-append f.kept (f.line ∷ f.more)
-    ∙ ap (λ v. group_bytes f.kept ++ (v ++ rest)) f.cut
-    ∙ ap (λ v. group_bytes f.kept ++ v) (append_assoc f.head f.tail rest)
-    ∙ sym (append_assoc (group_bytes f.kept) f.head (f.tail ++ rest))
-    ∙ ap (λ v. v ++ (f.tail ++ rest)) (sym f.bytes)
+    rw (f.bytes, f.division, group_bytes-append, f.cut) (simp append_assoc)
 
 -- A front followed by what is printed for a value, instead of a group at the front of a body.
 front-valued : (e : Encoding) (only : Bool) (group : List HeldLine) (between front value : List ℕ) (f : IsFrontOf e group between front) (rest more : List ℕ)
