@@ -88,8 +88,7 @@ first-none (Some v) = refl
 -- In two lists of entries, the value is that in the second, or else that in the first.
 value_in-append : (xs ys : List Entry) (key : List ℕ) → value_in (xs ++ ys) key ≡ first_value (value_in ys key) (value_in xs key)
 value_in-append [] ys key = sym (first-none (value_in ys key))
-value_in-append (x ∷ xs) ys key =
-    ap (λ r. first_value r (value_of x key)) (value_in-append xs ys key) ∙ first-assoc (value_in ys key) (value_in xs key) (value_of x key)
+value_in-append (x ∷ xs) ys key = simp (first-assoc, value_in-append xs ys key)
 
 -- A function with the same value for each key is a map of the entries too.
 same-map : (entries : List Entry) (f : List ℕ → Option (List ℕ)) → ((key : List ℕ) → f key ≡ value_in entries key) → IsMap entries f

@@ -85,10 +85,7 @@ trims d = ap without_trailing_blanks (leading-blanks d) ∙ trailing-blanks (wit
 
 leading : (d : List ℕ) → leading_backslashes (characters_of d) ≡ leading_backslashes d
 leading [] = refl
-leading (b ∷ d) = elim (cases_Bool (b == backslash)) [
-  | inl t ↦ rw (same-backslash b, t) (ap suc (leading d))
-  | inr f ↦ rw (same-backslash b, f) refl
-]
+leading (b ∷ d) = simp (same-backslash, leading d)
 
 reversed-onto : (d y : List ℕ) → reverse_aux (characters_of d) (characters_of y) ≡ characters_of (reverse_aux d y)
 reversed-onto [] y = refl
@@ -125,10 +122,7 @@ adds d = ap without_open_backslash (leading-blanks d) ∙ closed (without_leadin
 
 joins : (d next : List ℕ) → decoded_line windows_1252 (without_open_backslash d ++ addition next)
     ≡ without_open_backslash (decoded_line windows_1252 d) ++ addition (decoded_line windows_1252 next)
-joins d next =
-    decodes (without_open_backslash d ++ addition next)
-    ∙ map-append windows_1252_character (without_open_backslash d) (addition next)
-    ∙ ap₂ (λ x y. x ++ y) (sym (ap without_open_backslash (decodes d) ∙ closed d)) (sym (ap addition (decodes next) ∙ adds next))
+joins d next = simp (decodes, map-append, closed, adds)
 
 pub line-commutes : (d : List ℕ) → LineCommutes d
 line-commutes d = record {

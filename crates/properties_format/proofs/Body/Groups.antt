@@ -10,7 +10,7 @@ use Rattle.properties_format.specs.Lines.{Ended, Lines, end, Line, put_together,
 use Rattle.properties_format.specs.Computed.Lines.{lines_of}
 use Rattle.properties_format.specs.Groups.{IsWhole, AreWhole, IsUnfinished, last_group}
 use Rattle.properties_format.specs.Computed.Groups.{closes, groups_after, groups_of}
-use Rattle.properties_format.specs.Body.{HeldLine, AreHeld, as_lines, as_groups, held_in, AreGroupsOf, ending_bytes, group_bytes, groups_bytes, last_ending}
+use Rattle.properties_format.specs.Body.{HeldLine, AreHeld, as_lines, as_groups, held_in, AreGroupsOf, group_bytes, groups_bytes, last_ending}
 use Rattle.properties_format.specs.Edited.{is_editable}
 use Rattle.properties_format.specs.Computed.Body.{held_of, held_lines_of, held_groups_after, held_groups_of}
 use Rattle.properties_format.proofs.Lines.Only.{lines_of-together}
@@ -327,16 +327,12 @@ held-groups e body gs ok h =
 -- The bytes of two lists of lines, one after the other.
 pub group_bytes-append : (a b : List HeldLine) → group_bytes (a ++ b) ≡ group_bytes a ++ group_bytes b
 group_bytes-append [] b = refl
-group_bytes-append (h ∷ a) b =
-    ap (λ v. h.bytes ++ (ending_bytes h.ending ++ v)) (group_bytes-append a b)
-    ∙ ap (λ v. h.bytes ++ v) (sym (append_assoc (ending_bytes h.ending) (group_bytes a) (group_bytes b)))
-    ∙ sym (append_assoc h.bytes (ending_bytes h.ending ++ group_bytes a) (group_bytes b))
+group_bytes-append (h ∷ a) b = simp (append_assoc, group_bytes-append a b)
 
 -- The bytes of two lists of groups, one after the other.
 pub groups_bytes-append : (gs hs : List (List HeldLine)) → groups_bytes (gs ++ hs) ≡ groups_bytes gs ++ groups_bytes hs
 groups_bytes-append [] hs = refl
-groups_bytes-append (g ∷ gs) hs =
-    ap (λ v. group_bytes g ++ v) (groups_bytes-append gs hs) ∙ sym (append_assoc (group_bytes g) (groups_bytes gs) (groups_bytes hs))
+groups_bytes-append (g ∷ gs) hs = simp (append_assoc, groups_bytes-append gs hs)
 
 -- The bytes of the groups are those of their lines.
 pub groups-bytes : (gs : List (List HeldLine)) → groups_bytes gs ≡ group_bytes (held_in gs)

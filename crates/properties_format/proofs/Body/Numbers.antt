@@ -31,9 +31,7 @@ numbered-push n [] h = ap (λ m. record { number = m; text = h.text } ∷ []) (z
   where
     zero-right : (n : ℕ) → n ≡ n + 0
     zero-right n = omega arith
-numbered-push n (g ∷ p) h =
-    ap (λ v. record { number = n; text = g.text } ∷ v)
-    (numbered-push (n + 1) p h ∙ ap (λ m. numbered_from (n + 1) p ++ record { number = m; text = h.text } ∷ []) (one-more n (length p)))
+numbered-push n (g ∷ p) h = simp (one-more, numbered-push (n + 1) p h)
 
 -- Whether a line closes a group doesn't depend on the numbers.
 closes-numbered : (n m : ℕ) (p : List HeldLine) (h : HeldLine) → closes (numbered_from n p) (record { number = m; text = h.text }) ≡ closes (as_lines p) (record { number = 0; text = h.text })

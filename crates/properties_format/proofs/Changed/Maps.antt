@@ -32,8 +32,7 @@ value-contents (read_fault n ∷ entries) key = first-none (value_in entries key
 -- In two lists of contents, the value is that in the second, or else that in the first.
 value-append : (cs ds : List Content) (key : List ℕ) → value_among (cs ++ ds) key ≡ first_value (value_among ds key) (value_among cs key)
 value-append [] ds key = sym (first-none (value_among ds key))
-value-append (c ∷ cs) ds key =
-    ap (λ o. first_value o (content_value c key)) (value-append cs ds key) ∙ first-assoc (value_among ds key) (value_among cs key) (content_value c key)
+value-append (c ∷ cs) ds key = simp (first-assoc, value-append cs ds key)
 
 -- Equal keys pass the test.
 same-test : (k key : List ℕ) → k ≡ key → bytes_eq k key ≡ true
@@ -65,18 +64,12 @@ not-back k key h s = let t = same-test k key (sym s) in absurd (cc)
 
 -- A pair gives its key its value if no later pair has that key.
 set-last : (cs ds : List Content) (key value k : List ℕ) → HoldNoPair key ds → (k ≡ key) → value_among (cs ++ pair key value ∷ ds) k ≡ Some value
-set-last cs ds key value k h s =
-    ap (value_among (cs ++ pair key value ∷ ds)) s
-    ∙ value-append cs (pair key value ∷ ds) key
-    ∙ ap₂ (λ x y. first_value (first_value x y) (value_among cs key)) (no-value key ds h) (own-value key value)
+set-last cs ds key value k h s = cc (value-append cs (pair key value ∷ ds) key, no-value key ds h, own-value key value)
 
 -- For another key, that pair doesn't count.
 set-other : (cs ds : List Content) (key value k : List ℕ) → (key ≢ k)
     → value_among (cs ++ pair key value ∷ ds) k ≡ first_value (value_among ds k) (value_among cs k)
-set-other cs ds key value k h =
-    value-append cs (pair key value ∷ ds) k
-    ∙ ap (λ y. first_value (first_value (value_among ds k) y) (value_among cs k)) (other-value key value k h)
-    ∙ ap (λ y. first_value y (value_among cs k)) (first-none (value_among ds k))
+set-other cs ds key value k h = simp (value-append, other-value, first-none)
 
 -- If the last pair with a key is changed, each key has its value in the map with that key set.
 changed-value : (key value : List ℕ) (old new : List Content) (k : List ℕ) → IsLastChanged key value old new

@@ -85,7 +85,5 @@ module _ (e : Encoding) (by second : LineEnding) (gs : List (List HeldLine)) (ke
   pub appended-outcomes : (old : List Content) → outcomes_of (as_groups gs) ≡ givens old
       → outcomes_of (as_groups appended_groups) ≡ givens (old ++ pair key value ∷ [])
   appended-outcomes old told =
-      outcomes_of-append closed ((line ∷ []) ∷ last ∷ [])
-      ∙ ap₂ (λ v w. v ++ w) (closed-outcomes e by gs k ∙ told)
-      (ap₂ (λ o p. outcome_before o (outcome_before p [])) said (outcomes-empty e None))
-      ∙ sym (givens-append old (pair key value ∷ []))
+      cc (outcomes_of-append closed ((line ∷ []) ∷ last ∷ []), closed-outcomes e by gs k, outcomes-empty e None,
+      givens-append old (pair key value ∷ []))

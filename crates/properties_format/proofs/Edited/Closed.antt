@@ -1,6 +1,6 @@
 -- Groups that a line ending closes, so that others can come after them.
 use Rattle.std.proofs.Common.{◌≡◌, ◌<◌, ℕ, true, false, List, [], ◌∷◌, ◌++◌, Some, None, length, refl, ap, ap₂, sym, ◌∙◌, inl, inr, append_assoc, append-nil, length-append, subst, arith}
-use Rattle.std.specs.Prelude.{◌⊎◌, unwrap_or, if◌then◌else◌}
+use Rattle.std.specs.Prelude.{◌⊎◌, if◌then◌else◌}
 use Rattle.std.proofs.lemmas.Bool.{cases_Bool, cond-true}
 use Rattle.properties_format.specs.Text.{LineEnding, lf, cr, carriage_return, line_ending_text}
 use Rattle.properties_format.specs.Computed.Lines.{ends_in_cr}
@@ -238,19 +238,13 @@ closed-by e by (g1 ∷ gs1) h good = of-parts (last-group g1 gs1)
 
 -- The last line ending of the groups does.
 pub value-seam : (e : Encoding) (gs : List (List HeldLine)) (h : AreLined e gs) (by : LineEnding) → by ≡ ending_among lf (held_in gs) → IsSeam by h
-value-seam e gs h by is q z =
-    let told = is ∙ ap (ending_among lf) h.held ∙ ending-held e lf h.ended h.last in
-    let m : by ≡ cr = told ∙ ap (λ v. unwrap_or v lf) q in
-    absurd (cc (z.1, m))
+value-seam e gs h by is q z = cc (ending-held e lf h.ended h.last)
 
 -- Lines of which the last ends in a CR, and nothing more.
 ended-cr : (e : Encoding) (ls : List Ended) → last_by ls ≡ Some cr → ends_in_cr (group_bytes (held_of e ls [])) ≡ true
 ended-cr e [] q = absurd (cc)
-ended-cr e (l ∷ []) q =
-    let by : l.by ≡ cr = cc in
-    ap (λ o. ends_in_cr (l.text ++ (line_ending_text o ++ []))) by ∙ ends-right l.text (carriage_return ∷ []) refl
-ended-cr e (l ∷ m ∷ ls) q =
-    ends-right l.text (line_ending_text l.by ++ group_bytes (held_of e (m ∷ ls) [])) (ends-right (line_ending_text l.by) (group_bytes (held_of e (m ∷ ls) [])) (ended-cr e (m ∷ ls) q))
+ended-cr e (l ∷ []) q = cc (ends-right l.text (carriage_return ∷ []) refl)
+ended-cr e (l ∷ m ∷ ls) q = simp (ends-right, ended-cr e (m ∷ ls) q)
 
 -- A CR does where the groups end in one, and else an LF.
 pub put-seam : (e : Encoding) (gs : List (List HeldLine)) (h : AreLined e gs) (by : LineEnding) → (ends_in_cr (groups_bytes gs) ≡ true → by ≡ cr) → IsSeam by h

@@ -94,14 +94,12 @@ characters-append (p ∷ ps) qs = ap (λ v. p.character ∷ v) (characters-appen
 -- The bytes of an ASCII character, at a unit's boundary, separate the pieces before them from those after them.
 pub pieces_of-cut_ascii : (e : Encoding) (c : ℕ) (x y : List ℕ) → c < 0x80 → IsAligned e x
     → pieces_of e (x ++ (ascii_bytes e c ++ y)) ≡ pieces_of e x ++ piece (ascii_bytes e c) c ∷ pieces_of e y
-pieces_of-cut_ascii e c x y h a =
-    pieces_of-anew e x (ascii_bytes e c ++ y) a (ascii-anew e c y h) ∙ ap (λ v. pieces_of e x ++ v) (pieces_of-ascii e c y h)
+pieces_of-cut_ascii e c x y h a = simp (pieces_of-anew, ascii-anew, pieces_of-ascii)
 
 -- They separate the characters before them from those after them.
 pub characters-cut_ascii : (e : Encoding) (c : ℕ) (x y : List ℕ) → c < 0x80 → IsAligned e x
     → characters (pieces_of e (x ++ (ascii_bytes e c ++ y))) ≡ characters (pieces_of e x) ++ c ∷ characters (pieces_of e y)
-characters-cut_ascii e c x y h a =
-    ap characters (pieces_of-cut_ascii e c x y h a) ∙ characters-append (pieces_of e x) (piece (ascii_bytes e c) c ∷ pieces_of e y)
+characters-cut_ascii e c x y h a = simp (pieces_of-cut_ascii, characters-append)
 
 -- the position of a character among the pieces
 abbrev Place : List Piece → List ℕ → ℕ → List ℕ → Type 0

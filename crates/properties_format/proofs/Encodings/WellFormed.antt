@@ -64,10 +64,7 @@ encoded-front (c ∷ cs) y h =
 
 -- A text at the front decodes to its characters, whatever follows.
 pub characters-text : (x y : List ℕ) → IsUtf8 x → characters (pieces_of utf_8 (x ++ y)) ≡ chars x ++ characters (pieces_of utf_8 y)
-characters-text x y (cs, h) =
-    ap (λ v. characters (pieces_of utf_8 (v ++ y))) (sym h.1)
-    ∙ encoded-front cs y h.0
-    ∙ ap (λ v. v ++ characters (pieces_of utf_8 y)) (sym (chars-encodes cs h.0) ∙ ap chars h.1)
+characters-text x y (cs, h) = cc (encoded-front cs y h.0, chars-encodes cs h.0)
 
 -- ---- ASCII, which is the same in windows-1252 and UTF-8.
 
@@ -78,5 +75,4 @@ ascii-front (b ∷ x) y h = ap characters (pieces_of-ascii windows_1252 b (x ++ 
 
 -- ASCII at the front decodes to itself, whatever follows.
 pub characters-ascii : (x y : List ℕ) → IsAscii x → characters (pieces_of windows_1252 (x ++ y)) ≡ chars x ++ characters (pieces_of windows_1252 y)
-characters-ascii x y h =
-    ascii-front x y (recursion_from_All (λ b. b < 0x80) x (All-from_ascii x h)) ∙ ap (λ v. v ++ characters (pieces_of windows_1252 y)) (sym (chars-IsAscii x h))
+characters-ascii x y h = simp (ascii-front, recursion_from_All, All-from_ascii, chars-IsAscii)

@@ -38,10 +38,7 @@ below n = omega arith
 
 -- The four digits are hexadecimal.
 pub unit_digits-hexadecimal : (u : ℕ) → are_hexadecimal (unit_digits u) ≡ true
-unit_digits-hexadecimal u =
-    and_from _ _
-    (and_from _ _ (is_hexadecimal-char (u / 0x1000 % 0x10) (below (u / 0x1000))) (is_hexadecimal-char (u / 0x100 % 0x10) (below (u / 0x100))))
-    (and_from _ _ (is_hexadecimal-char (u / 0x10 % 0x10) (below (u / 0x10))) (is_hexadecimal-char (u % 0x10) (below u)))
+unit_digits-hexadecimal u = simp (and_from, is_hexadecimal-char, below)
 
 -- A number below 10000 hexadecimal is the value of its four digits.
 four-digits : (u : ℕ) → u < 0x1_0000 → ((u / 0x1000 % 0x10 * 16 + u / 0x100 % 0x10) * 16 + u / 0x10 % 0x10) * 16 + u % 0x10 ≡ u
@@ -49,14 +46,7 @@ four-digits u h = omega arith
 
 -- The value of the four digits is the unit.
 pub unit_digits-unit : (u : ℕ) → u < 0x1_0000 → code_unit (unit_digits u) ≡ u
-unit_digits-unit u h =
-    rw (
-      hexadecimal_value-char (u / 0x1000 % 0x10) (below (u / 0x1000)),
-      hexadecimal_value-char (u / 0x100 % 0x10) (below (u / 0x100)),
-      hexadecimal_value-char (u / 0x10 % 0x10) (below (u / 0x10)),
-      hexadecimal_value-char (u % 0x10) (below u),
-    )
-    (four-digits u h)
+unit_digits-unit u h = simp (hexadecimal_value-char, below, four-digits)
 
 -- The first surrogate of a character above U+FFFF is a high one.
 pub high_surrogate-high : (c : ℕ) → c < 0x11_0000 → is_high (high_surrogate c) ≡ true

@@ -55,11 +55,7 @@ meaning_of-whole ps rest h = meaning_of-spellings ps rest (AreWhole-spellings ps
 
 -- whole spellings by themselves
 pub meaning_of-all : (ps : List Spelling) → AreWhole ps → meaning_of (spellings_before ps []) ≡ means (map spelling_character ps)
-meaning_of-all ps h =
-    meaning_of-whole ps [] h
-    ∙ ap (text_in_front (map spelling_character ps)) meaning_of-empty
-    ∙ text_in_front-means (map spelling_character ps) []
-    ∙ ap means (append-nil (map spelling_character ps))
+meaning_of-all ps h = simp (meaning_of-whole, meaning_of-empty, text_in_front-means, append-nil)
 
 -- ---- a `\u` that begins no spelling
 

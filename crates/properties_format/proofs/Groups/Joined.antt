@@ -41,9 +41,7 @@ joined-closed l h = elim (cases_Bool (is_comment_line l.text)) [
 -- What two lists of lines add is what the first adds followed by what the second adds.
 pub joined_after-append : (ls ms : List Line) → joined_after (ls ++ ms) ≡ joined_after ls ++ joined_after ms
 joined_after-append [] ms = refl
-joined_after-append (l ∷ ls) ms =
-    let x = without_open_backslash (without_leading_blanks l.text) in
-    ap (λ v. x ++ v) (joined_after-append ls ms) ∙ sym (append_assoc x (joined_after ls) (joined_after ms))
+joined_after-append (l ∷ ls) ms = simp (append_assoc, joined_after-append ls ms)
 
 -- One more line in a group that doesn't begin with a comment line.
 pub joined-push : (l : Line) (ls : List Line) (m : Line) → is_comment_line l.text ≡ false

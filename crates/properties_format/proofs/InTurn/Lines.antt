@@ -89,12 +89,7 @@ lines-last e (h ∷ i ∷ hs) ok (p, s, (own, t, n), a) =
 pub bytes-unended : (g : List HeldLine) → group_bytes g ≡ unended_bytes g ++ ending_bytes (last_ending g)
 bytes-unended [] = refl
 bytes-unended (h ∷ []) = ap (λ v. h.bytes ++ v) (append-nil (ending_bytes h.ending))
-bytes-unended (h ∷ i ∷ hs) =
-    let x = unended_bytes (i ∷ hs) in
-    let y = ending_bytes (last_ending (i ∷ hs)) in
-    ap (λ v. h.bytes ++ (ending_bytes h.ending ++ v)) (bytes-unended (i ∷ hs))
-    ∙ ap (λ v. h.bytes ++ v) (sym (append_assoc (ending_bytes h.ending) x y))
-    ∙ sym (append_assoc h.bytes (ending_bytes h.ending ++ x) y)
+bytes-unended (h ∷ i ∷ hs) = simp (append_assoc, bytes-unended (i ∷ hs))
 
 -- If the last of these lines has this ending, so does the group.
 pub ending-of : (e : Encoding) (o : Option LineEnding) (g : List HeldLine) → AreLinesBy e o g → last_ending g ≡ o

@@ -1,5 +1,5 @@
 -- How printed lines are put together. They contain only characters that can be encoded.
-use Rattle.std.proofs.Common.{◌≡◌, ℕ, ◌+◌, ◌/◌, ◌%◌, ◌<◌, ◌==◌, ◌||◌, ◌&&◌, not, Bool, true, false, cond, List, [], ◌∷◌, ◌++◌, refl, ap, sym, ◌∙◌, inl, inr, append_assoc, arith, lit<, lt-ltb, eqb-true}
+use Rattle.std.proofs.Common.{◌≡◌, ℕ, ◌+◌, ◌/◌, ◌%◌, ◌<◌, ◌==◌, ◌||◌, ◌&&◌, not, Bool, true, false, cond, List, [], ◌∷◌, ◌++◌, refl, ap, ◌∙◌, inl, inr, append_assoc, arith, lit<, lt-ltb, eqb-true}
 use Rattle.std.specs.Prelude.{Some, is_some, unwrap_or, nat_lt}
 use Rattle.std.specs.Char.{digit_char}
 use Rattle.std.proofs.lemmas.Bool.{cond_both, and_from, and_parts}
@@ -18,15 +18,13 @@ use Rattle.properties_format.proofs.Encodings.Windows1252.{windows_1252_byte-asc
 -- The bytes of two texts.
 pub encoded_text-append : (e : Encoding) (x y : List ℕ) → encoded_text e (x ++ y) ≡ encoded_text e x ++ encoded_text e y
 encoded_text-append e [] y = refl
-encoded_text-append e (c ∷ x) y =
-    ap (λ v. unwrap_or (encoded e c) [] ++ v) (encoded_text-append e x y) ∙ sym (append_assoc (unwrap_or (encoded e c) []) (encoded_text e x) (encoded_text e y))
+encoded_text-append e (c ∷ x) y = simp (append_assoc, encoded_text-append e x y)
 
 -- What is printed for two texts.
 pub printed_characters-append : (e : Encoding) (only : Bool) (place : Place) (x y : List ℕ)
     → printed_characters e only place (x ++ y) ≡ printed_characters e only place x ++ printed_characters e only place y
 printed_characters-append e only place [] y = refl
-printed_characters-append e only place (c ∷ x) y = ap (λ v. printed_character e only place c ++ v) (printed_characters-append e only place x y)
-    ∙ sym (append_assoc (printed_character e only place c) (printed_characters e only place x) (printed_characters e only place y))
+printed_characters-append e only place (c ∷ x) y = simp (append_assoc, printed_characters-append e only place x y)
 
 -- ---- printed lines, by their parts
 
@@ -45,9 +43,7 @@ pub printed-pair : (e : Encoding) (s : Settings) (first : Bool) (key value : Lis
     → printed e s first (pair key value)
     ≡ encoded_text e (printed_key e s.ascii_only first key)
     ++ (encoded_text e s.kv_separator ++ (encoded_text e (printed_characters e s.ascii_only in_key_or_value value) ++ encoded_text e (line_ending_text s.line_ending)))
-printed-pair e s first key value =
-    encoded_text-append e (printed_key e s.ascii_only first key) (s.kv_separator ++ (printed_characters e s.ascii_only in_key_or_value value ++ line_ending_text s.line_ending))
-    ∙ ap (λ v. encoded_text e (printed_key e s.ascii_only first key) ++ v) (three-parts e s.kv_separator (printed_characters e s.ascii_only in_key_or_value value) (line_ending_text s.line_ending))
+printed-pair e s first key value = simp encoded_text-append
 
 -- ---- characters that can be encoded
 

@@ -1,6 +1,6 @@
 -- What a new writer writes doesn't begin like a byte order mark.
 use Rattle.std.proofs.Common.{◌≡◌, ℕ, ◌<◌, ◌==◌, ◌&&◌, ◌||◌, not, Bool, true, false, if◌then◌else◌, List, [], ◌∷◌, ◌++◌, refl, ap, ◌∙◌, inl, inr, append_assoc, arith, lit<, ne_eqb}
-use Rattle.std.specs.Prelude.{nat_lt, Some, None, unwrap_or}
+use Rattle.std.specs.Prelude.{nat_lt, Some, None}
 use Rattle.std.proofs.lemmas.Bool.{cases_Bool, cond-true, cond-false, and_left}
 use Rattle.properties_format.specs.Text.{backslash, is_blanks, is_comment_sign}
 use Rattle.properties_format.specs.Encoding.{Encoding, begins_with, begins_like_bom, utf_8_bom, utf_16be_bom, utf_16le_bom}
@@ -45,9 +45,7 @@ byte_order_mark-cut x c y h =
 
 -- The bytes of a text up to its first ASCII character.
 text-cut : (e : Encoding) (x : List ℕ) (c : ℕ) (y : List ℕ) → c < 0x80 → begins_like_bom (encoded_text e (x ++ (c ∷ y))) ≡ begins_like_bom (encoded_text e x)
-text-cut e x c y h =
-    ap begins_like_bom (encoded_text-append e x (c ∷ y) ∙ ap (λ o. encoded_text e x ++ (unwrap_or o [] ++ encoded_text e y)) (encoded-ascii e c h))
-    ∙ byte_order_mark-cut (encoded_text e x) c (encoded_text e y) h
+text-cut e x c y h = simp (encoded_text-append, encoded-ascii, byte_order_mark-cut)
 
 -- ---- the first line
 

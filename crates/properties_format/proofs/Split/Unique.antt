@@ -147,10 +147,7 @@ pub split_of-pair : (indent key between value : List ℕ) → AreBlanks indent �
     → IsKey key (between ++ value) → IsBetween between value → split_of (indent ++ (key ++ (between ++ value))) ≡ pair key value
 unfolding split_of
 split_of-pair indent key between value b h f m k w =
-    ap split_full (without_leading_blanks-only indent (key ++ (between ++ value)) b f)
-    ∙ split_full-pair (key ++ (between ++ value)) h m
-    ∙ ap pair_of (cut_key-only key (between ++ value) k (between-ends between value w))
-    ∙ ap (pair key) (between-value between value w)
+    simp (without_leading_blanks-only, split_full-pair, cut_key-only, between-ends, between-value)
 
 -- A line is nothing else.
 pub split_of-only : (line : List ℕ) (what : Logical) → IsSplit line what → what ≡ split_of line

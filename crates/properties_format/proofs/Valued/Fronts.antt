@@ -113,9 +113,7 @@ after-later (i ∷ a) = refl
 -- What two lists of lines add.
 pub joined_by-append : (first : Bool) (a b : List HeldLine) → joined_by first (a ++ b) ≡ joined_by first a ++ joined_by (is_first_after first a) b
 joined_by-append first [] b = refl
-joined_by-append first (h ∷ a) b =
-    ap (λ v. added_by first h.text ++ v) (joined_by-append false a b ∙ ap (λ v. joined_by false a ++ joined_by v b) (after-later a))
-    ∙ sym (append_assoc (added_by first h.text) (joined_by false a) (joined_by false b))
+joined_by-append first (h ∷ a) b = simp (after-later, append_assoc, joined_by-append false a b)
 
 -- ---- empty texts
 

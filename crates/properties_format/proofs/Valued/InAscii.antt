@@ -63,9 +63,7 @@ rest-same e f (c ∷ d ∷ cs) = ap₂ (λ v w. v ++ w) (inside-same e f c) (res
 -- the whole value,
 pub printed_value-same : (e f : Encoding) (after_blanks : Bool) (value : List ℕ) → printed_value e true after_blanks value ≡ printed_value f true after_blanks value
 printed_value-same e f after_blanks [] = refl
-printed_value-same e f after_blanks (c ∷ cs) =
-    ap₂ (λ v w. cond (is_empty cs && c == space) (unit_escape space) (cond (c == space || (after_blanks && is_separator c)) (backslash ∷ c ∷ []) v ++ w))
-    (inside-same e f c) (rest-same e f cs)
+printed_value-same e f after_blanks (c ∷ cs) = cc (inside-same e f c, rest-same e f cs)
 
 -- ---- bytes
 

@@ -37,10 +37,7 @@ between_in-pair line key value h =
 
 -- A pair's line is what comes before the value, followed by the value.
 pub pair-line : (line key value : List ℕ) (h : IsPair line key value) → line ≡ (h.indent ++ (key ++ h.between)) ++ value
-pair-line line key value h =
-    h.whole
-    ∙ ap (λ v. h.indent ++ v) (sym (append_assoc key h.between value))
-    ∙ sym (append_assoc h.indent (key ++ h.between) value)
+pair-line line key value h = cc (append_assoc key h.between value, append_assoc h.indent (key ++ h.between) value)
 
 -- What comes before the value of a pair.
 pub before_value-pair : (line key value : List ℕ) (h : IsPair line key value) → before_value line ≡ h.indent ++ (key ++ h.between)
@@ -50,9 +47,7 @@ before_value-pair line key value h =
 -- A comment line isn't a pair.
 pub comment_line-no_pair : (line key value : List ℕ) → is_comment_line line ≡ true → IsPair line key value → ⊥
 comment_line-no_pair line key value c h =
-    let s : without_leading_blanks line ≡ key ++ (h.between ++ value) =
-    ap without_leading_blanks h.whole ∙ without_leading_blanks-only h.indent (key ++ (h.between ++ value)) h.indent_blank h.begins_full in
-    of_text (key ++ (h.between ++ value)) s h.no_comment
+    cc (without_leading_blanks-only h.indent (key ++ (h.between ++ value)) h.indent_blank h.begins_full)
   where
     of_text : (x : List ℕ) → without_leading_blanks line ≡ x → begins is_comment_sign x ≡ false → ⊥
     of_text [] s b = let m : begins_with_comment_sign [] ≡ true = ap begins_with_comment_sign (sym s) ∙ c in absurd (cc)

@@ -52,8 +52,7 @@ open-closed x y h = open-on x y ∙ ap (λ b. open_on b y) h ∙ sym (open-on []
 -- What lines add isn't open.
 pub added-closed : (first : Bool) (hs : List HeldLine) → is_open (joined_by first hs) ≡ false
 added-closed first [] = refl
-added-closed first (h ∷ hs) =
-    open-closed (added_by first h.text) (joined_by false hs) (shut-closed (without_indent first h.text)) ∙ added-closed false hs
+added-closed first (h ∷ hs) = simp (open-closed, joined_by, shut-closed, added-closed false hs)
 
 -- ---- a key before another text
 
@@ -72,9 +71,7 @@ units-anew (escaped c ∷ us) rest other h (inr k) =
     two (inr m) = is_open-other (backslash ∷ []) c m
 units-anew (last ∷ us) rest other h (inl k) = absurd (k (none-right (units_before us []) rest (sym (units_before-append us rest) ∙ h.0)))
 units-anew (last ∷ us) rest other h (inr k) =
-    let n : units_before us [] ≡ [] = no-front (units_before us []) rest (sym (units_before-append us rest) ∙ h.0) in
-    let m : is_open (backslash ∷ []) ≡ false = ap (λ v. is_open (backslash ∷ v)) (sym n) ∙ k in
-    absurd (cc)
+    cc (no-front (units_before us []) rest (sym (units_before-append us rest) ∙ h.0))
 
 -- A key that doesn't end in a single backslash may come before any text.
 key-anew : (key rest other : List ℕ) → IsKey key rest → (rest ≢ []) ⊎ (is_open key ≡ false) → IsKey key other

@@ -6,9 +6,7 @@ use Rattle.std.specs.Prelude.{nat_lt}
 use Rattle.std.specs.Str.{chars, IsUtf8}
 use Rattle.std.proofs.lemmas.Bool.{cases_Bool, cond-true, lt-ltb}
 use Rattle.properties_format.specs.Text.{backslash}
-use Rattle.properties_format.specs.Pieces.{characters}
 use Rattle.properties_format.specs.Encoding.{Encoding, utf_8}
-use Rattle.properties_format.specs.Computed.Encoding.{pieces_of}
 use Rattle.properties_format.specs.Computed.Cut.{decoded_line}
 use Rattle.properties_format.specs.Edited.{is_editable}
 use Rattle.properties_format.specs.Computed.Valued.{ascii_count, after_ascii}
@@ -67,12 +65,8 @@ count-decoded e (suc n) d ok l = elim (first-ascii d) [
 -- A text has as many ASCII characters as its UTF-8 bytes have ASCII bytes.
 pub count-text : (x : List ℕ) → IsUtf8 x → ascii_count (chars x) ≡ ascii_count x
 count-text x u =
-    ap ascii_count
-    (sym (append-nil (chars x))
-    ∙ ap (λ v. chars x ++ v) (sym (ap characters (pieces_of-nil utf_8)))
-    ∙ sym (characters-text x [] u)
-    ∙ ap (λ v. characters (pieces_of utf_8 v)) (append-nil x))
-    ∙ count-decoded utf_8 (suc (length x)) x refl (omega arith)
+    cc (append-nil (chars x), pieces_of-nil utf_8, characters-text x [] u, append-nil x, count-decoded utf_8 (suc
+    (length x)) x refl (omega arith))
 
 -- ---- positions
 
@@ -104,9 +98,7 @@ head-inside e d x y head w c ok s l h =
 
 -- The size of a head that is followed by nothing of the line.
 pub head-end : (e : Encoding) (d x head : List ℕ) → IsHeadOf e d x [] head → length head ≡ length d
-head-end e d x head h =
-    let n : h.tail ≡ [] = nothing-decoded e h.tail h.tail_text in
-    ap length (sym (append-nil head) ∙ ap (λ v. head ++ v) (sym n) ∙ sym h.joins)
+head-end e d x head h = cc (nothing-decoded e h.tail h.tail_text, append-nil head)
 
 -- The size of a head that is followed by a backslash.
 pub head-before_backslash : (e : Encoding) (d x head : List ℕ) → is_editable e ≡ true → IsHeadOf e d x (backslash ∷ []) head → length head ≡ length d - 1
