@@ -1,5 +1,5 @@
 -- How printed lines are put together. They contain only characters that can be encoded.
-use Rattle.std.proofs.Common.{◌≡◌, ℕ, ◌+◌, ◌/◌, ◌%◌, ◌<◌, ◌==◌, ◌||◌, ◌&&◌, not, Bool, true, false, cond, List, [], ◌∷◌, ◌++◌, refl, ap, ◌∙◌, inl, inr, append_assoc, arith, lit<, lt-ltb, eqb-true}
+use Rattle.std.proofs.Common.{◌≡◌, ℕ, ◌+◌, ◌/◌, ◌%◌, ◌<◌, ◌==◌, ◌||◌, ◌&&◌, not, Bool, true, false, cond, List, [], ◌∷◌, ◌++◌, refl, ap, ◌∙◌, inl, inr, append_assoc, arith, lit<, lt-ltb}
 use Rattle.std.specs.Prelude.{Some, is_some, unwrap_or, nat_lt}
 use Rattle.std.specs.Char.{digit_char}
 use Rattle.std.proofs.lemmas.Bool.{cond_both, and_from, and_parts}
@@ -121,10 +121,6 @@ letter_escape-ascii c = (lit< tt, (letter c, tt))
         cond_both (c == 0x09) 0x74 (cond (c == 0x0a) 0x6e (cond (c == 0x0c) 0x66 0x72)) (λ v. v < 0x80) (λ k. lit< tt)
         (λ k. cond_both (c == 0x0a) 0x6e (cond (c == 0x0c) 0x66 0x72) (λ v. v < 0x80) (λ k. lit< tt)
         (λ k. cond_both (c == 0x0c) 0x66 0x72 (λ v. v < 0x80) (λ k. lit< tt) (λ k. lit< tt)))
-
--- A character that equals an ASCII character is ASCII.
-is-ascii : (c k : ℕ) → k < 0x80 → (c == k) ≡ true → c < 0x80
-is-ascii c k h e = rw (eqb-true c k e) h
 
 -- A character that is escaped with a backslash is ASCII.
 pub special-ascii : (c : ℕ) → is_special c ≡ true → c < 0x80

@@ -89,14 +89,6 @@ pair-keeps c h k b =
     KeepsBlanks-surrogates (unit_digits (high_surrogate c)) (unit_digits (low_surrogate c)) (unit_digits-hexadecimal (low_surrogate c))
     (subst (λ v. is_blank v ≡ false) (sym (pair-is c h k)) b)
 
--- A text equal to a safe spelling is a safe spelling.
-same-printed : (x y : List ℕ) (c : ℕ) → x ≡ y → IsSafelyPrinted y c → IsSafelyPrinted x c
-same-printed x y c e s = record { spelling = s.spelling; text = e ∙ s.text; character = s.character; safe = s.safe }
-
--- A text equal to a plain spelling is a plain spelling.
-same-plainly : (x y : List ℕ) (c : ℕ) → x ≡ y → IsPlainlyPrinted y c → IsPlainlyPrinted x c
-same-plainly x y c e s = record { spelling = s.spelling; text = e ∙ s.text; character = s.character; safe = s.safe; keeps = s.keeps }
-
 -- `\u` escapes are a safe spelling of a scalar value.
 pub unicode-printed : (c : ℕ) → scalar c → IsSafelyPrinted (unicode_escape c) c
 unicode-printed c h =
