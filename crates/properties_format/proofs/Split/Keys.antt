@@ -54,8 +54,8 @@ cut_key-units (u ∷ us) rest h =
 -- A key before what ends it.
 pub cut_key-only : (key rest : List ℕ) → IsKey key rest → ends_here rest ≡ true → cut_key (key ++ rest) false ≡ record { key = key; rest = rest }
 cut_key-only key rest k e =
-    cc (units_before-append k.units rest, cut_key-units k.units rest k.each, cut_key-ends rest e, append-nil
-    (units_before k.units []))
+    cc (units_before-append k.units rest, cut_key-units k.units rest k.each, cut_key-ends rest e,
+    append-nil (units_before k.units []))
 
 -- ---- each text is a key followed by what ends it
 

@@ -219,8 +219,8 @@ valued-meets e only body key value gs (Some p) ok g h = elim (cases_Bool (has_va
 pub valued-only : (e : Encoding) (only : Bool) (body key value : List ℕ) (gs : List (List HeldLine)) (result : List ℕ) → is_editable e ≡ true → AreGroupsOf e body gs
     → IsBodyValued e only gs key value result → result ≡ valued_at e only gs key value (last_place key gs)
 valued-only e only body key value gs result ok g (inl h) =
-    cc (HasPair-test key value h.group h.has_pair, last_place-some key h.before h.group h.after (value, h.has_pair)
-    h.no_later)
+    cc (HasPair-test key value h.group h.has_pair,
+    last_place-some key h.before h.group h.after (value, h.has_pair) h.no_later)
 valued-only e only body key value gs result ok g (inr (inl h)) =
     let p : KeyPlace = record { before = h.before; group = h.group; after = h.after } in
     let f = front_of-only e h.group h.between h.front ok (group-decoded e body gs h.before h.group h.after g h.division) h.is_front in

@@ -65,8 +65,8 @@ count-decoded e (suc n) d ok l = elim (first-ascii d) [
 -- A text has as many ASCII characters as its UTF-8 bytes have ASCII bytes.
 pub count-text : (x : List ℕ) → IsUtf8 x → ascii_count (chars x) ≡ ascii_count x
 count-text x u =
-    cc (append-nil (chars x), pieces_of-nil utf_8, characters-text x [] u, append-nil x, count-decoded utf_8 (suc
-    (length x)) x refl (omega arith))
+    cc (append-nil (chars x), pieces_of-nil utf_8, characters-text x [] u, append-nil x,
+    count-decoded utf_8 (suc (length x)) x refl (omega arith))
 
 -- ---- positions
 
