@@ -56,8 +56,7 @@ none-in (read_fault n ∷ entries) key h = ap (λ r. first_value r None) (none-i
 -- the last pair with the key gives the value
 last-in : (before : List Entry) (n : ℕ) (key value : List ℕ) (after : List Entry) → HasNoPair key after → value_in (before ++ (item n (pair key value) ∷ after)) key ≡ Some value
 last-in [] n key value after h =
-    ap (λ r. first_value r (value_of (item n (pair key value)) key)) (none-in after key h)
-    ∙ cond-true (bytes_eq key key) (Some value) None ((bytes_eq-Decides key key).1 refl)
+    rw (none-in after key h, cond-true (bytes_eq key key) (Some value) None ((bytes_eq-Decides key key).1 refl))
 last-in (entry ∷ before) n key value after h = ap (λ r. first_value r (value_of entry key)) (last-in before n key value after h)
 
 -- A value of the key is the computed one.

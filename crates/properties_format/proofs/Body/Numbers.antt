@@ -1,5 +1,5 @@
 -- The items of a source are the contents of its body's groups, each with the number of its first line.
-use Rattle.std.proofs.Common.{◌≡◌, ℕ, ◌+◌, List, [], ◌∷◌, ◌++◌, length, refl, ap, ap₂, sym, ◌∙◌, inl, inr, arith}
+use Rattle.std.proofs.Common.{◌≡◌, ℕ, ◌+◌, List, [], ◌∷◌, ◌++◌, length, refl, ap, sym, ◌∙◌, inl, inr, arith}
 use Rattle.std.proofs.lemmas.Bool.{cases_Bool}
 use Rattle.properties_format.specs.Encoding.{Encoding, byte_order_mark}
 use Rattle.properties_format.specs.Lines.{Ended, end, Line, numbered, line_ends}
@@ -61,8 +61,7 @@ length-push (g ∷ p) h = let e = length-push p h in omega arith
 -- A group before others.
 entries-group : (m n : ℕ) (g : List HeldLine) (gs : List (List Line)) (rest : List Entry) → first_number (numbered_from n g) ≡ n → entries_of m end gs ≡ rest
     → entries_of m end (numbered_from n g ∷ gs) ≡ followed n (outcome_of (joined (as_lines g))) rest
-entries-group m n g gs rest h k =
-    ap₂ (λ v w. followed v (outcome_of w) (entries_of m end gs)) h (joined-numbered n g) ∙ ap (followed n (outcome_of (joined (as_lines g)))) k
+entries-group m n g gs rest h k = simp (h, joined-numbered, k)
 
 -- Lines after those of a group that is still open.
 entries-after : (m n k : ℕ) (p hs : List HeldLine) → k ≡ n + length p

@@ -103,8 +103,7 @@ removed-same key [] new h = ap (λ v. value_among v key) h
 removed-same key (comment text ∷ cs) new h = ap (λ v. value_among v key) h.1 ∙ first-none (value_among h.0 key) ∙ removed-same key cs h.0 h.2
 removed-same key (pair k v ∷ cs) new (inl h) = removed-same key cs new h.1
 removed-same key (pair k v ∷ cs) new (inr h) =
-    ap (λ v. value_among v key) h.2 ∙ ap (first_value (value_among h.1 key)) (other-value k v key h.0) ∙ first-none (value_among h.1 key)
-    ∙ removed-same key cs h.1 h.3
+    rw (h.2, other-value k v key h.0, first-none (value_among h.1 key), removed-same key cs h.1 h.3)
 
 -- Every other key keeps its value.
 removed-other : (key : List ℕ) (old new : List Content) (k : List ℕ) → key ≢ k → IsRemovedIn key old new → value_among new k ≡ value_among old k
@@ -112,8 +111,7 @@ removed-other key [] new k n h = ap (λ v. value_among v k) h
 removed-other key (comment text ∷ cs) new k n h = ap (λ v. value_among v k) h.1 ∙ ap (λ o. first_value o None) (removed-other key cs h.0 k n h.2)
 removed-other key (pair l v ∷ cs) new k n (inl h) =
     removed-other key cs new k n h.1 ∙ sym (ap (first_value (value_among cs k)) (other-value l v k (λ s. n (sym h.0 ∙ s))) ∙ first-none (value_among cs k))
-removed-other key (pair l v ∷ cs) new k n (inr h) =
-    ap (λ v. value_among v k) h.2 ∙ ap (λ o. first_value o (content_value (pair l v) k)) (removed-other key cs h.1 k n h.3)
+removed-other key (pair l v ∷ cs) new k n (inr h) = simp (h.2, removed-other key cs h.1 k n h.3)
 
 -- If a key is removed, each key has its value in the map with that key removed.
 removed-value : (key : List ℕ) (old new : List Content) (k : List ℕ) → IsRemovedIn key old new

@@ -38,8 +38,7 @@ decoded-together : (e : Encoding) (ls : List Ended) (last : List ℕ) → AreCut
     → decoded_line e (bytes_together e ls last) ≡ put_together (decoded_ended e ls) (decoded_line e last)
 decoded-together e [] last h = refl
 decoded-together e (l ∷ ls) last h =
-    decoded-line e l.text l.by (bytes_together e ls last) h.1
-    ∙ ap (λ v. decoded_line e l.text ++ (line_ending_text l.by ++ v)) (decoded-together e ls last h.3)
+    rw (decoded-line e l.text l.by (bytes_together e ls last) h.1, decoded-together e ls last h.3)
 
 -- ---- Its lines.
 

@@ -30,10 +30,7 @@ two-end : (e : Encoding) (unit : ℕ → ℕ → ℕ) (by : LineEnding) (y : Lis
 two-end e unit lf y ls last r k h = r.lf_first y ∙ ap (before line_feed) h
 two-end e unit cr y ls last r k h =
     r.cr_first y ∙ ap (before carriage_return) h ∙ ap (λ v. let s : Lines = record { ended = v; last = last } in s) (cr-before ls (k refl))
-two-end e unit crlf y ls last r k h =
-    ap (cut_of_two unit) (append_assoc (ascii_bytes e carriage_return) (ascii_bytes e line_feed) y)
-    ∙ r.cr_first (ascii_bytes e line_feed ++ y)
-    ∙ ap (before carriage_return) (r.lf_first y ∙ ap (before line_feed) h)
+two-end e unit crlf y ls last r k h = simp (append_assoc, r.cr_first (ascii_bytes e line_feed ++ y), r.lf_first y, h)
 
 -- A line and its end before bytes whose lines are known.
 pub two-line : (e : Encoding) (unit : ℕ → ℕ → ℕ) (text : List ℕ) (by : LineEnding) (y : List ℕ) (ls : List Ended) (last : List ℕ) → ReadsEnds e unit

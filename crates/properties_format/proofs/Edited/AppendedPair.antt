@@ -33,10 +33,8 @@ left-outcome by g left (inr m) = ap (λ v. outcomes_of (as_groups v)) m.is ∙ a
 closed-outcomes : (e : Encoding) (by : LineEnding) (gs : List (List HeldLine)) (k : AreClosedBy e by gs)
     → outcomes_of (as_groups (k.before ++ k.left)) ≡ outcomes_of (as_groups gs)
 closed-outcomes e by gs k =
-    outcomes_of-append k.before k.left
-    ∙ ap (λ v. outcomes_of (as_groups k.before) ++ v) (left-outcome by k.final k.left k.is_left)
-    ∙ sym (outcomes_of-append k.before (k.final ∷ []))
-    ∙ ap (λ v. outcomes_of (as_groups v)) (sym k.division)
+    rw (outcomes_of-append k.before k.left, left-outcome by k.final k.left k.is_left,
+    ← outcomes_of-append k.before (k.final ∷ []), ← k.division)
 
 -- An empty last line isn't a pair.
 pub empty-other : (e : Encoding) (key : List ℕ) → ¬ (HasKey key (empty_line e None ∷ []))

@@ -189,8 +189,7 @@ added-unmarked e by gs tail k h first = elim (separation_by-cases by (final_grou
     none : (hs : List (List HeldLine)) → AreHeldGroups e hs → begins_like_bom (groups_bytes hs) ≡ false → is_empty_line (final_group hs) ≡ true
         → front ≡ groups_bytes hs → begins_like_bom (front ++ tail front) ≡ false
     none [] k h m s = absurd (cc)
-    none (g ∷ []) k h m s =
-        ap (λ v. begins_like_bom (v ++ tail v)) (s ∙ append-nil (group_bytes g) ∙ empty-last g m k.ending) ∙ first
+    none (g ∷ []) k h m s = rw (s, append-nil (group_bytes g), empty-last g m k.ending, first)
     none (g ∷ i ∷ hs) k h m s =
         ap (λ v. begins_like_bom (v ++ tail v)) s
         ∙ front-unmarked g (i ∷ hs) (tail (groups_bytes (g ∷ i ∷ hs))) [] k.0.ascii (ap begins_like_bom (append-nil (groups_bytes (g ∷ i ∷ hs))) ∙ h)

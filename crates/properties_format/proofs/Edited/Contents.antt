@@ -57,8 +57,7 @@ told-groups e (g ∷ i ∷ gs) h =
 -- The outcomes of two lists of groups.
 pub outcomes_of-append : (gs hs : List (List HeldLine)) → outcomes_of (as_groups (gs ++ hs)) ≡ outcomes_of (as_groups gs) ++ outcomes_of (as_groups hs)
 outcomes_of-append [] hs = refl
-outcomes_of-append (g ∷ gs) hs =
-    ap (outcome_before (outcome g)) (outcomes_of-append gs hs) ∙ outcome_before-append (outcome g) (outcomes_of (as_groups gs)) (outcomes_of (as_groups hs))
+outcomes_of-append (g ∷ gs) hs = simp (outcomes_of-append gs hs, outcome_before-append)
 
 -- ---- contents in order
 

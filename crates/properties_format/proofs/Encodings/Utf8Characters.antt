@@ -24,9 +24,8 @@ encode-two c l h = cond-false (nat_lt c 0x80) _ _ (le-ltb c 0x80 l) ∙ cond-tru
 pub encode-three : (c : ℕ) → 0x800 ≤ c → c < 0x1_0000 → encode_utf8 c ≡ (224 + c / 4096) ∷ next (c / 64) ∷ next c ∷ []
 unfolding encode_utf8
 encode-three c l h =
-    cond-false (nat_lt c 0x80) _ _ (le-ltb c 0x80 (omega arith))
-    ∙ cond-false (nat_lt c 0x800) _ _ (le-ltb c 0x800 l)
-    ∙ cond-true (nat_lt c 0x1_0000) _ _ (lt-ltb c 0x1_0000 h)
+    rw (cond-false (nat_lt c 0x80) _ _ (le-ltb c 0x80 (omega arith)),
+    cond-false (nat_lt c 0x800) _ _ (le-ltb c 0x800 l), cond-true (nat_lt c 0x1_0000) _ _ (lt-ltb c 0x1_0000 h))
 
 -- From U+10000 on, it is encoded as four bytes.
 pub encode-four : (c : ℕ) → 0x1_0000 ≤ c → encode_utf8 c ≡ (240 + c / 262144) ∷ next (c / 4096) ∷ next (c / 64) ∷ next c ∷ []

@@ -1,5 +1,5 @@
 -- Lists of pairs that are written are read back unchanged.
-use Rattle.std.proofs.Common.{◌≡◌, ℕ, ◌+◌, List, [], ◌∷◌, refl, ap, sym, ◌∙◌}
+use Rattle.std.proofs.Common.{◌≡◌, ℕ, ◌+◌, List, [], ◌∷◌, refl, ap, ◌∙◌}
 use Rattle.properties_format.specs.Encoding.{Encoding, output_encoding}
 use Rattle.properties_format.specs.Entries.{Entry}
 use Rattle.properties_format.specs.Lines.{end}
@@ -46,9 +46,7 @@ module _ (e : Encoding) (s : Settings) (own : output_encoding e ≡ e) (good : A
   pub pairs-equal : (ps qs : List Pair) → AreAccepted s ps → ArePairsOfScalars ps → AreAccepted s qs → ArePairsOfScalars qs
       → wrote e s 0 (calls_of ps) ≡ wrote e s 0 (calls_of qs) → ps ≡ qs
   pairs-equal ps qs a h b k same =
-      sym (pairs_in-items 0 ps)
-      ∙ ap pairs_in (sym (items_of-pairs ps a h) ∙ ap (λ v. items_of e v end) same ∙ items_of-pairs qs b k)
-      ∙ pairs_in-items 0 qs
+      rw (← pairs_in-items 0 ps, ← items_of-pairs ps a h, same, items_of-pairs qs b k, pairs_in-items 0 qs)
 
   -- Pairs that are read and written again, under the same settings, are the same bytes.
   pub pairs-settle : (ps : List Pair) (entries : List Entry) → AreAccepted s ps → ArePairsOfScalars ps → IsItems e (wrote e s 0 (calls_of ps)) end entries

@@ -114,9 +114,8 @@ printed-unmarked : (e : Encoding) (s : Settings) (line : Content) (rest : List �
 printed-unmarked e s (comment text) rest g =
     ap (λ v. begins_like_bom (encoded_text e v)) (append_assoc (printed_characters e s.ascii_only in_prefix s.comment_prefix) _ rest) ∙ comment-unmarked e s.ascii_only s.comment_prefix _ g.prefix
 printed-unmarked e s (pair key value) rest g =
-    ap (λ v. begins_like_bom (encoded_text e v))
-    (append_assoc (printed_key e s.ascii_only true key) (s.kv_separator ++ _) rest ∙ ap (λ v. printed_key e s.ascii_only true key ++ v) (append_assoc s.kv_separator _ rest))
-    ∙ pair-unmarked e s.ascii_only key s.kv_separator _ g.separator
+    rw (append_assoc (printed_key e s.ascii_only true key) (s.kv_separator ++ _) rest,
+    append_assoc s.kv_separator _ rest, pair-unmarked e s.ascii_only key s.kv_separator _ g.separator)
 
 -- ---- all lines
 

@@ -1,5 +1,5 @@
 -- The settings after some calls are the last ones that were accepted, or else the initial ones.
-use Rattle.std.proofs.Common.{◌≡◌, ℕ, Bool, true, false, List, [], ◌∷◌, refl, ap, ◌∙◌}
+use Rattle.std.proofs.Common.{◌≡◌, ℕ, Bool, true, false, List, [], ◌∷◌, refl}
 use Rattle.std.specs.Prelude.{Option, Some, None, unwrap_or, if◌then◌else◌}
 use Rattle.properties_format.specs.Text.{LineEnding}
 use Rattle.properties_format.specs.Settings.{Settings}
@@ -88,9 +88,7 @@ after-calls : {A : Type 0} (setting : Settings → A) (given : Call → Option A
     → (s : Settings) (calls : List Call) → setting (settings_after s calls) ≡ unwrap_or (last_given given calls) (setting s)
 after-calls setting given each s [] = refl
 after-calls setting given each s (call ∷ calls) =
-    after-calls setting given each (settings_after_call s call) calls
-    ∙ ap (unwrap_or (last_given given calls)) (each s call)
-    ∙ unwrap-later (given call) (last_given given calls) (setting s)
+    simp (after-calls setting given each (settings_after_call s call) calls, each s call, unwrap-later)
 
 -- The prefix is the last one that was accepted, or else the initial one.
 pub prefix-after : (s : Settings) (calls : List Call) → (settings_after s calls).comment_prefix ≡ unwrap_or (last_given prefix_of calls) s.comment_prefix

@@ -246,8 +246,7 @@ head-adds e first line q head h = without_open_backslash-closed (without_indent 
 
 -- The line without its indentation is what the head adds, followed by the rest.
 head-line : (e : Encoding) (first : Bool) (line : HeldLine) (q head : List ℕ) (h : IsHead e first line q head) → without_indent first line.text ≡ q ++ h.rest
-head-line e first line q head h =
-    ap (without_indent first) h.cut_text ∙ indent-head first h.text h.rest h.not_blank ∙ ap (λ v. v ++ h.rest) h.adds
+head-line e first line q head h = rw (h.cut_text, indent-head first h.text h.rest h.not_blank, h.adds)
 
 -- A head adds something.
 head-some : (e : Encoding) (first : Bool) (line : HeldLine) (q head : List ℕ) → IsHead e first line q head → q ≢ []

@@ -89,9 +89,7 @@ no_value-test key value g k h = false_from_ne_true (has_value value g) (λ m. h 
 -- If no group is a pair, there is no last one.
 last_between-none : (gs : List (List HeldLine)) → NoPairs gs → last_between gs ≡ None
 last_between-none [] h = refl
-last_between-none (g ∷ gs) h =
-    ap (λ v. or_else v (between_if_pair (split_of (joined (as_lines g))) (joined (as_lines g)))) (last_between-none gs h.1)
-    ∙ of-split (split_of (joined (as_lines g))) refl
+last_between-none (g ∷ gs) h = simp (last_between-none gs h.1, of-split (split_of (joined (as_lines g))) refl)
   where
     of-split : (l : Logical) → split_of (joined (as_lines g)) ≡ l → between_if_pair (split_of (joined (as_lines g))) (joined (as_lines g)) ≡ None
     of-split Logical.blank s = rw s refl
@@ -107,8 +105,7 @@ between-parsed_pair line key value h =
 last_between-some : (before : List (List HeldLine)) (g : List HeldLine) (after : List (List HeldLine)) (key value : List ℕ)
     (h : IsPair (joined (as_lines g)) key value) → NoPairs after → last_between (before ++ g ∷ after) ≡ Some h.between
 last_between-some [] g after key value h k =
-    ap (λ v. or_else v (between_if_pair (split_of (joined (as_lines g))) (joined (as_lines g)))) (last_between-none after k)
-    ∙ between-parsed_pair (joined (as_lines g)) key value h
+    rw (last_between-none after k, between-parsed_pair (joined (as_lines g)) key value h)
 last_between-some (f ∷ before) g after key value h k = simp (last_between-some before g after key value h k)
 
 -- The first choice followed by nothing is the first choice.

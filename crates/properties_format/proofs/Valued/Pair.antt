@@ -201,6 +201,5 @@ changed-pair e only group key between front value ending f ok scalars fit line_p
         ascii-first : (e : Encoding) (va : List ℕ) → is_editable e ≡ true → AreWritable e va
             → decoded_line e (equals_sign ∷ encoded_text e va) ≡ equals_sign ∷ va
         ascii-first e va ok w =
-            ascii-among e [] equals_sign (encoded_text e va) ok (lit< tt)
-            ∙ ap₂ (λ v z. v ++ equals_sign ∷ z) (decoded-nil e) (text-own e va ok w)
+            rw (ascii-among e [] equals_sign (encoded_text e va) ok (lit< tt), decoded-nil e, text-own e va ok w)
     text-after e (c ∷ cs) va ok w = text-own e va ok w

@@ -5,7 +5,7 @@ use Rattle.std.proofs.Math.Seq.{take-append_seam}
 use Rattle.properties_format.specs.Text.{is_comment_sign, without_leading_blanks}
 use Rattle.properties_format.specs.Groups.{is_comment_line, begins_with_comment_sign}
 use Rattle.properties_format.specs.Split.{begins, IsPair}
-use Rattle.properties_format.specs.Computed.Split.{Cut, cut_key, past_separator}
+use Rattle.properties_format.specs.Computed.Split.{Cut, cut_key}
 use Rattle.properties_format.specs.Computed.Valued.{without_end, after_key, written_value, between_in, before_value}
 use Rattle.properties_format.proofs.Split.Blanks.{without_leading_blanks-only}
 use Rattle.properties_format.proofs.Split.Keys.{cut_key-only}
@@ -27,8 +27,7 @@ after_key-pair line key value h =
 
 -- The value of a pair.
 pub written_value-pair : (line key value : List ℕ) (h : IsPair line key value) → written_value line ≡ value
-written_value-pair line key value h =
-    ap (λ v. past_separator (without_leading_blanks v)) (after_key-pair line key value h) ∙ between-value h.between value h.is_between
+written_value-pair line key value h = rw (after_key-pair line key value h, between-value h.between value h.is_between)
 
 -- What separates the key of a pair from its value.
 pub between_in-pair : (line key value : List ℕ) (h : IsPair line key value) → between_in line ≡ h.between
