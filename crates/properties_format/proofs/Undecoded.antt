@@ -91,11 +91,8 @@ reversed-onto : (d y : List ℕ) → reverse_aux (characters_of d) (characters_o
 reversed-onto [] y = refl
 reversed-onto (b ∷ d) y = reversed-onto d (b ∷ y)
 
-reversed : (d : List ℕ) → reverse (characters_of d) ≡ characters_of (reverse d)
-reversed d = reversed-onto d []
-
 pub ending : (d : List ℕ) → ending_backslashes (characters_of d) ≡ ending_backslashes d
-ending d = ap leading_backslashes (reversed d) ∙ leading (reverse d)
+ending d = ap leading_backslashes (reversed-onto d []) ∙ leading (reverse d)
 
 pub opens : (d : List ℕ) → is_open (characters_of d) ≡ is_open d
 opens d = ap (λ n. n % 2 == 1) (ending d)

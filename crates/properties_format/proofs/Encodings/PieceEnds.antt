@@ -15,15 +15,11 @@ IsEven x = length x % 2 ≡ 0
 
 -- ---- More bytes after the piece.
 
--- A byte that breaks a sequence off does so whatever follows it.
-breaks-more : (bs : List ℕ) (b : ℕ) (rest y : List ℕ) → NextBreaks bs (b ∷ rest) → NextBreaks bs (b ∷ rest ++ y)
-breaks-more bs b rest y h = h
-
 -- In UTF-8, a piece that a byte follows stays one with more bytes after it.
 utf_8-more : (p : Piece) (b : ℕ) (rest y : List ℕ) → IsUtf8Piece p (b ∷ rest) → IsUtf8Piece p (b ∷ rest ++ y)
 utf_8-more p b rest y (whole h e) = whole h e
 utf_8-more p b rest y (stray a e h) = stray a e h
-utf_8-more p b rest y (broken a bs e h k) = broken a bs e h (breaks-more (a ∷ bs) b rest y k)
+utf_8-more p b rest y (broken a bs e h k) = broken a bs e h k
 
 -- In UTF-16, a piece that a byte follows stays one with more bytes after it.
 utf_16-more : (unit : ℕ → ℕ → ℕ) (p : Piece) (b : ℕ) (rest y : List ℕ) → IsUtf16Piece unit p (b ∷ rest) → IsUtf16Piece unit p (b ∷ rest ++ y)

@@ -1,5 +1,5 @@
 -- The characters of UTF-8 sequences.
-use Rattle.std.proofs.Common.{◌≡◌, ℕ, ◌+◌, ◌*◌, ◌/◌, ◌%◌, ◌^◌, ◌<◌, ◌≤◌, ◌⊎◌, nat_lt, List, [], ◌∷◌, ◌∙◌, inl, inr, arith, lt-ltb}
+use Rattle.std.proofs.Common.{◌≡◌, ℕ, ◌+◌, ◌/◌, ◌%◌, ◌<◌, ◌≤◌, ◌⊎◌, nat_lt, List, [], ◌∷◌, ◌∙◌, inl, inr, arith, lt-ltb}
 use Rattle.std.proofs.lemmas.Bool.{cond-true, cond-false, cases_lt, le-ltb}
 use Rattle.std.specs.Char.{encode_utf8}
 use Rattle.properties_format.specs.Text.{scalar}
@@ -47,22 +47,9 @@ next-in c = (omega arith, omega arith)
 is_sequence-one : (c : ℕ) → c < 0x80 → IsSequenceOf (c ∷ []) c
 is_sequence-one c h = (inl ((omega arith, omega arith), tt), omega arith)
 
--- The two bytes of a character below U+0800 decode to it.
-two-character : (c : ℕ) → c < 0x800 → c ≡ (192 + c / 64) % 2 ^ 5 * 2 ^ 6 + next c % 2 ^ 6
-two-character c h = omega arith
-
 -- From U+0080 on, these two bytes are the character's sequence.
 is_sequence-two : (c : ℕ) → 0x80 ≤ c → c < 0x800 → IsSequenceOf ((192 + c / 64) ∷ next c ∷ []) c
-is_sequence-two c l h = (inr (inl ((omega arith, omega arith), (next-in c, tt))), two-character c h)
-
--- The three bytes of a character below U+10000 decode to it.
-three-character : (c : ℕ) → c < 0x1_0000 → c ≡ ((224 + c / 4096) % 2 ^ 4 * 2 ^ 6 + next (c / 64) % 2 ^ 6) * 2 ^ 6 + next c % 2 ^ 6
-three-character c h = omega arith
-
--- The four bytes of any character decode to it.
-four-character : (c : ℕ) → c < 0x11_0000
-    → c ≡ (((240 + c / 262144) % 2 ^ 3 * 2 ^ 6 + next (c / 4096) % 2 ^ 6) * 2 ^ 6 + next (c / 64) % 2 ^ 6) * 2 ^ 6 + next c % 2 ^ 6
-four-character c h = omega arith
+is_sequence-two c l h = (inr (inl ((omega arith, omega arith), (next-in c, tt))), omega arith)
 
 -- The three bytes of a scalar value from U+0800 to U+FFFF are well-formed.
 three-fits : (c : ℕ) → 0x800 ≤ c → c < 0xd800 ⊎ ((0xe000 ≤ c) × (c < 0x1_0000)) → IsWellFormed ((224 + c / 4096) ∷ next (c / 64) ∷ next c ∷ [])
@@ -88,8 +75,8 @@ four-fits c l h = elim (cases_lt c 0x4_0000) [
 -- From U+0800 on, the bytes of a scalar value are its sequence.
 is_sequence-long : (c : ℕ) → 0x800 ≤ c → scalar c → IsSequenceOf (encode_utf8 c) c
 is_sequence-long c l h = elim (cases_lt c 0x1_0000) [
-  | inl k ↦ rw (encode-three c l k) (three-fits c l (low k h), three-character c k)
-  | inr k ↦ rw (encode-four c k) (four-fits c k (high h), four-character c (high h))
+  | inl k ↦ rw (encode-three c l k) (three-fits c l (low k h), omega arith)
+  | inr k ↦ rw (encode-four c k) (four-fits c k (high h), omega arith)
 ]
   where
     low : c < 0x1_0000 → scalar c → c < 0xd800 ⊎ ((0xe000 ≤ c) × (c < 0x1_0000))

@@ -17,16 +17,10 @@ hexadecimal_value-char n h = grind (arith, nat_tests)
 
 -- A hexadecimal digit isn't a backslash, a blank or a separator.
 pub hexadecimal-plain : (c : ℕ) → is_hexadecimal c ≡ true → ((c == backslash) ≡ false) × (is_blank c ≡ false) × (is_separator c ≡ false)
-hexadecimal-plain c h = (not_backslash c h, not_blank c h, not_separator c h)
+hexadecimal-plain c h = (not_backslash c h, grind (arith, nat_tests), grind (arith, nat_tests))
   where
     not_backslash : (c : ℕ) → is_hexadecimal c ≡ true → (c == backslash) ≡ false
     not_backslash c h = grind (arith, nat_tests)
-
-    not_blank : (c : ℕ) → is_hexadecimal c ≡ true → is_blank c ≡ false
-    not_blank c h = grind (arith, nat_tests)
-
-    not_separator : (c : ℕ) → is_hexadecimal c ≡ true → is_separator c ≡ false
-    not_separator c h = grind (arith, nat_tests)
 
 -- the four lower-case digits of a unit
 abbrev pub unit_digits : ℕ → Four

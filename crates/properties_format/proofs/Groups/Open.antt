@@ -10,10 +10,6 @@ use Rattle.properties_format.specs.Groups.{leading_backslashes, ending_backslash
 pub ending_backslashes-push : (x : List ℕ) (c : ℕ) → ending_backslashes (x ++ c ∷ []) ≡ (if c == backslash then suc (ending_backslashes x) else 0)
 ending_backslashes-push x c = ap leading_backslashes (reverse-append x (c ∷ []))
 
--- A backslash at the end adds one.
-pub ending_backslashes-more : (x : List ℕ) → ending_backslashes (x ++ backslash ∷ []) ≡ suc (ending_backslashes x)
-ending_backslashes-more x = ending_backslashes-push x backslash
-
 -- After any other character at the end there are none.
 pub ending_backslashes-none : (x : List ℕ) (c : ℕ) → (c == backslash) ≡ false → ending_backslashes (x ++ c ∷ []) ≡ 0
 ending_backslashes-none x c h = ending_backslashes-push x c ∙ rw h refl
@@ -43,7 +39,7 @@ odd-next n = elim (eqb_tells (n % 2) 1) [
 
 -- A backslash at the end makes a line open if it wasn't, and not open if it was.
 pub is_open-backslash : (x : List ℕ) → is_open (x ++ backslash ∷ []) ≡ not (is_open x)
-is_open-backslash x = ap (λ v. v % 2 == 1) (ending_backslashes-more x) ∙ odd-next (ending_backslashes x)
+is_open-backslash x = ap (λ v. v % 2 == 1) (ending_backslashes-push x backslash) ∙ odd-next (ending_backslashes x)
 
 -- two backslashes change nothing
 pub is_open-two : (x : List ℕ) → is_open (x ++ backslash ∷ backslash ∷ []) ≡ is_open x

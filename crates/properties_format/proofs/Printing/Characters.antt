@@ -5,7 +5,7 @@ use Rattle.std.specs.Char.{digit_char}
 use Rattle.std.proofs.lemmas.Bool.{cond_both, and_from, and_parts}
 use Rattle.std.proofs.lemmas.Str.{encode_ascii}
 use Rattle.std.proofs.lemmas.Bool.Decides.{nat_tests}
-use Rattle.properties_format.specs.Text.{scalar, line_ending_text, LineEnding, crlf, is_blank, space, backslash, is_separator}
+use Rattle.properties_format.specs.Text.{scalar, line_ending_text, LineEnding, crlf, is_blank, space, backslash}
 use Rattle.properties_format.specs.Encoding.{Encoding, windows_1252, encoded, one_byte}
 use Rattle.properties_format.specs.Entries.{Content, comment, pair}
 use Rattle.properties_format.specs.Split.{AreBlanks}
@@ -135,10 +135,6 @@ pub may_be_unescaped-ascii : (e : Encoding) (only : Bool) (c : ℕ) → c < 0x80
 may_be_unescaped-ascii e true c h = and_from (nat_lt c 0x80) (is_some (encoded e c)) (lt-ltb c 0x80 h) (ap is_some (encoded-ascii e c h))
 may_be_unescaped-ascii e false c h = ap is_some (encoded-ascii e c h)
 
--- A special character with its backslash is an ASCII text.
-special-escape : (c : ℕ) → is_special c ≡ true → AreAscii (backslash ∷ c ∷ [])
-special-escape c h = (lit< tt, (special-ascii c h, tt))
-
 -- A character that is unescaped if that is allowed, and escaped otherwise, is printed as an ASCII text or as itself.
 literal-either : (e : Encoding) (only : Bool) (c : ℕ) (P : List ℕ → Type 0) → ((x : List ℕ) → AreAscii x → P x) → (may_be_unescaped e only c ≡ true → P (c ∷ [])) → P (literal e only c)
 literal-either e only c P ascii as_it_is = cond_both (may_be_unescaped e only c) (c ∷ []) (unicode_escape c) P as_it_is (λ k. ascii (unicode_escape c) (unicode_escape-ascii c))
@@ -148,7 +144,7 @@ pub printed-either : (e : Encoding) (only : Bool) (place : Place) (c : ℕ) (P :
     → P (printed_character e only place c)
 printed-either e only in_key_or_value c P ascii as_it_is =
     cond_both (is_special c) (backslash ∷ c ∷ []) (cond (has_letter c) (letter_escape c) (cond (nat_lt c space) (unicode_escape c) (literal e only c))) P
-    (λ k. ascii (backslash ∷ c ∷ []) (special-escape c k))
+    (λ k. ascii (backslash ∷ c ∷ []) (lit< tt, (special-ascii c k, tt)))
     (λ k. cond_both (has_letter c) (letter_escape c) (cond (nat_lt c space) (unicode_escape c) (literal e only c)) P
     (λ k. ascii (letter_escape c) (letter_escape-ascii c))
     (λ k. cond_both (nat_lt c space) (unicode_escape c) (literal e only c) P
@@ -192,10 +188,6 @@ printed_key-encodable e only first key =
 pub blank-ascii : (c : ℕ) → is_blank c ≡ true → c < 0x80
 blank-ascii c h = grind (arith, nat_tests)
 
--- A separator is an ASCII character.
-pub separator-ascii : (c : ℕ) → is_separator c ≡ true → c < 0x80
-separator-ascii c h = grind (arith, nat_tests)
-
 -- blanks are an ASCII text
 pub blanks-ascii : (x : List ℕ) → AreBlanks x → AreAscii x
 blanks-ascii [] h = tt
@@ -204,7 +196,7 @@ blanks-ascii (c ∷ x) h = (blank-ascii c h.0, blanks-ascii x h.1)
 -- A good separator is an ASCII text.
 pub good_separator-ascii : (separator : List ℕ) → IsGoodSeparator separator → AreAscii separator
 good_separator-ascii separator (inl g) =
-    rw g.division (AreAscii-append g.before (g.sign ∷ g.after) (blanks-ascii g.before g.blank_before) (separator-ascii g.sign g.signed, blanks-ascii g.after g.blank_after))
+    rw g.division (AreAscii-append g.before (g.sign ∷ g.after) (blanks-ascii g.before g.blank_before) (grind (arith, nat_tests), blanks-ascii g.after g.blank_after))
 good_separator-ascii separator (inr g) = blanks-ascii separator g.blank
 
 -- A printed line can be encoded if its separator is good.

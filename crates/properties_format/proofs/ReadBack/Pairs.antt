@@ -3,7 +3,7 @@ use Rattle.std.proofs.Common.{◌≡◌, ◌≢◌, ℕ, ◌==◌, ◌&&◌, Boo
 use Rattle.std.specs.List.{AllByRecursion}
 use Rattle.std.proofs.lemmas.Bool.{cases_Bool, cond-true, cond-false}
 use Rattle.std.proofs.lemmas.Bool.Decides.{nat_tests}
-use Rattle.properties_format.specs.Text.{scalar, backslash, is_blank, is_blanks, is_line_end, is_separator}
+use Rattle.properties_format.specs.Text.{scalar, backslash, is_blanks, is_line_end, is_separator}
 use Rattle.properties_format.specs.Encoding.{Encoding}
 use Rattle.properties_format.specs.Lines.{HoldsNoLineEnd}
 use Rattle.properties_format.specs.Groups.{is_open}
@@ -59,10 +59,6 @@ key-printed e only first key h = elim (cases_Bool (first && is_bom_like e only k
 separator-other : (c : ℕ) → is_separator c ≡ true → ((c == backslash) ≡ false) × (is_line_end c ≡ false)
 separator-other c h = (grind (arith, nat_tests), grind (arith, nat_tests))
 
--- A blank isn't a line end.
-blank-plain : (c : ℕ) → is_blank c ≡ true → is_line_end c ≡ false
-blank-plain c h = grind (arith, nat_tests)
-
 -- A quiet text: it contains no backslash and no line end.
 pub record IsQuiet (x : List ℕ) : Type 0 where
   pub slashes : HoldsNoBackslash x
@@ -79,7 +75,7 @@ quiet-append x y h k = record { slashes = go x y h.slashes k.slashes; plain = pl
 -- Blanks contain no line end.
 pub blanks-plain : (x : List ℕ) → AreBlanks x → HoldsNoLineEnd x
 blanks-plain [] h = tt
-blanks-plain (c ∷ x) h = (blank-plain c h.0, blanks-plain x h.1)
+blanks-plain (c ∷ x) h = (grind (arith, nat_tests), blanks-plain x h.1)
 
 -- Blanks contain no backslash.
 blanks-slashes : (x : List ℕ) → AreBlanks x → HoldsNoBackslash x

@@ -18,10 +18,6 @@ separator-full c e = grind (arith, nat_tests)
 ends_key-blank : (c : ℕ) → is_blank c ≡ true → ends_key c ≡ true
 ends_key-blank c b = rw b refl
 
--- A separator ends a key.
-ends_key-separator : (c : ℕ) → is_separator c ≡ true → ends_key c ≡ true
-ends_key-separator c s = rw (separator-full c s) s
-
 -- A text that doesn't begin with a separator has none to skip.
 past_separator-full : (y : List ℕ) → begins is_separator y ≡ false → past_separator y ≡ y
 past_separator-full [] e = refl
@@ -34,7 +30,7 @@ blanks-end (c ∷ between) value h b = ends_key-blank c b.0
 
 -- A key ends before a separator, with or without blanks before it.
 sign-end : (before : List ℕ) (sign : ℕ) (rest : List ℕ) → AreBlanks before → is_separator sign ≡ true → ends_here (before ++ (sign ∷ rest)) ≡ true
-sign-end [] sign rest b s = ends_key-separator sign s
+sign-end [] sign rest b s = rw (separator-full sign s) s
 sign-end (c ∷ before) sign rest b s = ends_key-blank c b.0
 
 -- A key ends before what separates it from its value, or at the end of the line.
