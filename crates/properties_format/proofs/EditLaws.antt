@@ -1,7 +1,7 @@
 -- The laws of edits.
 use Rattle.std.proofs.Common.{◌≡◌, ◌↔◌, ℕ, ◌+◌, true, false, List, [], ◌∷◌, ◌++◌, length, Option, Some, None, refl, ap, sym, ◌∙◌, inl, inr, subst, Bool}
 use Rattle.std.specs.Prelude.{bytes_eq}
-use Rattle.std.proofs.lemmas.Bool.{cond-true, cond-false, false_from_ne_true, cases_Bool}
+use Rattle.std.proofs.lemmas.Bool.{false_from_ne_true, cases_Bool}
 use Rattle.std.proofs.lemmas.Slice.Eq.{bytes_eq-Decides}
 use Rattle.properties_format.specs.Encoding.{Encoding, InForce, byte_order_mark, begins_like_bom}
 use Rattle.properties_format.specs.Lines.{end}
@@ -141,17 +141,11 @@ own-test key = (bytes_eq-Decides key key).1 refl
 
 -- The map with a key set has the value for it, and for every other key what it had before.
 pub set-differs : (key value : List ℕ) (value_at : List ℕ → Option (List ℕ)) → DiffersAt key (Some value) value_at (map_edited (put key value) value_at)
-set-differs key value value_at = (
-  cond-true (bytes_eq key key) (Some value) (value_at key) (own-test key),
-  (λ other n. cond-false (bytes_eq other key) (Some value) (value_at other) (other-test other key n)),
-)
+set-differs key value value_at = (rw (own-test key), (λ other n. rw (other-test other key n)))
 
 -- The map with a key removed has no value for it, and for every other key what it had before.
 removed-differs : (key : List ℕ) (value_at : List ℕ → Option (List ℕ)) → DiffersAt key None value_at (map_edited (remove key) value_at)
-removed-differs key value_at = (
-  cond-true (bytes_eq key key) None (value_at key) (own-test key),
-  (λ other n. cond-false (bytes_eq other key) None (value_at other) (other-test other key n)),
-)
+removed-differs key value_at = (rw (own-test key), (λ other n. rw (other-test other key n)))
 
 -- After a key is set, the map has the value for it, and for every other key what it had before.
 pub setting-gives : (e : Encoding) (only : Bool) (source key value : List ℕ) → SettingGivesTheValue e only source key value

@@ -1,7 +1,7 @@
 -- If blanks are spelt as themselves, a text without the blanks at its ends means what the whole means without the
 -- blanks at its ends.
 use Rattle.std.proofs.Common.{◌≡◌, ◌&&◌, ℕ, true, false, if◌then◌else◌, List, [], ◌∷◌, ◌++◌, map, refl, ap, sym, ◌∙◌, inl, inr}
-use Rattle.std.proofs.lemmas.Bool.{cases_Bool, both_ways, and_parts}
+use Rattle.std.proofs.lemmas.Bool.{cases_Bool, both_ways, and_parts, cond_both}
 use Rattle.properties_format.specs.Text.{is_blank, without_leading_blanks}
 use Rattle.properties_format.specs.Split.{begins, ends}
 use Rattle.properties_format.specs.Computed.Split.{without_trailing_blanks, unless_last_blank, trimmed}
@@ -75,18 +75,12 @@ without_leading_blanks-characters (p ∷ ps) = elim (cases_Bool (is_blank (spell
 -- The spellings that are left are whole if all were.
 past-whole : (ps : List Spelling) → AreWhole ps → AreWhole (past ps)
 past-whole [] h = tt
-past-whole (p ∷ ps) h = elim (cases_Bool (is_blank (spelling_character p))) [
-  | inl b ↦ rw b (past-whole ps h.1)
-  | inr b ↦ rw b h
-]
+past-whole (p ∷ ps) h = cond_both (is_blank (spelling_character p)) (past ps) (p ∷ ps) AreWhole (λ b. past-whole ps h.1) (λ b. h)
 
 -- The spellings that are left keep blanks if all did.
 past-keep : (ps : List Spelling) → AllKeepBlanks ps → AllKeepBlanks (past ps)
 past-keep [] h = tt
-past-keep (p ∷ ps) h = elim (cases_Bool (is_blank (spelling_character p))) [
-  | inl b ↦ rw b (past-keep ps h.1)
-  | inr b ↦ rw b h
-]
+past-keep (p ∷ ps) h = cond_both (is_blank (spelling_character p)) (past ps) (p ∷ ps) AllKeepBlanks (λ b. past-keep ps h.1) (λ b. h)
 
 -- ---- at the end
 

@@ -1,7 +1,7 @@
 -- A printed pair is a line of its own, and is read as that pair.
 use Rattle.std.proofs.Common.{◌≡◌, ◌≢◌, ℕ, ◌==◌, ◌&&◌, Bool, true, false, List, [], ◌∷◌, ◌++◌, map, refl, ap, sym, ◌∙◌, inl, inr, append_assoc, ap₂, arith}
 use Rattle.std.specs.List.{AllByRecursion}
-use Rattle.std.proofs.lemmas.Bool.{cases_Bool, cond-true, cond-false}
+use Rattle.std.proofs.lemmas.Bool.{cond_both}
 use Rattle.std.proofs.lemmas.Bool.Decides.{nat_tests}
 use Rattle.properties_format.specs.Text.{scalar, backslash, is_blanks, is_line_end, is_separator}
 use Rattle.properties_format.specs.Encoding.{Encoding}
@@ -46,12 +46,9 @@ same-texts x y z e s = record { spellings = s.spellings; text = e ∙ s.text; ch
 
 -- Every printed key is safely spelt.
 pub key-printed : (e : Encoding) (only : Bool) (first : Bool) (key : List ℕ) → AllByRecursion scalar key → AreSafelyPrinted (printed_key e only first key) key
-key-printed e only first key h = elim (cases_Bool (first && is_bom_like e only key)) [
-  | inl k ↦ same-texts _ (with_first_escaped e only key) key
-      (cond-true (first && is_bom_like e only key) (with_first_escaped e only key) (printed_characters e only in_key_or_value key) k) (with_first_escaped-printed e only key h)
-  | inr k ↦ same-texts _ (printed_characters e only in_key_or_value key) key
-      (cond-false (first && is_bom_like e only key) (with_first_escaped e only key) (printed_characters e only in_key_or_value key) k) (texts-printed e only key h)
-]
+key-printed e only first key h =
+    cond_both (first && is_bom_like e only key) (with_first_escaped e only key) (printed_characters e only in_key_or_value key) (λ x. AreSafelyPrinted x key)
+    (λ k. with_first_escaped-printed e only key h) (λ k. texts-printed e only key h)
 
 -- ---- separators
 

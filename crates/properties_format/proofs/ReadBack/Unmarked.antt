@@ -1,13 +1,13 @@
 -- What a new writer writes doesn't begin like a byte order mark.
-use Rattle.std.proofs.Common.{◌≡◌, ℕ, ◌<◌, ◌==◌, ◌&&◌, ◌||◌, not, Bool, true, false, if◌then◌else◌, List, [], ◌∷◌, ◌++◌, refl, ap, ◌∙◌, inl, inr, append_assoc, arith, lit<, ne_eqb}
+use Rattle.std.proofs.Common.{◌≡◌, ℕ, ◌<◌, ◌==◌, ◌&&◌, ◌||◌, not, Bool, true, false, if◌then◌else◌, List, [], ◌∷◌, ◌++◌, refl, ap, ◌∙◌, append_assoc, arith, lit<, ne_eqb}
 use Rattle.std.specs.Prelude.{nat_lt, Some, None}
-use Rattle.std.proofs.lemmas.Bool.{cases_Bool, cond-true, cond-false, and_left}
+use Rattle.std.proofs.lemmas.Bool.{and_left, cond_both}
 use Rattle.properties_format.specs.Text.{backslash, is_blanks, is_comment_sign}
 use Rattle.properties_format.specs.Encoding.{Encoding, begins_with, begins_like_bom, utf_8_bom, utf_16be_bom, utf_16le_bom}
 use Rattle.properties_format.specs.Split.{AreBlanks}
 use Rattle.properties_format.specs.Entries.{Content, comment, pair}
 use Rattle.properties_format.specs.Settings.{Settings, IsGoodPrefix, IsGoodSeparator}
-use Rattle.properties_format.specs.Printing.{in_key_or_value, in_prefix, unit_escape, high_surrogate, low_surrogate, unicode_escape, printed_characters, encoded_text, is_bom_like, with_first_escaped, printed_key, printed_text}
+use Rattle.properties_format.specs.Printing.{in_key_or_value, in_prefix, unit_escape, unicode_escape, printed_characters, encoded_text, is_bom_like, with_first_escaped, printed_key, printed_text}
 use Rattle.properties_format.specs.Writing.{Call, comment_call, pair_call, prefix_call, separator_call, ending_call, flush_call, ascii_only_call, is_empty, settings_after_call, lines_with, AreOfScalars, AreGoodSettings}
 use Rattle.properties_format.proofs.Printing.Characters.{encoded-ascii, encoded_text-append, blank-ascii, good_separator-ascii}
 use Rattle.properties_format.proofs.ReadBack.Pairs.{separator-some}
@@ -79,10 +79,7 @@ IsEscape x = (rest : List ℕ) × (x ≡ backslash ∷ rest)
 
 -- `\u` escapes begin with a backslash
 unicode-is_escape : (c : ℕ) → IsEscape (unicode_escape c)
-unicode-is_escape c = elim (cases_Bool (nat_lt c 0x1_0000)) [
-  | inl e ↦ (_, cond-true (nat_lt c 0x1_0000) (unit_escape c) (unit_escape (high_surrogate c) ++ unit_escape (low_surrogate c)) e)
-  | inr e ↦ (_, cond-false (nat_lt c 0x1_0000) (unit_escape c) (unit_escape (high_surrogate c) ++ unit_escape (low_surrogate c)) e)
-]
+unicode-is_escape c = cond_both (nat_lt c 0x1_0000) (unit_escape c) _ IsEscape (λ k. (_, refl)) (λ k. (_, refl))
 
 -- A key with its first character escaped, with what follows it.
 with_first_escaped-unmarked : (e : Encoding) (only : Bool) (key rest : List ℕ) → is_bom_like e only key ≡ true → IsUnmarked e (with_first_escaped e only key ++ rest)
@@ -102,12 +99,10 @@ plain-unmarked e only key sep rest g h =
 -- A pair on the first line, with what follows its separator.
 pub pair-unmarked : (e : Encoding) (only : Bool) (key sep rest : List ℕ) → IsGoodSeparator sep
     → begins_like_bom (encoded_text e (printed_key e only true key ++ (sep ++ rest))) ≡ false
-pair-unmarked e only key sep rest g = elim (cases_Bool (is_bom_like e only key)) [
-  | inl h ↦ ap (λ v. begins_like_bom (encoded_text e (v ++ (sep ++ rest))))
-      (cond-true (is_bom_like e only key) (with_first_escaped e only key) (printed_characters e only in_key_or_value key) h) ∙ with_first_escaped-unmarked e only key (sep ++ rest) h
-  | inr h ↦ ap (λ v. begins_like_bom (encoded_text e (v ++ (sep ++ rest))))
-      (cond-false (is_bom_like e only key) (with_first_escaped e only key) (printed_characters e only in_key_or_value key) h) ∙ plain-unmarked e only key sep rest g h
-]
+pair-unmarked e only key sep rest g =
+    cond_both (is_bom_like e only key) (with_first_escaped e only key) (printed_characters e only in_key_or_value key)
+    (λ v. begins_like_bom (encoded_text e (v ++ (sep ++ rest))) ≡ false)
+    (λ h. with_first_escaped-unmarked e only key (sep ++ rest) h) (λ h. plain-unmarked e only key sep rest g h)
 
 -- A printed first line, with what follows it.
 printed-unmarked : (e : Encoding) (s : Settings) (line : Content) (rest : List ℕ) → AreGoodSettings s → IsUnmarked e (printed_text e s true line ++ rest)

@@ -1,7 +1,7 @@
 -- A new pair: its separator is good, its line is the pair, and everything before the value is its front.
 use Rattle.std.proofs.Common.{◌≡◌, ◌≢◌, ℕ, ◌&&◌, Bool, true, false, List, [], ◌∷◌, ◌++◌, Some, map, refl, ap, sym, ◌∙◌, inl, inr, append_assoc, append-nil, subst}
 use Rattle.std.specs.Prelude.{All}
-use Rattle.std.proofs.lemmas.Bool.{cases_Bool, cond-true, cond-false, and_left}
+use Rattle.std.proofs.lemmas.Bool.{cases_Bool, cond_both}
 use Rattle.std.proofs.lemmas.List.Elements.{recursion_from_All}
 use Rattle.properties_format.specs.Text.{scalar, equals_sign, LineEnding, is_blank, is_blanks, is_separator}
 use Rattle.properties_format.specs.Encoding.{Encoding}
@@ -72,17 +72,8 @@ shortened-good c cs value (separator before sign after s are t d f) =
 -- It is blank only if it was before.
 shortened-blanks : (was : Bool) (x : List ℕ) → is_blanks (shortened_after was x) ≡ is_blanks x
 shortened-blanks was [] = refl
-shortened-blanks true (c ∷ x) = elim (cases_Bool (is_blank c)) [
-  | inl k ↦ rw k (shortened-blanks true x)
-  | inr k ↦
-      ap is_blanks (cond-false (is_blank c) (shortened_after true x) (c ∷ shortened_after (is_blank c) x) k)
-      ∙ and_left (is_blank c) (is_blanks (shortened_after (is_blank c) x)) k
-      ∙ sym (and_left (is_blank c) (is_blanks x) k)
-]
-shortened-blanks false (c ∷ x) = elim (cases_Bool (is_blank c)) [
-  | inl k ↦ rw k (shortened-blanks true x)
-  | inr k ↦ and_left (is_blank c) (is_blanks (shortened_after (is_blank c) x)) k ∙ sym (and_left (is_blank c) (is_blanks x) k)
-]
+shortened-blanks true (c ∷ x) = elim (cases_Bool (is_blank c)) [ inl k ↦ rw k (shortened-blanks true x) | inr k ↦ rw (k, k) refl ]
+shortened-blanks false (c ∷ x) = elim (cases_Bool (is_blank c)) [ inl k ↦ rw k (shortened-blanks true x) | inr k ↦ rw k refl ]
 
 -- A fit separator for this key: a good one, and not blanks only if the key is empty.
 pub record IsFitSeparator (key separator : List ℕ) : Type 0 where
@@ -92,17 +83,13 @@ pub record IsFitSeparator (key separator : List ℕ) : Type 0 where
 -- The separator for a new pair, given what separates another pair's key from its value, is fit for the new key.
 after-fit : (key between value : List ℕ) → IsBetween between value → IsFitSeparator key (separator_after key between)
 after-fit key [] value h = record { good = equals-good; signed = λ q. refl }
-after-fit key (c ∷ cs) value h = elim (cases_Bool (is_empty key && is_blanks (c ∷ cs))) [
-  | inl k ↦
-      subst (IsFitSeparator key) (sym (cond-true (is_empty key && is_blanks (c ∷ cs)) (equals_sign ∷ []) (shortened_after false (c ∷ cs)) k))
-      (record { good = equals-good; signed = λ q. refl })
-  | inr k ↦
-      subst (IsFitSeparator key) (sym (cond-false (is_empty key && is_blanks (c ∷ cs)) (equals_sign ∷ []) (shortened_after false (c ∷ cs)) k))
-      (record {
-        good = shortened-good c cs value h;
-        signed = λ q. shortened-blanks false (c ∷ cs) ∙ sym (ap (λ v. is_empty v && is_blanks (c ∷ cs)) q) ∙ k;
-      })
-]
+after-fit key (c ∷ cs) value h =
+    cond_both (is_empty key && is_blanks (c ∷ cs)) (equals_sign ∷ []) (shortened_after false (c ∷ cs)) (IsFitSeparator key)
+    (λ k. record { good = equals-good; signed = λ q. refl })
+    (λ k. record {
+      good = shortened-good c cs value h;
+      signed = λ q. shortened-blanks false (c ∷ cs) ∙ sym (ap (λ v. is_empty v && is_blanks (c ∷ cs)) q) ∙ k;
+    })
 
 -- The separator of a new pair is fit for its key.
 pub new_separator-fit : (groups : List (List HeldLine)) (key sep : List ℕ) → IsNewSeparator groups key sep → IsFitSeparator key sep
