@@ -61,7 +61,7 @@ pair-decoded e only first key value ok h k =
 -- ---- it is a group
 
 -- A comment line, or a line that isn't open, is a whole group by itself.
-alone-whole : (l : Line) → IsNotContinued l.text → IsWhole (l ∷ [])
+pub alone-whole : (l : Line) → IsNotContinued l.text → IsWhole (l ∷ [])
 alone-whole l (inl h) = inl (h, refl)
 alone-whole l (inr h) = elim (cases_Bool (is_comment_line l.text)) [ inl k ↦ inl (k, refl) | inr k ↦ inr (k, h) ]
 

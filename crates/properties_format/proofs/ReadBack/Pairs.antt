@@ -40,10 +40,6 @@ with_first_escaped-printed : (e : Encoding) (only : Bool) (key : List ℕ) → A
 with_first_escaped-printed e only [] h = record { spellings = []; text = refl; characters = refl; safe = tt }
 with_first_escaped-printed e only (c ∷ cs) h = printed-cons (unicode_escape c) (printed_characters e only in_key_or_value cs) c cs (unicode-printed c h.0) (texts-printed e only cs h.1)
 
--- A text equal to a safely spelt one is safely spelt.
-same-texts : (x y z : List ℕ) → x ≡ y → AreSafelyPrinted y z → AreSafelyPrinted x z
-same-texts x y z e s = record { spellings = s.spellings; text = e ∙ s.text; characters = s.characters; safe = s.safe }
-
 -- Every printed key is safely spelt.
 pub key-printed : (e : Encoding) (only : Bool) (first : Bool) (key : List ℕ) → AllByRecursion scalar key → AreSafelyPrinted (printed_key e only first key) key
 key-printed e only first key h =

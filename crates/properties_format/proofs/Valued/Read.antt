@@ -7,7 +7,7 @@ use Rattle.properties_format.specs.Printing.{encoded_text}
 use Rattle.properties_format.specs.Body.{HasKey, HeldLine, NoneHasKey, group_bytes, groups_bytes, ending_bytes, last_ending}
 use Rattle.properties_format.specs.Edited.{bom_of, final_group, edited, is_editable}
 use Rattle.properties_format.specs.Edits.{put}
-use Rattle.properties_format.specs.Changed.{IsSetIn, map_edited, AreOthersThanLast, OccurIn, ReadsAfter, KeepsOthers}
+use Rattle.properties_format.specs.Changed.{IsSetIn, map_edited, AreOthersThanLast, ReadsAfter, KeepsOthers}
 use Rattle.properties_format.specs.Valued.{IsAlikeAround, value_text, ending_in, separation_by, new_pair_bytes, IsFrontOf, IsValueSet, IsSetValueResult, KeepsFront}
 use Rattle.properties_format.specs.Computed.Body.{held_groups_of}
 use Rattle.properties_format.specs.Computed.Edited.{last_place}
@@ -19,7 +19,7 @@ use Rattle.properties_format.proofs.Edited.ByteOrderMarks.{source-whole}
 use Rattle.properties_format.proofs.Changed.Laws.{IsReadable, source_contents, IsReadTo, read-to, groups-contents}
 use Rattle.properties_format.proofs.Changed.Read.{readable, reads-after}
 use Rattle.properties_format.proofs.Changed.Maps.{map-edited}
-use Rattle.properties_format.proofs.Changed.Occur.{occur-after, occur-before, occur-all, occur-alone}
+use Rattle.properties_format.proofs.Changed.Occur.{all-kept, occur-after, occur-alone, others-kept}
 use Rattle.properties_format.proofs.InTurn.Lines.{bytes-unended}
 use Rattle.properties_format.proofs.Valued.Lined.{last_ending-append}
 use Rattle.properties_format.proofs.Valued.Made.{group-decoded}
@@ -87,33 +87,14 @@ value_set-again e only source key first second between ok k v h other =
 -- If a value is set, every group but the last pair with the key is unchanged.
 pub value_set-keeps : (e : Encoding) (only : Bool) (source key value result : List ℕ) → IsValueSet e only source key value result → KeepsOthers (AreOthersThanLast key) e source result
 value_set-keeps e only source key value result h = elim h.edited [
-  | inl r ↦ (
-    h.groups,
-    r.before ++ r.after,
-    h.held,
-    inr (r.before, r.group, r.after, r.division, (value, r.has_pair), r.no_later, refl),
-    subst (OccurIn (r.before ++ r.after))
-        (sym (h.whole ∙ ap (λ v. bom_of source ++ v) (r.bytes ∙ ap groups_bytes r.division ∙ groups_bytes-append r.before (r.group ∷ r.after))))
-        (occur-after (r.before ++ r.after) (bom_of source) _ (occur-before r.before r.after _ (occur-after r.after (group_bytes r.group) (groups_bytes r.after) (occur-alone r.after)))),
-  )
-  | inr (inl r) ↦ (
-    h.groups,
-    r.before ++ r.after,
-    h.held,
-    inr (r.before, r.group, r.after, r.division, r.has_key, r.no_later, refl),
-    subst (OccurIn (r.before ++ r.after)) (sym (h.whole ∙ ap (λ v. bom_of source ++ v) r.bytes))
-        (occur-after (r.before ++ r.after) (bom_of source) _
-        (occur-before r.before r.after _
-        (occur-after r.after r.front _ (occur-after r.after _ _ (occur-after r.after _ (groups_bytes r.after) (occur-alone r.after)))))),
-  )
-  | inr (inr r) ↦ (
-    h.groups,
-    h.groups,
-    h.held,
-    inl (r.no_pair, refl),
-    subst (OccurIn h.groups) (sym (h.whole ∙ ap (λ v. bom_of source ++ v) (r.bytes ∙ append_assoc (groups_bytes h.groups) _ _)))
-        (occur-after h.groups (bom_of source) _ (occur-all h.groups _)),
-  )
+  | inl r ↦ others-kept e source key result h.groups r.before r.group r.after _ h.held r.division (value, r.has_pair) r.no_later
+      (occur-after r.after (group_bytes r.group) (groups_bytes r.after) (occur-alone r.after))
+      (h.whole ∙ ap (λ v. bom_of source ++ v) (r.bytes ∙ ap groups_bytes r.division ∙ groups_bytes-append r.before (r.group ∷ r.after)))
+  | inr (inl r) ↦ others-kept e source key result h.groups r.before r.group r.after _ h.held r.division r.has_key r.no_later
+      (occur-after r.after r.front _ (occur-after r.after _ _ (occur-after r.after _ (groups_bytes r.after) (occur-alone r.after))))
+      (h.whole ∙ ap (λ v. bom_of source ++ v) r.bytes)
+  | inr (inr r) ↦ all-kept e source key result h.groups _ h.held r.no_pair
+      (h.whole ∙ ap (λ v. bom_of source ++ v) (r.bytes ∙ append_assoc (groups_bytes h.groups) _ _))
 ]
 
 -- what follows the front of a pair, up to its last line ending

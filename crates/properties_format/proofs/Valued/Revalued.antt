@@ -22,10 +22,10 @@ use Rattle.properties_format.proofs.Cut.Byline.{decoded_line-only}
 use Rattle.properties_format.proofs.Printing.Characters.{encoded-ascii}
 use Rattle.properties_format.proofs.ReadBack.Bytes.{AreWritable, text-decoded}
 use Rattle.properties_format.proofs.Body.Groups.{IsLastFit}
-use Rattle.properties_format.proofs.Edited.Pair.{editable-own}
+use Rattle.properties_format.proofs.Edited.Pair.{alone-whole, editable-own}
 use Rattle.properties_format.proofs.Valued.Heads.{ascii-end, ascii-among}
 use Rattle.properties_format.proofs.Valued.Fronts.{indented, open-indent, indent-head, shut-closed, joined_by, joined-by, is_first_after, joined_by-append}
-use Rattle.properties_format.proofs.Valued.Fronts.{right-some, ends-last, ends-right, ends_key-ascii, between-end, front-text}
+use Rattle.properties_format.proofs.Valued.Fronts.{right-some, ends-last, ends-right, ends_key-ascii, between-end, front-text, pair-some}
 use Rattle.properties_format.proofs.Valued.Texts.{BeginsAfter}
 use Rattle.properties_format.proofs.Encodings.PieceEnds.{no-front, none-right}
 
@@ -121,10 +121,7 @@ begins-more kind (c ∷ x) y z h k = k
 
 -- The key of a pair and what separates it from the value aren't both empty.
 key-between : (line key value : List ℕ) (h : IsPair line key value) → key ++ h.between ≢ []
-key-between line key value h q = elim (between-end h.between value h.is_between) [
-  | inl m ↦ m.0 (none-right key h.between q)
-  | inr m ↦ h.not_empty (ap₂ (λ v w. v ++ w) (no-front key h.between q) (ap₂ (λ v w. v ++ w) m.0 m.1))
-]
+key-between line key value h q = pair-some line key value h (rw (q, append-nil) h.indent_blank)
 
 -- The line is a pair with this key and value, and with the same indentation and the same text between key and value.
 pub record IsPairAnew (line key value indent between : List ℕ) : Type 0 where
@@ -205,7 +202,7 @@ longer-joined e (i ∷ kept) text more bytes o f n c =
 pub longer-whole : (kept : List HeldLine) (line : HeldLine) (more : List HeldLine) (h : HeldLine) → IsLastFit (kept ++ line ∷ more) → is_open h.text ≡ false
     → ((i : HeldLine) (is : List HeldLine) → kept ≡ i ∷ is → is_comment_line i.text ≡ false)
     → IsWhole (as_lines (kept ++ h ∷ []))
-longer-whole [] line more h k c f = elim (cases_Bool (is_comment_line h.text)) [ inl m ↦ inl (m, refl) | inr m ↦ inr (m, c) ]
+longer-whole [] line more h k c f = alone-whole (record { number = 0; text = h.text }) (inr c)
 longer-whole (i ∷ kept) line more h (inl (inl k)) c f = let m = f i kept refl in absurd (cc (k.0, m))
 longer-whole (i ∷ kept) line more h (inl (inr k)) c f = inr (k.0, closes i kept k.1)
   where

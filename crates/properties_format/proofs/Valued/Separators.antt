@@ -5,11 +5,11 @@ use Rattle.std.proofs.lemmas.Bool.{cases_Bool, cond_both}
 use Rattle.std.proofs.lemmas.List.Elements.{recursion_from_All}
 use Rattle.properties_format.specs.Text.{scalar, equals_sign, LineEnding, is_blank, is_blanks, is_separator}
 use Rattle.properties_format.specs.Encoding.{Encoding}
-use Rattle.properties_format.specs.Lines.{HoldsNoLineEnd, Line}
+use Rattle.properties_format.specs.Lines.{HoldsNoLineEnd}
 use Rattle.properties_format.specs.Cut.{IsDecodedLine}
 use Rattle.properties_format.specs.Computed.Cut.{decoded_line}
-use Rattle.properties_format.specs.Groups.{is_open, is_comment_line, IsWhole, joined}
-use Rattle.properties_format.specs.Split.{AreBlanks, begins, IsBetween, nothing, blanks, separator, IsPair}
+use Rattle.properties_format.specs.Groups.{is_open, IsWhole, joined}
+use Rattle.properties_format.specs.Split.{AreBlanks, IsBetween, nothing, blanks, separator, IsPair}
 use Rattle.properties_format.specs.Escapes.{Spelling, spelling_text, spelling_character, spellings_before}
 use Rattle.properties_format.specs.Settings.{IsGoodSeparator}
 use Rattle.properties_format.specs.Printing.{printed_key, encoded_text}
@@ -29,7 +29,8 @@ use Rattle.properties_format.proofs.ReadBack.Texts.{AreSafe, AreSafelyPrinted, p
 use Rattle.properties_format.proofs.ReadBack.Pairs.{key-printed, separator-some, separator-quiet, closed-after}
 use Rattle.properties_format.proofs.ReadBack.Bytes.{AreWritable, writable-append, key-scalars}
 use Rattle.properties_format.proofs.Body.Decoded.{decoded-nil, plain-bytes}
-use Rattle.properties_format.proofs.Valued.Fronts.{blanks-right, right-some}
+use Rattle.properties_format.proofs.Edited.Pair.{alone-whole}
+use Rattle.properties_format.proofs.Valued.Fronts.{pair-some}
 use Rattle.properties_format.proofs.Valued.Texts.{BeginsAfter, value-loose, loose-means, loosely-plain, loosely-closed, value-begins, ascii-writable, value-writable}
 use Rattle.properties_format.proofs.Valued.Revalued.{pair-moved, text-own}
 use Rattle.properties_format.proofs.Encodings.PieceEnds.{no-front, none-right}
@@ -224,7 +225,7 @@ added-pair e only first key sep value by ok k v f =
     record {
       plain = plain-bytes e (added_bytes e only first key sep value) ok (subst HoldsNoLineEnd (sym decoded) plain_text);
       some = text-some e (written ++ (sep ++ va)) ok writable (λ q. sep_some (no-front sep va (none-right written (sep ++ va) q)));
-      whole = subst (λ x. IsWhole (as_lines (x ∷ []))) same (alone (record { number = 0; text = written ++ (sep ++ va) }) closed);
+      whole = subst (λ x. IsWhole (as_lines (x ∷ []))) same (alone-whole (record { number = 0; text = written ++ (sep ++ va) }) (inr closed));
       has_pair = record {
         raw_key = written;
         raw_value = va;
@@ -246,7 +247,7 @@ added-pair e only first key sep value by ok k v f =
         cut_text = decoded ∙ sym (append_assoc written sep va);
         is_head = subst (IsDecodedLine e (encoded_text e (written ++ sep))) (text-own e (written ++ sep) ok front_writable) (decoded_line-meets e (encoded_text e (written ++ sep)));
         is_tail = subst (IsDecodedLine e (encoded_text e va)) (text-own e va ok value_written) (decoded_line-meets e (encoded_text e va));
-        not_blank = not-blank written sep va n;
+        not_blank = λ b. pair-some (written ++ (sep ++ va)) written va n.is_pair (subst AreBlanks (sym n.front) b);
         closed = closed_front;
         key = written;
         value = va;
@@ -261,16 +262,3 @@ added-pair e only first key sep value by ok k v f =
       between_some = n.some;
       blanks = n.blanks;
     }
-  where
-    alone : (l : Line) → is_open l.text ≡ false → IsWhole (l ∷ [])
-    alone l c = elim (cases_Bool (is_comment_line l.text)) [ inl m ↦ inl (m, refl) | inr m ↦ inr (m, c) ]
-
-    not-blank : (written sep va : List ℕ) (n : IsNewPair written sep va) → ¬ (AreBlanks (written ++ sep))
-    not-blank written sep va n b =
-        let h = n.is_pair in
-        let m : AreBlanks (written ++ h.between) = blanks-right h.indent (written ++ h.between) (subst AreBlanks (sym n.front) b) in
-        full (written ++ h.between) va (right-some written h.between n.some) m (ap (begins is_blank) (append_assoc written h.between va) ∙ h.begins_full)
-      where
-        full : (x y : List ℕ) → x ≢ [] → AreBlanks x → begins is_blank (x ++ y) ≡ false → ⊥
-        full [] y s m c = s refl
-        full (d ∷ x) y s m c = absurd (cc (m.0, c))
