@@ -30,7 +30,7 @@ use Rattle.properties_format.proofs.Edited.Results.{set_key_result-meets, set_ke
 use Rattle.properties_format.proofs.Edits.Results.{edits_made-only, edit_all_result-meets, edit_all_result-only}
 use Rattle.properties_format.proofs.Valued.Made.{set_value_result-meets, set_value_result-only}
 use Rattle.properties_format.proofs.Edited.ByteOrderMarks.{has_bom, source-whole}
-use Rattle.properties_format.proofs.Changed.Maps.{other-test}
+use Rattle.properties_format.proofs.Changed.Maps.{other-test, same-test}
 use Rattle.properties_format.proofs.Edited.Twice.{set-twice}
 use Rattle.properties_format.proofs.Changed.Laws.{IsReadable, key_set-contents}
 use Rattle.properties_format.proofs.Edits.Contents.{edits-contents}
@@ -135,17 +135,13 @@ maps-differ e source result key edit value old new reads differs (before, items,
     let d = differs old in
     (same key ∙ d.0, (λ other n. same other ∙ d.1 other n))
 
--- A key is equal to itself.
-own-test : (key : List ℕ) → bytes_eq key key ≡ true
-own-test key = (bytes_eq-Decides key key).1 refl
-
 -- The map with a key set has the value for it, and for every other key what it had before.
 pub set-differs : (key value : List ℕ) (value_at : List ℕ → Option (List ℕ)) → DiffersAt key (Some value) value_at (map_edited (put key value) value_at)
-set-differs key value value_at = (rw (own-test key), (λ other n. rw (other-test other key n)))
+set-differs key value value_at = (rw (same-test key key refl), (λ other n. rw (other-test other key n)))
 
 -- The map with a key removed has no value for it, and for every other key what it had before.
 removed-differs : (key : List ℕ) (value_at : List ℕ → Option (List ℕ)) → DiffersAt key None value_at (map_edited (remove key) value_at)
-removed-differs key value_at = (rw (own-test key), (λ other n. rw (other-test other key n)))
+removed-differs key value_at = (rw (same-test key key refl), (λ other n. rw (other-test other key n)))
 
 -- After a key is set, the map has the value for it, and for every other key what it had before.
 pub setting-gives : (e : Encoding) (only : Bool) (source key value : List ℕ) → SettingGivesTheValue e only source key value

@@ -35,7 +35,7 @@ value-append [] ds key = sym (first-none (value_among ds key))
 value-append (c ∷ cs) ds key = simp (first-assoc, value-append cs ds key)
 
 -- Equal keys pass the test.
-same-test : (k key : List ℕ) → k ≡ key → bytes_eq k key ≡ true
+pub same-test : (k key : List ℕ) → k ≡ key → bytes_eq k key ≡ true
 same-test k key h = (bytes_eq-Decides k key).1 h
 
 -- Different keys don't pass the test.

@@ -43,14 +43,6 @@ IsSequenceOf bs c = IsWellFormed bs × (c ≡ sequence_character bs)
 next-in : (c : ℕ) → IsIn tail (next c)
 next-in c = (omega arith, omega arith)
 
--- A byte below 80 hexadecimal is the sequence of the character with its number.
-is_sequence-one : (c : ℕ) → c < 0x80 → IsSequenceOf (c ∷ []) c
-is_sequence-one c h = (inl ((omega arith, omega arith), tt), omega arith)
-
--- From U+0080 on, these two bytes are the character's sequence.
-is_sequence-two : (c : ℕ) → 0x80 ≤ c → c < 0x800 → IsSequenceOf ((192 + c / 64) ∷ next c ∷ []) c
-is_sequence-two c l h = (inr (inl ((omega arith, omega arith), (next-in c, tt))), omega arith)
-
 -- The three bytes of a scalar value from U+0800 to U+FFFF are well-formed.
 three-fits : (c : ℕ) → 0x800 ≤ c → c < 0xd800 ⊎ ((0xe000 ≤ c) × (c < 0x1_0000)) → IsWellFormed ((224 + c / 4096) ∷ next (c / 64) ∷ next c ∷ [])
 three-fits c l (inr h) = inr (inr (inr (inr (inr (inl ((omega arith, omega arith), (next-in (c / 64), (next-in c, tt))))))))
@@ -90,9 +82,9 @@ is_sequence-long c l h = elim (cases_lt c 0x1_0000) [
 -- The bytes of a character are its sequence.
 pub encode-is_sequence : (c : ℕ) → scalar c → IsSequenceOf (encode_utf8 c) c
 encode-is_sequence c h = elim (cases_lt c 0x80) [
-  | inl k ↦ rw (encode-one c k) (is_sequence-one c k)
+  | inl k ↦ rw (encode-one c k) (inl ((omega arith, omega arith), tt), omega arith)
   | inr k ↦ elim (cases_lt c 0x800) [
-    | inl m ↦ rw (encode-two c k m) (is_sequence-two c k m)
+    | inl m ↦ rw (encode-two c k m) (inr (inl ((omega arith, omega arith), (next-in c, tt))), omega arith)
     | inr m ↦ is_sequence-long c m h
   ]
 ]

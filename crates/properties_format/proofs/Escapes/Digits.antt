@@ -1,10 +1,10 @@
 -- The digits of a UTF-16 unit, and the value that they are read as.
-use Rattle.std.proofs.Common.{◌≡◌, ◌==◌, ℕ, ◌+◌, ◌*◌, ◌/◌, ◌%◌, ◌<◌, ◌≤◌, true, false, arith}
+use Rattle.std.proofs.Common.{◌≡◌, ◌==◌, ℕ, ◌+◌, ◌*◌, ◌/◌, ◌%◌, ◌<◌, true, false, arith}
 use Rattle.std.specs.Char.{digit_char}
 use Rattle.std.proofs.lemmas.Bool.{and_from, le-leb, lt-ltb}
 use Rattle.std.proofs.lemmas.Bool.Decides.{nat_tests}
 use Rattle.properties_format.specs.Text.{backslash, is_blank, is_separator}
-use Rattle.properties_format.specs.Escapes.{is_hexadecimal, hexadecimal_value, Four, are_hexadecimal, code_unit, is_high, is_low, pair_character}
+use Rattle.properties_format.specs.Escapes.{is_hexadecimal, hexadecimal_value, Four, are_hexadecimal, code_unit, is_high, is_low}
 use Rattle.properties_format.specs.Printing.{high_surrogate, low_surrogate}
 
 -- The digit of a number below 16 is a hexadecimal digit.
@@ -49,7 +49,3 @@ high_surrogate-high c h = and_from _ _ (le-leb 0xd800 (high_surrogate c) (omega 
 -- The second surrogate is a low one.
 pub low_surrogate-low : (c : ℕ) → is_low (low_surrogate c) ≡ true
 low_surrogate-low c = and_from _ _ (le-leb 0xdc00 (low_surrogate c) (omega arith)) (lt-ltb (low_surrogate c) 0xe000 (omega arith))
-
--- The two together are the character.
-pub pair_character-surrogates : (c : ℕ) → 0x1_0000 ≤ c → pair_character (high_surrogate c) (low_surrogate c) ≡ c
-pair_character-surrogates c h = omega arith

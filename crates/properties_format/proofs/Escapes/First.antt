@@ -22,15 +22,10 @@ low-surrogate n e = (or_parts (is_high n) (is_low n) e).1
 digits-unicode : (d : Four) (rest : List ℕ) → are_hexadecimal d ≡ true → is_surrogate (code_unit d) ≡ false → with_digits d rest ≡ Some (unicode d)
 digits-unicode d rest h k = rw h (rw (high-surrogate (code_unit d) k) (rw (low-surrogate (code_unit d) k) refl))
 
--- If it is there, both escapes are found.
-low-low : (high low : Four) (rest : List ℕ) → are_hexadecimal low ≡ true → is_low (code_unit low) ≡ true
-    → with_low high (backslash ∷ letter_u ∷ four_text low ++ rest) ≡ Some (surrogates high low)
-low-low high low rest h k = rw h (rw k refl)
-
 -- The spelling at the front is found.
 pub spelling_of-only : (p : Spelling) (rest : List ℕ) → IsSpelling p rest → spelling_of (spelling_text p ++ rest) ≡ Some p
 spelling_of-only (unicode d) rest h = digits-unicode d rest h.0 h.1
-spelling_of-only (surrogates high low) rest h = rw h.0 (rw h.1 (low-low high low rest h.2 h.3))
+spelling_of-only (surrogates high low) rest h = rw (h.0, h.1, h.2, h.3) refl
 spelling_of-only p rest h = rw h refl
 
 -- If no spelling is found, there is none.

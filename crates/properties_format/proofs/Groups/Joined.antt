@@ -1,20 +1,12 @@
 -- The logical line of a group, line by line, and the number of the group.
-use Rattle.std.proofs.Common.{◌≡◌, ℕ, true, false, List, [], ◌∷◌, ◌++◌, refl, ap, sym, ◌∙◌, inl, inr, append_assoc, append-nil}
+use Rattle.std.proofs.Common.{◌≡◌, true, false, List, [], ◌∷◌, ◌++◌, refl, ap, sym, ◌∙◌, inl, inr, append_assoc, append-nil}
 use Rattle.std.proofs.lemmas.Bool.{cases_Bool}
-use Rattle.properties_format.specs.Text.{is_blank, is_comment_sign, without_leading_blanks}
+use Rattle.properties_format.specs.Text.{without_leading_blanks}
 use Rattle.properties_format.specs.Lines.{Line}
 use Rattle.properties_format.specs.Groups.{is_open, is_comment_line, without_open_backslash, joined_after, joined}
 use Rattle.properties_format.proofs.Groups.Open.{without_open_backslash-closed}
 
 -- ---- how a line begins
-
--- A blank at the front doesn't decide whether a line is a comment line.
-pub is_comment_line-blank : (c : ℕ) (x : List ℕ) → is_blank c ≡ true → is_comment_line (c ∷ x) ≡ is_comment_line x
-is_comment_line-blank c x h = rw h refl
-
--- Any other character at the front decides it.
-pub is_comment_line-other : (c : ℕ) (x : List ℕ) → is_blank c ≡ false → is_comment_line (c ∷ x) ≡ is_comment_sign c
-is_comment_line-other c x h = rw h refl
 
 -- ---- logical lines
 

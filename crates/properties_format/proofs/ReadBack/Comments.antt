@@ -19,7 +19,6 @@ use Rattle.properties_format.specs.Settings.{IsGoodPrefix}
 use Rattle.properties_format.specs.Printing.{in_comment, in_prefix, unicode_escape, may_be_unescaped, literal, printed_character, printed_characters}
 use Rattle.properties_format.specs.Writing.{tail_of, HoldsNoBackslash}
 use Rattle.properties_format.proofs.Lines.Plain.{plain-append}
-use Rattle.properties_format.proofs.Groups.Joined.{is_comment_line-blank, is_comment_line-other}
 use Rattle.properties_format.proofs.Split.Unique.{split_of-comment, sign-full}
 use Rattle.properties_format.proofs.Escapes.Laws.{IsWhole, AreWhole}
 use Rattle.properties_format.proofs.Escapes.Trimmed.{AllKeepBlanks, meaning_of-trimmed}
@@ -112,8 +111,8 @@ slashes-right (c ∷ x) y h = slashes-right x y h.1
 
 -- Blanks followed by a comment sign begin a comment line.
 comment_line-after : (indent : List ℕ) (sign : ℕ) (rest : List ℕ) → AreBlanks indent → is_comment_sign sign ≡ true → is_comment_line (indent ++ (sign ∷ rest)) ≡ true
-comment_line-after [] sign rest b m = is_comment_line-other sign rest (sign-full sign m) ∙ m
-comment_line-after (c ∷ indent) sign rest b m = is_comment_line-blank c (indent ++ (sign ∷ rest)) b.0 ∙ comment_line-after indent sign rest b.1 m
+comment_line-after [] sign rest b m = rw (sign-full sign m) m
+comment_line-after (c ∷ indent) sign rest b m = rw b.0 (comment_line-after indent sign rest b.1 m)
 
 -- Blanks, a comment sign and a plainly spelt text are read as the comment that is spelt, without the blanks at its
 -- ends.

@@ -8,7 +8,7 @@ use Rattle.properties_format.specs.Encoding.{Encoding}
 use Rattle.properties_format.specs.Escapes.{letter_u, escaped_character, are_hexadecimal, code_unit, is_high, is_low, is_surrogate, pair_character, Spelling, itself, escaped, unicode, surrogates, last, spelling_text, spelling_character, IsSpelling}
 use Rattle.properties_format.specs.Printing.{in_key_or_value, in_comment, unit_escape, high_surrogate, low_surrogate, unicode_escape, may_be_unescaped, literal, is_special, letter_escape, has_letter}
 use Rattle.properties_format.specs.Printing.{printed_character}
-use Rattle.properties_format.proofs.Escapes.Digits.{unit_digits, unit_digits-hexadecimal, unit_digits-unit, high_surrogate-high, low_surrogate-low, pair_character-surrogates}
+use Rattle.properties_format.proofs.Escapes.Digits.{unit_digits, unit_digits-hexadecimal, unit_digits-unit, high_surrogate-high, low_surrogate-low}
 use Rattle.properties_format.proofs.Escapes.Trimmed.{KeepsBlanks, KeepsBlanks-itself, KeepsBlanks-escaped, KeepsBlanks-unicode, KeepsBlanks-surrogates}
 use Rattle.properties_format.proofs.Printing.Characters.{may_be_unescaped-ascii, below-scalar, blank-ascii}
 
@@ -67,7 +67,7 @@ low-unit c = unit_digits-unit (low_surrogate c) (omega arith)
 
 -- The two together are the character.
 pair-is : (c : ℕ) → scalar c → 0x1_0000 ≤ c → pair_character (code_unit (unit_digits (high_surrogate c))) (code_unit (unit_digits (low_surrogate c))) ≡ c
-pair-is c h k = ap₂ pair_character (high-unit c (below-scalar c h)) (low-unit c) ∙ pair_character-surrogates c k
+pair-is c h k = ap₂ pair_character (high-unit c (below-scalar c h)) (low-unit c) ∙ omega arith
 
 abbrev pair-printed : (c : ℕ) → scalar c → 0x1_0000 ≤ c → IsSafelyPrinted (unit_escape (high_surrogate c) ++ unit_escape (low_surrogate c)) c
 pair-printed c h k =
