@@ -28,17 +28,13 @@ pub decoded-line : (e : Encoding) (text : List ℕ) (by : LineEnding) (y : List 
     → decoded_line e (text ++ (line_ending_bytes e by ++ y)) ≡ decoded_line e text ++ (line_ending_text by ++ decoded_line e y)
 decoded-line e text lf y a = characters-cut_ascii e line_feed text y (lit< tt) a
 decoded-line e text cr y a = characters-cut_ascii e carriage_return text y (lit< tt) a
-decoded-line e text crlf y a =
-    ap (λ v. decoded_line e (text ++ v)) (append_assoc (ascii_bytes e carriage_return) (ascii_bytes e line_feed) y)
-    ∙ characters-cut_ascii e carriage_return text (ascii_bytes e line_feed ++ y) (lit< tt) a
-    ∙ ap (λ v. decoded_line e text ++ carriage_return ∷ characters v) (pieces_of-ascii e line_feed y (lit< tt))
+decoded-line e text crlf y a = grind (arith, append_assoc, characters-cut_ascii, pieces_of-ascii)
 
 -- Lines of bytes put together decode to their texts put together.
 decoded-together : (e : Encoding) (ls : List Ended) (last : List ℕ) → AreCut e ls last
     → decoded_line e (bytes_together e ls last) ≡ put_together (decoded_ended e ls) (decoded_line e last)
 decoded-together e [] last h = refl
-decoded-together e (l ∷ ls) last h =
-    rw (decoded-line e l.text l.by (bytes_together e ls last) h.1, decoded-together e ls last h.3)
+decoded-together e (l ∷ ls) last h = grind (arith, decoded-line, decoded-together e ls last h.3)
 
 -- ---- Its lines.
 
@@ -56,12 +52,7 @@ end-ascii c h = grind (arith, nat_tests)
 
 -- Bytes without a line end unit decode to a text without a line end.
 pub no_end-decoded : (e : Encoding) (d : List ℕ) → HoldsNoLineEndUnit e d → HoldsNoLineEnd (decoded_line e d)
-no_end-decoded e d h = elim (first-end (decoded_line e d)) [
-  | inl p ↦ p
-  | inr q ↦
-      let k = cut-at_ascii e d q.0 q.1 q.2 (end-ascii q.1 q.3) q.4 in
-      absurd (no_end_unit-at e q.1 k.0 k.1 q.3 k.2.aligned (subst (HoldsNoLineEndUnit e) k.2.joins h))
-]
+no_end-decoded e d h = grind (arith, first-end, cut-at_ascii, end-ascii, no_end_unit-at)
 
 -- Only an empty list of bytes decodes to an empty text.
 pub nothing-decoded : (e : Encoding) (d : List ℕ) → decoded_line e d ≡ [] → d ≡ []
@@ -80,10 +71,7 @@ lines-decoded e (l ∷ ls) last h = (no_end-decoded e l.text h.0, (λ k. no_lone
 
 -- Lines of bytes, each decoded by itself, are lines of the text of these bytes.
 pub decoded_lines-meets : (e : Encoding) (d : List ℕ) (lines : Lines) → IsCut e d lines → IsLines (decoded_line e d) (decoded_lines e lines)
-decoded_lines-meets e d lines h = record {
-  text = ap (decoded_line e) h.bytes ∙ decoded-together e lines.ended lines.last h.are_cut;
-  are_lines = lines-decoded e lines.ended lines.last h.are_cut;
-}
+decoded_lines-meets e d lines h = grind (arith, decoded-together, lines-decoded)
 
 -- The lines of bytes, each decoded by itself, are the lines of their text.
 pub decoded_lines-cut : (e : Encoding) (d : List ℕ) → decoded_lines e (cut_of e d) ≡ lines_of (decoded_line e d)

@@ -47,29 +47,18 @@ empty-cut e by ls last k h = (no_end_unit-nil e, aligned-nil e, k, h)
 -- An LF at the front.
 lf-meets : (e : Encoding) (d : List ℕ) (lines : Lines) → IsCut e d lines
     → IsCut e (ascii_bytes e line_feed ++ d) (record lines { ended = end_before lf lines.ended })
-lf-meets e d lines h = record {
-  bytes = ap (λ v. ascii_bytes e line_feed ++ v) h.bytes;
-  are_cut = empty-cut e lf lines.ended lines.last (λ k. absurd (cc)) h.are_cut;
-}
+lf-meets e d lines h = grind (arith, empty-cut)
 
 -- A CR before a line that isn't an empty one that an LF ends.
 cr-apart : (e : Encoding) (ls : List Ended) (last d : List ℕ) → BeginsWithNoLoneLf ls → IsCut e d (record { ended = ls; last = last })
     → IsCut e (ascii_bytes e carriage_return ++ d) (record { ended = end_before cr ls; last = last })
-cr-apart e ls last d k h = record {
-  bytes = ap (λ v. ascii_bytes e carriage_return ++ v) h.bytes;
-  are_cut = empty-cut e cr ls last (λ q. k) h.are_cut;
-}
+cr-apart e ls last d k h = grind (arith, empty-cut)
 
 -- A CR before a line.
 cr-meets-line : (e : Encoding) (text : List ℕ) (by : LineEnding) (ls : List Ended) (last d : List ℕ)
     → IsCut e d (record { ended = record { text = text; by = by } ∷ ls; last = last })
     → IsCut e (ascii_bytes e carriage_return ++ d) (record { ended = cr_before (record { text = text; by = by } ∷ ls); last = last })
-cr-meets-line e [] lf ls last d h =
-    let m = append_assoc (ascii_bytes e carriage_return) (ascii_bytes e line_feed) (bytes_together e ls last) in
-    record {
-      bytes = ap (λ v. ascii_bytes e carriage_return ++ v) h.bytes ∙ sym m;
-      are_cut = empty-cut e crlf ls last (λ k. absurd (cc)) h.are_cut.3;
-    }
+cr-meets-line e [] lf ls last d h = grind (arith, append_assoc, empty-cut)
 cr-meets-line e [] cr ls last d h = cr-apart e (record { text = []; by = cr } ∷ ls) last d (λ p. absurd (cc)) h
 cr-meets-line e [] crlf ls last d h = cr-apart e (record { text = []; by = crlf } ∷ ls) last d (λ p. absurd (cc)) h
 cr-meets-line e (c ∷ cs) by ls last d h = cr-apart e (record { text = c ∷ cs; by = by } ∷ ls) last d (λ p. absurd (cc)) h
@@ -83,14 +72,8 @@ cr-meets e (l ∷ ls) last d h = cr-meets-line e l.text l.by ls last d h
 -- Any other unit at the front.
 two-meets : (e : Encoding) (unit : ℕ → ℕ → ℕ) (a b : ℕ) (ended : List Ended) (last d : List ℕ) → IsOfTwo e unit → is_line_end (unit a b) ≡ false
     → IsCut e d (record { ended = ended; last = last }) → IsCut e (a ∷ b ∷ d) (two_before a b (record { ended = ended; last = last }))
-two-meets e unit a b [] last d t p h =
-    record { bytes = ap (λ v. a ∷ b ∷ v) h.bytes; are_cut = t.none (a ∷ b ∷ last) (p, t.units last h.are_cut) }
-two-meets e unit a b (l ∷ ls) last d t p h =
-    let n = t.even l.text h.are_cut.1 in
-    record {
-      bytes = ap (λ v. a ∷ b ∷ v) h.bytes;
-      are_cut = (t.none (a ∷ b ∷ l.text) (p, t.units l.text h.are_cut.0), t.whole (a ∷ b ∷ l.text) (omega arith), h.are_cut.2, h.are_cut.3);
-    }
+two-meets e unit a b [] last d t p h = grind (arith)
+two-meets e unit a b (l ∷ ls) last d t p h = grind (arith)
 
 -- A line end unit is a CR or an LF.
 unit-meets : (e : Encoding) (unit : ℕ → ℕ → ℕ) (a b : ℕ) (lines : Lines) (d : List ℕ) → IsOfTwo e unit
@@ -117,17 +100,11 @@ of-two-meets e unit (a ∷ b ∷ d) t = unit-meets e unit a b (cut_of_two unit d
 
 -- Two bytes that are an ASCII character with the low byte first are its bytes in UTF-16LE.
 low-ascii : (c a b : ℕ) → c < 0x80 → low_first a b ≡ c → a ∷ b ∷ [] ≡ ascii_bytes utf_16le c
-low-ascii c a b l h =
-    let p : a ≡ c = omega arith in
-    let q : b ≡ 0 = omega arith in
-    ap₂ (λ v w. v ∷ w ∷ []) p q
+low-ascii c a b l h = grind (arith)
 
 -- Two bytes that are an ASCII character with the high byte first are its bytes in UTF-16BE.
 high-ascii : (c a b : ℕ) → c < 0x80 → high_first a b ≡ c → a ∷ b ∷ [] ≡ ascii_bytes utf_16be c
-high-ascii c a b l h =
-    let p : a ≡ 0 = omega arith in
-    let q : b ≡ c = omega arith in
-    ap₂ (λ v w. v ∷ w ∷ []) p q
+high-ascii c a b l h = grind (arith)
 
 -- In UTF-16LE, units are two bytes with the low byte first, and a CR or an LF is one unit.
 le-two : IsOfTwo utf_16le low_first

@@ -28,8 +28,7 @@ two-end : (e : Encoding) (unit : ℕ → ℕ → ℕ) (by : LineEnding) (y : Lis
     → (by ≡ cr → BeginsWithNoLoneLf ls) → cut_of_two unit y ≡ record { ended = ls; last = last }
     → cut_of_two unit (line_ending_bytes e by ++ y) ≡ record { ended = end_before by ls; last = last }
 two-end e unit lf y ls last r k h = r.lf_first y ∙ ap (before line_feed) h
-two-end e unit cr y ls last r k h =
-    r.cr_first y ∙ ap (before carriage_return) h ∙ ap (λ v. let s : Lines = record { ended = v; last = last } in s) (cr-before ls (k refl))
+two-end e unit cr y ls last r k h = grind (arith, cr-before)
 two-end e unit crlf y ls last r k h = simp (append_assoc, r.cr_first (ascii_bytes e line_feed ++ y), r.lf_first y, h)
 
 -- A line and its end before bytes whose lines are known.
@@ -40,5 +39,4 @@ pub two-line : (e : Encoding) (unit : ℕ → ℕ → ℕ) (text : List ℕ) (by
 two-line e unit [] by y ls last r p a k h = two-end e unit by y ls last r k h
 two-line e unit (c ∷ []) by y ls last r p a k h = absurd (omega arith)
 two-line e unit (c ∷ d ∷ text) by y ls last r p a k h =
-    ap (unit_before (unit c d) c d) (two-line e unit text by y ls last r p.1 (omega arith) k h)
-    ∙ unit-plain (unit c d) c d (record { ended = record { text = text; by = by } ∷ ls; last = last }) p.0
+    grind (arith, unit-plain, two-line e unit text by y ls last r p.1 (omega arith) k h)

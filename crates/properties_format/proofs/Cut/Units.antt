@@ -47,10 +47,7 @@ no_end_unit-right e x y a h = plain-right (units e x) (units e y) (rw (units-app
 
 -- Such bytes don't contain the bytes of a CR or an LF at a unit's boundary.
 pub no_end_unit-at : (e : Encoding) (c : ℕ) (x y : List ℕ) → is_line_end c ≡ true → IsAligned e x → HoldsNoLineEndUnit e (x ++ (ascii_bytes e c ++ y)) → ⊥
-no_end_unit-at e c x y h a k =
-    let m : HoldsNoLineEnd (c ∷ units e y) = subst HoldsNoLineEnd (units-ascii e c y) (no_end_unit-right e x (ascii_bytes e c ++ y) a k) in
-    let n = m.0 in
-    cc
+no_end_unit-at e c x y h a k = grind (arith, units-ascii, no_end_unit-right)
 
 -- ---- Line ends searched for among the bytes.
 
@@ -60,17 +57,11 @@ above-byte u h = or_from (u == line_feed) (u == carriage_return) (ne_eqb u line_
 
 -- With the low byte first, a unit is a CR or an LF exactly if its low byte is one and its high byte is 0.
 pub low_first-line_end : (a b : ℕ) → is_line_end (low_first a b) ≡ (b == 0 && is_line_end a)
-low_first-line_end a b = elim (eqb_tells b 0) [
-  | inl k ↦ rw k.1 (let e : low_first a 0 ≡ a = omega arith in ap is_line_end e)
-  | inr k ↦ rw k.0 (above-byte (low_first a b) (let m = eqb-false b 0 k.0 in omega arith))
-]
+low_first-line_end a b = grind (arith, eqb_tells, above-byte, eqb-false)
 
 -- With the high byte first, a unit is a CR or an LF exactly if its low byte is one and its high byte is 0.
 pub high_first-line_end : (a b : ℕ) → is_line_end (high_first a b) ≡ (a == 0 && is_line_end b)
-high_first-line_end a b = elim (eqb_tells a 0) [
-  | inl k ↦ rw k.1 (let e : high_first 0 b ≡ b = omega arith in ap is_line_end e)
-  | inr k ↦ rw k.0 (above-byte (high_first a b) (let m = eqb-false a 0 k.0 in omega arith))
-]
+high_first-line_end a b = grind (arith, eqb_tells, above-byte, eqb-false)
 
 -- If no byte is a CR or an LF, no unit of two bytes is one, with the low byte first.
 no_low : (d : List ℕ) → HoldsNoLineEnd d → HoldsNoLineEnd (units_of_two low_first d)

@@ -247,8 +247,4 @@ ended-cr e (l ∷ m ∷ ls) q = simp (ends-right, ended-cr e (m ∷ ls) q)
 
 -- A CR does where the groups end in one, and else an LF.
 pub put-seam : (e : Encoding) (gs : List (List HeldLine)) (h : AreLined e gs) (by : LineEnding) → (ends_in_cr (groups_bytes gs) ≡ true → by ≡ cr) → IsSeam by h
-put-seam e gs h by is q z =
-    let ends : ends_in_cr (groups_bytes gs) ≡ true =
-    ap ends_in_cr (groups-bytes gs ∙ ap group_bytes (h.held ∙ ap (held_of e h.ended) z.0)) ∙ ended-cr e h.ended q in
-    let m = is ends in
-    absurd (cc (z.1, m))
+put-seam e gs h by is q z = grind (arith, groups-bytes, ended-cr)

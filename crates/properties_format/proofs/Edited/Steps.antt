@@ -60,10 +60,7 @@ last_place-other key (f ∷ gs) g h = ap (place_after key f (gs ++ g ∷ [])) (l
 -- What is left of two lists of groups.
 pub without-append : (key : List ℕ) (gs hs : List (List HeldLine)) → without key (gs ++ hs) ≡ without key gs ++ without key hs
 without-append key [] hs = refl
-without-append key (g ∷ gs) hs = elim (cases_Bool (has_key key g)) [
-  | inl k ↦ rw k (without-append key gs hs)
-  | inr k ↦ rw k (ap (λ v. group_bytes g ++ v) (without-append key gs hs) ∙ sym (append_assoc (group_bytes g) (without key gs) (without key hs)))
-]
+without-append key (g ∷ gs) hs = grind (arith, append_assoc, without-append key gs hs)
 
 -- The last of the groups, after one more.
 pub final_group-push : (gs : List (List HeldLine)) (g : List HeldLine) → final_group (gs ++ g ∷ []) ≡ g
@@ -103,8 +100,4 @@ pub result-after : (n : ℕ) (gs hs : List (List HeldLine)) (made : List ℕ) �
     → result_by (entries_in n (gs ++ hs)) made ≡ result_by (entries_in (n + length (held_in gs)) hs) made
 result-after n [] hs made h = let same : n ≡ n + 0 = omega arith in ap (λ m. result_by (entries_in m hs) made) same
 result-after n (g ∷ gs) hs made h =
-    let size = length-append g (held_in gs) in
-    let same : n + length g + length (held_in gs) ≡ n + length (g ++ held_in gs) = omega arith in
-    result-sound n (outcome_of (joined (as_lines g))) (entries_in (n + length g) (gs ++ hs)) made h.0
-    ∙ result-after (n + length g) gs hs made h.1
-    ∙ ap (λ m. result_by (entries_in m hs) made) same
+    grind (arith, length-append, result-sound, result-after (n + length g) gs hs made h.1)

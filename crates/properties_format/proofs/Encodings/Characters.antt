@@ -30,10 +30,7 @@ windows_1252-encoded c bs y (Some b) e h =
 
 -- In UTF-8, the bytes of a scalar value are a piece of it.
 utf_8-encoded : (c : ℕ) (bs y : List ℕ) → scalar c → ◌≡◌ {A = Option (List ℕ)} (Some (encode_utf8 c)) (Some bs) → IsPiece utf_8 (piece bs c) y
-utf_8-encoded c bs y h e =
-    let s = same_Some (encode_utf8 c) bs e in
-    let k = encode-is_sequence c h in
-    rw (← s) (whole k.0 k.1)
+utf_8-encoded c bs y h e = grind (arith, same_Some, encode-is_sequence)
 
 -- In the encoding that is written, the bytes of a scalar value are a piece of it, whatever follows.
 pub encoded-piece : (e : Encoding) (c : ℕ) (bs y : List ℕ) → scalar c → encoded e c ≡ Some bs → IsPiece (output_encoding e) (piece bs c) y
@@ -49,8 +46,7 @@ pieces_of-encoded e c bs y h k = pieces_of-piece (output_encoding e) (piece bs c
 
 -- A unit below 80 hexadecimal isn't a surrogate.
 not-surrogate : (u : ℕ) → u < 0x80 → (is_high u ≡ false) × (is_low u ≡ false)
-not-surrogate u h =
-    (and_left (nat_le 0xd800 u) (nat_lt u 0xdc00) (lt-leb 0xd800 u (omega arith)), and_left (nat_le 0xdc00 u) (nat_lt u 0xe000) (lt-leb 0xdc00 u (omega arith)))
+not-surrogate u h = grind (arith, and_left, lt-leb)
 
 -- A unit below 80 hexadecimal isn't a low surrogate.
 pub ascii-not_low : (u : ℕ) → u < 0x80 → is_low u ≡ false
@@ -82,8 +78,7 @@ utf_8-ascii p rest (broken b bs e h k) l = let q : p.character ≡ replacement =
 -- In UTF-16, the unit determines which bytes a piece of an ASCII character has.
 utf_16-ascii : (unit : ℕ → ℕ → ℕ) (bytes : ℕ → List ℕ) → ((a b : ℕ) → unit a b < 0x80 → a ∷ b ∷ [] ≡ bytes (unit a b))
     → (p : Piece) (rest : List ℕ) → IsUtf16Piece unit p rest → p.character < 0x80 → p.bytes ≡ bytes p.character
-utf_16-ascii unit bytes f p rest (pair a b c d e h k) l =
-    let q : p.character ≡ 0x1_0000 + (unit a b - 0xd800) * 0x400 + (unit c d - 0xdc00) = ap (λ v. v.character) e in absurd (omega arith)
+utf_16-ascii unit bytes f p rest (pair a b c d e h k) l = grind (arith)
 utf_16-ascii unit bytes f p rest (plain a b e h k) l = rw e (f a b (rw e at l))
 utf_16-ascii unit bytes f p rest (low_alone a b e h) l = let q : p.character ≡ replacement = ap (λ v. v.character) e in absurd (omega arith)
 utf_16-ascii unit bytes f p rest (high_alone a b c d more e h s k) l = let q : p.character ≡ replacement = ap (λ v. v.character) e in absurd (omega arith)
@@ -93,24 +88,15 @@ utf_16-ascii unit bytes f p rest (both_last a b c e h s) l = let q : p.character
 
 -- With the low byte first, a unit below 80 hexadecimal is that byte and a 0.
 low-bytes : (a b : ℕ) → low_first a b < 0x80 → a ∷ b ∷ [] ≡ low_first a b ∷ 0 ∷ []
-low-bytes a b h =
-    let e : a ≡ b * 0x100 + a = omega arith in
-    let k : b ≡ 0 = omega arith in
-    ap₂ (λ v w. v ∷ w ∷ []) e k
+low-bytes a b h = grind (arith)
 
 -- With the high byte first, a unit below 80 hexadecimal is a 0 and that byte.
 high-bytes : (a b : ℕ) → high_first a b < 0x80 → a ∷ b ∷ [] ≡ 0 ∷ high_first a b ∷ []
-high-bytes a b h =
-    let e : b ≡ a * 0x100 + b = omega arith in
-    let k : a ≡ 0 = omega arith in
-    ap₂ (λ v w. v ∷ w ∷ []) k e
+high-bytes a b h = grind (arith)
 
 -- In each encoding, a piece of an ASCII character has that character's bytes.
 pub piece-ascii : (e : Encoding) (p : Piece) (rest : List ℕ) → IsPiece e p rest → p.character < 0x80 → p.bytes ≡ ascii_bytes e p.character
-piece-ascii windows_1252 p rest (b, e) l =
-    let q : p.character ≡ windows_1252_character b = ap (λ v. v.character) e in
-    let k : b ≡ windows_1252_character b = windows_1252-ascii b (omega arith) in
-    ap (λ v. v.bytes) e ∙ ap (λ v. v ∷ []) (k ∙ sym q)
+piece-ascii windows_1252 p rest (b, e) l = grind (arith, windows_1252-ascii)
 piece-ascii utf_8 p rest h l = utf_8-ascii p rest h l
 piece-ascii utf_16le p rest h l = utf_16-ascii low_first (λ c. c ∷ 0 ∷ []) low-bytes p rest h l
 piece-ascii utf_16be p rest h l = utf_16-ascii high_first (λ c. 0 ∷ c ∷ []) high-bytes p rest h l
@@ -123,13 +109,7 @@ replacement-scalar = inr (omega arith, omega arith)
 
 -- A unit of two bytes that isn't a surrogate is a scalar value.
 unit-scalar : (u : ℕ) → u < 0x1_0000 → is_high u ≡ false → is_low u ≡ false → scalar u
-unit-scalar u l h k = elim (and_cases (nat_le 0xd800 u) (nat_lt u 0xdc00) h) [
-  | inl a ↦ let m : u < 0xd800 = leb-false 0xd800 u a in inl m
-  | inr a ↦ elim (and_cases (nat_le 0xdc00 u) (nat_lt u 0xe000) k) [
-    | inl b ↦ absurd (let m = leb-false 0xdc00 u b in let n = ltb-false u 0xdc00 a in omega arith)
-    | inr b ↦ let n = ltb-false u 0xe000 b in inr (n, omega arith)
-  ]
-]
+unit-scalar u l h k = grind (arith, and_cases)
 
 -- The character of a high and a low surrogate is a scalar value.
 pub pair-scalar : (u v : ℕ) → is_high u ≡ true → is_low v ≡ true → scalar (pair_character u v)
@@ -149,9 +129,7 @@ utf_8-scalar p rest (broken b bs e h k) = character-at p (b ∷ bs) replacement 
 utf_16-scalar : (unit : ℕ → ℕ → ℕ) → ((a b : ℕ) → byte a → byte b → unit a b < 0x1_0000)
     → (p : Piece) (rest : List ℕ) → IsUtf16Piece unit p rest → AllByRecursion byte p.bytes → scalar p.character
 utf_16-scalar unit f p rest (pair a b c d e h k) l = character-at p (a ∷ b ∷ c ∷ d ∷ []) (pair_character (unit a b) (unit c d)) e (pair-scalar (unit a b) (unit c d) h k)
-utf_16-scalar unit f p rest (plain a b e h k) l =
-    let m = rw e at l in
-    character-at p (a ∷ b ∷ []) (unit a b) e (unit-scalar (unit a b) (f a b m.0 m.1.0) h k)
+utf_16-scalar unit f p rest (plain a b e h k) l = grind (arith, character-at, unit-scalar)
 utf_16-scalar unit f p rest (low_alone a b e h) l = character-at p (a ∷ b ∷ []) replacement e replacement-scalar
 utf_16-scalar unit f p rest (high_alone a b c d more e h s k) l = character-at p (a ∷ b ∷ []) replacement e replacement-scalar
 utf_16-scalar unit f p rest (high_last a b e h s) l = character-at p (a ∷ b ∷ []) replacement e replacement-scalar

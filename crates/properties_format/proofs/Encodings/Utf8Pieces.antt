@@ -19,10 +19,7 @@ begins-front b bs h =
 
 -- Bytes that fit the front of that row begin a sequence.
 pub front-begins : (b : ℕ) (bs : List ℕ) (rs : List Range) → ranges_after well_formed_rows b ≡ Some rs → FitsFront rs bs → Begins (b ∷ bs)
-front-begins b bs rs e h =
-    let r = row-sequence b rs e in
-    let m = row-of_front rs bs r.0 h in
-    (m.0, r.1 (bs ++ m.0) m.1)
+front-begins b bs rs e h = grind (arith, row-sequence, row-of_front)
 
 -- If the row is known, bytes that begin a sequence fit the front of that row.
 front-of-begins : (b : ℕ) (bs : List ℕ) (rs : List Range) → ranges_after well_formed_rows b ≡ Some rs → Begins (b ∷ bs) → FitsFront rs bs

@@ -145,11 +145,7 @@ record Ascending (low : ℕ) (r : Range) (rs : List Range) (more : List (List Ra
 
 -- The test of all rows, divided into the first row and the others.
 ascending-parts : (low : ℕ) (r : Range) (rs : List Range) (more : List (List Range)) → are_ascending low ((r ∷ rs) ∷ more) ≡ true → Ascending low r rs more
-ascending-parts low r rs more h =
-    let k = and_parts (nat_le low r.least && nat_le r.least r.most) (are_filled rs && are_ascending (suc r.most) more) h in
-    let l = and_parts (nat_le low r.least) (nat_le r.least r.most) k.0 in
-    let m = and_parts (are_filled rs) (are_ascending (suc r.most) more) k.1 in
-    record { low_least = leb-true low r.least l.0; least_most = leb-true r.least r.most l.1; filled = m.0; others = m.1 }
+ascending-parts low r rs more h = grind (arith, and_parts, leb-true)
 
 -- No sequence begins with a byte below those of the rows.
 above : (low : ℕ) (table : List (List Range)) (b : ℕ) (bs : List ℕ) → are_ascending low table ≡ true → FitsSome table (b ∷ bs) → low ≤ b
@@ -234,11 +230,7 @@ are_tails (r ∷ rs) = (nat_le 0x80 r.least && nat_le r.most 0xbf) && are_tails 
 front-tail : (rs : List Range) (bs : List ℕ) (c : ℕ) → are_tails rs ≡ true → FitsFront rs (bs ++ c ∷ []) → IsIn tail c
 front-tail [] [] c t h = absurd h
 front-tail [] (b ∷ bs) c t h = absurd h
-front-tail (r ∷ rs) [] c t h =
-    let k = and_parts (nat_le 0x80 r.least) (nat_le r.most 0xbf) (and_parts (nat_le 0x80 r.least && nat_le r.most 0xbf) (are_tails rs) t).0 in
-    let l = leb-true 0x80 r.least k.0 in
-    let m = leb-true r.most 0xbf k.1 in
-    (omega arith, omega arith)
+front-tail (r ∷ rs) [] c t h = grind (arith, and_parts, leb-true)
 front-tail (r ∷ rs) (b ∷ bs) c t h = front-tail rs bs c (and_parts (nat_le 0x80 r.least && nat_le r.most 0xbf) (are_tails rs) t).1 h.1
 
 -- A byte after the first is a tail byte.

@@ -54,22 +54,14 @@ high-fine bs h k = (inr (h, k), λ l. absurd (omega arith))
 -- This holds for every well-formed sequence.
 row-fine : (bs : List ℕ) → IsWellFormed bs → Fine bs
 row-fine bs (inl h) = in-one Fine (from_to 0x00 0x7f) (λ a i. ascii-fine a i.1) bs h
-row-fine bs (inr (inl h)) =
-    in-two Fine (from_to 0xc2 0xdf) tail (λ a b i j. low-fine (a ∷ b ∷ []) (omega arith) (omega arith)) bs h
-row-fine bs (inr (inr (inl h))) =
-    in-three Fine (from_to 0xe0 0xe0) (from_to 0xa0 0xbf) tail (λ a b c i j k. low-fine (a ∷ b ∷ c ∷ []) (omega arith) (omega arith)) bs h
-row-fine bs (inr (inr (inr (inl h)))) =
-    in-three Fine (from_to 0xe1 0xec) tail tail (λ a b c i j k. low-fine (a ∷ b ∷ c ∷ []) (omega arith) (omega arith)) bs h
-row-fine bs (inr (inr (inr (inr (inl h))))) =
-    in-three Fine (from_to 0xed 0xed) (from_to 0x80 0x9f) tail (λ a b c i j k. low-fine (a ∷ b ∷ c ∷ []) (omega arith) (omega arith)) bs h
-row-fine bs (inr (inr (inr (inr (inr (inl h)))))) =
-    in-three Fine (from_to 0xee 0xef) tail tail (λ a b c i j k. high-fine (a ∷ b ∷ c ∷ []) (omega arith) (omega arith)) bs h
-row-fine bs (inr (inr (inr (inr (inr (inr (inl h))))))) =
-    in-four Fine (from_to 0xf0 0xf0) (from_to 0x90 0xbf) tail tail (λ a b c d i j k l. high-fine (a ∷ b ∷ c ∷ d ∷ []) (omega arith) (omega arith)) bs h
-row-fine bs (inr (inr (inr (inr (inr (inr (inr (inl h)))))))) =
-    in-four Fine (from_to 0xf1 0xf3) tail tail tail (λ a b c d i j k l. high-fine (a ∷ b ∷ c ∷ d ∷ []) (omega arith) (omega arith)) bs h
-row-fine bs (inr (inr (inr (inr (inr (inr (inr (inr (inl h))))))))) =
-    in-four Fine (from_to 0xf4 0xf4) (from_to 0x80 0x8f) tail tail (λ a b c d i j k l. high-fine (a ∷ b ∷ c ∷ d ∷ []) (omega arith) (omega arith)) bs h
+row-fine bs (inr (inl h)) = grind (arith, in-two, low-fine)
+row-fine bs (inr (inr (inl h))) = grind (arith, in-three, low-fine)
+row-fine bs (inr (inr (inr (inl h)))) = grind (arith, in-three, low-fine)
+row-fine bs (inr (inr (inr (inr (inl h))))) = grind (arith, in-three, low-fine)
+row-fine bs (inr (inr (inr (inr (inr (inl h)))))) = grind (arith, in-three, high-fine)
+row-fine bs (inr (inr (inr (inr (inr (inr (inl h))))))) = grind (arith, in-four, high-fine)
+row-fine bs (inr (inr (inr (inr (inr (inr (inr (inl h)))))))) = grind (arith, in-four, high-fine)
+row-fine bs (inr (inr (inr (inr (inr (inr (inr (inr (inl h))))))))) = grind (arith, in-four, high-fine)
 row-fine bs (inr (inr (inr (inr (inr (inr (inr (inr (inr h))))))))) = absurd h
 
 -- The character of a well-formed sequence is a scalar value.

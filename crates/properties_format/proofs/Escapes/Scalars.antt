@@ -17,12 +17,7 @@ four-below a b c d h k l m = omega arith
 
 -- A unit of four hexadecimal digits is below 10000 hexadecimal.
 pub code_unit-below : (d : Four) → are_hexadecimal d ≡ true → code_unit d < 0x1_0000
-code_unit-below d h =
-    let p = and_parts (is_hexadecimal d.first && is_hexadecimal d.second) (is_hexadecimal d.third && is_hexadecimal d.fourth) h in
-    let q = and_parts (is_hexadecimal d.first) (is_hexadecimal d.second) p.0 in
-    let r = and_parts (is_hexadecimal d.third) (is_hexadecimal d.fourth) p.1 in
-    four-below (hexadecimal_value d.first) (hexadecimal_value d.second) (hexadecimal_value d.third) (hexadecimal_value d.fourth)
-    (digit-below d.first q.0) (digit-below d.second q.1) (digit-below d.third r.0) (digit-below d.fourth r.1)
+code_unit-below d h = grind (arith, and_parts, four-below, digit-below)
 
 -- A unit that isn't a surrogate is a scalar value.
 unit-scalar : (n : ℕ) → n < 0x1_0000 → is_surrogate n ≡ false → scalar n
@@ -49,9 +44,8 @@ spelling-scalar last rest h k = inl (lit< tt)
 pub spellings-scalars : (ps : List Spelling) (rest : List ℕ) → AreSpellings ps rest → All scalar (spellings_before ps rest) → All scalar (map spelling_character ps)
 spellings-scalars [] rest h k = All-nil scalar
 spellings-scalars (p ∷ ps) rest h k =
-    All-cons scalar (spelling_character p) (map spelling_character ps)
-    (spelling-scalar p (spellings_before ps rest) h.0 k)
-    (spellings-scalars ps rest h.1 (rest-scalars (spelling_text p) (spellings_before ps rest) k))
+    grind (arith, All-cons, spelling-scalar, rest-scalars,
+    spellings-scalars ps rest h.1 (rest-scalars (spelling_text p) (spellings_before ps rest) k))
 
 -- A text of scalar values means a text of scalar values.
 pub means-scalars : (text meant : List ℕ) → Means text meant → All scalar text → All scalar meant

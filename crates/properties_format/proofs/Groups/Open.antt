@@ -29,13 +29,7 @@ ending_backslashes-after x c y h =
 
 -- A number is odd exactly if the number before it isn't.
 odd-next : (n : ℕ) → (suc n % 2 == 1) ≡ not (n % 2 == 1)
-odd-next n = elim (eqb_tells (n % 2) 1) [
-  | inl k ↦ let f : suc n % 2 ≡ 0 = omega (arith, k.1) in rw (k.1, f) refl
-  | inr k ↦
-      let g : n % 2 ≡ 0 = omega (arith, k.1) in
-      let f : suc n % 2 ≡ 1 = omega arith in
-      rw (g, f) refl
-]
+odd-next n = grind (arith, eqb_tells)
 
 -- A backslash at the end makes a line open if it wasn't, and not open if it was.
 pub is_open-backslash : (x : List ℕ) → is_open (x ++ backslash ∷ []) ≡ not (is_open x)
@@ -59,10 +53,7 @@ is_open-after x c y h = ap (λ v. v % 2 == 1) (ending_backslashes-after x c y h)
 
 -- A blank isn't a backslash.
 pub blank-other : (c : ℕ) → is_blank c ≡ true → (c == backslash) ≡ false
-blank-other c h = elim (eqb_tells c backslash) [
-  | inl k ↦ let f : is_blank backslash ≡ true = rw k.1 at h in absurd (cc)
-  | inr k ↦ k.0
-]
+blank-other c h = grind (arith, eqb_tells)
 
 -- ---- the last character
 

@@ -95,8 +95,7 @@ last-ascend low high n ending h k = tt
 entries-ascend : (low high n : ℕ) (ending : InputEnd) (gs : List (List Line)) → high ≤ n + last_line ending → FirstsWithin low high gs → NumbersAscend low (entries_of n ending gs)
 entries-ascend low high n ending [] h k = last-ascend low high n ending h k
 entries-ascend low high n ending (g ∷ gs) h k =
-    let rest = entries-ascend (first_number g) high n ending gs h k.1 in
-    followed-ascend low high (first_number g) (outcome_of (joined g)) (entries_of n ending gs) k.0 rest (ascend-lower (first_number g) low (entries_of n ending gs) k.0 rest)
+    grind (arith, followed-ascend, ascend-lower, entries-ascend (first_number g) high n ending gs h k.1)
 
 -- The numbers of the entries of lines after n line ends ascend strictly, and are at least n + 1.
 pub lines-ascend : (n : ℕ) (lines : Lines) (ending : InputEnd)

@@ -46,28 +46,11 @@ front-ef_bb e = (refl, (refl, (refl, tt)))
 
 -- for one byte that waits for a byte order mark
 front-one : (e : Encoding) (b : ℕ) → awaits_bom (b ∷ []) ≡ true → IsPlainFront e (b ∷ [])
-front-one e b h = elim (eqb_tells 0xef b) [
-  | inl k ↦ rw (← k.1) (front-ef e)
-  | inr k ↦ elim (eqb_tells 0xfe b) [
-    | inl m ↦ rw (← m.1) (front-fe e)
-    | inr m ↦ elim (eqb_tells 0xff b) [
-      | inl n ↦ rw (← n.1) (front-ff e)
-      | inr n ↦ let f : awaits_bom (b ∷ []) ≡ false = rw (k.0, m.0, n.0) refl in absurd (cc)
-    ]
-  ]
-]
+front-one e b h = grind (arith, eqb_tells, front-ef, front-fe, front-ff)
 
 -- for two bytes that wait for a byte order mark
 front-two : (e : Encoding) (b c : ℕ) → awaits_bom (b ∷ c ∷ []) ≡ true → IsPlainFront e (b ∷ c ∷ [])
-front-two e b c h = elim (eqb_tells 0xef b) [
-  | inl k ↦ elim (eqb_tells 0xbb c) [
-    | inl m ↦ rw (← k.1, ← m.1) (front-ef_bb e)
-    | inr m ↦ let f : awaits_bom (b ∷ c ∷ []) ≡ false = rw (← k.1, m.0) refl in absurd (cc)
-  ]
-  | inr k ↦
-      let f : awaits_bom (b ∷ c ∷ []) ≡ false = rw (k.0, and-false (0xff == c), and-false (0xfe == c), and-false (0xfe == b), and-false (0xff == b)) refl in
-      absurd (cc)
-]
+front-two e b c h = grind (arith, eqb_tells, front-ef_bb, and-false)
 
 -- Bytes that wait for a byte order mark contain none, and contain no line end.
 pub waiting-front : (e : Encoding) (b : List ℕ) → awaits_bom b ≡ true → IsPlainFront e b
@@ -78,6 +61,4 @@ waiting-front e (b ∷ c ∷ d ∷ more) h = let f : awaits_bom (b ∷ c ∷ d �
 
 -- A reader that still waits for a byte order mark when nothing more comes holds no line end.
 pub waiting-no_end : (s : ReaderState) → s.is_done ≡ false → awaits_bom s.held ≡ true → HoldsNoEnd (after_decided s)
-waiting-no_end s h k =
-    let f = waiting-front s.encoding s.held k in
-    record { going = h; decided = refl; none = rw f.0 f.1 }
+waiting-no_end s h k = grind (arith, waiting-front)

@@ -117,10 +117,7 @@ pub letter_escape-ascii : (c : ℕ) → AreAscii (letter_escape c)
 letter_escape-ascii c = (lit< tt, (letter c, tt))
   where
     letter : (c : ℕ) → cond (c == 0x09) 0x74 (cond (c == 0x0a) 0x6e (cond (c == 0x0c) 0x66 0x72)) < 0x80
-    letter c =
-        cond_both (c == 0x09) 0x74 (cond (c == 0x0a) 0x6e (cond (c == 0x0c) 0x66 0x72)) (λ v. v < 0x80) (λ k. lit< tt)
-        (λ k. cond_both (c == 0x0a) 0x6e (cond (c == 0x0c) 0x66 0x72) (λ v. v < 0x80) (λ k. lit< tt)
-        (λ k. cond_both (c == 0x0c) 0x66 0x72 (λ v. v < 0x80) (λ k. lit< tt) (λ k. lit< tt)))
+    letter c = grind (arith, cond_both)
 
 -- A character that is escaped with a backslash is ASCII.
 pub special-ascii : (c : ℕ) → is_special c ≡ true → c < 0x80
@@ -166,8 +163,7 @@ printed-encodable e only place c = printed-either e only place c (AreEncodable e
 pub printed_characters-encodable : (e : Encoding) (only : Bool) (place : Place) (x : List ℕ) → AreEncodable e (printed_characters e only place x)
 printed_characters-encodable e only place [] = tt
 printed_characters-encodable e only place (c ∷ x) =
-    AreEncodable-append e (printed_character e only place c) (printed_characters e only place x)
-    (printed-encodable e only place c) (printed_characters-encodable e only place x)
+    grind (arith, AreEncodable-append, printed-encodable, printed_characters-encodable e only place x)
 
 -- A key with its first character escaped can be encoded.
 with_first_escaped-encodable : (e : Encoding) (only : Bool) (key : List ℕ) → AreEncodable e (with_first_escaped e only key)
@@ -195,17 +191,13 @@ blanks-ascii (c ∷ x) h = (blank-ascii c h.0, blanks-ascii x h.1)
 
 -- A good separator is an ASCII text.
 pub good_separator-ascii : (separator : List ℕ) → IsGoodSeparator separator → AreAscii separator
-good_separator-ascii separator (inl g) =
-    rw g.division (AreAscii-append g.before (g.sign ∷ g.after) (blanks-ascii g.before g.blank_before) (grind (arith, nat_tests), blanks-ascii g.after g.blank_after))
+good_separator-ascii separator (inl g) = grind (arith, AreAscii-append, blanks-ascii, nat_tests)
 good_separator-ascii separator (inr g) = blanks-ascii separator g.blank
 
 -- A printed line can be encoded if its separator is good.
 pub printed_text-encodable : (e : Encoding) (s : Settings) (first : Bool) (line : Content) → IsGoodSeparator s.kv_separator → AreEncodable e (printed_text e s first line)
 printed_text-encodable e s first (comment text) g =
-    AreEncodable-append e (printed_characters e s.ascii_only in_prefix s.comment_prefix)
-    (printed_characters e s.ascii_only in_comment text ++ line_ending_text s.line_ending) (printed_characters-encodable e s.ascii_only in_prefix s.comment_prefix)
-    (AreEncodable-append e (printed_characters e s.ascii_only in_comment text) (line_ending_text s.line_ending)
-    (printed_characters-encodable e s.ascii_only in_comment text) (AreEncodable-ascii e (line_ending_text s.line_ending) (line_end-ascii s.line_ending)))
+    grind (arith, AreEncodable-append, printed_characters-encodable, AreEncodable-ascii, line_end-ascii)
 printed_text-encodable e s first (pair key value) g =
     AreEncodable-append e (printed_key e s.ascii_only first key)
     (s.kv_separator ++ (printed_characters e s.ascii_only in_key_or_value value ++ line_ending_text s.line_ending)) (printed_key-encodable e s.ascii_only first key)

@@ -54,8 +54,7 @@ printed_characters-scalars e only place (c ∷ x) h =
 with_first_escaped-scalars : (e : Encoding) (only : Bool) (key : List ℕ) → AllByRecursion scalar key → AllByRecursion scalar (with_first_escaped e only key)
 with_first_escaped-scalars e only [] h = tt
 with_first_escaped-scalars e only (c ∷ cs) h =
-    scalars-append (unicode_escape c) (printed_characters e only in_key_or_value cs) (ascii-scalars (unicode_escape c) (unicode_escape-ascii c))
-    (printed_characters-scalars e only in_key_or_value cs h.1)
+    grind (arith, scalars-append, ascii-scalars, unicode_escape-ascii, printed_characters-scalars)
 
 -- Any printed key of scalar values consists of scalar values.
 pub key-scalars : (e : Encoding) (only : Bool) (first : Bool) (key : List ℕ) → AllByRecursion scalar key → AllByRecursion scalar (printed_key e only first key)
@@ -72,11 +71,7 @@ ContentScalars (pair key value) = All scalar key × All scalar value
 printed-scalars : (e : Encoding) (s : Settings) (first : Bool) (line : Content) → AreGoodSettings s → ContentScalars line → AllByRecursion scalar (printed_text e s first line)
 unfolding ContentScalars
 printed-scalars e s first (comment text) g h =
-    scalars-append (printed_characters e s.ascii_only in_prefix s.comment_prefix)
-    (printed_characters e s.ascii_only in_comment text ++ line_ending_text s.line_ending)
-    (printed_characters-scalars e s.ascii_only in_prefix s.comment_prefix (recursion_from_All scalar s.comment_prefix g.scalars))
-    (scalars-append (printed_characters e s.ascii_only in_comment text) (line_ending_text s.line_ending)
-    (printed_characters-scalars e s.ascii_only in_comment text (recursion_from_All scalar text h)) (ascii-scalars (line_ending_text s.line_ending) (line_end-ascii s.line_ending)))
+    grind (arith, scalars-append, printed_characters-scalars, recursion_from_All, ascii-scalars, line_end-ascii)
 printed-scalars e s first (pair key value) g h =
     scalars-append (printed_key e s.ascii_only first key)
     (s.kv_separator ++ (printed_characters e s.ascii_only in_key_or_value value ++ line_ending_text s.line_ending))

@@ -119,14 +119,8 @@ comment_line-after (c ∷ indent) sign rest b m = rw b.0 (comment_line-after ind
 comment-at : (indent : List ℕ) (sign : ℕ) (rest content : List ℕ) → AreBlanks indent → is_comment_sign sign ≡ true → ArePlainlyPrinted rest content
     → IsReadAs (indent ++ (sign ∷ rest)) (comment (trimmed content))
 comment-at indent sign rest content b m s =
-    record {
-      some = cons-front indent rest sign;
-      plain = plain-append indent (sign ∷ rest) (blanks-plain indent b) ((sign-ascii sign m).1, s.plain);
-      alone = inl (comment_line-after indent sign rest b m);
-      outcome =
-          ap split_outcome (split_of-comment indent sign rest b m)
-          ∙ ap comment_outcome (ap (λ v. meaning_of (trimmed v)) s.text ∙ meaning_of-trimmed s.spellings s.whole s.keep ∙ ap (λ v. means (trimmed v)) s.characters);
-    }
+    grind (arith, cons-front, plain-append, blanks-plain, sign-ascii, comment_line-after, split_of-comment,
+    meaning_of-trimmed)
 
 -- A comment under a good prefix without a backslash.
 pub comment-read : (e : Encoding) (only : Bool) (prefix text : List ℕ) → IsGoodPrefix prefix → HoldsNoBackslash prefix → AllByRecursion scalar prefix → AllByRecursion scalar text

@@ -108,9 +108,7 @@ closed-after x (c ∷ d ∷ sep) y h some o = is_open-after x c (d ∷ sep ++ y)
 
 -- A separator with a sign, followed by a value of safe spellings, is a pair with an empty key.
 split-empty_key : (vs : List Spelling) (sep : List ℕ) → AreSafe vs → IsSignedSeparator sep → split_of (sep ++ spellings_before vs []) ≡ Logical.pair [] (spellings_before vs [])
-split-empty_key vs sep v g =
-    ap split_of (ap (λ x. x ++ spellings_before vs []) g.division ∙ append_assoc g.before (g.sign ∷ g.after) (spellings_before vs []))
-    ∙ split_of-empty_key g.before g.sign g.after (spellings_before vs []) g.blank_before g.signed g.blank_after (are_safe-begin vs v).no_blank
+split-empty_key vs sep v g = grind (arith, append_assoc, split_of-empty_key, are_safe-begin)
 
 -- A good separator may separate a key from a value of safe spellings.
 between-of : (vs : List Spelling) (sep : List ℕ) → AreSafe vs → IsGoodSeparator sep → IsBetween sep (spellings_before vs [])

@@ -39,10 +39,8 @@ pub record IsPlainlyPrinted (x : List ℕ) (c : ℕ) : Type 0 where
 
 -- A scalar value isn't a surrogate.
 scalar-no_surrogate : (c : ℕ) → scalar c → is_surrogate c ≡ false
-scalar-no_surrogate c (inl h) =
-    or_from (is_high c) (is_low c) (and_left (nat_le 0xd800 c) (nat_lt c 0xdc00) (lt-leb 0xd800 c h)) (and_left (nat_le 0xdc00 c) (nat_lt c 0xe000) (lt-leb 0xdc00 c (omega arith)))
-scalar-no_surrogate c (inr h) =
-    or_from (is_high c) (is_low c) (and_right (nat_le 0xd800 c) (nat_lt c 0xdc00) (le-ltb c 0xdc00 (omega (arith, h)))) (and_right (nat_le 0xdc00 c) (nat_lt c 0xe000) (le-ltb c 0xe000 h.0))
+scalar-no_surrogate c (inl h) = grind (arith, or_from, and_left, lt-leb)
+scalar-no_surrogate c (inr h) = grind (arith, or_from, and_right)
 
 abbrev unit-printed : (c : ℕ) → scalar c → c < 0x1_0000 → IsSafelyPrinted (unit_escape c) c
 unit-printed c h k =
@@ -126,16 +124,7 @@ special-printed c h = escape-printed c c (grind (arith, nat_tests)) (grind (arit
 
 -- A backslash and a letter are a safe spelling of the character that has that letter escape.
 letter-printed : (c : ℕ) → has_letter c ≡ true → IsSafelyPrinted (letter_escape c) c
-letter-printed c h = elim (or_cases (c == tab || c == line_feed) (c == form_feed || c == carriage_return) h) [
-  | inl h ↦ elim (or_cases (c == tab) (c == line_feed) h) [
-    | inl e ↦ at-character c tab letter_escape e (escape-printed tab 0x74 refl refl refl)
-    | inr e ↦ at-character c line_feed letter_escape e (escape-printed line_feed 0x6e refl refl refl)
-  ]
-  | inr h ↦ elim (or_cases (c == form_feed) (c == carriage_return) h) [
-    | inl e ↦ at-character c form_feed letter_escape e (escape-printed form_feed 0x66 refl refl refl)
-    | inr e ↦ at-character c carriage_return letter_escape e (escape-printed carriage_return 0x72 refl refl refl)
-  ]
-]
+letter-printed c h = grind (arith, or_cases, at-character, escape-printed)
 
 -- ---- keys and values
 

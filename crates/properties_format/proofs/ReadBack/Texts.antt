@@ -66,11 +66,7 @@ digit-plain c h = grind (arith, nat_tests)
 
 -- Each of four hexadecimal digits is a hexadecimal digit.
 four-digits : (d : Four) → are_hexadecimal d ≡ true → (is_hexadecimal d.first ≡ true) × (is_hexadecimal d.second ≡ true) × (is_hexadecimal d.third ≡ true) × (is_hexadecimal d.fourth ≡ true)
-four-digits d h =
-    let p = and_parts (is_hexadecimal d.first && is_hexadecimal d.second) (is_hexadecimal d.third && is_hexadecimal d.fourth) h in
-    let q = and_parts (is_hexadecimal d.first) (is_hexadecimal d.second) p.0 in
-    let r = and_parts (is_hexadecimal d.third) (is_hexadecimal d.fourth) p.1 in
-    (q.0, q.1, r.0, r.1)
+four-digits d h = grind (arith, and_parts)
 
 -- A `\u` escape contains no line end.
 unit-plain : (d : Four) → are_hexadecimal d ≡ true → HoldsNoLineEnd (backslash ∷ letter_u ∷ four_text d)

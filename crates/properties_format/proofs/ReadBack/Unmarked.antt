@@ -33,15 +33,7 @@ begins-cut (m ∷ ms) (b ∷ x) c y h = ap (λ v. (m == b) && v) (begins-cut ms 
 
 -- An ASCII byte and what follows it don't affect the byte order mark.
 pub byte_order_mark-cut : (x : List ℕ) (c : ℕ) (y : List ℕ) → c < 0x80 → begins_like_bom (x ++ (c ∷ y)) ≡ begins_like_bom x
-byte_order_mark-cut x c y h =
-    let ef = no-ascii 0xef c h (lit< tt) in
-    let bb = no-ascii 0xbb c h (lit< tt) in
-    let bf = no-ascii 0xbf c h (lit< tt) in
-    let fe = no-ascii 0xfe c h (lit< tt) in
-    let ff = no-ascii 0xff c h (lit< tt) in
-    ap (λ b. b || (begins_with utf_16be_bom (x ++ (c ∷ y)) || begins_with utf_16le_bom (x ++ (c ∷ y)))) (begins-cut utf_8_bom x c y (ef, (bb, (bf, tt))))
-    ∙ ap (λ b. begins_with utf_8_bom x || (b || begins_with utf_16le_bom (x ++ (c ∷ y)))) (begins-cut utf_16be_bom x c y (fe, (ff, tt)))
-    ∙ ap (λ b. begins_with utf_8_bom x || (begins_with utf_16be_bom x || b)) (begins-cut utf_16le_bom x c y (ff, (fe, tt)))
+byte_order_mark-cut x c y h = grind (arith, no-ascii, begins-cut)
 
 -- The bytes of a text up to its first ASCII character.
 text-cut : (e : Encoding) (x : List ℕ) (c : ℕ) (y : List ℕ) → c < 0x80 → begins_like_bom (encoded_text e (x ++ (c ∷ y))) ≡ begins_like_bom (encoded_text e x)
@@ -106,11 +98,8 @@ pair-unmarked e only key sep rest g =
 
 -- A printed first line, with what follows it.
 printed-unmarked : (e : Encoding) (s : Settings) (line : Content) (rest : List ℕ) → AreGoodSettings s → IsUnmarked e (printed_text e s true line ++ rest)
-printed-unmarked e s (comment text) rest g =
-    ap (λ v. begins_like_bom (encoded_text e v)) (append_assoc (printed_characters e s.ascii_only in_prefix s.comment_prefix) _ rest) ∙ comment-unmarked e s.ascii_only s.comment_prefix _ g.prefix
-printed-unmarked e s (pair key value) rest g =
-    rw (append_assoc (printed_key e s.ascii_only true key) (s.kv_separator ++ _) rest,
-    append_assoc s.kv_separator _ rest, pair-unmarked e s.ascii_only key s.kv_separator _ g.separator)
+printed-unmarked e s (comment text) rest g = grind (arith, append_assoc, comment-unmarked)
+printed-unmarked e s (pair key value) rest g = grind (arith, append_assoc, pair-unmarked)
 
 -- ---- all lines
 

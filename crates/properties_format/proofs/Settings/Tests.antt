@@ -102,10 +102,7 @@ is_signed_separator-from separator g = ap is_signed_separator g.division ∙ div
 -- A separator that passes the other test is good.
 pub IsGoodSeparator-from_test : (separator : List ℕ) → is_good_separator separator ≡ true → IsGoodSeparator separator
 IsGoodSeparator-from_test [] h = cc
-IsGoodSeparator-from_test (c ∷ cs) h = elim (or_cases (is_signed_separator (c ∷ cs)) (is_blanks (c ∷ cs)) h) [
-  | inl e ↦ inl (IsSignedSeparator-from_test (c ∷ cs) e)
-  | inr e ↦ inr (record { blank = AreBlanks-from_test (c ∷ cs) e; some = λ k. cc })
-]
+IsGoodSeparator-from_test (c ∷ cs) h = grind (arith, or_cases, IsSignedSeparator-from_test, AreBlanks-from_test)
 
 -- A good separator passes the other test.
 pub is_good_separator-from : (separator : List ℕ) → IsGoodSeparator separator → is_good_separator separator ≡ true

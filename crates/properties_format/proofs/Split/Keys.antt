@@ -46,10 +46,7 @@ cut_key-unit last rest h = rw h refl
 -- Units at the front.
 pub cut_key-units : (us : List KeyUnit) (rest : List ℕ) → AreUnits us rest → cut_key (units_before us rest) false ≡ with_text (units_before us []) (cut_key rest false)
 cut_key-units [] rest h = refl
-cut_key-units (u ∷ us) rest h =
-    cut_key-unit u (units_before us rest) h.0
-    ∙ ap (with_text (unit_text u)) (cut_key-units us rest h.1)
-    ∙ ap (λ v. let cut : Cut = record { key = v; rest = (cut_key rest false).rest } in cut) (sym (append_assoc (unit_text u) (units_before us []) (cut_key rest false).key))
+cut_key-units (u ∷ us) rest h = grind (arith, cut_key-unit, append_assoc, cut_key-units us rest h.1)
 
 -- A key before what ends it.
 pub cut_key-only : (key rest : List ℕ) → IsKey key rest → ends_here rest ≡ true → cut_key (key ++ rest) false ≡ record { key = key; rest = rest }

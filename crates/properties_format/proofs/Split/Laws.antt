@@ -33,13 +33,7 @@ IsKey-digit c x rest h k = let p = hexadecimal-plain c h in IsKey-plain c x rest
 
 -- A key with a `\u` escape at its front is a key.
 pub IsKey-unicode : (d : Four) (x rest : List ℕ) → are_hexadecimal d ≡ true → IsKey x rest → IsKey (backslash ∷ letter_u ∷ four_text d ++ x) rest
-IsKey-unicode d x rest h k =
-    let p = and_parts (is_hexadecimal d.first && is_hexadecimal d.second) (is_hexadecimal d.third && is_hexadecimal d.fourth) h in
-    let q = and_parts (is_hexadecimal d.first) (is_hexadecimal d.second) p.0 in
-    let r = and_parts (is_hexadecimal d.third) (is_hexadecimal d.fourth) p.1 in
-    IsKey-escaped letter_u (four_text d ++ x) rest
-    (IsKey-digit d.first (d.second ∷ d.third ∷ d.fourth ∷ x) rest q.0
-    (IsKey-digit d.second (d.third ∷ d.fourth ∷ x) rest q.1 (IsKey-digit d.third (d.fourth ∷ x) rest r.0 (IsKey-digit d.fourth x rest r.1 k))))
+IsKey-unicode d x rest h k = grind (arith, and_parts, IsKey-escaped, IsKey-digit)
 
 -- ---- pairs
 

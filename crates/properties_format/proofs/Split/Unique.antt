@@ -37,17 +37,14 @@ sign-end (c ∷ before) sign rest b s = ends_key-blank c b.0
 pub between-ends : (between value : List ℕ) → IsBetween between value → ends_here (between ++ value) ≡ true
 between-ends between value (nothing e f) = rw (e, f) refl
 between-ends between value (blanks h b e f) = blanks-end between value h b
-between-ends between value (separator before sign after e b s d f) =
-    rw e (rw (append_assoc before (sign ∷ after) value) (sign-end before sign (after ++ value) b s))
+between-ends between value (separator before sign after e b s d f) = grind (arith, append_assoc, sign-end)
 
 -- What separates the key from the value is followed by the value.
 pub between-value : (between value : List ℕ) → IsBetween between value → past_separator (without_leading_blanks (between ++ value)) ≡ value
 between-value between value (nothing e f) = rw (e, f) refl
 between-value between value (blanks h b e f) = ap past_separator (without_leading_blanks-only between value b e) ∙ past_separator-full value f
 between-value between value (separator before sign after e b s d f) =
-    ap (λ v. past_separator (without_leading_blanks v)) (ap (λ v. v ++ value) e ∙ append_assoc before (sign ∷ after) value)
-    ∙ ap past_separator (without_leading_blanks-only before (sign ∷ (after ++ value)) b (separator-full sign s))
-    ∙ rw s (without_leading_blanks-only after value d f)
+    grind (arith, append_assoc, without_leading_blanks-only, separator-full)
 
 pub record IsBehind (rest value : List ℕ) : Type 0 where
   pub between : List ℕ
@@ -104,10 +101,7 @@ full-pair line indent x e b h f m = whole (cut_key x false) (cut_key-meets x)
 -- Blanks, followed by a text that doesn't begin with a blank, are what is computed for that text.
 full-meets : (line indent x : List ℕ) → line ≡ indent ++ x → AreBlanks indent → begins is_blank x ≡ false → IsSplit line (split_full x)
 full-meets line indent [] e b f = rw (e, append-nil indent) b
-full-meets line indent (c ∷ x) e b f = elim (cases_Bool (is_comment_sign c)) [
-  | inl m ↦ rw m (record { indent = indent; sign = c; rest = x; whole = e; indent_blank = b; is_sign = m; trimmed = trimmed-meets x })
-  | inr m ↦ rw m (full-pair line indent (c ∷ x) e b (λ q. absurd (cc)) f m)
-]
+full-meets line indent (c ∷ x) e b f = grind (arith, trimmed-meets, full-pair)
 
 -- A line is what is computed for it.
 pub split_of-meets : (line : List ℕ) → IsSplit line (split_of line)

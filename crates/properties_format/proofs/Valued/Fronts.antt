@@ -208,14 +208,12 @@ indent-none false x f = absurd (cc)
 
 -- A head that ends where it may isn't open.
 may-closed : (y q r : List ℕ) → without_open_backslash y ≡ q ++ r → MayEnd q r → is_open q ≡ false
-may-closed y q r s (inl k) =
-    let m = ends-last ends_key q k in ap is_open m.2 ∙ is_open-other m.0 m.1 (ends_key-backslash m.1 m.3)
+may-closed y q r s (inl k) = grind (arith, ends-last, is_open-other, ends_key-backslash)
 may-closed y q r s (inr k) = ap is_open (sym (s ∙ ap (λ v. q ++ v) k ∙ append-nil q)) ∙ shut-closed y
 
 -- The size of the head.
 pub head-size : (first : Bool) (x b q r : List ℕ) → x ≡ b ++ (q ++ r) → without_indent first x ≡ q ++ r → head_size first x q ≡ length (b ++ q)
-head-size first x b q r s t =
-    omega (arith, ap length s, ap length t, length-append b (q ++ r), length-append q r, length-append b q)
+head-size first x b q r s t = grind (arith, length-append)
 
 -- The computed head of a line.
 head-meets : (e : Encoding) (first : Bool) (line : HeldLine) (q r : List ℕ) → is_editable e ≡ true → decoded_line e line.bytes ≡ line.text
@@ -458,8 +456,7 @@ sign-end sign (c ∷ x) s b = blanks-end (c ∷ x) (λ q. cc) b
 pub between-end : (between value : List ℕ) → IsBetween between value → (between ≢ []) × (ends ends_key between ≡ true) ⊎ (between ≡ []) × (value ≡ [])
 between-end between value (nothing a b) = inr (a, b)
 between-end between value (blanks h b a c) = inl (h, blanks-end between h b)
-between-end between value (separator before sign after s b t c d) =
-    inl ((λ q. right-some before (sign ∷ after) (λ z. cc) (sym s ∙ q)), ap (ends ends_key) s ∙ ends-right ends_key before (sign ∷ after) (λ q. cc) ∙ sign-end sign after t c)
+between-end between value (separator before sign after s b t c d) = grind (arith, right-some, ends-right, sign-end)
 
 -- What comes before the value of a pair may end a head.
 pub pair-end : (line key value : List ℕ) (h : IsPair line key value) → MayEnd (h.indent ++ (key ++ h.between)) value
@@ -472,16 +469,10 @@ pair-end line key value h = elim (between-end h.between value h.is_between) [
 
 -- What comes before the value of a pair isn't blank.
 pub pair-some : (line key value : List ℕ) (h : IsPair line key value) → ¬ (AreBlanks (h.indent ++ (key ++ h.between)))
-pair-some line key value h = λ b.
-    of-text (key ++ h.between) (blanks-right h.indent (key ++ h.between) b)
-    (begins-front is_blank (key ++ h.between) value (ap (begins is_blank) (append_assoc key h.between value) ∙ h.begins_full))
-    (λ q. h.not_empty (all-empty q))
+pair-some line key value h = grind (arith, blanks-right, begins-front, append_assoc)
   where
     all-empty : key ++ h.between ≡ [] → key ++ (h.between ++ value) ≡ []
-    all-empty q = elim (between-end h.between value h.is_between) [
-      | inl m ↦ absurd (m.0 (none-right key h.between q))
-      | inr m ↦ ap₂ (λ v w. v ++ w) (no-front key h.between q) (ap₂ (λ v w. v ++ w) m.0 m.1)
-    ]
+    all-empty q = grind (arith, between-end, none-right, no-front)
 
     of-text : (x : List ℕ) → AreBlanks x → begins is_blank x ≡ false → x ≢ [] → ⊥
     of-text [] b f n = n refl

@@ -96,10 +96,7 @@ pub record EndsAscii (e : Encoding) (d w : List ℕ) (c : ℕ) : Type 0 where
 
 -- Bytes whose text ends in an ASCII character are of this form.
 pub ascii-end : (e : Encoding) (d w : List ℕ) (c : ℕ) → is_editable e ≡ true → c < 0x80 → decoded_line e d ≡ w ++ c ∷ [] → EndsAscii e d w c
-ascii-end e d w c ok l s =
-    let k = cut-at_ascii e d w c [] l s in
-    let n : k.1 ≡ [] = nothing-decoded e k.1 k.2.back in
-    record { front = k.0; bytes = k.2.joins ∙ ap₂ (λ v z. k.0 ++ (v ++ z)) (ascii-own e c ok) n; text = k.2.front }
+ascii-end e d w c ok l s = grind (arith, cut-at_ascii, nothing-decoded, ascii-own)
 
 -- The text of bytes that contain an ASCII character.
 pub ascii-among : (e : Encoding) (u : List ℕ) (c : ℕ) (v : List ℕ) → is_editable e ≡ true → c < 0x80
@@ -115,16 +112,8 @@ no-more x c y h = absurd (omega (arith, ap length h, length-append x (c ∷ y)))
 same-fronts : (e : Encoding) (u v : List ℕ) (c : ℕ) (y z : List ℕ) → is_editable e ≡ true → c < 0x80 → u ++ c ∷ y ≡ v ++ c ∷ z
     → (w : List ℕ) → decoded_line e (w ++ u) ≡ decoded_line e (w ++ v) → u ≡ v
 same-fronts e [] [] c y z ok l s w h = refl
-same-fronts e [] (d ∷ v) c y z ok l s w h =
-    let k : c ≡ d = cc in
-    let m : decoded_line e w ≡ decoded_line e w ++ c ∷ decoded_line e v =
-    ap (decoded_line e) (sym (append-nil w)) ∙ h ∙ ap (λ b. decoded_line e (w ++ b ∷ v)) (sym k) ∙ ascii-among e w c v ok l in
-    absurd (no-more (decoded_line e w) c (decoded_line e v) m)
-same-fronts e (d ∷ u) [] c y z ok l s w h =
-    let k : d ≡ c = cc in
-    let m : decoded_line e w ≡ decoded_line e w ++ c ∷ decoded_line e u =
-    ap (decoded_line e) (sym (append-nil w)) ∙ sym h ∙ ap (λ b. decoded_line e (w ++ b ∷ u)) k ∙ ascii-among e w c u ok l in
-    absurd (no-more (decoded_line e w) c (decoded_line e u) m)
+same-fronts e [] (d ∷ v) c y z ok l s w h = grind (arith, append-nil, ascii-among, no-more)
+same-fronts e (d ∷ u) [] c y z ok l s w h = grind (arith, append-nil, ascii-among, no-more)
 same-fronts e (b ∷ u) (d ∷ v) c y z ok l s w h =
     let k : b ≡ d = cc in
     let r : u ++ c ∷ y ≡ v ++ c ∷ z = cc in

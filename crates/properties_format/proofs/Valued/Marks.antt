@@ -30,33 +30,24 @@ begins-more (c ∷ m) (d ∷ b) z h =
 
 -- Bytes that begin like a byte order mark still do with more after them.
 like-more : (b z : List ℕ) → begins_like_bom b ≡ true → begins_like_bom (b ++ z) ≡ true
-like-more b z h =
-    let m = begins-more utf_8_bom b z in
-    let n = begins-more utf_16be_bom b z in
-    let o = begins-more utf_16le_bom b z in
-    grind (arith, nat_tests)
+like-more b z h = grind (arith, begins-more, nat_tests)
 
 -- If bytes don't begin like a byte order mark, neither does their front followed by an ASCII character and any bytes.
 prefix-unmarked : (b z : List ℕ) (c : ℕ) (y : List ℕ) → c < 0x80 → begins_like_bom (b ++ z) ≡ false → begins_like_bom (b ++ c ∷ y) ≡ false
-prefix-unmarked b z c y l h =
-    byte_order_mark-cut b c y l ∙ false_from_ne_true (begins_like_bom b) (λ k. let m = like-more b z k in cc)
+prefix-unmarked b z c y l h = grind (arith, byte_order_mark-cut, false_from_ne_true, like-more)
 
 -- ---- the last pair has another value
 
 -- The bytes of a group are those of its front, followed by others.
 pub front-bytes : (e : Encoding) (group : List HeldLine) (between front : List ℕ) (f : IsFrontOf e group between front)
     → group_bytes group ≡ front ++ (f.tail ++ (ending_bytes f.line.ending ++ group_bytes f.more))
-front-bytes e group between front f =
-    rw (f.bytes, f.division, group_bytes-append, f.cut) (simp append_assoc)
+front-bytes e group between front f = grind (arith, group_bytes-append, append_assoc)
 
 -- A front followed by what is printed for a value, instead of a group at the front of a body.
 front-valued : (e : Encoding) (only : Bool) (group : List HeldLine) (between front value : List ℕ) (f : IsFrontOf e group between front) (rest more : List ℕ)
     → is_editable e ≡ true
     → begins_like_bom (front ++ rest) ≡ false → begins_like_bom (front ++ (encoded_text e (value_text e only between value) ++ more)) ≡ false
-front-valued e only group [] front value f rest more ok h =
-    let x = printed_value e only false value in
-    ap (λ o. begins_like_bom (front ++ ((unwrap_or o [] ++ encoded_text e x) ++ more))) (encoded-ascii e equals_sign (lit< tt))
-    ∙ prefix-unmarked front rest equals_sign (encoded_text e x ++ more) (lit< tt) h
+front-valued e only group [] front value f rest more ok h = grind (arith, encoded-ascii, prefix-unmarked)
 front-valued e only group (b ∷ bs) front value f rest more ok h =
     let m = front-ends e group (b ∷ bs) front f (λ q. cc) in
     let n = ascii-end e f.head m.0 m.1 ok m.3 (sym (decoded_line-only e f.head f.head_text f.is_head) ∙ m.2) in

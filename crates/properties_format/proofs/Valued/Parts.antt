@@ -45,8 +45,7 @@ before_value-pair line key value h =
 
 -- A comment line isn't a pair.
 pub comment_line-no_pair : (line key value : List ℕ) → is_comment_line line ≡ true → IsPair line key value → ⊥
-comment_line-no_pair line key value c h =
-    cc (without_leading_blanks-only h.indent (key ++ (h.between ++ value)) h.indent_blank h.begins_full)
+comment_line-no_pair line key value c h = grind (arith, without_leading_blanks-only)
   where
     of_text : (x : List ℕ) → without_leading_blanks line ≡ x → begins is_comment_sign x ≡ false → ⊥
     of_text [] s b = let m : begins_with_comment_sign [] ≡ true = ap begins_with_comment_sign (sym s) ∙ c in absurd (cc)

@@ -25,10 +25,7 @@ count-ascii c d h = cond-true (nat_lt c 0x80) (suc (ascii_count d)) (ascii_count
 -- The count of two parts.
 pub count-append : (x y : List ℕ) → ascii_count (x ++ y) ≡ ascii_count x + ascii_count y
 count-append [] y = omega arith
-count-append (c ∷ x) y = elim (cases_Bool (nat_lt c 0x80)) [
-  | inl k ↦ rw k (omega (arith, count-append x y))
-  | inr k ↦ rw k (count-append x y)
-]
+count-append (c ∷ x) y = grind (arith, count-append x y)
 
 -- A text has no ASCII character, or it has a first one.
 first-ascii : (x : List ℕ) → (ascii_count x ≡ 0) ⊎ ((u : List ℕ) × (c : ℕ) × (v : List ℕ) × (x ≡ u ++ c ∷ v) × (c < 0x80) × (ascii_count u ≡ 0))
@@ -40,13 +37,7 @@ first-ascii (c ∷ x) = elim (cases_Bool (nat_lt c 0x80)) [
 
 -- If no byte is ASCII, no decoded character is.
 no_ascii-decoded : (e : Encoding) (d : List ℕ) → is_editable e ≡ true → ascii_count d ≡ 0 → ascii_count (decoded_line e d) ≡ 0
-no_ascii-decoded e d ok h = elim (first-ascii (decoded_line e d)) [
-  | inl k ↦ k
-  | inr k ↦
-      let m = cut-at_ascii e d k.0 k.1 k.2 k.4 k.3 in
-      let s : d ≡ m.0 ++ k.1 ∷ m.1 = m.2.joins ∙ ap (λ v. m.0 ++ (v ++ m.1)) (ascii-own e k.1 ok) in
-      absurd (omega (arith, ap ascii_count s, count-append m.0 (k.1 ∷ m.1), count-ascii k.1 m.1 k.4))
-]
+no_ascii-decoded e d ok h = grind (arith, first-ascii, cut-at_ascii, ascii-own, count-append, count-ascii)
 
 -- Decoded bytes have as many ASCII characters as they have ASCII bytes.
 pub count-decoded : (e : Encoding) (n : ℕ) (d : List ℕ) → is_editable e ≡ true → length d < n → ascii_count (decoded_line e d) ≡ ascii_count d
@@ -102,6 +93,4 @@ head-end e d x head h = cc (nothing-decoded e h.tail h.tail_text, append-nil hea
 
 -- The size of a head that is followed by a backslash.
 pub head-before_backslash : (e : Encoding) (d x head : List ℕ) → is_editable e ≡ true → IsHeadOf e d x (backslash ∷ []) head → length head ≡ length d - 1
-head-before_backslash e d x head ok h =
-    let n : h.tail ≡ backslash ∷ [] = backslash-own e h.tail ok h.tail_text in
-    omega (arith, ap length (h.joins ∙ ap (λ v. head ++ v) n), length-append head (backslash ∷ []))
+head-before_backslash e d x head ok h = grind (arith, backslash-own, length-append)

@@ -167,9 +167,7 @@ pub record BeginsAfter (after_blanks : Bool) (x : List ℕ) : Type 0 where
 -- A character that isn't escaped at the front.
 free-begins : (after_blanks : Bool) (c : ℕ) (y : List ℕ) → is_free c ≡ true → (c == space || (after_blanks && is_separator c)) ≡ false
     → BeginsAfter after_blanks (c ∷ y)
-free-begins after_blanks c y h k =
-    let p = or_parts (c == space) (after_blanks && is_separator c) k in
-    record { no_blank = grind (arith, nat_tests); no_separator = λ q. rw q at p.1 }
+free-begins after_blanks c y h k = grind (arith, or_parts, nat_tests)
 
 -- The first character of a value, before any text.
 first-begins : (e : Encoding) (only : Bool) (after_blanks : Bool) (c : ℕ) (y : List ℕ) → scalar c → BeginsAfter after_blanks (printed_first e only after_blanks c ++ y)
@@ -204,8 +202,7 @@ inside-writable e only c h =
 -- A character at the front of a value can be written.
 first-writable : (e : Encoding) (only : Bool) (after_blanks : Bool) (c : ℕ) → scalar c → AreWritable e (printed_first e only after_blanks c)
 first-writable e only after_blanks c h =
-    cond_both (c == space || (after_blanks && is_separator c)) (backslash ∷ c ∷ []) (printed_inside e only c) (AreWritable e)
-    (λ k. ascii-writable e (backslash ∷ c ∷ []) (lit< tt, (special-ascii c (first-special after_blanks c k), tt))) (λ k. inside-writable e only c h)
+    grind (arith, cond_both, AreWritable, ascii-writable, special-ascii, first-special, inside-writable)
 
 -- A space as `\u0020` can be written.
 space-writable : (e : Encoding) → AreWritable e (unit_escape space)
@@ -221,5 +218,4 @@ rest-writable e only (c ∷ d ∷ cs) h = writable-append e (printed_inside e on
 pub value-writable : (e : Encoding) (only : Bool) (after_blanks : Bool) (value : List ℕ) → AllByRecursion scalar value → AreWritable e (printed_value e only after_blanks value)
 value-writable e only after_blanks [] h = ascii-writable e [] tt
 value-writable e only after_blanks (c ∷ cs) h =
-    cond_both (is_empty cs && c == space) (unit_escape space) (printed_first e only after_blanks c ++ printed_rest e only cs) (AreWritable e) (λ k. space-writable e)
-    (λ k. writable-append e (printed_first e only after_blanks c) (printed_rest e only cs) (first-writable e only after_blanks c h.0) (rest-writable e only cs h.1))
+    grind (arith, cond_both, AreWritable, space-writable, writable-append, first-writable, rest-writable)

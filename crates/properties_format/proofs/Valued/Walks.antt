@@ -146,8 +146,7 @@ walk-here e first h hs left value w l =
 -- If a line adds more than is left, the front may end in it.
 may-here : (p r j v : List ℕ) → (p ++ r) ++ j ≡ p ++ v → r ≢ [] → MayEnd p v → ends ends_key p ≡ true
 may-here p r j v s some (inl k) = k
-may-here p r j v s some (inr k) =
-    absurd (some (no-front r j (append_cancel_left p (r ++ j) [] (sym (append_assoc p r j) ∙ s ∙ ap (λ w. p ++ w) k))))
+may-here p r j v s some (inr k) = grind (arith, no-front, append_cancel_left, append_assoc)
 
 -- If less is left than a line adds, the front ends inside it: at the index after as many ASCII bytes as the text of the
 -- line has ASCII characters up to there.
