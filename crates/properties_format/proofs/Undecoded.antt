@@ -1,22 +1,21 @@
 -- What looks at no character past ASCII sees the same in bytes of windows-1252 and in their characters.
-use Rattle.std.proofs.Common.{◌≡◌, ℕ, zero, suc, ◌<◌, ◌≤◌, ◌==◌, ◌%◌, ◌-◌, Bool, true, false, List, [], ◌∷◌, ◌++◌, length, take, drop, map, reverse, refl, sym, ap, ap₂, ◌∙◌, subst, inl, inr, arith, ne_eqb}
-use Rattle.std.proofs.lemmas.Bool.{cases_Bool, cases_lt}
+use Rattle.std.proofs.Common.{◌≡◌, ℕ, zero, suc, ◌<◌, ◌≤◌, ◌==◌, ◌%◌, Bool, true, false, List, [], ◌∷◌, ◌++◌, length, map, reverse, refl, sym, ap, ap₂, ◌∙◌, inl, inr, arith}
+use Rattle.std.proofs.lemmas.Bool.{cases_Bool}
 use Rattle.std.proofs.lemmas.List.{map-append, take-map, drop-map}
 use mathlib.Core.List.{reverse_aux}
 use Rattle.properties_format.specs.Text.{backslash, is_blank, is_separator, is_comment_sign, without_leading_blanks}
 use Rattle.properties_format.specs.Windows1252.{windows_1252_character}
 use Rattle.properties_format.specs.Groups.{leading_backslashes, ending_backslashes, is_open, begins_with_comment_sign, is_comment_line, without_last, without_open_backslash, addition, joined_after, joined, last_group}
 use Rattle.properties_format.specs.Lines.{Line, InputEnd, end, fault, more}
-use Rattle.properties_format.specs.Split.{comment, pair, IsSplit}
+use Rattle.properties_format.specs.Split.{comment, pair}
 use Rattle.properties_format.specs.Encoding.{windows_1252}
 use Rattle.properties_format.specs.Pieces.{characters}
 use Rattle.properties_format.specs.Computed.Encoding.{pieces_within, pieces_of}
 use Rattle.properties_format.specs.Computed.Cut.{decoded_line}
 use Rattle.properties_format.specs.Computed.Split.{without_trailing_blanks, unless_last_blank, trimmed, Cut, with_front, ends_key, cut_key, past_separator, pair_of, split_full, split_of}
 use Rattle.properties_format.specs.Computed.Groups.{closes, groups_after}
-use Rattle.properties_format.proofs.Encodings.Windows1252.{windows_1252-ascii, windows_1252_character-ascii}
+use Rattle.properties_format.proofs.Encodings.Windows1252.{windows_1252-ascii}
 use Rattle.properties_format.proofs.Split.Unique.{split_of-meets, split_of-only}
-use Rattle.properties_format.proofs.Groups.Steps.{groups_after-close, groups_after-leave}
 use Rattle.properties_format.specs.Computed.Undecoded.{characters_of, decoded, in_text, LineCommutes, JoiningCommutes, SplittingCommutes}
 
 -- ---- one character
@@ -27,7 +26,7 @@ past-character b h = grind (arith, windows_1252-ascii)
 
 -- a byte is this character of ASCII, or not, as its character is
 pub same : (k : ℕ) → k < 0x80 → (b : ℕ) → (windows_1252_character b == k) ≡ (b == k)
-same k s b = grind (arith, windows_1252_character-ascii, past-character)
+same k s b = grind (arith, past-character)
 
 pub same-backslash : (b : ℕ) → (windows_1252_character b == backslash) ≡ (b == backslash)
 same-backslash = same backslash (omega arith)
@@ -110,7 +109,7 @@ joins : (d next : List ℕ) → decoded_line windows_1252 (without_open_backslas
 joins d next = simp (decodes, map-append, closed, adds)
 
 pub line-commutes : (d : List ℕ) → LineCommutes d
-line-commutes d = grind (arith, decodes, leading-blanks, ending, opens, comments, closed, adds, joins)
+line-commutes d = grind (arith, decodes, leading-blanks, ending, comments, closed, joins)
 
 -- ---- groups
 
@@ -135,8 +134,7 @@ last-one (l ∷ p) more = refl
 after-group : (p ls : List Line) (e : InputEnd) → groups_after (map decoded p) (map decoded ls) e ≡ map (map decoded) (groups_after p ls e)
 after-group p [] e = last-one p e
 after-group p (l ∷ ls) e =
-    grind (arith, groups_after-close, closing, map-append, groups_after-leave, after-group [] ls e,
-    after-group (p ++ l ∷ []) ls e)
+    grind (arith, closing, map-append, after-group [] ls e, after-group (p ++ l ∷ []) ls e)
 
 pub joining-commutes : (ls : List Line) → JoiningCommutes ls
 joining-commutes ls = record { joined_is = joined-group ls; groups_are = λ e. after-group [] ls e }

@@ -2,11 +2,10 @@
 -- the decoded text.
 use Rattle.std.proofs.Common.{◌≡◌, ℕ, ◌<◌, ◌⊎◌, true, List, [], ◌∷◌, ◌++◌, refl, ap, ap₂, sym, ◌∙◌, subst, inl, inr, lit<, append_assoc, arith}
 use Rattle.std.proofs.lemmas.Bool.{cases_Bool}
-use Rattle.std.proofs.lemmas.Bool.Decides.{nat_tests}
 use Rattle.properties_format.specs.Text.{line_feed, carriage_return, is_line_end, LineEnding, lf, cr, crlf, line_ending_text}
 use Rattle.properties_format.specs.Lines.{Ended, Lines, put_together, HoldsNoLineEnd, BeginsWithNoLoneLf, AreLines, IsLines}
 use Rattle.properties_format.specs.Pieces.{characters}
-use Rattle.properties_format.specs.Encoding.{Encoding, IsAligned, IsDecoded, ascii_bytes, byte_order_mark}
+use Rattle.properties_format.specs.Encoding.{Encoding, IsAligned, IsDecoded, byte_order_mark}
 use Rattle.properties_format.specs.Cut.{HoldsNoLineEndUnit, line_ending_bytes, bytes_together, AreCut, IsCut, IsDecodedLine, AreDecodedLines, IsByline}
 use Rattle.properties_format.specs.Computed.Encoding.{pieces_of, decoded_of}
 use Rattle.properties_format.specs.Computed.Lines.{lines_of}
@@ -48,11 +47,11 @@ first-end (c ∷ x) = elim (cases_Bool (is_line_end c)) [
 
 -- A line end is an ASCII character.
 pub end-ascii : (c : ℕ) → is_line_end c ≡ true → c < 0x80
-end-ascii c h = grind (arith, nat_tests)
+end-ascii c h = grind (arith)
 
 -- Bytes without a line end unit decode to a text without a line end.
 pub no_end-decoded : (e : Encoding) (d : List ℕ) → HoldsNoLineEndUnit e d → HoldsNoLineEnd (decoded_line e d)
-no_end-decoded e d h = grind (arith, first-end, cut-at_ascii, end-ascii, no_end_unit-at)
+no_end-decoded e d h = grind (arith, first-end, cut-at_ascii, no_end_unit-at)
 
 -- Only an empty list of bytes decodes to an empty text.
 pub nothing-decoded : (e : Encoding) (d : List ℕ) → decoded_line e d ≡ [] → d ≡ []

@@ -1,5 +1,5 @@
 -- The computed lines of some bytes are lines of these bytes.
-use Rattle.std.proofs.Common.{◌≡◌, ℕ, ◌%◌, ◌==◌, ◌<◌, false, List, [], ◌∷◌, ◌++◌, length, refl, ap, ap₂, sym, ◌∙◌, subst, append_assoc, inl, inr, arith, lit<, eqb-true}
+use Rattle.std.proofs.Common.{◌≡◌, ℕ, ◌%◌, ◌==◌, ◌<◌, false, List, [], ◌∷◌, ◌++◌, length, refl, ap₂, sym, ◌∙◌, subst, inl, inr, arith, lit<, eqb-true}
 use Rattle.std.proofs.lemmas.Bool.{cases_Bool, or_cases}
 use Rattle.properties_format.specs.Text.{line_feed, carriage_return, is_line_end, LineEnding, lf, cr, crlf, line_ending_text}
 use Rattle.properties_format.specs.Lines.{Ended, Lines, put_together, HoldsNoLineEnd, BeginsWithNoLoneLf, AreLines, IsLines}
@@ -47,18 +47,18 @@ empty-cut e by ls last k h = (no_end_unit-nil e, aligned-nil e, k, h)
 -- An LF at the front.
 lf-meets : (e : Encoding) (d : List ℕ) (lines : Lines) → IsCut e d lines
     → IsCut e (ascii_bytes e line_feed ++ d) (record lines { ended = end_before lf lines.ended })
-lf-meets e d lines h = grind (arith, empty-cut)
+lf-meets e d lines h = grind (arith)
 
 -- A CR before a line that isn't an empty one that an LF ends.
 cr-apart : (e : Encoding) (ls : List Ended) (last d : List ℕ) → BeginsWithNoLoneLf ls → IsCut e d (record { ended = ls; last = last })
     → IsCut e (ascii_bytes e carriage_return ++ d) (record { ended = end_before cr ls; last = last })
-cr-apart e ls last d k h = grind (arith, empty-cut)
+cr-apart e ls last d k h = grind (arith)
 
 -- A CR before a line.
 cr-meets-line : (e : Encoding) (text : List ℕ) (by : LineEnding) (ls : List Ended) (last d : List ℕ)
     → IsCut e d (record { ended = record { text = text; by = by } ∷ ls; last = last })
     → IsCut e (ascii_bytes e carriage_return ++ d) (record { ended = cr_before (record { text = text; by = by } ∷ ls); last = last })
-cr-meets-line e [] lf ls last d h = grind (arith, append_assoc, empty-cut)
+cr-meets-line e [] lf ls last d h = grind (arith)
 cr-meets-line e [] cr ls last d h = cr-apart e (record { text = []; by = cr } ∷ ls) last d (λ p. absurd (cc)) h
 cr-meets-line e [] crlf ls last d h = cr-apart e (record { text = []; by = crlf } ∷ ls) last d (λ p. absurd (cc)) h
 cr-meets-line e (c ∷ cs) by ls last d h = cr-apart e (record { text = c ∷ cs; by = by } ∷ ls) last d (λ p. absurd (cc)) h

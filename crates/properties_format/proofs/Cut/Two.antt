@@ -39,4 +39,4 @@ pub two-line : (e : Encoding) (unit : ℕ → ℕ → ℕ) (text : List ℕ) (by
 two-line e unit [] by y ls last r p a k h = two-end e unit by y ls last r k h
 two-line e unit (c ∷ []) by y ls last r p a k h = absurd (omega arith)
 two-line e unit (c ∷ d ∷ text) by y ls last r p a k h =
-    grind (arith, unit-plain, two-line e unit text by y ls last r p.1 (omega arith) k h)
+    grind (arith, two-line e unit text by y ls last r p.1 (omega arith) k h)

@@ -1,7 +1,6 @@
 -- The units of concatenated bytes, and bytes none of whose units is a CR or an LF.
-use Rattle.std.proofs.Common.{◌≡◌, ℕ, ◌%◌, ◌<◌, ◌≤◌, ◌==◌, ◌&&◌, true, false, List, [], ◌∷◌, ◌++◌, length, refl, ap, ◌∙◌, subst, inl, inr, arith}
-use Rattle.std.proofs.lemmas.Bool.{or_from, and_right, ne_eqb, eqb-false}
-use Rattle.std.proofs.lemmas.Bool.Decides.{eqb_tells}
+use Rattle.std.proofs.Common.{◌≡◌, ℕ, ◌%◌, ◌<◌, ◌≤◌, ◌==◌, ◌&&◌, true, false, List, [], ◌∷◌, ◌++◌, length, refl, ap, ◌∙◌, arith}
+use Rattle.std.proofs.lemmas.Bool.{or_from, and_right, ne_eqb}
 use Rattle.properties_format.specs.Text.{line_feed, carriage_return, is_line_end}
 use Rattle.properties_format.specs.Lines.{HoldsNoLineEnd}
 use Rattle.properties_format.specs.Utf16.{low_first, high_first}
@@ -47,7 +46,7 @@ no_end_unit-right e x y a h = plain-right (units e x) (units e y) (rw (units-app
 
 -- Such bytes don't contain the bytes of a CR or an LF at a unit's boundary.
 pub no_end_unit-at : (e : Encoding) (c : ℕ) (x y : List ℕ) → is_line_end c ≡ true → IsAligned e x → HoldsNoLineEndUnit e (x ++ (ascii_bytes e c ++ y)) → ⊥
-no_end_unit-at e c x y h a k = grind (arith, units-ascii, no_end_unit-right)
+no_end_unit-at e c x y h a k = grind (arith, no_end_unit-right)
 
 -- ---- Line ends searched for among the bytes.
 
@@ -57,11 +56,11 @@ above-byte u h = or_from (u == line_feed) (u == carriage_return) (ne_eqb u line_
 
 -- With the low byte first, a unit is a CR or an LF exactly if its low byte is one and its high byte is 0.
 pub low_first-line_end : (a b : ℕ) → is_line_end (low_first a b) ≡ (b == 0 && is_line_end a)
-low_first-line_end a b = grind (arith, eqb_tells, above-byte, eqb-false)
+low_first-line_end a b = grind (arith)
 
 -- With the high byte first, a unit is a CR or an LF exactly if its low byte is one and its high byte is 0.
 pub high_first-line_end : (a b : ℕ) → is_line_end (high_first a b) ≡ (a == 0 && is_line_end b)
-high_first-line_end a b = grind (arith, eqb_tells, above-byte, eqb-false)
+high_first-line_end a b = grind (arith)
 
 -- If no byte is a CR or an LF, no unit of two bytes is one, with the low byte first.
 no_low : (d : List ℕ) → HoldsNoLineEnd d → HoldsNoLineEnd (units_of_two low_first d)

@@ -1,5 +1,5 @@
 -- The groups of a body, and an edit of them, after the next line and after the next group.
-use Rattle.std.proofs.Common.{◌≡◌, ℕ, false, List, [], ◌∷◌, ◌++◌, refl, ap, sym, ◌∙◌, inl, inr, append_assoc, ◌+◌, length-append, arith}
+use Rattle.std.proofs.Common.{◌≡◌, ℕ, false, List, [], ◌∷◌, ◌++◌, refl, ap, ◌∙◌, inl, inr, append_assoc, ◌+◌, length-append, arith}
 use Rattle.std.specs.Prelude.{◌&&◌, not, length, Option, Some, None}
 use Rattle.std.proofs.lemmas.Bool.{cases_Bool, cond-false}
 use Rattle.properties_format.specs.Text.{LineEnding, cr}
@@ -8,11 +8,11 @@ use Rattle.properties_format.specs.Lines.{Lines}
 use Rattle.properties_format.specs.Computed.Lines.{begins_with_lf}
 use Rattle.properties_format.specs.Cut.{units, HoldsNoLineEndUnit, line_ending_bytes}
 use Rattle.properties_format.specs.Computed.Cut.{decoded_line}
-use Rattle.properties_format.specs.Groups.{is_open, is_comment_line, joined}
+use Rattle.properties_format.specs.Groups.{is_open, is_comment_line}
 use Rattle.properties_format.specs.Items.{Outcome, broken}
-use Rattle.properties_format.specs.Computed.Items.{outcome_of, followed}
+use Rattle.properties_format.specs.Computed.Items.{followed}
 use Rattle.properties_format.specs.Entries.{Entry}
-use Rattle.properties_format.specs.Body.{HeldLine, HasKey, group_bytes, as_lines, held_in, last_ending}
+use Rattle.properties_format.specs.Body.{HeldLine, HasKey, held_in, last_ending}
 use Rattle.properties_format.specs.Edited.{final_group, is_last_open, is_left_open, is_empty_line}
 use Rattle.properties_format.specs.Computed.Body.{held_of, held_lines_of, has_key, entries_in}
 use Rattle.properties_format.specs.Computed.Edited.{KeyPlace, place_after, last_place, without, IsSound, AreSound, result_by}
@@ -100,4 +100,4 @@ pub result-after : (n : ℕ) (gs hs : List (List HeldLine)) (made : List ℕ) �
     → result_by (entries_in n (gs ++ hs)) made ≡ result_by (entries_in (n + length (held_in gs)) hs) made
 result-after n [] hs made h = let same : n ≡ n + 0 = omega arith in ap (λ m. result_by (entries_in m hs) made) same
 result-after n (g ∷ gs) hs made h =
-    grind (arith, length-append, result-sound, result-after (n + length g) gs hs made h.1)
+    grind (arith, length-append, result-after (n + length g) gs hs made h.1)

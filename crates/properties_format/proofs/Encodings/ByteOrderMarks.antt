@@ -1,9 +1,9 @@
 -- Which bytes at the front determine the byte order mark.
-use Rattle.std.proofs.Common.{◌≡◌, ℕ, ◌≤◌, ◌==◌, ◌&&◌, ◌||◌, true, false, if◌then◌else◌, List, [], ◌∷◌, ◌++◌, length, drop, refl, sym, ap, ◌∙◌, inl, inr, arith}
+use Rattle.std.proofs.Common.{◌≡◌, ℕ, ◌≤◌, ◌==◌, ◌&&◌, true, false, if◌then◌else◌, List, [], ◌∷◌, ◌++◌, length, drop, refl, sym, ap, ◌∙◌, inl, inr, arith}
 use Rattle.std.proofs.lemmas.List.{drop-append-le}
-use Rattle.std.proofs.lemmas.Bool.{cases_Bool, or_parts, and_parts, and_left, or_from}
+use Rattle.std.proofs.lemmas.Bool.{cases_Bool, and_parts, and_left}
 use Rattle.properties_format.specs.Pieces.{characters}
-use Rattle.properties_format.specs.Encoding.{Encoding, utf_8, utf_16le, utf_16be, InForce, byte_order_mark, begins_with, begins_like_bom, utf_8_bom, utf_16be_bom, utf_16le_bom}
+use Rattle.properties_format.specs.Encoding.{Encoding, InForce, byte_order_mark, begins_with, begins_like_bom}
 use Rattle.properties_format.specs.Computed.Encoding.{pieces_of, decoded_of}
 use Rattle.properties_format.specs.Computed.Waiting.{begins_longer, awaits_bom}
 
@@ -32,11 +32,11 @@ begins-length (m ∷ ms) (x ∷ b) h = let k = begins-length ms b (and_parts (m 
 not-longer : (b m : List ℕ) → length m ≤ length b → begins_longer b m ≡ false
 not-longer b [] h = refl
 not-longer [] (m ∷ ms) h = absurd (omega arith)
-not-longer (x ∷ b) (m ∷ ms) h = grind (arith, and_left, not-longer b ms (omega arith))
+not-longer (x ∷ b) (m ∷ ms) h = grind (arith, not-longer b ms (omega arith))
 
 -- At least three bytes don't wait for more.
 pub awaits_bom-long : (b : List ℕ) → 3 ≤ length b → awaits_bom b ≡ false
-awaits_bom-long b h = grind (arith, or_from, not-longer)
+awaits_bom-long b h = grind (arith)
 
 -- One of the three tests, with more bytes.
 choose-append : (e : Encoding) (m b d : List ℕ) (x y : InForce) → begins_longer b m ≡ false → y ≡ followed x d
@@ -46,11 +46,11 @@ choose-append e m b d x y h k = grind (arith, begins-append, drop-append-le, beg
 
 -- Bytes that don't wait determine the byte order mark: what follows them is in the body.
 pub byte_order_mark-append : (e : Encoding) (b d : List ℕ) → awaits_bom b ≡ false → byte_order_mark e (b ++ d) ≡ followed (byte_order_mark e b) d
-byte_order_mark-append e b d h = grind (arith, or_parts, choose-append)
+byte_order_mark-append e b d h = grind (arith)
 
 -- Bytes that don't begin like a byte order mark are in the requested encoding.
 pub byte_order_mark-none : (e : Encoding) (b : List ℕ) → begins_like_bom b ≡ false → byte_order_mark e b ≡ record { encoding = e; body = b }
-byte_order_mark-none e b h = grind (arith, or_parts)
+byte_order_mark-none e b h = grind (arith)
 
 -- Bytes that don't begin like a byte order mark are decoded as a whole.
 pub decoded_of-unmarked : (e : Encoding) (b : List ℕ) → begins_like_bom b ≡ false → decoded_of e b ≡ characters (pieces_of e b)

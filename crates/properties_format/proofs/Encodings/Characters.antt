@@ -1,10 +1,9 @@
 -- The characters of pieces: each is a scalar value, an ASCII character has its own bytes, and an encoded character is a
 -- piece.
-use Rattle.std.proofs.Common.{◌≡◌, ℕ, ◌+◌, ◌-◌, ◌*◌, ◌<◌, true, false, nat_lt, nat_le, List, [], ◌∷◌, ◌++◌, Option, Some, None, All, refl, sym, ap, ap₂, ◌∙◌, inl, inr, arith, ltb-false, leb-false}
+use Rattle.std.proofs.Common.{◌≡◌, ℕ, ◌<◌, true, false, List, [], ◌∷◌, ◌++◌, Option, Some, None, All, refl, sym, ap, ap₂, inl, inr, arith}
 use Rattle.std.specs.Char.{encode_utf8}
 use Rattle.std.specs.List.{AllByRecursion}
 use Rattle.std.proofs.lemmas.List.Elements.{recursion_from_All, All-nil, All-cons}
-use Rattle.std.proofs.lemmas.Bool.{and_cases, and_left, lt-leb}
 use Rattle.std.proofs.lemmas.Bool.Decides.{nat_tests}
 use Rattle.std.proofs.lemmas.Option.{none-some, same_Some}
 use Rattle.properties_format.specs.Text.{byte, scalar, replacement}
@@ -30,7 +29,7 @@ windows_1252-encoded c bs y (Some b) e h =
 
 -- In UTF-8, the bytes of a scalar value are a piece of it.
 utf_8-encoded : (c : ℕ) (bs y : List ℕ) → scalar c → ◌≡◌ {A = Option (List ℕ)} (Some (encode_utf8 c)) (Some bs) → IsPiece utf_8 (piece bs c) y
-utf_8-encoded c bs y h e = grind (arith, same_Some, encode-is_sequence)
+utf_8-encoded c bs y h e = grind (arith, encode-is_sequence)
 
 -- In the encoding that is written, the bytes of a scalar value are a piece of it, whatever follows.
 pub encoded-piece : (e : Encoding) (c : ℕ) (bs y : List ℕ) → scalar c → encoded e c ≡ Some bs → IsPiece (output_encoding e) (piece bs c) y
@@ -46,7 +45,7 @@ pieces_of-encoded e c bs y h k = pieces_of-piece (output_encoding e) (piece bs c
 
 -- A unit below 80 hexadecimal isn't a surrogate.
 not-surrogate : (u : ℕ) → u < 0x80 → (is_high u ≡ false) × (is_low u ≡ false)
-not-surrogate u h = grind (arith, and_left, lt-leb)
+not-surrogate u h = grind (arith)
 
 -- A unit below 80 hexadecimal isn't a low surrogate.
 pub ascii-not_low : (u : ℕ) → u < 0x80 → is_low u ≡ false
@@ -109,7 +108,7 @@ replacement-scalar = inr (omega arith, omega arith)
 
 -- A unit of two bytes that isn't a surrogate is a scalar value.
 unit-scalar : (u : ℕ) → u < 0x1_0000 → is_high u ≡ false → is_low u ≡ false → scalar u
-unit-scalar u l h k = grind (arith, and_cases)
+unit-scalar u l h k = grind (arith)
 
 -- The character of a high and a low surrogate is a scalar value.
 pub pair-scalar : (u v : ℕ) → is_high u ≡ true → is_low v ≡ true → scalar (pair_character u v)
@@ -129,7 +128,7 @@ utf_8-scalar p rest (broken b bs e h k) = character-at p (b ∷ bs) replacement 
 utf_16-scalar : (unit : ℕ → ℕ → ℕ) → ((a b : ℕ) → byte a → byte b → unit a b < 0x1_0000)
     → (p : Piece) (rest : List ℕ) → IsUtf16Piece unit p rest → AllByRecursion byte p.bytes → scalar p.character
 utf_16-scalar unit f p rest (pair a b c d e h k) l = character-at p (a ∷ b ∷ c ∷ d ∷ []) (pair_character (unit a b) (unit c d)) e (pair-scalar (unit a b) (unit c d) h k)
-utf_16-scalar unit f p rest (plain a b e h k) l = grind (arith, character-at, unit-scalar)
+utf_16-scalar unit f p rest (plain a b e h k) l = grind (arith)
 utf_16-scalar unit f p rest (low_alone a b e h) l = character-at p (a ∷ b ∷ []) replacement e replacement-scalar
 utf_16-scalar unit f p rest (high_alone a b c d more e h s k) l = character-at p (a ∷ b ∷ []) replacement e replacement-scalar
 utf_16-scalar unit f p rest (high_last a b e h s) l = character-at p (a ∷ b ∷ []) replacement e replacement-scalar

@@ -1,11 +1,11 @@
 -- Where bytes may be cut so that their pieces are the pieces of the parts.
-use Rattle.std.proofs.Common.{◌≡◌, ℕ, ◌+◌, ◌<◌, List, [], ◌∷◌, ◌++◌, length, refl, sym, ap, ap₂, ◌∙◌, subst, arith, append_assoc, append-nil, length-append}
+use Rattle.std.proofs.Common.{◌≡◌, ℕ, ◌<◌, List, [], ◌∷◌, ◌++◌, length, refl, sym, ap, ap₂, ◌∙◌, subst, arith, append_assoc, append-nil}
 use Rattle.properties_format.specs.Pieces.{Piece, piece, characters}
 use Rattle.properties_format.specs.Encoding.{Encoding, IsPiece, IsPieces, IsAligned, ascii_bytes}
 use Rattle.properties_format.specs.Computed.Encoding.{pieces_of}
-use Rattle.properties_format.proofs.Encodings.Pieces.{piece-length, pieces_of-meets, pieces_of-only}
+use Rattle.properties_format.proofs.Encodings.Pieces.{pieces_of-meets, pieces_of-only}
 use Rattle.properties_format.proofs.Encodings.Characters.{pieces_of-ascii, piece-ascii}
-use Rattle.properties_format.proofs.Encodings.PieceEnds.{piece-more, piece-less, piece-aligned, piece-anew, aligned-nil, aligned-append, aligned-back, BeginsAnew, ascii-anew}
+use Rattle.properties_format.proofs.Encodings.PieceEnds.{piece-more, piece-less, piece-aligned, piece-anew, aligned-nil, aligned-back, BeginsAnew, ascii-anew}
 
 -- ---- Bytes added at the end.
 
@@ -17,7 +17,7 @@ LastStaysPiece e (p ∷ q ∷ ps) y = LastStaysPiece e (q ∷ ps) y
 
 -- Bytes with a piece aren't empty.
 pieces-length : (e : Encoding) (d : List ℕ) (p : Piece) (ps : List Piece) → IsPieces e d (p ∷ ps) → 0 < length d
-pieces-length e d p ps (rest, s, h, k) = grind (arith, piece-length)
+pieces-length e d p ps (rest, s, h, k) = grind (arith)
 
 -- If the last piece stays a piece before the bytes after it, the pieces of both are the pieces of the first followed by
 -- those of the second.
@@ -35,7 +35,7 @@ pieces_of-append e x y h =
 -- A last piece stays one before bytes that begin anew.
 last-anew : (e : Encoding) (x y : List ℕ) (ps : List Piece) → BeginsAnew e y → IsAligned e x → IsPieces e x ps → LastStaysPiece e ps y
 last-anew e x y [] h a k = tt
-last-anew e x y (p ∷ []) h a (rest, s, m, t) = grind (arith, append-nil, piece-anew)
+last-anew e x y (p ∷ []) h a (rest, s, m, t) = grind (arith, piece-anew)
 last-anew e x y (p ∷ q ∷ ps) h a (rest, s, m, t) =
     let b = piece-aligned e p rest (pieces-length e rest q ps t) m in
     last-anew e rest y (q ∷ ps) h (aligned-back e p.bytes rest b (rw s at a)) t
@@ -60,7 +60,7 @@ Cut e d ps qs = (x : List ℕ) × (y : List ℕ) × IsCut e d x y ps qs
 cut-more : (e : Encoding) (d rest x y : List ℕ) (p q : Piece) (ps qs : List Piece) → d ≡ p.bytes ++ rest → IsPiece e p rest → IsCut e rest x y ps (q ∷ qs)
     → IsCut e d (p.bytes ++ x) y (p ∷ ps) (q ∷ qs)
 cut-more e d rest x y p q ps qs s h c =
-    grind (arith, pieces-length, length-append, append_assoc, aligned-append, piece-aligned, piece-less)
+    grind (arith, append_assoc, piece-less)
 
 -- Bytes may be cut before any of their pieces.
 pub pieces-cut : (e : Encoding) (d : List ℕ) (ps : List Piece) (q : Piece) (qs : List Piece) → IsPieces e d (ps ++ q ∷ qs) → Cut e d ps (q ∷ qs)

@@ -1,5 +1,5 @@
 -- The pieces of some bytes are the computed ones, and no others.
-use Rattle.std.proofs.Common.{◌≡◌, ℕ, zero, suc, ◌+◌, ◌<◌, ◌≤◌, List, [], ◌∷◌, ◌++◌, length, drop, refl, sym, ap, ◌∙◌, arith, length-append}
+use Rattle.std.proofs.Common.{◌≡◌, ℕ, zero, suc, ◌<◌, ◌≤◌, List, [], ◌∷◌, ◌++◌, length, drop, refl, sym, ap, ◌∙◌, arith, length-append}
 use Rattle.std.proofs.Math.Seq.{drop-append_seam}
 use Rattle.properties_format.specs.Pieces.{Piece, characters}
 use Rattle.properties_format.specs.Utf16.{low_first, high_first}
@@ -33,12 +33,12 @@ read-piece e n p rest h = grind (arith, piece-read, drop-append_seam)
 
 -- A piece isn't empty.
 pub piece-length : (e : Encoding) (p : Piece) (rest : List ℕ) → IsPiece e p rest → length rest < length (p.bytes ++ rest)
-piece-length e p rest h = grind (arith, piece-read, length-append)
+piece-length e p rest h = grind (arith, length-append)
 
 -- The pieces of at most n bytes are the computed ones, limited to n.
 within-only : (e : Encoding) (n : ℕ) (d : List ℕ) (ps : List Piece) → length d ≤ n → IsPieces e d ps → pieces_within e n d ≡ ps
 within-only e n d [] l h = ap (pieces_within e n) h
-within-only e zero d (p ∷ ps) l (rest, s, h, k) = grind (arith, piece-length)
+within-only e zero d (p ∷ ps) l (rest, s, h, k) = grind (arith)
 within-only e (suc n) d (p ∷ ps) l (rest, s, h, k) =
     let m = piece-length e p rest h in
     let q : length d ≡ length (p.bytes ++ rest) = ap length s in

@@ -23,12 +23,12 @@ encode-two c l h = cond-false (nat_lt c 0x80) _ _ (le-ltb c 0x80 l) ∙ cond-tru
 -- From U+0800 to U+FFFF, it is encoded as three bytes.
 pub encode-three : (c : ℕ) → 0x800 ≤ c → c < 0x1_0000 → encode_utf8 c ≡ (224 + c / 4096) ∷ next (c / 64) ∷ next c ∷ []
 unfolding encode_utf8
-encode-three c l h = grind (arith, cond-false, le-ltb, cond-true)
+encode-three c l h = grind (arith)
 
 -- From U+10000 on, it is encoded as four bytes.
 pub encode-four : (c : ℕ) → 0x1_0000 ≤ c → encode_utf8 c ≡ (240 + c / 262144) ∷ next (c / 4096) ∷ next (c / 64) ∷ next c ∷ []
 unfolding encode_utf8
-encode-four c l = grind (arith, cond-false, le-ltb)
+encode-four c l = grind (arith)
 
 -- the bytes are a well-formed sequence with this character
 abbrev pub IsSequenceOf : List ℕ → ℕ → Type 0
@@ -41,15 +41,15 @@ next-in c = (omega arith, omega arith)
 -- The three bytes of a scalar value from U+0800 to U+FFFF are well-formed.
 three-fits : (c : ℕ) → 0x800 ≤ c → c < 0xd800 ⊎ ((0xe000 ≤ c) × (c < 0x1_0000)) → IsWellFormed ((224 + c / 4096) ∷ next (c / 64) ∷ next c ∷ [])
 three-fits c l (inr h) = inr (inr (inr (inr (inr (inl ((omega arith, omega arith), (next-in (c / 64), (next-in c, tt))))))))
-three-fits c l (inl h) = grind (arith, next-in)
+three-fits c l (inl h) = grind (arith)
 
 -- The four bytes of a scalar value from U+10000 on are well-formed.
 four-fits : (c : ℕ) → 0x1_0000 ≤ c → c < 0x11_0000 → IsWellFormed ((240 + c / 262144) ∷ next (c / 4096) ∷ next (c / 64) ∷ next c ∷ [])
-four-fits c l h = grind (arith, next-in)
+four-fits c l h = grind (arith)
 
 -- From U+0800 on, the bytes of a scalar value are its sequence.
 is_sequence-long : (c : ℕ) → 0x800 ≤ c → scalar c → IsSequenceOf (encode_utf8 c) c
-is_sequence-long c l h = grind (arith, encode-three, three-fits, encode-four, four-fits)
+is_sequence-long c l h = grind (arith, encode-three, encode-four)
   where
     low : c < 0x1_0000 → scalar c → c < 0xd800 ⊎ ((0xe000 ≤ c) × (c < 0x1_0000))
     low k (inl m) = inl m

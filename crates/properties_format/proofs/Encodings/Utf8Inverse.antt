@@ -1,5 +1,5 @@
 -- A character has exactly one well-formed sequence: its encoding.
-use Rattle.std.proofs.Common.{◌≡◌, ℕ, ◌+◌, ◌/◌, ◌%◌, ◌^◌, ◌≤◌, List, [], ◌∷◌, ap, ◌∙◌, inl, inr, arith}
+use Rattle.std.proofs.Common.{◌≡◌, ℕ, ◌%◌, ◌^◌, ◌≤◌, List, [], ◌∷◌, ap, ◌∙◌, inl, inr, arith}
 use Rattle.std.specs.Char.{encode_utf8}
 use Rattle.properties_format.specs.Utf8.{from_to, tail, IsIn, IsWellFormed, sequence_character}
 use Rattle.properties_format.proofs.Encodings.Utf8Characters.{next, encode-one, encode-two, encode-three, encode-four}

@@ -145,7 +145,7 @@ record Ascending (low : ℕ) (r : Range) (rs : List Range) (more : List (List Ra
 
 -- The test of all rows, divided into the first row and the others.
 ascending-parts : (low : ℕ) (r : Range) (rs : List Range) (more : List (List Range)) → are_ascending low ((r ∷ rs) ∷ more) ≡ true → Ascending low r rs more
-ascending-parts low r rs more h = grind (arith, and_parts, leb-true)
+ascending-parts low r rs more h = grind (arith)
 
 -- No sequence begins with a byte below those of the rows.
 above : (low : ℕ) (table : List (List Range)) (b : ℕ) (bs : List ℕ) → are_ascending low table ≡ true → FitsSome table (b ∷ bs) → low ≤ b
@@ -230,7 +230,7 @@ are_tails (r ∷ rs) = (nat_le 0x80 r.least && nat_le r.most 0xbf) && are_tails 
 front-tail : (rs : List Range) (bs : List ℕ) (c : ℕ) → are_tails rs ≡ true → FitsFront rs (bs ++ c ∷ []) → IsIn tail c
 front-tail [] [] c t h = absurd h
 front-tail [] (b ∷ bs) c t h = absurd h
-front-tail (r ∷ rs) [] c t h = grind (arith, and_parts, leb-true)
+front-tail (r ∷ rs) [] c t h = grind (arith)
 front-tail (r ∷ rs) (b ∷ bs) c t h = front-tail rs bs c (and_parts (nat_le 0x80 r.least && nat_le r.most 0xbf) (are_tails rs) t).1 h.1
 
 -- A byte after the first is a tail byte.

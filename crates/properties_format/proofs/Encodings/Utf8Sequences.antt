@@ -1,7 +1,7 @@
 -- The characters of the sequences of each row: scalar values. Only the first row has those of ASCII.
 use Rattle.std.proofs.Common.{◌≡◌, ℕ, ◌%◌, ◌^◌, ◌<◌, ◌≤◌, List, [], ◌∷◌, ap, inl, inr, arith}
 use Rattle.properties_format.specs.Text.{scalar}
-use Rattle.properties_format.specs.Utf8.{Range, from_to, tail, IsIn, FitsRow, IsWellFormed, sequence_character}
+use Rattle.properties_format.specs.Utf8.{Range, from_to, IsIn, FitsRow, IsWellFormed, sequence_character}
 
 -- ---- A fact about the bytes of a row, from a fact about each of them.
 
@@ -54,14 +54,14 @@ high-fine bs h k = (inr (h, k), λ l. absurd (omega arith))
 -- This holds for every well-formed sequence.
 row-fine : (bs : List ℕ) → IsWellFormed bs → Fine bs
 row-fine bs (inl h) = in-one Fine (from_to 0x00 0x7f) (λ a i. ascii-fine a i.1) bs h
-row-fine bs (inr (inl h)) = grind (arith, in-two, low-fine)
-row-fine bs (inr (inr (inl h))) = grind (arith, in-three, low-fine)
-row-fine bs (inr (inr (inr (inl h)))) = grind (arith, in-three, low-fine)
-row-fine bs (inr (inr (inr (inr (inl h))))) = grind (arith, in-three, low-fine)
-row-fine bs (inr (inr (inr (inr (inr (inl h)))))) = grind (arith, in-three, high-fine)
-row-fine bs (inr (inr (inr (inr (inr (inr (inl h))))))) = grind (arith, in-four, high-fine)
-row-fine bs (inr (inr (inr (inr (inr (inr (inr (inl h)))))))) = grind (arith, in-four, high-fine)
-row-fine bs (inr (inr (inr (inr (inr (inr (inr (inr (inl h))))))))) = grind (arith, in-four, high-fine)
+row-fine bs (inr (inl h)) = grind (arith)
+row-fine bs (inr (inr (inl h))) = grind (arith)
+row-fine bs (inr (inr (inr (inl h)))) = grind (arith)
+row-fine bs (inr (inr (inr (inr (inl h))))) = grind (arith)
+row-fine bs (inr (inr (inr (inr (inr (inl h)))))) = grind (arith)
+row-fine bs (inr (inr (inr (inr (inr (inr (inl h))))))) = grind (arith)
+row-fine bs (inr (inr (inr (inr (inr (inr (inr (inl h)))))))) = grind (arith)
+row-fine bs (inr (inr (inr (inr (inr (inr (inr (inr (inl h))))))))) = grind (arith)
 row-fine bs (inr (inr (inr (inr (inr (inr (inr (inr (inr h))))))))) = absurd h
 
 -- The character of a well-formed sequence is a scalar value.

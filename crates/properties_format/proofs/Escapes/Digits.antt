@@ -17,7 +17,7 @@ hexadecimal_value-char n h = grind (arith, nat_tests)
 
 -- A hexadecimal digit isn't a backslash, a blank or a separator.
 pub hexadecimal-plain : (c : ℕ) → is_hexadecimal c ≡ true → ((c == backslash) ≡ false) × (is_blank c ≡ false) × (is_separator c ≡ false)
-hexadecimal-plain c h = (not_backslash c h, grind (arith, nat_tests), grind (arith, nat_tests))
+hexadecimal-plain c h = (not_backslash c h, grind (arith), grind (arith, nat_tests))
   where
     not_backslash : (c : ℕ) → is_hexadecimal c ≡ true → (c == backslash) ≡ false
     not_backslash c h = grind (arith, nat_tests)

@@ -1,8 +1,8 @@
 -- A text of scalar values means a text of scalar values.
-use Rattle.std.proofs.Common.{◌≡◌, ℕ, ◌+◌, ◌*◌, ◌<◌, ◌&&◌, All, true, false, List, [], ◌∷◌, ◌++◌, map, sym, inl, subst, arith, lit<}
+use Rattle.std.proofs.Common.{◌≡◌, ℕ, ◌+◌, ◌*◌, ◌<◌, All, true, false, List, [], ◌∷◌, ◌++◌, map, sym, inl, subst, arith, lit<}
 use Rattle.std.proofs.lemmas.Bool.{and_parts}
 use Rattle.std.proofs.lemmas.Bool.Decides.{nat_tests}
-use Rattle.std.proofs.lemmas.List.Elements.{All-nil, All-cons, All-head, All-tail}
+use Rattle.std.proofs.lemmas.List.Elements.{All-nil, All-head, All-tail}
 use Rattle.properties_format.specs.Text.{backslash, scalar}
 use Rattle.properties_format.specs.Escapes.{Four, is_hexadecimal, hexadecimal_value, are_hexadecimal, code_unit, is_surrogate, escaped_character, Spelling, itself, escaped, unicode, surrogates, last, spelling_text, spelling_character, IsSpelling, spellings_before, AreSpellings, Means}
 use Rattle.properties_format.proofs.Encodings.Characters.{pair-scalar}
@@ -17,7 +17,7 @@ four-below a b c d h k l m = omega arith
 
 -- A unit of four hexadecimal digits is below 10000 hexadecimal.
 pub code_unit-below : (d : Four) → are_hexadecimal d ≡ true → code_unit d < 0x1_0000
-code_unit-below d h = grind (arith, and_parts, four-below, digit-below)
+code_unit-below d h = grind (arith, and_parts, digit-below)
 
 -- A unit that isn't a surrogate is a scalar value.
 unit-scalar : (n : ℕ) → n < 0x1_0000 → is_surrogate n ≡ false → scalar n
@@ -44,7 +44,7 @@ spelling-scalar last rest h k = inl (lit< tt)
 pub spellings-scalars : (ps : List Spelling) (rest : List ℕ) → AreSpellings ps rest → All scalar (spellings_before ps rest) → All scalar (map spelling_character ps)
 spellings-scalars [] rest h k = All-nil scalar
 spellings-scalars (p ∷ ps) rest h k =
-    grind (arith, All-cons, spelling-scalar, rest-scalars,
+    grind (arith, spelling-scalar,
     spellings-scalars ps rest h.1 (rest-scalars (spelling_text p) (spellings_before ps rest) k))
 
 -- A text of scalar values means a text of scalar values.

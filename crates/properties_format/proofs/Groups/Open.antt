@@ -29,7 +29,7 @@ ending_backslashes-after x c y h =
 
 -- A number is odd exactly if the number before it isn't.
 odd-next : (n : ℕ) → (suc n % 2 == 1) ≡ not (n % 2 == 1)
-odd-next n = grind (arith, eqb_tells)
+odd-next n = grind (arith)
 
 -- A backslash at the end makes a line open if it wasn't, and not open if it was.
 pub is_open-backslash : (x : List ℕ) → is_open (x ++ backslash ∷ []) ≡ not (is_open x)
@@ -53,7 +53,7 @@ is_open-after x c y h = ap (λ v. v % 2 == 1) (ending_backslashes-after x c y h)
 
 -- A blank isn't a backslash.
 pub blank-other : (c : ℕ) → is_blank c ≡ true → (c == backslash) ≡ false
-blank-other c h = grind (arith, eqb_tells)
+blank-other c h = grind (arith)
 
 -- ---- the last character
 

@@ -4,10 +4,10 @@ use Rattle.properties_format.specs.Encoding.{Encoding}
 use Rattle.properties_format.specs.Computed.Encoding.{decoded_of}
 use Rattle.properties_format.specs.Lines.{InputEnd, end, fault, more, Ended, Line, Lines, line_ends, numbered, numbered_lines}
 use Rattle.properties_format.specs.Computed.Lines.{lines_of}
-use Rattle.properties_format.specs.Groups.{AreWhole, lines_in, last_group, IsGroups, joined, first_number}
+use Rattle.properties_format.specs.Groups.{AreWhole, lines_in, last_group, IsGroups, first_number}
 use Rattle.properties_format.specs.Computed.Groups.{groups_of}
 use Rattle.properties_format.specs.Items.{Entry, NumbersAscend, Outcome, ignored, given, broken, last_entries}
-use Rattle.properties_format.specs.Computed.Items.{outcome_of, followed, entries_of, items_of}
+use Rattle.properties_format.specs.Computed.Items.{followed, entries_of, items_of}
 use Rattle.properties_format.proofs.Groups.Meets.{groups_of-meets}
 
 -- the numbers of the lines ascend, start above low, and are at most high
@@ -95,7 +95,7 @@ last-ascend low high n ending h k = tt
 entries-ascend : (low high n : ℕ) (ending : InputEnd) (gs : List (List Line)) → high ≤ n + last_line ending → FirstsWithin low high gs → NumbersAscend low (entries_of n ending gs)
 entries-ascend low high n ending [] h k = last-ascend low high n ending h k
 entries-ascend low high n ending (g ∷ gs) h k =
-    grind (arith, followed-ascend, ascend-lower, entries-ascend (first_number g) high n ending gs h k.1)
+    grind (arith, ascend-lower, entries-ascend (first_number g) high n ending gs h k.1)
 
 -- The numbers of the entries of lines after n line ends ascend strictly, and are at least n + 1.
 pub lines-ascend : (n : ℕ) (lines : Lines) (ending : InputEnd)

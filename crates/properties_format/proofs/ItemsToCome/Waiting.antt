@@ -1,7 +1,5 @@
 -- Which bytes decide what comes next: whether there is a byte order mark at the front, or an LF after a CR.
-use Rattle.std.proofs.Common.{◌≡◌, ◌==◌, ℕ, true, false, List, [], ◌∷◌, refl, inl, inr, arith}
-use Rattle.std.proofs.lemmas.Bool.Decides.{eqb_tells}
-use Rattle.std.proofs.Math.Bool.{and-false}
+use Rattle.std.proofs.Common.{◌≡◌, ℕ, true, false, List, [], ◌∷◌, refl, arith}
 use Rattle.properties_format.specs.Encoding.{Encoding, windows_1252, utf_16le, utf_16be, byte_order_mark}
 use Rattle.properties_format.specs.Computed.Waiting.{awaits_bom}
 use Rattle.properties_format.specs.Cut.{HoldsNoLineEndUnit}
@@ -46,11 +44,11 @@ front-ef_bb e = (refl, (refl, (refl, tt)))
 
 -- for one byte that waits for a byte order mark
 front-one : (e : Encoding) (b : ℕ) → awaits_bom (b ∷ []) ≡ true → IsPlainFront e (b ∷ [])
-front-one e b h = grind (arith, eqb_tells, front-ef, front-fe, front-ff)
+front-one e b h = grind (arith)
 
 -- for two bytes that wait for a byte order mark
 front-two : (e : Encoding) (b c : ℕ) → awaits_bom (b ∷ c ∷ []) ≡ true → IsPlainFront e (b ∷ c ∷ [])
-front-two e b c h = grind (arith, eqb_tells, front-ef_bb, and-false)
+front-two e b c h = grind (arith)
 
 -- Bytes that wait for a byte order mark contain none, and contain no line end.
 pub waiting-front : (e : Encoding) (b : List ℕ) → awaits_bom b ≡ true → IsPlainFront e b
@@ -61,4 +59,4 @@ waiting-front e (b ∷ c ∷ d ∷ more) h = let f : awaits_bom (b ∷ c ∷ d �
 
 -- A reader that still waits for a byte order mark when nothing more comes holds no line end.
 pub waiting-no_end : (s : ReaderState) → s.is_done ≡ false → awaits_bom s.held ≡ true → HoldsNoEnd (after_decided s)
-waiting-no_end s h k = grind (arith, waiting-front)
+waiting-no_end s h k = grind (arith)

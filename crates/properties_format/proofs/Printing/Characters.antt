@@ -4,7 +4,6 @@ use Rattle.std.specs.Prelude.{Some, is_some, unwrap_or, nat_lt}
 use Rattle.std.specs.Char.{digit_char}
 use Rattle.std.proofs.lemmas.Bool.{cond_both, and_from, and_parts}
 use Rattle.std.proofs.lemmas.Str.{encode_ascii}
-use Rattle.std.proofs.lemmas.Bool.Decides.{nat_tests}
 use Rattle.properties_format.specs.Text.{scalar, line_ending_text, LineEnding, crlf, is_blank, space, backslash}
 use Rattle.properties_format.specs.Encoding.{Encoding, windows_1252, encoded, one_byte}
 use Rattle.properties_format.specs.Entries.{Content, comment, pair}
@@ -117,11 +116,11 @@ pub letter_escape-ascii : (c : ℕ) → AreAscii (letter_escape c)
 letter_escape-ascii c = (lit< tt, (letter c, tt))
   where
     letter : (c : ℕ) → cond (c == 0x09) 0x74 (cond (c == 0x0a) 0x6e (cond (c == 0x0c) 0x66 0x72)) < 0x80
-    letter c = grind (arith, cond_both)
+    letter c = grind (arith)
 
 -- A character that is escaped with a backslash is ASCII.
 pub special-ascii : (c : ℕ) → is_special c ≡ true → c < 0x80
-special-ascii c h = grind (arith, nat_tests)
+special-ascii c h = grind (arith)
 
 -- A character that may be written unescaped can be encoded.
 may_be_unescaped-encodable : (e : Encoding) (only : Bool) (c : ℕ) → may_be_unescaped e only c ≡ true → is_some (encoded e c) ≡ true
@@ -182,7 +181,7 @@ printed_key-encodable e only first key =
 
 -- a blank is an ASCII character
 pub blank-ascii : (c : ℕ) → is_blank c ≡ true → c < 0x80
-blank-ascii c h = grind (arith, nat_tests)
+blank-ascii c h = grind (arith)
 
 -- blanks are an ASCII text
 pub blanks-ascii : (x : List ℕ) → AreBlanks x → AreAscii x
@@ -191,13 +190,13 @@ blanks-ascii (c ∷ x) h = (blank-ascii c h.0, blanks-ascii x h.1)
 
 -- A good separator is an ASCII text.
 pub good_separator-ascii : (separator : List ℕ) → IsGoodSeparator separator → AreAscii separator
-good_separator-ascii separator (inl g) = grind (arith, AreAscii-append, blanks-ascii, nat_tests)
+good_separator-ascii separator (inl g) = grind (arith, AreAscii-append, blanks-ascii)
 good_separator-ascii separator (inr g) = blanks-ascii separator g.blank
 
 -- A printed line can be encoded if its separator is good.
 pub printed_text-encodable : (e : Encoding) (s : Settings) (first : Bool) (line : Content) → IsGoodSeparator s.kv_separator → AreEncodable e (printed_text e s first line)
 printed_text-encodable e s first (comment text) g =
-    grind (arith, AreEncodable-append, printed_characters-encodable, AreEncodable-ascii, line_end-ascii)
+    grind (arith, AreEncodable-append, printed_characters-encodable)
 printed_text-encodable e s first (pair key value) g =
     AreEncodable-append e (printed_key e s.ascii_only first key)
     (s.kv_separator ++ (printed_characters e s.ascii_only in_key_or_value value ++ line_ending_text s.line_ending)) (printed_key-encodable e s.ascii_only first key)

@@ -9,7 +9,7 @@ use Rattle.properties_format.specs.Encoding.{Encoding, output_encoding, encoded,
 use Rattle.properties_format.specs.Computed.Encoding.{pieces_of}
 use Rattle.properties_format.specs.Entries.{Content, comment, pair}
 use Rattle.properties_format.specs.Settings.{Settings}
-use Rattle.properties_format.specs.Printing.{Place, in_key_or_value, in_comment, in_prefix, unicode_escape, printed_character, printed_characters, encoded_text, is_bom_like, with_first_escaped}
+use Rattle.properties_format.specs.Printing.{Place, in_key_or_value, printed_character, printed_characters, encoded_text, is_bom_like, with_first_escaped}
 use Rattle.properties_format.specs.Printing.{printed_key, printed_text}
 use Rattle.properties_format.specs.Writing.{Call, comment_call, pair_call, prefix_call, separator_call, ending_call, flush_call, ascii_only_call, is_empty, settings_after_call, written_line, lines_with, AreOfScalars, AreGoodSettings}
 use Rattle.properties_format.proofs.Encodings.Pieces.{pieces_of-nil}
@@ -71,7 +71,7 @@ ContentScalars (pair key value) = All scalar key × All scalar value
 printed-scalars : (e : Encoding) (s : Settings) (first : Bool) (line : Content) → AreGoodSettings s → ContentScalars line → AllByRecursion scalar (printed_text e s first line)
 unfolding ContentScalars
 printed-scalars e s first (comment text) g h =
-    grind (arith, scalars-append, printed_characters-scalars, recursion_from_All, ascii-scalars, line_end-ascii)
+    grind (arith, scalars-append, printed_characters-scalars, recursion_from_All)
 printed-scalars e s first (pair key value) g h =
     scalars-append (printed_key e s.ascii_only first key)
     (s.kv_separator ++ (printed_characters e s.ascii_only in_key_or_value value ++ line_ending_text s.line_ending))

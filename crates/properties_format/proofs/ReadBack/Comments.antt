@@ -11,10 +11,8 @@ use Rattle.properties_format.specs.Lines.{HoldsNoLineEnd}
 use Rattle.properties_format.specs.Groups.{is_comment_line}
 use Rattle.properties_format.specs.Split.{AreBlanks}
 use Rattle.properties_format.specs.Computed.Split.{trimmed}
-use Rattle.properties_format.specs.Escapes.{Spelling, itself, spelling_text, spelling_character, spellings_before, means}
-use Rattle.properties_format.specs.Computed.Escapes.{meaning_of}
+use Rattle.properties_format.specs.Escapes.{Spelling, itself, spelling_text, spelling_character, spellings_before}
 use Rattle.properties_format.specs.Entries.{comment}
-use Rattle.properties_format.specs.Computed.Items.{comment_outcome, split_outcome}
 use Rattle.properties_format.specs.Settings.{IsGoodPrefix}
 use Rattle.properties_format.specs.Printing.{in_comment, in_prefix, unicode_escape, may_be_unescaped, literal, printed_character, printed_characters}
 use Rattle.properties_format.specs.Writing.{tail_of, HoldsNoBackslash}
@@ -88,7 +86,7 @@ literal-ascii e only c h = cond-true (may_be_unescaped e only c) (c ∷ []) (uni
 
 -- A comment sign is ASCII, and isn't a line end.
 pub sign-ascii : (c : ℕ) → is_comment_sign c ≡ true → (c < 0x80) × (is_line_end c ≡ false)
-sign-ascii c h = (grind (arith, nat_tests), grind (arith, nat_tests))
+sign-ascii c h = (grind (arith), grind (arith, nat_tests))
 
 -- The blanks and the comment sign of a prefix are printed unescaped.
 pub prefix-printed : (e : Encoding) (only : Bool) (indent : List ℕ) (sign : ℕ) (tail : List ℕ) → AreBlanks indent → is_comment_sign sign ≡ true
@@ -119,8 +117,7 @@ comment_line-after (c ∷ indent) sign rest b m = rw b.0 (comment_line-after ind
 comment-at : (indent : List ℕ) (sign : ℕ) (rest content : List ℕ) → AreBlanks indent → is_comment_sign sign ≡ true → ArePlainlyPrinted rest content
     → IsReadAs (indent ++ (sign ∷ rest)) (comment (trimmed content))
 comment-at indent sign rest content b m s =
-    grind (arith, cons-front, plain-append, blanks-plain, sign-ascii, comment_line-after, split_of-comment,
-    meaning_of-trimmed)
+    grind (arith, cons-front, plain-append, blanks-plain, comment_line-after, split_of-comment, meaning_of-trimmed)
 
 -- A comment under a good prefix without a backslash.
 pub comment-read : (e : Encoding) (only : Bool) (prefix text : List ℕ) → IsGoodPrefix prefix → HoldsNoBackslash prefix → AllByRecursion scalar prefix → AllByRecursion scalar text

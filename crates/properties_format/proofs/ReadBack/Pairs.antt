@@ -50,7 +50,7 @@ key-printed e only first key h =
 
 -- A separator isn't a backslash or a line end.
 separator-other : (c : ℕ) → is_separator c ≡ true → ((c == backslash) ≡ false) × (is_line_end c ≡ false)
-separator-other c h = (grind (arith, nat_tests), grind (arith, nat_tests))
+separator-other c h = (grind (arith), grind (arith, nat_tests))
 
 -- A quiet text: it contains no backslash and no line end.
 pub record IsQuiet (x : List ℕ) : Type 0 where
@@ -68,7 +68,7 @@ quiet-append x y h k = record { slashes = go x y h.slashes k.slashes; plain = pl
 -- Blanks contain no line end.
 pub blanks-plain : (x : List ℕ) → AreBlanks x → HoldsNoLineEnd x
 blanks-plain [] h = tt
-blanks-plain (c ∷ x) h = (grind (arith, nat_tests), blanks-plain x h.1)
+blanks-plain (c ∷ x) h = (grind (arith), blanks-plain x h.1)
 
 -- Blanks contain no backslash.
 blanks-slashes : (x : List ℕ) → AreBlanks x → HoldsNoBackslash x

@@ -1,9 +1,9 @@
 -- What is printed for a character is a spelling of that character.
-use Rattle.std.proofs.Common.{◌≡◌, ◌⊎◌, ℕ, ◌<◌, ◌≤◌, ◌==◌, ◌||◌, true, false, List, [], ◌∷◌, ◌++◌, refl, sym, ◌∙◌, inl, inr, arith, eqb-true, ltb-true, ltb-false, le-ltb, subst, ap₂}
-use Rattle.std.specs.Prelude.{Bool, nat_lt, nat_le}
-use Rattle.std.proofs.lemmas.Bool.{cases_Bool, and_left, and_right, or_from, or_cases, or_parts, lt-leb, cond_both}
+use Rattle.std.proofs.Common.{◌≡◌, ◌⊎◌, ℕ, ◌<◌, ◌≤◌, ◌==◌, ◌||◌, true, false, List, [], ◌∷◌, ◌++◌, refl, sym, ◌∙◌, inl, inr, arith, eqb-true, ltb-true, ltb-false, subst, ap₂}
+use Rattle.std.specs.Prelude.{Bool, nat_lt}
+use Rattle.std.proofs.lemmas.Bool.{cases_Bool, or_cases, or_parts, cond_both}
 use Rattle.std.proofs.lemmas.Bool.Decides.{nat_tests}
-use Rattle.properties_format.specs.Text.{scalar, tab, line_feed, form_feed, carriage_return, space, backslash, is_blank, is_line_end, is_comment_sign, is_separator}
+use Rattle.properties_format.specs.Text.{scalar, line_feed, carriage_return, space, backslash, is_blank, is_line_end, is_comment_sign, is_separator}
 use Rattle.properties_format.specs.Encoding.{Encoding}
 use Rattle.properties_format.specs.Escapes.{letter_u, escaped_character, are_hexadecimal, code_unit, is_high, is_low, is_surrogate, pair_character, Spelling, itself, escaped, unicode, surrogates, last, spelling_text, spelling_character, IsSpelling}
 use Rattle.properties_format.specs.Printing.{in_key_or_value, in_comment, unit_escape, high_surrogate, low_surrogate, unicode_escape, may_be_unescaped, literal, is_special, letter_escape, has_letter}
@@ -39,8 +39,8 @@ pub record IsPlainlyPrinted (x : List ℕ) (c : ℕ) : Type 0 where
 
 -- A scalar value isn't a surrogate.
 scalar-no_surrogate : (c : ℕ) → scalar c → is_surrogate c ≡ false
-scalar-no_surrogate c (inl h) = grind (arith, or_from, and_left, lt-leb)
-scalar-no_surrogate c (inr h) = grind (arith, or_from, and_right)
+scalar-no_surrogate c (inl h) = grind (arith)
+scalar-no_surrogate c (inr h) = grind (arith)
 
 abbrev unit-printed : (c : ℕ) → scalar c → c < 0x1_0000 → IsSafelyPrinted (unit_escape c) c
 unit-printed c h k =
@@ -120,11 +120,11 @@ at-character c d x e s = rw (eqb-true c d e) s
 
 -- A backslash and a special character are a safe spelling of that character.
 pub special-printed : (c : ℕ) → is_special c ≡ true → IsSafelyPrinted (backslash ∷ c ∷ []) c
-special-printed c h = escape-printed c c (grind (arith, nat_tests)) (grind (arith, nat_tests)) (grind (arith, nat_tests))
+special-printed c h = escape-printed c c (grind (arith)) (grind (arith, nat_tests)) (grind (arith, nat_tests))
 
 -- A backslash and a letter are a safe spelling of the character that has that letter escape.
 letter-printed : (c : ℕ) → has_letter c ≡ true → IsSafelyPrinted (letter_escape c) c
-letter-printed c h = grind (arith, or_cases, at-character, escape-printed)
+letter-printed c h = grind (arith, escape-printed)
 
 -- ---- keys and values
 
@@ -138,13 +138,13 @@ itself-printed : (c : ℕ) → IsOrdinary c → IsSafelyPrinted (c ∷ []) c
 itself-printed c o =
     let a = o.special in
     let b = o.letter in
-    let plain : is_line_end c ≡ false = grind (arith, nat_tests) in
+    let plain : is_line_end c ≡ false = grind (arith) in
     let d = or_parts (c == backslash) (c == space || (is_separator c || is_comment_sign c)) a in
     record {
       spelling = itself c;
       text = refl;
       character = refl;
-      safe = (d.0, grind (arith, nat_tests), grind (arith, nat_tests), grind (arith, nat_tests), plain);
+      safe = (d.0, grind (arith), grind (arith, nat_tests), grind (arith, nat_tests), plain);
     }
 
 -- Unescaped if that is allowed, otherwise escaped, such a character is safely spelt.

@@ -1,9 +1,9 @@
 -- What a new writer writes doesn't begin like a byte order mark.
-use Rattle.std.proofs.Common.{◌≡◌, ℕ, ◌<◌, ◌==◌, ◌&&◌, ◌||◌, not, Bool, true, false, if◌then◌else◌, List, [], ◌∷◌, ◌++◌, refl, ap, ◌∙◌, append_assoc, arith, lit<, ne_eqb}
+use Rattle.std.proofs.Common.{◌≡◌, ℕ, ◌<◌, ◌==◌, ◌&&◌, not, Bool, true, false, if◌then◌else◌, List, [], ◌∷◌, ◌++◌, refl, ap, ◌∙◌, append_assoc, arith, lit<, ne_eqb}
 use Rattle.std.specs.Prelude.{nat_lt, Some, None}
 use Rattle.std.proofs.lemmas.Bool.{and_left, cond_both}
 use Rattle.properties_format.specs.Text.{backslash, is_blanks, is_comment_sign}
-use Rattle.properties_format.specs.Encoding.{Encoding, begins_with, begins_like_bom, utf_8_bom, utf_16be_bom, utf_16le_bom}
+use Rattle.properties_format.specs.Encoding.{Encoding, begins_with, begins_like_bom}
 use Rattle.properties_format.specs.Split.{AreBlanks}
 use Rattle.properties_format.specs.Entries.{Content, comment, pair}
 use Rattle.properties_format.specs.Settings.{Settings, IsGoodPrefix, IsGoodSeparator}
@@ -33,7 +33,7 @@ begins-cut (m ∷ ms) (b ∷ x) c y h = ap (λ v. (m == b) && v) (begins-cut ms 
 
 -- An ASCII byte and what follows it don't affect the byte order mark.
 pub byte_order_mark-cut : (x : List ℕ) (c : ℕ) (y : List ℕ) → c < 0x80 → begins_like_bom (x ++ (c ∷ y)) ≡ begins_like_bom x
-byte_order_mark-cut x c y h = grind (arith, no-ascii, begins-cut)
+byte_order_mark-cut x c y h = grind (arith)
 
 -- The bytes of a text up to its first ASCII character.
 text-cut : (e : Encoding) (x : List ℕ) (c : ℕ) (y : List ℕ) → c < 0x80 → begins_like_bom (encoded_text e (x ++ (c ∷ y))) ≡ begins_like_bom (encoded_text e x)

@@ -1,7 +1,6 @@
 -- The tests of settings pass for exactly the good settings.
 use Rattle.std.proofs.Common.{◌≡◌, ℕ, not, true, false, List, [], ◌∷◌, ◌++◌, refl, ap, ◌∙◌, inl, inr, arith}
-use Rattle.std.proofs.lemmas.Bool.{cases_Bool, cond-true, cond-false, and_parts, and_from, or_cases, or_left, or_right, not-true, not_from_false}
-use Rattle.std.proofs.lemmas.Bool.Decides.{nat_tests}
+use Rattle.std.proofs.lemmas.Bool.{cases_Bool, cond-true, cond-false, and_parts, and_from, or_left, or_right, not-true, not_from_false}
 use Rattle.properties_format.specs.Text.{is_blank, is_blanks, is_line_end, is_comment_sign, is_separator}
 use Rattle.properties_format.specs.Lines.{HoldsNoLineEnd}
 use Rattle.properties_format.specs.Split.{AreBlanks}
@@ -36,7 +35,7 @@ holds_no_line_end-from (c ∷ x) h = and_from (not (is_line_end c)) (holds_no_li
 
 -- No blank is a comment sign.
 pub blank_not_sign : (c : ℕ) → is_blank c ≡ true → is_comment_sign c ≡ false
-blank_not_sign c h = grind (arith, nat_tests)
+blank_not_sign c h = grind (arith)
 
 -- ---- prefixes
 
@@ -102,7 +101,7 @@ is_signed_separator-from separator g = ap is_signed_separator g.division ∙ div
 -- A separator that passes the other test is good.
 pub IsGoodSeparator-from_test : (separator : List ℕ) → is_good_separator separator ≡ true → IsGoodSeparator separator
 IsGoodSeparator-from_test [] h = cc
-IsGoodSeparator-from_test (c ∷ cs) h = grind (arith, or_cases, IsSignedSeparator-from_test, AreBlanks-from_test)
+IsGoodSeparator-from_test (c ∷ cs) h = grind (arith, IsSignedSeparator-from_test, AreBlanks-from_test)
 
 -- A good separator passes the other test.
 pub is_good_separator-from : (separator : List ℕ) → IsGoodSeparator separator → is_good_separator separator ≡ true

@@ -26,11 +26,11 @@ ends_key-plain c b s = rw b s
 
 -- A character that doesn't end a key is neither a blank nor a separator.
 plain-parts : (c : ℕ) → ends_key c ≡ false → (is_blank c ≡ false) × (is_separator c ≡ false)
-plain-parts c e = (grind (arith, nat_tests), grind (arith, nat_tests))
+plain-parts c e = (grind (arith), grind (arith, nat_tests))
 
 -- A character that ends a key isn't a backslash.
 pub ends_key-backslash : (c : ℕ) → ends_key c ≡ true → (c == backslash) ≡ false
-ends_key-backslash c e = grind (arith, nat_tests)
+ends_key-backslash c e = grind (arith)
 
 -- If the key ends at once, it is empty.
 pub cut_key-ends : (rest : List ℕ) → ends_here rest ≡ true → cut_key rest false ≡ record { key = []; rest = rest }
@@ -46,7 +46,7 @@ cut_key-unit last rest h = rw h refl
 -- Units at the front.
 pub cut_key-units : (us : List KeyUnit) (rest : List ℕ) → AreUnits us rest → cut_key (units_before us rest) false ≡ with_text (units_before us []) (cut_key rest false)
 cut_key-units [] rest h = refl
-cut_key-units (u ∷ us) rest h = grind (arith, cut_key-unit, append_assoc, cut_key-units us rest h.1)
+cut_key-units (u ∷ us) rest h = grind (arith, cut_key-units us rest h.1)
 
 -- A key before what ends it.
 pub cut_key-only : (key rest : List ℕ) → IsKey key rest → ends_here rest ≡ true → cut_key (key ++ rest) false ≡ record { key = key; rest = rest }

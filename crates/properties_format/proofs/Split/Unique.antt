@@ -1,7 +1,6 @@
 -- Each line is blank, a comment or a pair, in exactly one way.
 use Rattle.std.proofs.Common.{◌≡◌, ◌≢◌, ℕ, true, false, List, [], ◌∷◌, ◌++◌, refl, ap, sym, ◌∙◌, inl, inr, append_assoc, append-nil, arith}
 use Rattle.std.proofs.lemmas.Bool.{cases_Bool, both_ways}
-use Rattle.std.proofs.lemmas.Bool.Decides.{nat_tests}
 use Rattle.properties_format.specs.Text.{is_blank, is_comment_sign, is_separator, without_leading_blanks}
 use Rattle.properties_format.specs.Split.{Logical, blank, comment, pair, AreBlanks, begins, IsKey, IsBetween, nothing, blanks, separator, IsSplit}
 use Rattle.properties_format.specs.Computed.Split.{Cut, trimmed, cut_key, past_separator, pair_of, split_full, split_of, ends_key}
@@ -12,7 +11,7 @@ use Rattle.properties_format.proofs.Split.Keys.{ends_here, cut_key-only, IsCut, 
 
 -- A separator isn't a blank.
 pub separator-full : (c : ℕ) → is_separator c ≡ true → is_blank c ≡ false
-separator-full c e = grind (arith, nat_tests)
+separator-full c e = grind (arith)
 
 -- a blank ends a key
 ends_key-blank : (c : ℕ) → is_blank c ≡ true → ends_key c ≡ true
@@ -44,7 +43,7 @@ pub between-value : (between value : List ℕ) → IsBetween between value → p
 between-value between value (nothing e f) = rw (e, f) refl
 between-value between value (blanks h b e f) = ap past_separator (without_leading_blanks-only between value b e) ∙ past_separator-full value f
 between-value between value (separator before sign after e b s d f) =
-    grind (arith, append_assoc, without_leading_blanks-only, separator-full)
+    grind (arith, append_assoc, without_leading_blanks-only)
 
 pub record IsBehind (rest value : List ℕ) : Type 0 where
   pub between : List ℕ
@@ -113,7 +112,7 @@ split_of-meets line = let p : IsPast line (without_leading_blanks line) =
 
 -- A comment sign isn't a blank.
 pub sign-full : (c : ℕ) → is_comment_sign c ≡ true → is_blank c ≡ false
-sign-full c e = grind (arith, nat_tests)
+sign-full c e = grind (arith)
 
 -- a line of blanks
 pub split_of-blank : (line : List ℕ) → AreBlanks line → split_of line ≡ blank

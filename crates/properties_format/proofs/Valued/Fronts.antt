@@ -5,7 +5,6 @@ use Rattle.std.specs.Prelude.{nat_le, if◌then◌else◌}
 use Rattle.std.proofs.Math.Seq.{drop-append_seam}
 use Rattle.std.proofs.lemmas.Bool.{cases_Bool, not-true}
 use Rattle.std.proofs.lemmas.List.{append_cancel_left}
-use Rattle.std.proofs.lemmas.Bool.Decides.{nat_tests}
 use Rattle.properties_format.specs.Text.{backslash, is_blank, is_separator, without_leading_blanks}
 use Rattle.properties_format.specs.Encoding.{Encoding}
 use Rattle.properties_format.specs.Cut.{IsDecodedLine}
@@ -20,7 +19,6 @@ use Rattle.properties_format.specs.Computed.Valued.{without_indent, added_by, he
 use Rattle.properties_format.proofs.Groups.Open.{is_open-backslash, is_open-other, is_open-after, blank-other, open-ends, without_open_backslash-closed}
 use Rattle.properties_format.proofs.Groups.Joined.{joined-comment_line, joined-unmarked, joined-closed}
 use Rattle.properties_format.proofs.Split.Blanks.{begins-front, without_leading_blanks-only, without_leading_blanks-meets}
-use Rattle.properties_format.proofs.Split.Keys.{ends_key-backslash}
 use Rattle.properties_format.proofs.Split.Unique.{separator-full}
 use Rattle.properties_format.proofs.Cut.Byline.{decoded_line-meets, decoded_line-only}
 use Rattle.properties_format.proofs.Valued.Parts.{pair-line, between_in-pair, before_value-pair, comment_line-no_pair}
@@ -163,7 +161,7 @@ may-later a q p v more t (inr z) = inr z
 
 -- A character that ends a key is an ASCII character.
 pub ends_key-ascii : (c : ℕ) → ends_key c ≡ true → c < 0x80
-ends_key-ascii c h = grind (arith, nat_tests)
+ends_key-ascii c h = grind (arith)
 
 -- ---- the head of a line
 
@@ -208,7 +206,7 @@ indent-none false x f = absurd (cc)
 
 -- A head that ends where it may isn't open.
 may-closed : (y q r : List ℕ) → without_open_backslash y ≡ q ++ r → MayEnd q r → is_open q ≡ false
-may-closed y q r s (inl k) = grind (arith, ends-last, is_open-other, ends_key-backslash)
+may-closed y q r s (inl k) = grind (arith, ends-last, is_open-other)
 may-closed y q r s (inr k) = ap is_open (sym (s ∙ ap (λ v. q ++ v) k ∙ append-nil q)) ∙ shut-closed y
 
 -- The size of the head.
@@ -456,7 +454,7 @@ sign-end sign (c ∷ x) s b = blanks-end (c ∷ x) (λ q. cc) b
 pub between-end : (between value : List ℕ) → IsBetween between value → (between ≢ []) × (ends ends_key between ≡ true) ⊎ (between ≡ []) × (value ≡ [])
 between-end between value (nothing a b) = inr (a, b)
 between-end between value (blanks h b a c) = inl (h, blanks-end between h b)
-between-end between value (separator before sign after s b t c d) = grind (arith, right-some, ends-right, sign-end)
+between-end between value (separator before sign after s b t c d) = grind (arith, ends-right, sign-end)
 
 -- What comes before the value of a pair may end a head.
 pub pair-end : (line key value : List ℕ) (h : IsPair line key value) → MayEnd (h.indent ++ (key ++ h.between)) value
@@ -469,10 +467,10 @@ pair-end line key value h = elim (between-end h.between value h.is_between) [
 
 -- What comes before the value of a pair isn't blank.
 pub pair-some : (line key value : List ℕ) (h : IsPair line key value) → ¬ (AreBlanks (h.indent ++ (key ++ h.between)))
-pair-some line key value h = grind (arith, blanks-right, begins-front, append_assoc)
+pair-some line key value h = grind (arith, blanks-right, begins-front)
   where
     all-empty : key ++ h.between ≡ [] → key ++ (h.between ++ value) ≡ []
-    all-empty q = grind (arith, between-end, none-right, no-front)
+    all-empty q = grind (arith, no-front)
 
     of-text : (x : List ℕ) → AreBlanks x → begins is_blank x ≡ false → x ≢ [] → ⊥
     of-text [] b f n = n refl

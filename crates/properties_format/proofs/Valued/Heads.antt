@@ -96,7 +96,7 @@ pub record EndsAscii (e : Encoding) (d w : List ℕ) (c : ℕ) : Type 0 where
 
 -- Bytes whose text ends in an ASCII character are of this form.
 pub ascii-end : (e : Encoding) (d w : List ℕ) (c : ℕ) → is_editable e ≡ true → c < 0x80 → decoded_line e d ≡ w ++ c ∷ [] → EndsAscii e d w c
-ascii-end e d w c ok l s = grind (arith, cut-at_ascii, nothing-decoded, ascii-own)
+ascii-end e d w c ok l s = grind (arith, cut-at_ascii, nothing-decoded)
 
 -- The text of bytes that contain an ASCII character.
 pub ascii-among : (e : Encoding) (u : List ℕ) (c : ℕ) (v : List ℕ) → is_editable e ≡ true → c < 0x80

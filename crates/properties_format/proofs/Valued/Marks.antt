@@ -1,18 +1,16 @@
 -- The encoding in force of a source with a value set is that of the source: the byte order mark stays, and no new one
 -- appears.
-use Rattle.std.proofs.Common.{◌≡◌, ◌<◌, ℕ, ◌==◌, true, false, List, [], ◌∷◌, ◌++◌, refl, ap, sym, ◌∙◌, inl, inr, append_assoc, append-nil, lit<, Bool, arith}
-use Rattle.std.specs.Prelude.{unwrap_or}
-use Rattle.std.proofs.lemmas.Bool.{and_parts, and_from, false_from_ne_true}
-use Rattle.std.proofs.lemmas.Bool.Decides.{nat_tests}
-use Rattle.properties_format.specs.Text.{equals_sign, LineEnding, lf, line_ending_text, is_blanks}
-use Rattle.properties_format.specs.Encoding.{Encoding, byte_order_mark, begins_with, begins_like_bom, utf_8_bom, utf_16be_bom, utf_16le_bom}
+use Rattle.std.proofs.Common.{◌≡◌, ◌<◌, ℕ, ◌==◌, true, false, List, [], ◌∷◌, ◌++◌, refl, ap, sym, ◌∙◌, inl, inr, append_assoc, append-nil, Bool, arith}
+use Rattle.std.proofs.lemmas.Bool.{and_parts, and_from}
+use Rattle.properties_format.specs.Text.{LineEnding, lf, line_ending_text, is_blanks}
+use Rattle.properties_format.specs.Encoding.{Encoding, byte_order_mark, begins_with, begins_like_bom}
 use Rattle.properties_format.specs.Printing.{encoded_text, printed_key}
 use Rattle.properties_format.specs.Body.{HeldLine, held_in, ending_bytes, group_bytes, groups_bytes, last_ending}
 use Rattle.properties_format.specs.Edited.{is_editable}
 use Rattle.properties_format.specs.Valued.{new_pair_bytes, printed_value, value_text, IsFrontOf, IsRevalued, ending_among, IsNewSeparator, IsValueSet}
 use Rattle.properties_format.proofs.Cut.Byline.{decoded_line-only}
 use Rattle.properties_format.proofs.Printing.Characters.{encoded-ascii}
-use Rattle.properties_format.proofs.ReadBack.Unmarked.{byte_order_mark-cut, pair-unmarked}
+use Rattle.properties_format.proofs.ReadBack.Unmarked.{pair-unmarked}
 use Rattle.properties_format.proofs.Body.Groups.{group_bytes-append, AreHeldGroups, held-groups}
 use Rattle.properties_format.proofs.Edited.ByteOrderMarks.{in_force, ending-cut, changed-unmarked, added-unmarked, groups-unmarked}
 use Rattle.properties_format.proofs.Valued.Heads.{ascii-end}
@@ -30,11 +28,11 @@ begins-more (c ∷ m) (d ∷ b) z h =
 
 -- Bytes that begin like a byte order mark still do with more after them.
 like-more : (b z : List ℕ) → begins_like_bom b ≡ true → begins_like_bom (b ++ z) ≡ true
-like-more b z h = grind (arith, begins-more, nat_tests)
+like-more b z h = grind (arith)
 
 -- If bytes don't begin like a byte order mark, neither does their front followed by an ASCII character and any bytes.
 prefix-unmarked : (b z : List ℕ) (c : ℕ) (y : List ℕ) → c < 0x80 → begins_like_bom (b ++ z) ≡ false → begins_like_bom (b ++ c ∷ y) ≡ false
-prefix-unmarked b z c y l h = grind (arith, byte_order_mark-cut, false_from_ne_true, like-more)
+prefix-unmarked b z c y l h = grind (arith, like-more)
 
 -- ---- the last pair has another value
 

@@ -2,7 +2,7 @@
 -- value.
 use Rattle.std.proofs.Common.{◌≡◌, ◌⊎◌, ◌<◌, ℕ, ◌==◌, ◌&&◌, ◌||◌, Bool, true, false, List, [], ◌∷◌, ◌++◌, map, refl, ap, ap₂, sym, ◌∙◌, inl, inr, append_assoc, append-nil, eqb-true, lit<, subst, arith}
 use Rattle.std.specs.List.{AllByRecursion}
-use Rattle.std.proofs.lemmas.Bool.{cond_both, or_parts}
+use Rattle.std.proofs.lemmas.Bool.{cond_both}
 use Rattle.std.proofs.lemmas.Bool.Decides.{nat_tests}
 use Rattle.properties_format.specs.Text.{scalar, space, backslash, is_blank, is_line_end, is_separator}
 use Rattle.properties_format.specs.Encoding.{Encoding}
@@ -17,7 +17,7 @@ use Rattle.properties_format.specs.Valued.{is_free, printed_inside, printed_firs
 use Rattle.properties_format.proofs.Lines.Plain.{plain-append}
 use Rattle.properties_format.proofs.Groups.Open.{is_open-other}
 use Rattle.properties_format.proofs.Escapes.Laws.{IsWhole, AreWhole, meaning_of-all}
-use Rattle.properties_format.proofs.Printing.Characters.{AreAscii, AreEncodable-ascii, printed-encodable, printed-either, unicode_escape-ascii, special-ascii}
+use Rattle.properties_format.proofs.Printing.Characters.{AreAscii, AreEncodable-ascii, printed-encodable, printed-either, unicode_escape-ascii}
 use Rattle.properties_format.proofs.ReadBack.Spellings.{IsSafe, IsSafelyPrinted, special-printed, unicode-printed, in_key_or_value-printed}
 use Rattle.properties_format.proofs.ReadBack.Texts.{safe-whole, safe-plain, safe-closed, safe-begins}
 use Rattle.properties_format.proofs.ReadBack.Bytes.{AreWritable, ascii-scalars, writable-append}
@@ -110,11 +110,11 @@ loosely-closed x y z s o = ap (λ v. is_open (x ++ v)) s.text ∙ are_loose-clos
 
 -- A character that a value may have unescaped isn't a backslash or a line end.
 pub free-plain : (c : ℕ) → is_free c ≡ true → ((c == backslash) ≡ false) × (is_line_end c ≡ false) × (c < 0x80)
-free-plain c h = (grind (arith, nat_tests), grind (arith, nat_tests), grind (arith, nat_tests))
+free-plain c h = (grind (arith), grind (arith, nat_tests), grind (arith, nat_tests))
 
 -- A space and a separator are special.
 pub first-special : (after_blanks : Bool) (c : ℕ) → (c == space || (after_blanks && is_separator c)) ≡ true → is_special c ≡ true
-first-special after_blanks c h = grind (arith, nat_tests)
+first-special after_blanks c h = grind (arith)
 
 -- A character inside a value is loosely spelt.
 inside-loose : (e : Encoding) (only : Bool) (c : ℕ) → scalar c → IsLooselyPrinted (printed_inside e only c) c
@@ -167,7 +167,7 @@ pub record BeginsAfter (after_blanks : Bool) (x : List ℕ) : Type 0 where
 -- A character that isn't escaped at the front.
 free-begins : (after_blanks : Bool) (c : ℕ) (y : List ℕ) → is_free c ≡ true → (c == space || (after_blanks && is_separator c)) ≡ false
     → BeginsAfter after_blanks (c ∷ y)
-free-begins after_blanks c y h k = grind (arith, or_parts, nat_tests)
+free-begins after_blanks c y h k = grind (arith)
 
 -- The first character of a value, before any text.
 first-begins : (e : Encoding) (only : Bool) (after_blanks : Bool) (c : ℕ) (y : List ℕ) → scalar c → BeginsAfter after_blanks (printed_first e only after_blanks c ++ y)
@@ -202,7 +202,7 @@ inside-writable e only c h =
 -- A character at the front of a value can be written.
 first-writable : (e : Encoding) (only : Bool) (after_blanks : Bool) (c : ℕ) → scalar c → AreWritable e (printed_first e only after_blanks c)
 first-writable e only after_blanks c h =
-    grind (arith, cond_both, AreWritable, ascii-writable, special-ascii, first-special, inside-writable)
+    grind (arith, inside-writable)
 
 -- A space as `\u0020` can be written.
 space-writable : (e : Encoding) → AreWritable e (unit_escape space)
@@ -218,4 +218,4 @@ rest-writable e only (c ∷ d ∷ cs) h = writable-append e (printed_inside e on
 pub value-writable : (e : Encoding) (only : Bool) (after_blanks : Bool) (value : List ℕ) → AllByRecursion scalar value → AreWritable e (printed_value e only after_blanks value)
 value-writable e only after_blanks [] h = ascii-writable e [] tt
 value-writable e only after_blanks (c ∷ cs) h =
-    grind (arith, cond_both, AreWritable, space-writable, writable-append, first-writable, rest-writable)
+    grind (arith, writable-append, first-writable, rest-writable)
