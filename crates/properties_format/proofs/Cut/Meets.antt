@@ -9,8 +9,6 @@ use Rattle.properties_format.specs.Cut.{units_of_two, HoldsNoLineEndUnit, line_e
 use Rattle.properties_format.specs.Computed.Lines.{end_before, cr_before, lines_of}
 use Rattle.properties_format.specs.Computed.Cut.{two_before, unit_before, cut_of_two, cut_of}
 use Rattle.properties_format.proofs.Lines.Meets.{lines_of-meets}
-use Rattle.properties_format.proofs.Encodings.PieceEnds.{aligned-nil}
-use Rattle.properties_format.proofs.Cut.Units.{no_end_unit-nil}
 use Rattle.properties_format.proofs.Cut.Two.{unit-plain}
 use Rattle.properties_format.proofs.Cut.Only.{ending-windows_1252, ending-utf_8}
 
@@ -38,11 +36,6 @@ record IsOfTwo (e : Encoding) (unit : ℕ → ℕ → ℕ) : Type 0 where
   whole : (d : List ℕ) → length d % 2 ≡ 0 → IsAligned e d
   even : (d : List ℕ) → IsAligned e d → length d % 2 ≡ 0
   ascii : (c a b : ℕ) → c < 0x80 → unit a b ≡ c → a ∷ b ∷ [] ≡ ascii_bytes e c
-
--- An empty line at the front.
-empty-cut : (e : Encoding) (by : LineEnding) (ls : List Ended) (last : List ℕ) → (by ≡ cr → BeginsWithNoLoneLf ls) → AreCut e ls last
-    → AreCut e (end_before by ls) last
-empty-cut e by ls last k h = (no_end_unit-nil e, aligned-nil e, k, h)
 
 -- An LF at the front.
 lf-meets : (e : Encoding) (d : List ℕ) (lines : Lines) → IsCut e d lines

@@ -1,7 +1,7 @@
 -- The units of concatenated bytes, and bytes none of whose units is a CR or an LF.
-use Rattle.std.proofs.Common.{◌≡◌, ℕ, ◌%◌, ◌<◌, ◌≤◌, ◌==◌, ◌&&◌, true, false, List, [], ◌∷◌, ◌++◌, length, refl, ap, ◌∙◌, arith}
-use Rattle.std.proofs.lemmas.Bool.{or_from, and_right, ne_eqb}
-use Rattle.properties_format.specs.Text.{line_feed, carriage_return, is_line_end}
+use Rattle.std.proofs.Common.{◌≡◌, ℕ, ◌%◌, ◌<◌, ◌==◌, ◌&&◌, true, List, [], ◌∷◌, ◌++◌, length, refl, ap, ◌∙◌, arith}
+use Rattle.std.proofs.lemmas.Bool.{and_right}
+use Rattle.properties_format.specs.Text.{is_line_end}
 use Rattle.properties_format.specs.Lines.{HoldsNoLineEnd}
 use Rattle.properties_format.specs.Utf16.{low_first, high_first}
 use Rattle.properties_format.specs.Encoding.{Encoding, windows_1252, utf_8, utf_16le, utf_16be, IsAligned, ascii_bytes}
@@ -27,11 +27,6 @@ units-append utf_16le x y h = two-append low_first x y h
 units-append utf_16be x y h = two-append high_first x y h
 units-append e x y h = refl
 
--- An empty list of bytes contains no line end unit.
-pub no_end_unit-nil : (e : Encoding) → HoldsNoLineEndUnit e []
-no_end_unit-nil windows_1252 = tt
-no_end_unit-nil e = tt
-
 -- If neither part contains a line end unit, the whole contains none.
 pub no_end_unit-append : (e : Encoding) (x y : List ℕ) → IsAligned e x → HoldsNoLineEndUnit e x → HoldsNoLineEndUnit e y → HoldsNoLineEndUnit e (x ++ y)
 no_end_unit-append e x y a h k = rw (units-append e x y a) (plain-append (units e x) (units e y) h k)
@@ -49,10 +44,6 @@ pub no_end_unit-at : (e : Encoding) (c : ℕ) (x y : List ℕ) → is_line_end c
 no_end_unit-at e c x y h a k = grind (arith, no_end_unit-right)
 
 -- ---- Line ends searched for among the bytes.
-
--- A unit of 80 hexadecimal or more isn't a CR or an LF.
-above-byte : (u : ℕ) → 0x80 ≤ u → is_line_end u ≡ false
-above-byte u h = or_from (u == line_feed) (u == carriage_return) (ne_eqb u line_feed (λ k. omega arith)) (ne_eqb u carriage_return (λ k. omega arith))
 
 -- With the low byte first, a unit is a CR or an LF exactly if its low byte is one and its high byte is 0.
 pub low_first-line_end : (a b : ℕ) → is_line_end (low_first a b) ≡ (b == 0 && is_line_end a)

@@ -9,13 +9,10 @@ use Rattle.properties_format.specs.Computed.Lines.{begins_with_lf}
 use Rattle.properties_format.specs.Cut.{units, HoldsNoLineEndUnit, line_ending_bytes}
 use Rattle.properties_format.specs.Computed.Cut.{decoded_line}
 use Rattle.properties_format.specs.Groups.{is_open, is_comment_line}
-use Rattle.properties_format.specs.Items.{Outcome, broken}
-use Rattle.properties_format.specs.Computed.Items.{followed}
-use Rattle.properties_format.specs.Entries.{Entry}
 use Rattle.properties_format.specs.Body.{HeldLine, HasKey, held_in, last_ending}
 use Rattle.properties_format.specs.Edited.{final_group, is_last_open, is_left_open, is_empty_line}
 use Rattle.properties_format.specs.Computed.Body.{held_of, held_lines_of, has_key, entries_in}
-use Rattle.properties_format.specs.Computed.Edited.{KeyPlace, place_after, last_place, without, IsSound, AreSound, result_by}
+use Rattle.properties_format.specs.Computed.Edited.{KeyPlace, place_after, last_place, without, AreSound, result_by}
 use Rattle.properties_format.proofs.Cut.Steps.{cut_of-line}
 use Rattle.properties_format.proofs.Cut.Only.{cut_of-plain}
 use Rattle.properties_format.proofs.Edited.Made.{last_place-some}
@@ -89,11 +86,6 @@ is_empty_line-push i [] h = refl
 is_empty_line-push i (j ∷ g) h = refl
 
 -- ---- the first malformed escape
-
--- A group without a malformed escape doesn't change the result.
-pub result-sound : (n : ℕ) (o : Outcome) (entries : List Entry) (made : List ℕ) → IsSound o → result_by (followed n o entries) made ≡ result_by entries made
-result-sound n (broken kind) entries made h = absurd h
-result-sound n o entries made h = refl
 
 -- After groups without malformed escapes, the first malformed escape is that of the following groups.
 pub result-after : (n : ℕ) (gs hs : List (List HeldLine)) (made : List ℕ) → AreSound gs

@@ -4,7 +4,6 @@ use Rattle.std.proofs.Common.{◌≡◌, ℕ, ◌<◌, true, false, List, [], �
 use Rattle.std.specs.Char.{encode_utf8}
 use Rattle.std.specs.List.{AllByRecursion}
 use Rattle.std.proofs.lemmas.List.Elements.{recursion_from_All, All-nil, All-cons}
-use Rattle.std.proofs.lemmas.Bool.Decides.{nat_tests}
 use Rattle.std.proofs.lemmas.Option.{none-some, same_Some}
 use Rattle.properties_format.specs.Text.{byte, scalar, replacement}
 use Rattle.properties_format.specs.Pieces.{Piece, piece, characters}
@@ -106,13 +105,9 @@ piece-ascii utf_16be p rest h l = utf_16-ascii high_first (λ c. 0 ∷ c ∷ [])
 replacement-scalar : scalar replacement
 replacement-scalar = inr (omega arith, omega arith)
 
--- A unit of two bytes that isn't a surrogate is a scalar value.
-unit-scalar : (u : ℕ) → u < 0x1_0000 → is_high u ≡ false → is_low u ≡ false → scalar u
-unit-scalar u l h k = grind (arith)
-
 -- The character of a high and a low surrogate is a scalar value.
 pub pair-scalar : (u v : ℕ) → is_high u ≡ true → is_low v ≡ true → scalar (pair_character u v)
-pair-scalar u v h k = grind (arith, nat_tests)
+pair-scalar u v h k = grind (arith)
 
 -- The character of a piece that equals another.
 character-at : (p : Piece) (bytes : List ℕ) (c : ℕ) → p ≡ piece bytes c → scalar c → scalar p.character

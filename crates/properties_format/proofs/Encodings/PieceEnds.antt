@@ -97,19 +97,9 @@ aligned-nil utf_16le = refl
 aligned-nil utf_16be = refl
 aligned-nil e = tt
 
--- An even number of bytes followed by an even number is an even number of bytes.
-even-append : (x y : List ℕ) → IsEven x → IsEven y → IsEven (x ++ y)
-even-append x y h k = let l = length-append x y in omega arith
-
 -- If the whole and its first part are even in number, so is the second part.
 even-back : (x y : List ℕ) → IsEven x → IsEven (x ++ y) → IsEven y
 even-back x y h k = let l = length-append x y in omega arith
-
--- Whole units followed by whole units end at a unit's boundary.
-pub aligned-append : (e : Encoding) (x y : List ℕ) → IsAligned e x → IsAligned e y → IsAligned e (x ++ y)
-aligned-append utf_16le x y h k = even-append x y h k
-aligned-append utf_16be x y h k = even-append x y h k
-aligned-append e x y h k = tt
 
 -- If whole units come first and the whole ends at a unit's boundary, so does the second part.
 pub aligned-back : (e : Encoding) (x y : List ℕ) → IsAligned e x → IsAligned e (x ++ y) → IsAligned e y

@@ -38,15 +38,6 @@ IsSequenceOf bs c = IsWellFormed bs × (c ≡ sequence_character bs)
 next-in : (c : ℕ) → IsIn tail (next c)
 next-in c = (omega arith, omega arith)
 
--- The three bytes of a scalar value from U+0800 to U+FFFF are well-formed.
-three-fits : (c : ℕ) → 0x800 ≤ c → c < 0xd800 ⊎ ((0xe000 ≤ c) × (c < 0x1_0000)) → IsWellFormed ((224 + c / 4096) ∷ next (c / 64) ∷ next c ∷ [])
-three-fits c l (inr h) = inr (inr (inr (inr (inr (inl ((omega arith, omega arith), (next-in (c / 64), (next-in c, tt))))))))
-three-fits c l (inl h) = grind (arith)
-
--- The four bytes of a scalar value from U+10000 on are well-formed.
-four-fits : (c : ℕ) → 0x1_0000 ≤ c → c < 0x11_0000 → IsWellFormed ((240 + c / 262144) ∷ next (c / 4096) ∷ next (c / 64) ∷ next c ∷ [])
-four-fits c l h = grind (arith)
-
 -- From U+0800 on, the bytes of a scalar value are its sequence.
 is_sequence-long : (c : ℕ) → 0x800 ≤ c → scalar c → IsSequenceOf (encode_utf8 c) c
 is_sequence-long c l h = grind (arith, encode-three, encode-four)

@@ -43,14 +43,6 @@ Fine bs = scalar (sequence_character bs) × IsAsciiAlone bs
 ascii-fine : (a : ℕ) → a ≤ 0x7f → Fine (a ∷ [])
 ascii-fine a h = let e : a ≡ a % 2 ^ 7 = omega arith in (inl (omega arith), λ k. ap (λ v. v ∷ []) e)
 
--- This holds for bytes whose character is from U+0080 to U+D7FF.
-low-fine : (bs : List ℕ) → 0x80 ≤ sequence_character bs → sequence_character bs < 0xd800 → Fine bs
-low-fine bs h k = (inl k, λ l. absurd (omega arith))
-
--- This holds for bytes whose character is from U+E000 to U+10FFFF.
-high-fine : (bs : List ℕ) → 0xe000 ≤ sequence_character bs → sequence_character bs < 0x11_0000 → Fine bs
-high-fine bs h k = (inr (h, k), λ l. absurd (omega arith))
-
 -- This holds for every well-formed sequence.
 row-fine : (bs : List ℕ) → IsWellFormed bs → Fine bs
 row-fine bs (inl h) = in-one Fine (from_to 0x00 0x7f) (λ a i. ascii-fine a i.1) bs h

@@ -2,25 +2,24 @@
 use Rattle.std.proofs.Common.{◌≡◌, ◌==◌, ℕ, ◌+◌, ◌*◌, ◌/◌, ◌%◌, ◌<◌, true, false, arith}
 use Rattle.std.specs.Char.{digit_char}
 use Rattle.std.proofs.lemmas.Bool.{and_from, le-leb, lt-ltb}
-use Rattle.std.proofs.lemmas.Bool.Decides.{nat_tests}
 use Rattle.properties_format.specs.Text.{backslash, is_blank, is_separator}
 use Rattle.properties_format.specs.Escapes.{is_hexadecimal, hexadecimal_value, Four, are_hexadecimal, code_unit, is_high, is_low}
 use Rattle.properties_format.specs.Printing.{high_surrogate, low_surrogate}
 
 -- The digit of a number below 16 is a hexadecimal digit.
 pub is_hexadecimal-char : (n : ℕ) → n < 16 → is_hexadecimal (digit_char n) ≡ true
-is_hexadecimal-char n h = grind (arith, nat_tests)
+is_hexadecimal-char n h = grind (arith)
 
 -- The value of that digit is the number.
 pub hexadecimal_value-char : (n : ℕ) → n < 16 → hexadecimal_value (digit_char n) ≡ n
-hexadecimal_value-char n h = grind (arith, nat_tests)
+hexadecimal_value-char n h = grind (arith)
 
 -- A hexadecimal digit isn't a backslash, a blank or a separator.
 pub hexadecimal-plain : (c : ℕ) → is_hexadecimal c ≡ true → ((c == backslash) ≡ false) × (is_blank c ≡ false) × (is_separator c ≡ false)
-hexadecimal-plain c h = (not_backslash c h, grind (arith), grind (arith, nat_tests))
+hexadecimal-plain c h = (not_backslash c h, grind (arith), grind (arith))
   where
     not_backslash : (c : ℕ) → is_hexadecimal c ≡ true → (c == backslash) ≡ false
-    not_backslash c h = grind (arith, nat_tests)
+    not_backslash c h = grind (arith)
 
 -- the four lower-case digits of a unit
 abbrev pub unit_digits : ℕ → Four

@@ -6,8 +6,8 @@ use Rattle.properties_format.specs.Lines.{InputEnd, end, fault, more, Ended, Lin
 use Rattle.properties_format.specs.Computed.Lines.{lines_of}
 use Rattle.properties_format.specs.Groups.{AreWhole, lines_in, last_group, IsGroups, first_number}
 use Rattle.properties_format.specs.Computed.Groups.{groups_of}
-use Rattle.properties_format.specs.Items.{Entry, NumbersAscend, Outcome, ignored, given, broken, last_entries}
-use Rattle.properties_format.specs.Computed.Items.{followed, entries_of, items_of}
+use Rattle.properties_format.specs.Items.{Entry, NumbersAscend, last_entries}
+use Rattle.properties_format.specs.Computed.Items.{entries_of, items_of}
 use Rattle.properties_format.proofs.Groups.Meets.{groups_of-meets}
 
 -- the numbers of the lines ascend, start above low, and are at most high
@@ -74,12 +74,6 @@ groups-within : (low high : ℕ) (ls : List Line) (ending : InputEnd) (gs : List
 groups-within low high ls ending gs g h = rw g.are_groups (firsts-of low high g.whole g.unfinished ending g.are_whole (rw g.are_lines at h))
 
 -- ---- entries
-
--- If a line's number and those after it ascend, so do the numbers of its entry and of the entries after it.
-followed-ascend : (low high number : ℕ) (outcome : Outcome) (rest : List Entry) → low < number → NumbersAscend number rest → NumbersAscend low rest → NumbersAscend low (followed number outcome rest)
-followed-ascend low high number ignored rest h k m = m
-followed-ascend low high number (given content) rest h k m = (h, k)
-followed-ascend low high number (broken kind) rest h k m = (h, tt)
 
 -- Numbers that ascend from above one number ascend from above any lower one.
 ascend-lower : (low less : ℕ) (entries : List Entry) → less < low → NumbersAscend low entries → NumbersAscend less entries

@@ -2,7 +2,6 @@
 use Rattle.std.proofs.Common.{◌≡◌, ◌≢◌, ℕ, ◌==◌, ◌&&◌, Bool, true, false, List, [], ◌∷◌, ◌++◌, map, refl, ap, sym, ◌∙◌, inl, inr, append_assoc, ap₂, arith}
 use Rattle.std.specs.List.{AllByRecursion}
 use Rattle.std.proofs.lemmas.Bool.{cond_both}
-use Rattle.std.proofs.lemmas.Bool.Decides.{nat_tests}
 use Rattle.properties_format.specs.Text.{scalar, backslash, is_blanks, is_line_end, is_separator}
 use Rattle.properties_format.specs.Encoding.{Encoding}
 use Rattle.properties_format.specs.Lines.{HoldsNoLineEnd}
@@ -50,7 +49,7 @@ key-printed e only first key h =
 
 -- A separator isn't a backslash or a line end.
 separator-other : (c : ℕ) → is_separator c ≡ true → ((c == backslash) ≡ false) × (is_line_end c ≡ false)
-separator-other c h = (grind (arith), grind (arith, nat_tests))
+separator-other c h = (grind (arith), grind (arith))
 
 -- A quiet text: it contains no backslash and no line end.
 pub record IsQuiet (x : List ℕ) : Type 0 where

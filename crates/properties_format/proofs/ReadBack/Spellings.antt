@@ -2,7 +2,6 @@
 use Rattle.std.proofs.Common.{◌≡◌, ◌⊎◌, ℕ, ◌<◌, ◌≤◌, ◌==◌, ◌||◌, true, false, List, [], ◌∷◌, ◌++◌, refl, sym, ◌∙◌, inl, inr, arith, eqb-true, ltb-true, ltb-false, subst, ap₂}
 use Rattle.std.specs.Prelude.{Bool, nat_lt}
 use Rattle.std.proofs.lemmas.Bool.{cases_Bool, or_cases, or_parts, cond_both}
-use Rattle.std.proofs.lemmas.Bool.Decides.{nat_tests}
 use Rattle.properties_format.specs.Text.{scalar, line_feed, carriage_return, space, backslash, is_blank, is_line_end, is_comment_sign, is_separator}
 use Rattle.properties_format.specs.Encoding.{Encoding}
 use Rattle.properties_format.specs.Escapes.{letter_u, escaped_character, are_hexadecimal, code_unit, is_high, is_low, is_surrogate, pair_character, Spelling, itself, escaped, unicode, surrogates, last, spelling_text, spelling_character, IsSpelling}
@@ -114,13 +113,9 @@ unicode-plainly c h b =
 escape-printed : (c d : ℕ) → (d == letter_u) ≡ false → is_line_end d ≡ false → escaped_character d ≡ c → IsSafelyPrinted (backslash ∷ d ∷ []) c
 escape-printed c d u l e = record { spelling = escaped d; text = refl; character = e; safe = (u, l) }
 
--- What spells one character spells an equal one.
-at-character : (c d : ℕ) (x : ℕ → List ℕ) → (c == d) ≡ true → IsSafelyPrinted (x d) d → IsSafelyPrinted (x c) c
-at-character c d x e s = rw (eqb-true c d e) s
-
 -- A backslash and a special character are a safe spelling of that character.
 pub special-printed : (c : ℕ) → is_special c ≡ true → IsSafelyPrinted (backslash ∷ c ∷ []) c
-special-printed c h = escape-printed c c (grind (arith)) (grind (arith, nat_tests)) (grind (arith, nat_tests))
+special-printed c h = escape-printed c c (grind (arith)) (grind (arith)) (grind (arith))
 
 -- A backslash and a letter are a safe spelling of the character that has that letter escape.
 letter-printed : (c : ℕ) → has_letter c ≡ true → IsSafelyPrinted (letter_escape c) c
@@ -144,7 +139,7 @@ itself-printed c o =
       spelling = itself c;
       text = refl;
       character = refl;
-      safe = (d.0, grind (arith), grind (arith, nat_tests), grind (arith, nat_tests), plain);
+      safe = (d.0, grind (arith), grind (arith), grind (arith), plain);
     }
 
 -- Unescaped if that is allowed, otherwise escaped, such a character is safely spelt.

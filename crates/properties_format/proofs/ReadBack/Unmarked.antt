@@ -1,9 +1,9 @@
 -- What a new writer writes doesn't begin like a byte order mark.
-use Rattle.std.proofs.Common.{◌≡◌, ℕ, ◌<◌, ◌==◌, ◌&&◌, not, Bool, true, false, if◌then◌else◌, List, [], ◌∷◌, ◌++◌, refl, ap, ◌∙◌, append_assoc, arith, lit<, ne_eqb}
+use Rattle.std.proofs.Common.{◌≡◌, ℕ, ◌<◌, ◌&&◌, not, Bool, true, false, if◌then◌else◌, List, [], ◌∷◌, ◌++◌, refl, ap, ◌∙◌, append_assoc, arith, lit<}
 use Rattle.std.specs.Prelude.{nat_lt, Some, None}
-use Rattle.std.proofs.lemmas.Bool.{and_left, cond_both}
+use Rattle.std.proofs.lemmas.Bool.{cond_both}
 use Rattle.properties_format.specs.Text.{backslash, is_blanks, is_comment_sign}
-use Rattle.properties_format.specs.Encoding.{Encoding, begins_with, begins_like_bom}
+use Rattle.properties_format.specs.Encoding.{Encoding, begins_like_bom}
 use Rattle.properties_format.specs.Split.{AreBlanks}
 use Rattle.properties_format.specs.Entries.{Content, comment, pair}
 use Rattle.properties_format.specs.Settings.{Settings, IsGoodPrefix, IsGoodSeparator}
@@ -15,21 +15,6 @@ use Rattle.properties_format.proofs.ReadBack.Comments.{prefix-printed, sign-asci
 use Rattle.properties_format.proofs.ReadBack.Lines.{line_text, wrote_text, settings_after_call-good}
 
 -- ---- no byte order mark has an ASCII byte
-
--- this number isn't among these
-abbrev HasNot : ℕ → List ℕ → Type 0
-HasNot c [] = Unit {0}
-HasNot c (m ∷ ms) = ((m == c) ≡ false) × HasNot c ms
-
--- A number above 80 hexadecimal isn't an ASCII one.
-no-ascii : (m c : ℕ) → c < 0x80 → 0x80 < m → (m == c) ≡ false
-no-ascii m c h k = ne_eqb m c (λ q. absurd (omega arith))
-
--- A byte order mark can't extend past an ASCII byte.
-begins-cut : (ms x : List ℕ) (c : ℕ) (y : List ℕ) → HasNot c ms → begins_with ms (x ++ (c ∷ y)) ≡ begins_with ms x
-begins-cut [] x c y h = refl
-begins-cut (m ∷ ms) [] c y h = and_left (m == c) (begins_with ms y) h.0
-begins-cut (m ∷ ms) (b ∷ x) c y h = ap (λ v. (m == b) && v) (begins-cut ms x c y h.1)
 
 -- An ASCII byte and what follows it don't affect the byte order mark.
 pub byte_order_mark-cut : (x : List ℕ) (c : ℕ) (y : List ℕ) → c < 0x80 → begins_like_bom (x ++ (c ∷ y)) ≡ begins_like_bom x

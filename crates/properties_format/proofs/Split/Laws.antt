@@ -1,7 +1,6 @@
 -- Facts about split lines, for code that prints or parses them.
 use Rattle.std.proofs.Common.{◌≡◌, ℕ, ◌==◌, true, false, List, [], ◌∷◌, ◌++◌, refl, ap, sym, ◌∙◌, arith}
 use Rattle.std.proofs.lemmas.Bool.{and_parts}
-use Rattle.std.proofs.lemmas.Bool.Decides.{nat_tests}
 use Rattle.properties_format.specs.Text.{backslash, is_blank, is_comment_sign, is_separator}
 use Rattle.properties_format.specs.Split.{Logical, pair, AreBlanks, begins, plain, escaped, IsKey, separator, IsSplit}
 use Rattle.properties_format.specs.Computed.Split.{split_of}
@@ -39,7 +38,7 @@ IsKey-unicode d x rest h k = grind (arith, and_parts, IsKey-escaped, IsKey-digit
 
 -- A separator isn't a comment sign.
 pub separator-sign : (c : ℕ) → is_separator c ≡ true → is_comment_sign c ≡ false
-separator-sign c h = grind (arith, nat_tests)
+separator-sign c h = grind (arith)
 
 -- If the key is empty, what comes before the separator is the line's indentation.
 pub split_of-empty_key : (before : List ℕ) (sign : ℕ) (after value : List ℕ) → AreBlanks before → is_separator sign ≡ true → AreBlanks after

@@ -1,9 +1,8 @@
 -- The encoding in force of a source with a value set is that of the source: the byte order mark stays, and no new one
 -- appears.
-use Rattle.std.proofs.Common.{◌≡◌, ◌<◌, ℕ, ◌==◌, true, false, List, [], ◌∷◌, ◌++◌, refl, ap, sym, ◌∙◌, inl, inr, append_assoc, append-nil, Bool, arith}
-use Rattle.std.proofs.lemmas.Bool.{and_parts, and_from}
+use Rattle.std.proofs.Common.{◌≡◌, ◌<◌, ℕ, true, false, List, [], ◌∷◌, ◌++◌, ap, sym, ◌∙◌, inl, inr, append_assoc, append-nil, Bool, arith}
 use Rattle.properties_format.specs.Text.{LineEnding, lf, line_ending_text, is_blanks}
-use Rattle.properties_format.specs.Encoding.{Encoding, byte_order_mark, begins_with, begins_like_bom}
+use Rattle.properties_format.specs.Encoding.{Encoding, byte_order_mark, begins_like_bom}
 use Rattle.properties_format.specs.Printing.{encoded_text, printed_key}
 use Rattle.properties_format.specs.Body.{HeldLine, held_in, ending_bytes, group_bytes, groups_bytes, last_ending}
 use Rattle.properties_format.specs.Edited.{is_editable}
@@ -18,13 +17,6 @@ use Rattle.properties_format.proofs.Valued.Revalued.{front-ends}
 use Rattle.properties_format.proofs.Valued.Separators.{new_separator-fit}
 
 -- ---- the front of bytes
-
--- Bytes that begin with others still do with more after them.
-begins-more : (m b z : List ℕ) → begins_with m b ≡ true → begins_with m (b ++ z) ≡ true
-begins-more [] b z h = refl
-begins-more (c ∷ m) [] z h = absurd (cc)
-begins-more (c ∷ m) (d ∷ b) z h =
-    let p = and_parts (c == d) (begins_with m b) h in and_from (c == d) (begins_with m (b ++ z)) p.0 (begins-more m b z p.1)
 
 -- Bytes that begin like a byte order mark still do with more after them.
 like-more : (b z : List ℕ) → begins_like_bom b ≡ true → begins_like_bom (b ++ z) ≡ true

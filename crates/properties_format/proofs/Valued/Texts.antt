@@ -3,7 +3,6 @@
 use Rattle.std.proofs.Common.{◌≡◌, ◌⊎◌, ◌<◌, ℕ, ◌==◌, ◌&&◌, ◌||◌, Bool, true, false, List, [], ◌∷◌, ◌++◌, map, refl, ap, ap₂, sym, ◌∙◌, inl, inr, append_assoc, append-nil, eqb-true, lit<, subst, arith}
 use Rattle.std.specs.List.{AllByRecursion}
 use Rattle.std.proofs.lemmas.Bool.{cond_both}
-use Rattle.std.proofs.lemmas.Bool.Decides.{nat_tests}
 use Rattle.properties_format.specs.Text.{scalar, space, backslash, is_blank, is_line_end, is_separator}
 use Rattle.properties_format.specs.Encoding.{Encoding}
 use Rattle.properties_format.specs.Lines.{HoldsNoLineEnd}
@@ -110,7 +109,7 @@ loosely-closed x y z s o = ap (λ v. is_open (x ++ v)) s.text ∙ are_loose-clos
 
 -- A character that a value may have unescaped isn't a backslash or a line end.
 pub free-plain : (c : ℕ) → is_free c ≡ true → ((c == backslash) ≡ false) × (is_line_end c ≡ false) × (c < 0x80)
-free-plain c h = (grind (arith), grind (arith, nat_tests), grind (arith, nat_tests))
+free-plain c h = (grind (arith), grind (arith), grind (arith))
 
 -- A space and a separator are special.
 pub first-special : (after_blanks : Bool) (c : ℕ) → (c == space || (after_blanks && is_separator c)) ≡ true → is_special c ≡ true
