@@ -46,15 +46,7 @@ ascii-fine a h = let e : a ≡ a % 2 ^ 7 = omega arith in (inl (omega arith), λ
 -- This holds for every well-formed sequence.
 row-fine : (bs : List ℕ) → IsWellFormed bs → Fine bs
 row-fine bs (inl h) = in-one Fine (from_to 0x00 0x7f) (λ a i. ascii-fine a i.1) bs h
-row-fine bs (inr (inl h)) = grind (arith)
-row-fine bs (inr (inr (inl h))) = grind (arith)
-row-fine bs (inr (inr (inr (inl h)))) = grind (arith)
-row-fine bs (inr (inr (inr (inr (inl h))))) = grind (arith)
-row-fine bs (inr (inr (inr (inr (inr (inl h)))))) = grind (arith)
-row-fine bs (inr (inr (inr (inr (inr (inr (inl h))))))) = grind (arith)
-row-fine bs (inr (inr (inr (inr (inr (inr (inr (inl h)))))))) = grind (arith)
-row-fine bs (inr (inr (inr (inr (inr (inr (inr (inr (inl h))))))))) = grind (arith)
-row-fine bs (inr (inr (inr (inr (inr (inr (inr (inr (inr h))))))))) = absurd h
+row-fine bs (inr h) = grind arith
 
 -- The character of a well-formed sequence is a scalar value.
 pub sequence-scalar : (bs : List ℕ) → IsWellFormed bs → scalar (sequence_character bs)
