@@ -1,24 +1,11 @@
 -- A character has exactly one well-formed sequence: its encoding.
-use Rattle.std.proofs.Common.{◌≡◌, ℕ, ◌%◌, ◌^◌, ◌≤◌, List, [], ◌∷◌, ap, ◌∙◌, inl, inr, arith}
+use Rattle.std.proofs.Common.{◌≡◌, ℕ, ◌%◌, ◌^◌, ◌≤◌, List, [], ◌∷◌, ap, ◌∙◌, arith}
 use Rattle.std.specs.Char.{encode_utf8}
-use Rattle.properties_format.specs.Utf8.{from_to, tail, IsIn, IsWellFormed, sequence_character}
-use Rattle.properties_format.proofs.Encodings.Utf8Characters.{next, encode-one, encode-two, encode-three, encode-four}
-use Rattle.properties_format.proofs.Encodings.Utf8Sequences.{in-one, in-two, in-three, in-four}
+use Rattle.properties_format.specs.Utf8.{tail, IsIn, IsWellFormed, sequence_character}
+use Rattle.properties_format.proofs.Encodings.Utf8Characters.{encode-one, encode-two, encode-three, encode-four}
 
 abbrev Inverts : List ℕ → Type 0
 Inverts bs = encode_utf8 (sequence_character bs) ≡ bs
-
--- Two lists of two bytes are equal if their bytes are equal.
-two-bytes : (a b c d : ℕ) → a ≡ c → b ≡ d → a ∷ b ∷ [] ≡ c ∷ d ∷ []
-two-bytes a b c d e f = cc
-
--- Two lists of three bytes are equal if their bytes are equal.
-three-bytes : (a b c d e f : ℕ) → a ≡ d → b ≡ e → c ≡ f → a ∷ b ∷ c ∷ [] ≡ d ∷ e ∷ f ∷ []
-three-bytes a b c d e f h k l = cc
-
--- Two lists of four bytes are equal if their bytes are equal.
-four-bytes : (a b c d e f g h : ℕ) → a ≡ e → b ≡ f → c ≡ g → d ≡ h → a ∷ b ∷ c ∷ d ∷ [] ≡ e ∷ f ∷ g ∷ h ∷ []
-four-bytes a b c d e f g h i j k l = cc
 
 -- Encoding the character of a one-byte sequence gives the sequence back.
 invert-one : (a : ℕ) → a ≤ 0x7f → Inverts (a ∷ [])
@@ -38,13 +25,4 @@ invert-four a b c d h k l m n o = grind (arith, encode-four)
 
 -- Encoding the character of a sequence gives the sequence back.
 pub encode-sequence : (bs : List ℕ) → IsWellFormed bs → encode_utf8 (sequence_character bs) ≡ bs
-encode-sequence bs (inl h) = in-one Inverts (from_to 0x00 0x7f) (λ a i. invert-one a i.1) bs h
-encode-sequence bs (inr (inl h)) = in-two Inverts (from_to 0xc2 0xdf) tail (λ a b i j. invert-two a b i.0 i.1 j) bs h
-encode-sequence bs (inr (inr (inl h))) = grind (arith, in-three, invert-three)
-encode-sequence bs (inr (inr (inr (inl h)))) = grind (arith, in-three, invert-three)
-encode-sequence bs (inr (inr (inr (inr (inl h))))) = grind (arith, in-three, invert-three)
-encode-sequence bs (inr (inr (inr (inr (inr (inl h)))))) = grind (arith, in-three, invert-three)
-encode-sequence bs (inr (inr (inr (inr (inr (inr (inl h))))))) = grind (arith, in-four, invert-four)
-encode-sequence bs (inr (inr (inr (inr (inr (inr (inr (inl h)))))))) = grind (arith, in-four, invert-four)
-encode-sequence bs (inr (inr (inr (inr (inr (inr (inr (inr (inl h))))))))) = grind (arith, in-four, invert-four)
-encode-sequence bs (inr (inr (inr (inr (inr (inr (inr (inr (inr h))))))))) = absurd h
+encode-sequence bs h = grind (arith, invert-one, invert-two, invert-three, invert-four)
