@@ -6,7 +6,7 @@ use mathlib.Core.List.{reverse_aux}
 use Rattle.properties_format.specs.Text.{backslash, is_blank, is_separator, is_comment_sign, without_leading_blanks}
 use Rattle.properties_format.specs.Windows1252.{windows_1252_character}
 use Rattle.properties_format.specs.Groups.{leading_backslashes, ending_backslashes, is_open, begins_with_comment_sign, is_comment_line, without_last, without_open_backslash, addition, joined_after, joined, last_group}
-use Rattle.properties_format.specs.Lines.{Line, InputEnd, end, fault, more}
+use Rattle.properties_format.specs.Lines.{Line, InputEnd}
 use Rattle.properties_format.specs.Split.{comment, pair}
 use Rattle.properties_format.specs.Encoding.{windows_1252}
 use Rattle.properties_format.specs.Pieces.{characters}
@@ -61,8 +61,7 @@ leading-blanks [] = refl
 leading-blanks (b ∷ d) = grind (arith, same-blank, leading-blanks d)
 
 unless : (b : ℕ) (d : List ℕ) → unless_last_blank (windows_1252_character b) (characters_of d) ≡ characters_of (unless_last_blank b d)
-unless b [] = elim (cases_Bool (is_blank b)) [ inl t ↦ rw (same-blank b, t) refl | inr f ↦ rw (same-blank b, f) refl ]
-unless b (c ∷ d) = refl
+unless b d = grind (arith, same-blank)
 
 trailing-blanks : (d : List ℕ) → without_trailing_blanks (characters_of d) ≡ characters_of (without_trailing_blanks d)
 trailing-blanks [] = refl
@@ -88,8 +87,7 @@ pub opens : (d : List ℕ) → is_open (characters_of d) ≡ is_open d
 opens d = ap (λ n. n % 2 == 1) (ending d)
 
 sign : (d : List ℕ) → begins_with_comment_sign (characters_of d) ≡ begins_with_comment_sign d
-sign [] = refl
-sign (b ∷ d) = same-comment_sign b
+sign d = grind (arith, same-comment_sign)
 
 pub comments : (d : List ℕ) → is_comment_line (characters_of d) ≡ is_comment_line d
 comments d = ap begins_with_comment_sign (leading-blanks d) ∙ sign (without_leading_blanks d)
@@ -118,18 +116,13 @@ after [] = refl
 after (l ∷ ls) = ap₂ (λ x y. x ++ y) (adds l.text) (after ls) ∙ sym (map-append windows_1252_character (addition l.text) (joined_after ls))
 
 joined-group : (ls : List Line) → joined (map decoded ls) ≡ characters_of (joined ls)
-joined-group [] = refl
-joined-group (l ∷ ls) = grind (arith, comments, closed, after, map-append)
+joined-group ls = grind (arith, comments, closed, after, map-append)
 
 closing : (p : List Line) (l : Line) → closes (map decoded p) (decoded l) ≡ closes p l
-closing [] l = rw (comments l.text, opens l.text) refl
-closing (m ∷ p) l = rw (opens l.text) refl
+closing p l = grind (arith, comments, opens)
 
 last-one : (p : List Line) (e : InputEnd) → last_group (map decoded p) e ≡ map (map decoded) (last_group p e)
-last-one [] e = refl
-last-one (l ∷ p) end = refl
-last-one (l ∷ p) fault = refl
-last-one (l ∷ p) more = refl
+last-one p e = grind (arith)
 
 after-group : (p ls : List Line) (e : InputEnd) → groups_after (map decoded p) (map decoded ls) e ≡ map (map decoded) (groups_after p ls e)
 after-group p [] e = last-one p e
@@ -151,8 +144,7 @@ cuts (b ∷ d) true = ap (with_front (windows_1252_character b)) (cuts d false)
 cuts (b ∷ d) false = grind (arith, same-backslash, same-end, cuts d true, cuts d false)
 
 past : (d : List ℕ) → past_separator (characters_of d) ≡ characters_of (past_separator d)
-past [] = refl
-past (b ∷ d) = grind (arith, same-separator, leading-blanks)
+past d = grind (arith, same-separator, leading-blanks)
 
 pairs : (c : Cut) → pair_of (cut_text c) ≡ in_text (pair_of c)
 unfolding cut_text

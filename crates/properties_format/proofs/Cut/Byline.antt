@@ -1,8 +1,8 @@
 -- Splitting commutes with decoding: the lines that are found in undecoded bytes and decoded one by one are the lines of
 -- the decoded text.
-use Rattle.std.proofs.Common.{◌≡◌, ℕ, ◌<◌, ◌⊎◌, true, List, [], ◌∷◌, ◌++◌, refl, ap, ap₂, sym, ◌∙◌, subst, inl, inr, lit<, append_assoc, arith}
+use Rattle.std.proofs.Common.{◌≡◌, ℕ, ◌<◌, ◌⊎◌, true, List, [], ◌∷◌, ◌++◌, refl, ap, ap₂, sym, ◌∙◌, subst, inl, inr, append_assoc, arith}
 use Rattle.std.proofs.lemmas.Bool.{cases_Bool}
-use Rattle.properties_format.specs.Text.{line_feed, carriage_return, is_line_end, LineEnding, lf, cr, crlf, line_ending_text}
+use Rattle.properties_format.specs.Text.{is_line_end, LineEnding, line_ending_text}
 use Rattle.properties_format.specs.Lines.{Ended, Lines, put_together, HoldsNoLineEnd, BeginsWithNoLoneLf, AreLines, IsLines}
 use Rattle.properties_format.specs.Pieces.{characters}
 use Rattle.properties_format.specs.Encoding.{Encoding, IsAligned, IsDecoded, byte_order_mark}
@@ -25,9 +25,7 @@ use Rattle.properties_format.proofs.Cut.Meets.{cut_of-meets}
 -- A line and its end at the front, decoded.
 pub decoded-line : (e : Encoding) (text : List ℕ) (by : LineEnding) (y : List ℕ) → IsAligned e text
     → decoded_line e (text ++ (line_ending_bytes e by ++ y)) ≡ decoded_line e text ++ (line_ending_text by ++ decoded_line e y)
-decoded-line e text lf y a = characters-cut_ascii e line_feed text y (lit< tt) a
-decoded-line e text cr y a = characters-cut_ascii e carriage_return text y (lit< tt) a
-decoded-line e text crlf y a = grind (arith, append_assoc, characters-cut_ascii, pieces_of-ascii)
+decoded-line e text by y h = grind (arith, characters-cut_ascii, append_assoc, pieces_of-ascii)
 
 -- Lines of bytes put together decode to their texts put together.
 decoded-together : (e : Encoding) (ls : List Ended) (last : List ℕ) → AreCut e ls last
@@ -60,8 +58,7 @@ nothing-decoded e (b ∷ d) h = let k = ap characters (pieces_of-step e b d) in 
 
 -- If the first line of bytes isn't an empty one that an LF ends, neither is the first decoded line.
 no_lone-decoded : (e : Encoding) (ls : List Ended) → BeginsWithNoLoneLf ls → BeginsWithNoLoneLf (decoded_ended e ls)
-no_lone-decoded e [] h = tt
-no_lone-decoded e (l ∷ ls) h = λ k. h (nothing-decoded e l.text k.0, k.1)
+no_lone-decoded e ls h = grind (arith, nothing-decoded)
 
 -- Lines of bytes, decoded one by one, are lines of a text.
 lines-decoded : (e : Encoding) (ls : List Ended) (last : List ℕ) → AreCut e ls last → AreLines (decoded_ended e ls) (decoded_line e last)

@@ -1,7 +1,7 @@
 -- The computed lines of some bytes are lines of these bytes.
 use Rattle.std.proofs.Common.{◌≡◌, ℕ, ◌%◌, ◌==◌, ◌<◌, false, List, [], ◌∷◌, ◌++◌, length, refl, ap₂, sym, ◌∙◌, subst, inl, inr, arith, lit<, eqb-true}
 use Rattle.std.proofs.lemmas.Bool.{cases_Bool, or_cases}
-use Rattle.properties_format.specs.Text.{line_feed, carriage_return, is_line_end, LineEnding, lf, cr, crlf, line_ending_text}
+use Rattle.properties_format.specs.Text.{line_feed, carriage_return, is_line_end, LineEnding, lf, cr, line_ending_text}
 use Rattle.properties_format.specs.Lines.{Ended, Lines, put_together, HoldsNoLineEnd, BeginsWithNoLoneLf, AreLines, IsLines}
 use Rattle.properties_format.specs.Utf16.{low_first, high_first}
 use Rattle.properties_format.specs.Encoding.{Encoding, windows_1252, utf_8, utf_16le, utf_16be, IsAligned, ascii_bytes}
@@ -51,10 +51,7 @@ cr-apart e ls last d k h = grind (arith)
 cr-meets-line : (e : Encoding) (text : List ℕ) (by : LineEnding) (ls : List Ended) (last d : List ℕ)
     → IsCut e d (record { ended = record { text = text; by = by } ∷ ls; last = last })
     → IsCut e (ascii_bytes e carriage_return ++ d) (record { ended = cr_before (record { text = text; by = by } ∷ ls); last = last })
-cr-meets-line e [] lf ls last d h = grind (arith)
-cr-meets-line e [] cr ls last d h = cr-apart e (record { text = []; by = cr } ∷ ls) last d (λ p. absurd (cc)) h
-cr-meets-line e [] crlf ls last d h = cr-apart e (record { text = []; by = crlf } ∷ ls) last d (λ p. absurd (cc)) h
-cr-meets-line e (c ∷ cs) by ls last d h = cr-apart e (record { text = c ∷ cs; by = by } ∷ ls) last d (λ p. absurd (cc)) h
+cr-meets-line e text by ls last d h = grind (arith)
 
 -- A CR before any lines, or before none.
 cr-meets : (e : Encoding) (ended : List Ended) (last d : List ℕ) → IsCut e d (record { ended = ended; last = last })
@@ -65,8 +62,7 @@ cr-meets e (l ∷ ls) last d h = cr-meets-line e l.text l.by ls last d h
 -- Any other unit at the front.
 two-meets : (e : Encoding) (unit : ℕ → ℕ → ℕ) (a b : ℕ) (ended : List Ended) (last d : List ℕ) → IsOfTwo e unit → is_line_end (unit a b) ≡ false
     → IsCut e d (record { ended = ended; last = last }) → IsCut e (a ∷ b ∷ d) (two_before a b (record { ended = ended; last = last }))
-two-meets e unit a b [] last d t p h = grind (arith)
-two-meets e unit a b (l ∷ ls) last d t p h = grind (arith)
+two-meets e unit a b ended last d h k m = grind (arith)
 
 -- A line end unit is a CR or an LF.
 unit-meets : (e : Encoding) (unit : ℕ → ℕ → ℕ) (a b : ℕ) (lines : Lines) (d : List ℕ) → IsOfTwo e unit

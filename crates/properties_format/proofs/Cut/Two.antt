@@ -1,7 +1,7 @@
 -- The lines of bytes whose units are two bytes each.
-use Rattle.std.proofs.Common.{◌≡◌, ℕ, ◌%◌, false, List, [], ◌∷◌, ◌++◌, length, refl, ap, ◌∙◌, arith, append_assoc}
+use Rattle.std.proofs.Common.{◌≡◌, ℕ, ◌%◌, false, List, [], ◌∷◌, ◌++◌, length, refl, ap, ◌∙◌, arith}
 use Rattle.std.proofs.lemmas.Bool.{cond-false}
-use Rattle.properties_format.specs.Text.{line_feed, carriage_return, is_line_end, LineEnding, lf, cr, crlf}
+use Rattle.properties_format.specs.Text.{line_feed, carriage_return, is_line_end, LineEnding, cr}
 use Rattle.properties_format.specs.Lines.{Ended, Lines, HoldsNoLineEnd, BeginsWithNoLoneLf}
 use Rattle.properties_format.specs.Computed.Lines.{end_before, before}
 use Rattle.properties_format.specs.Encoding.{Encoding, ascii_bytes}
@@ -27,9 +27,7 @@ two-plain unit d h = refl
 two-end : (e : Encoding) (unit : ℕ → ℕ → ℕ) (by : LineEnding) (y : List ℕ) (ls : List Ended) (last : List ℕ) → ReadsEnds e unit
     → (by ≡ cr → BeginsWithNoLoneLf ls) → cut_of_two unit y ≡ record { ended = ls; last = last }
     → cut_of_two unit (line_ending_bytes e by ++ y) ≡ record { ended = end_before by ls; last = last }
-two-end e unit lf y ls last r k h = r.lf_first y ∙ ap (before line_feed) h
-two-end e unit cr y ls last r k h = grind (arith, cr-before)
-two-end e unit crlf y ls last r k h = simp (append_assoc, r.cr_first (ascii_bytes e line_feed ++ y), r.lf_first y, h)
+two-end e unit by y ls last h k m = grind (arith, cr-before)
 
 -- A line and its end before bytes whose lines are known.
 pub two-line : (e : Encoding) (unit : ℕ → ℕ → ℕ) (text : List ℕ) (by : LineEnding) (y : List ℕ) (ls : List Ended) (last : List ℕ) → ReadsEnds e unit

@@ -11,9 +11,7 @@ use Rattle.properties_format.proofs.Lines.Plain.{plain-append, plain-left, plain
 
 -- The first unit of an ASCII character's bytes is its number.
 pub units-ascii : (e : Encoding) (c : ℕ) (y : List ℕ) → units e (ascii_bytes e c ++ y) ≡ c ∷ units e y
-units-ascii utf_16le c y = let k : low_first c 0 ≡ c = omega arith in ap (λ v. v ∷ units_of_two low_first y) k
-units-ascii utf_16be c y = let k : high_first 0 c ≡ c = omega arith in ap (λ v. v ∷ units_of_two high_first y) k
-units-ascii e c y = refl
+units-ascii e c y = grind (arith)
 
 -- The units of an even number of bytes and of what follows, if units are two bytes each.
 two-append : (unit : ℕ → ℕ → ℕ) (x y : List ℕ) → length x % 2 ≡ 0 → units_of_two unit (x ++ y) ≡ units_of_two unit x ++ units_of_two unit y
@@ -23,9 +21,7 @@ two-append unit (a ∷ b ∷ x) y h = ap (λ v. unit a b ∷ v) (two-append unit
 
 -- The units of whole units and of what follows.
 pub units-append : (e : Encoding) (x y : List ℕ) → IsAligned e x → units e (x ++ y) ≡ units e x ++ units e y
-units-append utf_16le x y h = two-append low_first x y h
-units-append utf_16be x y h = two-append high_first x y h
-units-append e x y h = refl
+units-append e x y h = grind (arith, two-append)
 
 -- If neither part contains a line end unit, the whole contains none.
 pub no_end_unit-append : (e : Encoding) (x y : List ℕ) → IsAligned e x → HoldsNoLineEndUnit e x → HoldsNoLineEndUnit e y → HoldsNoLineEndUnit e (x ++ y)
@@ -65,17 +61,14 @@ no_high d h = tt
 
 -- If no byte is a CR or an LF, no unit is one.
 pub no_end-no_unit : (e : Encoding) (d : List ℕ) → HoldsNoLineEnd d → HoldsNoLineEndUnit e d
-no_end-no_unit utf_16le d h = no_low d h
-no_end-no_unit utf_16be d h = no_high d h
-no_end-no_unit e d h = h
+no_end-no_unit e d h = grind (arith, no_low, no_high)
 
 -- The first whole unit decides whether an LF comes first, whatever follows.
 pub lf_first-append : (e : Encoding) (x y : List ℕ) → 0 < length (units e x) → begins_with_lf (units e (x ++ y)) ≡ begins_with_lf (units e x)
 lf_first-append e [] y h = absurd (none e (omega arith))
   where
     none : (e : Encoding) → 0 < length (units e []) → ⊥
-    none windows_1252 h = omega arith
-    none e h = omega arith
+    none e h = grind (arith)
 lf_first-append windows_1252 (a ∷ x) y h = refl
 lf_first-append utf_8 (a ∷ x) y h = refl
 lf_first-append utf_16le (a ∷ []) y h = absurd (omega arith)

@@ -58,8 +58,7 @@ whole-join (g ∷ gs) hs w k = (w.0, whole-join gs hs w.1 k)
 
 -- A line ending isn't empty.
 ending-size : (by : LineEnding) → 0 < length (line_ending_text by)
-ending-size lf = omega arith
-ending-size by = omega arith
+ending-size by = grind (arith)
 
 -- A last group has bytes, unless it is an empty line.
 last-size : (e : Encoding) (ls : List Ended) (last : List ℕ) → is_empty_line (held_of e ls last) ≡ false → 0 < length (unended_bytes (held_of e ls last))

@@ -1,7 +1,7 @@
 -- The groups of a body, and an edit of them, after the next line and after the next group.
-use Rattle.std.proofs.Common.{◌≡◌, ℕ, false, List, [], ◌∷◌, ◌++◌, refl, ap, ◌∙◌, inl, inr, append_assoc, ◌+◌, length-append, arith}
+use Rattle.std.proofs.Common.{◌≡◌, ℕ, false, List, [], ◌∷◌, ◌++◌, refl, ap, ◌∙◌, append_assoc, ◌+◌, length-append, arith}
 use Rattle.std.specs.Prelude.{◌&&◌, not, length, Option, Some, None}
-use Rattle.std.proofs.lemmas.Bool.{cases_Bool, cond-false}
+use Rattle.std.proofs.lemmas.Bool.{cond-false}
 use Rattle.properties_format.specs.Text.{LineEnding, cr}
 use Rattle.properties_format.specs.Encoding.{Encoding, IsAligned}
 use Rattle.properties_format.specs.Lines.{Lines}
@@ -40,8 +40,7 @@ with_after g (Some p) = Some record { before = p.before; group = p.group; after 
 -- Adding a group at the front and one at the end commutes.
 with_after-front : (key : List ℕ) (f g : List HeldLine) (gs : List (List HeldLine)) (o : Option KeyPlace)
     → place_after key f (gs ++ g ∷ []) (with_after g o) ≡ with_after g (place_after key f gs o)
-with_after-front key f g gs (Some p) = refl
-with_after-front key f g gs None = elim (cases_Bool (has_key key f)) [ inl k ↦ rw k refl | inr k ↦ rw k refl ]
+with_after-front key f g gs o = grind (arith)
 
 -- A group with the key is the new last place with it.
 pub last_place-new : (key : List ℕ) (gs : List (List HeldLine)) (g : List HeldLine) → HasKey key g

@@ -43,12 +43,10 @@ is_sequence-long : (c : ℕ) → 0x800 ≤ c → scalar c → IsSequenceOf (enco
 is_sequence-long c l h = grind (arith, encode-three, encode-four)
   where
     low : c < 0x1_0000 → scalar c → c < 0xd800 ⊎ ((0xe000 ≤ c) × (c < 0x1_0000))
-    low k (inl m) = inl m
-    low k (inr m) = inr (m.0, k)
+    low h k = grind (arith)
 
     high : scalar c → c < 0x11_0000
-    high (inl m) = omega arith
-    high (inr m) = m.1
+    high h = grind (arith)
 
 -- The bytes of a character are its sequence.
 pub encode-is_sequence : (c : ℕ) → scalar c → IsSequenceOf (encode_utf8 c) c

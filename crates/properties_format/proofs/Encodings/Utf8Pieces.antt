@@ -32,13 +32,11 @@ front-of-begins b bs rs e h =
 
 -- If the next byte doesn't fit the row, it breaks the sequence off.
 breaks-next : (b : ℕ) (bs rest : List ℕ) (rs : List Range) → ranges_after well_formed_rows b ≡ Some rs → Breaks rs bs rest → NextBreaks (b ∷ bs) rest
-breaks-next b bs [] rs e h = tt
-breaks-next b bs (next ∷ rest) rs e h = λ k. h (front-of-begins b (bs ++ next ∷ []) rs e k)
+breaks-next b bs rest rs h k = grind (arith, front-of-begins)
 
 -- If the next byte breaks the sequence off, it doesn't fit the row.
 next-breaks : (b : ℕ) (bs rest : List ℕ) (rs : List Range) → ranges_after well_formed_rows b ≡ Some rs → NextBreaks (b ∷ bs) rest → Breaks rs bs rest
-next-breaks b bs [] rs e h = tt
-next-breaks b bs (next ∷ rest) rs e h = λ k. h (front-begins b (bs ++ next ∷ []) rs e k)
+next-breaks b bs rest rs h k = grind (arith, front-begins)
 
 -- A byte with a row, with the bytes after it that fit, is a piece at the front.
 fitted-meets : (b : ℕ) (d bs : List ℕ) (rs : List Range) → ranges_after well_formed_rows b ≡ Some rs → Fitted rs d bs → Meets IsUtf8Piece (utf_8_piece b bs (length rs)) (b ∷ d)

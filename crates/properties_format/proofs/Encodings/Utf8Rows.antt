@@ -97,8 +97,7 @@ fitting-none rs rest h = refl
 
 -- If the next byte doesn't fit after some bytes, it doesn't fit after them without the first byte and its range.
 breaks-tail : (r : Range) (rs : List Range) (b : ℕ) (bs rest : List ℕ) → IsIn r b → Breaks (r ∷ rs) (b ∷ bs) rest → Breaks rs bs rest
-breaks-tail r rs b bs [] h k = tt
-breaks-tail r rs b bs (next ∷ rest) h k = λ m. k (h, m)
+breaks-tail r rs b bs rest h k = grind (arith)
 
 -- Bytes that fit a beginning, before a byte that doesn't fit, are the longest front that fits.
 pub fitting-broken : (rs : List Range) (bs rest : List ℕ) → FitsFront rs bs → Breaks rs bs rest → fitting rs (bs ++ rest) ≡ bs
@@ -117,8 +116,7 @@ fitted-more r rs b d bs h (rest, e, inl k) = (rest, ap (λ v. b ∷ v) e, inl (h
 fitted-more r rs b d bs h (rest, e, inr k) = (rest, ap (λ v. b ∷ v) e, inr (omega arith, (h, k.1), breaks-on rest k.2))
   where
     breaks-on : (rest : List ℕ) → Breaks rs bs rest → Breaks (r ∷ rs) (b ∷ bs) rest
-    breaks-on [] m = tt
-    breaks-on (next ∷ rest) m = λ q. m q.1
+    breaks-on rest h = grind (arith)
 
 -- The computed bytes are the ones that fit.
 pub fitting-fits : (rs : List Range) (d : List ℕ) → Fitted rs d (fitting rs d)

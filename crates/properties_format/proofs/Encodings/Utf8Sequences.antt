@@ -25,7 +25,3 @@ row-fine bs h = grind (arith, ascii-fine)
 -- The character of a well-formed sequence is a scalar value.
 pub sequence-scalar : (bs : List ℕ) → IsWellFormed bs → scalar (sequence_character bs)
 sequence-scalar bs h = (row-fine bs h).0
-
--- If that character is ASCII, the sequence is its one byte.
-pub sequence-ascii : (bs : List ℕ) → IsWellFormed bs → sequence_character bs < 0x80 → bs ≡ sequence_character bs ∷ []
-sequence-ascii bs h = (row-fine bs h).1

@@ -1,5 +1,5 @@
 -- Bytes that are well-formed UTF-8 are the UTF-8 text of their pieces.
-use Rattle.std.proofs.Common.{◌≡◌, ℕ, ◌<◌, true, List, [], ◌∷◌, ◌++◌, refl, sym, ap, ap₂, ◌∙◌, inl, inr, append_assoc, arith}
+use Rattle.std.proofs.Common.{◌≡◌, ℕ, ◌<◌, true, List, [], ◌∷◌, ◌++◌, refl, sym, ap, ap₂, ◌∙◌, append_assoc, arith}
 use Rattle.std.specs.Char.{IsScalar, encode_utf8}
 use Rattle.std.specs.Str.{IsUtf8, IsAscii, chars, all_scalars, encode_utf8_all}
 use Rattle.std.proofs.Math.Utf8 as std_utf8
@@ -24,8 +24,7 @@ scalar-from_char c h = std_utf8.scalar_cases c h
 
 -- A scalar value is the code point of a `char`.
 pub char-from_scalar : (c : ℕ) → scalar c → IsScalar c
-char-from_scalar c (inl h) = std_utf8.low_scalar c h
-char-from_scalar c (inr h) = grind (arith)
+char-from_scalar c h = grind (arith)
 
 -- Well-formed sequences are the UTF-8 of their characters.
 sequences-utf8 : (d : List ℕ) (sequences : List (List ℕ)) → AreSequences d sequences → IsUtf8 d

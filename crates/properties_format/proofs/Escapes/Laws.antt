@@ -41,8 +41,7 @@ AreWhole (p ∷ ps) = IsWhole p × AreWhole ps
 
 -- A whole spelling may come before any text.
 pub IsWhole-spelling : (p : Spelling) (rest : List ℕ) → IsWhole p → IsSpelling p rest
-IsWhole-spelling last rest h = absurd h
-IsWhole-spelling p rest h = h
+IsWhole-spelling p rest h = grind (arith)
 
 -- Each of several whole spellings may come before what follows it.
 pub AreWhole-spellings : (ps : List Spelling) (rest : List ℕ) → AreWhole ps → AreSpellings ps rest
@@ -69,8 +68,7 @@ malformed-none after kind e k = let n = spelling_of-none (backslash ∷ letter_u
 
 -- fewer than four characters
 pub malformed-short : (after : List ℕ) → length after < 4 → IsMalformedUnit after not_enough_digits
-malformed-short (a ∷ b ∷ c ∷ d ∷ rest) h = absurd (omega arith)
-malformed-short after h = malformed-none after not_enough_digits refl refl
+malformed-short after h = grind (arith, malformed-none)
 
 -- four characters, one of which isn't a digit
 pub malformed-not_hex : (d : Four) (rest : List ℕ) → are_hexadecimal d ≡ false → IsMalformedUnit (four_text d ++ rest) not_hex

@@ -40,8 +40,7 @@ pub is_open-two : (x : List ℕ) → is_open (x ++ backslash ∷ backslash ∷ [
 is_open-two x = ap is_open (sym (append_assoc x (backslash ∷ []) (backslash ∷ []))) ∙ is_open-backslash (x ++ backslash ∷ []) ∙ ap not (is_open-backslash x) ∙ not-not (is_open x)
   where
     not-not : (b : Bool) → not (not b) ≡ b
-    not-not true = refl
-    not-not false = refl
+    not-not b = grind (arith)
 
 -- A line that ends in another character isn't open.
 pub is_open-other : (x : List ℕ) (c : ℕ) → (c == backslash) ≡ false → is_open (x ++ c ∷ []) ≡ false

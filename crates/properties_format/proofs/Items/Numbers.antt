@@ -57,9 +57,7 @@ lines-behind_first low high xs ys zs h = lines-after low high xs (ys ++ zs) (sub
 
 -- The number of a last group lies within the numbers that its lines lie within.
 firsts-of_last : (low high : ℕ) (ls : List Line) (ending : InputEnd) → LinesWithin low high ls → FirstsWithin low high (last_group ls ending)
-firsts-of_last low high [] ending h = h
-firsts-of_last low high (l ∷ ls) end h = (h.0, lines-bounded l.number high ls h.1)
-firsts-of_last low high (l ∷ ls) ending h = lines-bounded low high (l ∷ ls) h
+firsts-of_last low high ls ending h = grind (arith, lines-bounded)
 
 -- The numbers of whole groups and of a last one lie within those that their lines lie within.
 firsts-of : (low high : ℕ) (whole : List (List Line)) (unfinished : List Line) (ending : InputEnd) → AreWhole whole → LinesWithin low high (lines_in whole ++ unfinished)
@@ -82,8 +80,7 @@ ascend-lower low less (x ∷ xs) k h = (let b = h.0 in omega arith, h.1)
 
 -- A read that fails after n line ends has a number above n, and above those of the lines before it.
 last-ascend : (low high n : ℕ) (ending : InputEnd) → high ≤ n + last_line ending → low ≤ high → NumbersAscend low (last_entries n ending)
-last-ascend low high n fault h k = (omega arith, tt)
-last-ascend low high n ending h k = tt
+last-ascend low high n ending h k = grind (arith)
 
 -- The numbers of the entries of groups ascend if those of the groups' first lines do.
 entries-ascend : (low high n : ℕ) (ending : InputEnd) (gs : List (List Line)) → high ≤ n + last_line ending → FirstsWithin low high gs → NumbersAscend low (entries_of n ending gs)

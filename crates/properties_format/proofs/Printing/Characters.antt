@@ -1,11 +1,11 @@
 -- How printed lines are put together. They contain only characters that can be encoded.
-use Rattle.std.proofs.Common.{◌≡◌, ℕ, ◌+◌, ◌/◌, ◌%◌, ◌<◌, ◌==◌, ◌||◌, ◌&&◌, not, Bool, true, false, cond, List, [], ◌∷◌, ◌++◌, refl, ap, ◌∙◌, inl, inr, append_assoc, arith, lit<, lt-ltb}
+use Rattle.std.proofs.Common.{◌≡◌, ℕ, ◌+◌, ◌/◌, ◌%◌, ◌<◌, ◌==◌, ◌||◌, ◌&&◌, not, Bool, true, false, cond, List, [], ◌∷◌, ◌++◌, refl, ap, ◌∙◌, append_assoc, arith, lit<, lt-ltb}
 use Rattle.std.specs.Prelude.{Some, is_some, unwrap_or, nat_lt}
 use Rattle.std.specs.Char.{digit_char}
 use Rattle.std.proofs.lemmas.Bool.{cond_both, and_from, and_parts}
 use Rattle.std.proofs.lemmas.Str.{encode_ascii}
-use Rattle.properties_format.specs.Text.{scalar, line_ending_text, LineEnding, crlf, is_blank, space, backslash}
-use Rattle.properties_format.specs.Encoding.{Encoding, windows_1252, encoded, one_byte}
+use Rattle.properties_format.specs.Text.{scalar, line_ending_text, LineEnding, is_blank, space, backslash}
+use Rattle.properties_format.specs.Encoding.{Encoding, encoded}
 use Rattle.properties_format.specs.Entries.{Content, comment, pair}
 use Rattle.properties_format.specs.Split.{AreBlanks}
 use Rattle.properties_format.specs.Settings.{Settings, IsGoodSeparator}
@@ -62,8 +62,7 @@ AreEncodable-append e (c ∷ x) y h k = (h.0, AreEncodable-append e x y h.1 k)
 
 -- An ASCII character is encoded as itself in every encoding.
 pub encoded-ascii : (e : Encoding) (c : ℕ) → c < 0x80 → encoded e c ≡ Some (c ∷ [])
-encoded-ascii windows_1252 c h = ap one_byte (windows_1252_byte-ascii c h)
-encoded-ascii e c h = ap Some (encode_ascii c h)
+encoded-ascii e c h = grind (arith, windows_1252_byte-ascii, encode_ascii)
 
 -- every character of the text is ASCII
 abbrev pub AreAscii : List ℕ → Type 0
@@ -87,8 +86,7 @@ encoded_text-ascii e (c ∷ x) h = ap (λ o. unwrap_or o [] ++ encoded_text e x)
 
 -- a line ending is an ASCII text
 pub line_end-ascii : (by : LineEnding) → AreAscii (line_ending_text by)
-line_end-ascii crlf = (lit< tt, (lit< tt, tt))
-line_end-ascii by = (lit< tt, tt)
+line_end-ascii by = grind (arith)
 
 -- ---- what is printed can be encoded
 
@@ -190,8 +188,7 @@ blanks-ascii (c ∷ x) h = (blank-ascii c h.0, blanks-ascii x h.1)
 
 -- A good separator is an ASCII text.
 pub good_separator-ascii : (separator : List ℕ) → IsGoodSeparator separator → AreAscii separator
-good_separator-ascii separator (inl g) = grind (arith, AreAscii-append, blanks-ascii)
-good_separator-ascii separator (inr g) = blanks-ascii separator g.blank
+good_separator-ascii separator h = grind (arith, AreAscii-append, blanks-ascii)
 
 -- A printed line can be encoded if its separator is good.
 pub printed_text-encodable : (e : Encoding) (s : Settings) (first : Bool) (line : Content) → IsGoodSeparator s.kv_separator → AreEncodable e (printed_text e s first line)

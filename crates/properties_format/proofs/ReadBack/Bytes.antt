@@ -23,8 +23,7 @@ use Rattle.properties_format.proofs.ReadBack.Lines.{line_text, wrote_text, setti
 -- A character that can be encoded is decoded from its bytes, whatever follows.
 decoded-front : (e : Encoding) (c : ℕ) (o : Option (List ℕ)) (y : List ℕ) → scalar c → encoded e c ≡ o → is_some o ≡ true
     → characters (pieces_of (output_encoding e) (unwrap_or o [] ++ y)) ≡ c ∷ characters (pieces_of (output_encoding e) y)
-decoded-front e c None y h same some = cc
-decoded-front e c (Some bs) y h same some = ap characters (pieces_of-encoded e c bs y h same)
+decoded-front e c o y h k m = grind (arith, pieces_of-encoded)
 
 -- a text that can be encoded is decoded from its bytes
 pub text-decoded : (e : Encoding) (x : List ℕ) → AllByRecursion scalar x → AreEncodable e x → characters (pieces_of (output_encoding e) (encoded_text e x)) ≡ x
@@ -52,8 +51,7 @@ printed_characters-scalars e only place (c ∷ x) h =
 
 -- A key of scalar values with its first character escaped consists of scalar values.
 with_first_escaped-scalars : (e : Encoding) (only : Bool) (key : List ℕ) → AllByRecursion scalar key → AllByRecursion scalar (with_first_escaped e only key)
-with_first_escaped-scalars e only [] h = tt
-with_first_escaped-scalars e only (c ∷ cs) h =
+with_first_escaped-scalars e only key h =
     grind (arith, scalars-append, ascii-scalars, unicode_escape-ascii, printed_characters-scalars)
 
 -- Any printed key of scalar values consists of scalar values.

@@ -1,6 +1,6 @@
 -- A printed comment is a line of its own, and is read as what follows its prefix's comment sign and its text, without
 -- the blanks at both ends.
-use Rattle.std.proofs.Common.{◌≡◌, ◌⊎◌, ℕ, ◌<◌, ◌==◌, true, false, List, [], ◌∷◌, ◌++◌, map, refl, ap, sym, ◌∙◌, inl, inr, append_assoc, ap₂, subst, arith}
+use Rattle.std.proofs.Common.{◌≡◌, ◌⊎◌, ℕ, ◌<◌, ◌==◌, true, false, List, [], ◌∷◌, ◌++◌, map, refl, ap, sym, ◌∙◌, append_assoc, ap₂, subst, arith}
 use Rattle.std.specs.Prelude.{Bool}
 use Rattle.std.specs.List.{AllByRecursion}
 use Rattle.std.proofs.lemmas.Bool.{cond-true}
@@ -22,7 +22,7 @@ use Rattle.properties_format.proofs.Escapes.Trimmed.{AllKeepBlanks, meaning_of-t
 use Rattle.properties_format.proofs.Settings.Tests.{tail_of-good}
 use Rattle.properties_format.proofs.Printing.Characters.{may_be_unescaped-ascii, blank-ascii}
 use Rattle.properties_format.proofs.ReadBack.Spellings.{IsSafe, IsPlainlyPrinted, literal-plainly, in_comment-printed}
-use Rattle.properties_format.proofs.ReadBack.Texts.{safe-whole, safe-plain}
+use Rattle.properties_format.proofs.ReadBack.Texts.{safe-plain}
 use Rattle.properties_format.proofs.ReadBack.Pairs.{IsReadAs, blanks-plain, cons-front}
 
 -- x is plainly spelt for y: it is the text of whole spellings of y that keep blanks, and contains no line end.
@@ -38,13 +38,11 @@ record ArePlainlyPrinted (x y : List ℕ) : Type 0 where
 
 -- A safe spelling, or a character as itself, is whole.
 plainly-whole : (c : ℕ) (p : Spelling) → IsSafe p ⊎ ((p ≡ itself c) × ((c == backslash) ≡ false) × (is_line_end c ≡ false)) → IsWhole p
-plainly-whole c p (inl h) = safe-whole p h
-plainly-whole c p (inr h) = subst IsWhole (sym h.0) h.1
+plainly-whole c p h = grind (arith)
 
 -- It contains no line end.
 plainly-plain : (c : ℕ) (p : Spelling) → IsSafe p ⊎ ((p ≡ itself c) × ((c == backslash) ≡ false) × (is_line_end c ≡ false)) → HoldsNoLineEnd (spelling_text p)
-plainly-plain c p (inl h) = safe-plain p h
-plainly-plain c p (inr h) = subst (λ v. HoldsNoLineEnd (spelling_text v)) (sym h.0) (h.2, tt)
+plainly-plain c p h = grind (arith, safe-plain)
 
 -- A plainly spelt character before a plainly spelt text.
 plainly-cons : (x y : List ℕ) (c : ℕ) (cs : List ℕ) → IsPlainlyPrinted x c → ArePlainlyPrinted y cs → ArePlainlyPrinted (x ++ y) (c ∷ cs)

@@ -1,8 +1,8 @@
 -- A printed pair is a line of its own, and is read as that pair.
-use Rattle.std.proofs.Common.{◌≡◌, ◌≢◌, ℕ, ◌==◌, ◌&&◌, Bool, true, false, List, [], ◌∷◌, ◌++◌, map, refl, ap, sym, ◌∙◌, inl, inr, append_assoc, ap₂, arith}
+use Rattle.std.proofs.Common.{◌≡◌, ◌≢◌, ℕ, ◌&&◌, Bool, false, List, [], ◌∷◌, ◌++◌, map, refl, ap, sym, ◌∙◌, inl, inr, append_assoc, ap₂, arith}
 use Rattle.std.specs.List.{AllByRecursion}
 use Rattle.std.proofs.lemmas.Bool.{cond_both}
-use Rattle.properties_format.specs.Text.{scalar, backslash, is_blanks, is_line_end, is_separator}
+use Rattle.properties_format.specs.Text.{scalar, is_blanks}
 use Rattle.properties_format.specs.Encoding.{Encoding}
 use Rattle.properties_format.specs.Lines.{HoldsNoLineEnd}
 use Rattle.properties_format.specs.Groups.{is_open}
@@ -47,10 +47,6 @@ key-printed e only first key h =
 
 -- ---- separators
 
--- A separator isn't a backslash or a line end.
-separator-other : (c : ℕ) → is_separator c ≡ true → ((c == backslash) ≡ false) × (is_line_end c ≡ false)
-separator-other c h = (grind (arith), grind (arith))
-
 -- A quiet text: it contains no backslash and no line end.
 pub record IsQuiet (x : List ℕ) : Type 0 where
   pub slashes : HoldsNoBackslash x
@@ -78,14 +74,9 @@ blanks-slashes (c ∷ x) h = (blank-other c h.0, blanks-slashes x h.1)
 blanks-quiet : (x : List ℕ) → AreBlanks x → IsQuiet x
 blanks-quiet x h = record { slashes = blanks-slashes x h; plain = blanks-plain x h }
 
--- A separator before a quiet text is quiet.
-sign-quiet : (c : ℕ) (x : List ℕ) → is_separator c ≡ true → IsQuiet x → IsQuiet (c ∷ x)
-sign-quiet c x h k = let s = separator-other c h in record { slashes = (s.0, k.slashes); plain = (s.1, k.plain) }
-
 -- A good separator is quiet.
 pub separator-quiet : (x : List ℕ) → IsGoodSeparator x → IsQuiet x
-separator-quiet x (inl g) = rw g.division (quiet-append g.before (g.sign ∷ g.after) (blanks-quiet g.before g.blank_before) (sign-quiet g.sign g.after g.signed (blanks-quiet g.after g.blank_after)))
-separator-quiet x (inr g) = blanks-quiet x g.blank
+separator-quiet x h = grind (arith, quiet-append, blanks-quiet)
 
 -- A text that contains a character isn't empty.
 pub cons-front : (x y : List ℕ) (c : ℕ) → x ++ (c ∷ y) ≢ []
@@ -94,8 +85,7 @@ cons-front (d ∷ x) y c h = cc
 
 -- A good separator isn't empty.
 pub separator-some : (x : List ℕ) → IsGoodSeparator x → x ≢ []
-separator-some x (inl g) = λ q. cons-front g.before g.after g.sign (sym g.division ∙ q)
-separator-some x (inr g) = g.some
+separator-some x h = grind (arith, cons-front)
 
 -- After a separator, only what follows it decides whether a line is open.
 pub closed-after : (x sep y : List ℕ) → HoldsNoBackslash sep → sep ≢ [] → is_open y ≡ false → is_open (x ++ (sep ++ y)) ≡ false

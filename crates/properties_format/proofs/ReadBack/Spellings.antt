@@ -38,8 +38,7 @@ pub record IsPlainlyPrinted (x : List ℕ) (c : ℕ) : Type 0 where
 
 -- A scalar value isn't a surrogate.
 scalar-no_surrogate : (c : ℕ) → scalar c → is_surrogate c ≡ false
-scalar-no_surrogate c (inl h) = grind (arith)
-scalar-no_surrogate c (inr h) = grind (arith)
+scalar-no_surrogate c h = grind (arith)
 
 abbrev unit-printed : (c : ℕ) → scalar c → c < 0x1_0000 → IsSafelyPrinted (unit_escape c) c
 unit-printed c h k =

@@ -44,9 +44,7 @@ texts-printed e only (c ∷ x) h =
 
 -- a safe spelling is whole
 pub safe-whole : (p : Spelling) → IsSafe p → IsWhole p
-safe-whole (itself c) h = h.0
-safe-whole (escaped c) h = h.0
-safe-whole p h = h
+safe-whole p h = grind (arith)
 
 -- Safe spellings are whole.
 are_safe-whole : (ps : List Spelling) → AreSafe ps → AreWhole ps
@@ -73,11 +71,7 @@ unit-plain d h = let f = four-digits d h in (refl, (refl, (digit-plain d.first f
 
 -- A safe spelling contains no line end.
 pub safe-plain : (p : Spelling) → IsSafe p → HoldsNoLineEnd (spelling_text p)
-safe-plain (itself c) h = (h.4, tt)
-safe-plain (escaped c) h = (refl, (h.1, tt))
-safe-plain (unicode d) h = unit-plain d h.0
-safe-plain (surrogates high low) h = plain-append (backslash ∷ letter_u ∷ four_text high) (backslash ∷ letter_u ∷ four_text low) (unit-plain high h.0) (unit-plain low h.2)
-safe-plain last h = absurd h
+safe-plain p h = grind (arith, unit-plain)
 
 -- Safe spellings contain no line end.
 are_safe-plain : (ps : List Spelling) → AreSafe ps → HoldsNoLineEnd (spellings_before ps [])
@@ -144,9 +138,7 @@ pub record BeginsFull (x : List ℕ) : Type 0 where
 
 -- A text with a safe spelling at its front doesn't begin with a blank, a separator or a comment sign.
 pub safe-begins : (p : Spelling) (y : List ℕ) → IsSafe p → BeginsFull (spelling_text p ++ y)
-safe-begins (itself c) y h = record { no_blank = h.1; no_separator = h.2; no_sign = h.3 }
-safe-begins last y h = absurd h
-safe-begins p y h = record { no_blank = refl; no_separator = refl; no_sign = refl }
+safe-begins p y h = grind (arith)
 
 -- The text of safe spellings doesn't begin with a blank, a separator or a comment sign.
 pub are_safe-begin : (ps : List Spelling) → AreSafe ps → BeginsFull (spellings_before ps [])

@@ -83,8 +83,7 @@ pair-unmarked e only key sep rest g =
 
 -- A printed first line, with what follows it.
 printed-unmarked : (e : Encoding) (s : Settings) (line : Content) (rest : List ℕ) → AreGoodSettings s → IsUnmarked e (printed_text e s true line ++ rest)
-printed-unmarked e s (comment text) rest g = grind (arith, append_assoc, comment-unmarked)
-printed-unmarked e s (pair key value) rest g = grind (arith, append_assoc, pair-unmarked)
+printed-unmarked e s line rest h = grind (arith, append_assoc, comment-unmarked, pair-unmarked)
 
 -- ---- all lines
 

@@ -100,8 +100,7 @@ is_signed_separator-from separator g = ap is_signed_separator g.division ∙ div
 
 -- A separator that passes the other test is good.
 pub IsGoodSeparator-from_test : (separator : List ℕ) → is_good_separator separator ≡ true → IsGoodSeparator separator
-IsGoodSeparator-from_test [] h = cc
-IsGoodSeparator-from_test (c ∷ cs) h = grind (arith, IsSignedSeparator-from_test, AreBlanks-from_test)
+IsGoodSeparator-from_test separator h = grind (arith, IsSignedSeparator-from_test, AreBlanks-from_test)
 
 -- A good separator passes the other test.
 pub is_good_separator-from : (separator : List ℕ) → IsGoodSeparator separator → is_good_separator separator ≡ true

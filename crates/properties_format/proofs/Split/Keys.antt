@@ -23,14 +23,9 @@ ends_here (c ∷ cs) = ends_key c
 plain-parts : (c : ℕ) → ends_key c ≡ false → (is_blank c ≡ false) × (is_separator c ≡ false)
 plain-parts c e = (grind (arith), grind (arith))
 
--- A character that ends a key isn't a backslash.
-pub ends_key-backslash : (c : ℕ) → ends_key c ≡ true → (c == backslash) ≡ false
-ends_key-backslash c e = grind (arith)
-
 -- If the key ends at once, it is empty.
 pub cut_key-ends : (rest : List ℕ) → ends_here rest ≡ true → cut_key rest false ≡ record { key = []; rest = rest }
-cut_key-ends [] e = refl
-cut_key-ends (c ∷ rest) e = rw (ends_key-backslash c e) (rw e refl)
+cut_key-ends rest h = grind (arith)
 
 -- Units at the front.
 pub cut_key-units : (us : List KeyUnit) (rest : List ℕ) → AreUnits us rest → cut_key (units_before us rest) false ≡ with_text (units_before us []) (cut_key rest false)

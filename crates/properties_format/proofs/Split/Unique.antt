@@ -1,6 +1,6 @@
 -- Each line is blank, a comment or a pair, in exactly one way.
 use Rattle.std.proofs.Common.{◌≡◌, ◌≢◌, ℕ, true, false, List, [], ◌∷◌, ◌++◌, refl, ap, sym, ◌∙◌, inl, inr, append_assoc, append-nil, arith}
-use Rattle.std.proofs.lemmas.Bool.{cases_Bool, both_ways}
+use Rattle.std.proofs.lemmas.Bool.{cases_Bool}
 use Rattle.properties_format.specs.Text.{is_blank, is_comment_sign, is_separator, without_leading_blanks}
 use Rattle.properties_format.specs.Split.{Logical, blank, comment, pair, AreBlanks, begins, IsKey, IsBetween, nothing, blanks, separator, IsSplit}
 use Rattle.properties_format.specs.Computed.Split.{Cut, trimmed, cut_key, past_separator, pair_of, split_full, split_of, ends_key}
@@ -17,33 +17,18 @@ separator-full c e = grind (arith)
 ends_key-blank : (c : ℕ) → is_blank c ≡ true → ends_key c ≡ true
 ends_key-blank c b = rw b refl
 
--- A text that doesn't begin with a separator has none to skip.
-past_separator-full : (y : List ℕ) → begins is_separator y ≡ false → past_separator y ≡ y
-past_separator-full [] e = refl
-past_separator-full (c ∷ y) e = rw e refl
-
 -- A key ends before at least one blank.
 blanks-end : (between value : List ℕ) → between ≢ [] → AreBlanks between → ends_here (between ++ value) ≡ true
 blanks-end [] value h b = absurd (h refl)
 blanks-end (c ∷ between) value h b = ends_key-blank c b.0
 
--- A key ends before a separator, with or without blanks before it.
-sign-end : (before : List ℕ) (sign : ℕ) (rest : List ℕ) → AreBlanks before → is_separator sign ≡ true → ends_here (before ++ (sign ∷ rest)) ≡ true
-sign-end [] sign rest b s = rw (separator-full sign s) s
-sign-end (c ∷ before) sign rest b s = ends_key-blank c b.0
-
 -- A key ends before what separates it from its value, or at the end of the line.
 pub between-ends : (between value : List ℕ) → IsBetween between value → ends_here (between ++ value) ≡ true
-between-ends between value (nothing e f) = rw (e, f) refl
-between-ends between value (blanks h b e f) = blanks-end between value h b
-between-ends between value (separator before sign after e b s d f) = grind (arith, append_assoc, sign-end)
+between-ends between value h = grind (arith, blanks-end, append_assoc)
 
 -- What separates the key from the value is followed by the value.
 pub between-value : (between value : List ℕ) → IsBetween between value → past_separator (without_leading_blanks (between ++ value)) ≡ value
-between-value between value (nothing e f) = rw (e, f) refl
-between-value between value (blanks h b e f) = ap past_separator (without_leading_blanks-only between value b e) ∙ past_separator-full value f
-between-value between value (separator before sign after e b s d f) =
-    grind (arith, append_assoc, without_leading_blanks-only)
+between-value between value h = grind (arith, without_leading_blanks-only, append_assoc)
 
 pub record IsBehind (rest value : List ℕ) : Type 0 where
   pub between : List ℕ
@@ -52,8 +37,7 @@ pub record IsBehind (rest value : List ℕ) : Type 0 where
 
 -- A key doesn't end before a character that is neither a blank nor a separator.
 not-here : (before : List ℕ) (c : ℕ) (y : List ℕ) → ends_here (before ++ (c ∷ y)) ≡ true → is_blank c ≡ false → is_separator c ≡ false → before ≢ []
-not-here [] c y k b s q = both_ways (ends_key c) (rw (b, s) refl) k
-not-here (d ∷ before) c y k b s q = absurd (cc)
+not-here before c y h k m p = grind (arith)
 
 -- After the blanks there is a separator, or there is none.
 after-step : (rest : List ℕ) (before y : List ℕ) → rest ≡ before ++ y → AreBlanks before → begins is_blank y ≡ false → ends_here rest ≡ true → IsBehind rest (past_separator y)
@@ -127,8 +111,7 @@ split_of-comment indent sign rest b m = ap split_full (without_leading_blanks-on
 
 -- What is computed for a text that isn't empty and doesn't begin with a comment sign is a pair.
 split_full-pair : (x : List ℕ) → x ≢ [] → begins is_comment_sign x ≡ false → split_full x ≡ pair_of (cut_key x false)
-split_full-pair [] h m = absurd (h refl)
-split_full-pair (c ∷ x) h m = rw m refl
+split_full-pair x h k = grind (arith)
 
 -- Blanks, a key, what separates it from the value, and the value.
 pub split_of-pair : (indent key between value : List ℕ) → AreBlanks indent → key ++ (between ++ value) ≢ []

@@ -5,11 +5,11 @@ use Rattle.std.specs.Prelude.{nat_le, if◌then◌else◌}
 use Rattle.std.proofs.Math.Seq.{drop-append_seam}
 use Rattle.std.proofs.lemmas.Bool.{cases_Bool, not-true}
 use Rattle.std.proofs.lemmas.List.{append_cancel_left}
-use Rattle.properties_format.specs.Text.{backslash, is_blank, is_separator, without_leading_blanks}
+use Rattle.properties_format.specs.Text.{backslash, is_blank, without_leading_blanks}
 use Rattle.properties_format.specs.Encoding.{Encoding}
 use Rattle.properties_format.specs.Cut.{IsDecodedLine}
 use Rattle.properties_format.specs.Groups.{is_open, is_comment_line, without_last, without_open_backslash, joined_after, joined}
-use Rattle.properties_format.specs.Split.{AreBlanks, begins, ends, IsBetween, nothing, blanks, separator, IsPair}
+use Rattle.properties_format.specs.Split.{AreBlanks, begins, ends, IsBetween, IsPair}
 use Rattle.properties_format.specs.Computed.Split.{ends_key}
 use Rattle.properties_format.specs.Computed.Cut.{decoded_line}
 use Rattle.properties_format.specs.Body.{HeldLine, as_lines, ending_bytes, group_bytes}
@@ -19,7 +19,6 @@ use Rattle.properties_format.specs.Computed.Valued.{without_indent, added_by, he
 use Rattle.properties_format.proofs.Groups.Open.{is_open-backslash, is_open-other, is_open-after, blank-other, open-ends, without_open_backslash-closed}
 use Rattle.properties_format.proofs.Groups.Joined.{joined-comment_line, joined-unmarked, joined-closed}
 use Rattle.properties_format.proofs.Split.Blanks.{begins-front, without_leading_blanks-only, without_leading_blanks-meets}
-use Rattle.properties_format.proofs.Split.Unique.{separator-full}
 use Rattle.properties_format.proofs.Cut.Byline.{decoded_line-meets, decoded_line-only}
 use Rattle.properties_format.proofs.Valued.Parts.{pair-line, between_in-pair, before_value-pair, comment_line-no_pair}
 use Rattle.properties_format.proofs.Valued.Heads.{EndsInAscii, IsLittle, IsHeadOf, head_of-meets, heads-same}
@@ -62,8 +61,7 @@ past-head (c ∷ x) y h = elim (cases_Bool (is_blank c)) [
 
 -- This holds whether or not the indentation counts.
 pub indent-head : (first : Bool) (x y : List ℕ) → ¬ (AreBlanks x) → without_indent first (x ++ y) ≡ without_indent first x ++ y
-indent-head true x y h = refl
-indent-head false x y h = past-head x y h
+indent-head first x y h = grind (arith, past-head)
 
 -- Without its open backslash, a text isn't open.
 pub shut-closed : (x : List ℕ) → is_open (without_open_backslash x) ≡ false
@@ -105,8 +103,7 @@ is_first_after first (h ∷ hs) = false
 
 -- A line after others isn't the first of its group.
 after-later : (a : List HeldLine) → is_first_after false a ≡ false
-after-later [] = refl
-after-later (i ∷ a) = refl
+after-later a = grind (arith)
 
 -- What two lists of lines add.
 pub joined_by-append : (first : Bool) (a b : List HeldLine) → joined_by first (a ++ b) ≡ joined_by first a ++ joined_by (is_first_after first a) b
@@ -156,8 +153,7 @@ ends-right kind a p h = refl
 
 -- If a text may end, so may its second part.
 pub may-later : (a q p v : List ℕ) → q ≢ [] → p ≡ a ++ q → MayEnd p v → MayEnd q v
-may-later a q p v more t (inl z) = inl (sym (ends-right ends_key a q more) ∙ ap (ends ends_key) (sym t) ∙ z)
-may-later a q p v more t (inr z) = inr z
+may-later a q p v h k m = grind (arith, ends-right)
 
 -- A character that ends a key is an ASCII character.
 pub ends_key-ascii : (c : ℕ) → ends_key c ≡ true → c < 0x80
@@ -183,9 +179,7 @@ IsSome false q = q ≢ []
 
 -- Blanks followed by such a text aren't blank, if in a later line the text doesn't begin with a blank.
 some-full : (first : Bool) (b q : List ℕ) → IsSome first q → (first ≡ false → begins is_blank q ≡ false) → ¬ (AreBlanks (b ++ q))
-some-full true b q h k = λ m. h (blanks-right b q m)
-some-full false b [] h k = absurd (h refl)
-some-full false b (c ∷ q) h k = λ m. let n = blanks-right b (c ∷ q) m in let o = k refl in absurd (cc (n.0, o))
+some-full first b q h k = grind (arith, blanks-right)
 
 -- In a later line, the text without its indentation doesn't begin with a blank.
 indent-full : (first : Bool) (x q r : List ℕ) → first ≡ false → without_indent first x ≡ q ++ r → begins is_blank q ≡ false
@@ -195,8 +189,7 @@ indent-full false x q r f s = begins-front is_blank q r (ap (begins is_blank) (s
 -- Such a text is what is left of itself with blanks before it, without the indentation.
 indent-only : (first : Bool) (b q : List ℕ) → AreBlanks b → (first ≡ true → b ≡ []) → (first ≡ false → begins is_blank q ≡ false)
     → without_indent first (b ++ q) ≡ q
-indent-only true b q h k m = rw (k refl) refl
-indent-only false b q h k m = without_leading_blanks-only b q h (m refl)
+indent-only first b q h k m = grind (arith, without_leading_blanks-only)
 
 -- The indentation of a first line doesn't count.
 indent-none : (first : Bool) (x : List ℕ) → first ≡ true → (indented first x).indent ≡ []
@@ -206,8 +199,7 @@ indent-none false x f = absurd (cc)
 
 -- A head that ends where it may isn't open.
 may-closed : (y q r : List ℕ) → without_open_backslash y ≡ q ++ r → MayEnd q r → is_open q ≡ false
-may-closed y q r s (inl k) = grind (arith, ends-last, is_open-other)
-may-closed y q r s (inr k) = ap is_open (sym (s ∙ ap (λ v. q ++ v) k ∙ append-nil q)) ∙ shut-closed y
+may-closed y q r h k = grind (arith, ends-last, is_open-other, append-nil, shut-closed)
 
 -- The size of the head.
 pub head-size : (first : Bool) (x b q r : List ℕ) → x ≡ b ++ (q ++ r) → without_indent first x ≡ q ++ r → head_size first x q ≡ length (b ++ q)
@@ -281,8 +273,7 @@ front-later e first p h hs k = rw (k, front_in) refl
 
 -- An empty text isn't such a text.
 some-nil : (first : Bool) → IsSome first [] → ⊥
-some-nil true h = h tt
-some-nil false h = h refl
+some-nil first h = grind (arith)
 
 -- One more line at the front.
 after-line : (e : Encoding) (first : Bool) (h : HeldLine) (hs : List HeldLine) (p q front : List ℕ) → p ≡ added_by first h.text ++ q → HasFront e false hs q front
@@ -444,17 +435,10 @@ blanks-end [] h b = absurd (h refl)
 blanks-end (c ∷ []) h b = rw b.0 refl
 blanks-end (c ∷ d ∷ x) h b = blanks-end (d ∷ x) (λ q. cc) b.1
 
--- So does a separator with blanks after it.
-sign-end : (sign : ℕ) (x : List ℕ) → is_separator sign ≡ true → AreBlanks x → ends ends_key (sign ∷ x) ≡ true
-sign-end sign [] s b = rw (separator-full sign s) s
-sign-end sign (c ∷ x) s b = blanks-end (c ∷ x) (λ q. cc) b
-
 -- What separates the key from the value ends with a character that ends a key, or both the separator and the value are
 -- empty.
 pub between-end : (between value : List ℕ) → IsBetween between value → (between ≢ []) × (ends ends_key between ≡ true) ⊎ (between ≡ []) × (value ≡ [])
-between-end between value (nothing a b) = inr (a, b)
-between-end between value (blanks h b a c) = inl (h, blanks-end between h b)
-between-end between value (separator before sign after s b t c d) = grind (arith, ends-right, sign-end)
+between-end between value h = grind (arith, blanks-end, ends-right)
 
 -- What comes before the value of a pair may end a head.
 pub pair-end : (line key value : List ℕ) (h : IsPair line key value) → MayEnd (h.indent ++ (key ++ h.between)) value
@@ -473,8 +457,7 @@ pair-some line key value h = grind (arith, blanks-right, begins-front)
     all-empty q = grind (arith, no-front)
 
     of-text : (x : List ℕ) → AreBlanks x → begins is_blank x ≡ false → x ≢ [] → ⊥
-    of-text [] b f n = n refl
-    of-text (c ∷ x) b f n = absurd (cc (b.0, f))
+    of-text x h k m = grind (arith)
 
 -- The lines that are kept and the head add what comes before the value.
 kept-joined : (e : Encoding) (kept : List HeldLine) (line : HeldLine) (more : List HeldLine) (q head : List ℕ) (h : IsHead e (is_first_after true kept) line q head)

@@ -3,7 +3,7 @@ use Rattle.std.proofs.Common.{◌≡◌, ◌⊎◌, ◌<◌, ℕ, true, List, []
 use Rattle.std.proofs.lemmas.List.{append_cancel_right}
 use Rattle.properties_format.specs.Text.{backslash}
 use Rattle.properties_format.specs.Pieces.{Piece, characters}
-use Rattle.properties_format.specs.Encoding.{Encoding, utf_16le, utf_16be, IsPiece, IsPieces, IsAligned, ascii_bytes}
+use Rattle.properties_format.specs.Encoding.{Encoding, IsPiece, IsPieces, IsAligned, ascii_bytes}
 use Rattle.properties_format.specs.Computed.Encoding.{pieces_of}
 use Rattle.properties_format.specs.Computed.Cut.{decoded_line}
 use Rattle.properties_format.specs.Edited.{is_editable}
@@ -17,9 +17,7 @@ use Rattle.properties_format.proofs.Cut.Byline.{nothing-decoded}
 
 -- In an encoding that can be edited, every byte is at a unit's boundary.
 pub aligned-editable : (e : Encoding) (d : List ℕ) → is_editable e ≡ true → IsAligned e d
-aligned-editable utf_16le d ok = absurd (cc)
-aligned-editable utf_16be d ok = absurd (cc)
-aligned-editable e d ok = tt
+aligned-editable e d h = grind (arith)
 
 -- Bytes that are cut after these pieces: the head has the bytes of these pieces, and the rest has those of the others.
 record IsCutAfter (e : Encoding) (d : List ℕ) (ps : List Piece) (x y : List ℕ) : Type 0 where
@@ -83,9 +81,7 @@ EndsInAscii x = (w : List ℕ) × (c : ℕ) × (x ≡ w ++ c ∷ []) × (c < 0x8
 
 -- Only the bytes of an ASCII character decode to it.
 pub ascii-own : (e : Encoding) (c : ℕ) → is_editable e ≡ true → ascii_bytes e c ≡ c ∷ []
-ascii-own utf_16le c ok = absurd (cc)
-ascii-own utf_16be c ok = absurd (cc)
-ascii-own e c ok = refl
+ascii-own e c h = grind (arith)
 
 -- Bytes whose text ends in an ASCII character end in that character, and the bytes before it decode to the text before
 -- it.

@@ -1,9 +1,9 @@
 -- The computed parts of a pair's line are its parts: what separates the key from the value, and what comes before the
 -- value.
-use Rattle.std.proofs.Common.{◌≡◌, ℕ, ◌-◌, true, false, List, [], ◌∷◌, ◌++◌, length, take, ap, ap₂, sym, ◌∙◌, arith, append_assoc, length-append}
+use Rattle.std.proofs.Common.{◌≡◌, ℕ, ◌-◌, true, false, List, ◌++◌, length, take, ap, ap₂, ◌∙◌, arith, append_assoc, length-append}
 use Rattle.std.proofs.Math.Seq.{take-append_seam}
 use Rattle.properties_format.specs.Text.{is_comment_sign, without_leading_blanks}
-use Rattle.properties_format.specs.Groups.{is_comment_line, begins_with_comment_sign}
+use Rattle.properties_format.specs.Groups.{is_comment_line}
 use Rattle.properties_format.specs.Split.{begins, IsPair}
 use Rattle.properties_format.specs.Computed.Split.{Cut, cut_key}
 use Rattle.properties_format.specs.Computed.Valued.{without_end, after_key, written_value, between_in, before_value}
@@ -48,5 +48,4 @@ pub comment_line-no_pair : (line key value : List ℕ) → is_comment_line line 
 comment_line-no_pair line key value c h = grind (arith, without_leading_blanks-only)
   where
     of_text : (x : List ℕ) → without_leading_blanks line ≡ x → begins is_comment_sign x ≡ false → ⊥
-    of_text [] s b = let m : begins_with_comment_sign [] ≡ true = ap begins_with_comment_sign (sym s) ∙ c in absurd (cc)
-    of_text (d ∷ x) s b = let m : begins_with_comment_sign (d ∷ x) ≡ true = ap begins_with_comment_sign (sym s) ∙ c in absurd (cc)
+    of_text x h k = grind (arith)

@@ -18,7 +18,7 @@ use Rattle.properties_format.proofs.Groups.Open.{is_open-other}
 use Rattle.properties_format.proofs.Escapes.Laws.{IsWhole, AreWhole, meaning_of-all}
 use Rattle.properties_format.proofs.Printing.Characters.{AreAscii, AreEncodable-ascii, printed-encodable, printed-either, unicode_escape-ascii}
 use Rattle.properties_format.proofs.ReadBack.Spellings.{IsSafe, IsSafelyPrinted, special-printed, unicode-printed, in_key_or_value-printed}
-use Rattle.properties_format.proofs.ReadBack.Texts.{safe-whole, safe-plain, safe-closed, safe-begins}
+use Rattle.properties_format.proofs.ReadBack.Texts.{safe-plain, safe-closed, safe-begins}
 use Rattle.properties_format.proofs.ReadBack.Bytes.{AreWritable, ascii-scalars, writable-append}
 
 -- ---- spellings that may be used in such a value
@@ -64,8 +64,7 @@ safely-loose x c s = record { spelling = s.spelling; text = s.text; character = 
 
 -- A loose spelling is whole.
 loose-whole : (p : Spelling) → IsLoose p → IsWhole p
-loose-whole p (inl h) = safe-whole p h
-loose-whole p (inr h) = subst IsWhole (sym h.1) h.2
+loose-whole p h = grind (arith)
 
 -- Loose spellings are whole.
 are_loose-whole : (ps : List Spelling) → AreLoose ps → AreWhole ps
@@ -78,8 +77,7 @@ loose-means x y s = ap meaning_of s.text ∙ meaning_of-all s.spellings (are_loo
 
 -- A loose spelling contains no line end.
 loose-plain : (p : Spelling) → IsLoose p → HoldsNoLineEnd (spelling_text p)
-loose-plain p (inl h) = safe-plain p h
-loose-plain p (inr h) = subst (λ v. HoldsNoLineEnd (spelling_text v)) (sym h.1) (h.3, tt)
+loose-plain p h = grind (arith, safe-plain)
 
 -- Loose spellings contain no line end.
 are_loose-plain : (ps : List Spelling) → AreLoose ps → HoldsNoLineEnd (spellings_before ps [])
@@ -92,8 +90,7 @@ loosely-plain x y s = rw s.text (are_loose-plain s.spellings s.loose)
 
 -- A loose spelling leaves no line open.
 loose-closed : (p : Spelling) (x : List ℕ) → IsLoose p → is_open x ≡ false → is_open (x ++ spelling_text p) ≡ false
-loose-closed p x (inl h) o = safe-closed p x h o
-loose-closed p x (inr h) o = ap (λ v. is_open (x ++ spelling_text v)) h.1 ∙ is_open-other x h.0 h.2
+loose-closed p x h k = grind (arith, safe-closed, is_open-other)
 
 -- Loose spellings leave no line open.
 are_loose-closed : (ps : List Spelling) (x : List ℕ) → AreLoose ps → is_open x ≡ false → is_open (x ++ spellings_before ps []) ≡ false
@@ -145,8 +142,7 @@ rest-loose e only (c ∷ d ∷ cs) h = loose-cons (printed_inside e only c) (pri
 
 -- The test for a value that is a single space.
 alone-space : (c : ℕ) (cs : List ℕ) → (is_empty cs && c == space) ≡ true → (cs ≡ []) × ((c == space) ≡ true)
-alone-space c [] h = (refl, h)
-alone-space c (d ∷ cs) h = absurd (cc)
+alone-space c cs h = grind (arith)
 
 -- What is printed for a value is loosely spelt.
 pub value-loose : (e : Encoding) (only : Bool) (after_blanks : Bool) (value : List ℕ) → AllByRecursion scalar value → AreLooselyPrinted (printed_value e only after_blanks value) value
@@ -215,6 +211,5 @@ rest-writable e only (c ∷ d ∷ cs) h = writable-append e (printed_inside e on
 
 -- What is printed for a value of scalar values can be written.
 pub value-writable : (e : Encoding) (only : Bool) (after_blanks : Bool) (value : List ℕ) → AllByRecursion scalar value → AreWritable e (printed_value e only after_blanks value)
-value-writable e only after_blanks [] h = ascii-writable e [] tt
-value-writable e only after_blanks (c ∷ cs) h =
+value-writable e only after_blanks value h =
     grind (arith, writable-append, first-writable, rest-writable)

@@ -97,8 +97,7 @@ open-some e (b ∷ d) x s o = omega arith
 -- The backslash that leaves a line open is one byte, if there is one.
 open-size : (o : Bool) → utf8_size (if o then backslash ∷ [] else []) ≡ (if o then 1 else 0)
 unfolding std_utf8.encode
-open-size true = refl
-open-size false = refl
+open-size o = grind (arith)
 
 -- A line without its indentation has as many bytes in UTF-8 as what it adds, and one more if it is open.
 pub added-size : (first : Bool) (x : List ℕ)
@@ -145,8 +144,7 @@ walk-here e first h hs left value w l =
 
 -- If a line adds more than is left, the front may end in it.
 may-here : (p r j v : List ℕ) → (p ++ r) ++ j ≡ p ++ v → r ≢ [] → MayEnd p v → ends ends_key p ≡ true
-may-here p r j v s some (inl k) = k
-may-here p r j v s some (inr k) = grind (arith, no-front, append_cancel_left, append_assoc)
+may-here p r j v h k m = grind (arith, no-front, append_cancel_left, append_assoc)
 
 -- If less is left than a line adds, the front ends inside it: at the index after as many ASCII bytes as the text of the
 -- line has ASCII characters up to there.
