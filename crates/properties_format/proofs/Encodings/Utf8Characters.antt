@@ -1,6 +1,6 @@
 -- The characters of UTF-8 sequences.
-use Rattle.std.proofs.Common.{◌≡◌, ℕ, ◌+◌, ◌/◌, ◌%◌, ◌<◌, ◌≤◌, ◌⊎◌, nat_lt, List, [], ◌∷◌, ◌∙◌, inl, inr, arith, lt-ltb}
-use Rattle.std.proofs.lemmas.Bool.{cond-true, cond-false, cases_lt, le-ltb}
+use Rattle.std.proofs.Common.{◌≡◌, ℕ, ◌+◌, ◌/◌, ◌%◌, ◌<◌, ◌≤◌, ◌⊎◌, nat_lt, List, [], ◌∷◌, ◌∙◌, arith, lt-ltb}
+use Rattle.std.proofs.lemmas.Bool.{cond-true, cond-false, le-ltb}
 use Rattle.std.specs.Char.{encode_utf8}
 use Rattle.properties_format.specs.Text.{scalar}
 use Rattle.properties_format.specs.Utf8.{tail, IsIn, IsWellFormed, sequence_character}
@@ -50,10 +50,4 @@ is_sequence-long c l h = grind (arith, encode-three, encode-four)
 
 -- The bytes of a character are its sequence.
 pub encode-is_sequence : (c : ℕ) → scalar c → IsSequenceOf (encode_utf8 c) c
-encode-is_sequence c h = elim (cases_lt c 0x80) [
-  | inl k ↦ rw (encode-one c k) (inl ((omega arith, omega arith), tt), omega arith)
-  | inr k ↦ elim (cases_lt c 0x800) [
-    | inl m ↦ rw (encode-two c k m) (inr (inl ((omega arith, omega arith), (next-in c, tt))), omega arith)
-    | inr m ↦ is_sequence-long c m h
-  ]
-]
+encode-is_sequence c h = grind (arith, encode-one, encode-two, next-in, is_sequence-long)
