@@ -54,9 +54,10 @@ pub malformed_escapes_of-only : (e : Encoding) (bytes : List ℕ) (escapes : Lis
     → escapes ≡ malformed_escapes_of e bytes
 unfolding malformed_escapes_of
 malformed_escapes_of-only e bytes escapes h =
-    cc (escapes_in-only h.groups escapes h.are_escapes,
-    groups_of-only (numbered_lines h.lines end) end h.groups h.grouped, lines_of-only h.text h.lines h.divided,
-    decoded_of-only e bytes h.text h.decoded)
+    escapes_in-only h.groups escapes h.are_escapes
+    ∙ ap escapes_in (groups_of-only (numbered_lines h.lines end) end h.groups h.grouped)
+    ∙ ap (λ v. escapes_in (groups_of (numbered_lines v end) end)) (lines_of-only h.text h.lines h.divided)
+    ∙ ap (λ v. escapes_in (groups_of (numbered_lines (lines_of v) end) end)) (decoded_of-only e bytes h.text h.decoded)
 
 -- The malformed escapes of the input are those of its groups.
 pub escapes_in-groups : (e : Encoding) (bytes : List ℕ) (gs : List (List Line)) → IsGroups (numbered_lines (lines_of (decoded_of e bytes)) end) end gs

@@ -342,5 +342,7 @@ groups-bytes (g ∷ gs) = ap (λ v. group_bytes g ++ v) (groups-bytes gs) ∙ sy
 -- The bytes of the groups of a body are the body.
 pub held-body : (e : Encoding) (body : List ℕ) (gs : List (List HeldLine)) → is_editable e ≡ true → AreGroupsOf e body gs → groups_bytes gs ≡ body
 held-body e body gs ok h =
-    rw (groups-bytes gs, held_of-only e h.cut.ended h.cut.last (held_in gs) h.are_held,
-    held-bytes e h.cut.ended h.cut.last, ← (IsCut-lines e body h.cut ok h.is_cut).text)
+    groups-bytes gs
+    ∙ ap group_bytes (held_of-only e h.cut.ended h.cut.last (held_in gs) h.are_held)
+    ∙ held-bytes e h.cut.ended h.cut.last
+    ∙ sym (IsCut-lines e body h.cut ok h.is_cut).text

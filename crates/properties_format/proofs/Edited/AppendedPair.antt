@@ -33,8 +33,10 @@ left-outcome by g left (inr m) = ap (λ v. outcomes_of (as_groups v)) m.is ∙ a
 closed-outcomes : (e : Encoding) (by : LineEnding) (gs : List (List HeldLine)) (k : AreClosedBy e by gs)
     → outcomes_of (as_groups (k.before ++ k.left)) ≡ outcomes_of (as_groups gs)
 closed-outcomes e by gs k =
-    rw (outcomes_of-append k.before k.left, left-outcome by k.final k.left k.is_left,
-    ← outcomes_of-append k.before (k.final ∷ []), ← k.division)
+    outcomes_of-append k.before k.left
+    ∙ ap (λ v. outcomes_of (as_groups k.before) ++ v) (left-outcome by k.final k.left k.is_left)
+    ∙ sym (outcomes_of-append k.before (k.final ∷ []))
+    ∙ ap (λ v. outcomes_of (as_groups v)) (sym k.division)
 
 -- An empty last line isn't a pair.
 pub empty-other : (e : Encoding) (key : List ℕ) → ¬ (HasKey key (empty_line e None ∷ []))
@@ -83,5 +85,7 @@ module _ (e : Encoding) (by second : LineEnding) (gs : List (List HeldLine)) (ke
   pub appended-outcomes : (old : List Content) → outcomes_of (as_groups gs) ≡ givens old
       → outcomes_of (as_groups appended_groups) ≡ givens (old ++ pair key value ∷ [])
   appended-outcomes old told =
-      cc (outcomes_of-append closed ((line ∷ []) ∷ last ∷ []), closed-outcomes e by gs k, outcomes-empty e None,
-      givens-append old (pair key value ∷ []))
+      outcomes_of-append closed ((line ∷ []) ∷ last ∷ [])
+      ∙ ap₂ (λ v w. v ++ w) (closed-outcomes e by gs k ∙ told)
+      (ap₂ (λ o p. outcome_before o (outcome_before p [])) said (outcomes-empty e None))
+      ∙ sym (givens-append old (pair key value ∷ []))

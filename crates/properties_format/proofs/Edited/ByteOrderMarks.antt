@@ -84,8 +84,12 @@ unmarked-body e source h = ap (λ v. let u : InForce = v in u.body) (byte_order_
 -- What follows an ASCII byte doesn't matter.
 pub ascii-cut : (x y z : List ℕ) → HasAscii x → begins_like_bom (x ++ y) ≡ begins_like_bom (x ++ z)
 ascii-cut x y z (u, c, v, s, l) =
-    cc (append_assoc u (c ∷ v) y, byte_order_mark-cut u c (v ++ y) l, byte_order_mark-cut u c (v ++ z) l,
-    append_assoc u (c ∷ v) z)
+    ap (λ w. begins_like_bom (w ++ y)) s
+    ∙ ap begins_like_bom (append_assoc u (c ∷ v) y)
+    ∙ byte_order_mark-cut u c (v ++ y) l
+    ∙ sym (byte_order_mark-cut u c (v ++ z) l)
+    ∙ ap begins_like_bom (sym (append_assoc u (c ∷ v) z))
+    ∙ ap (λ w. begins_like_bom (w ++ z)) (sym s)
 
 -- What follows a line ending doesn't matter.
 pub ending-cut : (x : List ℕ) (by : LineEnding) (y : List ℕ) → begins_like_bom (x ++ (line_ending_text by ++ y)) ≡ begins_like_bom x
@@ -120,9 +124,10 @@ pub front-unmarked : (g : List HeldLine) (gs : List (List HeldLine)) (y z : List
     → begins_like_bom (groups_bytes (g ∷ gs) ++ z) ≡ false
     → begins_like_bom (groups_bytes (g ∷ gs) ++ y) ≡ false
 front-unmarked g gs y z a h =
-    cc (append_assoc (group_bytes g) (groups_bytes gs) y,
-    ascii-cut (group_bytes g) (groups_bytes gs ++ y) (groups_bytes gs ++ z) a,
-    append_assoc (group_bytes g) (groups_bytes gs) z)
+    ap begins_like_bom (append_assoc (group_bytes g) (groups_bytes gs) y)
+    ∙ ascii-cut (group_bytes g) (groups_bytes gs ++ y) (groups_bytes gs ++ z) a
+    ∙ ap begins_like_bom (sym (append_assoc (group_bytes g) (groups_bytes gs) z))
+    ∙ h
 
 -- A group that others follow contains an ASCII byte.
 pub first-ascii : (e : Encoding) (g : List HeldLine) (gs : List (List HeldLine)) (h : List HeldLine) (hs : List (List HeldLine))

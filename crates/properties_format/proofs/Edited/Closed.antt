@@ -136,8 +136,9 @@ closed-by e by (g1 ∷ gs1) h good = of-parts (last-group g1 gs1)
 
         whole_bytes : (x : List ℕ) → groups_bytes init ++ (group_bytes g ++ x) ≡ groups_bytes gs ++ x
         whole_bytes x =
-            rw (← append-nil (group_bytes g), ← append_assoc (groups_bytes init) (groups_bytes (g ∷ [])) x,
-            ← groups_bytes-append init (g ∷ []), ← s)
+            ap (λ v. groups_bytes init ++ (v ++ x)) (sym (append-nil (group_bytes g)))
+            ∙ sym (append_assoc (groups_bytes init) (groups_bytes (g ∷ [])) x)
+            ∙ ap (λ v. v ++ x) (sym (groups_bytes-append init (g ∷ [])) ∙ ap groups_bytes (sym s))
 
         n : Ended
         n = record { text = h.last; by = by }

@@ -1,7 +1,7 @@
 -- A text of scalar values means a text of scalar values.
 use Rattle.std.proofs.Common.{◌≡◌, ℕ, ◌<◌, All, true, false, List, [], ◌∷◌, ◌++◌, map, sym, inl, subst, arith, lit<}
 use Rattle.std.proofs.lemmas.Bool.{and_parts}
-use Rattle.std.proofs.lemmas.List.Elements.{All-nil, All-head, All-tail}
+use Rattle.std.proofs.lemmas.List.Elements.{All-nil, All-head, All-tail, All-cons}
 use Rattle.properties_format.specs.Text.{backslash, scalar}
 use Rattle.properties_format.specs.Escapes.{Four, is_hexadecimal, hexadecimal_value, are_hexadecimal, code_unit, is_surrogate, escaped_character, Spelling, itself, escaped, unicode, surrogates, last, spelling_text, spelling_character, IsSpelling, spellings_before, AreSpellings, Means}
 use Rattle.properties_format.proofs.Encodings.Characters.{pair-scalar}
@@ -39,8 +39,9 @@ spelling-scalar last rest h k = inl (lit< tt)
 pub spellings-scalars : (ps : List Spelling) (rest : List ℕ) → AreSpellings ps rest → All scalar (spellings_before ps rest) → All scalar (map spelling_character ps)
 spellings-scalars [] rest h k = All-nil scalar
 spellings-scalars (p ∷ ps) rest h k =
-    grind (arith, spelling-scalar,
-    spellings-scalars ps rest h.1 (rest-scalars (spelling_text p) (spellings_before ps rest) k))
+    All-cons scalar (spelling_character p) (map spelling_character ps)
+    (spelling-scalar p (spellings_before ps rest) h.0 k)
+    (spellings-scalars ps rest h.1 (rest-scalars (spelling_text p) (spellings_before ps rest) k))
 
 -- A text of scalar values means a text of scalar values.
 pub means-scalars : (text meant : List ℕ) → Means text meant → All scalar text → All scalar meant

@@ -158,8 +158,11 @@ before-whole (p ∷ ps) h = unless-whole p (before ps) (h.0, before-whole ps h.1
 -- blanks at their ends.
 pub meaning_of-trimmed : (ps : List Spelling) → AreWhole ps → AllKeepBlanks ps → meaning_of (trimmed (spellings_before ps [])) ≡ means (trimmed (map spelling_character ps))
 meaning_of-trimmed ps h k =
-    simp (without_leading_blanks-text, without_trailing_blanks-text, past-keep, without_leading_blanks-characters,
-    without_trailing_blanks-characters, meaning_of-all, before-whole, past-whole)
+    let e : trimmed (spellings_before ps [])
+    ≡ spellings_before (before (past ps)) [] = ap without_trailing_blanks (without_leading_blanks-text ps k) ∙ without_trailing_blanks-text (past ps) (past-keep ps k) in
+    let f : trimmed (map spelling_character ps)
+    ≡ map spelling_character (before (past ps)) = ap without_trailing_blanks (without_leading_blanks-characters ps) ∙ without_trailing_blanks-characters (past ps) in
+    ap meaning_of e ∙ meaning_of-all (before (past ps)) (before-whole (past ps) (past-whole ps h)) ∙ ap means (sym f)
 
 -- ---- which spellings keep blanks
 

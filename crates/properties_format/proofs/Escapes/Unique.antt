@@ -63,9 +63,12 @@ meaning_of-empty = refl
 
 -- What a text means is the computed meaning.
 pub means-only : (text meant : List ℕ) → Means text meant → means meant ≡ meaning_of text
-means-only text meant m =
-    cc (meaning_of-spellings m.spellings [] m.each, meaning_of-empty,
-    text_in_front-means (map spelling_character m.spellings) [], append-nil (map spelling_character m.spellings))
+means-only text meant m = sym (
+    ap meaning_of m.whole
+    ∙ meaning_of-spellings m.spellings [] m.each
+    ∙ ap (text_in_front (map spelling_character m.spellings)) meaning_of-empty
+    ∙ text_in_front-means (map spelling_character m.spellings) []
+    ∙ ap means (append-nil (map spelling_character m.spellings) ∙ sym m.characters))
 
 -- If no spelling begins a text, none is found.
 none-found : (c : ℕ) (cs : List ℕ) (o : Option Spelling) → NoSpelling (c ∷ cs) → IsFound (c ∷ cs) o → o ≡ None
@@ -80,10 +83,12 @@ meaning_of-fault after n =
 
 -- How a text is malformed is the computed meaning.
 pub breaks-only : (text : List ℕ) (kind : Malformed) → Breaks text kind → breaks kind ≡ meaning_of text
-breaks-only text kind b =
-    cc (meaning_of-spellings b.spellings (backslash ∷ letter_u ∷ b.after) b.each,
-    meaning_of-fault b.after b.no_spelling,
-    text_in_front-breaks (map spelling_character b.spellings) (malformed_by b.after))
+breaks-only text kind b = sym (
+    ap meaning_of b.whole
+    ∙ meaning_of-spellings b.spellings (backslash ∷ letter_u ∷ b.after) b.each
+    ∙ ap (text_in_front (map spelling_character b.spellings)) (meaning_of-fault b.after b.no_spelling)
+    ∙ text_in_front-breaks (map spelling_character b.spellings) (malformed_by b.after)
+    ∙ ap breaks (sym b.fault))
 
 -- What a text resolves to is the computed meaning.
 pub meaning_of-only : (text : List ℕ) (m : Meaning) → IsMeaning text m → m ≡ meaning_of text

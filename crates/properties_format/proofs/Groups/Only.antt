@@ -10,8 +10,9 @@ after-whole : (m : Line) (ms : List Line) (l : Line) (ls rest : List Line) (e : 
     → groups_after (m ∷ ms) (l ∷ ls ++ rest) e ≡ (m ∷ ms ++ l ∷ ls) ∷ groups_of rest e
 after-whole m ms l [] rest e h = groups_after-closed (m ∷ ms) l rest e h
 after-whole m ms l (n ∷ ns) rest e h =
-    rw (groups_after-open m ms l (n ∷ ns ++ rest) e h.0, after-whole m (ms ++ l ∷ []) n ns rest e h.1,
-    append_assoc ms (l ∷ []) (n ∷ ns))
+    groups_after-open m ms l (n ∷ ns ++ rest) e h.0
+    ∙ after-whole m (ms ++ l ∷ []) n ns rest e h.1
+    ∙ ap (λ v. (m ∷ v) ∷ groups_of rest e) (append_assoc ms (l ∷ []) (n ∷ ns))
 
 -- A whole group that doesn't begin with a comment line, before some lines, comes before their groups.
 begins-whole : (l : Line) (ls rest : List Line) (e : InputEnd) → is_comment_line l.text ≡ false → EndsClosed l ls
@@ -41,8 +42,9 @@ groups_of-together : (gs : List (List Line)) (rest : List Line) (e : InputEnd) �
     → groups_of (lines_in gs ++ rest) e ≡ gs ++ last_group rest e
 groups_of-together [] rest e h k = groups_of-unfinished rest e k
 groups_of-together (g ∷ gs) rest e h k =
-    rw (append_assoc g (lines_in gs) rest, groups_of-before g (lines_in gs ++ rest) e h.0,
-    groups_of-together gs rest e h.1 k)
+    ap (λ v. groups_of v e) (append_assoc g (lines_in gs) rest)
+    ∙ groups_of-before g (lines_in gs ++ rest) e h.0
+    ∙ ap (λ v. g ∷ v) (groups_of-together gs rest e h.1 k)
 
 -- Groups of the lines are the computed ones.
 pub groups_of-only : (ls : List Line) (e : InputEnd) (gs : List (List Line)) → IsGroups ls e gs → gs ≡ groups_of ls e

@@ -63,8 +63,9 @@ pub lines-front : (e : Encoding) (by : LineEnding) (g : List HeldLine) (y : List
     → held_lines_of e (group_bytes g ++ y) ≡ g ++ held_lines_of e y
 lines-front e by [] y ok a k = absurd a
 lines-front e by (h ∷ []) y ok (p, s, t) k =
-    rw (append-nil (ending_bytes h.ending), append_assoc h.bytes (ending_bytes h.ending) y,
-    lines-next e h by y ok p s t k)
+    ap (λ v. held_lines_of e ((h.bytes ++ v) ++ y)) (append-nil (ending_bytes h.ending))
+    ∙ ap (held_lines_of e) (append_assoc h.bytes (ending_bytes h.ending) y)
+    ∙ lines-next e h by y ok p s t k
 lines-front e by (h ∷ i ∷ hs) y ok (p, s, (own, t, n), a) k =
     ap (held_lines_of e)
     (append_assoc h.bytes (ending_bytes h.ending ++ group_bytes (i ∷ hs)) y ∙ ap (λ v. h.bytes ++ v) (append_assoc (ending_bytes h.ending) (group_bytes (i ∷ hs)) y))

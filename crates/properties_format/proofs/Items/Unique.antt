@@ -11,7 +11,7 @@ use Rattle.properties_format.specs.Computed.Split.{split_of}
 use Rattle.properties_format.specs.Escapes.{Meaning, means, breaks, IsMeaning}
 use Rattle.properties_format.specs.Computed.Escapes.{meaning_of}
 use Rattle.properties_format.specs.Items.{comment, pair, Entry, item, Outcome, ignored, given, broken, IsOutcome, IsFollowed, AreEntries, IsItems}
-use Rattle.properties_format.specs.Computed.Items.{comment_outcome, pair_outcome, split_outcome, outcome_of, followed, entries_of, items_of}
+use Rattle.properties_format.specs.Computed.Items.{comment_outcome, pair_outcome, split_outcome, outcome_of, followed, entries_of, items_of, items_of_lines}
 use Rattle.properties_format.proofs.Encodings.Pieces.{decoded_of-meets, decoded_of-only}
 use Rattle.properties_format.proofs.Lines.Meets.{lines_of-meets}
 use Rattle.properties_format.proofs.Lines.Only.{lines_of-only}
@@ -117,6 +117,7 @@ items_of-meets e bytes ending =
 pub items_of-only : (e : Encoding) (bytes : List ℕ) (ending : InputEnd) (entries : List Entry) → IsItems e bytes ending entries → entries ≡ items_of e bytes ending
 unfolding items_of
 items_of-only e bytes ending entries h =
-    rw (entries_of-only (line_ends h.lines) ending h.groups entries h.are_entries,
-    groups_of-only (numbered_lines h.lines ending) ending h.groups h.grouped, lines_of-only h.text h.lines h.divided,
-    decoded_of-only e bytes h.text h.decoded)
+    entries_of-only (line_ends h.lines) ending h.groups entries h.are_entries
+    ∙ ap (λ v. entries_of (line_ends h.lines) ending v) (groups_of-only (numbered_lines h.lines ending) ending h.groups h.grouped)
+    ∙ ap (λ v. items_of_lines v ending) (lines_of-only h.text h.lines h.divided)
+    ∙ ap (λ v. items_of_lines (lines_of v) ending) (decoded_of-only e bytes h.text h.decoded)

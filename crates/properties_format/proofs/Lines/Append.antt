@@ -26,8 +26,10 @@ goes-line : (text : List ℕ) (by : LineEnding) (ls : List Ended) (last : List �
     → Goes ls last → Goes (record { text = text; by = by } ∷ ls) last
 unfolding Goes
 goes-line text by ls last h k m goes n y e =
-    cc (regroup text by (put_together ls last) y,
-    lines_to_come-line n [] text by (put_together ls last ++ y) e tt h (k y), goes (n + 1) y e, one-more n (length ls))
+    ap (λ v. lines_to_come n false [] v e) (regroup text by (put_together ls last) y)
+    ∙ lines_to_come-line n [] text by (put_together ls last ++ y) e tt h (k y)
+    ∙ ap (λ v. record { number = n + 1; text = text } ∷ v) (goes (n + 1) y e)
+    ∙ rw (m, one-more n (length ls)) refl
 
 -- A CR at the end of the text.
 goes-cr : (text : List ℕ) → HoldsNoLineEnd text → Goes (record { text = text; by = cr } ∷ []) []

@@ -35,8 +35,10 @@ cut_key-units (u ∷ us) rest h = grind (arith, cut_key-units us rest h.1)
 -- A key before what ends it.
 pub cut_key-only : (key rest : List ℕ) → IsKey key rest → ends_here rest ≡ true → cut_key (key ++ rest) false ≡ record { key = key; rest = rest }
 cut_key-only key rest k e =
-    cc (units_before-append k.units rest, cut_key-units k.units rest k.each, cut_key-ends rest e,
-    append-nil (units_before k.units []))
+    ap (λ v. cut_key v false) (ap (λ v. v ++ rest) k.whole ∙ sym (units_before-append k.units rest))
+    ∙ cut_key-units k.units rest k.each
+    ∙ ap (with_text (units_before k.units [])) (cut_key-ends rest e)
+    ∙ ap (λ v. let cut : Cut = record { key = v; rest = rest } in cut) (append-nil (units_before k.units []) ∙ sym k.whole)
 
 -- ---- each text is a key followed by what ends it
 

@@ -1,6 +1,6 @@
 -- The computed result of setting a value in place is the result of that edit, and the only one.
 use Rattle.std.proofs.Common.{◌≡◌, ℕ, true, false, List, [], ◌∷◌, ◌++◌, Option, Some, None, refl, ap, ap₂, sym, ◌∙◌, inl, inr, subst, Bool}
-use Rattle.std.proofs.lemmas.Bool.{cases_Bool, cond-false, false_from_ne_true}
+use Rattle.std.proofs.lemmas.Bool.{cases_Bool, cond-false, false_from_ne_true, cond-true}
 use Rattle.std.proofs.lemmas.Slice.Eq.{bytes_eq-Decides}
 use Rattle.properties_format.specs.Encoding.{Encoding, byte_order_mark}
 use Rattle.properties_format.specs.Lines.{Ended}
@@ -216,8 +216,10 @@ valued-meets e only body key value gs (Some p) ok g h = elim (cases_Bool (has_va
 pub valued-only : (e : Encoding) (only : Bool) (body key value : List ℕ) (gs : List (List HeldLine)) (result : List ℕ) → is_editable e ≡ true → AreGroupsOf e body gs
     → IsBodyValued e only gs key value result → result ≡ valued_at e only gs key value (last_place key gs)
 valued-only e only body key value gs result ok g (inl h) =
-    cc (HasPair-test key value h.group h.has_pair,
-    last_place-some key h.before h.group h.after (value, h.has_pair) h.no_later)
+    let p : KeyPlace = record { before = h.before; group = h.group; after = h.after } in
+    h.bytes
+    ∙ sym (cond-true (has_value value h.group) (groups_bytes gs) (revalued_at e only value p) (HasPair-test key value h.group h.has_pair))
+    ∙ ap (valued_at e only gs key value) (sym (ap (last_place key) h.division ∙ last_place-some key h.before h.group h.after (value, h.has_pair) h.no_later))
 valued-only e only body key value gs result ok g (inr (inl h)) =
     let p : KeyPlace = record { before = h.before; group = h.group; after = h.after } in
     let f = front_of-only e h.group h.between h.front ok (group-decoded e body gs h.before h.group h.after g h.division) h.is_front in

@@ -5,6 +5,8 @@ use Rattle.std.proofs.Common.{◌++◌, length, refl, ap, ap₂, sym, ◌∙◌,
 use Rattle.std.specs.Prelude.{nat_lt}
 use Rattle.std.specs.Str.{chars, IsUtf8}
 use Rattle.std.proofs.lemmas.Bool.{cases_Bool, cond-true, lt-ltb}
+use Rattle.properties_format.specs.Pieces.{characters}
+use Rattle.properties_format.specs.Computed.Encoding.{pieces_of}
 use Rattle.properties_format.specs.Text.{backslash}
 use Rattle.properties_format.specs.Encoding.{Encoding, utf_8}
 use Rattle.properties_format.specs.Computed.Cut.{decoded_line}
@@ -49,15 +51,26 @@ count-decoded e (suc n) d ok l = elim (first-ascii d) [
       let a = no_ascii-decoded e k.0 ok k.5 in
       let b : decoded_line e d ≡ decoded_line e k.0 ++ k.1 ∷ decoded_line e k.2 = ap (decoded_line e) k.3 ∙ ascii-among e k.0 k.1 k.2 ok k.4 in
       let z = k.5 in
-      omega (arith, ap ascii_count b, count-append (decoded_line e k.0) (k.1 ∷ decoded_line e k.2), count-ascii k.1 (decoded_line e k.2) k.4,
-      ap ascii_count k.3, count-append k.0 (k.1 ∷ k.2), count-ascii k.1 k.2 k.4)
+      omega (
+        arith,
+        ap ascii_count b,
+        count-append (decoded_line e k.0) (k.1 ∷ decoded_line e k.2),
+        count-ascii k.1 (decoded_line e k.2) k.4,
+        ap ascii_count k.3,
+        count-append k.0 (k.1 ∷ k.2),
+        count-ascii k.1 k.2 k.4,
+      )
 ]
 
 -- A text has as many ASCII characters as its UTF-8 bytes have ASCII bytes.
 pub count-text : (x : List ℕ) → IsUtf8 x → ascii_count (chars x) ≡ ascii_count x
 count-text x u =
-    cc (append-nil (chars x), pieces_of-nil utf_8, characters-text x [] u, append-nil x,
-    count-decoded utf_8 (suc (length x)) x refl (omega arith))
+    ap ascii_count
+    (sym (append-nil (chars x))
+    ∙ ap (λ v. chars x ++ v) (sym (ap characters (pieces_of-nil utf_8)))
+    ∙ sym (characters-text x [] u)
+    ∙ ap (λ v. characters (pieces_of utf_8 v)) (append-nil x))
+    ∙ count-decoded utf_8 (suc (length x)) x refl (omega arith)
 
 -- ---- positions
 
