@@ -3,8 +3,6 @@ use Rattle.std.proofs.Common.{◌≡◌, ℕ, ◌%◌, ◌^◌, ◌<◌, ◌≤�
 use Rattle.properties_format.specs.Text.{scalar}
 use Rattle.properties_format.specs.Utf8.{IsWellFormed, sequence_character}
 
--- ---- A fact about the bytes of a row, from a fact about each of them.
-
 -- ---- The character of a sequence is a scalar value.
 
 -- if the character is ASCII, the sequence is one byte

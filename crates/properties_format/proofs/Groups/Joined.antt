@@ -6,8 +6,6 @@ use Rattle.properties_format.specs.Lines.{Line}
 use Rattle.properties_format.specs.Groups.{is_open, is_comment_line, without_open_backslash, joined_after, joined}
 use Rattle.properties_format.proofs.Groups.Open.{without_open_backslash-closed}
 
--- ---- how a line begins
-
 -- ---- logical lines
 
 -- A comment line is unchanged.
