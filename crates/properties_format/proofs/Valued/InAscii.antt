@@ -60,7 +60,7 @@ rest-same e f [] = refl
 rest-same e f (c ∷ []) = ap (λ x. cond (c == space) (unit_escape space) x) (inside-same e f c)
 rest-same e f (c ∷ d ∷ cs) = ap₂ (λ v w. v ++ w) (inside-same e f c) (rest-same e f (d ∷ cs))
 
--- the whole value,
+-- and the whole value.
 pub printed_value-same : (e f : Encoding) (after_blanks : Bool) (value : List ℕ) → printed_value e true after_blanks value ≡ printed_value f true after_blanks value
 printed_value-same e f after_blanks [] = refl
 printed_value-same e f after_blanks (c ∷ cs) = cc (inside-same e f c, rest-same e f cs)
@@ -89,7 +89,7 @@ pair_bytes-ascii e first key value = encoded-in_ascii e _ (pair-text_ascii e fir
 pub key_bytes-same : (e f : Encoding) (first : Bool) (key : List ℕ) → encoded_text e (printed_key e true first key) ≡ encoded_text f (printed_key f true first key)
 key_bytes-same e f first key = encoded-same e f _ _ (printed_key-ascii e first key) (printed_key-same e f first key)
 
--- those of a value,
+-- and those of a value.
 pub value_bytes-same : (e f : Encoding) (after_blanks : Bool) (value : List ℕ)
     → encoded_text e (printed_value e true after_blanks value) ≡ encoded_text f (printed_value f true after_blanks value)
 value_bytes-same e f after_blanks value = encoded-same e f _ _ (printed_value-ascii e after_blanks value) (printed_value-same e f after_blanks value)
