@@ -5,15 +5,15 @@ use Rattle.std.specs.Prelude.{Option, Some, None, is_some, nat_lt}
 use Rattle.std.specs.List.{AllByRecursion}
 use Rattle.std.proofs.lemmas.List.Elements.{All-from_recursion, recursion_from_All}
 use Rattle.std.proofs.lemmas.Bool.{cases_Bool, and_left, cond_both}
-use Rattle.properties_format.specs.Text.{line_ending_text, backslash, space}
+use Rattle.properties_format.specs.Text.{line_ending_text, backslash}
 use Rattle.properties_format.specs.Encoding.{Encoding, windows_1252, utf_8, encoded, begins_like_bom}
 use Rattle.properties_format.specs.Lines.{end}
 use Rattle.properties_format.specs.Entries.{Content, comment, pair}
 use Rattle.properties_format.specs.Items.{IsItems}
 use Rattle.properties_format.specs.Settings.{Settings, IsGoodSeparator}
 use Rattle.properties_format.specs.Computed.Settings.{is_good_prefix, is_good_separator}
-use Rattle.properties_format.specs.Printing.{Place, in_key_or_value, in_comment, in_prefix, unicode_escape, may_be_unescaped, literal, is_special, letter_escape, has_letter, printed_character, printed_characters, encoded_text, is_bom_like, with_first_escaped, printed_key, printed_text, printed}
-use Rattle.properties_format.specs.Writing.{Call, comment_call, pair_call, prefix_call, separator_call, ending_call, flush_call, ascii_only_call, settings_after_call, settings_after, written_line, lines_with, line_bytes, wrote, items_read_back, ArePrefixesClean, AreOfScalars, AreGoodSettings}
+use Rattle.properties_format.specs.Printing.{Place, in_key_or_value, in_comment, in_prefix, unicode_escape, may_be_unescaped, literal, letter_escape, printed_character, printed_characters, encoded_text, is_bom_like, with_first_escaped, printed_key, printed_text, printed}
+use Rattle.properties_format.specs.Writing.{Call, prefix_call, separator_call, ascii_only_call, settings_after_call, settings_after, written_line, lines_with, line_bytes, wrote, items_read_back, ArePrefixesClean, AreOfScalars, AreGoodSettings}
 use Rattle.properties_format.specs.AsciiOnly.{KeepsAsciiOnly, AllKeepAsciiOnly, AreAsciiOnly, AreAsciiBytes, AreItemsInBoth}
 use Rattle.properties_format.proofs.Printing.Characters.{AreAscii, AreAscii-append, encoded_text-ascii, line_end-ascii, good_separator-ascii, may_be_unescaped-ascii, printed-either}
 use Rattle.properties_format.proofs.Settings.Tests.{IsGoodSeparator-from_test}
@@ -39,8 +39,7 @@ literal-same e f c = ap (λ b. cond b (c ∷ []) (unicode_escape c)) (may_be_une
 
 -- A character is printed the same in every encoding.
 pub printed-same : (e f : Encoding) (place : Place) (c : ℕ) → printed_character e true place c ≡ printed_character f true place c
-printed-same e f in_key_or_value c =
-    ap (λ x. cond (is_special c) (backslash ∷ c ∷ []) (cond (has_letter c) (letter_escape c) (cond (nat_lt c space) (unicode_escape c) x))) (literal-same e f c)
+printed-same e f in_key_or_value c = rw (literal-same e f c)
 printed-same e f in_comment c = ap (λ x. cond (c == backslash) (backslash ∷ backslash ∷ []) (cond (c == 0x0a || c == 0x0d) (letter_escape c) x)) (literal-same e f c)
 printed-same e f in_prefix c = literal-same e f c
 
@@ -139,24 +138,17 @@ line-shared e f s n (Some line) on g = printed-shared e f s (n == 0) line on g
 
 -- A call that doesn't turn it off leaves it on.
 call-on : (s : Settings) (call : Call) → s.ascii_only ≡ true → KeepsAsciiOnly call → (settings_after_call s call).ascii_only ≡ true
-call-on s (comment_call text) on k = on
-call-on s (pair_call key value) on k = on
 call-on s (prefix_call prefix) on k = cond_both (is_good_prefix prefix) (record s { comment_prefix = prefix }) s (λ v. v.ascii_only ≡ true) (λ h. on) (λ h. on)
 call-on s (separator_call separator) on k = cond_both (is_good_separator separator) (record s { kv_separator = separator }) s (λ v. v.ascii_only ≡ true) (λ h. on) (λ h. on)
-call-on s (ending_call line_ending) on k = on
-call-on s flush_call on k = on
 call-on s (ascii_only_call mode) on k = k
+call-on s call on k = on
 
 -- A good separator stays good after a call.
 separator-kept : (s : Settings) (call : Call) → IsGoodSeparator s.kv_separator → IsGoodSeparator (settings_after_call s call).kv_separator
-separator-kept s (comment_call text) g = g
-separator-kept s (pair_call key value) g = g
 separator-kept s (prefix_call prefix) g = cond_both (is_good_prefix prefix) (record s { comment_prefix = prefix }) s (λ v. IsGoodSeparator v.kv_separator) (λ h. g) (λ h. g)
 separator-kept s (separator_call separator) g =
     cond_both (is_good_separator separator) (record s { kv_separator = separator }) s (λ v. IsGoodSeparator v.kv_separator) (λ h. IsGoodSeparator-from_test separator h) (λ h. g)
-separator-kept s (ending_call line_ending) g = g
-separator-kept s flush_call g = g
-separator-kept s (ascii_only_call mode) g = g
+separator-kept s call g = g
 
 -- The bytes of calls that don't turn it off are shared.
 wrote-shared : (e f : Encoding) (s : Settings) (n : ℕ) (calls : List Call) → s.ascii_only ≡ true → AllKeepAsciiOnly calls

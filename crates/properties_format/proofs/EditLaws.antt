@@ -1,24 +1,26 @@
 -- The laws of edits.
-use Rattle.std.proofs.Common.{◌≡◌, ℕ, ◌+◌, true, false, List, [], ◌∷◌, ◌++◌, length, Option, Some, None, refl, ap, sym, ◌∙◌, inl, inr, subst, Bool}
+use Rattle.std.proofs.Common.{◌≡◌, ◌↔◌, ℕ, ◌+◌, true, false, List, [], ◌∷◌, ◌++◌, length, Option, Some, None, refl, ap, sym, ◌∙◌, inl, inr, subst, Bool}
 use Rattle.std.specs.Prelude.{bytes_eq}
-use Rattle.std.proofs.lemmas.Bool.{cond-true, cond-false, false_from_ne_true, cases_Bool}
+use Rattle.std.proofs.lemmas.Bool.{false_from_ne_true, cases_Bool}
 use Rattle.std.proofs.lemmas.Slice.Eq.{bytes_eq-Decides}
 use Rattle.properties_format.specs.Encoding.{Encoding, InForce, byte_order_mark, begins_like_bom}
 use Rattle.properties_format.specs.Lines.{end}
 use Rattle.properties_format.specs.Groups.{joined}
-use Rattle.properties_format.specs.Entries.{comment, pair, Entry, AreItems}
-use Rattle.properties_format.specs.Items.{Outcome, ignored, given, broken, IsItems}
+use Rattle.properties_format.specs.Entries.{pair, Entry, AreItems}
+use Rattle.properties_format.specs.Items.{Outcome, given, broken, IsItems}
 use Rattle.properties_format.specs.Computed.Items.{outcome_of, followed, items_of}
 use Rattle.properties_format.specs.Maps.{HasNoPair, IsMap}
 use Rattle.properties_format.specs.Body.{HeldLine, as_lines, NoneHasKey, group_bytes, groups_bytes}
-use Rattle.properties_format.specs.Edited.{bom_of, guarding_lf, is_editable, edited, IsSetKeyResult, IsRemoveKeyResult}
+use Rattle.properties_format.specs.Edited.{EditResult, bom_of, guarding_lf, is_editable, edited, IsSetKeyResult}
 use Rattle.properties_format.specs.Edits.{Edit, put, remove, set_value, IsEditAllResult}
-use Rattle.properties_format.specs.Valued.{IsSetValueResult}
 use Rattle.properties_format.specs.Changed.{map_edited}
 use Rattle.properties_format.specs.Computed.Body.{held_groups_of, is_pair_with, has_key, entries_in}
-use Rattle.properties_format.specs.Computed.Edited.{without, key_set, result_of, set_key_result}
+use Rattle.properties_format.specs.Computed.Edited.{without, key_set, result_of, set_key_result, remove_key_result}
 use Rattle.properties_format.specs.Computed.Edits.{edit_made, edits_made, edit_all_result}
 use Rattle.properties_format.specs.EditLaws.{RemovingNoPairChangesNothing, SettingTwiceIsSettingOnce, HasMap, DiffersAt, SettingGivesTheValue, RemovingTakesTheValue, NoEditsChangeNothing, OneEditIsItsCall, ListsOfEditsFollow}
+use Rattle.properties_format.specs.Laws.{HasOne}
+use Rattle.properties_format.specs.Computed.Valued.{set_value_result}
+use Rattle.properties_format.proofs.Laws.{one}
 use Rattle.properties_format.proofs.Items.Unique.{items_of-only}
 use Rattle.properties_format.proofs.Maps.{map-only}
 use Rattle.properties_format.proofs.Body.Groups.{held_groups_of-meets, held-body}
@@ -28,7 +30,7 @@ use Rattle.properties_format.proofs.Edited.Results.{set_key_result-meets, set_ke
 use Rattle.properties_format.proofs.Edits.Results.{edits_made-only, edit_all_result-meets, edit_all_result-only}
 use Rattle.properties_format.proofs.Valued.Made.{set_value_result-meets, set_value_result-only}
 use Rattle.properties_format.proofs.Edited.ByteOrderMarks.{has_bom, source-whole}
-use Rattle.properties_format.proofs.Changed.Maps.{other-test}
+use Rattle.properties_format.proofs.Changed.Maps.{other-test, same-test}
 use Rattle.properties_format.proofs.Edited.Twice.{set-twice}
 use Rattle.properties_format.proofs.Changed.Laws.{IsReadable, key_set-contents}
 use Rattle.properties_format.proofs.Edits.Contents.{edits-contents}
@@ -40,11 +42,10 @@ use Rattle.properties_format.proofs.Changed.Read.{readable, set_key-reads, remov
 -- entries contain none.
 followed-none : (key : List ℕ) (n : ℕ) (o : Outcome) (entries : List Entry) → AreItems (followed n o entries) → HasNoPair key (followed n o entries)
     → (is_pair_with key o ≡ false) × AreItems entries × HasNoPair key entries
-followed-none key n ignored entries h k = (refl, h, k)
-followed-none key n (given (comment text)) entries h k = (refl, h, k)
 followed-none key n (given (pair l v)) entries h k =
     (false_from_ne_true (bytes_eq l key) (λ t. k.0 ((bytes_eq-Decides l key).0 t)), h, k.1)
 followed-none key n (broken kind) entries h k = absurd h
+followed-none key n o entries h k = (refl, h, k)
 
 -- If no item is a pair with the key, no group is one.
 none-have : (key : List ℕ) (n : ℕ) (gs : List (List HeldLine)) → AreItems (entries_in n gs) → HasNoPair key (entries_in n gs) → NoneHasKey key gs
@@ -94,6 +95,22 @@ removing-no_pair e source key entries is none result h =
 pub result-made : (e : Encoding) (source made : List ℕ) → IsReadable e source → result_of e source made ≡ edited made
 result-made e source made r = result-editable e source made r.editable ∙ result_by-edited (items_of e source end) made r.no_fault
 
+-- If two edits have one result each, and these are equal, they have the same results.
+pub same-results : (First Second : EditResult → Type 0) (one : HasOne First) (two : HasOne Second) → one.value ≡ two.value
+    → (result : EditResult) → First result ↔ Second result
+same-results First Second one two same result =
+    ((λ h. subst Second (sym (one.only result h ∙ same)) two.meets), (λ h. subst First (sym (two.only result h ∙ sym same)) one.meets))
+
+-- Setting a key has one result,
+abbrev pub one-set : (e : Encoding) (only : Bool) (source key value : List ℕ) → HasOne (IsSetKeyResult e only source key value)
+one-set e only source key value =
+    one (set_key_result e only source key value) (set_key_result-meets e only source key value) (set_key_result-only e only source key value)
+
+-- and so does a list of edits.
+abbrev pub one-edit_all : (e : Encoding) (only : Bool) (source : List ℕ) (edits : List Edit) → HasOne (IsEditAllResult e only source edits)
+one-edit_all e only source edits =
+    one (edit_all_result e only source edits) (edit_all_result-meets e only source edits) (edit_all_result-only e only source edits)
+
 -- Setting a key twice equals setting it once, to the later value.
 pub setting-twice : (e : Encoding) (only : Bool) (source key first second : List ℕ) → SettingTwiceIsSettingOnce e only source key first second
 setting-twice e only source key first second k v w between h result =
@@ -102,10 +119,8 @@ setting-twice e only source key first second k v w between h result =
     let bytes : key_set e only between key second ≡ key_set e only source key second =
     ap (λ x. key_set e only x key second) (key_set-only e only source key first between h.2) ∙ set-twice e only source key first second h.0 k v in
     let same : set_key_result e only between key second ≡ set_key_result e only source key second =
-    result-made e between (key_set e only between key second) next ∙ ap edited bytes ∙ sym (result-made e source (key_set e only source key second) r) in (
-      (λ i. subst (IsSetKeyResult e only source key second) (sym (set_key_result-only e only between key second result i ∙ same)) (set_key_result-meets e only source key second)),
-      (λ i. subst (IsSetKeyResult e only between key second) (sym (set_key_result-only e only source key second result i ∙ sym same)) (set_key_result-meets e only between key second)),
-    )
+    result-made e between (key_set e only between key second) next ∙ ap edited bytes ∙ sym (result-made e source (key_set e only source key second) r) in
+    same-results _ _ (one-set e only between key second) (one-set e only source key second) same result
 
 -- ---- the map
 
@@ -120,23 +135,13 @@ maps-differ e source result key edit value old new reads differs (before, items,
     let d = differs old in
     (same key ∙ d.0, (λ other n. same other ∙ d.1 other n))
 
--- A key is equal to itself.
-own-test : (key : List ℕ) → bytes_eq key key ≡ true
-own-test key = (bytes_eq-Decides key key).1 refl
-
 -- The map with a key set has the value for it, and for every other key what it had before.
 pub set-differs : (key value : List ℕ) (value_at : List ℕ → Option (List ℕ)) → DiffersAt key (Some value) value_at (map_edited (put key value) value_at)
-set-differs key value value_at = (
-  cond-true (bytes_eq key key) (Some value) (value_at key) (own-test key),
-  (λ other n. cond-false (bytes_eq other key) (Some value) (value_at other) (other-test other key n)),
-)
+set-differs key value value_at = (rw (same-test key key refl), (λ other n. rw (other-test other key n)))
 
 -- The map with a key removed has no value for it, and for every other key what it had before.
 removed-differs : (key : List ℕ) (value_at : List ℕ → Option (List ℕ)) → DiffersAt key None value_at (map_edited (remove key) value_at)
-removed-differs key value_at = (
-  cond-true (bytes_eq key key) None (value_at key) (own-test key),
-  (λ other n. cond-false (bytes_eq other key) None (value_at other) (other-test other key n)),
-)
+removed-differs key value_at = (rw (same-test key key refl), (λ other n. rw (other-test other key n)))
 
 -- After a key is set, the map has the value for it, and for every other key what it had before.
 pub setting-gives : (e : Encoding) (only : Bool) (source key value : List ℕ) → SettingGivesTheValue e only source key value
@@ -158,21 +163,14 @@ no_edits-nothing e only source result h = h.2
 
 -- A list of one edit has the same results as the call for that edit.
 pub one_edit-call : (e : Encoding) (only : Bool) (source : List ℕ) (edit : Edit) → OneEditIsItsCall e only source edit
-one_edit-call e only source (put key value) = λ result.
-    let all = put key value ∷ [] in (
-      (λ h. subst (IsSetKeyResult e only source key value) (sym (edit_all_result-only e only source all result h)) (set_key_result-meets e only source key value)),
-      (λ h. subst (IsEditAllResult e only source all) (sym (set_key_result-only e only source key value result h)) (edit_all_result-meets e only source all)),
-    )
-one_edit-call e only source (remove key) = λ result.
-    let all = remove key ∷ [] in (
-      (λ h. subst (IsRemoveKeyResult e source key) (sym (edit_all_result-only e only source all result h)) (remove_key_result-meets e source key)),
-      (λ h. subst (IsEditAllResult e only source all) (sym (remove_key_result-only e source key result h)) (edit_all_result-meets e only source all)),
-    )
-one_edit-call e only source (set_value key value) = λ result.
-    let all = set_value key value ∷ [] in (
-      (λ h. subst (IsSetValueResult e only source key value) (sym (edit_all_result-only e only source all result h)) (set_value_result-meets e only source key value)),
-      (λ h. subst (IsEditAllResult e only source all) (sym (set_value_result-only e only source key value result h)) (edit_all_result-meets e only source all)),
-    )
+one_edit-call e only source (put key value) =
+    same-results _ _ (one-edit_all e only source (put key value ∷ [])) (one-set e only source key value) refl
+one_edit-call e only source (remove key) =
+    same-results _ _ (one-edit_all e only source (remove key ∷ []))
+    (one (remove_key_result e source key) (remove_key_result-meets e source key) (remove_key_result-only e source key)) refl
+one_edit-call e only source (set_value key value) =
+    same-results _ _ (one-edit_all e only source (set_value key value ∷ []))
+    (one (set_value_result e only source key value) (set_value_result-meets e only source key value) (set_value_result-only e only source key value)) refl
 
 -- Two lists of edits, joined into one, make the same as the second list on the result of the first.
 edits_made-append : (e : Encoding) (only : Bool) (source : List ℕ) (first second : List Edit)
@@ -188,7 +186,5 @@ lists-follow e only source first second scalars between h result =
     let same : edit_all_result e only source (first ++ second) ≡ edit_all_result e only between second =
     result-made e source (edits_made e only source (first ++ second)) r
     ∙ ap edited (edits_made-append e only source first second ∙ ap (λ v. edits_made e only v second) (sym (edits_made-only e only source first between h.0 h.2)))
-    ∙ sym (result-made e between (edits_made e only between second) next) in (
-      (λ k. subst (IsEditAllResult e only between second) (sym (edit_all_result-only e only source (first ++ second) result k ∙ same)) (edit_all_result-meets e only between second)),
-      (λ k. subst (IsEditAllResult e only source (first ++ second)) (sym (edit_all_result-only e only between second result k ∙ sym same)) (edit_all_result-meets e only source (first ++ second))),
-    )
+    ∙ sym (result-made e between (edits_made e only between second) next) in
+    same-results _ _ (one-edit_all e only source (first ++ second)) (one-edit_all e only between second) same result

@@ -9,4 +9,5 @@ pub mod Parts
 pub mod Replaced
 pub mod Closed
 pub mod AppendedPair
+pub mod Put
 pub mod Twice

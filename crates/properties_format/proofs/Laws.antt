@@ -38,7 +38,7 @@ use Rattle.properties_format.proofs.ReadBack.Lists.{items_of-pairs, pairs_in-ite
 -- ---- One reading.
 
 -- A value that meets it is the only one, if every value that meets it is equal to it.
-one : {A : Type 0} {Meets : A → Type 0} (value : A) → Meets value → ((other : A) → Meets other → other ≡ value) → HasOne Meets
+abbrev pub one : {A : Type 0} {Meets : A → Type 0} (value : A) → Meets value → ((other : A) → Meets other → other ≡ value) → HasOne Meets
 one value meets only = record { value = value; meets = meets; only = only }
 
 -- Bytes have exactly one list of pieces.
@@ -65,10 +65,6 @@ one-split line = one (split_of line) (split_of-meets line) (split_of-only line)
 pub one-meaning : (text : List ℕ) → HasOne (IsMeaning text)
 one-meaning text = one (meaning_of text) (meaning_of-meets text) (meaning_of-only text)
 
--- An input has exactly one list of items.
-pub one-items : (e : Encoding) (bytes : List ℕ) (ending : InputEnd) → HasOne (IsItems e bytes ending)
-one-items e bytes ending = one (items_of e bytes ending) (items_of-meets e bytes ending) (items_of-only e bytes ending)
-
 -- Each input has exactly one reading.
 pub one-reading : (e : Encoding) (bytes : List ℕ) (ending : InputEnd) → HasOneReading e bytes ending
 one-reading e bytes ending =
@@ -81,7 +77,7 @@ one-reading e bytes ending =
       groups = one-groups (numbered_lines lines.value ending) ending;
       splits = λ group. one-split (joined group);
       meanings = one-meaning;
-      items = one-items e bytes ending;
+      items = one (items_of e bytes ending) (items_of-meets e bytes ending) (items_of-only e bytes ending);
     }
 
 -- ---- Reading inverts writing.

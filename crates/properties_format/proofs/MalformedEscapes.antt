@@ -7,7 +7,7 @@ use Rattle.properties_format.specs.Lines.{InputEnd, end, fault, Line, line_ends,
 use Rattle.properties_format.specs.Computed.Lines.{lines_of}
 use Rattle.properties_format.specs.Groups.{IsGroups, joined, first_number}
 use Rattle.properties_format.specs.Computed.Groups.{groups_of}
-use Rattle.properties_format.specs.Items.{Entry, read_fault, Outcome, ignored, given, broken}
+use Rattle.properties_format.specs.Items.{Entry, read_fault, Outcome, ignored}
 use Rattle.properties_format.specs.Computed.Items.{outcome_of, followed}
 use Rattle.properties_format.specs.ItemsToCome.{ReaderState, start}
 use Rattle.properties_format.specs.Computed.ItemsToCome.{items_to_come, natural_to_come, last_to_come, entries_of_logical, logical_pending, entries_pending}
@@ -77,8 +77,7 @@ last-start e d = ap (λ v. read_fault (v + 1) ∷ []) (zero-add (line_ends (line
 
 followed-fault : (number : ℕ) (outcome : Outcome) (rest : List Entry) (n : ℕ) → followed number outcome rest ≡ read_fault n ∷ [] → rest ≡ read_fault n ∷ []
 followed-fault number ignored rest n h = h
-followed-fault number (given content) rest n h = absurd (cc)
-followed-fault number (broken kind) rest n h = absurd (cc)
+followed-fault number outcome rest n h = absurd (cc)
 
 logical-fault : (ls : List Line) (last : List Entry) (n : ℕ) → entries_of_logical ls last ≡ read_fault n ∷ [] → last ≡ read_fault n ∷ []
 logical-fault [] last n h = h
@@ -107,12 +106,9 @@ cut-line e d n h =
 from-append : (number : ℕ) (x : List ℕ) (outcome : Outcome) (rest others : List MalformedEscape)
     → escapes_from number x outcome (rest ++ others) ≡ escapes_from number x outcome rest ++ others
 from-append number x ignored rest others = refl
-from-append number x (given content) rest others = refl
-from-append number x (broken kind) rest others = refl
+from-append number x outcome rest others = refl
 
 pub escapes_in-push : (gs : List (List Line)) (g : List Line)
     → escapes_in (gs ++ g ∷ []) ≡ escapes_in gs ++ escapes_from (first_number g) (joined g) (outcome_of (joined g)) []
 escapes_in-push [] g = refl
-escapes_in-push (h ∷ gs) g =
-    ap (escapes_from (first_number h) (joined h) (outcome_of (joined h))) (escapes_in-push gs g)
-    ∙ from-append (first_number h) (joined h) (outcome_of (joined h)) (escapes_in gs) (escapes_from (first_number g) (joined g) (outcome_of (joined g)) [])
+escapes_in-push (h ∷ gs) g = simp (from-append, escapes_in-push gs g)

@@ -28,9 +28,7 @@ pair-says n k v key false e = rw e (λ entries h. ((λ q. not_same k key e q), h
 -- The computed value of an entry is the one that it gives.
 says : (entry : Entry) (key : List ℕ) → IsValueBy key entry (value_of entry key)
 says (item n (pair k v)) key = pair-says n k v key (bytes_eq k key) refl
-says (item n (comment text)) key = λ entries h. h
-says (malformed kind n) key = λ entries h. h
-says (read_fault n) key = λ entries h. h
+says entry key = λ entries h. h
 
 -- The value of a key in entries with one more at the front.
 with_front : (entry : Entry) (entries : List Entry) (key : List ℕ) (r o : Option (List ℕ)) → IsValue entries key r → IsValueBy key entry o → IsValue (entry ∷ entries) key (first_value r o)
@@ -58,8 +56,7 @@ none-in (read_fault n ∷ entries) key h = ap (λ r. first_value r None) (none-i
 -- the last pair with the key gives the value
 last-in : (before : List Entry) (n : ℕ) (key value : List ℕ) (after : List Entry) → HasNoPair key after → value_in (before ++ (item n (pair key value) ∷ after)) key ≡ Some value
 last-in [] n key value after h =
-    ap (λ r. first_value r (value_of (item n (pair key value)) key)) (none-in after key h)
-    ∙ cond-true (bytes_eq key key) (Some value) None ((bytes_eq-Decides key key).1 refl)
+    rw (none-in after key h, cond-true (bytes_eq key key) (Some value) None ((bytes_eq-Decides key key).1 refl))
 last-in (entry ∷ before) n key value after h = ap (λ r. first_value r (value_of entry key)) (last-in before n key value after h)
 
 -- A value of the key is the computed one.
@@ -90,8 +87,7 @@ first-none (Some v) = refl
 -- In two lists of entries, the value is that in the second, or else that in the first.
 value_in-append : (xs ys : List Entry) (key : List ℕ) → value_in (xs ++ ys) key ≡ first_value (value_in ys key) (value_in xs key)
 value_in-append [] ys key = sym (first-none (value_in ys key))
-value_in-append (x ∷ xs) ys key =
-    ap (λ r. first_value r (value_of x key)) (value_in-append xs ys key) ∙ first-assoc (value_in ys key) (value_in xs key) (value_of x key)
+value_in-append (x ∷ xs) ys key = simp (first-assoc, value_in-append xs ys key)
 
 -- A function with the same value for each key is a map of the entries too.
 same-map : (entries : List Entry) (f : List ℕ → Option (List ℕ)) → ((key : List ℕ) → f key ≡ value_in entries key) → IsMap entries f

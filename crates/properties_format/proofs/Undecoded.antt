@@ -1,39 +1,32 @@
 -- What looks at no character past ASCII sees the same in bytes of windows-1252 and in their characters.
-use Rattle.std.proofs.Common.{◌≡◌, ℕ, zero, suc, ◌<◌, ◌≤◌, ◌==◌, ◌%◌, ◌-◌, Bool, true, false, List, [], ◌∷◌, ◌++◌, length, take, drop, map, reverse, refl, sym, ap, ap₂, ◌∙◌, subst, inl, inr, arith, ne_eqb}
-use Rattle.std.proofs.lemmas.Bool.{cases_Bool, cases_lt}
+use Rattle.std.proofs.Common.{◌≡◌, ℕ, zero, suc, ◌<◌, ◌≤◌, ◌==◌, ◌%◌, Bool, true, false, List, [], ◌∷◌, ◌++◌, length, map, reverse, refl, sym, ap, ap₂, ◌∙◌, inl, inr, arith}
+use Rattle.std.proofs.lemmas.Bool.{cases_Bool}
 use Rattle.std.proofs.lemmas.List.{map-append, take-map, drop-map}
 use mathlib.Core.List.{reverse_aux}
 use Rattle.properties_format.specs.Text.{backslash, is_blank, is_separator, is_comment_sign, without_leading_blanks}
 use Rattle.properties_format.specs.Windows1252.{windows_1252_character}
 use Rattle.properties_format.specs.Groups.{leading_backslashes, ending_backslashes, is_open, begins_with_comment_sign, is_comment_line, without_last, without_open_backslash, addition, joined_after, joined, last_group}
-use Rattle.properties_format.specs.Lines.{Line, InputEnd, end, fault, more}
-use Rattle.properties_format.specs.Split.{comment, pair, IsSplit}
+use Rattle.properties_format.specs.Lines.{Line, InputEnd}
+use Rattle.properties_format.specs.Split.{comment, pair}
 use Rattle.properties_format.specs.Encoding.{windows_1252}
 use Rattle.properties_format.specs.Pieces.{characters}
 use Rattle.properties_format.specs.Computed.Encoding.{pieces_within, pieces_of}
 use Rattle.properties_format.specs.Computed.Cut.{decoded_line}
 use Rattle.properties_format.specs.Computed.Split.{without_trailing_blanks, unless_last_blank, trimmed, Cut, with_front, ends_key, cut_key, past_separator, pair_of, split_full, split_of}
 use Rattle.properties_format.specs.Computed.Groups.{closes, groups_after}
-use Rattle.properties_format.proofs.Encodings.Windows1252.{windows_1252-ascii, windows_1252_character-ascii}
+use Rattle.properties_format.proofs.Encodings.Windows1252.{windows_1252-ascii}
 use Rattle.properties_format.proofs.Split.Unique.{split_of-meets, split_of-only}
-use Rattle.properties_format.proofs.Groups.Steps.{groups_after-close, groups_after-leave}
 use Rattle.properties_format.specs.Computed.Undecoded.{characters_of, decoded, in_text, LineCommutes, JoiningCommutes, SplittingCommutes}
 
 -- ---- one character
 
 -- a byte past ASCII is a character past ASCII
 pub past-character : (b : ℕ) → 0x80 ≤ b → 0x80 ≤ windows_1252_character b
-past-character b h = elim (cases_lt (windows_1252_character b) 0x80) [
-  | inl k ↦ absurd (let e = windows_1252-ascii b k in omega arith)
-  | inr k ↦ k
-]
+past-character b h = grind (arith, windows_1252-ascii)
 
 -- a byte is this character of ASCII, or not, as its character is
 pub same : (k : ℕ) → k < 0x80 → (b : ℕ) → (windows_1252_character b == k) ≡ (b == k)
-same k s b = elim (cases_lt b 0x80) [
-  | inl h ↦ ap (λ v. v == k) (windows_1252_character-ascii b h)
-  | inr h ↦ let p = past-character b h in ne_eqb (windows_1252_character b) k (λ e. absurd (omega arith)) ∙ sym (ne_eqb b k (λ e. absurd (omega arith)))
-]
+same k s b = grind (arith, past-character)
 
 pub same-backslash : (b : ℕ) → (windows_1252_character b == backslash) ≡ (b == backslash)
 same-backslash = same backslash (omega arith)
@@ -65,14 +58,10 @@ decodes d = within (length d) d (omega arith)
 
 pub leading-blanks : (d : List ℕ) → without_leading_blanks (characters_of d) ≡ characters_of (without_leading_blanks d)
 leading-blanks [] = refl
-leading-blanks (b ∷ d) = elim (cases_Bool (is_blank b)) [
-  | inl t ↦ rw (same-blank b, t) (leading-blanks d)
-  | inr f ↦ rw (same-blank b, f) refl
-]
+leading-blanks (b ∷ d) = grind (arith, same-blank, leading-blanks d)
 
 unless : (b : ℕ) (d : List ℕ) → unless_last_blank (windows_1252_character b) (characters_of d) ≡ characters_of (unless_last_blank b d)
-unless b [] = elim (cases_Bool (is_blank b)) [ inl t ↦ rw (same-blank b, t) refl | inr f ↦ rw (same-blank b, f) refl ]
-unless b (c ∷ d) = refl
+unless b d = grind (arith, same-blank)
 
 trailing-blanks : (d : List ℕ) → without_trailing_blanks (characters_of d) ≡ characters_of (without_trailing_blanks d)
 trailing-blanks [] = refl
@@ -85,63 +74,40 @@ trims d = ap without_trailing_blanks (leading-blanks d) ∙ trailing-blanks (wit
 
 leading : (d : List ℕ) → leading_backslashes (characters_of d) ≡ leading_backslashes d
 leading [] = refl
-leading (b ∷ d) = elim (cases_Bool (b == backslash)) [
-  | inl t ↦ rw (same-backslash b, t) (ap suc (leading d))
-  | inr f ↦ rw (same-backslash b, f) refl
-]
+leading (b ∷ d) = simp (same-backslash, leading d)
 
 reversed-onto : (d y : List ℕ) → reverse_aux (characters_of d) (characters_of y) ≡ characters_of (reverse_aux d y)
 reversed-onto [] y = refl
 reversed-onto (b ∷ d) y = reversed-onto d (b ∷ y)
 
-reversed : (d : List ℕ) → reverse (characters_of d) ≡ characters_of (reverse d)
-reversed d = reversed-onto d []
-
 pub ending : (d : List ℕ) → ending_backslashes (characters_of d) ≡ ending_backslashes d
-ending d = ap leading_backslashes (reversed d) ∙ leading (reverse d)
+ending d = ap leading_backslashes (reversed-onto d []) ∙ leading (reverse d)
 
 pub opens : (d : List ℕ) → is_open (characters_of d) ≡ is_open d
 opens d = ap (λ n. n % 2 == 1) (ending d)
 
 sign : (d : List ℕ) → begins_with_comment_sign (characters_of d) ≡ begins_with_comment_sign d
-sign [] = refl
-sign (b ∷ d) = same-comment_sign b
+sign d = grind (arith, same-comment_sign)
 
 pub comments : (d : List ℕ) → is_comment_line (characters_of d) ≡ is_comment_line d
 comments d = ap begins_with_comment_sign (leading-blanks d) ∙ sign (without_leading_blanks d)
 
 last-off : (d : List ℕ) → without_last (characters_of d) ≡ characters_of (without_last d)
-last-off [] = refl
-last-off (b ∷ []) = refl
 last-off (b ∷ c ∷ d) = ap (λ v. windows_1252_character b ∷ v) (last-off (c ∷ d))
+last-off d = refl
 
 pub closed : (d : List ℕ) → without_open_backslash (characters_of d) ≡ characters_of (without_open_backslash d)
-closed d = elim (cases_Bool (is_open d)) [
-  | inl t ↦ rw (opens d, t) (last-off d)
-  | inr f ↦ rw (opens d, f) refl
-]
+closed d = grind (arith, opens, last-off)
 
 pub adds : (d : List ℕ) → addition (characters_of d) ≡ characters_of (addition d)
 adds d = ap without_open_backslash (leading-blanks d) ∙ closed (without_leading_blanks d)
 
 joins : (d next : List ℕ) → decoded_line windows_1252 (without_open_backslash d ++ addition next)
     ≡ without_open_backslash (decoded_line windows_1252 d) ++ addition (decoded_line windows_1252 next)
-joins d next =
-    decodes (without_open_backslash d ++ addition next)
-    ∙ map-append windows_1252_character (without_open_backslash d) (addition next)
-    ∙ ap₂ (λ x y. x ++ y) (sym (ap without_open_backslash (decodes d) ∙ closed d)) (sym (ap addition (decodes next) ∙ adds next))
+joins d next = simp (decodes, map-append, closed, adds)
 
 pub line-commutes : (d : List ℕ) → LineCommutes d
-line-commutes d = record {
-  decodes = decodes d;
-  blanks = leading-blanks d;
-  backslashes = ending d;
-  open_line = opens d;
-  comment_line = comments d;
-  closed = closed d;
-  adds = adds d;
-  joins = joins d;
-}
+line-commutes d = grind (arith, decodes, leading-blanks, ending, comments, closed, joins)
 
 -- ---- groups
 
@@ -150,36 +116,18 @@ after [] = refl
 after (l ∷ ls) = ap₂ (λ x y. x ++ y) (adds l.text) (after ls) ∙ sym (map-append windows_1252_character (addition l.text) (joined_after ls))
 
 joined-group : (ls : List Line) → joined (map decoded ls) ≡ characters_of (joined ls)
-joined-group [] = refl
-joined-group (l ∷ ls) = elim (cases_Bool (is_comment_line l.text)) [
-  | inl t ↦ rw (comments l.text, t) refl
-  | inr f ↦ rw (comments l.text, f) (
-      ap₂ (λ x y. x ++ y) (closed l.text) (after ls) ∙ sym (map-append windows_1252_character (without_open_backslash l.text) (joined_after ls)))
-]
+joined-group ls = grind (arith, comments, closed, after, map-append)
 
 closing : (p : List Line) (l : Line) → closes (map decoded p) (decoded l) ≡ closes p l
-closing [] l = rw (comments l.text, opens l.text) refl
-closing (m ∷ p) l = rw (opens l.text) refl
+closing p l = grind (arith, comments, opens)
 
 last-one : (p : List Line) (e : InputEnd) → last_group (map decoded p) e ≡ map (map decoded) (last_group p e)
-last-one [] e = refl
-last-one (l ∷ p) end = refl
-last-one (l ∷ p) fault = refl
-last-one (l ∷ p) more = refl
+last-one p e = grind (arith)
 
 after-group : (p ls : List Line) (e : InputEnd) → groups_after (map decoded p) (map decoded ls) e ≡ map (map decoded) (groups_after p ls e)
 after-group p [] e = last-one p e
-after-group p (l ∷ ls) e = elim (cases_Bool (closes p l)) [
-  | inl t ↦
-      groups_after-close (map decoded p) (decoded l) (map decoded ls) e (closing p l ∙ t)
-      ∙ ap₂ (λ g gs. g ∷ gs) (sym (map-append decoded p (l ∷ []))) (after-group [] ls e)
-      ∙ ap (map (map decoded)) (sym (groups_after-close p l ls e t))
-  | inr f ↦
-      groups_after-leave (map decoded p) (decoded l) (map decoded ls) e (closing p l ∙ f)
-      ∙ ap (λ g. groups_after g (map decoded ls) e) (sym (map-append decoded p (l ∷ [])))
-      ∙ after-group (p ++ l ∷ []) ls e
-      ∙ ap (map (map decoded)) (sym (groups_after-leave p l ls e f))
-]
+after-group p (l ∷ ls) e =
+    grind (arith, closing, map-append, after-group [] ls e, after-group (p ++ l ∷ []) ls e)
 
 pub joining-commutes : (ls : List Line) → JoiningCommutes ls
 joining-commutes ls = record { joined_is = joined-group ls; groups_are = λ e. after-group [] ls e }
@@ -193,20 +141,10 @@ cuts : (d : List ℕ) (is_escaped : Bool) → cut_key (characters_of d) is_escap
 unfolding cut_text
 cuts [] is_escaped = refl
 cuts (b ∷ d) true = ap (with_front (windows_1252_character b)) (cuts d false)
-cuts (b ∷ d) false = elim (cases_Bool (b == backslash)) [
-  | inl t ↦ rw (same-backslash b, t) (ap (with_front (windows_1252_character b)) (cuts d true))
-  | inr f ↦ elim (cases_Bool (ends_key b)) [
-    | inl k ↦ rw (same-backslash b, f, same-end b, k) refl
-    | inr k ↦ rw (same-backslash b, f, same-end b, k) (ap (with_front (windows_1252_character b)) (cuts d false))
-  ]
-]
+cuts (b ∷ d) false = grind (arith, same-backslash, same-end, cuts d true, cuts d false)
 
 past : (d : List ℕ) → past_separator (characters_of d) ≡ characters_of (past_separator d)
-past [] = refl
-past (b ∷ d) = elim (cases_Bool (is_separator b)) [
-  | inl t ↦ rw (same-separator b, t) (leading-blanks d)
-  | inr f ↦ rw (same-separator b, f) refl
-]
+past d = grind (arith, same-separator, leading-blanks)
 
 pairs : (c : Cut) → pair_of (cut_text c) ≡ in_text (pair_of c)
 unfolding cut_text
@@ -224,8 +162,4 @@ unfolding split_of
 splits d = ap split_full (leading-blanks d) ∙ full (without_leading_blanks d)
 
 pub splitting-commutes : (d : List ℕ) → SplittingCommutes d
-splitting-commutes d = record {
-  split = λ what h. subst (IsSplit (characters_of d)) (splits d ∙ ap in_text (sym (split_of-only d what h))) (split_of-meets (characters_of d));
-  only = λ what h. (split_of d, split_of-meets d, split_of-only (characters_of d) what h ∙ splits d);
-  spans = λ start end. ap (take (end - start)) (drop-map windows_1252_character start d) ∙ take-map windows_1252_character (end - start) (drop start d);
-}
+splitting-commutes d = grind (arith, splits, split_of-only, split_of-meets, drop-map, take-map)

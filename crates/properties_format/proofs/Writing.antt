@@ -1,8 +1,8 @@
 -- What two lists of calls write, one after the other.
-use Rattle.std.proofs.Common.{◌≡◌, ℕ, List, [], ◌∷◌, ◌++◌, refl, ap, sym, ◌∙◌, append_assoc}
+use Rattle.std.proofs.Common.{◌≡◌, ℕ, List, [], ◌∷◌, ◌++◌, refl, ap, append_assoc}
 use Rattle.properties_format.specs.Encoding.{Encoding}
 use Rattle.properties_format.specs.Settings.{Settings}
-use Rattle.properties_format.specs.Writing.{Call, is_accepted, settings_after_call, settings_after, answers, written_line, lines_with, line_count_after, line_bytes, wrote}
+use Rattle.properties_format.specs.Writing.{Call, is_accepted, settings_after_call, settings_after, answers, written_line, lines_with, line_count_after, wrote}
 
 -- The settings after two lists of calls.
 pub settings_after-append : (s : Settings) (xs ys : List Call) → settings_after s (xs ++ ys) ≡ settings_after (settings_after s xs) ys
@@ -23,6 +23,4 @@ answers-append s (x ∷ xs) ys = ap (λ v. is_accepted s x ∷ v) (answers-appen
 pub wrote-append : (e : Encoding) (s : Settings) (n : ℕ) (xs ys : List Call) → wrote e s n (xs ++ ys) ≡ wrote e s n xs ++ wrote e (settings_after s xs) (line_count_after s n xs) ys
 wrote-append e s n [] ys = refl
 wrote-append e s n (x ∷ xs) ys =
-    ap (λ v. line_bytes e s n (written_line s x) ++ v) (wrote-append e (settings_after_call s x) (lines_with n (written_line s x)) xs ys)
-    ∙ sym (append_assoc (line_bytes e s n (written_line s x)) (wrote e (settings_after_call s x) (lines_with n (written_line s x)) xs)
-    (wrote e (settings_after (settings_after_call s x) xs) (line_count_after (settings_after_call s x) (lines_with n (written_line s x)) xs) ys))
+    simp (append_assoc, wrote-append e (settings_after_call s x) (lines_with n (written_line s x)) xs ys)

@@ -2,7 +2,7 @@
 -- with these numbers.
 use Rattle.std.proofs.Common.{◌≡◌, ℕ, true, List, [], refl, ap, sym, ◌∙◌, subst}
 use Rattle.properties_format.specs.Pieces.{characters}
-use Rattle.properties_format.specs.Encoding.{Encoding, windows_1252, utf_8, utf_16le, utf_16be}
+use Rattle.properties_format.specs.Encoding.{Encoding, utf_16le, utf_16be}
 use Rattle.properties_format.specs.Lines.{Lines, HoldsNoLineEnd, IsLines}
 use Rattle.properties_format.specs.Computed.Lines.{lines_of}
 use Rattle.properties_format.specs.Cut.{HoldsNoLineEndUnit, IsCut}
@@ -19,10 +19,9 @@ decoded-nil e = ap characters (pieces_of-nil e)
 
 -- Bytes without a line end unit contain no CR and no LF.
 plain-unit : (e : Encoding) (d : List ℕ) → is_editable e ≡ true → HoldsNoLineEndUnit e d → HoldsNoLineEnd d
-plain-unit windows_1252 d ok h = h
-plain-unit utf_8 d ok h = h
 plain-unit utf_16le d ok h = absurd (cc)
 plain-unit utf_16be d ok h = absurd (cc)
+plain-unit e d ok h = h
 
 -- If a text contains no line end, its bytes contain none.
 pub plain-bytes : (e : Encoding) (d : List ℕ) → is_editable e ≡ true → HoldsNoLineEnd (decoded_line e d) → HoldsNoLineEnd d
@@ -30,10 +29,9 @@ plain-bytes e d ok h = plain-unit e d ok (no_end-undecoded e d h)
 
 -- the lines of undecoded bytes
 pub cut_of-lines : (e : Encoding) (d : List ℕ) → is_editable e ≡ true → cut_of e d ≡ lines_of d
-cut_of-lines windows_1252 d ok = refl
-cut_of-lines utf_8 d ok = refl
 cut_of-lines utf_16le d ok = absurd (cc)
 cut_of-lines utf_16be d ok = absurd (cc)
+cut_of-lines e d ok = refl
 
 -- Lines of undecoded bytes are lines of a text with these numbers.
 pub IsCut-lines : (e : Encoding) (d : List ℕ) (lines : Lines) → is_editable e ≡ true → IsCut e d lines → IsLines d lines

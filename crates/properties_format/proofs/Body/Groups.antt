@@ -3,13 +3,14 @@
 use Rattle.std.proofs.Common.{◌≡◌, ◌≢◌, ◌<◌, ◌⊎◌, ℕ, true, false, List, [], ◌∷◌, ◌++◌, Some, None, refl, ap, ap₂, sym, ◌∙◌, inl, inr, append_assoc}
 use Rattle.std.proofs.Common.{append-nil, subst, lit<}
 use Rattle.std.proofs.lemmas.Bool.{cases_Bool}
+use Rattle.properties_format.proofs.Encodings.PieceEnds.{none-right}
 use Rattle.properties_format.specs.Text.{line_feed, carriage_return, LineEnding, lf, cr, crlf, line_ending_text}
 use Rattle.properties_format.specs.Encoding.{Encoding}
 use Rattle.properties_format.specs.Lines.{Ended, Lines, end, Line, put_together, BeginsWithNoLoneLf, AreLines}
 use Rattle.properties_format.specs.Computed.Lines.{lines_of}
 use Rattle.properties_format.specs.Groups.{IsWhole, AreWhole, IsUnfinished, last_group}
 use Rattle.properties_format.specs.Computed.Groups.{closes, groups_after, groups_of}
-use Rattle.properties_format.specs.Body.{HeldLine, AreHeld, as_lines, as_groups, held_in, AreGroupsOf, ending_bytes, group_bytes, groups_bytes, last_ending}
+use Rattle.properties_format.specs.Body.{HeldLine, AreHeld, as_lines, as_groups, held_in, AreGroupsOf, group_bytes, groups_bytes, last_ending}
 use Rattle.properties_format.specs.Edited.{is_editable}
 use Rattle.properties_format.specs.Computed.Body.{held_of, held_lines_of, held_groups_after, held_groups_of}
 use Rattle.properties_format.proofs.Lines.Only.{lines_of-together}
@@ -94,25 +95,23 @@ held_groups_of-meets e body =
 -- Lists of lines with the same texts have the same length, so they cut the same lines off a list.
 split-same : (g h x y : List HeldLine) → as_lines g ≡ as_lines h → g ++ x ≡ h ++ y → (g ≡ h) × (x ≡ y)
 split-same [] [] x y t s = (refl, s)
-split-same [] (b ∷ h) x y t s = absurd (cc)
-split-same (a ∷ g) [] x y t s = absurd (cc)
 split-same (a ∷ g) (b ∷ h) x y t s =
     let q : as_lines g ≡ as_lines h = cc in
     let r : g ++ x ≡ h ++ y = cc in
     let p : a ≡ b = cc in
     let m = split-same g h x y q r in
     (ap₂ (λ v w. v ∷ w) p m.0, m.1)
+split-same g h x y t s = absurd (cc)
 
 -- Groups with the same texts and the same lines are equal.
 groups-same : (gs hs : List (List HeldLine)) → as_groups gs ≡ as_groups hs → held_in gs ≡ held_in hs → gs ≡ hs
 groups-same [] [] t s = refl
-groups-same [] (h ∷ hs) t s = absurd (cc)
-groups-same (g ∷ gs) [] t s = absurd (cc)
 groups-same (g ∷ gs) (h ∷ hs) t s =
     let q : as_lines g ≡ as_lines h = cc in
     let r : as_groups gs ≡ as_groups hs = cc in
     let m = split-same g h (held_in gs) (held_in hs) q s in
     ap₂ (λ v w. v ∷ w) m.0 (groups-same gs hs r m.1)
+groups-same gs hs t s = absurd (cc)
 
 -- The groups of a body have the lines of its bytes.
 held-lines : (e : Encoding) (body : List ℕ) (gs : List (List HeldLine)) → AreGroupsOf e body gs → held_in gs ≡ held_lines_of e body
@@ -164,11 +163,6 @@ fit (g ∷ i ∷ gs) (w ∷ whole) u t h k =
 abbrev pub held_ended : Encoding → List Ended → List HeldLine
 held_ended e [] = []
 held_ended e (l ∷ ls) = record { bytes = l.text; text = decoded_line e l.text; ending = Some l.by } ∷ held_ended e ls
-
--- If two lists of lines together are empty, the second is empty.
-none-right : (x y : List HeldLine) → x ++ y ≡ [] → y ≡ []
-none-right [] y h = h
-none-right (a ∷ x) y h = absurd (cc)
 
 -- Lines were cut off before the last one.
 pub record IsCutOff (e : Encoding) (g rest : List HeldLine) (ls : List Ended) (last : List ℕ) : Type 0 where
@@ -224,9 +218,8 @@ held-texts e (l ∷ ls) last = ap (λ v. record { number = 0; text = decoded_lin
 
 -- The last line of a body has no line ending.
 pub held-last : (e : Encoding) (ls : List Ended) (last : List ℕ) → last_ending (held_of e ls last) ≡ None
-held-last e [] last = refl
-held-last e (l ∷ []) last = refl
 held-last e (l ∷ m ∷ ls) last = held-last e (m ∷ ls) last
+held-last e ls last = refl
 
 -- The last of some ended lines has a line ending.
 ended-last : (e : Encoding) (l : Ended) (ls : List Ended) → (by : LineEnding) × (last_ending (held_ended e (l ∷ ls)) ≡ Some by)
@@ -334,16 +327,12 @@ held-groups e body gs ok h =
 -- The bytes of two lists of lines, one after the other.
 pub group_bytes-append : (a b : List HeldLine) → group_bytes (a ++ b) ≡ group_bytes a ++ group_bytes b
 group_bytes-append [] b = refl
-group_bytes-append (h ∷ a) b =
-    ap (λ v. h.bytes ++ (ending_bytes h.ending ++ v)) (group_bytes-append a b)
-    ∙ ap (λ v. h.bytes ++ v) (sym (append_assoc (ending_bytes h.ending) (group_bytes a) (group_bytes b)))
-    ∙ sym (append_assoc h.bytes (ending_bytes h.ending ++ group_bytes a) (group_bytes b))
+group_bytes-append (h ∷ a) b = simp (append_assoc, group_bytes-append a b)
 
 -- The bytes of two lists of groups, one after the other.
 pub groups_bytes-append : (gs hs : List (List HeldLine)) → groups_bytes (gs ++ hs) ≡ groups_bytes gs ++ groups_bytes hs
 groups_bytes-append [] hs = refl
-groups_bytes-append (g ∷ gs) hs =
-    ap (λ v. group_bytes g ++ v) (groups_bytes-append gs hs) ∙ sym (append_assoc (group_bytes g) (groups_bytes gs) (groups_bytes hs))
+groups_bytes-append (g ∷ gs) hs = simp (append_assoc, groups_bytes-append gs hs)
 
 -- The bytes of the groups are those of their lines.
 pub groups-bytes : (gs : List (List HeldLine)) → groups_bytes gs ≡ group_bytes (held_in gs)

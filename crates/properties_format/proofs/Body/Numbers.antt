@@ -1,6 +1,7 @@
 -- The items of a source are the contents of its body's groups, each with the number of its first line.
-use Rattle.std.proofs.Common.{◌≡◌, ℕ, ◌+◌, List, [], ◌∷◌, ◌++◌, length, refl, ap, ap₂, sym, ◌∙◌, inl, inr, arith}
+use Rattle.std.proofs.Common.{◌≡◌, ℕ, ◌+◌, List, [], ◌∷◌, ◌++◌, length, refl, ap, sym, ◌∙◌, inl, inr, arith}
 use Rattle.std.proofs.lemmas.Bool.{cases_Bool}
+use Rattle.std.proofs.lemmas.List.{length_push}
 use Rattle.properties_format.specs.Encoding.{Encoding, byte_order_mark}
 use Rattle.properties_format.specs.Lines.{Ended, end, Line, numbered, line_ends}
 use Rattle.properties_format.specs.Computed.Cut.{cut_of, decoded_line, decoded_ended, decoded_lines}
@@ -31,9 +32,7 @@ numbered-push n [] h = ap (λ m. record { number = m; text = h.text } ∷ []) (z
   where
     zero-right : (n : ℕ) → n ≡ n + 0
     zero-right n = omega arith
-numbered-push n (g ∷ p) h =
-    ap (λ v. record { number = n; text = g.text } ∷ v)
-    (numbered-push (n + 1) p h ∙ ap (λ m. numbered_from (n + 1) p ++ record { number = m; text = h.text } ∷ []) (one-more n (length p)))
+numbered-push n (g ∷ p) h = simp (one-more, numbered-push (n + 1) p h)
 
 -- Whether a line closes a group doesn't depend on the numbers.
 closes-numbered : (n m : ℕ) (p : List HeldLine) (h : HeldLine) → closes (numbered_from n p) (record { number = m; text = h.text }) ≡ closes (as_lines p) (record { number = 0; text = h.text })
@@ -55,16 +54,10 @@ first-numbered : (n : ℕ) (p : List HeldLine) (h : HeldLine) → first_number (
 first-numbered n [] h = refl
 first-numbered n (g ∷ p) h = refl
 
--- One more line makes a list one longer.
-length-push : (p : List HeldLine) (h : HeldLine) → length (p ++ h ∷ []) ≡ length p + 1
-length-push [] h = refl
-length-push (g ∷ p) h = let e = length-push p h in omega arith
-
 -- A group before others.
 entries-group : (m n : ℕ) (g : List HeldLine) (gs : List (List Line)) (rest : List Entry) → first_number (numbered_from n g) ≡ n → entries_of m end gs ≡ rest
     → entries_of m end (numbered_from n g ∷ gs) ≡ followed n (outcome_of (joined (as_lines g))) rest
-entries-group m n g gs rest h k =
-    ap₂ (λ v w. followed v (outcome_of w) (entries_of m end gs)) h (joined-numbered n g) ∙ ap (followed n (outcome_of (joined (as_lines g)))) k
+entries-group m n g gs rest h k = simp (h, joined-numbered, k)
 
 -- Lines after those of a group that is still open.
 entries-after : (m n k : ℕ) (p hs : List HeldLine) → k ≡ n + length p
@@ -75,7 +68,7 @@ entries-after m n k p (h ∷ hs) s =
     let l : Line = record { number = k; text = h.text } in
     let push : numbered_from n p ++ l ∷ [] ≡ numbered_from n (p ++ h ∷ []) =
     ap (λ v. numbered_from n p ++ record { number = v; text = h.text } ∷ []) s ∙ sym (numbered-push n p h) in
-    let size = length-push p h in
+    let size = length_push p h in
     let next : k + 1 ≡ n + length (p ++ h ∷ []) = omega arith in
     elim (cases_Bool (closes (as_lines p) (record { number = 0; text = h.text }))) [
       | inl c ↦

@@ -1,21 +1,24 @@
 -- What an edited source says: the items of the source with the edit made to what they say.
-use Rattle.std.proofs.Common.{◌≡◌, ℕ, true, List, ◌++◌, ap, sym, ◌∙◌, inl, inr, subst, All, Bool}
+use Rattle.std.proofs.Common.{◌≡◌, ℕ, true, List, ◌++◌, ap, sym, ◌∙◌, subst, All, Bool}
 use Rattle.properties_format.specs.Text.{scalar}
 use Rattle.properties_format.specs.Encoding.{Encoding, InForce, byte_order_mark}
 use Rattle.properties_format.specs.Lines.{end}
-use Rattle.properties_format.specs.Computed.Lines.{ends_in_cr}
 use Rattle.properties_format.specs.Entries.{Content, AreItems}
 use Rattle.properties_format.specs.Computed.Items.{items_of}
-use Rattle.properties_format.specs.Body.{HeldLine, as_groups, AreGroupsOf, groups_bytes}
-use Rattle.properties_format.specs.Edited.{bom_of, IsKeySet, guarding_lf, IsKeyRemoved}
+use Rattle.properties_format.specs.Computed.Body.{held_groups_of}
+use Rattle.properties_format.specs.Computed.Edited.{key_set, last_place, set_at}
+use Rattle.properties_format.specs.Body.{HeldLine, as_groups, AreGroupsOf}
+use Rattle.properties_format.specs.Edited.{IsKeySet, guarding_lf, IsKeyRemoved}
 use Rattle.properties_format.specs.Edited.{is_editable}
 use Rattle.properties_format.specs.Changed.{contents, IsSetIn, IsRemovedIn}
 use Rattle.properties_format.proofs.Edited.Outcomes.{outcomes_of, outcomes_in}
 use Rattle.properties_format.proofs.Edited.Outcomes.{givens}
 use Rattle.properties_format.proofs.Changed.Items.{items-outcomes, outcomes-items}
-use Rattle.properties_format.proofs.Body.Groups.{held-groups, held-body}
-use Rattle.properties_format.proofs.Edited.ByteOrderMarks.{source-whole, key_set-in_force, key_removed-in_force}
-use Rattle.properties_format.proofs.Edited.Contents.{ends-right, ComesTo, replaced-outcomes, appended-outcomes, removed-outcomes}
+use Rattle.properties_format.proofs.Body.Groups.{held-groups, held_groups_of-meets}
+use Rattle.properties_format.proofs.Edited.ByteOrderMarks.{key_removed-in_force}
+use Rattle.properties_format.proofs.Edited.Contents.{ComesTo, groups-come, removed-outcomes}
+use Rattle.properties_format.proofs.Edited.Made.{key_set-only, last_place-meets}
+use Rattle.properties_format.proofs.Edited.Put.{ends-alike, put-contents, put-in_force}
 
 -- ---- what is read from a source
 
@@ -48,14 +51,6 @@ pub groups-contents : (e : Encoding) (source : List ℕ) (gs : List (List HeldLi
     → AreGroupsOf (byte_order_mark e source).encoding (byte_order_mark e source).body gs → outcomes_of (as_groups gs) ≡ givens (source_contents e source)
 groups-contents e source gs r h = items-outcomes e source gs h r.no_fault
 
--- A CR at the end of the body is at the end of the source.
-ends-alike : (e : Encoding) (source : List ℕ) (gs : List (List HeldLine)) → IsReadable e source
-    → AreGroupsOf (byte_order_mark e source).encoding (byte_order_mark e source).body gs
-    → ends_in_cr (groups_bytes gs) ≡ true → ends_in_cr source ≡ true
-ends-alike e source gs r h k =
-    let f = byte_order_mark e source in
-    ap ends_in_cr (source-whole e source) ∙ ends-right (bom_of source) f.body (ap ends_in_cr (sym (held-body f.encoding f.body gs r.editable h)) ∙ k)
-
 -- ---- one edit
 
 -- After a key is set, the last pair with the key has the value, or there is a new last pair if none has the key. All
@@ -65,13 +60,16 @@ pub key_set-contents : (e : Encoding) (only : Bool) (source key value result : L
     → IsReadTo e result (IsSetIn key value (source_contents e source))
 key_set-contents e only source key value result r k v h =
     let f = byte_order_mark e source in
-    let gs = held-groups f.encoding f.body h.groups r.editable h.held in
-    let t = groups-contents e source h.groups r h.held in
-    read-to e result (record { encoding = f.encoding; body = h.body }) (IsSetIn key value (source_contents e source)) r.editable (key_set-in_force e only source key value result r.editable h)
-    (elim h.edited [
-      | inl m ↦ replaced-outcomes f.encoding only h.groups key value h.body (source_contents e source) r.editable k v gs t m
-      | inr m ↦ appended-outcomes f.encoding only source h.groups key value h.body (source_contents e source) r.editable k v gs (ends-alike e source h.groups r h.held) t m
-    ])
+    let gs = held_groups_of f.encoding f.body in
+    let old = source_contents e source in
+    let place = last_place key gs in
+    let body = set_at f.encoding only source gs key value place in
+    let told = groups-contents e source gs r (held_groups_of-meets f.encoding f.body) in
+    subst (λ w. IsReadTo e w (IsSetIn key value old)) (sym (key_set-only e only source key value result h))
+    (read-to e (key_set e only source key value) (record { encoding = f.encoding; body = body }) (IsSetIn key value old) r.editable
+    (put-in_force e only source key value r.editable)
+    (groups-come f.encoding body (IsSetIn key value old) (held_groups_of f.encoding body) r.editable (held_groups_of-meets f.encoding body)
+    (put-contents f.encoding only source key value f.body r.editable k v (ends-alike e source) place (last_place-meets key gs) old told)))
 
 -- After a key is removed, the pairs with the key are gone. All other contents are unchanged.
 pub key_removed-contents : (e : Encoding) (source key result : List ℕ) → IsReadable e source → IsKeyRemoved e source key result

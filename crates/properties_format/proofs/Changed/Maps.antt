@@ -32,11 +32,10 @@ value-contents (read_fault n ∷ entries) key = first-none (value_in entries key
 -- In two lists of contents, the value is that in the second, or else that in the first.
 value-append : (cs ds : List Content) (key : List ℕ) → value_among (cs ++ ds) key ≡ first_value (value_among ds key) (value_among cs key)
 value-append [] ds key = sym (first-none (value_among ds key))
-value-append (c ∷ cs) ds key =
-    ap (λ o. first_value o (content_value c key)) (value-append cs ds key) ∙ first-assoc (value_among ds key) (value_among cs key) (content_value c key)
+value-append (c ∷ cs) ds key = simp (first-assoc, value-append cs ds key)
 
 -- Equal keys pass the test.
-same-test : (k key : List ℕ) → k ≡ key → bytes_eq k key ≡ true
+pub same-test : (k key : List ℕ) → k ≡ key → bytes_eq k key ≡ true
 same-test k key h = (bytes_eq-Decides k key).1 h
 
 -- Different keys don't pass the test.
@@ -65,45 +64,29 @@ not-back k key h s = let t = same-test k key (sym s) in absurd (cc)
 
 -- A pair gives its key its value if no later pair has that key.
 set-last : (cs ds : List Content) (key value k : List ℕ) → HoldNoPair key ds → (k ≡ key) → value_among (cs ++ pair key value ∷ ds) k ≡ Some value
-set-last cs ds key value k h s =
-    ap (value_among (cs ++ pair key value ∷ ds)) s
-    ∙ value-append cs (pair key value ∷ ds) key
-    ∙ ap₂ (λ x y. first_value (first_value x y) (value_among cs key)) (no-value key ds h) (own-value key value)
+set-last cs ds key value k h s = cc (value-append cs (pair key value ∷ ds) key, no-value key ds h, own-value key value)
 
 -- For another key, that pair doesn't count.
 set-other : (cs ds : List Content) (key value k : List ℕ) → (key ≢ k)
     → value_among (cs ++ pair key value ∷ ds) k ≡ first_value (value_among ds k) (value_among cs k)
-set-other cs ds key value k h =
-    value-append cs (pair key value ∷ ds) k
-    ∙ ap (λ y. first_value (first_value (value_among ds k) y) (value_among cs k)) (other-value key value k h)
-    ∙ ap (λ y. first_value y (value_among cs k)) (first-none (value_among ds k))
+set-other cs ds key value k h = simp (value-append, other-value, first-none)
 
 -- If the last pair with a key is changed, each key has its value in the map with that key set.
 changed-value : (key value : List ℕ) (old new : List Content) (k : List ℕ) → IsLastChanged key value old new
     → value_among new k ≡ map_edited (put key value) (value_among old) k
 changed-value key value old new k h = elim (cases_Bool (bytes_eq k key)) [
-  | inl t ↦
-      ap (λ v. value_among v k) h.now
-      ∙ set-last h.before h.after key value k h.no_later ((bytes_eq-Decides k key).0 t)
-      ∙ sym (cond-true (bytes_eq k key) (Some value) (value_among old k) t)
+  | inl t ↦ rw (h.now, t) (set-last h.before h.after key value k h.no_later ((bytes_eq-Decides k key).0 t))
   | inr t ↦
-      ap (λ v. value_among v k) h.now
-      ∙ set-other h.before h.after key value k (not-back k key t)
-      ∙ sym (set-other h.before h.after key h.old_value k (not-back k key t))
-      ∙ ap (λ v. value_among v k) (sym h.was)
-      ∙ sym (cond-false (bytes_eq k key) (Some value) (value_among old k) t)
+      let n = not-back k key t in
+      rw (h.now, h.was, t) (set-other h.before h.after key value k n ∙ sym (set-other h.before h.after key h.old_value k n))
 ]
 
 -- If a new last pair is added, each key has its value in the map with that key set.
 appended-value : (key value : List ℕ) (old new : List Content) (k : List ℕ) → new ≡ old ++ pair key value ∷ []
     → value_among new k ≡ map_edited (put key value) (value_among old) k
 appended-value key value old new k h = elim (cases_Bool (bytes_eq k key)) [
-  | inl t ↦
-      ap (λ v. value_among v k) h
-      ∙ set-last old [] key value k tt ((bytes_eq-Decides k key).0 t)
-      ∙ sym (cond-true (bytes_eq k key) (Some value) (value_among old k) t)
-  | inr t ↦
-      ap (λ v. value_among v k) h ∙ set-other old [] key value k (not-back k key t) ∙ sym (cond-false (bytes_eq k key) (Some value) (value_among old k) t)
+  | inl t ↦ rw (h, t) (set-last old [] key value k tt ((bytes_eq-Decides k key).0 t))
+  | inr t ↦ rw (h, t) (set-other old [] key value k (not-back k key t))
 ]
 
 -- If a key is set, each key has its value in the map with that key set.
@@ -120,8 +103,7 @@ removed-same key [] new h = ap (λ v. value_among v key) h
 removed-same key (comment text ∷ cs) new h = ap (λ v. value_among v key) h.1 ∙ first-none (value_among h.0 key) ∙ removed-same key cs h.0 h.2
 removed-same key (pair k v ∷ cs) new (inl h) = removed-same key cs new h.1
 removed-same key (pair k v ∷ cs) new (inr h) =
-    ap (λ v. value_among v key) h.2 ∙ ap (first_value (value_among h.1 key)) (other-value k v key h.0) ∙ first-none (value_among h.1 key)
-    ∙ removed-same key cs h.1 h.3
+    rw (h.2, other-value k v key h.0, first-none (value_among h.1 key), removed-same key cs h.1 h.3)
 
 -- Every other key keeps its value.
 removed-other : (key : List ℕ) (old new : List Content) (k : List ℕ) → key ≢ k → IsRemovedIn key old new → value_among new k ≡ value_among old k
@@ -129,8 +111,7 @@ removed-other key [] new k n h = ap (λ v. value_among v k) h
 removed-other key (comment text ∷ cs) new k n h = ap (λ v. value_among v k) h.1 ∙ ap (λ o. first_value o None) (removed-other key cs h.0 k n h.2)
 removed-other key (pair l v ∷ cs) new k n (inl h) =
     removed-other key cs new k n h.1 ∙ sym (ap (first_value (value_among cs k)) (other-value l v k (λ s. n (sym h.0 ∙ s))) ∙ first-none (value_among cs k))
-removed-other key (pair l v ∷ cs) new k n (inr h) =
-    ap (λ v. value_among v k) h.2 ∙ ap (λ o. first_value o (content_value (pair l v) k)) (removed-other key cs h.1 k n h.3)
+removed-other key (pair l v ∷ cs) new k n (inr h) = simp (h.2, removed-other key cs h.1 k n h.3)
 
 -- If a key is removed, each key has its value in the map with that key removed.
 removed-value : (key : List ℕ) (old new : List Content) (k : List ℕ) → IsRemovedIn key old new

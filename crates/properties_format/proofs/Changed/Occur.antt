@@ -1,10 +1,9 @@
 -- The other groups of a source are in the edited source, in order.
-use Rattle.std.proofs.Common.{ℕ, List, [], ◌∷◌, ◌++◌, refl, ap, sym, ◌∙◌, inl, inr, append_assoc, subst, Bool}
-use Rattle.properties_format.specs.Encoding.{Encoding}
-use Rattle.properties_format.specs.Body.{HeldLine, group_bytes, groups_bytes}
+use Rattle.std.proofs.Common.{◌≡◌, ℕ, List, [], ◌∷◌, ◌++◌, refl, ap, sym, ◌∙◌, inl, inr, append_assoc, subst, Bool}
+use Rattle.properties_format.specs.Encoding.{Encoding, byte_order_mark}
+use Rattle.properties_format.specs.Body.{AreGroupsOf, HasKey, HeldLine, NoneHasKey, group_bytes, groups_bytes}
 use Rattle.properties_format.specs.Edited.{bom_of, IsKeySet, IsWithout, guarding_lf, IsKeyRemoved}
-use Rattle.properties_format.specs.Changed.{OccurIn}
-use Rattle.properties_format.specs.Changed.{AreOthersThanLast, AreOthers, KeepsOthers}
+use Rattle.properties_format.specs.Changed.{OccurIn, AreOthersThanLast, AreOthers, KeepsOthers}
 
 -- Groups with other bytes before them.
 pub occur-after : (gs : List (List HeldLine)) (x y : List ℕ) → OccurIn gs y → OccurIn gs (x ++ y)
@@ -26,26 +25,35 @@ pub occur-alone : (gs : List (List HeldLine)) → OccurIn gs (groups_bytes gs)
 occur-alone [] = tt
 occur-alone (g ∷ gs) = ([], groups_bytes gs, refl, occur-alone gs)
 
+-- If other bytes come for the last pair with a key, every other group is unchanged.
+pub others-kept : (e : Encoding) (source key result : List ℕ) (groups before : List (List HeldLine)) (g : List HeldLine) (after : List (List HeldLine)) (rest : List ℕ)
+    → AreGroupsOf (byte_order_mark e source).encoding (byte_order_mark e source).body groups → groups ≡ before ++ g ∷ after
+    → HasKey key g → NoneHasKey key after → OccurIn after rest → result ≡ bom_of source ++ (groups_bytes before ++ rest)
+    → KeepsOthers (AreOthersThanLast key) e source result
+others-kept e source key result groups before g after rest held s has none occur is = (
+  groups,
+  before ++ after,
+  held,
+  inr (before, g, after, s, has, none, refl),
+  rw is (occur-after (before ++ after) (bom_of source) _ (occur-before before after rest occur)),
+)
+
+-- If bytes are added at the end, every group is unchanged.
+pub all-kept : (e : Encoding) (source key result : List ℕ) (groups : List (List HeldLine)) (more : List ℕ)
+    → AreGroupsOf (byte_order_mark e source).encoding (byte_order_mark e source).body groups → NoneHasKey key groups
+    → result ≡ bom_of source ++ (groups_bytes groups ++ more) → KeepsOthers (AreOthersThanLast key) e source result
+all-kept e source key result groups more held none is =
+    (groups, groups, held, inl (none, refl), rw is (occur-after groups (bom_of source) _ (occur-all groups more)))
+
 -- If a key is set, every group but the last pair with the key is unchanged.
 pub key_set-keeps : (e : Encoding) (only : Bool) (source key value result : List ℕ) → IsKeySet e only source key value result
     → KeepsOthers (AreOthersThanLast key) e source result
 key_set-keeps e only source key value result h = elim h.edited [
-  | inl r ↦ (
-    h.groups,
-    r.before ++ r.after,
-    h.held,
-    inr (r.before, r.group, r.after, r.division, r.has_key, r.no_later, refl),
-    subst (OccurIn (r.before ++ r.after)) (sym (h.whole ∙ ap (λ v. bom_of source ++ v) r.bytes))
-        (occur-after (r.before ++ r.after) (bom_of source) _ (occur-before r.before r.after _ (occur-after r.after _ _ (occur-after r.after _ (groups_bytes r.after) (occur-alone r.after))))),
-  )
-  | inr r ↦ (
-    h.groups,
-    h.groups,
-    h.held,
-    inl (r.no_pair, refl),
-    subst (OccurIn h.groups) (sym (h.whole ∙ ap (λ v. bom_of source ++ v) (r.bytes ∙ append_assoc (groups_bytes h.groups) _ _)))
-        (occur-after h.groups (bom_of source) _ (occur-all h.groups _)),
-  )
+  | inl r ↦ others-kept e source key result h.groups r.before r.group r.after _ h.held r.division r.has_key r.no_later
+      (occur-after r.after _ _ (occur-after r.after _ (groups_bytes r.after) (occur-alone r.after)))
+      (h.whole ∙ ap (λ v. bom_of source ++ v) r.bytes)
+  | inr r ↦ all-kept e source key result h.groups _ h.held r.no_pair
+      (h.whole ∙ ap (λ v. bom_of source ++ v) (r.bytes ∙ append_assoc (groups_bytes h.groups) _ _))
 ]
 
 -- What is left without a key contains the groups that aren't pairs with it, in order.

@@ -1,11 +1,11 @@
 -- Splitting commutes with decoding: the lines that are found in undecoded bytes and decoded one by one are the lines of
 -- the decoded text.
-use Rattle.std.proofs.Common.{◌≡◌, ℕ, ◌<◌, ◌⊎◌, ◌==◌, eqb-true, true, List, [], ◌∷◌, ◌++◌, refl, ap, ap₂, sym, ◌∙◌, subst, inl, inr, lit<, append_assoc}
-use Rattle.std.proofs.lemmas.Bool.{cases_Bool, or_cases}
-use Rattle.properties_format.specs.Text.{line_feed, carriage_return, is_line_end, LineEnding, lf, cr, crlf, line_ending_text}
+use Rattle.std.proofs.Common.{◌≡◌, ℕ, ◌<◌, ◌⊎◌, true, List, [], ◌∷◌, ◌++◌, refl, ap, ap₂, sym, ◌∙◌, subst, inl, inr, append_assoc, arith}
+use Rattle.std.proofs.lemmas.Bool.{cases_Bool}
+use Rattle.properties_format.specs.Text.{is_line_end, LineEnding, line_ending_text}
 use Rattle.properties_format.specs.Lines.{Ended, Lines, put_together, HoldsNoLineEnd, BeginsWithNoLoneLf, AreLines, IsLines}
 use Rattle.properties_format.specs.Pieces.{characters}
-use Rattle.properties_format.specs.Encoding.{Encoding, IsAligned, IsDecoded, ascii_bytes, byte_order_mark}
+use Rattle.properties_format.specs.Encoding.{Encoding, IsAligned, IsDecoded, byte_order_mark}
 use Rattle.properties_format.specs.Cut.{HoldsNoLineEndUnit, line_ending_bytes, bytes_together, AreCut, IsCut, IsDecodedLine, AreDecodedLines, IsByline}
 use Rattle.properties_format.specs.Computed.Encoding.{pieces_of, decoded_of}
 use Rattle.properties_format.specs.Computed.Lines.{lines_of}
@@ -25,20 +25,13 @@ use Rattle.properties_format.proofs.Cut.Meets.{cut_of-meets}
 -- A line and its end at the front, decoded.
 pub decoded-line : (e : Encoding) (text : List ℕ) (by : LineEnding) (y : List ℕ) → IsAligned e text
     → decoded_line e (text ++ (line_ending_bytes e by ++ y)) ≡ decoded_line e text ++ (line_ending_text by ++ decoded_line e y)
-decoded-line e text lf y a = characters-cut_ascii e line_feed text y (lit< tt) a
-decoded-line e text cr y a = characters-cut_ascii e carriage_return text y (lit< tt) a
-decoded-line e text crlf y a =
-    ap (λ v. decoded_line e (text ++ v)) (append_assoc (ascii_bytes e carriage_return) (ascii_bytes e line_feed) y)
-    ∙ characters-cut_ascii e carriage_return text (ascii_bytes e line_feed ++ y) (lit< tt) a
-    ∙ ap (λ v. decoded_line e text ++ carriage_return ∷ characters v) (pieces_of-ascii e line_feed y (lit< tt))
+decoded-line e text by y h = grind (arith, characters-cut_ascii, append_assoc, pieces_of-ascii)
 
 -- Lines of bytes put together decode to their texts put together.
 decoded-together : (e : Encoding) (ls : List Ended) (last : List ℕ) → AreCut e ls last
     → decoded_line e (bytes_together e ls last) ≡ put_together (decoded_ended e ls) (decoded_line e last)
 decoded-together e [] last h = refl
-decoded-together e (l ∷ ls) last h =
-    decoded-line e l.text l.by (bytes_together e ls last) h.1
-    ∙ ap (λ v. decoded_line e l.text ++ (line_ending_text l.by ++ v)) (decoded-together e ls last h.3)
+decoded-together e (l ∷ ls) last h = grind (arith, decoded-line, decoded-together e ls last h.3)
 
 -- ---- Its lines.
 
@@ -52,19 +45,11 @@ first-end (c ∷ x) = elim (cases_Bool (is_line_end c)) [
 
 -- A line end is an ASCII character.
 pub end-ascii : (c : ℕ) → is_line_end c ≡ true → c < 0x80
-end-ascii c h = elim (or_cases (c == line_feed) (c == carriage_return) h) [
-  | inl e ↦ rw (eqb-true c line_feed e) (lit< tt)
-  | inr e ↦ rw (eqb-true c carriage_return e) (lit< tt)
-]
+end-ascii c h = grind (arith)
 
 -- Bytes without a line end unit decode to a text without a line end.
 pub no_end-decoded : (e : Encoding) (d : List ℕ) → HoldsNoLineEndUnit e d → HoldsNoLineEnd (decoded_line e d)
-no_end-decoded e d h = elim (first-end (decoded_line e d)) [
-  | inl p ↦ p
-  | inr q ↦
-      let k = cut-at_ascii e d q.0 q.1 q.2 (end-ascii q.1 q.3) q.4 in
-      absurd (no_end_unit-at e q.1 k.0 k.1 q.3 k.2.aligned (subst (HoldsNoLineEndUnit e) k.2.joins h))
-]
+no_end-decoded e d h = grind (arith, first-end, cut-at_ascii, no_end_unit-at)
 
 -- Only an empty list of bytes decodes to an empty text.
 pub nothing-decoded : (e : Encoding) (d : List ℕ) → decoded_line e d ≡ [] → d ≡ []
@@ -73,8 +58,7 @@ nothing-decoded e (b ∷ d) h = let k = ap characters (pieces_of-step e b d) in 
 
 -- If the first line of bytes isn't an empty one that an LF ends, neither is the first decoded line.
 no_lone-decoded : (e : Encoding) (ls : List Ended) → BeginsWithNoLoneLf ls → BeginsWithNoLoneLf (decoded_ended e ls)
-no_lone-decoded e [] h = tt
-no_lone-decoded e (l ∷ ls) h = λ k. h (nothing-decoded e l.text k.0, k.1)
+no_lone-decoded e ls h = grind (arith, nothing-decoded)
 
 -- Lines of bytes, decoded one by one, are lines of a text.
 lines-decoded : (e : Encoding) (ls : List Ended) (last : List ℕ) → AreCut e ls last → AreLines (decoded_ended e ls) (decoded_line e last)
@@ -83,10 +67,7 @@ lines-decoded e (l ∷ ls) last h = (no_end-decoded e l.text h.0, (λ k. no_lone
 
 -- Lines of bytes, each decoded by itself, are lines of the text of these bytes.
 pub decoded_lines-meets : (e : Encoding) (d : List ℕ) (lines : Lines) → IsCut e d lines → IsLines (decoded_line e d) (decoded_lines e lines)
-decoded_lines-meets e d lines h = record {
-  text = ap (decoded_line e) h.bytes ∙ decoded-together e lines.ended lines.last h.are_cut;
-  are_lines = lines-decoded e lines.ended lines.last h.are_cut;
-}
+decoded_lines-meets e d lines h = grind (arith, decoded-together, lines-decoded)
 
 -- The lines of bytes, each decoded by itself, are the lines of their text.
 pub decoded_lines-cut : (e : Encoding) (d : List ℕ) → decoded_lines e (cut_of e d) ≡ lines_of (decoded_line e d)
@@ -128,12 +109,11 @@ decoded_ended-meets e (l ∷ ls) = (decoded_line-meets e l.text, refl, decoded_e
 -- They decode to no other lines.
 decoded_ended-only : (e : Encoding) (ls ts : List Ended) → AreDecodedLines e ls ts → ts ≡ decoded_ended e ls
 decoded_ended-only e [] [] h = refl
-decoded_ended-only e [] (t ∷ ts) h = absurd h
-decoded_ended-only e (l ∷ ls) [] h = absurd h
 decoded_ended-only e (l ∷ ls) (t ∷ ts) h =
     let p : t ≡ record { text = decoded_line e l.text; by = l.by } =
     ap₂ (λ v w. let s : Ended = record { text = v; by = w } in s) (decoded_line-only e l.text t.text h.0) (sym h.1) in
     ap₂ (λ v vs. v ∷ vs) p (decoded_ended-only e ls ts h.2)
+decoded_ended-only e ls ts h = absurd h
 
 -- The computed lines are the lines of the input's bytes, each decoded by itself.
 pub byline_of-meets : (e : Encoding) (b : List ℕ) → IsByline e b (byline_of e b)

@@ -1,7 +1,7 @@
 -- The computed lines of some bytes are lines of these bytes.
-use Rattle.std.proofs.Common.{◌≡◌, ℕ, ◌%◌, ◌==◌, ◌<◌, false, List, [], ◌∷◌, ◌++◌, length, refl, ap, ap₂, sym, ◌∙◌, subst, append_assoc, inl, inr, arith, lit<, eqb-true}
+use Rattle.std.proofs.Common.{◌≡◌, ℕ, ◌%◌, ◌==◌, ◌<◌, false, List, [], ◌∷◌, ◌++◌, length, refl, ap₂, sym, ◌∙◌, subst, inl, inr, arith, lit<, eqb-true}
 use Rattle.std.proofs.lemmas.Bool.{cases_Bool, or_cases}
-use Rattle.properties_format.specs.Text.{line_feed, carriage_return, is_line_end, LineEnding, lf, cr, crlf, line_ending_text}
+use Rattle.properties_format.specs.Text.{line_feed, carriage_return, is_line_end, LineEnding, lf, cr, line_ending_text}
 use Rattle.properties_format.specs.Lines.{Ended, Lines, put_together, HoldsNoLineEnd, BeginsWithNoLoneLf, AreLines, IsLines}
 use Rattle.properties_format.specs.Utf16.{low_first, high_first}
 use Rattle.properties_format.specs.Encoding.{Encoding, windows_1252, utf_8, utf_16le, utf_16be, IsAligned, ascii_bytes}
@@ -9,8 +9,6 @@ use Rattle.properties_format.specs.Cut.{units_of_two, HoldsNoLineEndUnit, line_e
 use Rattle.properties_format.specs.Computed.Lines.{end_before, cr_before, lines_of}
 use Rattle.properties_format.specs.Computed.Cut.{two_before, unit_before, cut_of_two, cut_of}
 use Rattle.properties_format.proofs.Lines.Meets.{lines_of-meets}
-use Rattle.properties_format.proofs.Encodings.PieceEnds.{aligned-nil}
-use Rattle.properties_format.proofs.Cut.Units.{no_end_unit-nil}
 use Rattle.properties_format.proofs.Cut.Two.{unit-plain}
 use Rattle.properties_format.proofs.Cut.Only.{ending-windows_1252, ending-utf_8}
 
@@ -39,40 +37,21 @@ record IsOfTwo (e : Encoding) (unit : ℕ → ℕ → ℕ) : Type 0 where
   even : (d : List ℕ) → IsAligned e d → length d % 2 ≡ 0
   ascii : (c a b : ℕ) → c < 0x80 → unit a b ≡ c → a ∷ b ∷ [] ≡ ascii_bytes e c
 
--- An empty line at the front.
-empty-cut : (e : Encoding) (by : LineEnding) (ls : List Ended) (last : List ℕ) → (by ≡ cr → BeginsWithNoLoneLf ls) → AreCut e ls last
-    → AreCut e (end_before by ls) last
-empty-cut e by ls last k h = (no_end_unit-nil e, aligned-nil e, k, h)
-
 -- An LF at the front.
 lf-meets : (e : Encoding) (d : List ℕ) (lines : Lines) → IsCut e d lines
     → IsCut e (ascii_bytes e line_feed ++ d) (record lines { ended = end_before lf lines.ended })
-lf-meets e d lines h = record {
-  bytes = ap (λ v. ascii_bytes e line_feed ++ v) h.bytes;
-  are_cut = empty-cut e lf lines.ended lines.last (λ k. absurd (cc)) h.are_cut;
-}
+lf-meets e d lines h = grind (arith)
 
 -- A CR before a line that isn't an empty one that an LF ends.
 cr-apart : (e : Encoding) (ls : List Ended) (last d : List ℕ) → BeginsWithNoLoneLf ls → IsCut e d (record { ended = ls; last = last })
     → IsCut e (ascii_bytes e carriage_return ++ d) (record { ended = end_before cr ls; last = last })
-cr-apart e ls last d k h = record {
-  bytes = ap (λ v. ascii_bytes e carriage_return ++ v) h.bytes;
-  are_cut = empty-cut e cr ls last (λ q. k) h.are_cut;
-}
+cr-apart e ls last d k h = grind (arith)
 
 -- A CR before a line.
 cr-meets-line : (e : Encoding) (text : List ℕ) (by : LineEnding) (ls : List Ended) (last d : List ℕ)
     → IsCut e d (record { ended = record { text = text; by = by } ∷ ls; last = last })
     → IsCut e (ascii_bytes e carriage_return ++ d) (record { ended = cr_before (record { text = text; by = by } ∷ ls); last = last })
-cr-meets-line e [] lf ls last d h =
-    let m = append_assoc (ascii_bytes e carriage_return) (ascii_bytes e line_feed) (bytes_together e ls last) in
-    record {
-      bytes = ap (λ v. ascii_bytes e carriage_return ++ v) h.bytes ∙ sym m;
-      are_cut = empty-cut e crlf ls last (λ k. absurd (cc)) h.are_cut.3;
-    }
-cr-meets-line e [] cr ls last d h = cr-apart e (record { text = []; by = cr } ∷ ls) last d (λ p. absurd (cc)) h
-cr-meets-line e [] crlf ls last d h = cr-apart e (record { text = []; by = crlf } ∷ ls) last d (λ p. absurd (cc)) h
-cr-meets-line e (c ∷ cs) by ls last d h = cr-apart e (record { text = c ∷ cs; by = by } ∷ ls) last d (λ p. absurd (cc)) h
+cr-meets-line e text by ls last d h = grind (arith)
 
 -- A CR before any lines, or before none.
 cr-meets : (e : Encoding) (ended : List Ended) (last d : List ℕ) → IsCut e d (record { ended = ended; last = last })
@@ -83,14 +62,7 @@ cr-meets e (l ∷ ls) last d h = cr-meets-line e l.text l.by ls last d h
 -- Any other unit at the front.
 two-meets : (e : Encoding) (unit : ℕ → ℕ → ℕ) (a b : ℕ) (ended : List Ended) (last d : List ℕ) → IsOfTwo e unit → is_line_end (unit a b) ≡ false
     → IsCut e d (record { ended = ended; last = last }) → IsCut e (a ∷ b ∷ d) (two_before a b (record { ended = ended; last = last }))
-two-meets e unit a b [] last d t p h =
-    record { bytes = ap (λ v. a ∷ b ∷ v) h.bytes; are_cut = t.none (a ∷ b ∷ last) (p, t.units last h.are_cut) }
-two-meets e unit a b (l ∷ ls) last d t p h =
-    let n = t.even l.text h.are_cut.1 in
-    record {
-      bytes = ap (λ v. a ∷ b ∷ v) h.bytes;
-      are_cut = (t.none (a ∷ b ∷ l.text) (p, t.units l.text h.are_cut.0), t.whole (a ∷ b ∷ l.text) (omega arith), h.are_cut.2, h.are_cut.3);
-    }
+two-meets e unit a b ended last d h k m = grind (arith)
 
 -- A line end unit is a CR or an LF.
 unit-meets : (e : Encoding) (unit : ℕ → ℕ → ℕ) (a b : ℕ) (lines : Lines) (d : List ℕ) → IsOfTwo e unit
@@ -117,17 +89,11 @@ of-two-meets e unit (a ∷ b ∷ d) t = unit-meets e unit a b (cut_of_two unit d
 
 -- Two bytes that are an ASCII character with the low byte first are its bytes in UTF-16LE.
 low-ascii : (c a b : ℕ) → c < 0x80 → low_first a b ≡ c → a ∷ b ∷ [] ≡ ascii_bytes utf_16le c
-low-ascii c a b l h =
-    let p : a ≡ c = omega arith in
-    let q : b ≡ 0 = omega arith in
-    ap₂ (λ v w. v ∷ w ∷ []) p q
+low-ascii c a b l h = grind (arith)
 
 -- Two bytes that are an ASCII character with the high byte first are its bytes in UTF-16BE.
 high-ascii : (c a b : ℕ) → c < 0x80 → high_first a b ≡ c → a ∷ b ∷ [] ≡ ascii_bytes utf_16be c
-high-ascii c a b l h =
-    let p : a ≡ 0 = omega arith in
-    let q : b ≡ c = omega arith in
-    ap₂ (λ v w. v ∷ w ∷ []) p q
+high-ascii c a b l h = grind (arith)
 
 -- In UTF-16LE, units are two bytes with the low byte first, and a CR or an LF is one unit.
 le-two : IsOfTwo utf_16le low_first

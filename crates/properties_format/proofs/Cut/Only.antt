@@ -1,6 +1,6 @@
 -- Some bytes have exactly one list of lines, and a line before bytes is a line before their lines.
 use Rattle.std.proofs.Common.{◌≡◌, List, [], ◌∷◌, ◌++◌, ℕ, refl, ap, sym, ◌∙◌}
-use Rattle.properties_format.specs.Text.{LineEnding, lf, cr, crlf, line_ending_text}
+use Rattle.properties_format.specs.Text.{LineEnding, lf, cr, line_ending_text}
 use Rattle.properties_format.specs.Lines.{Ended, Lines, BeginsWithNoLoneLf}
 use Rattle.properties_format.specs.Utf16.{low_first, high_first}
 use Rattle.properties_format.specs.Encoding.{Encoding, windows_1252, utf_8, utf_16le, utf_16be, IsAligned}
@@ -11,22 +11,19 @@ use Rattle.properties_format.proofs.Cut.Two.{ReadsEnds, two-plain, two-line}
 
 -- Bytes without a line end unit are one line.
 pub cut_of-plain : (e : Encoding) (d : List ℕ) → HoldsNoLineEndUnit e d → cut_of e d ≡ record { ended = []; last = d }
-cut_of-plain windows_1252 d h = lines_of-plain d h
-cut_of-plain utf_8 d h = lines_of-plain d h
 cut_of-plain utf_16le d h = two-plain low_first d h
 cut_of-plain utf_16be d h = two-plain high_first d h
+cut_of-plain e d h = lines_of-plain d h
 
 -- In windows-1252, the bytes of a line end are its characters.
 pub ending-windows_1252 : (by : LineEnding) → line_ending_bytes windows_1252 by ≡ line_ending_text by
 ending-windows_1252 lf = refl
-ending-windows_1252 cr = refl
-ending-windows_1252 crlf = refl
+ending-windows_1252 by = refl
 
 -- In UTF-8, the bytes of a line end are its characters.
 pub ending-utf_8 : (by : LineEnding) → line_ending_bytes utf_8 by ≡ line_ending_text by
 ending-utf_8 lf = refl
-ending-utf_8 cr = refl
-ending-utf_8 crlf = refl
+ending-utf_8 by = refl
 
 -- In UTF-16LE, the bytes of a CR or an LF at the front are read as one unit, low byte first.
 le-ends : ReadsEnds utf_16le low_first

@@ -2,25 +2,14 @@
 -- decoded after it.
 use Rattle.std.proofs.Common.{◌≡◌, ℕ, true, false, List, [], ◌∷◌, ◌++◌, ap, ◌∙◌, lit<, eqb-true}
 use Rattle.std.proofs.lemmas.Bool.{false_from_ne_true}
-use Rattle.properties_format.specs.Text.{line_feed, is_line_end}
-use Rattle.properties_format.specs.Pieces.{characters}
-use Rattle.properties_format.specs.Encoding.{Encoding, IsAligned, ascii_bytes}
+use Rattle.properties_format.specs.Text.{line_feed}
+use Rattle.properties_format.specs.Encoding.{Encoding, ascii_bytes}
 use Rattle.properties_format.specs.Cut.{units}
 use Rattle.properties_format.specs.Computed.Lines.{begins_with_lf}
 use Rattle.properties_format.specs.Computed.Cut.{decoded_line}
-use Rattle.properties_format.proofs.Encodings.Characters.{pieces_of-ascii}
-use Rattle.properties_format.proofs.Encodings.Cuts.{characters-cut_ascii, cut-at_ascii}
+use Rattle.properties_format.proofs.Encodings.Cuts.{cut-at_ascii}
 use Rattle.properties_format.proofs.Cut.Units.{units-ascii}
-use Rattle.properties_format.proofs.Cut.Byline.{end-ascii, nothing-decoded}
-
--- A CR or an LF at a unit's boundary separates what is decoded before it from what is decoded after it.
-pub decoded-end : (e : Encoding) (c : ℕ) (x y : List ℕ) → is_line_end c ≡ true → IsAligned e x
-    → decoded_line e (x ++ (ascii_bytes e c ++ y)) ≡ decoded_line e x ++ c ∷ decoded_line e y
-decoded-end e c x y h a = characters-cut_ascii e c x y (end-ascii c h) a
-
--- An LF unit at the front decodes to an LF.
-pub decoded-lf_first : (e : Encoding) (y : List ℕ) → decoded_line e (ascii_bytes e line_feed ++ y) ≡ line_feed ∷ decoded_line e y
-decoded-lf_first e y = ap characters (pieces_of-ascii e line_feed y (lit< tt))
+use Rattle.properties_format.proofs.Cut.Byline.{nothing-decoded}
 
 -- A text that begins with an LF is that LF and a rest.
 begins-cons : (x : List ℕ) → begins_with_lf x ≡ true → (s : List ℕ) × (x ≡ line_feed ∷ s)

@@ -1,7 +1,7 @@
 -- The lines of bytes whose units are two bytes each.
-use Rattle.std.proofs.Common.{◌≡◌, ℕ, ◌%◌, false, List, [], ◌∷◌, ◌++◌, length, refl, ap, ◌∙◌, arith, append_assoc}
+use Rattle.std.proofs.Common.{◌≡◌, ℕ, ◌%◌, false, List, [], ◌∷◌, ◌++◌, length, refl, ap, ◌∙◌, arith}
 use Rattle.std.proofs.lemmas.Bool.{cond-false}
-use Rattle.properties_format.specs.Text.{line_feed, carriage_return, is_line_end, LineEnding, lf, cr, crlf}
+use Rattle.properties_format.specs.Text.{line_feed, carriage_return, is_line_end, LineEnding, cr}
 use Rattle.properties_format.specs.Lines.{Ended, Lines, HoldsNoLineEnd, BeginsWithNoLoneLf}
 use Rattle.properties_format.specs.Computed.Lines.{end_before, before}
 use Rattle.properties_format.specs.Encoding.{Encoding, ascii_bytes}
@@ -20,21 +20,14 @@ unit-plain u a b lines h = cond-false (is_line_end u) (before u lines) (two_befo
 
 -- Bytes without a line end unit are one line.
 pub two-plain : (unit : ℕ → ℕ → ℕ) (d : List ℕ) → HoldsNoLineEnd (units_of_two unit d) → cut_of_two unit d ≡ record { ended = []; last = d }
-two-plain unit [] h = refl
-two-plain unit (a ∷ []) h = refl
 two-plain unit (a ∷ b ∷ d) h = ap (unit_before (unit a b) a b) (two-plain unit d h.1) ∙ unit-plain (unit a b) a b (record { ended = []; last = d }) h.0
+two-plain unit d h = refl
 
 -- A line end at the front.
 two-end : (e : Encoding) (unit : ℕ → ℕ → ℕ) (by : LineEnding) (y : List ℕ) (ls : List Ended) (last : List ℕ) → ReadsEnds e unit
     → (by ≡ cr → BeginsWithNoLoneLf ls) → cut_of_two unit y ≡ record { ended = ls; last = last }
     → cut_of_two unit (line_ending_bytes e by ++ y) ≡ record { ended = end_before by ls; last = last }
-two-end e unit lf y ls last r k h = r.lf_first y ∙ ap (before line_feed) h
-two-end e unit cr y ls last r k h =
-    r.cr_first y ∙ ap (before carriage_return) h ∙ ap (λ v. let s : Lines = record { ended = v; last = last } in s) (cr-before ls (k refl))
-two-end e unit crlf y ls last r k h =
-    ap (cut_of_two unit) (append_assoc (ascii_bytes e carriage_return) (ascii_bytes e line_feed) y)
-    ∙ r.cr_first (ascii_bytes e line_feed ++ y)
-    ∙ ap (before carriage_return) (r.lf_first y ∙ ap (before line_feed) h)
+two-end e unit by y ls last h k m = grind (arith, cr-before)
 
 -- A line and its end before bytes whose lines are known.
 pub two-line : (e : Encoding) (unit : ℕ → ℕ → ℕ) (text : List ℕ) (by : LineEnding) (y : List ℕ) (ls : List Ended) (last : List ℕ) → ReadsEnds e unit
@@ -44,5 +37,4 @@ pub two-line : (e : Encoding) (unit : ℕ → ℕ → ℕ) (text : List ℕ) (by
 two-line e unit [] by y ls last r p a k h = two-end e unit by y ls last r k h
 two-line e unit (c ∷ []) by y ls last r p a k h = absurd (omega arith)
 two-line e unit (c ∷ d ∷ text) by y ls last r p a k h =
-    ap (unit_before (unit c d) c d) (two-line e unit text by y ls last r p.1 (omega arith) k h)
-    ∙ unit-plain (unit c d) c d (record { ended = record { text = text; by = by } ∷ ls; last = last }) p.0
+    grind (arith, two-line e unit text by y ls last r p.1 (omega arith) k h)

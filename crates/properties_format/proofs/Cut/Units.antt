@@ -1,8 +1,7 @@
 -- The units of concatenated bytes, and bytes none of whose units is a CR or an LF.
-use Rattle.std.proofs.Common.{◌≡◌, ℕ, ◌%◌, ◌<◌, ◌≤◌, ◌==◌, ◌&&◌, true, false, List, [], ◌∷◌, ◌++◌, length, refl, ap, ◌∙◌, subst, inl, inr, arith}
-use Rattle.std.proofs.lemmas.Bool.{or_from, and_right, ne_eqb, eqb-false}
-use Rattle.std.proofs.lemmas.Bool.Decides.{eqb_tells}
-use Rattle.properties_format.specs.Text.{line_feed, carriage_return, is_line_end}
+use Rattle.std.proofs.Common.{◌≡◌, ℕ, ◌%◌, ◌<◌, ◌==◌, ◌&&◌, true, List, [], ◌∷◌, ◌++◌, length, refl, ap, ◌∙◌, arith}
+use Rattle.std.proofs.lemmas.Bool.{and_right}
+use Rattle.properties_format.specs.Text.{is_line_end}
 use Rattle.properties_format.specs.Lines.{HoldsNoLineEnd}
 use Rattle.properties_format.specs.Utf16.{low_first, high_first}
 use Rattle.properties_format.specs.Encoding.{Encoding, windows_1252, utf_8, utf_16le, utf_16be, IsAligned, ascii_bytes}
@@ -12,10 +11,7 @@ use Rattle.properties_format.proofs.Lines.Plain.{plain-append, plain-left, plain
 
 -- The first unit of an ASCII character's bytes is its number.
 pub units-ascii : (e : Encoding) (c : ℕ) (y : List ℕ) → units e (ascii_bytes e c ++ y) ≡ c ∷ units e y
-units-ascii windows_1252 c y = refl
-units-ascii utf_8 c y = refl
-units-ascii utf_16le c y = let k : low_first c 0 ≡ c = omega arith in ap (λ v. v ∷ units_of_two low_first y) k
-units-ascii utf_16be c y = let k : high_first 0 c ≡ c = omega arith in ap (λ v. v ∷ units_of_two high_first y) k
+units-ascii e c y = grind (arith)
 
 -- The units of an even number of bytes and of what follows, if units are two bytes each.
 two-append : (unit : ℕ → ℕ → ℕ) (x y : List ℕ) → length x % 2 ≡ 0 → units_of_two unit (x ++ y) ≡ units_of_two unit x ++ units_of_two unit y
@@ -25,17 +21,7 @@ two-append unit (a ∷ b ∷ x) y h = ap (λ v. unit a b ∷ v) (two-append unit
 
 -- The units of whole units and of what follows.
 pub units-append : (e : Encoding) (x y : List ℕ) → IsAligned e x → units e (x ++ y) ≡ units e x ++ units e y
-units-append windows_1252 x y h = refl
-units-append utf_8 x y h = refl
-units-append utf_16le x y h = two-append low_first x y h
-units-append utf_16be x y h = two-append high_first x y h
-
--- An empty list of bytes contains no line end unit.
-pub no_end_unit-nil : (e : Encoding) → HoldsNoLineEndUnit e []
-no_end_unit-nil windows_1252 = tt
-no_end_unit-nil utf_8 = tt
-no_end_unit-nil utf_16le = tt
-no_end_unit-nil utf_16be = tt
+units-append e x y h = grind (arith, two-append)
 
 -- If neither part contains a line end unit, the whole contains none.
 pub no_end_unit-append : (e : Encoding) (x y : List ℕ) → IsAligned e x → HoldsNoLineEndUnit e x → HoldsNoLineEndUnit e y → HoldsNoLineEndUnit e (x ++ y)
@@ -51,59 +37,38 @@ no_end_unit-right e x y a h = plain-right (units e x) (units e y) (rw (units-app
 
 -- Such bytes don't contain the bytes of a CR or an LF at a unit's boundary.
 pub no_end_unit-at : (e : Encoding) (c : ℕ) (x y : List ℕ) → is_line_end c ≡ true → IsAligned e x → HoldsNoLineEndUnit e (x ++ (ascii_bytes e c ++ y)) → ⊥
-no_end_unit-at e c x y h a k =
-    let m : HoldsNoLineEnd (c ∷ units e y) = subst HoldsNoLineEnd (units-ascii e c y) (no_end_unit-right e x (ascii_bytes e c ++ y) a k) in
-    let n = m.0 in
-    cc
+no_end_unit-at e c x y h a k = grind (arith, no_end_unit-right)
 
 -- ---- Line ends searched for among the bytes.
 
--- A unit of 80 hexadecimal or more isn't a CR or an LF.
-above-byte : (u : ℕ) → 0x80 ≤ u → is_line_end u ≡ false
-above-byte u h = or_from (u == line_feed) (u == carriage_return) (ne_eqb u line_feed (λ k. omega arith)) (ne_eqb u carriage_return (λ k. omega arith))
-
 -- With the low byte first, a unit is a CR or an LF exactly if its low byte is one and its high byte is 0.
 pub low_first-line_end : (a b : ℕ) → is_line_end (low_first a b) ≡ (b == 0 && is_line_end a)
-low_first-line_end a b = elim (eqb_tells b 0) [
-  | inl k ↦ rw k.1 (let e : low_first a 0 ≡ a = omega arith in ap is_line_end e)
-  | inr k ↦ rw k.0 (above-byte (low_first a b) (let m = eqb-false b 0 k.0 in omega arith))
-]
+low_first-line_end a b = grind (arith)
 
 -- With the high byte first, a unit is a CR or an LF exactly if its low byte is one and its high byte is 0.
 pub high_first-line_end : (a b : ℕ) → is_line_end (high_first a b) ≡ (a == 0 && is_line_end b)
-high_first-line_end a b = elim (eqb_tells a 0) [
-  | inl k ↦ rw k.1 (let e : high_first 0 b ≡ b = omega arith in ap is_line_end e)
-  | inr k ↦ rw k.0 (above-byte (high_first a b) (let m = eqb-false a 0 k.0 in omega arith))
-]
+high_first-line_end a b = grind (arith)
 
 -- If no byte is a CR or an LF, no unit of two bytes is one, with the low byte first.
 no_low : (d : List ℕ) → HoldsNoLineEnd d → HoldsNoLineEnd (units_of_two low_first d)
-no_low [] h = tt
-no_low (a ∷ []) h = tt
 no_low (a ∷ b ∷ d) h = (low_first-line_end a b ∙ and_right (b == 0) (is_line_end a) h.0, no_low d h.1.1)
+no_low d h = tt
 
 -- If no byte is a CR or an LF, no unit of two bytes is one, with the high byte first.
 no_high : (d : List ℕ) → HoldsNoLineEnd d → HoldsNoLineEnd (units_of_two high_first d)
-no_high [] h = tt
-no_high (a ∷ []) h = tt
 no_high (a ∷ b ∷ d) h = (high_first-line_end a b ∙ and_right (a == 0) (is_line_end b) h.1.0, no_high d h.1.1)
+no_high d h = tt
 
 -- If no byte is a CR or an LF, no unit is one.
 pub no_end-no_unit : (e : Encoding) (d : List ℕ) → HoldsNoLineEnd d → HoldsNoLineEndUnit e d
-no_end-no_unit windows_1252 d h = h
-no_end-no_unit utf_8 d h = h
-no_end-no_unit utf_16le d h = no_low d h
-no_end-no_unit utf_16be d h = no_high d h
+no_end-no_unit e d h = grind (arith, no_low, no_high)
 
 -- The first whole unit decides whether an LF comes first, whatever follows.
 pub lf_first-append : (e : Encoding) (x y : List ℕ) → 0 < length (units e x) → begins_with_lf (units e (x ++ y)) ≡ begins_with_lf (units e x)
 lf_first-append e [] y h = absurd (none e (omega arith))
   where
     none : (e : Encoding) → 0 < length (units e []) → ⊥
-    none windows_1252 h = omega arith
-    none utf_8 h = omega arith
-    none utf_16le h = omega arith
-    none utf_16be h = omega arith
+    none e h = grind (arith)
 lf_first-append windows_1252 (a ∷ x) y h = refl
 lf_first-append utf_8 (a ∷ x) y h = refl
 lf_first-append utf_16le (a ∷ []) y h = absurd (omega arith)

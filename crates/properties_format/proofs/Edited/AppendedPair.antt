@@ -5,18 +5,42 @@ use Rattle.properties_format.specs.Encoding.{Encoding}
 use Rattle.properties_format.specs.Lines.{Ended, HoldsNoLineEnd}
 use Rattle.properties_format.specs.Computed.Cut.{decoded_line}
 use Rattle.properties_format.specs.Groups.{IsWhole, joined}
-use Rattle.properties_format.specs.Entries.{pair}
+use Rattle.properties_format.specs.Entries.{Content, pair}
 use Rattle.properties_format.specs.Items.{given}
-use Rattle.properties_format.specs.Body.{HeldLine, AreGroupsOf, as_lines, groups_bytes}
+use Rattle.properties_format.specs.Body.{HeldLine, AreGroupsOf, HasKey, as_groups, as_lines, groups_bytes}
 use Rattle.properties_format.specs.Valued.{separation_by}
 use Rattle.properties_format.specs.Edited.{is_editable}
 use Rattle.properties_format.specs.Computed.Items.{outcome_of}
-use Rattle.properties_format.specs.Computed.Body.{held_groups_of}
+use Rattle.properties_format.specs.Computed.Body.{held_groups_of, is_pair_with}
 use Rattle.properties_format.proofs.Body.Decoded.{decoded-nil}
 use Rattle.properties_format.proofs.Body.Groups.{groups_bytes-append, held_groups_of-only}
-use Rattle.properties_format.proofs.Edited.Closed.{AreClosedBy}
-use Rattle.properties_format.proofs.Valued.Added.{empty_line}
+use Rattle.properties_format.proofs.Edited.Closed.{AreClosedBy, IsLeft}
+use Rattle.properties_format.proofs.Edited.Contents.{givens-append, outcomes_of-append}
+use Rattle.properties_format.proofs.Edited.Made.{has_key-false}
+use Rattle.properties_format.proofs.Edited.Outcomes.{outcome_before, outcomes_of, givens}
+use Rattle.properties_format.proofs.Valued.Added.{empty_line, outcomes-empty}
 use Rattle.properties_format.proofs.Valued.Lined.{AreLined, lined-groups, lines-join, held_of-append, held_in-append, fit-join}
+
+-- ---- closed groups
+
+-- What is left of the last group has its outcome.
+left-outcome : (by : LineEnding) (g : List HeldLine) (left : List (List HeldLine)) → IsLeft by g left
+    → outcomes_of (as_groups left) ≡ outcomes_of (as_groups (g ∷ []))
+left-outcome by g left (inl m) = ap (λ v. outcomes_of (as_groups v)) m.0 ∙ ap (λ o. outcome_before o []) (sym m.1)
+left-outcome by g left (inr m) = ap (λ v. outcomes_of (as_groups v)) m.is ∙ ap (λ o. outcome_before o []) m.outcome
+
+-- The outcomes of closed groups are the same.
+closed-outcomes : (e : Encoding) (by : LineEnding) (gs : List (List HeldLine)) (k : AreClosedBy e by gs)
+    → outcomes_of (as_groups (k.before ++ k.left)) ≡ outcomes_of (as_groups gs)
+closed-outcomes e by gs k =
+    outcomes_of-append k.before k.left
+    ∙ ap (λ v. outcomes_of (as_groups k.before) ++ v) (left-outcome by k.final k.left k.is_left)
+    ∙ sym (outcomes_of-append k.before (k.final ∷ []))
+    ∙ ap (λ v. outcomes_of (as_groups v)) (sym k.division)
+
+-- An empty last line isn't a pair.
+pub empty-other : (e : Encoding) (key : List ℕ) → ¬ (HasKey key (empty_line e None ∷ []))
+empty-other e key = has_key-false key (empty_line e None ∷ []) (ap (is_pair_with key) (outcomes-empty e None))
 
 -- ---- a pair after closed groups
 
@@ -56,3 +80,12 @@ module _ (e : Encoding) (by second : LineEnding) (gs : List (List HeldLine)) (ke
   pub appended-held : (body : List ℕ) → body ≡ (groups_bytes gs ++ separation_by (line_ending_text by) k.final) ++ (pb ++ line_ending_text second)
       → appended_groups ≡ held_groups_of e body
   appended-held body is = held_groups_of-only e body appended_groups (subst (λ w. AreGroupsOf e w appended_groups) (appended-bytes ∙ sym is) (lined-groups e appended_groups ok next))
+
+  -- Their outcomes are those of the groups followed by the pair.
+  pub appended-outcomes : (old : List Content) → outcomes_of (as_groups gs) ≡ givens old
+      → outcomes_of (as_groups appended_groups) ≡ givens (old ++ pair key value ∷ [])
+  appended-outcomes old told =
+      outcomes_of-append closed ((line ∷ []) ∷ last ∷ [])
+      ∙ ap₂ (λ v w. v ++ w) (closed-outcomes e by gs k ∙ told)
+      (ap₂ (λ o p. outcome_before o (outcome_before p [])) said (outcomes-empty e None))
+      ∙ sym (givens-append old (pair key value ∷ []))

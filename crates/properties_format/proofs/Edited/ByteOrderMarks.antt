@@ -10,8 +10,9 @@ use Rattle.properties_format.specs.Computed.Lines.{ends_in_cr}
 use Rattle.properties_format.specs.Printing.{in_key_or_value, printed_characters, encoded_text, printed_key}
 use Rattle.properties_format.specs.Writing.{is_empty}
 use Rattle.properties_format.specs.Body.{HeldLine, AreGroupsOf, ending_bytes, group_bytes, groups_bytes, last_ending}
-use Rattle.properties_format.specs.Edited.{pair_bytes, IsReplaced, IsAppended}
-use Rattle.properties_format.specs.Edited.{final_group, is_empty_line, is_left_open, added_ending, separation, bom_of, IsKeySet, guarding_lf, IsKeyRemoved}
+use Rattle.properties_format.specs.Valued.{separation_by}
+use Rattle.properties_format.specs.Edited.{pair_bytes, IsReplaced}
+use Rattle.properties_format.specs.Edited.{final_group, is_empty_line, is_left_open, bom_of, IsKeySet, guarding_lf, IsKeyRemoved}
 use Rattle.properties_format.specs.Edited.{is_editable}
 use Rattle.properties_format.proofs.Encodings.ByteOrderMarks.{byte_order_mark-none}
 use Rattle.properties_format.proofs.Printing.Characters.{encoded-ascii, encoded_text-append}
@@ -134,20 +135,24 @@ pub first-ascii : (e : Encoding) (g : List HeldLine) (gs : List (List HeldLine))
 first-ascii e g [] h hs k = k.0.ascii
 first-ascii e g (i ∷ gs) h hs k = k.0.ascii
 
--- If a pair is replaced, a body that didn't begin like a byte order mark still doesn't.
+-- If other bytes come after the groups before a group, a body that didn't begin like a byte order mark still doesn't.
+pub changed-unmarked : (e : Encoding) (gs before : List (List HeldLine)) (g : List HeldLine) (after : List (List HeldLine)) (x : List ℕ)
+    → gs ≡ before ++ g ∷ after → AreHeldGroups e gs → begins_like_bom (groups_bytes gs) ≡ false
+    → (before ≡ [] → begins_like_bom x ≡ false) → begins_like_bom (groups_bytes before ++ x) ≡ false
+changed-unmarked e gs [] g after x s k h first = first refl
+changed-unmarked e gs (f ∷ before) g after x s k h first =
+    front-unmarked f before x (groups_bytes (g ∷ after)) (first-ascii e f before g after (rw s at k))
+    (ap begins_like_bom (sym (groups_bytes-append (f ∷ before) (g ∷ after)) ∙ ap groups_bytes (sym s)) ∙ h)
+
+-- So it is if a pair is replaced.
 replaced-unmarked : (e : Encoding) (only : Bool) (gs : List (List HeldLine)) (key value body : List ℕ) → AreHeldGroups e gs → begins_like_bom (groups_bytes gs) ≡ false
     → IsReplaced e only gs key value body
     → begins_like_bom body ≡ false
-replaced-unmarked e only gs key value body k h r = of_before r.before r.division r.bytes
-  where
-    of_before : (before : List (List HeldLine)) → gs ≡ before ++ r.group ∷ r.after
-        → body ≡ groups_bytes before ++ (pair_bytes e only (is_empty (groups_bytes before)) key value ++ (ending_bytes (last_ending r.group) ++ groups_bytes r.after))
-        → begins_like_bom body ≡ false
-    of_before [] s t = ap begins_like_bom t ∙ first-unmarked e only key value (ending_bytes (last_ending r.group) ++ groups_bytes r.after)
-    of_before (g ∷ before) s t =
-        ap begins_like_bom t
-        ∙ front-unmarked g before _ (groups_bytes (r.group ∷ r.after)) (first-ascii e g before r.group r.after (rw s at k))
-        (ap begins_like_bom (sym (groups_bytes-append (g ∷ before) (r.group ∷ r.after))) ∙ ap (λ v. begins_like_bom (groups_bytes v)) (sym s) ∙ h)
+replaced-unmarked e only gs key value body k h r =
+    let rest = ending_bytes (last_ending r.group) ++ groups_bytes r.after in
+    ap begins_like_bom r.bytes
+    ∙ changed-unmarked e gs r.before r.group r.after (pair_bytes e only (is_empty (groups_bytes r.before)) key value ++ rest) r.division k h
+    (λ q. ap (λ v. begins_like_bom (pair_bytes e only (is_empty (groups_bytes v)) key value ++ rest)) q ∙ first-unmarked e only key value rest)
 
 -- An empty line has no bytes.
 pub empty-last : (g : List HeldLine) → is_empty_line g ≡ true → last_ending g ≡ None → group_bytes g ≡ []
@@ -159,48 +164,40 @@ empty-last (l ∷ []) h k = of_bytes l.bytes refl
     of_bytes (c ∷ x) e = let m : is_empty (c ∷ x) ≡ true = rw e at h in absurd (cc)
 empty-last (l ∷ m ∷ g) h k = absurd (cc)
 
--- The separation before a new pair is empty, or begins with a line ending.
-separation-cases : (source : List ℕ) (g : List HeldLine)
-    → (is_empty_line g ≡ true) × (separation source g ≡ []) ⊎ (by : LineEnding) × (rest : List ℕ) × (separation source g ≡ line_ending_text by ++ rest)
-separation-cases source g = elim (cases_Bool (is_empty_line g)) [
+-- What separates a pair from the last group is empty after an empty line, and otherwise begins with a line ending.
+separation_by-cases : (by : LineEnding) (g : List HeldLine)
+    → (is_empty_line g ≡ true) × (separation_by (line_ending_text by) g ≡ []) ⊎ (rest : List ℕ) × (separation_by (line_ending_text by) g ≡ line_ending_text by ++ rest)
+separation_by-cases by g = elim (cases_Bool (is_empty_line g)) [
   | inl h ↦ inl (h, rw h refl)
   | inr h ↦ elim (cases_Bool (is_left_open g)) [
-    | inl k ↦ inr (if ends_in_cr source then cr else lf, added_ending source, rw (h, k) refl)
-    | inr k ↦ inr (if ends_in_cr source then cr else lf, [], rw (h, k) (sym (append-nil (added_ending source))))
+    | inl k ↦ inr (line_ending_text by, rw (h, k) refl)
+    | inr k ↦ inr ([], rw (h, k) (sym (append-nil (line_ending_text by))))
   ]
 ]
 
--- If a pair is appended, a body that didn't begin like a byte order mark still doesn't.
-appended-unmarked : (e : Encoding) (only : Bool) (source : List ℕ) (gs : List (List HeldLine)) (key value body : List ℕ) → AreHeldGroups e gs
-    → begins_like_bom (groups_bytes gs) ≡ false
-    → IsAppended e only source gs key value body → begins_like_bom body ≡ false
-appended-unmarked e only source gs key value body k h r = elim (separation-cases source (final_group gs)) [
+-- If a pair is added at the end, a body that didn't begin like a byte order mark still doesn't.
+pub added-unmarked : (e : Encoding) (by : LineEnding) (gs : List (List HeldLine)) (tail : List ℕ → List ℕ) → AreHeldGroups e gs
+    → begins_like_bom (groups_bytes gs) ≡ false → begins_like_bom (tail []) ≡ false
+    → (let front = groups_bytes gs ++ separation_by (line_ending_text by) (final_group gs) in begins_like_bom (front ++ tail front) ≡ false)
+added-unmarked e by gs tail k h first = elim (separation_by-cases by (final_group gs)) [
   | inl p ↦ none gs k h p.0 (ap (λ v. groups_bytes gs ++ v) p.1 ∙ append-nil (groups_bytes gs))
   | inr p ↦
-      ap begins_like_bom r.bytes
-      ∙ ap (λ v. begins_like_bom ((groups_bytes gs ++ v) ++ tail)) p.2
-      ∙ ap begins_like_bom (append_assoc (groups_bytes gs) (line_ending_text p.0 ++ p.1) tail ∙ ap (λ v. groups_bytes gs ++ v) (append_assoc (line_ending_text p.0) p.1 tail))
-      ∙ ending-cut (groups_bytes gs) p.0 (p.1 ++ tail)
+      ap (λ v. begins_like_bom ((groups_bytes gs ++ v) ++ tail front)) p.1
+      ∙ ap begins_like_bom (append_assoc (groups_bytes gs) (line_ending_text by ++ p.0) (tail front) ∙ ap (λ v. groups_bytes gs ++ v) (append_assoc (line_ending_text by) p.0 (tail front)))
+      ∙ ending-cut (groups_bytes gs) by (p.0 ++ tail front)
       ∙ h
 ]
   where
     front : List ℕ
-    front = groups_bytes gs ++ separation source (final_group gs)
-
-    tail : List ℕ
-    tail = pair_bytes e only (is_empty (groups_bytes gs ++ separation source (final_group gs))) key value ++ line_feed ∷ []
+    front = groups_bytes gs ++ separation_by (line_ending_text by) (final_group gs)
 
     none : (hs : List (List HeldLine)) → AreHeldGroups e hs → begins_like_bom (groups_bytes hs) ≡ false → is_empty_line (final_group hs) ≡ true
-        → groups_bytes gs ++ separation source (final_group gs) ≡ groups_bytes hs → begins_like_bom body ≡ false
+        → front ≡ groups_bytes hs → begins_like_bom (front ++ tail front) ≡ false
     none [] k h m s = absurd (cc)
-    none (g ∷ []) k h m s =
-        let q : groups_bytes gs ++ separation source (final_group gs) ≡ [] = s ∙ append-nil (group_bytes g) ∙ empty-last g m k.ending in
-        ap begins_like_bom r.bytes ∙ ap (λ v. begins_like_bom (v ++ (pair_bytes e only (is_empty v) key value ++ line_feed ∷ []))) q
-        ∙ first-unmarked e only key value (line_feed ∷ [])
+    none (g ∷ []) k h m s = rw (s, append-nil (group_bytes g), empty-last g m k.ending, first)
     none (g ∷ i ∷ hs) k h m s =
-        ap begins_like_bom r.bytes
-        ∙ ap (λ v. begins_like_bom (v ++ (pair_bytes e only (is_empty v) key value ++ line_feed ∷ []))) s
-        ∙ front-unmarked g (i ∷ hs) _ [] k.0.ascii (ap begins_like_bom (append-nil (groups_bytes (g ∷ i ∷ hs))) ∙ h)
+        ap (λ v. begins_like_bom (v ++ tail v)) s
+        ∙ front-unmarked g (i ∷ hs) (tail (groups_bytes (g ∷ i ∷ hs))) [] k.0.ascii (ap begins_like_bom (append-nil (groups_bytes (g ∷ i ∷ hs))) ∙ h)
 
 -- If the source has no byte order mark, its groups don't begin like one.
 pub groups-unmarked : (e : Encoding) (source : List ℕ) (gs : List (List HeldLine)) → is_editable (byte_order_mark e source).encoding ≡ true
@@ -220,7 +217,10 @@ key_set-in_force e only source key value result ok h =
     ap (byte_order_mark e) h.whole
     ∙ in_force e source h.body ok (λ n. elim h.edited [
       | inl r ↦ replaced-unmarked f.encoding only h.groups key value h.body gs (groups-unmarked e source h.groups ok h.held n) r
-      | inr r ↦ appended-unmarked f.encoding only source h.groups key value h.body gs (groups-unmarked e source h.groups ok h.held n) r
+      | inr r ↦
+          ap begins_like_bom r.bytes
+          ∙ added-unmarked f.encoding (if ends_in_cr source then cr else lf) h.groups (λ x. pair_bytes f.encoding only (is_empty x) key value ++ line_feed ∷ []) gs
+          (groups-unmarked e source h.groups ok h.held n) (first-unmarked f.encoding only key value (line_feed ∷ []))
     ])
 
 -- ---- removing a key

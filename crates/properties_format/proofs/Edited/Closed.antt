@@ -1,11 +1,11 @@
 -- Groups that a line ending closes, so that others can come after them.
-use Rattle.std.proofs.Common.{◌≡◌, ◌≢◌, ◌<◌, ℕ, true, false, List, [], ◌∷◌, ◌++◌, Some, None, length, refl, ap, ap₂, sym, ◌∙◌, inl, inr, append_assoc, append-nil, length-append, subst, arith}
-use Rattle.std.specs.Prelude.{◌⊎◌, unwrap_or, if◌then◌else◌}
-use Rattle.std.proofs.lemmas.Bool.{cases_Bool, cond-true, cond-false}
-use Rattle.properties_format.specs.Text.{LineEnding, lf, cr, crlf, carriage_return, line_ending_text}
+use Rattle.std.proofs.Common.{◌≡◌, ◌<◌, ℕ, true, false, List, [], ◌∷◌, ◌++◌, Some, None, length, refl, ap, ap₂, sym, ◌∙◌, inl, inr, append_assoc, append-nil, length-append, subst, arith}
+use Rattle.std.specs.Prelude.{◌⊎◌, if◌then◌else◌}
+use Rattle.std.proofs.lemmas.Bool.{cases_Bool, cond-true}
+use Rattle.properties_format.specs.Text.{LineEnding, lf, cr, carriage_return, line_ending_text}
 use Rattle.properties_format.specs.Computed.Lines.{ends_in_cr}
 use Rattle.properties_format.specs.Encoding.{Encoding}
-use Rattle.properties_format.specs.Lines.{Ended, HoldsNoLineEnd, BeginsWithNoLoneLf, AreLines}
+use Rattle.properties_format.specs.Lines.{Ended, BeginsWithNoLoneLf, AreLines}
 use Rattle.properties_format.specs.Computed.Cut.{decoded_line}
 use Rattle.properties_format.specs.Groups.{IsWhole, joined}
 use Rattle.properties_format.specs.Items.{ignored}
@@ -16,33 +16,21 @@ use Rattle.properties_format.specs.Computed.Body.{held_of}
 use Rattle.properties_format.specs.Computed.Parts.{unended_bytes}
 use Rattle.properties_format.specs.Valued.{ending_among, separation_by}
 use Rattle.properties_format.proofs.Body.Decoded.{decoded-nil}
-use Rattle.properties_format.proofs.Body.Groups.{IsLastFit, AreFit, held_ended, cut-off, groups-bytes, lines-front, group_bytes-append, groups_bytes-append}
+use Rattle.properties_format.proofs.Lines.Plain.{plain-last}
+use Rattle.properties_format.proofs.Body.Groups.{IsLastFit, AreFit, as_lines-append, held_ended, held-last, cut-off, groups-bytes, lines-front, group_bytes-append, groups_bytes-append}
 use Rattle.properties_format.proofs.Edited.Contents.{ends-right, fit-closed, fit-open, closed-by_empty}
-use Rattle.properties_format.proofs.InTurn.Lines.{bytes-unended}
+use Rattle.properties_format.proofs.InTurn.Lines.{bytes-unended, texts-with, unended-with, with_ending}
 use Rattle.properties_format.proofs.Edited.Parts.{unended-kept}
-use Rattle.properties_format.proofs.Valued.Added.{empty_line, ending-held, outcomes-empty}
+use Rattle.properties_format.proofs.Valued.Added.{empty_line, ending-held, fit-lines, outcomes-empty}
 use Rattle.properties_format.proofs.Valued.Lined.{AreLined, last_by, lines-join, held_ended-append, held_in-append, AreAllWhole, fit-parts}
 
 -- ---- ended lines
 
--- the lines, with this line ending after the last
-abbrev ended_with : LineEnding → List HeldLine → List HeldLine
-ended_with by [] = []
-ended_with by (h ∷ []) = record { bytes = h.bytes; text = h.text; ending = Some by } ∷ []
-ended_with by (h ∷ i ∷ hs) = h ∷ ended_with by (i ∷ hs)
-
 -- All lines of a body, with a line ending after the last.
 ended-held : (e : Encoding) (by : LineEnding) (ls : List Ended) (last : List ℕ)
-    → ended_with by (held_of e ls last) ≡ held_ended e (ls ++ record { text = last; by = by } ∷ [])
-ended-held e by [] last = refl
-ended-held e by (l ∷ []) last = refl
+    → with_ending (Some by) (held_of e ls last) ≡ held_ended e (ls ++ record { text = last; by = by } ∷ [])
 ended-held e by (l ∷ m ∷ ls) last = ap (λ v. record { bytes = l.text; text = decoded_line e l.text; ending = Some l.by } ∷ v) (ended-held e by (m ∷ ls) last)
-
--- Their texts are the same.
-ended-texts : (by : LineEnding) (g : List HeldLine) → as_lines (ended_with by g) ≡ as_lines g
-ended-texts by [] = refl
-ended-texts by (h ∷ []) = refl
-ended-texts by (h ∷ i ∷ g) = ap (λ v. record { number = 0; text = h.text } ∷ v) (ended-texts by (i ∷ g))
+ended-held e by ls last = refl
 
 -- A list with a group consists of some groups and a last one.
 last-group : (g : List HeldLine) (gs : List (List HeldLine)) → (init : List (List HeldLine)) × (final : List HeldLine) × (g ∷ gs ≡ init ++ final ∷ [])
@@ -51,16 +39,10 @@ last-group g (h ∷ gs) = let m = last-group h gs in (g ∷ m.0, m.1, ap (λ v. 
 
 -- If a line ending is added after the last line, it comes after the lines' bytes.
 ended-bytes : (e : Encoding) (by : LineEnding) (ls : List Ended) (last : List ℕ)
-    → group_bytes (ended_with by (held_of e ls last)) ≡ group_bytes (held_of e ls last) ++ line_ending_text by
-ended-bytes e by [] last = ap (λ v. last ++ v) (append-nil (line_ending_text by)) ∙ ap (λ v. v ++ line_ending_text by) (sym (append-nil last))
-ended-bytes e by (l ∷ []) last =
-    ap (λ v. l.text ++ (line_ending_text l.by ++ v)) (ended-bytes e by [] last)
-    ∙ sym (ap (λ v. l.text ++ v) (append_assoc (line_ending_text l.by) (group_bytes (held_of e [] last)) (line_ending_text by)))
-    ∙ sym (append_assoc l.text (line_ending_text l.by ++ group_bytes (held_of e [] last)) (line_ending_text by))
-ended-bytes e by (l ∷ m ∷ ls) last =
-    ap (λ v. l.text ++ (line_ending_text l.by ++ v)) (ended-bytes e by (m ∷ ls) last)
-    ∙ sym (ap (λ v. l.text ++ v) (append_assoc (line_ending_text l.by) (group_bytes (held_of e (m ∷ ls) last)) (line_ending_text by)))
-    ∙ sym (append_assoc l.text (line_ending_text l.by ++ group_bytes (held_of e (m ∷ ls) last)) (line_ending_text by))
+    → group_bytes (with_ending (Some by) (held_of e ls last)) ≡ group_bytes (held_of e ls last) ++ line_ending_text by
+ended-bytes e by [] last = simp append-nil
+ended-bytes e by (l ∷ []) last = simp (append_assoc, append-nil)
+ended-bytes e by (l ∷ m ∷ ls) last = simp (append_assoc, ended-bytes e by (m ∷ ls) last)
 
 -- The last group is an empty line, which is the last line of a body.
 empty-held : (e : Encoding) (ls : List Ended) (last : List ℕ) → is_empty_line (held_of e ls last) ≡ true → (ls ≡ []) × (last ≡ [])
@@ -69,60 +51,21 @@ empty-held e [] (c ∷ last) h = absurd (cc)
 empty-held e (l ∷ []) last h = absurd (cc)
 empty-held e (l ∷ m ∷ ls) last h = absurd (cc)
 
--- The last line contains no line end.
-last-plain : (ls : List Ended) (last : List ℕ) → AreLines ls last → HoldsNoLineEnd last
-last-plain [] last h = h
-last-plain (l ∷ ls) last h = last-plain ls last h.2
+-- Whole groups followed by whole groups are whole.
+whole-join : (gs hs : List (List HeldLine)) → AreAllWhole gs → AreAllWhole hs → AreAllWhole (gs ++ hs)
+whole-join [] hs w k = k
+whole-join (g ∷ gs) hs w k = (w.0, whole-join gs hs w.1 k)
 
--- Whole groups followed by a whole group are whole.
-whole-join : (gs : List (List HeldLine)) (g : List HeldLine) → AreAllWhole gs → IsWhole (as_lines g) → AreAllWhole (gs ++ g ∷ [])
-whole-join [] g w k = (k, tt)
-whole-join (h ∷ gs) g w k = (w.0, whole-join gs g w.1 k)
-
--- The texts of lines and of one more.
-as_lines-push : (g : List HeldLine) (h : HeldLine) → as_lines (g ++ h ∷ []) ≡ as_lines g ++ record { number = 0; text = h.text } ∷ []
-as_lines-push [] h = refl
-as_lines-push (i ∷ g) h = ap (λ v. record { number = 0; text = i.text } ∷ v) (as_lines-push g h)
-
--- a last group has lines
-pub fit-lines : (g : List HeldLine) → IsLastFit g → g ≢ []
-fit-lines [] (inl k) q = k
-fit-lines [] (inr k) q = k
-fit-lines (h ∷ g) k q = absurd (cc)
-
--- The last line of a body has no line ending.
-last-none : (e : Encoding) (ls : List Ended) (last : List ℕ) → last_ending (held_of e ls last) ≡ None
-last-none e [] last = refl
-last-none e (l ∷ []) last = refl
-last-none e (l ∷ m ∷ ls) last = last-none e (m ∷ ls) last
-
--- A line ending after it isn't one of its bytes.
-unended-ended : (by : LineEnding) (g : List HeldLine) → unended_bytes (ended_with by g) ≡ unended_bytes g
-unended-ended by [] = refl
-unended-ended by (h ∷ []) = refl
-unended-ended by (h ∷ i ∷ []) = refl
-unended-ended by (h ∷ i ∷ j ∷ g) = ap (λ v. h.bytes ++ (ending_bytes h.ending ++ v)) (unended-ended by (i ∷ j ∷ g))
-
+-- A line ending isn't empty.
 ending-size : (by : LineEnding) → 0 < length (line_ending_text by)
-ending-size lf = omega arith
-ending-size cr = omega arith
-ending-size crlf = omega arith
+ending-size by = grind (arith)
 
 -- A last group has bytes, unless it is an empty line.
 last-size : (e : Encoding) (ls : List Ended) (last : List ℕ) → is_empty_line (held_of e ls last) ≡ false → 0 < length (unended_bytes (held_of e ls last))
 last-size e [] [] h = absurd (cc)
 last-size e [] (c ∷ last) h = omega arith
-last-size e (l ∷ []) last h =
-    let size = length-append l.text (line_ending_text l.by ++ last) in
-    let more = length-append (line_ending_text l.by) last in
-    let some = ending-size l.by in
-    omega arith
-last-size e (l ∷ m ∷ ls) last h =
-    let rest = unended_bytes (held_of e (m ∷ ls) last) in
-    let size = length-append l.text (line_ending_text l.by ++ rest) in
-    let more = length-append (line_ending_text l.by) rest in
-    let some = ending-size l.by in
-    omega arith
+last-size e (l ∷ []) last h = simp length-append (omega (arith, ending-size l.by))
+last-size e (l ∷ m ∷ ls) last h = simp length-append (omega (arith, ending-size l.by))
 
 -- ---- closed groups
 
@@ -186,7 +129,7 @@ closed-by e by (g1 ∷ gs1) h good = of-parts (last-group g1 gs1)
         lines = subst (λ v. AreLines v h.last) all h.are_lines
 
         no_ending : last_ending g ≡ None
-        no_ending = ap last_ending b ∙ last-none e back h.last
+        no_ending = ap last_ending b ∙ held-last e back h.last
 
         size : is_empty_line g ≡ false → 0 < length (unended_bytes g)
         size k = subst (λ v. 0 < length (unended_bytes v)) (sym b) (last-size e back h.last (ap is_empty_line (sym b) ∙ k))
@@ -197,106 +140,91 @@ closed-by e by (g1 ∷ gs1) h good = of-parts (last-group g1 gs1)
             ∙ sym (append_assoc (groups_bytes init) (groups_bytes (g ∷ [])) x)
             ∙ ap (λ v. v ++ x) (sym (groups_bytes-append init (g ∷ [])) ∙ ap groups_bytes (sym s))
 
-        ended : group_bytes (ended_with by g) ≡ group_bytes g ++ ending
-        ended = ap (λ v. group_bytes (ended_with by v)) b ∙ ended-bytes e by back h.last ∙ ap (λ v. group_bytes v ++ ending) (sym b)
+        n : Ended
+        n = record { text = h.last; by = by }
+
+        g_ended : List HeldLine
+        g_ended = with_ending (Some by) g
+
+        ended : group_bytes g_ended ≡ group_bytes g ++ ending
+        ended = ap (λ v. group_bytes (with_ending (Some by) v)) b ∙ ended-bytes e by back h.last ∙ ap (λ v. group_bytes v ++ ending) (sym b)
+
+        with-left : (left : List (List HeldLine)) (new : List Ended) (x : List ℕ) → IsLeft by g left → held_in left ≡ held_ended e new
+            → AreLines (front ++ new) [] → AreAllWhole left → groups_bytes left ≡ group_bytes g ++ x → separation_by ending g ≡ x → AreClosedBy e by gs
+        with-left left new x is t ls wl bytes separated = record {
+          before = init;
+          final = g;
+          division = s;
+          left = left;
+          is_left = is;
+          lines = front ++ new;
+          held = held_in-append init left ∙ ap₂ (λ v y. v ++ y) a t ∙ sym (held_ended-append e front new);
+          are_lines = ls;
+          whole = whole-join init left w wl;
+          bytes =
+              groups_bytes-append init left
+              ∙ ap (λ v. groups_bytes init ++ v) bytes
+              ∙ whole_bytes x
+              ∙ ap (λ v. groups_bytes gs ++ v) (sym separated);
+          unended = no_ending;
+          size = size;
+        }
+
+        lines-more : (new : List Ended) → AreLines (n ∷ new) [] → AreLines (front ++ (back ++ n ∷ new)) []
+        lines-more new k =
+            subst (λ v. AreLines v []) (append_assoc front back (n ∷ new))
+            (lines-join (front ++ back) (n ∷ new) [] (lines-front (front ++ back) [] h.last (subst (λ v. AreLines v h.last) (sym (append-nil (front ++ back))) lines))
+            (λ q. good (ap last_by all ∙ q)) k)
 
         gone : is_empty_line g ≡ true → AreClosedBy e by gs
         gone k =
             let m = empty-held e back h.last (ap is_empty_line (sym b) ∙ k) in
             let none : group_bytes g ≡ [] = ap group_bytes (b ∙ ap₂ (held_of e) m.0 m.1) in
-            let told_g : outcome_of (joined (as_lines g)) ≡ ignored = ap (λ v. outcome_of (joined (as_lines v))) (b ∙ ap₂ (held_of e) m.0 m.1) ∙ outcomes-empty e None in
-            let separated : separation_by ending g ≡ [] = cond-true (is_empty_line g) [] _ k in
-            record {
-              before = init;
-              final = g;
-              division = s;
-              left = [];
-              is_left = inl (refl, told_g);
-              lines = front;
-              held = ap held_in (append-nil init) ∙ a;
-              are_lines = lines-front front back h.last lines;
-              whole = subst AreAllWhole (sym (append-nil init)) w;
-              bytes = ap groups_bytes (append-nil init) ∙ sym (append-nil (groups_bytes init)) ∙ ap (λ v. groups_bytes init ++ (v ++ [])) (sym none) ∙ whole_bytes [] ∙ ap (λ v. groups_bytes gs ++ v) (sym separated);
-              unended = no_ending;
-              size = size;
-            }
+            let told : outcome_of (joined (as_lines g)) ≡ ignored = ap (λ v. outcome_of (joined (as_lines v))) (b ∙ ap₂ (held_of e) m.0 m.1) ∙ outcomes-empty e None in
+            with-left [] [] [] (inl (refl, told)) refl (subst (λ v. AreLines v []) (sym (append-nil front)) (lines-front front back h.last lines)) tt
+            (ap (λ v. v ++ []) (sym none)) (cond-true (is_empty_line g) [] _ k)
 
         ends : is_empty_line g ≡ false → is_left_open g ≡ false → AreClosedBy e by gs
         ends k m =
-            let n : Ended = record { text = h.last; by = by } in
-            let t : ended_with by g ≡ held_ended e (back ++ n ∷ []) = ap (ended_with by) b ∙ ended-held e by back h.last in
-            let separated : separation_by ending g ≡ ending = cond-false (is_empty_line g) [] _ k ∙ cond-false (is_left_open g) (ending ++ ending) ending m in
-            let more : opened_by ending g ≡ [] = cond-false (is_empty_line g) [] _ k ∙ cond-false (is_left_open g) ending [] m in
-            record {
-              before = init;
-              final = g;
-              division = s;
-              left = ended_with by g ∷ [];
-              is_left = inr (record {
-                group = ended_with by g;
-                is = refl;
-                outcome = ap (λ v. outcome_of (joined v)) (ended-texts by g);
-                bytes = unended-ended by g ∙ sym (append-nil (unended_bytes g)) ∙ ap (λ v. unended_bytes g ++ v) (sym more);
-              });
-              lines = front ++ (back ++ n ∷ []);
-              held = held_in-append init (ended_with by g ∷ []) ∙ ap₂ (λ v x. v ++ x) a (append-nil (ended_with by g) ∙ t) ∙ sym (held_ended-append e front (back ++ n ∷ []));
-              are_lines =
-                  subst (λ v. AreLines v []) (append_assoc front back (n ∷ []))
-                  (lines-join (front ++ back) (n ∷ []) [] (lines-front (front ++ back) [] h.last (subst (λ v. AreLines v h.last) (sym (append-nil (front ++ back))) lines))
-                  (λ q. good (ap last_by all ∙ q)) (last-plain (front ++ back) h.last lines, (λ q. tt), tt));
-              whole = whole-join init (ended_with by g) w (subst IsWhole (sym (ended-texts by g)) (fit-closed g fit m));
-              bytes =
-                  groups_bytes-append init (ended_with by g ∷ [])
-                  ∙ ap (λ v. groups_bytes init ++ v) (append-nil (group_bytes (ended_with by g)) ∙ ended)
-                  ∙ whole_bytes ending
-                  ∙ ap (λ v. groups_bytes gs ++ v) (sym separated);
-              unended = no_ending;
-              size = size;
-            }
+            let more : opened_by ending g ≡ [] = rw (k, m) refl in
+            let is : IsEnded by g (g_ended ∷ []) = record {
+              group = g_ended;
+              is = refl;
+              outcome = ap (λ v. outcome_of (joined v)) (texts-with (Some by) g);
+              bytes = unended-with (Some by) g ∙ sym (append-nil (unended_bytes g)) ∙ ap (λ v. unended_bytes g ++ v) (sym more);
+            } in
+            with-left (g_ended ∷ []) (back ++ n ∷ []) ending (inr is) (append-nil g_ended ∙ ap (with_ending (Some by)) b ∙ ended-held e by back h.last)
+            (lines-more [] (plain-last (front ++ back) h.last lines, (λ q. tt), tt))
+            (subst IsWhole (sym (texts-with (Some by) g)) (fit-closed g fit m), tt) (append-nil (group_bytes g_ended) ∙ ended) (rw (k, m) refl)
 
         closes : is_empty_line g ≡ false → is_left_open g ≡ true → AreClosedBy e by gs
         closes k m =
-            let n : Ended = record { text = h.last; by = by } in
             let z : Ended = record { text = []; by = by } in
-            let x = ended_with by g ++ empty_line e (Some by) ∷ [] in
+            let x = g_ended ++ empty_line e (Some by) ∷ [] in
             let t : x ≡ held_ended e (back ++ n ∷ z ∷ []) =
-            ap (λ v. ended_with by v ++ empty_line e (Some by) ∷ []) b
+            ap (λ v. with_ending (Some by) v ++ empty_line e (Some by) ∷ []) b
             ∙ ap (λ v. v ++ held_ended e (z ∷ [])) (ended-held e by back h.last)
             ∙ sym (held_ended-append e (back ++ n ∷ []) (z ∷ []))
             ∙ ap (held_ended e) (append_assoc back (n ∷ []) (z ∷ [])) in
             let c = closed-by_empty (as_lines g) (fit-open g fit m) in
             let texts : as_lines x ≡ as_lines g ++ record { number = 0; text = [] } ∷ [] =
-            as_lines-push (ended_with by g) (empty_line e (Some by))
-            ∙ ap₂ (λ v y. v ++ record { number = 0; text = y } ∷ []) (ended-texts by g) (decoded-nil e) in
+            as_lines-append g_ended (empty_line e (Some by) ∷ [])
+            ∙ ap₂ (λ v y. v ++ record { number = 0; text = y } ∷ []) (texts-with (Some by) g) (decoded-nil e) in
             let two : group_bytes x ≡ group_bytes g ++ (ending ++ ending) =
-            group_bytes-append (ended_with by g) (empty_line e (Some by) ∷ [])
+            group_bytes-append g_ended (empty_line e (Some by) ∷ [])
             ∙ ap₂ (λ v y. v ++ y) ended (append-nil ending)
             ∙ append_assoc (group_bytes g) ending ending in
-            let separated : separation_by ending g ≡ ending ++ ending = cond-false (is_empty_line g) [] _ k ∙ cond-true (is_left_open g) (ending ++ ending) ending m in
-            let more : opened_by ending g ≡ ending = cond-false (is_empty_line g) [] _ k ∙ cond-true (is_left_open g) ending [] m in
+            let more : opened_by ending g ≡ ending = rw (k, m) refl in
             let own : group_bytes g ≡ unended_bytes g = bytes-unended g ∙ ap (λ o. unended_bytes g ++ ending_bytes o) no_ending ∙ append-nil (unended_bytes g) in
-            record {
-              before = init;
-              final = g;
-              division = s;
-              left = x ∷ [];
-              is_left = inr (record {
-                group = x;
-                is = refl;
-                outcome = ap outcome_of (ap joined texts ∙ c.1);
-                bytes = unended-kept (ended_with by g) (empty_line e (Some by)) ∙ append-nil (group_bytes (ended_with by g)) ∙ ended ∙ ap₂ (λ v y. v ++ y) own (sym more);
-              });
-              lines = front ++ (back ++ n ∷ z ∷ []);
-              held = held_in-append init (x ∷ []) ∙ ap₂ (λ v y. v ++ y) a (append-nil x ∙ t) ∙ sym (held_ended-append e front (back ++ n ∷ z ∷ []));
-              are_lines =
-                  subst (λ v. AreLines v []) (append_assoc front back (n ∷ z ∷ []))
-                  (lines-join (front ++ back) (n ∷ z ∷ []) [] (lines-front (front ++ back) [] h.last (subst (λ v. AreLines v h.last) (sym (append-nil (front ++ back))) lines))
-                  (λ q. good (ap last_by all ∙ q)) (last-plain (front ++ back) h.last lines, (λ q. λ r. absurd (cc (q, r.1))), (tt, (λ q. tt), tt)));
-              whole = whole-join init x w (subst IsWhole (sym texts) c.0);
-              bytes = groups_bytes-append init (x ∷ []) ∙ ap (λ v. groups_bytes init ++ v) (append-nil (group_bytes x) ∙ two) ∙ whole_bytes (ending ++ ending) ∙ ap (λ v. groups_bytes gs ++ v) (sym separated);
-              unended = no_ending;
-              size = size;
-            }
+            let is : IsEnded by g (x ∷ []) = record {
+              group = x;
+              is = refl;
+              outcome = ap outcome_of (ap joined texts ∙ c.1);
+              bytes = unended-kept g_ended (empty_line e (Some by)) ∙ append-nil (group_bytes g_ended) ∙ ended ∙ ap₂ (λ v y. v ++ y) own (sym more);
+            } in
+            with-left (x ∷ []) (back ++ n ∷ z ∷ []) (ending ++ ending) (inr is) (append-nil x ∙ t)
+            (lines-more (z ∷ []) (plain-last (front ++ back) h.last lines, (λ q. λ r. absurd (cc (q, r.1))), (tt, (λ q. tt), tt)))
+            (subst IsWhole (sym texts) c.0, tt) (append-nil (group_bytes x) ∙ two) (rw (k, m) refl)
 
     of-parts : (init : List (List HeldLine)) × (final : List HeldLine) × (gs ≡ init ++ final ∷ []) → AreClosedBy e by gs
     of-parts (init, g, s) =
@@ -309,24 +237,14 @@ closed-by e by (g1 ∷ gs1) h good = of-parts (last-group g1 gs1)
 
 -- The last line ending of the groups does.
 pub value-seam : (e : Encoding) (gs : List (List HeldLine)) (h : AreLined e gs) (by : LineEnding) → by ≡ ending_among lf (held_in gs) → IsSeam by h
-value-seam e gs h by is q z =
-    let told = is ∙ ap (ending_among lf) h.held ∙ ending-held e lf h.ended h.last in
-    let m : by ≡ cr = told ∙ ap (λ v. unwrap_or v lf) q in
-    absurd (cc (z.1, m))
+value-seam e gs h by is q z = cc (ending-held e lf h.ended h.last)
 
 -- Lines of which the last ends in a CR, and nothing more.
 ended-cr : (e : Encoding) (ls : List Ended) → last_by ls ≡ Some cr → ends_in_cr (group_bytes (held_of e ls [])) ≡ true
 ended-cr e [] q = absurd (cc)
-ended-cr e (l ∷ []) q =
-    let by : l.by ≡ cr = cc in
-    ap (λ o. ends_in_cr (l.text ++ (line_ending_text o ++ []))) by ∙ ends-right l.text (carriage_return ∷ []) refl
-ended-cr e (l ∷ m ∷ ls) q =
-    ends-right l.text (line_ending_text l.by ++ group_bytes (held_of e (m ∷ ls) [])) (ends-right (line_ending_text l.by) (group_bytes (held_of e (m ∷ ls) [])) (ended-cr e (m ∷ ls) q))
+ended-cr e (l ∷ []) q = cc (ends-right l.text (carriage_return ∷ []) refl)
+ended-cr e (l ∷ m ∷ ls) q = simp (ends-right, ended-cr e (m ∷ ls) q)
 
 -- A CR does where the groups end in one, and else an LF.
 pub put-seam : (e : Encoding) (gs : List (List HeldLine)) (h : AreLined e gs) (by : LineEnding) → (ends_in_cr (groups_bytes gs) ≡ true → by ≡ cr) → IsSeam by h
-put-seam e gs h by is q z =
-    let ends : ends_in_cr (groups_bytes gs) ≡ true =
-    ap ends_in_cr (groups-bytes gs ∙ ap group_bytes (h.held ∙ ap (held_of e h.ended) z.0)) ∙ ended-cr e h.ended q in
-    let m = is ends in
-    absurd (cc (z.1, m))
+put-seam e gs h by is q z = grind (arith, groups-bytes, ended-cr)

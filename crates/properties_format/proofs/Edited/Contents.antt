@@ -1,37 +1,29 @@
 -- The outcomes of an edited body's groups, given those of the body's groups.
-use Rattle.std.proofs.Common.{◌≡◌, ◌⊎◌, ℕ, ◌&&◌, not, Bool, true, false, List, [], ◌∷◌, ◌++◌, refl, ap, ap₂, sym, ◌∙◌, inl, inr, append_assoc, append-nil}
-use Rattle.std.proofs.Common.{All}
+use Rattle.std.proofs.Common.{◌≡◌, ◌⊎◌, ℕ, ◌&&◌, not, true, false, List, [], ◌∷◌, ◌++◌, refl, ap, ap₂, sym, ◌∙◌, inl, inr, append-nil}
 use Rattle.std.proofs.lemmas.Bool.{cases_Bool, and_parts, and_from, not-true}
-use Rattle.properties_format.specs.Text.{scalar, line_feed, LineEnding, lf, cr, line_ending_text}
 use Rattle.properties_format.specs.Encoding.{Encoding, begins_like_bom}
-use Rattle.properties_format.specs.Lines.{Ended, Lines, end, Line}
-use Rattle.properties_format.specs.Computed.Lines.{lines_of, begins_with_lf, ends_in_cr}
+use Rattle.properties_format.specs.Lines.{end, Line}
+use Rattle.properties_format.specs.Computed.Lines.{ends_in_cr}
 use Rattle.properties_format.specs.Groups.{is_comment_line, EndsClosed, AreOpen, IsWhole, joined}
 use Rattle.properties_format.specs.Computed.Groups.{groups_of}
 use Rattle.properties_format.specs.Entries.{Content, comment, pair}
 use Rattle.properties_format.specs.Items.{Outcome, ignored, given, broken}
 use Rattle.properties_format.specs.Computed.Items.{outcome_of}
-use Rattle.properties_format.specs.Writing.{is_empty}
-use Rattle.properties_format.specs.Body.{HeldLine, as_lines, as_groups, ending_bytes, group_bytes, groups_bytes, last_ending, HasKey, NoneHasKey}
-use Rattle.properties_format.specs.Edited.{pair_bytes, IsReplaced, IsAppended, final_group, is_empty_line, is_last_open, is_left_open, added_ending, separation}
+use Rattle.properties_format.specs.Body.{HeldLine, AreGroupsOf, as_lines, as_groups, group_bytes, groups_bytes, HasKey, NoneHasKey}
+use Rattle.properties_format.specs.Edited.{is_last_open, is_left_open}
 use Rattle.properties_format.specs.Edited.{IsWithout, guarding_lf, is_editable}
+use Rattle.properties_format.specs.Valued.{HasPair}
 use Rattle.properties_format.specs.Changed.{HoldNoPair, IsSetIn, IsRemovedIn}
-use Rattle.properties_format.proofs.Lines.Plain.{ends_in_cr-append, last-plain}
-use Rattle.properties_format.proofs.Lines.Steps.{lines_of-line}
-use Rattle.properties_format.proofs.Lines.Cut.{PartsNoEnd, lines_on, lines_of-append}
+use Rattle.properties_format.proofs.Lines.Plain.{ends_in_cr-append}
 use Rattle.properties_format.proofs.Groups.Steps.{closes-closed}
 use Rattle.properties_format.proofs.Groups.Meets.{close-whole}
 use Rattle.properties_format.proofs.Groups.Only.{groups_of-before, groups_of-unfinished}
 use Rattle.properties_format.proofs.Groups.Joined.{joined-push}
 use Rattle.properties_format.proofs.Items.Unique.{outcome_of-meets, outcome_of-only}
-use Rattle.properties_format.specs.Computed.Cut.{decoded_line}
-use Rattle.properties_format.proofs.Body.Decoded.{decoded-nil}
-use Rattle.properties_format.proofs.Edited.Outcomes.{outcome_before, outcomes_of, ended_lines, line_texts_in, line_texts, outcome-empty, outcomes_in, IsFront, outcomes-front}
+use Rattle.properties_format.proofs.Edited.Outcomes.{outcome_before, outcomes_of, outcomes_in, outcomes-front}
 use Rattle.properties_format.proofs.Edited.Outcomes.{outcomes-lf, outcomes-nil, outcomes-one}
 use Rattle.properties_format.proofs.Edited.Outcomes.{givens}
-use Rattle.properties_format.proofs.Body.Groups.{EndsOpen, IsLastFit, IsHeldFront, IsHeldLast, AreHeldGroups}
-use Rattle.properties_format.proofs.Edited.ByteOrderMarks.{empty-last}
-use Rattle.properties_format.proofs.Edited.Pair.{outcomes-pair, outcomes-last_pair}
+use Rattle.properties_format.proofs.Body.Groups.{EndsOpen, IsLastFit, IsHeldLast, AreHeldGroups, held-body, held-groups}
 
 -- the outcome of a group
 abbrev outcome : List HeldLine → Outcome
@@ -42,29 +34,7 @@ outcome g = outcome_of (joined (as_lines g))
 -- An outcome before two lists of outcomes.
 pub outcome_before-append : (o : Outcome) (xs ys : List Outcome) → outcome_before o (xs ++ ys) ≡ outcome_before o xs ++ ys
 outcome_before-append ignored xs ys = refl
-outcome_before-append (given content) xs ys = refl
-outcome_before-append (broken kind) xs ys = refl
-
--- all groups but the last
-abbrev AreFronts : Encoding → List (List HeldLine) → Type 0
-AreFronts e [] = Unit {0}
-AreFronts e (g ∷ gs) = IsHeldFront e g × AreFronts e gs
-
--- The groups before another group end in line endings.
-groups-before : (e : Encoding) (before : List (List HeldLine)) (g : List HeldLine) (after : List (List HeldLine)) → AreHeldGroups e (before ++ g ∷ after)
-    → AreFronts e before × AreHeldGroups e (g ∷ after)
-groups-before e [] g after h = (tt, h)
-groups-before e (f ∷ []) g after h = ((h.0, tt), h.1)
-groups-before e (f ∷ i ∷ before) g after h = let m = groups-before e (i ∷ before) g after h.1 in ((h.0, m.0), m.1)
-
--- Such groups before any bytes.
-outcomes-fronts : (e : Encoding) (gs : List (List HeldLine)) (d : List ℕ) → AreFronts e gs → outcomes_in e (groups_bytes gs ++ d) ≡ outcomes_of (as_groups gs) ++ outcomes_in e d
-outcomes-fronts e [] d h = refl
-outcomes-fronts e (g ∷ gs) d h =
-    ap (outcomes_in e) (append_assoc (group_bytes g) (groups_bytes gs) d)
-    ∙ outcomes-front e (group_bytes g) (groups_bytes gs ++ d) (as_lines g) h.0.front
-    ∙ ap (outcome_before (outcome g)) (outcomes-fronts e gs d h.1)
-    ∙ outcome_before-append (outcome g) (outcomes_of (as_groups gs)) (outcomes_in e d)
+outcome_before-append o xs ys = refl
 
 -- Lines that are a whole group, or one that ends open, have that group as their only group at the end of the input.
 fit-group : (x : List Line) → IsWhole x ⊎ EndsOpen x → groups_of x end ≡ x ∷ []
@@ -87,8 +57,7 @@ told-groups e (g ∷ i ∷ gs) h =
 -- The outcomes of two lists of groups.
 pub outcomes_of-append : (gs hs : List (List HeldLine)) → outcomes_of (as_groups (gs ++ hs)) ≡ outcomes_of (as_groups gs) ++ outcomes_of (as_groups hs)
 outcomes_of-append [] hs = refl
-outcomes_of-append (g ∷ gs) hs =
-    ap (outcome_before (outcome g)) (outcomes_of-append gs hs) ∙ outcome_before-append (outcome g) (outcomes_of (as_groups gs)) (outcomes_of (as_groups hs))
+outcomes_of-append (g ∷ gs) hs = simp (outcomes_of-append gs hs, outcome_before-append)
 
 -- ---- contents in order
 
@@ -142,93 +111,59 @@ none-hold key [] [] h s = tt
 none-hold key [] (c ∷ cs) h s = absurd (cc)
 none-hold key (g ∷ gs) cs h s = hold-step key (outcome g) (outcomes_of (as_groups gs)) cs (other-outcome key g h.0) (λ ds k. none-hold key gs ds h.1 k) s
 
--- ---- replacing the last pair
-
--- The printed pair instead of a group.
-outcomes-in_place : (e : Encoding) (only : Bool) (first : Bool) (key value : List ℕ) (g : List HeldLine) (after : List (List HeldLine)) → is_editable e ≡ true → All scalar key
-    → All scalar value
-    → AreHeldGroups e (g ∷ after)
-    → outcomes_in e (pair_bytes e only first key value ++ (ending_bytes (last_ending g) ++ groups_bytes after)) ≡ given (pair key value) ∷ outcomes_of (as_groups after)
-outcomes-in_place e only first key value g [] ok k v h =
-    ap (λ o. outcomes_in e (pair_bytes e only first key value ++ (ending_bytes o ++ []))) h.ending ∙ ap (outcomes_in e) (append-nil (pair_bytes e only first key value))
-    ∙ outcomes-last_pair e only first key value ok k v
-outcomes-in_place e only first key value g (i ∷ after) ok k v h =
-    ap (λ o. outcomes_in e (pair_bytes e only first key value ++ (ending_bytes o ++ groups_bytes (i ∷ after)))) h.0.ending
-    ∙ outcomes-pair e only first key value h.0.by (groups_bytes (i ∷ after)) ok k v
-    ∙ ap (λ w. given (pair key value) ∷ w) (told-groups e (i ∷ after) h.1)
+-- ---- the last pair with a key
 
 -- the outcomes of a body are these contents
 abbrev pub ComesTo : Encoding → List ℕ → (List Content → Type 0) → Type 0
 ComesTo e body Such = (new : List Content) × Such new × (outcomes_in e body ≡ givens new)
 
--- If the last pair with the key is replaced, the contents are unchanged except for its new value.
-pub replaced-outcomes : (e : Encoding) (only : Bool) (gs : List (List HeldLine)) (key value body : List ℕ) (old : List Content) → is_editable e ≡ true → All scalar key
-    → All scalar value → AreHeldGroups e gs
-    → outcomes_of (as_groups gs) ≡ givens old → IsReplaced e only gs key value body → ComesTo e body (IsSetIn key value old)
-replaced-outcomes e only gs key value body old ok k v h t r =
-    let both = groups-before e r.before r.group r.after (rw r.division at h) in
-    let a = key-outcome key r.group r.has_key in
-    let s : outcomes_of (as_groups r.before) ++ given (pair key a.0) ∷ outcomes_of (as_groups r.after) ≡ givens old =
-    ap (λ w. outcomes_of (as_groups r.before) ++ outcome_before w (outcomes_of (as_groups r.after))) (sym a.1)
-    ∙ sym (outcomes_of-append r.before (r.group ∷ r.after))
-    ∙ ap (λ w. outcomes_of (as_groups w)) (sym r.division)
-    ∙ t in
-    let m = givens-parted (outcomes_of (as_groups r.before)) (given (pair key a.0) ∷ outcomes_of (as_groups r.after)) old s in
-    of_back m.front m.back a.0 m.whole m.front_given m.back_given both.0 both.1
+-- the outcomes of these groups are contents with this property
+abbrev pub HaveContents : List (List HeldLine) → (List Content → Type 0) → Type 0
+HaveContents gs Such = (new : List Content) × Such new × (outcomes_of (as_groups gs) ≡ givens new)
+
+-- If the last pair with a key has a value, or gets it, the contents are those with the key set to it.
+pub pair-outcomes : (before : List (List HeldLine)) (g h : List HeldLine) (after : List (List HeldLine)) (key value : List ℕ) (old : List Content)
+    → HasKey key g → NoneHasKey key after → HasPair key value h → outcomes_of (as_groups (before ++ g ∷ after)) ≡ givens old
+    → HaveContents (before ++ h ∷ after) (IsSetIn key value old)
+pair-outcomes before g h after key value old k n p t =
+    let a = key-outcome key g k in
+    let s : outcomes_of (as_groups before) ++ given (pair key a.0) ∷ outcomes_of (as_groups after) ≡ givens old =
+    ap (λ w. outcomes_of (as_groups before) ++ outcome_before w (outcomes_of (as_groups after))) (sym a.1) ∙ sym (outcomes_of-append before (g ∷ after)) ∙ t in
+    let m = givens-parted (outcomes_of (as_groups before)) (given (pair key a.0) ∷ outcomes_of (as_groups after)) old s in
+    of_back m.front m.back a.0 m.whole m.front_given m.back_given
   where
-    of_back : (front back : List Content) (old_value : List ℕ) → old ≡ front ++ back → outcomes_of (as_groups r.before) ≡ givens front
-        → given (pair key old_value) ∷ outcomes_of (as_groups r.after) ≡ givens back → AreFronts e r.before → AreHeldGroups e (r.group ∷ r.after)
-        → ComesTo e body (IsSetIn key value old)
-    of_back front [] old_value w ft bt fs hs = absurd (cc)
-    of_back front (c ∷ back) old_value w ft bt fs hs =
-        let p : pair key old_value ≡ c = cc in
-        let q : outcomes_of (as_groups r.after) ≡ givens back = cc in (
+    of_back : (front back : List Content) (old_value : List ℕ) → old ≡ front ++ back → outcomes_of (as_groups before) ≡ givens front
+        → given (pair key old_value) ∷ outcomes_of (as_groups after) ≡ givens back
+        → HaveContents (before ++ h ∷ after) (IsSetIn key value old)
+    of_back front [] old_value w ft bt = absurd (cc)
+    of_back front (c ∷ back) old_value w ft bt =
+        let x : pair key old_value ≡ c = cc in
+        let q : outcomes_of (as_groups after) ≡ givens back = cc in (
           front ++ pair key value ∷ back,
           inl (record {
             before = front;
             old_value = old_value;
             after = back;
-            was = w ∙ ap (λ x. front ++ x ∷ back) (sym p);
-            no_later = none-hold key r.after back r.no_later q;
+            was = w ∙ ap (λ y. front ++ y ∷ back) (sym x);
+            no_later = none-hold key after back n q;
             now = refl;
           }),
-          ap (outcomes_in e) r.bytes
-              ∙ outcomes-fronts e r.before _ fs
-              ∙ ap₂ (λ x y. x ++ y) ft (outcomes-in_place e only (is_empty (groups_bytes r.before)) key value r.group r.after ok k v hs ∙ ap (λ x. given (pair key value) ∷ x) q)
+          outcomes_of-append before (h ∷ after)
+              ∙ ap₂ (λ y z. y ++ outcome_before z (outcomes_of (as_groups after))) ft (sym (outcome_of-only (joined (as_lines h)) (given (pair key value)) p))
+              ∙ ap (λ y. givens front ++ given (pair key value) ∷ y) q
               ∙ sym (givens-append front (pair key value ∷ back)),
         )
 
--- ---- appending a pair
+-- A body comes to the contents that its groups have.
+pub groups-come : (e : Encoding) (body : List ℕ) (Such : List Content → Type 0) (gs : List (List HeldLine)) → is_editable e ≡ true
+    → AreGroupsOf e body gs → HaveContents gs Such → ComesTo e body Such
+groups-come e body Such gs ok h (new, such, told) =
+    (new, such, ap (outcomes_in e) (sym (held-body e body gs ok h)) ∙ told-groups e gs (held-groups e body gs ok h) ∙ told)
 
 -- A CR at the end of the last part is at the end of the whole.
 pub ends-right : (x y : List ℕ) → ends_in_cr y ≡ true → ends_in_cr (x ++ y) ≡ true
 ends-right x [] h = absurd (cc)
 ends-right x (c ∷ y) h = ends_in_cr-append x c y ∙ h
-
--- The texts of two lists of ended lines.
-ended_lines-append : (e : Encoding) (ls ms : List Ended) → ended_lines e (ls ++ ms) ≡ ended_lines e ls ++ ended_lines e ms
-ended_lines-append e [] ms = refl
-ended_lines-append e (l ∷ ls) ms = ap (λ v. record { number = 0; text = decoded_line e l.text } ∷ v) (ended_lines-append e ls ms)
-
--- The lines of bytes after which one line ending was added, if their last line has none.
-ending-added : (x : List ℕ) (by : LineEnding) → PartsNoEnd x (line_ending_text by)
-    → lines_of (x ++ line_ending_text by) ≡ record { ended = (lines_of x).ended ++ record { text = (lines_of x).last; by = by } ∷ []; last = [] }
-ending-added x by h =
-    lines_of-append x (line_ending_text by) h
-    ∙ ap (λ v. lines_on (lines_of x).ended (lines_of ((lines_of x).last ++ v))) (sym (append-nil (line_ending_text by)))
-    ∙ ap (lines_on (lines_of x).ended) (lines_of-line (lines_of x).last by [] (last-plain x) (λ q. refl))
-
--- The lines of bytes after which two line endings were added.
-endings-added : (x : List ℕ) (by : LineEnding) → PartsNoEnd x (line_ending_text by ++ line_ending_text by)
-    → (by ≡ cr → begins_with_lf (line_ending_text by) ≡ false)
-    → lines_of (x ++ (line_ending_text by ++ line_ending_text by))
-    ≡ record { ended = (lines_of x).ended ++ record { text = (lines_of x).last; by = by } ∷ record { text = []; by = by } ∷ []; last = [] }
-endings-added x by h k =
-    let two = lines_of-line [] by [] tt (λ q. refl) in
-    lines_of-append x (line_ending_text by ++ line_ending_text by) h
-    ∙ ap (lines_on (lines_of x).ended) (lines_of-line (lines_of x).last by (line_ending_text by) (last-plain x) k)
-    ∙ ap (λ v. let w : Lines = v in lines_on (lines_of x).ended (record { ended = record { text = (lines_of x).last; by = by } ∷ w.ended; last = w.last }))
-    (ap lines_of (sym (append-nil (line_ending_text by))) ∙ two)
 
 -- ---- which last groups are left open
 
@@ -270,141 +205,6 @@ closed-by_empty (l ∷ ls) h = (
   joined-push l ls (record { number = 0; text = [] }) h.0 ∙ append-nil (joined (l ∷ ls)),
 )
 
--- ---- the last group, and what separates a pair from it
-
--- a CR at the end of these bytes is at the end of the source
-abbrev EndsAlike : List ℕ → List ℕ → Type 0
-EndsAlike x source = ends_in_cr x ≡ true → ends_in_cr source ≡ true
-
--- The line ending that is added, which is a line end by itself after the bytes.
-record IsAdded (x source : List ℕ) : Type 0 where
-  by : LineEnding
-  same : added_ending source ≡ line_ending_text by
-  one : PartsNoEnd x (line_ending_text by)
-  two : PartsNoEnd x (line_ending_text by ++ line_ending_text by)
-  no_lf : by ≡ cr → begins_with_lf (line_ending_text by) ≡ false
-
--- This holds if the source ends in a CR whenever these bytes do.
-is-added : (x source : List ℕ) → EndsAlike x source → IsAdded x source
-is-added x source h = elim (cases_Bool (ends_in_cr source)) [
-  | inl k ↦ record { by = cr; same = rw k refl; one = λ q. refl; two = λ q. refl; no_lf = λ q. refl }
-  | inr k ↦ record { by = lf; same = rw k refl; one = λ q. absurd (cc (h q, k)); two = λ q. absurd (cc (h q, k)); no_lf = λ q. absurd (cc) }
-]
-
--- Nothing separates a pair from an empty line.
-separation-none : (source : List ℕ) (g : List HeldLine) → is_empty_line g ≡ true → separation source g ≡ []
-separation-none source g h = rw h refl
-
--- Two line endings separate it from a group that is left open.
-separation-two : (source : List ℕ) (g : List HeldLine) → is_empty_line g ≡ false → is_left_open g ≡ true
-    → separation source g ≡ added_ending source ++ added_ending source
-separation-two source g h k = rw (h, k) refl
-
--- One line ending separates it from any other group.
-separation-one : (source : List ℕ) (g : List HeldLine) → is_empty_line g ≡ false → is_left_open g ≡ false → separation source g ≡ added_ending source
-separation-one source g h k = rw (h, k) refl
-
--- The texts of the last group.
-last-texts : (e : Encoding) (g : List HeldLine) → IsHeldLast e g → line_texts_in e (lines_of (group_bytes g)) ≡ as_lines g
-unfolding line_texts
-last-texts e g h = h.texts
-
--- The last group followed by one line ending, if it isn't left open.
-one-front : (e : Encoding) (source : List ℕ) (g : List HeldLine) → IsHeldLast e g → is_left_open g ≡ false → IsAdded (group_bytes g) source
-    → IsFront e (group_bytes g ++ added_ending source) (as_lines g)
-one-front e source g h k a =
-    let x = group_bytes g in
-    let same : lines_of (x ++ added_ending source) ≡ record { ended = (lines_of x).ended ++ record { text = (lines_of x).last; by = a.by } ∷ []; last = [] } =
-    ap (λ v. lines_of (x ++ v)) a.same ∙ ending-added x a.by a.one in
-    record {
-      ended = ap (λ v. let w : Lines = v in w.last) same;
-      texts =
-          ap (λ v. let w : Lines = v in ended_lines e w.ended) same
-          ∙ ended_lines-append e (lines_of x).ended (record { text = (lines_of x).last; by = a.by } ∷ [])
-          ∙ last-texts e g h;
-      whole = fit-closed g h.fits k;
-    }
-
--- The last group followed by two line endings, if it is left open.
-two-front : (e : Encoding) (source : List ℕ) (g : List HeldLine) → IsHeldLast e g → is_left_open g ≡ true → IsAdded (group_bytes g) source
-    → IsFront e (group_bytes g ++ (added_ending source ++ added_ending source)) (as_lines g ++ record { number = 0; text = [] } ∷ [])
-two-front e source g h k a =
-    let x = group_bytes g in
-    let l : Ended = record { text = (lines_of x).last; by = a.by } in
-    let m : Ended = record { text = []; by = a.by } in
-    let same : lines_of (x ++ (added_ending source ++ added_ending source)) ≡ record { ended = (lines_of x).ended ++ l ∷ m ∷ []; last = [] } =
-    ap (λ v. lines_of (x ++ (v ++ v))) a.same ∙ endings-added x a.by a.two a.no_lf in
-    record {
-      ended = ap (λ v. let w : Lines = v in w.last) same;
-      texts =
-          ap (λ v. let w : Lines = v in ended_lines e w.ended) same
-          ∙ ended_lines-append e (lines_of x).ended (l ∷ m ∷ [])
-          ∙ sym (append_assoc (ended_lines e (lines_of x).ended) (record { number = 0; text = decoded_line e (lines_of x).last } ∷ []) (record { number = 0; text = decoded_line e [] } ∷ []))
-          ∙ ap₂ (λ v w. v ++ record { number = 0; text = w } ∷ []) (last-texts e g h) (decoded-nil e);
-      whole = (closed-by_empty (as_lines g) (fit-open g h.fits k)).0;
-    }
-
--- An empty list of bytes is one empty line.
-empty-texts : (e : Encoding) → line_texts e [] ≡ record { number = 0; text = [] } ∷ []
-unfolding line_texts
-empty-texts e = ap (λ v. record { number = 0; text = v } ∷ []) (decoded-nil e)
-
--- The last group, what separates it from the following bytes, and those bytes.
-outcomes-parted : (e : Encoding) (source : List ℕ) (g : List HeldLine) (d : List ℕ) → IsHeldLast e g → EndsAlike (group_bytes g) source
-    → outcomes_in e (group_bytes g ++ (separation source g ++ d)) ≡ outcome_before (outcome g) (outcomes_in e d)
-outcomes-parted e source g d h a = elim (cases_Bool (is_empty_line g)) [
-  | inl k ↦
-      let x : group_bytes g ≡ [] = empty-last g k h.ending in
-      let t : as_lines g ≡ record { number = 0; text = [] } ∷ [] = sym h.texts ∙ ap (line_texts e) x ∙ empty-texts e in
-      ap₂ (λ v w. outcomes_in e (v ++ (w ++ d))) x (separation-none source g k)
-      ∙ ap (λ v. outcome_before v (outcomes_in e d)) (sym (ap (λ v. outcome_of (joined v)) t ∙ outcome-empty))
-  | inr k ↦ elim (cases_Bool (is_left_open g)) [
-    | inl m ↦
-        let y = added_ending source ++ added_ending source in
-        ap (λ v. outcomes_in e (group_bytes g ++ (v ++ d))) (separation-two source g k m)
-        ∙ ap (outcomes_in e) (sym (append_assoc (group_bytes g) y d))
-        ∙ outcomes-front e (group_bytes g ++ y) d (as_lines g ++ record { number = 0; text = [] } ∷ []) (two-front e source g h m (is-added (group_bytes g) source a))
-        ∙ ap (λ v. outcome_before (outcome_of v) (outcomes_in e d)) (closed-by_empty (as_lines g) (fit-open g h.fits m)).1
-    | inr m ↦
-        ap (λ v. outcomes_in e (group_bytes g ++ (v ++ d))) (separation-one source g k m)
-        ∙ ap (outcomes_in e) (sym (append_assoc (group_bytes g) (added_ending source) d))
-        ∙ outcomes-front e (group_bytes g ++ added_ending source) d (as_lines g) (one-front e source g h m (is-added (group_bytes g) source a))
-  ]
-]
-
--- All groups, what separates them from the following bytes, and those bytes.
-outcomes-after : (e : Encoding) (source : List ℕ) (gs : List (List HeldLine)) (d : List ℕ) → AreHeldGroups e gs → EndsAlike (groups_bytes gs) source
-    → outcomes_in e (groups_bytes gs ++ (separation source (final_group gs) ++ d)) ≡ outcomes_of (as_groups gs) ++ outcomes_in e d
-outcomes-after e source [] d h a = absurd h
-outcomes-after e source (g ∷ []) d h a =
-    ap (λ v. outcomes_in e (v ++ (separation source g ++ d))) (append-nil (group_bytes g))
-    ∙ outcomes-parted e source g d h (λ q. a (ap ends_in_cr (append-nil (group_bytes g)) ∙ q))
-    ∙ outcome_before-append (outcome g) [] (outcomes_in e d)
-outcomes-after e source (g ∷ i ∷ gs) d h a =
-    ap (outcomes_in e) (append_assoc (group_bytes g) (groups_bytes (i ∷ gs)) (separation source (final_group (i ∷ gs)) ++ d))
-    ∙ outcomes-front e (group_bytes g) (groups_bytes (i ∷ gs) ++ (separation source (final_group (i ∷ gs)) ++ d)) (as_lines g) h.0.front
-    ∙ ap (outcome_before (outcome g)) (outcomes-after e source (i ∷ gs) d h.1 (λ q. a (ends-right (group_bytes g) (groups_bytes (i ∷ gs)) q)))
-    ∙ outcome_before-append (outcome g) (outcomes_of (as_groups (i ∷ gs))) (outcomes_in e d)
-
--- If a pair is appended to a body, its contents are those of the body followed by that pair.
-pub appended-outcomes : (e : Encoding) (only : Bool) (source : List ℕ) (gs : List (List HeldLine)) (key value body : List ℕ) (old : List Content) → is_editable e ≡ true
-    → All scalar key → All scalar value
-    → AreHeldGroups e gs → (ends_in_cr (groups_bytes gs) ≡ true → ends_in_cr source ≡ true) → outcomes_of (as_groups gs) ≡ givens old
-    → IsAppended e only source gs key value body
-    → ComesTo e body (IsSetIn key value old)
-appended-outcomes e only source gs key value body old ok k v h a t r = (
-  old ++ pair key value ∷ [],
-  inr (none-hold key gs old r.no_pair t, refl),
-  ap (outcomes_in e) r.bytes
-      ∙ ap (outcomes_in e) (append_assoc (groups_bytes gs) (separation source (final_group gs)) tail)
-      ∙ outcomes-after e source gs tail h a
-      ∙ ap₂ (λ x y. x ++ y) t (outcomes-pair e only (is_empty (groups_bytes gs ++ separation source (final_group gs))) key value lf [] ok k v ∙ ap (λ w. given (pair key value) ∷ w) (outcomes-nil e))
-      ∙ sym (givens-append old (pair key value ∷ [])),
-)
-  where
-    tail : List ℕ
-    tail = pair_bytes e only (is_empty (groups_bytes gs ++ separation source (final_group gs))) key value ++ line_feed ∷ []
-
 -- ---- removing a key
 
 -- the outcomes of what is left are what is left of the contents
@@ -433,13 +233,12 @@ left-kept key (broken kind) os left (c ∷ cs) other h rest = absurd (cc)
 -- A group with the key is left out.
 left-out : (key value : List ℕ) (os left : List Outcome) (old : List Content) → given (pair key value) ∷ os ≡ givens old
     → ((cs : List Content) → os ≡ givens cs → IsLeft key cs left) → IsLeft key old left
-left-out key value os left [] h rest = absurd (cc)
-left-out key value os left (comment text ∷ cs) h rest = absurd (cc)
 left-out key value os left (pair k v ∷ cs) h rest =
     let p : k ≡ key = cc in
     let q : os ≡ givens cs = cc in
     let m = rest cs q in
     (m.0, inl (p, m.1), m.2)
+left-out key value os left old h rest = absurd (cc)
 
 -- Of an empty list of contents, nothing is left.
 nothing-left : (key : List ℕ) (cs : List Content) → [] ≡ givens cs → IsLeft key cs []

@@ -1,13 +1,13 @@
 -- The computed result of setting or removing a key is the result of that edit, and the only one.
 use Rattle.std.proofs.Common.{◌≡◌, ◌⊎◌, ℕ, Bool, true, false, List, [], ◌∷◌, ◌++◌, Option, Some, None, refl, ap, sym, ◌∙◌, inl, inr}
-use Rattle.std.proofs.lemmas.Bool.{cond-true, cond-false, false_from_ne_true}
+use Rattle.std.proofs.lemmas.Bool.{false_from_ne_true}
 use Rattle.std.proofs.lemmas.Slice.Eq.{bytes_eq-Decides}
 use Rattle.properties_format.specs.Encoding.{Encoding, byte_order_mark}
 use Rattle.properties_format.specs.Groups.{joined}
-use Rattle.properties_format.specs.Entries.{comment, pair}
-use Rattle.properties_format.specs.Items.{Outcome, ignored, given, broken}
+use Rattle.properties_format.specs.Entries.{pair}
+use Rattle.properties_format.specs.Items.{Outcome, given}
 use Rattle.properties_format.specs.Computed.Items.{outcome_of}
-use Rattle.properties_format.specs.Body.{HeldLine, as_lines, group_bytes, HasKey, NoneHasKey}
+use Rattle.properties_format.specs.Body.{HeldLine, as_lines, HasKey, NoneHasKey}
 use Rattle.properties_format.specs.Edited.{IsReplaced, IsAppended, IsKeySet, IsWithout, IsKeyRemoved}
 use Rattle.properties_format.specs.Edited.{bom_of, guarding_lf}
 use Rattle.properties_format.specs.Computed.Body.{held_groups_of, is_pair_with, has_key}
@@ -20,10 +20,8 @@ use Rattle.properties_format.proofs.Body.Groups.{held_groups_of-meets, held_grou
 
 -- An outcome that passes the test is a pair with the key.
 pair-with : (key : List ℕ) (o : Outcome) → is_pair_with key o ≡ true → (value : List ℕ) × (o ≡ given (pair key value))
-pair-with key ignored h = absurd (cc)
-pair-with key (given (comment text)) h = absurd (cc)
 pair-with key (given (pair k v)) h = (v, ap (λ x. given (pair x v)) ((bytes_eq-Decides k key).0 h))
-pair-with key (broken kind) h = absurd (cc)
+pair-with key o h = absurd (cc)
 
 -- A group that passes the test is a pair with the key.
 pub has_key-true : (key : List ℕ) (g : List HeldLine) → has_key key g ≡ true → HasKey key g
@@ -76,16 +74,12 @@ last_place-meets key (g ∷ gs) = place-meets key g gs (last_place key gs) (last
 -- If no group has the key, there is no place.
 pub last_place-none : (key : List ℕ) (gs : List (List HeldLine)) → NoneHasKey key gs → last_place key gs ≡ None
 last_place-none key [] h = refl
-last_place-none key (g ∷ gs) h =
-    ap (place_after key g gs) (last_place-none key gs h.1)
-    ∙ cond-false (has_key key g) (Some (record { before = []; group = g; after = gs })) None (no_key-test key g h.0)
+last_place-none key (g ∷ gs) h = rw (last_place-none key gs h.1, no_key-test key g h.0) refl
 
 -- After the last pair with the key, no group has it.
 pub last_place-some : (key : List ℕ) (before : List (List HeldLine)) (g : List HeldLine) (after : List (List HeldLine)) → HasKey key g → NoneHasKey key after
     → last_place key (before ++ g ∷ after) ≡ Some (record { before = before; group = g; after = after })
-last_place-some key [] g after h k =
-    ap (place_after key g after) (last_place-none key after k)
-    ∙ cond-true (has_key key g) (Some (record { before = []; group = g; after = after })) None (HasKey-test key g h)
+last_place-some key [] g after h k = rw (last_place-none key after k, HasKey-test key g h) refl
 last_place-some key (f ∷ before) g after h k = ap (place_after key f (before ++ g ∷ after)) (last_place-some key before g after h k)
 
 -- ---- setting a key
@@ -149,11 +143,8 @@ without-meets key (g ∷ gs) = without-step key g gs (has_key key g) refl (witho
 -- There are no other such bytes.
 pub without-only : (key : List ℕ) (gs : List (List HeldLine)) (rest : List ℕ) → IsWithout key gs rest → rest ≡ without key gs
 without-only key [] rest h = h
-without-only key (g ∷ gs) rest (inl h) =
-    without-only key gs rest h.1 ∙ sym (cond-true (has_key key g) (without key gs) (group_bytes g ++ without key gs) (HasKey-test key g h.0))
-without-only key (g ∷ gs) rest (inr h) =
-    h.2 ∙ ap (λ v. group_bytes g ++ v) (without-only key gs h.1 h.3)
-    ∙ sym (cond-false (has_key key g) (without key gs) (group_bytes g ++ without key gs) (no_key-test key g h.0))
+without-only key (g ∷ gs) rest (inl h) = rw (HasKey-test key g h.0) (without-only key gs rest h.1)
+without-only key (g ∷ gs) rest (inr h) = rw (no_key-test key g h.0, h.2, without-only key gs h.1 h.3) refl
 
 -- What is computed is the source without the key.
 pub key_removed-meets : (e : Encoding) (source key : List ℕ) → IsKeyRemoved e source key (key_removed e source key)

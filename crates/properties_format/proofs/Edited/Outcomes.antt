@@ -121,12 +121,11 @@ outcomes-lf e d = front-outcomes e (line_feed ∷ []) d (record { number = 0; te
 
 -- So it doesn't matter whether an LF at the front is left out.
 outcomes-rest : (e : Encoding) (b : Bool) (d : List ℕ) → outcomes_in e (rest_of_end b d) ≡ outcomes_in e d
-outcomes-rest e false d = refl
-outcomes-rest e true [] = refl
 outcomes-rest e true (c ∷ d) = elim (eqb_tells c line_feed) [
   | inl k ↦ rw k.1 (sym (outcomes-lf e d))
   | inr k ↦ rw k.0 refl
 ]
+outcomes-rest e b d = refl
 
 -- The outcome of a group before any bytes comes first, followed by the outcomes of those bytes.
 pub outcomes-front : (e : Encoding) (x d : List ℕ) (g : List Line) → IsFront e x g → outcomes_in e (x ++ d) ≡ outcome_before (outcome_of (joined g)) (outcomes_in e d)

@@ -1,22 +1,18 @@
 -- The printed pair in a body: it is a group by itself, and its outcome is that pair.
-use Rattle.std.proofs.Common.{◌≡◌, ℕ, Bool, true, List, [], ◌∷◌, ◌++◌, refl, ap, sym, ◌∙◌, inl, inr, append_assoc, append-nil, lit<, subst}
+use Rattle.std.proofs.Common.{◌≡◌, ℕ, Bool, true, List, [], ◌∷◌, ◌++◌, refl, ap, sym, ◌∙◌, inl, inr, lit<, subst}
 use Rattle.std.specs.Prelude.{All}
 use Rattle.std.proofs.lemmas.Bool.{cases_Bool}
 use Rattle.std.proofs.lemmas.List.Elements.{recursion_from_All}
-use Rattle.properties_format.specs.Text.{scalar, equals_sign, LineEnding, line_ending_text}
-use Rattle.properties_format.specs.Encoding.{Encoding, windows_1252, utf_8, utf_16le, utf_16be, output_encoding}
-use Rattle.properties_format.specs.Lines.{Lines, HoldsNoLineEnd, Line, end}
-use Rattle.properties_format.specs.Computed.Lines.{lines_of}
+use Rattle.properties_format.specs.Text.{scalar, equals_sign}
+use Rattle.properties_format.specs.Encoding.{Encoding, utf_16le, utf_16be, output_encoding}
+use Rattle.properties_format.specs.Lines.{HoldsNoLineEnd, Line}
 use Rattle.properties_format.specs.Groups.{is_comment_line, IsWhole, joined}
 use Rattle.properties_format.specs.Entries.{pair}
 use Rattle.properties_format.specs.Items.{given}
 use Rattle.properties_format.specs.Computed.Items.{outcome_of}
 use Rattle.properties_format.specs.Printing.{in_key_or_value, printed_characters, encoded_text, printed_key}
 use Rattle.properties_format.specs.Edited.{is_editable, pair_bytes}
-use Rattle.properties_format.proofs.Lines.Only.{lines_of-plain}
-use Rattle.properties_format.proofs.Lines.Steps.{lines_of-line}
 use Rattle.properties_format.proofs.Groups.Logical.{IsNotContinued}
-use Rattle.properties_format.proofs.Groups.Only.{groups_of-before}
 use Rattle.properties_format.proofs.Printing.Characters.{AreEncodable-ascii, printed_characters-encodable, printed_key-encodable}
 use Rattle.properties_format.proofs.ReadBack.Texts.{texts-printed}
 use Rattle.properties_format.proofs.ReadBack.Pairs.{IsReadAs, key-printed, pair-read}
@@ -25,7 +21,6 @@ use Rattle.properties_format.proofs.ReadBack.Bytes.{AreWritable, ascii-scalars, 
 use Rattle.properties_format.proofs.ReadBack.Law.{default_settings-good}
 use Rattle.properties_format.specs.Computed.Cut.{decoded_line}
 use Rattle.properties_format.proofs.Body.Decoded.{plain-bytes}
-use Rattle.properties_format.proofs.Edited.Outcomes.{outcome_before, ended_lines, line_texts_in, line_texts, outcomes_in, IsFront, outcomes-front, outcomes-one}
 
 -- the characters of the printed pair
 abbrev pub pair_text : Encoding → Bool → Bool → List ℕ → List ℕ → List ℕ
@@ -51,10 +46,9 @@ pair-writable e only first key value h k =
 
 -- An encoding that can be edited can be written.
 pub editable-own : (e : Encoding) → is_editable e ≡ true → output_encoding e ≡ e
-editable-own windows_1252 h = refl
-editable-own utf_8 h = refl
 editable-own utf_16le h = absurd (cc)
 editable-own utf_16be h = absurd (cc)
+editable-own e h = refl
 
 -- The bytes of the printed pair decode to its characters.
 pub pair-decoded : (e : Encoding) (only : Bool) (first : Bool) (key value : List ℕ) → is_editable e ≡ true → All scalar key → All scalar value
@@ -67,7 +61,7 @@ pair-decoded e only first key value ok h k =
 -- ---- it is a group
 
 -- A comment line, or a line that isn't open, is a whole group by itself.
-alone-whole : (l : Line) → IsNotContinued l.text → IsWhole (l ∷ [])
+pub alone-whole : (l : Line) → IsNotContinued l.text → IsWhole (l ∷ [])
 alone-whole l (inl h) = inl (h, refl)
 alone-whole l (inr h) = elim (cases_Bool (is_comment_line l.text)) [ inl k ↦ inl (k, refl) | inr k ↦ inr (k, h) ]
 
@@ -90,47 +84,3 @@ pub pair-plain : (e : Encoding) (only : Bool) (first : Bool) (key value : List �
     → HoldsNoLineEnd (pair_bytes e only first key value)
 pair-plain e only first key value ok h k =
     plain-bytes e (pair_bytes e only first key value) ok (subst HoldsNoLineEnd (sym (pair-decoded e only first key value ok h k)) (pair-read_as e only first key value h k).plain)
-
--- With a line ending after them, its bytes are one line.
-pair-lines : (e : Encoding) (only : Bool) (first : Bool) (key value : List ℕ) (by : LineEnding) → is_editable e ≡ true → All scalar key → All scalar value
-    → lines_of (pair_bytes e only first key value ++ line_ending_text by) ≡ record { ended = record { text = pair_bytes e only first key value; by = by } ∷ []; last = [] }
-pair-lines e only first key value by ok h k =
-    ap (λ v. lines_of (pair_bytes e only first key value ++ v)) (sym (append-nil (line_ending_text by)))
-    ∙ lines_of-line (pair_bytes e only first key value) by [] (pair-plain e only first key value ok h k) (λ q. refl)
-
--- That line is one whole group.
-pair-front : (e : Encoding) (only : Bool) (first : Bool) (key value : List ℕ) (by : LineEnding) → is_editable e ≡ true → All scalar key → All scalar value
-    → IsFront e (pair_bytes e only first key value ++ line_ending_text by) (pair_line e only first key value ∷ [])
-pair-front e only first key value by ok h k =
-    let same = pair-lines e only first key value by ok h k in
-    record {
-      ended = ap (λ v. let w : Lines = v in w.last) same;
-      texts =
-          ap (λ v. let w : Lines = v in ended_lines e w.ended) same
-          ∙ ap (λ v. record { number = 0; text = v } ∷ []) (pair-decoded e only first key value ok h k);
-      whole = pair-whole e only first key value h k;
-    }
-
--- The printed pair with a line ending, before any bytes.
-pub outcomes-pair : (e : Encoding) (only : Bool) (first : Bool) (key value : List ℕ) (by : LineEnding) (d : List ℕ) → is_editable e ≡ true → All scalar key → All scalar value
-    → outcomes_in e (pair_bytes e only first key value ++ (line_ending_text by ++ d)) ≡ given (pair key value) ∷ outcomes_in e d
-outcomes-pair e only first key value by d ok h k =
-    ap (outcomes_in e) (sym (append_assoc (pair_bytes e only first key value) (line_ending_text by) d))
-    ∙ outcomes-front e (pair_bytes e only first key value ++ line_ending_text by) d (pair_line e only first key value ∷ []) (pair-front e only first key value by ok h k)
-    ∙ ap (λ v. outcome_before v (outcomes_in e d)) (pair-outcome e only first key value h k)
-
--- Without a line ending, its bytes are one line too.
-pair-texts : (e : Encoding) (only : Bool) (first : Bool) (key value : List ℕ) → is_editable e ≡ true → All scalar key → All scalar value
-    → line_texts e (pair_bytes e only first key value) ≡ pair_line e only first key value ∷ []
-unfolding line_texts
-pair-texts e only first key value ok h k =
-    ap (line_texts_in e) (lines_of-plain (pair_bytes e only first key value) (pair-plain e only first key value ok h k))
-    ∙ ap (λ v. record { number = 0; text = v } ∷ []) (pair-decoded e only first key value ok h k)
-
--- The printed pair as the last line.
-pub outcomes-last_pair : (e : Encoding) (only : Bool) (first : Bool) (key value : List ℕ) → is_editable e ≡ true → All scalar key → All scalar value
-    → outcomes_in e (pair_bytes e only first key value) ≡ given (pair key value) ∷ []
-outcomes-last_pair e only first key value ok h k =
-    let l = pair_line e only first key value in
-    outcomes-one e (pair_bytes e only first key value) (l ∷ []) (pair-texts e only first key value ok h k) (groups_of-before (l ∷ []) [] end (pair-whole e only first key value h k))
-    ∙ ap (λ v. outcome_before v []) (pair-outcome e only first key value h k)

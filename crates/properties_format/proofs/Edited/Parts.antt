@@ -22,10 +22,7 @@ pair-some e only first key value = let a = pair-ascii e only first key value in 
 pub unended-kept : (kept : List HeldLine) (l : HeldLine) → unended_bytes (kept ++ l ∷ []) ≡ group_bytes kept ++ l.bytes
 unended-kept [] l = refl
 unended-kept (h ∷ []) l = ap (λ v. h.bytes ++ (v ++ l.bytes)) (sym (append-nil (ending_bytes h.ending))) ∙ sym (append_assoc h.bytes (ending_bytes h.ending ++ []) l.bytes)
-unended-kept (h ∷ i ∷ kept) l =
-    ap (λ v. h.bytes ++ (ending_bytes h.ending ++ v)) (unended-kept (i ∷ kept) l)
-    ∙ ap (λ v. h.bytes ++ v) (sym (append_assoc (ending_bytes h.ending) (group_bytes (i ∷ kept)) l.bytes))
-    ∙ sym (append_assoc h.bytes (ending_bytes h.ending ++ group_bytes (i ∷ kept)) l.bytes)
+unended-kept (h ∷ i ∷ kept) l = simp (append_assoc, unended-kept (i ∷ kept) l)
 
 -- an empty line, as a group
 abbrev pub empty_group : Option LineEnding → List HeldLine

@@ -5,7 +5,7 @@ use Rattle.properties_format.specs.Encoding.{Encoding, byte_order_mark}
 use Rattle.properties_format.specs.Lines.{end}
 use Rattle.properties_format.specs.Escapes.{Malformed}
 use Rattle.properties_format.specs.Entries.{Content, Entry, item, malformed, read_fault, AreItems}
-use Rattle.properties_format.specs.Items.{Outcome, ignored, given, broken}
+use Rattle.properties_format.specs.Items.{Outcome, broken}
 use Rattle.properties_format.specs.Groups.{joined}
 use Rattle.properties_format.specs.Body.{HeldLine, as_lines}
 use Rattle.properties_format.specs.Computed.Items.{outcome_of, followed, items_of}
@@ -30,9 +30,8 @@ HasNoFault (read_fault n ∷ entries) = ⊥
 
 -- No read failed in an outcome's entry and the entries after it.
 followed-no_fault : (n : ℕ) (o : Outcome) (entries : List Entry) → HasNoFault entries → HasNoFault (followed n o entries)
-followed-no_fault n ignored entries h = h
-followed-no_fault n (given content) entries h = h
 followed-no_fault n (broken kind) entries h = tt
+followed-no_fault n o entries h = h
 
 -- No read failed in the entries of groups.
 groups-no_fault : (n : ℕ) (gs : List (List HeldLine)) → HasNoFault (entries_in n gs)
@@ -57,8 +56,7 @@ IsBy entries made (unreadable kind n) = IsFirstMalformed kind n entries
 -- An item at the front changes nothing.
 by-item : (n : ℕ) (content : Content) (entries : List Entry) (made : List ℕ) (r : EditResult) → IsBy entries made r → IsBy (item n content ∷ entries) made r
 by-item n content entries made (edited result) h = h
-by-item n content entries made unsupported h = h
-by-item n content entries made (unreadable kind m) h = h
+by-item n content entries made r h = h
 
 -- The computed result is what the items say.
 result_by-meets : (entries : List Entry) (made : List ℕ) → HasNoFault entries → IsBy entries made (result_by entries made)
@@ -71,8 +69,7 @@ result_by-meets (read_fault n ∷ entries) made h = absurd h
 pub result_by-edited : (entries : List Entry) (made : List ℕ) → AreItems entries → result_by entries made ≡ edited made
 result_by-edited [] made h = refl
 result_by-edited (item n content ∷ entries) made h = result_by-edited entries made h
-result_by-edited (malformed kind n ∷ entries) made h = absurd h
-result_by-edited (read_fault n ∷ entries) made h = absurd h
+result_by-edited entries made h = absurd h
 
 -- Otherwise the result is the first malformed item.
 result_by-unreadable : (entries : List Entry) (made : List ℕ) (kind : Malformed) (n : ℕ) → IsFirstMalformed kind n entries

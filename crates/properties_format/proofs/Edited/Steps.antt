@@ -1,21 +1,18 @@
 -- The groups of a body, and an edit of them, after the next line and after the next group.
-use Rattle.std.proofs.Common.{◌≡◌, ℕ, false, List, [], ◌∷◌, ◌++◌, refl, ap, sym, ◌∙◌, inl, inr, append_assoc, ◌+◌, length-append, arith}
+use Rattle.std.proofs.Common.{◌≡◌, ℕ, false, List, [], ◌∷◌, ◌++◌, refl, ap, ◌∙◌, append_assoc, ◌+◌, length-append, arith}
 use Rattle.std.specs.Prelude.{◌&&◌, not, length, Option, Some, None}
-use Rattle.std.proofs.lemmas.Bool.{cases_Bool, cond-false}
+use Rattle.std.proofs.lemmas.Bool.{cond-false}
 use Rattle.properties_format.specs.Text.{LineEnding, cr}
 use Rattle.properties_format.specs.Encoding.{Encoding, IsAligned}
 use Rattle.properties_format.specs.Lines.{Lines}
 use Rattle.properties_format.specs.Computed.Lines.{begins_with_lf}
 use Rattle.properties_format.specs.Cut.{units, HoldsNoLineEndUnit, line_ending_bytes}
 use Rattle.properties_format.specs.Computed.Cut.{decoded_line}
-use Rattle.properties_format.specs.Groups.{is_open, is_comment_line, joined}
-use Rattle.properties_format.specs.Items.{Outcome, ignored, given, broken}
-use Rattle.properties_format.specs.Computed.Items.{outcome_of, followed}
-use Rattle.properties_format.specs.Entries.{Entry}
-use Rattle.properties_format.specs.Body.{HeldLine, HasKey, group_bytes, as_lines, held_in, last_ending}
+use Rattle.properties_format.specs.Groups.{is_open, is_comment_line}
+use Rattle.properties_format.specs.Body.{HeldLine, HasKey, held_in, last_ending}
 use Rattle.properties_format.specs.Edited.{final_group, is_last_open, is_left_open, is_empty_line}
 use Rattle.properties_format.specs.Computed.Body.{held_of, held_lines_of, has_key, entries_in}
-use Rattle.properties_format.specs.Computed.Edited.{KeyPlace, place_after, last_place, without, IsSound, AreSound, result_by}
+use Rattle.properties_format.specs.Computed.Edited.{KeyPlace, place_after, last_place, without, AreSound, result_by}
 use Rattle.properties_format.proofs.Cut.Steps.{cut_of-line}
 use Rattle.properties_format.proofs.Cut.Only.{cut_of-plain}
 use Rattle.properties_format.proofs.Edited.Made.{last_place-some}
@@ -43,8 +40,7 @@ with_after g (Some p) = Some record { before = p.before; group = p.group; after 
 -- Adding a group at the front and one at the end commutes.
 with_after-front : (key : List ℕ) (f g : List HeldLine) (gs : List (List HeldLine)) (o : Option KeyPlace)
     → place_after key f (gs ++ g ∷ []) (with_after g o) ≡ with_after g (place_after key f gs o)
-with_after-front key f g gs (Some p) = refl
-with_after-front key f g gs None = elim (cases_Bool (has_key key f)) [ inl k ↦ rw k refl | inr k ↦ rw k refl ]
+with_after-front key f g gs o = grind (arith)
 
 -- A group with the key is the new last place with it.
 pub last_place-new : (key : List ℕ) (gs : List (List HeldLine)) (g : List HeldLine) → HasKey key g
@@ -60,30 +56,24 @@ last_place-other key (f ∷ gs) g h = ap (place_after key f (gs ++ g ∷ [])) (l
 -- What is left of two lists of groups.
 pub without-append : (key : List ℕ) (gs hs : List (List HeldLine)) → without key (gs ++ hs) ≡ without key gs ++ without key hs
 without-append key [] hs = refl
-without-append key (g ∷ gs) hs = elim (cases_Bool (has_key key g)) [
-  | inl k ↦ rw k (without-append key gs hs)
-  | inr k ↦ rw k (ap (λ v. group_bytes g ++ v) (without-append key gs hs) ∙ sym (append_assoc (group_bytes g) (without key gs) (without key hs)))
-]
+without-append key (g ∷ gs) hs = grind (arith, append_assoc, without-append key gs hs)
 
 -- The last of the groups, after one more.
 pub final_group-push : (gs : List (List HeldLine)) (g : List HeldLine) → final_group (gs ++ g ∷ []) ≡ g
-final_group-push [] g = refl
-final_group-push (f ∷ []) g = refl
 final_group-push (f ∷ h ∷ gs) g = final_group-push (h ∷ gs) g
+final_group-push gs g = refl
 
 -- ---- a group with one more line
 
 -- The last line is the new one.
 pub last_ending-push : (g : List HeldLine) (h : HeldLine) → last_ending (g ++ h ∷ []) ≡ h.ending
-last_ending-push [] h = refl
-last_ending-push (i ∷ []) h = refl
 last_ending-push (i ∷ j ∷ g) h = last_ending-push (j ∷ g) h
+last_ending-push g h = refl
 
 -- Whether the last line is open depends on the new one.
 pub is_last_open-push : (g : List HeldLine) (h : HeldLine) → is_last_open (g ++ h ∷ []) ≡ is_open h.text
-is_last_open-push [] h = refl
-is_last_open-push (i ∷ []) h = refl
 is_last_open-push (i ∷ j ∷ g) h = is_last_open-push (j ∷ g) h
+is_last_open-push g h = refl
 
 -- The first line is unchanged.
 pub is_left_open-push : (i : HeldLine) (g : List HeldLine) (h : HeldLine) → is_left_open (i ∷ g ++ h ∷ []) ≡ (not (is_comment_line i.text) && is_open h.text)
@@ -96,19 +86,9 @@ is_empty_line-push i (j ∷ g) h = refl
 
 -- ---- the first malformed escape
 
--- A group without a malformed escape doesn't change the result.
-pub result-sound : (n : ℕ) (o : Outcome) (entries : List Entry) (made : List ℕ) → IsSound o → result_by (followed n o entries) made ≡ result_by entries made
-result-sound n ignored entries made h = refl
-result-sound n (given content) entries made h = refl
-result-sound n (broken kind) entries made h = absurd h
-
 -- After groups without malformed escapes, the first malformed escape is that of the following groups.
 pub result-after : (n : ℕ) (gs hs : List (List HeldLine)) (made : List ℕ) → AreSound gs
     → result_by (entries_in n (gs ++ hs)) made ≡ result_by (entries_in (n + length (held_in gs)) hs) made
 result-after n [] hs made h = let same : n ≡ n + 0 = omega arith in ap (λ m. result_by (entries_in m hs) made) same
 result-after n (g ∷ gs) hs made h =
-    let size = length-append g (held_in gs) in
-    let same : n + length g + length (held_in gs) ≡ n + length (g ++ held_in gs) = omega arith in
-    result-sound n (outcome_of (joined (as_lines g))) (entries_in (n + length g) (gs ++ hs)) made h.0
-    ∙ result-after (n + length g) gs hs made h.1
-    ∙ ap (λ m. result_by (entries_in m hs) made) same
+    grind (arith, length-append, result-after (n + length g) gs hs made h.1)

@@ -135,25 +135,17 @@ replaced-puts e gs key value body r =
     let pair = pair_bytes e true (is_empty (groups_bytes r.before)) key value in
     let after = groups_bytes r.after in
     let old : groups_bytes gs ≡ groups_bytes r.before ++ (group_bytes r.group ++ after) = ap groups_bytes r.division ∙ groups_bytes-append r.before (r.group ∷ r.after) in
-    subst (PutsInAscii (groups_bytes gs)) (sym r.bytes)
-    (subst (λ v. PutsInAscii v (groups_bytes r.before ++ (pair ++ (ending_bytes (last_ending r.group) ++ after)))) (sym old)
+    rw (old, r.bytes)
     (puts-after (groups_bytes r.before) _ _
     (puts-join (group_bytes r.group) pair after _ (puts-ascii (group_bytes r.group) pair (pair_bytes-ascii e (is_empty (groups_bytes r.before)) key value))
-    (puts-in (ending_bytes (last_ending r.group)) after after (ending-ascii (last_ending r.group)) (puts-nothing after)))))
+    (puts-in (ending_bytes (last_ending r.group)) after after (ending-ascii (last_ending r.group)) (puts-nothing after))))
 
 -- The body and ASCII bytes after it.
 more-puts : (x more body : List ℕ) → AreAscii more → body ≡ x ++ more → PutsInAscii x body
 more-puts x more body h s =
     subst (λ v. PutsInAscii v body) (append-nil x) (subst (PutsInAscii (x ++ [])) (sym s) (puts-after x [] more (puts-ascii [] more h)))
 
--- What separates a pair from the last group is ASCII,
-separation-ascii : (source : List ℕ) (g : List HeldLine) → AreAscii (separation source g)
-separation-ascii source g =
-    let one = line_end-ascii (if ends_in_cr source then cr else lf) in
-    cond_both (is_empty_line g) [] (cond (is_left_open g) (added_ending source ++ added_ending source) (added_ending source)) AreAscii (λ k. tt)
-    (λ k. cond_both (is_left_open g) (added_ending source ++ added_ending source) (added_ending source) AreAscii (λ m. AreAscii-append (added_ending source) (added_ending source) one one) (λ m. one))
-
--- also if it is made of another line ending.
+-- What separates a pair from the last group is ASCII, if the line ending is.
 separation_by-ascii : (ending : List ℕ) (g : List HeldLine) → AreAscii ending → AreAscii (separation_by ending g)
 separation_by-ascii ending g one =
     cond_both (is_empty_line g) [] (cond (is_left_open g) (ending ++ ending) ending) AreAscii (λ k. tt)
@@ -167,7 +159,7 @@ appended-puts e source gs key value body r =
     let front = groups_bytes gs ++ parting in
     let pair = pair_bytes e true (is_empty front) key value ++ line_feed ∷ [] in
     more-puts (groups_bytes gs) (parting ++ pair) body
-    (AreAscii-append parting pair (separation-ascii source (final_group gs))
+    (AreAscii-append parting pair (separation_by-ascii (added_ending source) (final_group gs) (line_end-ascii (if ends_in_cr source then cr else lf)))
     (AreAscii-append (pair_bytes e true (is_empty front) key value) (line_feed ∷ []) (pair_bytes-ascii e (is_empty front) key value) (lit< tt, tt)))
     (r.bytes ∙ append_assoc (groups_bytes gs) parting pair)
 
@@ -182,12 +174,11 @@ revalued-puts e gs key value body r =
     ap groups_bytes r.division
     ∙ groups_bytes-append r.before (r.group ∷ r.after)
     ∙ ap (λ v. groups_bytes r.before ++ v) (ap (λ v. v ++ after) (front-bytes e r.group r.between r.front f) ∙ append_assoc r.front x after) in
-    subst (PutsInAscii (groups_bytes gs)) (sym r.bytes)
-    (subst (λ v. PutsInAscii v (groups_bytes r.before ++ (r.front ++ (new ++ (ending_bytes (last_ending r.group) ++ after))))) (sym old)
+    rw (old, r.bytes)
     (puts-after (groups_bytes r.before) _ _
     (puts-after r.front _ _
     (puts-join x new after _ (puts-ascii x new (encoded-in_ascii e (value_text e true r.between value) (value_text-ascii e r.between value)))
-    (puts-in (ending_bytes (last_ending r.group)) after after (ending-ascii (last_ending r.group)) (puts-nothing after))))))
+    (puts-in (ending_bytes (last_ending r.group)) after after (ending-ascii (last_ending r.group)) (puts-nothing after)))))
 
 -- A new pair is added.
 added-puts : (e : Encoding) (gs : List (List HeldLine)) (key value body : List ℕ) → IsAdded e true gs key value body → PutsInAscii (groups_bytes gs) body

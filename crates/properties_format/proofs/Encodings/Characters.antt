@@ -1,23 +1,19 @@
 -- The characters of pieces: each is a scalar value, an ASCII character has its own bytes, and an encoded character is a
 -- piece.
-use Rattle.std.proofs.Common.{◌≡◌, ℕ, ◌+◌, ◌-◌, ◌*◌, ◌<◌, true, false, nat_lt, nat_le, List, [], ◌∷◌, ◌++◌, Option, Some, None, All, refl, sym, ap, ap₂, ◌∙◌, inl, inr, arith, ltb-false, leb-false}
+use Rattle.std.proofs.Common.{◌≡◌, ℕ, ◌<◌, true, false, List, [], ◌∷◌, ◌++◌, Option, Some, None, All, refl, sym, ap, ap₂, inl, arith}
 use Rattle.std.specs.Char.{encode_utf8}
 use Rattle.std.specs.List.{AllByRecursion}
 use Rattle.std.proofs.lemmas.List.Elements.{recursion_from_All, All-nil, All-cons}
-use Rattle.std.proofs.lemmas.Bool.{and_cases, and_left, lt-leb}
-use Rattle.std.proofs.lemmas.Bool.Decides.{nat_tests}
 use Rattle.std.proofs.lemmas.Option.{none-some, same_Some}
-use Rattle.properties_format.specs.Text.{byte, scalar, replacement}
+use Rattle.properties_format.specs.Text.{byte, scalar}
 use Rattle.properties_format.specs.Pieces.{Piece, piece, characters}
-use Rattle.properties_format.specs.Windows1252.{windows_1252_character, windows_1252_byte}
-use Rattle.properties_format.specs.Utf8.{IsUtf8Piece, whole, stray, broken}
+use Rattle.properties_format.specs.Windows1252.{windows_1252_byte}
 use Rattle.properties_format.specs.Surrogates.{is_high, is_low, pair_character}
-use Rattle.properties_format.specs.Utf16.{low_first, high_first, IsUtf16Piece, pair, plain, low_alone, high_alone, high_last, byte_last, both_last}
+use Rattle.properties_format.specs.Utf16.{low_first, high_first, plain}
 use Rattle.properties_format.specs.Encoding.{Encoding, windows_1252, utf_8, utf_16le, utf_16be, output_encoding, one_byte, encoded, IsPiece, IsPieces, ascii_bytes}
 use Rattle.properties_format.specs.Computed.Encoding.{pieces_of}
 use Rattle.properties_format.proofs.Encodings.Windows1252.{windows_1252_character-byte, windows_1252-scalar, windows_1252-ascii, windows_1252_character-ascii}
 use Rattle.properties_format.proofs.Encodings.Utf8Characters.{encode-one, encode-is_sequence}
-use Rattle.properties_format.proofs.Encodings.Utf8Sequences.{sequence-scalar, sequence-ascii}
 use Rattle.properties_format.proofs.Encodings.Pieces.{pieces_of-meets, pieces_of-piece}
 
 -- ---- An encoded character is a piece of it.
@@ -30,17 +26,12 @@ windows_1252-encoded c bs y (Some b) e h =
 
 -- In UTF-8, the bytes of a scalar value are a piece of it.
 utf_8-encoded : (c : ℕ) (bs y : List ℕ) → scalar c → ◌≡◌ {A = Option (List ℕ)} (Some (encode_utf8 c)) (Some bs) → IsPiece utf_8 (piece bs c) y
-utf_8-encoded c bs y h e =
-    let s = same_Some (encode_utf8 c) bs e in
-    let k = encode-is_sequence c h in
-    rw (← s) (whole k.0 k.1)
+utf_8-encoded c bs y h e = grind (arith, encode-is_sequence)
 
 -- In the encoding that is written, the bytes of a scalar value are a piece of it, whatever follows.
 pub encoded-piece : (e : Encoding) (c : ℕ) (bs y : List ℕ) → scalar c → encoded e c ≡ Some bs → IsPiece (output_encoding e) (piece bs c) y
 encoded-piece windows_1252 c bs y h k = windows_1252-encoded c bs y (windows_1252_byte c) refl k
-encoded-piece utf_8 c bs y h k = utf_8-encoded c bs y h k
-encoded-piece utf_16le c bs y h k = utf_8-encoded c bs y h k
-encoded-piece utf_16be c bs y h k = utf_8-encoded c bs y h k
+encoded-piece e c bs y h k = utf_8-encoded c bs y h k
 
 -- Decoding inverts encoding: an encoded character at the front is its piece, whatever follows.
 pub pieces_of-encoded : (e : Encoding) (c : ℕ) (bs y : List ℕ) → scalar c → encoded e c ≡ Some bs
@@ -51,12 +42,7 @@ pieces_of-encoded e c bs y h k = pieces_of-piece (output_encoding e) (piece bs c
 
 -- A unit below 80 hexadecimal isn't a surrogate.
 not-surrogate : (u : ℕ) → u < 0x80 → (is_high u ≡ false) × (is_low u ≡ false)
-not-surrogate u h =
-    (and_left (nat_le 0xd800 u) (nat_lt u 0xdc00) (lt-leb 0xd800 u (omega arith)), and_left (nat_le 0xdc00 u) (nat_lt u 0xe000) (lt-leb 0xdc00 u (omega arith)))
-
--- A unit below 80 hexadecimal isn't a low surrogate.
-pub ascii-not_low : (u : ℕ) → u < 0x80 → is_low u ≡ false
-ascii-not_low u h = (not-surrogate u h).1
+not-surrogate u h = grind (arith)
 
 -- The bytes of an ASCII character are a piece of it, whatever follows.
 pub ascii-piece : (e : Encoding) (c : ℕ) (y : List ℕ) → c < 0x80 → IsPiece e (piece (ascii_bytes e c) c) y
@@ -75,97 +61,19 @@ ascii-piece utf_16be c y h =
 pub pieces_of-ascii : (e : Encoding) (c : ℕ) (y : List ℕ) → c < 0x80 → pieces_of e (ascii_bytes e c ++ y) ≡ piece (ascii_bytes e c) c ∷ pieces_of e y
 pieces_of-ascii e c y h = pieces_of-piece e (piece (ascii_bytes e c) c) y (ascii-piece e c y h)
 
--- In UTF-8, a piece of an ASCII character has that character's bytes.
-utf_8-ascii : (p : Piece) (rest : List ℕ) → IsUtf8Piece p rest → p.character < 0x80 → p.bytes ≡ p.character ∷ []
-utf_8-ascii p rest (whole h e) l = rw e (sequence-ascii p.bytes h (rw e at l))
-utf_8-ascii p rest (stray b e h) l = let q : p.character ≡ replacement = ap (λ v. v.character) e in absurd (omega arith)
-utf_8-ascii p rest (broken b bs e h k) l = let q : p.character ≡ replacement = ap (λ v. v.character) e in absurd (omega arith)
-
--- In UTF-16, the unit determines which bytes a piece of an ASCII character has.
-utf_16-ascii : (unit : ℕ → ℕ → ℕ) (bytes : ℕ → List ℕ) → ((a b : ℕ) → unit a b < 0x80 → a ∷ b ∷ [] ≡ bytes (unit a b))
-    → (p : Piece) (rest : List ℕ) → IsUtf16Piece unit p rest → p.character < 0x80 → p.bytes ≡ bytes p.character
-utf_16-ascii unit bytes f p rest (pair a b c d e h k) l =
-    let q : p.character ≡ 0x1_0000 + (unit a b - 0xd800) * 0x400 + (unit c d - 0xdc00) = ap (λ v. v.character) e in absurd (omega arith)
-utf_16-ascii unit bytes f p rest (plain a b e h k) l = rw e (f a b (rw e at l))
-utf_16-ascii unit bytes f p rest (low_alone a b e h) l = let q : p.character ≡ replacement = ap (λ v. v.character) e in absurd (omega arith)
-utf_16-ascii unit bytes f p rest (high_alone a b c d more e h s k) l = let q : p.character ≡ replacement = ap (λ v. v.character) e in absurd (omega arith)
-utf_16-ascii unit bytes f p rest (high_last a b e h s) l = let q : p.character ≡ replacement = ap (λ v. v.character) e in absurd (omega arith)
-utf_16-ascii unit bytes f p rest (byte_last a e s) l = let q : p.character ≡ replacement = ap (λ v. v.character) e in absurd (omega arith)
-utf_16-ascii unit bytes f p rest (both_last a b c e h s) l = let q : p.character ≡ replacement = ap (λ v. v.character) e in absurd (omega arith)
-
--- With the low byte first, a unit below 80 hexadecimal is that byte and a 0.
-low-bytes : (a b : ℕ) → low_first a b < 0x80 → a ∷ b ∷ [] ≡ low_first a b ∷ 0 ∷ []
-low-bytes a b h =
-    let e : a ≡ b * 0x100 + a = omega arith in
-    let k : b ≡ 0 = omega arith in
-    ap₂ (λ v w. v ∷ w ∷ []) e k
-
--- With the high byte first, a unit below 80 hexadecimal is a 0 and that byte.
-high-bytes : (a b : ℕ) → high_first a b < 0x80 → a ∷ b ∷ [] ≡ 0 ∷ high_first a b ∷ []
-high-bytes a b h =
-    let e : b ≡ a * 0x100 + b = omega arith in
-    let k : a ≡ 0 = omega arith in
-    ap₂ (λ v w. v ∷ w ∷ []) k e
-
 -- In each encoding, a piece of an ASCII character has that character's bytes.
 pub piece-ascii : (e : Encoding) (p : Piece) (rest : List ℕ) → IsPiece e p rest → p.character < 0x80 → p.bytes ≡ ascii_bytes e p.character
-piece-ascii windows_1252 p rest (b, e) l =
-    let q : p.character ≡ windows_1252_character b = ap (λ v. v.character) e in
-    let k : b ≡ windows_1252_character b = windows_1252-ascii b (omega arith) in
-    ap (λ v. v.bytes) e ∙ ap (λ v. v ∷ []) (k ∙ sym q)
-piece-ascii utf_8 p rest h l = utf_8-ascii p rest h l
-piece-ascii utf_16le p rest h l = utf_16-ascii low_first (λ c. c ∷ 0 ∷ []) low-bytes p rest h l
-piece-ascii utf_16be p rest h l = utf_16-ascii high_first (λ c. 0 ∷ c ∷ []) high-bytes p rest h l
+piece-ascii e p rest h k = grind (arith, windows_1252-ascii)
 
 -- ---- Each character is a scalar value.
 
--- U+FFFD is a scalar value.
-replacement-scalar : scalar replacement
-replacement-scalar = inr (omega arith, omega arith)
-
--- A unit of two bytes that isn't a surrogate is a scalar value.
-unit-scalar : (u : ℕ) → u < 0x1_0000 → is_high u ≡ false → is_low u ≡ false → scalar u
-unit-scalar u l h k = elim (and_cases (nat_le 0xd800 u) (nat_lt u 0xdc00) h) [
-  | inl a ↦ let m : u < 0xd800 = leb-false 0xd800 u a in inl m
-  | inr a ↦ elim (and_cases (nat_le 0xdc00 u) (nat_lt u 0xe000) k) [
-    | inl b ↦ absurd (let m = leb-false 0xdc00 u b in let n = ltb-false u 0xdc00 a in omega arith)
-    | inr b ↦ let n = ltb-false u 0xe000 b in inr (n, omega arith)
-  ]
-]
-
 -- The character of a high and a low surrogate is a scalar value.
 pub pair-scalar : (u v : ℕ) → is_high u ≡ true → is_low v ≡ true → scalar (pair_character u v)
-pair-scalar u v h k = grind (arith, nat_tests)
-
--- The character of a piece that equals another.
-character-at : (p : Piece) (bytes : List ℕ) (c : ℕ) → p ≡ piece bytes c → scalar c → scalar p.character
-character-at p bytes c e h = rw e h
-
--- The character of a piece of UTF-8 is a scalar value.
-utf_8-scalar : (p : Piece) (rest : List ℕ) → IsUtf8Piece p rest → scalar p.character
-utf_8-scalar p rest (whole h e) = rw e (sequence-scalar p.bytes h)
-utf_8-scalar p rest (stray b e h) = character-at p (b ∷ []) replacement e replacement-scalar
-utf_8-scalar p rest (broken b bs e h k) = character-at p (b ∷ bs) replacement e replacement-scalar
-
--- The character of a piece of UTF-16 that consists of bytes is a scalar value.
-utf_16-scalar : (unit : ℕ → ℕ → ℕ) → ((a b : ℕ) → byte a → byte b → unit a b < 0x1_0000)
-    → (p : Piece) (rest : List ℕ) → IsUtf16Piece unit p rest → AllByRecursion byte p.bytes → scalar p.character
-utf_16-scalar unit f p rest (pair a b c d e h k) l = character-at p (a ∷ b ∷ c ∷ d ∷ []) (pair_character (unit a b) (unit c d)) e (pair-scalar (unit a b) (unit c d) h k)
-utf_16-scalar unit f p rest (plain a b e h k) l =
-    let m = rw e at l in
-    character-at p (a ∷ b ∷ []) (unit a b) e (unit-scalar (unit a b) (f a b m.0 m.1.0) h k)
-utf_16-scalar unit f p rest (low_alone a b e h) l = character-at p (a ∷ b ∷ []) replacement e replacement-scalar
-utf_16-scalar unit f p rest (high_alone a b c d more e h s k) l = character-at p (a ∷ b ∷ []) replacement e replacement-scalar
-utf_16-scalar unit f p rest (high_last a b e h s) l = character-at p (a ∷ b ∷ []) replacement e replacement-scalar
-utf_16-scalar unit f p rest (byte_last a e s) l = character-at p (a ∷ []) replacement e replacement-scalar
-utf_16-scalar unit f p rest (both_last a b c e h s) l = character-at p (a ∷ b ∷ c ∷ []) replacement e replacement-scalar
+pair-scalar u v h k = grind (arith)
 
 -- In each encoding, the character of a piece that consists of bytes is a scalar value.
 pub piece-scalar : (e : Encoding) (p : Piece) (rest : List ℕ) → IsPiece e p rest → AllByRecursion byte p.bytes → scalar p.character
-piece-scalar windows_1252 p rest (b, e) l = let m = rw e at l in character-at p (b ∷ []) (windows_1252_character b) e (windows_1252-scalar b m.0)
-piece-scalar utf_8 p rest h l = utf_8-scalar p rest h
-piece-scalar utf_16le p rest h l = utf_16-scalar low_first (λ a b i j. omega arith) p rest h l
-piece-scalar utf_16be p rest h l = utf_16-scalar high_first (λ a b i j. omega arith) p rest h l
+piece-scalar e p rest h k = grind (arith, windows_1252-scalar)
 
 -- The front of a list of bytes is a list of bytes.
 front-bytes : (xs ys : List ℕ) → AllByRecursion byte (xs ++ ys) → AllByRecursion byte xs

@@ -1,11 +1,11 @@
 -- Where bytes may be cut so that their pieces are the pieces of the parts.
-use Rattle.std.proofs.Common.{◌≡◌, ℕ, ◌+◌, ◌<◌, List, [], ◌∷◌, ◌++◌, length, refl, sym, ap, ap₂, ◌∙◌, subst, arith, append_assoc, append-nil, length-append}
+use Rattle.std.proofs.Common.{◌≡◌, ℕ, ◌<◌, List, [], ◌∷◌, ◌++◌, length, refl, sym, ap, ap₂, ◌∙◌, subst, arith, append_assoc, append-nil}
 use Rattle.properties_format.specs.Pieces.{Piece, piece, characters}
 use Rattle.properties_format.specs.Encoding.{Encoding, IsPiece, IsPieces, IsAligned, ascii_bytes}
 use Rattle.properties_format.specs.Computed.Encoding.{pieces_of}
-use Rattle.properties_format.proofs.Encodings.Pieces.{piece-length, pieces_of-meets, pieces_of-only}
+use Rattle.properties_format.proofs.Encodings.Pieces.{pieces_of-meets, pieces_of-only}
 use Rattle.properties_format.proofs.Encodings.Characters.{pieces_of-ascii, piece-ascii}
-use Rattle.properties_format.proofs.Encodings.PieceEnds.{piece-more, piece-less, piece-aligned, piece-anew, aligned-nil, aligned-append, aligned-back, BeginsAnew, ascii-anew}
+use Rattle.properties_format.proofs.Encodings.PieceEnds.{piece-more, piece-less, piece-aligned, piece-anew, aligned-nil, aligned-back, BeginsAnew, ascii-anew}
 
 -- ---- Bytes added at the end.
 
@@ -17,17 +17,13 @@ LastStaysPiece e (p ∷ q ∷ ps) y = LastStaysPiece e (q ∷ ps) y
 
 -- Bytes with a piece aren't empty.
 pieces-length : (e : Encoding) (d : List ℕ) (p : Piece) (ps : List Piece) → IsPieces e d (p ∷ ps) → 0 < length d
-pieces-length e d p ps (rest, s, h, k) =
-    let l = piece-length e p rest h in
-    let m : length d ≡ length (p.bytes ++ rest) = ap length s in omega arith
+pieces-length e d p ps (rest, s, h, k) = grind (arith)
 
 -- If the last piece stays a piece before the bytes after it, the pieces of both are the pieces of the first followed by
 -- those of the second.
 pub pieces-append : (e : Encoding) (x y : List ℕ) (ps qs : List Piece) → IsPieces e x ps → LastStaysPiece e ps y → IsPieces e y qs → IsPieces e (x ++ y) (ps ++ qs)
 pieces-append e x y [] qs h l k = rw h k
-pieces-append e x y (p ∷ []) qs (rest, s, h, m) l k =
-    let t : x ≡ p.bytes = s ∙ ap (λ v. p.bytes ++ v) m ∙ append-nil p.bytes in
-    (y, ap (λ v. v ++ y) t, l, k)
+pieces-append e x y (p ∷ []) qs (rest, s, h, m) l k = grind (arith, append-nil)
 pieces-append e x y (p ∷ q ∷ ps) qs (rest, s, h, m) l k =
     (rest ++ y, ap (λ v. v ++ y) s ∙ append_assoc p.bytes rest y, piece-more e p rest y (pieces-length e rest q ps m) h, pieces-append e rest y (q ∷ ps) qs m l k)
 
@@ -39,9 +35,7 @@ pieces_of-append e x y h =
 -- A last piece stays one before bytes that begin anew.
 last-anew : (e : Encoding) (x y : List ℕ) (ps : List Piece) → BeginsAnew e y → IsAligned e x → IsPieces e x ps → LastStaysPiece e ps y
 last-anew e x y [] h a k = tt
-last-anew e x y (p ∷ []) h a (rest, s, m, t) =
-    let q : x ≡ p.bytes = s ∙ ap (λ v. p.bytes ++ v) t ∙ append-nil p.bytes in
-    piece-anew e p y h (rw q at a) (rw t at m)
+last-anew e x y (p ∷ []) h a (rest, s, m, t) = grind (arith, piece-anew)
 last-anew e x y (p ∷ q ∷ ps) h a (rest, s, m, t) =
     let b = piece-aligned e p rest (pieces-length e rest q ps t) m in
     last-anew e rest y (q ∷ ps) h (aligned-back e p.bytes rest b (rw s at a)) t
@@ -66,16 +60,7 @@ Cut e d ps qs = (x : List ℕ) × (y : List ℕ) × IsCut e d x y ps qs
 cut-more : (e : Encoding) (d rest x y : List ℕ) (p q : Piece) (ps qs : List Piece) → d ≡ p.bytes ++ rest → IsPiece e p rest → IsCut e rest x y ps (q ∷ qs)
     → IsCut e d (p.bytes ++ x) y (p ∷ ps) (q ∷ qs)
 cut-more e d rest x y p q ps qs s h c =
-    let l : 0 < length y = pieces-length e y q qs c.back in
-    let m : length rest ≡ length (x ++ y) = ap length c.joins in
-    let n : length (x ++ y) ≡ length x + length y = length-append x y in
-    let k : IsPiece e p (x ++ y) = rw c.joins at h in
-    record {
-      joins = s ∙ ap (λ v. p.bytes ++ v) c.joins ∙ sym (append_assoc p.bytes x y);
-      aligned = aligned-append e p.bytes x (piece-aligned e p rest (omega arith) h) c.aligned;
-      front = (x, refl, piece-less e p x y c.aligned k, c.front);
-      back = c.back;
-    }
+    grind (arith, append_assoc, piece-less)
 
 -- Bytes may be cut before any of their pieces.
 pub pieces-cut : (e : Encoding) (d : List ℕ) (ps : List Piece) (q : Piece) (qs : List Piece) → IsPieces e d (ps ++ q ∷ qs) → Cut e d ps (q ∷ qs)
@@ -94,14 +79,12 @@ characters-append (p ∷ ps) qs = ap (λ v. p.character ∷ v) (characters-appen
 -- The bytes of an ASCII character, at a unit's boundary, separate the pieces before them from those after them.
 pub pieces_of-cut_ascii : (e : Encoding) (c : ℕ) (x y : List ℕ) → c < 0x80 → IsAligned e x
     → pieces_of e (x ++ (ascii_bytes e c ++ y)) ≡ pieces_of e x ++ piece (ascii_bytes e c) c ∷ pieces_of e y
-pieces_of-cut_ascii e c x y h a =
-    pieces_of-anew e x (ascii_bytes e c ++ y) a (ascii-anew e c y h) ∙ ap (λ v. pieces_of e x ++ v) (pieces_of-ascii e c y h)
+pieces_of-cut_ascii e c x y h a = simp (pieces_of-anew, ascii-anew, pieces_of-ascii)
 
 -- They separate the characters before them from those after them.
 pub characters-cut_ascii : (e : Encoding) (c : ℕ) (x y : List ℕ) → c < 0x80 → IsAligned e x
     → characters (pieces_of e (x ++ (ascii_bytes e c ++ y))) ≡ characters (pieces_of e x) ++ c ∷ characters (pieces_of e y)
-characters-cut_ascii e c x y h a =
-    ap characters (pieces_of-cut_ascii e c x y h a) ∙ characters-append (pieces_of e x) (piece (ascii_bytes e c) c ∷ pieces_of e y)
+characters-cut_ascii e c x y h a = simp (pieces_of-cut_ascii, characters-append)
 
 -- the position of a character among the pieces
 abbrev Place : List Piece → List ℕ → ℕ → List ℕ → Type 0
@@ -134,18 +117,7 @@ cut-at_ascii e d t c s l h = found (place-of (pieces_of e d) t c s h)
   where
     at-cut : (x y : List ℕ) (qs : List Piece) (p : Piece) (rs : List Piece) → characters qs ≡ t → p.character ≡ c → characters rs ≡ s
         → IsCut e d x y qs (p ∷ rs) → (x : List ℕ) × (y : List ℕ) × IsCutAt e d t c s x y
-    at-cut x y qs p rs ht hc hs cut =
-        let b = cut.back in
-        let k : p.bytes ≡ ascii_bytes e c = rw hc at (piece-ascii e p b.0 b.2 (rw (← hc) at l)) in (
-          x,
-          b.0,
-          record {
-            joins = cut.joins ∙ ap (λ v. x ++ v) (b.1 ∙ ap (λ v. v ++ b.0) k);
-            aligned = cut.aligned;
-            front = ap characters (sym (pieces_of-only e x qs cut.front)) ∙ ht;
-            back = ap characters (sym (pieces_of-only e b.0 rs b.3)) ∙ hs;
-          },
-        )
+    at-cut x y qs p rs ht hc hs cut = grind (arith, piece-ascii, pieces_of-only)
 
     found : Place (pieces_of e d) t c s → (x : List ℕ) × (y : List ℕ) × IsCutAt e d t c s x y
     found m =

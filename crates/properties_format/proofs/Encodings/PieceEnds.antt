@@ -8,22 +8,17 @@ use Rattle.properties_format.specs.Utf16.{low_first, high_first, IsUtf16Piece, p
 use Rattle.properties_format.specs.Encoding.{Encoding, windows_1252, utf_8, utf_16le, utf_16be, IsPiece, IsAligned, ascii_bytes}
 use Rattle.properties_format.proofs.Encodings.Utf8Rows.{next-tail}
 use Rattle.properties_format.proofs.Encodings.Utf8Pieces.{begins-front}
-use Rattle.properties_format.proofs.Encodings.Characters.{ascii-not_low}
 
 abbrev IsEven : List ℕ → Type 0
 IsEven x = length x % 2 ≡ 0
 
 -- ---- More bytes after the piece.
 
--- A byte that breaks a sequence off does so whatever follows it.
-breaks-more : (bs : List ℕ) (b : ℕ) (rest y : List ℕ) → NextBreaks bs (b ∷ rest) → NextBreaks bs (b ∷ rest ++ y)
-breaks-more bs b rest y h = h
-
 -- In UTF-8, a piece that a byte follows stays one with more bytes after it.
 utf_8-more : (p : Piece) (b : ℕ) (rest y : List ℕ) → IsUtf8Piece p (b ∷ rest) → IsUtf8Piece p (b ∷ rest ++ y)
 utf_8-more p b rest y (whole h e) = whole h e
 utf_8-more p b rest y (stray a e h) = stray a e h
-utf_8-more p b rest y (broken a bs e h k) = broken a bs e h (breaks-more (a ∷ bs) b rest y k)
+utf_8-more p b rest y (broken a bs e h k) = broken a bs e h k
 
 -- In UTF-16, a piece that a byte follows stays one with more bytes after it.
 utf_16-more : (unit : ℕ → ℕ → ℕ) (p : Piece) (b : ℕ) (rest y : List ℕ) → IsUtf16Piece unit p (b ∷ rest) → IsUtf16Piece unit p (b ∷ rest ++ y)
@@ -47,8 +42,7 @@ piece-more utf_16be p (b ∷ rest) y l h = utf_16-more high_first p b rest y h
 
 -- Bytes that break a sequence off still do if fewer of them follow.
 breaks-less : (bs rest z : List ℕ) → NextBreaks bs (rest ++ z) → NextBreaks bs rest
-breaks-less bs [] z h = tt
-breaks-less bs (b ∷ rest) z h = h
+breaks-less bs rest z h = grind (arith)
 
 -- In UTF-8, a piece stays one if fewer bytes follow it.
 utf_8-less : (p : Piece) (rest z : List ℕ) → IsUtf8Piece p (rest ++ z) → IsUtf8Piece p rest
@@ -57,9 +51,14 @@ utf_8-less p rest z (stray a e h) = stray a e h
 utf_8-less p rest z (broken a bs e h k) = broken a bs e h (breaks-less (a ∷ bs) rest z k)
 
 -- The front of an empty list is empty.
-pub no-front : (rest z : List ℕ) → rest ++ z ≡ [] → rest ≡ []
+pub no-front : {A : Type 0} (rest z : List A) → rest ++ z ≡ [] → rest ≡ []
 no-front [] z h = refl
 no-front (b ∷ rest) z h = cc
+
+-- So is its rest.
+pub none-right : {A : Type 0} (x y : List A) → x ++ y ≡ [] → y ≡ []
+none-right [] y h = h
+none-right (c ∷ x) y h = absurd (cc)
 
 -- A high surrogate before a unit that isn't low stays unpaired if fewer units follow it.
 alone-less : (unit : ℕ → ℕ → ℕ) (a b c d : ℕ) (more rest z : List ℕ) → IsEven rest → is_high (unit a b) ≡ true → rest ++ z ≡ c ∷ d ∷ more → is_low (unit c d) ≡ false
@@ -92,50 +91,19 @@ piece-less utf_16be p rest z l h = utf_16-less high_first p rest z l h
 
 -- An empty list ends at a unit's boundary.
 pub aligned-nil : (e : Encoding) → IsAligned e []
-aligned-nil windows_1252 = tt
-aligned-nil utf_8 = tt
-aligned-nil utf_16le = refl
-aligned-nil utf_16be = refl
-
--- An even number of bytes followed by an even number is an even number of bytes.
-even-append : (x y : List ℕ) → IsEven x → IsEven y → IsEven (x ++ y)
-even-append x y h k = let l = length-append x y in omega arith
+aligned-nil e = grind (arith)
 
 -- If the whole and its first part are even in number, so is the second part.
 even-back : (x y : List ℕ) → IsEven x → IsEven (x ++ y) → IsEven y
 even-back x y h k = let l = length-append x y in omega arith
 
--- Whole units followed by whole units end at a unit's boundary.
-pub aligned-append : (e : Encoding) (x y : List ℕ) → IsAligned e x → IsAligned e y → IsAligned e (x ++ y)
-aligned-append windows_1252 x y h k = tt
-aligned-append utf_8 x y h k = tt
-aligned-append utf_16le x y h k = even-append x y h k
-aligned-append utf_16be x y h k = even-append x y h k
-
 -- If whole units come first and the whole ends at a unit's boundary, so does the second part.
 pub aligned-back : (e : Encoding) (x y : List ℕ) → IsAligned e x → IsAligned e (x ++ y) → IsAligned e y
-aligned-back windows_1252 x y h k = tt
-aligned-back utf_8 x y h k = tt
-aligned-back utf_16le x y h k = even-back x y h k
-aligned-back utf_16be x y h k = even-back x y h k
-
--- In UTF-16, a piece that a byte follows has an even number of bytes.
-utf_16-even : (unit : ℕ → ℕ → ℕ) (p : Piece) (b : ℕ) (rest : List ℕ) → IsUtf16Piece unit p (b ∷ rest) → IsEven p.bytes
-utf_16-even unit p b rest (pair a1 a2 a3 a4 e h k) = rw e refl
-utf_16-even unit p b rest (plain a1 a2 e h k) = rw e refl
-utf_16-even unit p b rest (low_alone a1 a2 e h) = rw e refl
-utf_16-even unit p b rest (high_alone a1 a2 c d more e h s k) = rw e refl
-utf_16-even unit p b rest (high_last a1 a2 e h s) = absurd (cc)
-utf_16-even unit p b rest (byte_last a1 e s) = absurd (cc)
-utf_16-even unit p b rest (both_last a1 a2 a3 e h s) = absurd (cc)
+aligned-back e x y h k = grind (arith, even-back)
 
 -- A piece that a byte follows ends at a unit's boundary.
 pub piece-aligned : (e : Encoding) (p : Piece) (rest : List ℕ) → 0 < length rest → IsPiece e p rest → IsAligned e p.bytes
-piece-aligned e p [] l h = absurd (omega arith)
-piece-aligned windows_1252 p (b ∷ rest) l h = tt
-piece-aligned utf_8 p (b ∷ rest) l h = tt
-piece-aligned utf_16le p (b ∷ rest) l h = utf_16-even low_first p b rest h
-piece-aligned utf_16be p (b ∷ rest) l h = utf_16-even high_first p b rest h
+piece-aligned e p rest h k = grind (arith)
 
 -- ---- Bytes before which any piece ends.
 
@@ -191,7 +159,4 @@ piece-anew utf_16be p y l m h = utf_16-anew high_first p y l m h
 
 -- The bytes of an ASCII character are such bytes.
 pub ascii-anew : (e : Encoding) (c : ℕ) (y : List ℕ) → c < 0x80 → BeginsAnew e (ascii_bytes e c ++ y)
-ascii-anew windows_1252 c y h = tt
-ascii-anew utf_8 c y h = λ k. omega arith
-ascii-anew utf_16le c y h = ascii-not_low (low_first c 0) (omega arith)
-ascii-anew utf_16be c y h = ascii-not_low (high_first 0 c) (omega arith)
+ascii-anew e c y h = grind (arith)

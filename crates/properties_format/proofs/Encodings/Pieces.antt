@@ -1,5 +1,5 @@
 -- The pieces of some bytes are the computed ones, and no others.
-use Rattle.std.proofs.Common.{◌≡◌, ℕ, zero, suc, ◌+◌, ◌<◌, ◌≤◌, List, [], ◌∷◌, ◌++◌, length, drop, refl, sym, ap, ◌∙◌, arith, length-append}
+use Rattle.std.proofs.Common.{◌≡◌, ℕ, zero, suc, ◌<◌, ◌≤◌, List, [], ◌∷◌, ◌++◌, length, drop, refl, sym, ap, ◌∙◌, arith, length-append}
 use Rattle.std.proofs.Math.Seq.{drop-append_seam}
 use Rattle.properties_format.specs.Pieces.{Piece, characters}
 use Rattle.properties_format.specs.Utf16.{low_first, high_first}
@@ -29,29 +29,16 @@ piece-read utf_16be p rest h = utf_16-read high_first p rest h
 
 -- The computed pieces are a piece followed by those of the rest.
 read-piece : (e : Encoding) (n : ℕ) (p : Piece) (rest : List ℕ) → IsPiece e p rest → pieces_within e (suc n) (p.bytes ++ rest) ≡ p ∷ pieces_within e n rest
-read-piece e n p rest h =
-    let r = piece-read e p rest h in
-    let s : p.bytes ++ rest ≡ r.byte ∷ r.others ++ rest = ap (λ v. v ++ rest) r.bytes in
-    ap (λ v. pieces_within e (suc n) v) s
-    ∙ ap (λ v. v ∷ pieces_within e n (drop (length v.bytes) (r.byte ∷ r.others ++ rest))) r.reads
-    ∙ ap (λ v. p ∷ pieces_within e n (drop (length p.bytes) v)) (sym s)
-    ∙ ap (λ v. p ∷ pieces_within e n v) (drop-append_seam p.bytes rest)
+read-piece e n p rest h = grind (arith, piece-read, drop-append_seam)
 
 -- A piece isn't empty.
 pub piece-length : (e : Encoding) (p : Piece) (rest : List ℕ) → IsPiece e p rest → length rest < length (p.bytes ++ rest)
-piece-length e p rest h =
-    let r = piece-read e p rest h in
-    let l : length (p.bytes ++ rest) ≡ length (r.byte ∷ r.others ++ rest) = ap (λ v. length (v ++ rest)) r.bytes in
-    let m : length (r.others ++ rest) ≡ length r.others + length rest = length-append r.others rest in
-    omega arith
+piece-length e p rest h = grind (arith, length-append)
 
 -- The pieces of at most n bytes are the computed ones, limited to n.
 within-only : (e : Encoding) (n : ℕ) (d : List ℕ) (ps : List Piece) → length d ≤ n → IsPieces e d ps → pieces_within e n d ≡ ps
 within-only e n d [] l h = ap (pieces_within e n) h
-within-only e zero d (p ∷ ps) l (rest, s, h, k) =
-    let m = piece-length e p rest h in
-    let q : length d ≡ length (p.bytes ++ rest) = ap length s in
-    absurd (omega arith)
+within-only e zero d (p ∷ ps) l (rest, s, h, k) = grind (arith)
 within-only e (suc n) d (p ∷ ps) l (rest, s, h, k) =
     let m = piece-length e p rest h in
     let q : length d ≡ length (p.bytes ++ rest) = ap length s in

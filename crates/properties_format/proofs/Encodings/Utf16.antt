@@ -1,5 +1,5 @@
 -- The first piece of UTF-16 is the computed one, and no other.
-use Rattle.std.proofs.Common.{◌≡◌, ℕ, true, false, nat_le, nat_lt, List, [], ◌∷◌, refl, ap, ◌∙◌, inl, inr}
+use Rattle.std.proofs.Common.{◌≡◌, ℕ, true, false, nat_le, nat_lt, List, [], ◌∷◌, refl, ◌∙◌, inl, inr}
 use Rattle.std.proofs.lemmas.Bool.{cond-true, cond-false, cases_Bool, and_parts, leb-true, le-ltb, and_right}
 use Rattle.properties_format.specs.Text.{replacement}
 use Rattle.properties_format.specs.Pieces.{Piece, piece}
@@ -21,14 +21,10 @@ module _ (unit : ℕ → ℕ → ℕ) where
   read-high a b d h = cond-true (is_high (unit a b)) (high_piece unit a b d) _ h
 
   read-low : (a b : ℕ) (d : List ℕ) → is_low (unit a b) ≡ true → first_utf_16_piece unit a (b ∷ d) ≡ piece (a ∷ b ∷ []) replacement
-  read-low a b d h =
-      cond-false (is_high (unit a b)) (high_piece unit a b d) _ (low-not_high (unit a b) h)
-      ∙ ap (λ v. piece (a ∷ b ∷ []) v) (cond-true (is_low (unit a b)) replacement (unit a b) h)
+  read-low a b d h = simp (cond-false, low-not_high, cond-true)
 
   read-plain : (a b : ℕ) (d : List ℕ) → is_high (unit a b) ≡ false → is_low (unit a b) ≡ false → first_utf_16_piece unit a (b ∷ d) ≡ piece (a ∷ b ∷ []) (unit a b)
-  read-plain a b d h k =
-      cond-false (is_high (unit a b)) (high_piece unit a b d) _ h
-      ∙ ap (λ v. piece (a ∷ b ∷ []) v) (cond-false (is_low (unit a b)) replacement (unit a b) k)
+  read-plain a b d h k = simp cond-false
 
   read-pair : (a b c d : ℕ) (more : List ℕ) → is_low (unit c d) ≡ true
       → high_piece unit a b (c ∷ d ∷ more) ≡ piece (a ∷ b ∷ c ∷ d ∷ []) (pair_character (unit a b) (unit c d))

@@ -1,6 +1,6 @@
 -- The characters of UTF-8 sequences.
-use Rattle.std.proofs.Common.{◌≡◌, ℕ, ◌+◌, ◌*◌, ◌/◌, ◌%◌, ◌^◌, ◌<◌, ◌≤◌, ◌⊎◌, nat_lt, List, [], ◌∷◌, ◌∙◌, inl, inr, arith, lt-ltb}
-use Rattle.std.proofs.lemmas.Bool.{cond-true, cond-false, cases_lt, le-ltb}
+use Rattle.std.proofs.Common.{◌≡◌, ℕ, ◌+◌, ◌/◌, ◌%◌, ◌<◌, ◌≤◌, ◌⊎◌, nat_lt, List, [], ◌∷◌, ◌∙◌, arith, lt-ltb}
+use Rattle.std.proofs.lemmas.Bool.{cond-true, cond-false, le-ltb}
 use Rattle.std.specs.Char.{encode_utf8}
 use Rattle.properties_format.specs.Text.{scalar}
 use Rattle.properties_format.specs.Utf8.{tail, IsIn, IsWellFormed, sequence_character}
@@ -23,18 +23,12 @@ encode-two c l h = cond-false (nat_lt c 0x80) _ _ (le-ltb c 0x80 l) ∙ cond-tru
 -- From U+0800 to U+FFFF, it is encoded as three bytes.
 pub encode-three : (c : ℕ) → 0x800 ≤ c → c < 0x1_0000 → encode_utf8 c ≡ (224 + c / 4096) ∷ next (c / 64) ∷ next c ∷ []
 unfolding encode_utf8
-encode-three c l h =
-    cond-false (nat_lt c 0x80) _ _ (le-ltb c 0x80 (omega arith))
-    ∙ cond-false (nat_lt c 0x800) _ _ (le-ltb c 0x800 l)
-    ∙ cond-true (nat_lt c 0x1_0000) _ _ (lt-ltb c 0x1_0000 h)
+encode-three c l h = grind (arith)
 
 -- From U+10000 on, it is encoded as four bytes.
 pub encode-four : (c : ℕ) → 0x1_0000 ≤ c → encode_utf8 c ≡ (240 + c / 262144) ∷ next (c / 4096) ∷ next (c / 64) ∷ next c ∷ []
 unfolding encode_utf8
-encode-four c l =
-    cond-false (nat_lt c 0x80) _ _ (le-ltb c 0x80 (omega arith))
-    ∙ cond-false (nat_lt c 0x800) _ _ (le-ltb c 0x800 (omega arith))
-    ∙ cond-false (nat_lt c 0x1_0000) _ _ (le-ltb c 0x1_0000 l)
+encode-four c l = grind (arith)
 
 -- the bytes are a well-formed sequence with this character
 abbrev pub IsSequenceOf : List ℕ → ℕ → Type 0
@@ -44,69 +38,16 @@ IsSequenceOf bs c = IsWellFormed bs × (c ≡ sequence_character bs)
 next-in : (c : ℕ) → IsIn tail (next c)
 next-in c = (omega arith, omega arith)
 
--- A byte below 80 hexadecimal is the sequence of the character with its number.
-is_sequence-one : (c : ℕ) → c < 0x80 → IsSequenceOf (c ∷ []) c
-is_sequence-one c h = (inl ((omega arith, omega arith), tt), omega arith)
-
--- The two bytes of a character below U+0800 decode to it.
-two-character : (c : ℕ) → c < 0x800 → c ≡ (192 + c / 64) % 2 ^ 5 * 2 ^ 6 + next c % 2 ^ 6
-two-character c h = omega arith
-
--- From U+0080 on, these two bytes are the character's sequence.
-is_sequence-two : (c : ℕ) → 0x80 ≤ c → c < 0x800 → IsSequenceOf ((192 + c / 64) ∷ next c ∷ []) c
-is_sequence-two c l h = (inr (inl ((omega arith, omega arith), (next-in c, tt))), two-character c h)
-
--- The three bytes of a character below U+10000 decode to it.
-three-character : (c : ℕ) → c < 0x1_0000 → c ≡ ((224 + c / 4096) % 2 ^ 4 * 2 ^ 6 + next (c / 64) % 2 ^ 6) * 2 ^ 6 + next c % 2 ^ 6
-three-character c h = omega arith
-
--- The four bytes of any character decode to it.
-four-character : (c : ℕ) → c < 0x11_0000
-    → c ≡ (((240 + c / 262144) % 2 ^ 3 * 2 ^ 6 + next (c / 4096) % 2 ^ 6) * 2 ^ 6 + next (c / 64) % 2 ^ 6) * 2 ^ 6 + next c % 2 ^ 6
-four-character c h = omega arith
-
--- The three bytes of a scalar value from U+0800 to U+FFFF are well-formed.
-three-fits : (c : ℕ) → 0x800 ≤ c → c < 0xd800 ⊎ ((0xe000 ≤ c) × (c < 0x1_0000)) → IsWellFormed ((224 + c / 4096) ∷ next (c / 64) ∷ next c ∷ [])
-three-fits c l (inr h) = inr (inr (inr (inr (inr (inl ((omega arith, omega arith), (next-in (c / 64), (next-in c, tt))))))))
-three-fits c l (inl h) = elim (cases_lt c 0x1000) [
-  | inl k ↦ inr (inr (inl ((omega arith, omega arith), ((omega arith, omega arith), (next-in c, tt)))))
-  | inr k ↦ elim (cases_lt c 0xd000) [
-    | inl m ↦ inr (inr (inr (inl ((omega arith, omega arith), (next-in (c / 64), (next-in c, tt))))))
-    | inr m ↦ inr (inr (inr (inr (inl ((omega arith, omega arith), ((omega arith, omega arith), (next-in c, tt)))))))
-  ]
-]
-
--- The four bytes of a scalar value from U+10000 on are well-formed.
-four-fits : (c : ℕ) → 0x1_0000 ≤ c → c < 0x11_0000 → IsWellFormed ((240 + c / 262144) ∷ next (c / 4096) ∷ next (c / 64) ∷ next c ∷ [])
-four-fits c l h = elim (cases_lt c 0x4_0000) [
-  | inl k ↦ inr (inr (inr (inr (inr (inr (inl ((omega arith, omega arith), ((omega arith, omega arith), (next-in (c / 64), (next-in c, tt))))))))))
-  | inr k ↦ elim (cases_lt c 0x10_0000) [
-    | inl m ↦ inr (inr (inr (inr (inr (inr (inr (inl ((omega arith, omega arith), (next-in (c / 4096), (next-in (c / 64), (next-in c, tt)))))))))))
-    | inr m ↦ inr (inr (inr (inr (inr (inr (inr (inr (inl ((omega arith, omega arith), ((omega arith, omega arith), (next-in (c / 64), (next-in c, tt))))))))))))
-  ]
-]
-
 -- From U+0800 on, the bytes of a scalar value are its sequence.
 is_sequence-long : (c : ℕ) → 0x800 ≤ c → scalar c → IsSequenceOf (encode_utf8 c) c
-is_sequence-long c l h = elim (cases_lt c 0x1_0000) [
-  | inl k ↦ rw (encode-three c l k) (three-fits c l (low k h), three-character c k)
-  | inr k ↦ rw (encode-four c k) (four-fits c k (high h), four-character c (high h))
-]
+is_sequence-long c l h = grind (arith, encode-three, encode-four)
   where
     low : c < 0x1_0000 → scalar c → c < 0xd800 ⊎ ((0xe000 ≤ c) × (c < 0x1_0000))
-    low k (inl m) = inl m
-    low k (inr m) = inr (m.0, k)
+    low h k = grind (arith)
 
     high : scalar c → c < 0x11_0000
-    high (inl m) = omega arith
-    high (inr m) = m.1
+    high h = grind (arith)
 
 -- The bytes of a character are its sequence.
 pub encode-is_sequence : (c : ℕ) → scalar c → IsSequenceOf (encode_utf8 c) c
-encode-is_sequence c h = elim (cases_lt c 0x80) [
-  | inl k ↦ rw (encode-one c k) (is_sequence-one c k)
-  | inr k ↦ elim (cases_lt c 0x800) [
-    | inl m ↦ rw (encode-two c k m) (is_sequence-two c k m)
-    | inr m ↦ is_sequence-long c m h
-  ]
-]
+encode-is_sequence c h = grind (arith, encode-one, encode-two, next-in, is_sequence-long)

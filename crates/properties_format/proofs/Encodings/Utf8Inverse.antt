@@ -1,24 +1,11 @@
 -- A character has exactly one well-formed sequence: its encoding.
-use Rattle.std.proofs.Common.{◌≡◌, ℕ, ◌+◌, ◌/◌, ◌%◌, ◌^◌, ◌≤◌, List, [], ◌∷◌, ap, ◌∙◌, inl, inr, arith}
+use Rattle.std.proofs.Common.{◌≡◌, ℕ, ◌%◌, ◌^◌, ◌≤◌, List, [], ◌∷◌, ap, ◌∙◌, arith}
 use Rattle.std.specs.Char.{encode_utf8}
-use Rattle.properties_format.specs.Utf8.{from_to, tail, IsIn, IsWellFormed, sequence_character}
-use Rattle.properties_format.proofs.Encodings.Utf8Characters.{next, encode-one, encode-two, encode-three, encode-four}
-use Rattle.properties_format.proofs.Encodings.Utf8Sequences.{in-one, in-two, in-three, in-four}
+use Rattle.properties_format.specs.Utf8.{tail, IsIn, IsWellFormed, sequence_character}
+use Rattle.properties_format.proofs.Encodings.Utf8Characters.{encode-one, encode-two, encode-three, encode-four}
 
 abbrev Inverts : List ℕ → Type 0
 Inverts bs = encode_utf8 (sequence_character bs) ≡ bs
-
--- Two lists of two bytes are equal if their bytes are equal.
-two-bytes : (a b c d : ℕ) → a ≡ c → b ≡ d → a ∷ b ∷ [] ≡ c ∷ d ∷ []
-two-bytes a b c d e f = cc
-
--- Two lists of three bytes are equal if their bytes are equal.
-three-bytes : (a b c d e f : ℕ) → a ≡ d → b ≡ e → c ≡ f → a ∷ b ∷ c ∷ [] ≡ d ∷ e ∷ f ∷ []
-three-bytes a b c d e f h k l = cc
-
--- Two lists of four bytes are equal if their bytes are equal.
-four-bytes : (a b c d e f g h : ℕ) → a ≡ e → b ≡ f → c ≡ g → d ≡ h → a ∷ b ∷ c ∷ d ∷ [] ≡ e ∷ f ∷ g ∷ h ∷ []
-four-bytes a b c d e f g h i j k l = cc
 
 -- Encoding the character of a one-byte sequence gives the sequence back.
 invert-one : (a : ℕ) → a ≤ 0x7f → Inverts (a ∷ [])
@@ -26,38 +13,16 @@ invert-one a h = let e : a % 2 ^ 7 ≡ a = omega arith in encode-one (a % 2 ^ 7)
 
 -- Encoding the character of a two-byte sequence gives the sequence back.
 invert-two : (a b : ℕ) → 0xc2 ≤ a → a ≤ 0xdf → IsIn tail b → Inverts (a ∷ b ∷ [])
-invert-two a b h k l =
-    let c : ℕ = sequence_character (a ∷ b ∷ []) in
-    encode-two c (omega arith) (omega arith) ∙ two-bytes (192 + c / 64) (next c) a b (omega arith) (omega arith)
+invert-two a b h k l = grind (arith, encode-two)
 
 -- Encoding the character of a three-byte sequence gives the sequence back, if the character is U+0800 or above.
 invert-three : (a b c : ℕ) → 0xe0 ≤ a → a ≤ 0xef → IsIn tail b → IsIn tail c → 0x800 ≤ sequence_character (a ∷ b ∷ c ∷ []) → Inverts (a ∷ b ∷ c ∷ [])
-invert-three a b c h k l m n =
-    let u : ℕ = sequence_character (a ∷ b ∷ c ∷ []) in
-    encode-three u n (omega arith) ∙ three-bytes (224 + u / 4096) (next (u / 64)) (next u) a b c (omega arith) (omega arith) (omega arith)
+invert-three a b c h k l m n = grind (arith, encode-three)
 
 -- Encoding the character of a four-byte sequence gives the sequence back, if the character is U+10000 or above.
 invert-four : (a b c d : ℕ) → 0xf0 ≤ a → a ≤ 0xf4 → IsIn tail b → IsIn tail c → IsIn tail d → 0x1_0000 ≤ sequence_character (a ∷ b ∷ c ∷ d ∷ []) → Inverts (a ∷ b ∷ c ∷ d ∷ [])
-invert-four a b c d h k l m n o =
-    let u : ℕ = sequence_character (a ∷ b ∷ c ∷ d ∷ []) in
-    encode-four u o ∙ four-bytes (240 + u / 262144) (next (u / 4096)) (next (u / 64)) (next u) a b c d (omega arith) (omega arith) (omega arith) (omega arith)
+invert-four a b c d h k l m n o = grind (arith, encode-four)
 
 -- Encoding the character of a sequence gives the sequence back.
 pub encode-sequence : (bs : List ℕ) → IsWellFormed bs → encode_utf8 (sequence_character bs) ≡ bs
-encode-sequence bs (inl h) = in-one Inverts (from_to 0x00 0x7f) (λ a i. invert-one a i.1) bs h
-encode-sequence bs (inr (inl h)) = in-two Inverts (from_to 0xc2 0xdf) tail (λ a b i j. invert-two a b i.0 i.1 j) bs h
-encode-sequence bs (inr (inr (inl h))) =
-    in-three Inverts (from_to 0xe0 0xe0) (from_to 0xa0 0xbf) tail (λ a b c i j k. invert-three a b c (omega arith) (omega arith) (omega arith, omega arith) k (omega arith)) bs h
-encode-sequence bs (inr (inr (inr (inl h)))) =
-    in-three Inverts (from_to 0xe1 0xec) tail tail (λ a b c i j k. invert-three a b c (omega arith) (omega arith) j k (omega arith)) bs h
-encode-sequence bs (inr (inr (inr (inr (inl h))))) =
-    in-three Inverts (from_to 0xed 0xed) (from_to 0x80 0x9f) tail (λ a b c i j k. invert-three a b c (omega arith) (omega arith) (omega arith, omega arith) k (omega arith)) bs h
-encode-sequence bs (inr (inr (inr (inr (inr (inl h)))))) =
-    in-three Inverts (from_to 0xee 0xef) tail tail (λ a b c i j k. invert-three a b c (omega arith) (omega arith) j k (omega arith)) bs h
-encode-sequence bs (inr (inr (inr (inr (inr (inr (inl h))))))) =
-    in-four Inverts (from_to 0xf0 0xf0) (from_to 0x90 0xbf) tail tail (λ a b c d i j k l. invert-four a b c d (omega arith) (omega arith) (omega arith, omega arith) k l (omega arith)) bs h
-encode-sequence bs (inr (inr (inr (inr (inr (inr (inr (inl h)))))))) =
-    in-four Inverts (from_to 0xf1 0xf3) tail tail tail (λ a b c d i j k l. invert-four a b c d (omega arith) (omega arith) j k l (omega arith)) bs h
-encode-sequence bs (inr (inr (inr (inr (inr (inr (inr (inr (inl h))))))))) =
-    in-four Inverts (from_to 0xf4 0xf4) (from_to 0x80 0x8f) tail tail (λ a b c d i j k l. invert-four a b c d (omega arith) (omega arith) (omega arith, omega arith) k l (omega arith)) bs h
-encode-sequence bs (inr (inr (inr (inr (inr (inr (inr (inr (inr h))))))))) = absurd h
+encode-sequence bs h = grind (arith, invert-one, invert-two, invert-three, invert-four)

@@ -19,10 +19,7 @@ begins-front b bs h =
 
 -- Bytes that fit the front of that row begin a sequence.
 pub front-begins : (b : ℕ) (bs : List ℕ) (rs : List Range) → ranges_after well_formed_rows b ≡ Some rs → FitsFront rs bs → Begins (b ∷ bs)
-front-begins b bs rs e h =
-    let r = row-sequence b rs e in
-    let m = row-of_front rs bs r.0 h in
-    (m.0, r.1 (bs ++ m.0) m.1)
+front-begins b bs rs e h = grind (arith, row-sequence, row-of_front)
 
 -- If the row is known, bytes that begin a sequence fit the front of that row.
 front-of-begins : (b : ℕ) (bs : List ℕ) (rs : List Range) → ranges_after well_formed_rows b ≡ Some rs → Begins (b ∷ bs) → FitsFront rs bs
@@ -35,13 +32,11 @@ front-of-begins b bs rs e h =
 
 -- If the next byte doesn't fit the row, it breaks the sequence off.
 breaks-next : (b : ℕ) (bs rest : List ℕ) (rs : List Range) → ranges_after well_formed_rows b ≡ Some rs → Breaks rs bs rest → NextBreaks (b ∷ bs) rest
-breaks-next b bs [] rs e h = tt
-breaks-next b bs (next ∷ rest) rs e h = λ k. h (front-of-begins b (bs ++ next ∷ []) rs e k)
+breaks-next b bs rest rs h k = grind (arith, front-of-begins)
 
 -- If the next byte breaks the sequence off, it doesn't fit the row.
 next-breaks : (b : ℕ) (bs rest : List ℕ) (rs : List Range) → ranges_after well_formed_rows b ≡ Some rs → NextBreaks (b ∷ bs) rest → Breaks rs bs rest
-next-breaks b bs [] rs e h = tt
-next-breaks b bs (next ∷ rest) rs e h = λ k. h (front-begins b (bs ++ next ∷ []) rs e k)
+next-breaks b bs rest rs h k = grind (arith, front-begins)
 
 -- A byte with a row, with the bytes after it that fit, is a piece at the front.
 fitted-meets : (b : ℕ) (d bs : List ℕ) (rs : List Range) → ranges_after well_formed_rows b ≡ Some rs → Fitted rs d bs → Meets IsUtf8Piece (utf_8_piece b bs (length rs)) (b ∷ d)

@@ -43,9 +43,8 @@ front-of_row (r ∷ rs) (b ∷ bs) more h = (h.0, front-of_row rs bs more h.1)
 -- Bytes that fit a row are as many as its ranges.
 pub length-row : (rs : List Range) (bs : List ℕ) → FitsRow rs bs → length bs ≡ length rs
 length-row [] [] h = refl
-length-row [] (b ∷ bs) h = absurd h
-length-row (r ∷ rs) [] h = absurd h
 length-row (r ∷ rs) (b ∷ bs) h = ap suc (length-row rs bs h.1)
+length-row rs bs h = absurd h
 
 -- Bytes that fit a row together with more bytes are fewer than its ranges.
 pub shorter-than_row : (rs : List Range) (bs : List ℕ) (next : ℕ) (more : List ℕ) → FitsRow rs (bs ++ next ∷ more) → length bs < length rs
@@ -88,20 +87,17 @@ longer-of_front (r ∷ rs) (b ∷ bs) filled h short =
 -- Bytes that fit the row are the longest front that fits, whatever follows.
 pub fitting-row : (rs : List Range) (bs rest : List ℕ) → FitsRow rs bs → fitting rs (bs ++ rest) ≡ bs
 fitting-row [] [] rest h = refl
-fitting-row [] (b ∷ bs) rest h = absurd h
-fitting-row (r ∷ rs) [] rest h = absurd h
 fitting-row (r ∷ rs) (b ∷ bs) rest h = rw (is_in-true r b h.0) (ap (λ v. b ∷ v) (fitting-row rs bs rest h.1))
+fitting-row rs bs rest h = absurd h
 
 -- If the first byte doesn't fit, the longest front that fits is empty.
 fitting-none : (rs : List Range) (rest : List ℕ) → Breaks rs [] rest → fitting rs rest ≡ []
-fitting-none [] rest h = refl
-fitting-none (r ∷ rs) [] h = refl
 fitting-none (r ∷ rs) (b ∷ rest) h = cond-false (is_in r b) (b ∷ fitting rs rest) [] (is_in-false r b (λ k. h (k, tt)))
+fitting-none rs rest h = refl
 
 -- If the next byte doesn't fit after some bytes, it doesn't fit after them without the first byte and its range.
 breaks-tail : (r : Range) (rs : List Range) (b : ℕ) (bs rest : List ℕ) → IsIn r b → Breaks (r ∷ rs) (b ∷ bs) rest → Breaks rs bs rest
-breaks-tail r rs b bs [] h k = tt
-breaks-tail r rs b bs (next ∷ rest) h k = λ m. k (h, m)
+breaks-tail r rs b bs rest h k = grind (arith)
 
 -- Bytes that fit a beginning, before a byte that doesn't fit, are the longest front that fits.
 pub fitting-broken : (rs : List Range) (bs rest : List ℕ) → FitsFront rs bs → Breaks rs bs rest → fitting rs (bs ++ rest) ≡ bs
@@ -120,8 +116,7 @@ fitted-more r rs b d bs h (rest, e, inl k) = (rest, ap (λ v. b ∷ v) e, inl (h
 fitted-more r rs b d bs h (rest, e, inr k) = (rest, ap (λ v. b ∷ v) e, inr (omega arith, (h, k.1), breaks-on rest k.2))
   where
     breaks-on : (rest : List ℕ) → Breaks rs bs rest → Breaks (r ∷ rs) (b ∷ bs) rest
-    breaks-on [] m = tt
-    breaks-on (next ∷ rest) m = λ q. m q.1
+    breaks-on rest h = grind (arith)
 
 -- The computed bytes are the ones that fit.
 pub fitting-fits : (rs : List Range) (d : List ℕ) → Fitted rs d (fitting rs d)
@@ -148,11 +143,7 @@ record Ascending (low : ℕ) (r : Range) (rs : List Range) (more : List (List Ra
 
 -- The test of all rows, divided into the first row and the others.
 ascending-parts : (low : ℕ) (r : Range) (rs : List Range) (more : List (List Range)) → are_ascending low ((r ∷ rs) ∷ more) ≡ true → Ascending low r rs more
-ascending-parts low r rs more h =
-    let k = and_parts (nat_le low r.least && nat_le r.least r.most) (are_filled rs && are_ascending (suc r.most) more) h in
-    let l = and_parts (nat_le low r.least) (nat_le r.least r.most) k.0 in
-    let m = and_parts (are_filled rs) (are_ascending (suc r.most) more) k.1 in
-    record { low_least = leb-true low r.least l.0; least_most = leb-true r.least r.most l.1; filled = m.0; others = m.1 }
+ascending-parts low r rs more h = grind (arith)
 
 -- No sequence begins with a byte below those of the rows.
 above : (low : ℕ) (table : List (List Range)) (b : ℕ) (bs : List ℕ) → are_ascending low table ≡ true → FitsSome table (b ∷ bs) → low ≤ b
@@ -237,11 +228,7 @@ are_tails (r ∷ rs) = (nat_le 0x80 r.least && nat_le r.most 0xbf) && are_tails 
 front-tail : (rs : List Range) (bs : List ℕ) (c : ℕ) → are_tails rs ≡ true → FitsFront rs (bs ++ c ∷ []) → IsIn tail c
 front-tail [] [] c t h = absurd h
 front-tail [] (b ∷ bs) c t h = absurd h
-front-tail (r ∷ rs) [] c t h =
-    let k = and_parts (nat_le 0x80 r.least) (nat_le r.most 0xbf) (and_parts (nat_le 0x80 r.least && nat_le r.most 0xbf) (are_tails rs) t).0 in
-    let l = leb-true 0x80 r.least k.0 in
-    let m = leb-true r.most 0xbf k.1 in
-    (omega arith, omega arith)
+front-tail (r ∷ rs) [] c t h = grind (arith)
 front-tail (r ∷ rs) (b ∷ bs) c t h = front-tail rs bs c (and_parts (nat_le 0x80 r.least && nat_le r.most 0xbf) (are_tails rs) t).1 h.1
 
 -- A byte after the first is a tail byte.

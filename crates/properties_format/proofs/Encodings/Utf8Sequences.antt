@@ -1,34 +1,7 @@
 -- The characters of the sequences of each row: scalar values. Only the first row has those of ASCII.
-use Rattle.std.proofs.Common.{◌≡◌, ℕ, ◌%◌, ◌^◌, ◌<◌, ◌≤◌, List, [], ◌∷◌, ap, inl, inr, arith}
+use Rattle.std.proofs.Common.{◌≡◌, ℕ, ◌%◌, ◌^◌, ◌<◌, ◌≤◌, List, [], ◌∷◌, ap, inl, arith}
 use Rattle.properties_format.specs.Text.{scalar}
-use Rattle.properties_format.specs.Utf8.{Range, from_to, tail, IsIn, FitsRow, IsWellFormed, sequence_character}
-
--- ---- A fact about the bytes of a row, from a fact about each of them.
-
--- For one byte.
-pub in-one : (P : List ℕ → Type 0) (r : Range) → ((a : ℕ) → IsIn r a → P (a ∷ [])) → (bs : List ℕ) → FitsRow (r ∷ []) bs → P bs
-in-one P r f [] h = absurd h
-in-one P r f (a ∷ []) h = f a h.0
-in-one P r f (a ∷ b ∷ bs) h = absurd h.1
-
--- For a first byte and those after it.
-in-more : (P : List ℕ → Type 0) (r : Range) (rs : List Range) → ((a : ℕ) (bs : List ℕ) → IsIn r a → FitsRow rs bs → P (a ∷ bs)) → (bs : List ℕ) → FitsRow (r ∷ rs) bs → P bs
-in-more P r rs f [] h = absurd h
-in-more P r rs f (a ∷ bs) h = f a bs h.0 h.1
-
--- For two bytes.
-pub in-two : (P : List ℕ → Type 0) (r s : Range) → ((a b : ℕ) → IsIn r a → IsIn s b → P (a ∷ b ∷ [])) → (bs : List ℕ) → FitsRow (r ∷ s ∷ []) bs → P bs
-in-two P r s f = in-more P r (s ∷ []) (λ a bs h. in-one (λ v. P (a ∷ v)) s (λ b k. f a b h k) bs)
-
--- For three bytes.
-pub in-three : (P : List ℕ → Type 0) (r s t : Range) → ((a b c : ℕ) → IsIn r a → IsIn s b → IsIn t c → P (a ∷ b ∷ c ∷ []))
-    → (bs : List ℕ) → FitsRow (r ∷ s ∷ t ∷ []) bs → P bs
-in-three P r s t f = in-more P r (s ∷ t ∷ []) (λ a bs h. in-two (λ v. P (a ∷ v)) s t (λ b c k l. f a b c h k l) bs)
-
--- For four bytes.
-pub in-four : (P : List ℕ → Type 0) (r s t u : Range) → ((a b c d : ℕ) → IsIn r a → IsIn s b → IsIn t c → IsIn u d → P (a ∷ b ∷ c ∷ d ∷ []))
-    → (bs : List ℕ) → FitsRow (r ∷ s ∷ t ∷ u ∷ []) bs → P bs
-in-four P r s t u f = in-more P r (s ∷ t ∷ u ∷ []) (λ a bs h. in-three (λ v. P (a ∷ v)) s t u (λ b c d k l m. f a b c d h k l m) bs)
+use Rattle.properties_format.specs.Utf8.{IsWellFormed, sequence_character}
 
 -- ---- The character of a sequence is a scalar value.
 
@@ -43,39 +16,10 @@ Fine bs = scalar (sequence_character bs) × IsAsciiAlone bs
 ascii-fine : (a : ℕ) → a ≤ 0x7f → Fine (a ∷ [])
 ascii-fine a h = let e : a ≡ a % 2 ^ 7 = omega arith in (inl (omega arith), λ k. ap (λ v. v ∷ []) e)
 
--- This holds for bytes whose character is from U+0080 to U+D7FF.
-low-fine : (bs : List ℕ) → 0x80 ≤ sequence_character bs → sequence_character bs < 0xd800 → Fine bs
-low-fine bs h k = (inl k, λ l. absurd (omega arith))
-
--- This holds for bytes whose character is from U+E000 to U+10FFFF.
-high-fine : (bs : List ℕ) → 0xe000 ≤ sequence_character bs → sequence_character bs < 0x11_0000 → Fine bs
-high-fine bs h k = (inr (h, k), λ l. absurd (omega arith))
-
 -- This holds for every well-formed sequence.
 row-fine : (bs : List ℕ) → IsWellFormed bs → Fine bs
-row-fine bs (inl h) = in-one Fine (from_to 0x00 0x7f) (λ a i. ascii-fine a i.1) bs h
-row-fine bs (inr (inl h)) =
-    in-two Fine (from_to 0xc2 0xdf) tail (λ a b i j. low-fine (a ∷ b ∷ []) (omega arith) (omega arith)) bs h
-row-fine bs (inr (inr (inl h))) =
-    in-three Fine (from_to 0xe0 0xe0) (from_to 0xa0 0xbf) tail (λ a b c i j k. low-fine (a ∷ b ∷ c ∷ []) (omega arith) (omega arith)) bs h
-row-fine bs (inr (inr (inr (inl h)))) =
-    in-three Fine (from_to 0xe1 0xec) tail tail (λ a b c i j k. low-fine (a ∷ b ∷ c ∷ []) (omega arith) (omega arith)) bs h
-row-fine bs (inr (inr (inr (inr (inl h))))) =
-    in-three Fine (from_to 0xed 0xed) (from_to 0x80 0x9f) tail (λ a b c i j k. low-fine (a ∷ b ∷ c ∷ []) (omega arith) (omega arith)) bs h
-row-fine bs (inr (inr (inr (inr (inr (inl h)))))) =
-    in-three Fine (from_to 0xee 0xef) tail tail (λ a b c i j k. high-fine (a ∷ b ∷ c ∷ []) (omega arith) (omega arith)) bs h
-row-fine bs (inr (inr (inr (inr (inr (inr (inl h))))))) =
-    in-four Fine (from_to 0xf0 0xf0) (from_to 0x90 0xbf) tail tail (λ a b c d i j k l. high-fine (a ∷ b ∷ c ∷ d ∷ []) (omega arith) (omega arith)) bs h
-row-fine bs (inr (inr (inr (inr (inr (inr (inr (inl h)))))))) =
-    in-four Fine (from_to 0xf1 0xf3) tail tail tail (λ a b c d i j k l. high-fine (a ∷ b ∷ c ∷ d ∷ []) (omega arith) (omega arith)) bs h
-row-fine bs (inr (inr (inr (inr (inr (inr (inr (inr (inl h))))))))) =
-    in-four Fine (from_to 0xf4 0xf4) (from_to 0x80 0x8f) tail tail (λ a b c d i j k l. high-fine (a ∷ b ∷ c ∷ d ∷ []) (omega arith) (omega arith)) bs h
-row-fine bs (inr (inr (inr (inr (inr (inr (inr (inr (inr h))))))))) = absurd h
+row-fine bs h = grind (arith, ascii-fine)
 
 -- The character of a well-formed sequence is a scalar value.
 pub sequence-scalar : (bs : List ℕ) → IsWellFormed bs → scalar (sequence_character bs)
 sequence-scalar bs h = (row-fine bs h).0
-
--- If that character is ASCII, the sequence is its one byte.
-pub sequence-ascii : (bs : List ℕ) → IsWellFormed bs → sequence_character bs < 0x80 → bs ≡ sequence_character bs ∷ []
-sequence-ascii bs h = (row-fine bs h).1

@@ -7,7 +7,7 @@ use Rattle.properties_format.specs.Surrogates.{is_high}
 use Rattle.properties_format.specs.Utf8.{Range, well_formed_rows}
 use Rattle.properties_format.specs.Computed.Utf8.{is_in, ranges_after, fitting, utf_8_piece, utf_8_piece_by}
 use Rattle.properties_format.specs.Utf16.{low_first, high_first}
-use Rattle.properties_format.specs.Computed.Utf16.{high_piece, first_utf_16_piece}
+use Rattle.properties_format.specs.Computed.Utf16.{first_utf_16_piece}
 use Rattle.properties_format.specs.Encoding.{Encoding, windows_1252, utf_8, utf_16le, utf_16be}
 use Rattle.properties_format.specs.Computed.Encoding.{first_piece, pieces_of}
 use Rattle.properties_format.specs.Computed.Waiting.{fits_short, awaits_byte, awaits_unit, awaits_more}
@@ -31,8 +31,7 @@ utf_8-decided (Some rs) b d y h = ap (λ v. utf_8_piece b v (length rs)) (fittin
 
 -- In UTF-16, what follows a whole unit doesn't change its piece, if the unit isn't a high surrogate.
 not-high : (unit : ℕ → ℕ → ℕ) (a b : ℕ) (d y : List ℕ) → is_high (unit a b) ≡ false → first_utf_16_piece unit a (b ∷ d ++ y) ≡ first_utf_16_piece unit a (b ∷ d)
-not-high unit a b d y h =
-    cond-false (is_high (unit a b)) (high_piece unit a b (d ++ y)) _ h ∙ sym (cond-false (is_high (unit a b)) (high_piece unit a b d) _ h)
+not-high unit a b d y h = simp cond-false
 
 -- In UTF-16, what follows bytes that don't wait doesn't change their first piece.
 utf_16-decided : (unit : ℕ → ℕ → ℕ) (a : ℕ) (d y : List ℕ) → awaits_unit unit a d ≡ false → first_utf_16_piece unit a (d ++ y) ≡ first_utf_16_piece unit a d

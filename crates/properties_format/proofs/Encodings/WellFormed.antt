@@ -1,6 +1,5 @@
 -- Bytes that are well-formed UTF-8 are the UTF-8 text of their pieces.
-use Rattle.std.proofs.Common.{◌≡◌, ℕ, ◌<◌, true, List, [], ◌∷◌, ◌++◌, refl, sym, ap, ap₂, ◌∙◌, inl, inr, append_assoc, arith}
-use Rattle.std.proofs.lemmas.Bool.Decides.{nat_tests}
+use Rattle.std.proofs.Common.{◌≡◌, ℕ, ◌<◌, true, List, [], ◌∷◌, ◌++◌, refl, sym, ap, ap₂, ◌∙◌, append_assoc, arith}
 use Rattle.std.specs.Char.{IsScalar, encode_utf8}
 use Rattle.std.specs.Str.{IsUtf8, IsAscii, chars, all_scalars, encode_utf8_all}
 use Rattle.std.proofs.Math.Utf8 as std_utf8
@@ -25,8 +24,7 @@ scalar-from_char c h = std_utf8.scalar_cases c h
 
 -- A scalar value is the code point of a `char`.
 pub char-from_scalar : (c : ℕ) → scalar c → IsScalar c
-char-from_scalar c (inl h) = std_utf8.low_scalar c h
-char-from_scalar c (inr h) = grind (arith, nat_tests)
+char-from_scalar c h = grind (arith)
 
 -- Well-formed sequences are the UTF-8 of their characters.
 sequences-utf8 : (d : List ℕ) (sequences : List (List ℕ)) → AreSequences d sequences → IsUtf8 d
@@ -64,10 +62,7 @@ encoded-front (c ∷ cs) y h =
 
 -- A text at the front decodes to its characters, whatever follows.
 pub characters-text : (x y : List ℕ) → IsUtf8 x → characters (pieces_of utf_8 (x ++ y)) ≡ chars x ++ characters (pieces_of utf_8 y)
-characters-text x y (cs, h) =
-    ap (λ v. characters (pieces_of utf_8 (v ++ y))) (sym h.1)
-    ∙ encoded-front cs y h.0
-    ∙ ap (λ v. v ++ characters (pieces_of utf_8 y)) (sym (chars-encodes cs h.0) ∙ ap chars h.1)
+characters-text x y (cs, h) = cc (encoded-front cs y h.0, chars-encodes cs h.0)
 
 -- ---- ASCII, which is the same in windows-1252 and UTF-8.
 
@@ -78,5 +73,4 @@ ascii-front (b ∷ x) y h = ap characters (pieces_of-ascii windows_1252 b (x ++ 
 
 -- ASCII at the front decodes to itself, whatever follows.
 pub characters-ascii : (x y : List ℕ) → IsAscii x → characters (pieces_of windows_1252 (x ++ y)) ≡ chars x ++ characters (pieces_of windows_1252 y)
-characters-ascii x y h =
-    ascii-front x y (recursion_from_All (λ b. b < 0x80) x (All-from_ascii x h)) ∙ ap (λ v. v ++ characters (pieces_of windows_1252 y)) (sym (chars-IsAscii x h))
+characters-ascii x y h = simp (ascii-front, recursion_from_All, All-from_ascii, chars-IsAscii)

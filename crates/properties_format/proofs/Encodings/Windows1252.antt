@@ -1,5 +1,5 @@
 -- The table of windows-1252: its characters are distinct, and the byte of a character is found with it.
-use Rattle.std.proofs.Common.{◌≡◌, ℕ, zero, suc, ◌+◌, ◌-◌, ◌<◌, ◌≤◌, ◌==◌, ◌&&◌, ◌||◌, not, Bool, true, false, nat_lt, nat_le, slice_index, List, [], ◌∷◌, length, Option, Some, None, refl, sym, ap, ◌∙◌, inl, inr, arith, ltb-true, le-leb, leb-true, lt-ltb, eqb-true}
+use Rattle.std.proofs.Common.{◌≡◌, ℕ, ◌+◌, ◌-◌, ◌<◌, ◌≤◌, ◌==◌, ◌&&◌, ◌||◌, not, Bool, true, false, nat_lt, nat_le, slice_index, List, [], ◌∷◌, length, Option, Some, None, refl, sym, ap, ◌∙◌, inl, inr, arith, ltb-true, le-leb, leb-true, lt-ltb, eqb-true}
 use Rattle.std.proofs.lemmas.Bool.{lt-leb, cond-true, cond-false, cases_Bool, and_parts, and_from, and_left, not-true, agree_below_at, or_cases}
 use Rattle.std.proofs.lemmas.Option.{none-some, same_Some}
 use Rattle.properties_format.specs.Text.{byte, scalar}
@@ -11,8 +11,7 @@ is_some_of (Some x) k = x == k
 
 -- What passes the test is that number.
 same-some : (o : Option ℕ) (k : ℕ) → is_some_of o k ≡ true → o ≡ Some k
-same-some None k h = cc
-same-some (Some x) k h = ap Some (eqb-true x k h)
+same-some o k h = grind (arith)
 
 -- a byte's character has that byte
 pub windows_1252_byte-character : (b : ℕ) → byte b → windows_1252_byte (windows_1252_character b) ≡ Some b
@@ -32,12 +31,10 @@ place-found n (x ∷ xs) c b h = elim (cases_Bool (x == c)) [
 ]
   where
     here : n ≡ b → x ≡ c → (k : ℕ) → n + k ≡ b → slice_index (x ∷ xs) k ≡ c
-    here e q zero s = q
-    here e q (suc k) s = absurd (omega arith)
+    here h m k p = grind (arith)
 
     there : n + 1 ≤ b → ((k : ℕ) → n + 1 + k ≡ b → slice_index xs k ≡ c) → (k : ℕ) → n + k ≡ b → slice_index (x ∷ xs) k ≡ c
-    there l f zero s = absurd (omega arith)
-    there l f (suc k) s = f k (omega arith)
+    there h m k p = grind (arith)
 
 -- The byte of a character has that character.
 pub windows_1252_character-byte : (c b : ℕ) → windows_1252_byte c ≡ Some b → (windows_1252_character b ≡ c) × byte b

@@ -1,32 +1,25 @@
 -- The digits of a UTF-16 unit, and the value that they are read as.
-use Rattle.std.proofs.Common.{◌≡◌, ◌==◌, ℕ, ◌+◌, ◌*◌, ◌/◌, ◌%◌, ◌<◌, ◌≤◌, true, false, arith}
+use Rattle.std.proofs.Common.{◌≡◌, ◌==◌, ℕ, ◌+◌, ◌*◌, ◌/◌, ◌%◌, ◌<◌, true, false, arith}
 use Rattle.std.specs.Char.{digit_char}
 use Rattle.std.proofs.lemmas.Bool.{and_from, le-leb, lt-ltb}
-use Rattle.std.proofs.lemmas.Bool.Decides.{nat_tests}
 use Rattle.properties_format.specs.Text.{backslash, is_blank, is_separator}
-use Rattle.properties_format.specs.Escapes.{is_hexadecimal, hexadecimal_value, Four, are_hexadecimal, code_unit, is_high, is_low, pair_character}
+use Rattle.properties_format.specs.Escapes.{is_hexadecimal, hexadecimal_value, Four, are_hexadecimal, code_unit, is_high, is_low}
 use Rattle.properties_format.specs.Printing.{high_surrogate, low_surrogate}
 
 -- The digit of a number below 16 is a hexadecimal digit.
 pub is_hexadecimal-char : (n : ℕ) → n < 16 → is_hexadecimal (digit_char n) ≡ true
-is_hexadecimal-char n h = grind (arith, nat_tests)
+is_hexadecimal-char n h = grind (arith)
 
 -- The value of that digit is the number.
 pub hexadecimal_value-char : (n : ℕ) → n < 16 → hexadecimal_value (digit_char n) ≡ n
-hexadecimal_value-char n h = grind (arith, nat_tests)
+hexadecimal_value-char n h = grind (arith)
 
 -- A hexadecimal digit isn't a backslash, a blank or a separator.
 pub hexadecimal-plain : (c : ℕ) → is_hexadecimal c ≡ true → ((c == backslash) ≡ false) × (is_blank c ≡ false) × (is_separator c ≡ false)
-hexadecimal-plain c h = (not_backslash c h, not_blank c h, not_separator c h)
+hexadecimal-plain c h = (not_backslash c h, grind (arith), grind (arith))
   where
     not_backslash : (c : ℕ) → is_hexadecimal c ≡ true → (c == backslash) ≡ false
-    not_backslash c h = grind (arith, nat_tests)
-
-    not_blank : (c : ℕ) → is_hexadecimal c ≡ true → is_blank c ≡ false
-    not_blank c h = grind (arith, nat_tests)
-
-    not_separator : (c : ℕ) → is_hexadecimal c ≡ true → is_separator c ≡ false
-    not_separator c h = grind (arith, nat_tests)
+    not_backslash c h = grind (arith)
 
 -- the four lower-case digits of a unit
 abbrev pub unit_digits : ℕ → Four
@@ -38,10 +31,7 @@ below n = omega arith
 
 -- The four digits are hexadecimal.
 pub unit_digits-hexadecimal : (u : ℕ) → are_hexadecimal (unit_digits u) ≡ true
-unit_digits-hexadecimal u =
-    and_from _ _
-    (and_from _ _ (is_hexadecimal-char (u / 0x1000 % 0x10) (below (u / 0x1000))) (is_hexadecimal-char (u / 0x100 % 0x10) (below (u / 0x100))))
-    (and_from _ _ (is_hexadecimal-char (u / 0x10 % 0x10) (below (u / 0x10))) (is_hexadecimal-char (u % 0x10) (below u)))
+unit_digits-hexadecimal u = simp (and_from, is_hexadecimal-char, below)
 
 -- A number below 10000 hexadecimal is the value of its four digits.
 four-digits : (u : ℕ) → u < 0x1_0000 → ((u / 0x1000 % 0x10 * 16 + u / 0x100 % 0x10) * 16 + u / 0x10 % 0x10) * 16 + u % 0x10 ≡ u
@@ -49,14 +39,7 @@ four-digits u h = omega arith
 
 -- The value of the four digits is the unit.
 pub unit_digits-unit : (u : ℕ) → u < 0x1_0000 → code_unit (unit_digits u) ≡ u
-unit_digits-unit u h =
-    rw (
-      hexadecimal_value-char (u / 0x1000 % 0x10) (below (u / 0x1000)),
-      hexadecimal_value-char (u / 0x100 % 0x10) (below (u / 0x100)),
-      hexadecimal_value-char (u / 0x10 % 0x10) (below (u / 0x10)),
-      hexadecimal_value-char (u % 0x10) (below u),
-    )
-    (four-digits u h)
+unit_digits-unit u h = simp (hexadecimal_value-char, below, four-digits)
 
 -- The first surrogate of a character above U+FFFF is a high one.
 pub high_surrogate-high : (c : ℕ) → c < 0x11_0000 → is_high (high_surrogate c) ≡ true
@@ -65,7 +48,3 @@ high_surrogate-high c h = and_from _ _ (le-leb 0xd800 (high_surrogate c) (omega 
 -- The second surrogate is a low one.
 pub low_surrogate-low : (c : ℕ) → is_low (low_surrogate c) ≡ true
 low_surrogate-low c = and_from _ _ (le-leb 0xdc00 (low_surrogate c) (omega arith)) (lt-ltb (low_surrogate c) 0xe000 (omega arith))
-
--- The two together are the character.
-pub pair_character-surrogates : (c : ℕ) → 0x1_0000 ≤ c → pair_character (high_surrogate c) (low_surrogate c) ≡ c
-pair_character-surrogates c h = omega arith

@@ -2,7 +2,7 @@
 use Rattle.std.proofs.Common.{◌≡◌, ℕ, ◌==◌, ◌&&◌, true, false, List, [], ◌∷◌, ◌++◌, Option, Some, None, refl, ap, ◌∙◌, inl, inr}
 use Rattle.std.proofs.lemmas.Bool.{cases_Bool, eqb-true, and_parts, or_parts, or_from}
 use Rattle.properties_format.specs.Text.{backslash}
-use Rattle.properties_format.specs.Escapes.{letter_u, Four, four_text, are_hexadecimal, code_unit, is_high, is_low, is_surrogate, Spelling, itself, escaped, unicode, surrogates, last, spelling_text, IsSpelling, NoSpelling}
+use Rattle.properties_format.specs.Escapes.{letter_u, Four, four_text, are_hexadecimal, code_unit, is_high, is_low, is_surrogate, Spelling, unicode, surrogates, spelling_text, IsSpelling, NoSpelling}
 use Rattle.properties_format.specs.Computed.Escapes.{with_low, with_digits, after_u, after_backslash, first_spelling}
 
 -- the spelling that the text begins with, if there is one
@@ -22,22 +22,11 @@ low-surrogate n e = (or_parts (is_high n) (is_low n) e).1
 digits-unicode : (d : Four) (rest : List ℕ) → are_hexadecimal d ≡ true → is_surrogate (code_unit d) ≡ false → with_digits d rest ≡ Some (unicode d)
 digits-unicode d rest h k = rw h (rw (high-surrogate (code_unit d) k) (rw (low-surrogate (code_unit d) k) refl))
 
--- After the digits of a high surrogate, the escape of a low one is searched for.
-digits-high : (d : Four) (rest : List ℕ) → are_hexadecimal d ≡ true → is_high (code_unit d) ≡ true → with_digits d rest ≡ with_low d rest
-digits-high d rest h k = rw h (rw k refl)
-
--- If it is there, both escapes are found.
-low-low : (high low : Four) (rest : List ℕ) → are_hexadecimal low ≡ true → is_low (code_unit low) ≡ true
-    → with_low high (backslash ∷ letter_u ∷ four_text low ++ rest) ≡ Some (surrogates high low)
-low-low high low rest h k = rw h (rw k refl)
-
 -- The spelling at the front is found.
 pub spelling_of-only : (p : Spelling) (rest : List ℕ) → IsSpelling p rest → spelling_of (spelling_text p ++ rest) ≡ Some p
-spelling_of-only (itself c) rest h = rw h refl
-spelling_of-only (escaped c) rest h = rw h refl
 spelling_of-only (unicode d) rest h = digits-unicode d rest h.0 h.1
-spelling_of-only (surrogates high low) rest h = digits-high high (backslash ∷ letter_u ∷ four_text low ++ rest) h.0 h.1 ∙ low-low high low rest h.2 h.3
-spelling_of-only last rest h = rw h refl
+spelling_of-only (surrogates high low) rest h = rw (h.0, h.1, h.2, h.3) refl
+spelling_of-only p rest h = rw h refl
 
 -- If no spelling is found, there is none.
 pub spelling_of-none : (x : List ℕ) → spelling_of x ≡ None → NoSpelling x

@@ -41,11 +41,7 @@ AreWhole (p ∷ ps) = IsWhole p × AreWhole ps
 
 -- A whole spelling may come before any text.
 pub IsWhole-spelling : (p : Spelling) (rest : List ℕ) → IsWhole p → IsSpelling p rest
-IsWhole-spelling (itself c) rest h = h
-IsWhole-spelling (escaped c) rest h = h
-IsWhole-spelling (unicode d) rest h = h
-IsWhole-spelling (surrogates high low) rest h = h
-IsWhole-spelling last rest h = absurd h
+IsWhole-spelling p rest h = grind (arith)
 
 -- Each of several whole spellings may come before what follows it.
 pub AreWhole-spellings : (ps : List Spelling) (rest : List ℕ) → AreWhole ps → AreSpellings ps rest
@@ -58,11 +54,7 @@ meaning_of-whole ps rest h = meaning_of-spellings ps rest (AreWhole-spellings ps
 
 -- whole spellings by themselves
 pub meaning_of-all : (ps : List Spelling) → AreWhole ps → meaning_of (spellings_before ps []) ≡ means (map spelling_character ps)
-meaning_of-all ps h =
-    meaning_of-whole ps [] h
-    ∙ ap (text_in_front (map spelling_character ps)) meaning_of-empty
-    ∙ text_in_front-means (map spelling_character ps) []
-    ∙ ap means (append-nil (map spelling_character ps))
+meaning_of-all ps h = simp (meaning_of-whole, meaning_of-empty, text_in_front-means, append-nil)
 
 -- ---- a `\u` that begins no spelling
 
@@ -76,8 +68,7 @@ malformed-none after kind e k = let n = spelling_of-none (backslash ∷ letter_u
 
 -- fewer than four characters
 pub malformed-short : (after : List ℕ) → length after < 4 → IsMalformedUnit after not_enough_digits
-malformed-short (a ∷ b ∷ c ∷ d ∷ rest) h = absurd (omega arith)
-malformed-short after h = malformed-none after not_enough_digits refl refl
+malformed-short after h = grind (arith, malformed-none)
 
 -- four characters, one of which isn't a digit
 pub malformed-not_hex : (d : Four) (rest : List ℕ) → are_hexadecimal d ≡ false → IsMalformedUnit (four_text d ++ rest) not_hex

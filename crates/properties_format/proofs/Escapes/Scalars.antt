@@ -1,36 +1,26 @@
 -- A text of scalar values means a text of scalar values.
-use Rattle.std.proofs.Common.{◌≡◌, ℕ, ◌+◌, ◌*◌, ◌<◌, ◌&&◌, All, true, false, List, [], ◌∷◌, ◌++◌, map, sym, inl, subst, arith, lit<}
+use Rattle.std.proofs.Common.{◌≡◌, ℕ, ◌<◌, All, true, false, List, [], ◌∷◌, ◌++◌, map, sym, inl, subst, arith, lit<}
 use Rattle.std.proofs.lemmas.Bool.{and_parts}
-use Rattle.std.proofs.lemmas.Bool.Decides.{nat_tests}
-use Rattle.std.proofs.lemmas.List.Elements.{All-nil, All-cons, All-head, All-tail}
+use Rattle.std.proofs.lemmas.List.Elements.{All-nil, All-head, All-tail, All-cons}
 use Rattle.properties_format.specs.Text.{backslash, scalar}
 use Rattle.properties_format.specs.Escapes.{Four, is_hexadecimal, hexadecimal_value, are_hexadecimal, code_unit, is_surrogate, escaped_character, Spelling, itself, escaped, unicode, surrogates, last, spelling_text, spelling_character, IsSpelling, spellings_before, AreSpellings, Means}
 use Rattle.properties_format.proofs.Encodings.Characters.{pair-scalar}
 
 -- The value of a hexadecimal digit is below 16.
 digit-below : (c : ℕ) → is_hexadecimal c ≡ true → hexadecimal_value c < 16
-digit-below c h = grind (arith, nat_tests)
-
--- The value of four such digits is below 10000 hexadecimal.
-four-below : (a b c d : ℕ) → a < 16 → b < 16 → c < 16 → d < 16 → ((a * 16 + b) * 16 + c) * 16 + d < 0x1_0000
-four-below a b c d h k l m = omega arith
+digit-below c h = grind (arith)
 
 -- A unit of four hexadecimal digits is below 10000 hexadecimal.
 pub code_unit-below : (d : Four) → are_hexadecimal d ≡ true → code_unit d < 0x1_0000
-code_unit-below d h =
-    let p = and_parts (is_hexadecimal d.first && is_hexadecimal d.second) (is_hexadecimal d.third && is_hexadecimal d.fourth) h in
-    let q = and_parts (is_hexadecimal d.first) (is_hexadecimal d.second) p.0 in
-    let r = and_parts (is_hexadecimal d.third) (is_hexadecimal d.fourth) p.1 in
-    four-below (hexadecimal_value d.first) (hexadecimal_value d.second) (hexadecimal_value d.third) (hexadecimal_value d.fourth)
-    (digit-below d.first q.0) (digit-below d.second q.1) (digit-below d.third r.0) (digit-below d.fourth r.1)
+code_unit-below d h = grind (arith, and_parts, digit-below)
 
 -- A unit that isn't a surrogate is a scalar value.
 unit-scalar : (n : ℕ) → n < 0x1_0000 → is_surrogate n ≡ false → scalar n
-unit-scalar n h k = grind (arith, nat_tests)
+unit-scalar n h k = grind (arith)
 
 -- The character that a backslash and a scalar value mean is a scalar value.
 escaped-scalar : (c : ℕ) → scalar c → scalar (escaped_character c)
-escaped-scalar c h = grind (arith, nat_tests)
+escaped-scalar c h = grind (arith)
 
 -- The rest of a text of scalar values consists of scalar values.
 pub rest-scalars : (x y : List ℕ) → All scalar (x ++ y) → All scalar y

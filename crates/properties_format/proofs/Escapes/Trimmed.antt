@@ -1,7 +1,7 @@
 -- If blanks are spelt as themselves, a text without the blanks at its ends means what the whole means without the
 -- blanks at its ends.
 use Rattle.std.proofs.Common.{◌≡◌, ◌&&◌, ℕ, true, false, if◌then◌else◌, List, [], ◌∷◌, ◌++◌, map, refl, ap, sym, ◌∙◌, inl, inr}
-use Rattle.std.proofs.lemmas.Bool.{cases_Bool, both_ways, and_parts}
+use Rattle.std.proofs.lemmas.Bool.{cases_Bool, both_ways, and_parts, cond_both}
 use Rattle.properties_format.specs.Text.{is_blank, without_leading_blanks}
 use Rattle.properties_format.specs.Split.{begins, ends}
 use Rattle.properties_format.specs.Computed.Split.{without_trailing_blanks, unless_last_blank, trimmed}
@@ -42,28 +42,19 @@ before (p ∷ ps) = unless_last p (before ps)
 -- The spelling of a blank is only that blank.
 blank-text : (p : Spelling) → KeepsBlanks p → is_blank (spelling_character p) ≡ true → spelling_text p ≡ spelling_character p ∷ []
 blank-text (itself c) k b = refl
-blank-text (escaped c) k b = absurd (both_ways _ (sym k.at_front) b)
-blank-text (unicode d) k b = absurd (both_ways _ (sym k.at_front) b)
-blank-text (surrogates high low) k b = absurd (both_ways _ (sym k.at_front) b)
-blank-text last k b = absurd (both_ways _ (sym k.at_front) b)
+blank-text p k b = absurd (both_ways _ (sym k.at_front) b)
 
 -- A text that begins with a spelling has a first character.
 text-some : (p : Spelling) (y : List ℕ) → (c : ℕ) × (cs : List ℕ) × (spelling_text p ++ y ≡ c ∷ cs)
 text-some (itself c) y = (_, _, refl)
-text-some (escaped c) y = (_, _, refl)
-text-some (unicode d) y = (_, _, refl)
-text-some (surrogates high low) y = (_, _, refl)
-text-some last y = (_, _, refl)
+text-some p y = (_, _, refl)
 
 -- ---- at the front
 
 -- Whether a spelling begins with a blank doesn't depend on what follows.
 begins-text : (p : Spelling) (y : List ℕ) → begins is_blank (spelling_text p ++ y) ≡ begins is_blank (spelling_text p)
 begins-text (itself c) y = refl
-begins-text (escaped c) y = refl
-begins-text (unicode d) y = refl
-begins-text (surrogates high low) y = refl
-begins-text last y = refl
+begins-text p y = refl
 
 -- The text without its leading blanks is that of the spellings without their leading blanks.
 without_leading_blanks-text : (ps : List Spelling) → AllKeepBlanks ps → without_leading_blanks (spellings_before ps []) ≡ spellings_before (past ps) []
@@ -84,18 +75,12 @@ without_leading_blanks-characters (p ∷ ps) = elim (cases_Bool (is_blank (spell
 -- The spellings that are left are whole if all were.
 past-whole : (ps : List Spelling) → AreWhole ps → AreWhole (past ps)
 past-whole [] h = tt
-past-whole (p ∷ ps) h = elim (cases_Bool (is_blank (spelling_character p))) [
-  | inl b ↦ rw b (past-whole ps h.1)
-  | inr b ↦ rw b h
-]
+past-whole (p ∷ ps) h = cond_both (is_blank (spelling_character p)) (past ps) (p ∷ ps) AreWhole (λ b. past-whole ps h.1) (λ b. h)
 
 -- The spellings that are left keep blanks if all did.
 past-keep : (ps : List Spelling) → AllKeepBlanks ps → AllKeepBlanks (past ps)
 past-keep [] h = tt
-past-keep (p ∷ ps) h = elim (cases_Bool (is_blank (spelling_character p))) [
-  | inl b ↦ rw b (past-keep ps h.1)
-  | inr b ↦ rw b h
-]
+past-keep (p ∷ ps) h = cond_both (is_blank (spelling_character p)) (past ps) (p ∷ ps) AllKeepBlanks (λ b. past-keep ps h.1) (λ b. h)
 
 -- ---- at the end
 

@@ -117,18 +117,12 @@ front-meets p x rest (breaks kind) e h k = record {
 -- After its first character, a text continues with the rest of its first spelling.
 after-front : (p : Spelling) (c : ℕ) (cs rest : List ℕ) → c ∷ cs ≡ spelling_text p ++ rest → cs ≡ spelling_tail p ++ rest
 after-front (itself d) c cs rest e = cc
-after-front (escaped d) c cs rest e = cc
-after-front (unicode d) c cs rest e = cc
-after-front (surrogates high low) c cs rest e = cc
-after-front last c cs rest e = cc
+after-front p c cs rest e = cc
 
 -- That rest is one character shorter than the spelling.
 length-tail : (p : Spelling) → length (spelling_tail p) ≡ pred (length (spelling_text p))
 length-tail (itself c) = refl
-length-tail (escaped c) = refl
-length-tail (unicode d) = refl
-length-tail (surrogates high low) = refl
-length-tail last = refl
+length-tail p = refl
 
 -- A text resolves to its computed meaning if the text after its first character does.
 next-meets : (c : ℕ) (cs : List ℕ) (o : Option Spelling) → first_spelling c cs ≡ o → IsFound (c ∷ cs) o

@@ -1,20 +1,10 @@
 -- The logical line of a group, line by line, and the number of the group.
-use Rattle.std.proofs.Common.{◌≡◌, ℕ, true, false, List, [], ◌∷◌, ◌++◌, refl, ap, sym, ◌∙◌, inl, inr, append_assoc, append-nil}
+use Rattle.std.proofs.Common.{◌≡◌, true, false, List, [], ◌∷◌, ◌++◌, refl, ap, sym, ◌∙◌, inl, inr, append_assoc, append-nil}
 use Rattle.std.proofs.lemmas.Bool.{cases_Bool}
-use Rattle.properties_format.specs.Text.{is_blank, is_comment_sign, without_leading_blanks}
+use Rattle.properties_format.specs.Text.{without_leading_blanks}
 use Rattle.properties_format.specs.Lines.{Line}
 use Rattle.properties_format.specs.Groups.{is_open, is_comment_line, without_open_backslash, joined_after, joined}
 use Rattle.properties_format.proofs.Groups.Open.{without_open_backslash-closed}
-
--- ---- how a line begins
-
--- A blank at the front doesn't decide whether a line is a comment line.
-pub is_comment_line-blank : (c : ℕ) (x : List ℕ) → is_blank c ≡ true → is_comment_line (c ∷ x) ≡ is_comment_line x
-is_comment_line-blank c x h = rw h refl
-
--- Any other character at the front decides it.
-pub is_comment_line-other : (c : ℕ) (x : List ℕ) → is_blank c ≡ false → is_comment_line (c ∷ x) ≡ is_comment_sign c
-is_comment_line-other c x h = rw h refl
 
 -- ---- logical lines
 
@@ -41,9 +31,7 @@ joined-closed l h = elim (cases_Bool (is_comment_line l.text)) [
 -- What two lists of lines add is what the first adds followed by what the second adds.
 pub joined_after-append : (ls ms : List Line) → joined_after (ls ++ ms) ≡ joined_after ls ++ joined_after ms
 joined_after-append [] ms = refl
-joined_after-append (l ∷ ls) ms =
-    let x = without_open_backslash (without_leading_blanks l.text) in
-    ap (λ v. x ++ v) (joined_after-append ls ms) ∙ sym (append_assoc x (joined_after ls) (joined_after ms))
+joined_after-append (l ∷ ls) ms = simp (append_assoc, joined_after-append ls ms)
 
 -- One more line in a group that doesn't begin with a comment line.
 pub joined-push : (l : Line) (ls : List Line) (m : Line) → is_comment_line l.text ≡ false

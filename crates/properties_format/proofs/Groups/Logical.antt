@@ -41,19 +41,16 @@ logical-after m ms (l ∷ ls) e h = elim (cases_Bool (is_open l.text)) [
 
 -- a comment line is a logical line
 pub logical_lines-comment_line : (l : Line) (ls : List Line) (e : InputEnd) → is_comment_line l.text ≡ true → logical_lines (l ∷ ls) e ≡ l ∷ logical_lines ls e
-logical_lines-comment_line l ls e h =
-    ap logical (groups_of-comment_line l ls e h) ∙ ap (λ v. record { number = l.number; text = v } ∷ logical_lines ls e) (joined-comment_line l [] h)
+logical_lines-comment_line l ls e h = simp (groups_of-comment_line, joined-comment_line)
 
 -- A line that isn't open is a logical line.
 pub logical_lines-closed : (l : Line) (ls : List Line) (e : InputEnd) → is_open l.text ≡ false → logical_lines (l ∷ ls) e ≡ l ∷ logical_lines ls e
-logical_lines-closed l ls e h =
-    ap logical (groups_of-closed l ls e h) ∙ ap (λ v. record { number = l.number; text = v } ∷ logical_lines ls e) (joined-closed l h)
+logical_lines-closed l ls e h = simp (groups_of-closed, joined-closed)
 
 -- An open line that isn't a comment line begins a logical line that continues.
 pub logical_lines-open : (l : Line) (ls : List Line) (e : InputEnd) → is_comment_line l.text ≡ false → is_open l.text ≡ true
     → logical_lines (l ∷ ls) e ≡ joins_after l.number (without_open_backslash l.text) ls e
-logical_lines-open l ls e h k =
-    ap logical (groups_of-open l ls e h k) ∙ logical-after l [] ls e h ∙ ap (λ v. joins_after l.number v ls e) (joined-one l h)
+logical_lines-open l ls e h k = simp (groups_of-open, logical-after, joined-one)
 
 -- ---- a line of a text that no other line continues
 

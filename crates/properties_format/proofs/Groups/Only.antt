@@ -30,9 +30,7 @@ groups_of-before (l ∷ ms) ls e (inr h) = begins-whole l ms ls e h.0 h.1
 after-open : (m : Line) (ms ls : List Line) (e : InputEnd) → AreOpen ls → groups_after (m ∷ ms) ls e ≡ last_group (m ∷ ms ++ ls) e
 after-open m ms [] e h = ap (λ v. last_group (m ∷ v) e) (sym (append-nil ms))
 after-open m ms (l ∷ ls) e h =
-    groups_after-open m ms l ls e h.0
-    ∙ after-open m (ms ++ l ∷ []) ls e h.1
-    ∙ ap (λ v. last_group (m ∷ v) e) (append_assoc ms (l ∷ []) ls)
+    cc (groups_after-open m ms l ls e h.0, after-open m (ms ++ l ∷ []) ls e h.1, append_assoc ms (l ∷ []) ls)
 
 -- an unfinished group is the last one
 pub groups_of-unfinished : (ls : List Line) (e : InputEnd) → IsUnfinished ls → groups_of ls e ≡ last_group ls e

@@ -10,10 +10,6 @@ use Rattle.properties_format.specs.Groups.{leading_backslashes, ending_backslash
 pub ending_backslashes-push : (x : List ℕ) (c : ℕ) → ending_backslashes (x ++ c ∷ []) ≡ (if c == backslash then suc (ending_backslashes x) else 0)
 ending_backslashes-push x c = ap leading_backslashes (reverse-append x (c ∷ []))
 
--- A backslash at the end adds one.
-pub ending_backslashes-more : (x : List ℕ) → ending_backslashes (x ++ backslash ∷ []) ≡ suc (ending_backslashes x)
-ending_backslashes-more x = ending_backslashes-push x backslash
-
 -- After any other character at the end there are none.
 pub ending_backslashes-none : (x : List ℕ) (c : ℕ) → (c == backslash) ≡ false → ending_backslashes (x ++ c ∷ []) ≡ 0
 ending_backslashes-none x c h = ending_backslashes-push x c ∙ rw h refl
@@ -33,25 +29,18 @@ ending_backslashes-after x c y h =
 
 -- A number is odd exactly if the number before it isn't.
 odd-next : (n : ℕ) → (suc n % 2 == 1) ≡ not (n % 2 == 1)
-odd-next n = elim (eqb_tells (n % 2) 1) [
-  | inl k ↦ let f : suc n % 2 ≡ 0 = omega (arith, k.1) in rw (k.1, f) refl
-  | inr k ↦
-      let g : n % 2 ≡ 0 = omega (arith, k.1) in
-      let f : suc n % 2 ≡ 1 = omega arith in
-      rw (g, f) refl
-]
+odd-next n = grind (arith)
 
 -- A backslash at the end makes a line open if it wasn't, and not open if it was.
 pub is_open-backslash : (x : List ℕ) → is_open (x ++ backslash ∷ []) ≡ not (is_open x)
-is_open-backslash x = ap (λ v. v % 2 == 1) (ending_backslashes-more x) ∙ odd-next (ending_backslashes x)
+is_open-backslash x = ap (λ v. v % 2 == 1) (ending_backslashes-push x backslash) ∙ odd-next (ending_backslashes x)
 
 -- two backslashes change nothing
 pub is_open-two : (x : List ℕ) → is_open (x ++ backslash ∷ backslash ∷ []) ≡ is_open x
 is_open-two x = ap is_open (sym (append_assoc x (backslash ∷ []) (backslash ∷ []))) ∙ is_open-backslash (x ++ backslash ∷ []) ∙ ap not (is_open-backslash x) ∙ not-not (is_open x)
   where
     not-not : (b : Bool) → not (not b) ≡ b
-    not-not true = refl
-    not-not false = refl
+    not-not b = grind (arith)
 
 -- A line that ends in another character isn't open.
 pub is_open-other : (x : List ℕ) (c : ℕ) → (c == backslash) ≡ false → is_open (x ++ c ∷ []) ≡ false
@@ -63,18 +52,14 @@ is_open-after x c y h = ap (λ v. v % 2 == 1) (ending_backslashes-after x c y h)
 
 -- A blank isn't a backslash.
 pub blank-other : (c : ℕ) → is_blank c ≡ true → (c == backslash) ≡ false
-blank-other c h = elim (eqb_tells c backslash) [
-  | inl k ↦ let f : is_blank backslash ≡ true = rw k.1 at h in absurd (cc)
-  | inr k ↦ k.0
-]
+blank-other c h = grind (arith)
 
 -- ---- the last character
 
 -- A text with one more character, without its last character, is that text.
 pub without_last-push : (x : List ℕ) (c : ℕ) → without_last (x ++ c ∷ []) ≡ x
-without_last-push [] c = refl
-without_last-push (d ∷ []) c = refl
 without_last-push (d ∷ b ∷ x) c = ap (λ v. d ∷ v) (without_last-push (b ∷ x) c)
+without_last-push x c = refl
 
 -- a text is empty, or has a last character
 pub last_character : (x : List ℕ) → (x ≡ []) ⊎ ((y : List ℕ) × (c : ℕ) × (x ≡ y ++ c ∷ []))

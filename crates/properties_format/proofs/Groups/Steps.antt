@@ -30,10 +30,6 @@ closes-closed [] l h = rw h (or-true (is_comment_line l.text))
     or-true false = refl
 closes-closed (m ∷ ms) l h = rw h refl
 
--- An open line that isn't a comment line leaves the group open that it begins.
-pub closes-begins : (l : Line) → is_comment_line l.text ≡ false → is_open l.text ≡ true → closes [] l ≡ false
-closes-begins l h k = rw (h, k) refl
-
 -- An open line leaves an open group open.
 pub closes-goes_on : (m : Line) (ms : List Line) (l : Line) → is_open l.text ≡ true → closes (m ∷ ms) l ≡ false
 closes-goes_on m ms l h = rw h refl
@@ -53,7 +49,7 @@ groups_of-closed l ls e h = groups_after-close [] l ls e (closes-closed [] l h)
 -- At the start of a group: an open line that isn't a comment line begins a group that continues.
 pub groups_of-open : (l : Line) (ls : List Line) (e : InputEnd) → is_comment_line l.text ≡ false → is_open l.text ≡ true
     → groups_of (l ∷ ls) e ≡ groups_after (l ∷ []) ls e
-groups_of-open l ls e h k = groups_after-leave [] l ls e (closes-begins l h k)
+groups_of-open l ls e h k = groups_after-leave [] l ls e (rw (h, k) refl)
 
 -- In an open group: a line that isn't open finishes it.
 pub groups_after-closed : (p : List Line) (l : Line) (ls : List Line) (e : InputEnd) → is_open l.text ≡ false

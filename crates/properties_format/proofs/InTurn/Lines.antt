@@ -1,6 +1,6 @@
 -- The lines of a group by itself, and these lines with another last line ending.
 use Rattle.std.proofs.Common.{◌≡◌, ◌≢◌, ℕ, true, false, List, [], ◌∷◌, ◌++◌, Option, Some, None, refl, ap, ap₂, sym, ◌∙◌, append_assoc, append-nil}
-use Rattle.properties_format.specs.Text.{LineEnding, lf, cr, crlf, line_ending_text}
+use Rattle.properties_format.specs.Text.{LineEnding, lf, cr, line_ending_text}
 use Rattle.properties_format.specs.Encoding.{Encoding}
 use Rattle.properties_format.specs.Lines.{Lines, HoldsNoLineEnd}
 use Rattle.properties_format.specs.Computed.Lines.{begins_with_lf, ends_in_cr}
@@ -48,9 +48,7 @@ first-none (c ∷ x) y h k = h
 -- A text that contains a line ending isn't empty.
 ended-some : (x : List ℕ) (by : LineEnding) (z : List ℕ) → x ++ (line_ending_text by ++ z) ≡ [] → ⊥
 ended-some [] lf z k = cc
-ended-some [] cr z k = cc
-ended-some [] crlf z k = cc
-ended-some (c ∷ x) by z k = cc
+ended-some x by z k = cc
 
 -- A group that has a line ending has bytes.
 pub lines-some : (e : Encoding) (by : LineEnding) (g : List HeldLine) → AreLinesBy e (Some by) g → group_bytes g ≢ []
@@ -91,12 +89,7 @@ lines-last e (h ∷ i ∷ hs) ok (p, s, (own, t, n), a) =
 pub bytes-unended : (g : List HeldLine) → group_bytes g ≡ unended_bytes g ++ ending_bytes (last_ending g)
 bytes-unended [] = refl
 bytes-unended (h ∷ []) = ap (λ v. h.bytes ++ v) (append-nil (ending_bytes h.ending))
-bytes-unended (h ∷ i ∷ hs) =
-    let x = unended_bytes (i ∷ hs) in
-    let y = ending_bytes (last_ending (i ∷ hs)) in
-    ap (λ v. h.bytes ++ (ending_bytes h.ending ++ v)) (bytes-unended (i ∷ hs))
-    ∙ ap (λ v. h.bytes ++ v) (sym (append_assoc (ending_bytes h.ending) x y))
-    ∙ sym (append_assoc h.bytes (ending_bytes h.ending ++ x) y)
+bytes-unended (h ∷ i ∷ hs) = simp (append_assoc, bytes-unended (i ∷ hs))
 
 -- If the last of these lines has this ending, so does the group.
 pub ending-of : (e : Encoding) (o : Option LineEnding) (g : List HeldLine) → AreLinesBy e o g → last_ending g ≡ o
@@ -123,22 +116,18 @@ with_ending o (h ∷ i ∷ hs) = h ∷ with_ending o (i ∷ hs)
 
 -- It has the same texts.
 pub texts-with : (o : Option LineEnding) (g : List HeldLine) → as_lines (with_ending o g) ≡ as_lines g
-texts-with o [] = refl
-texts-with o (h ∷ []) = refl
 texts-with o (h ∷ i ∷ hs) = ap (λ v. record { number = 0; text = h.text } ∷ v) (texts-with o (i ∷ hs))
+texts-with o g = refl
 
 -- Its last line ending is the new one.
 pub ending-with : (o : Option LineEnding) (h : HeldLine) (hs : List HeldLine) → last_ending (with_ending o (h ∷ hs)) ≡ o
-ending-with o h [] = refl
-ending-with o h (i ∷ []) = refl
 ending-with o h (i ∷ j ∷ hs) = ending-with o i (j ∷ hs)
+ending-with o h hs = refl
 
 -- Its bytes up to the last line ending are the same.
 pub unended-with : (o : Option LineEnding) (g : List HeldLine) → unended_bytes (with_ending o g) ≡ unended_bytes g
-unended-with o [] = refl
-unended-with o (h ∷ []) = refl
-unended-with o (h ∷ i ∷ []) = refl
 unended-with o (h ∷ i ∷ j ∷ hs) = ap (λ v. h.bytes ++ (ending_bytes h.ending ++ v)) (unended-with o (i ∷ j ∷ hs))
+unended-with o g = refl
 
 -- Its bytes are those, followed by those of the new line ending.
 pub bytes-with : (o : Option LineEnding) (h : HeldLine) (hs : List HeldLine)

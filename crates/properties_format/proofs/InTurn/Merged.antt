@@ -4,11 +4,11 @@ use Rattle.std.proofs.Common.{◌≡◌, ◌≢◌, ℕ, ◌&&◌, true, false, 
 use Rattle.std.proofs.lemmas.Bool.{cases_Bool, and_parts}
 use Rattle.properties_format.specs.Text.{LineEnding, lf, cr, crlf, carriage_return, line_feed}
 use Rattle.properties_format.specs.Encoding.{Encoding}
-use Rattle.properties_format.specs.Lines.{Ended, AreLines, end}
+use Rattle.properties_format.specs.Lines.{Ended, AreLines}
 use Rattle.properties_format.specs.Computed.Lines.{begins_with_lf}
-use Rattle.properties_format.specs.Groups.{is_open, IsGroups, IsWhole, lines_in, last_group}
+use Rattle.properties_format.specs.Groups.{is_open, IsWhole}
 use Rattle.properties_format.specs.Writing.{is_empty}
-use Rattle.properties_format.specs.Body.{HeldLine, AreHeld, as_lines, as_groups, held_in, AreGroupsOf, ending_bytes, group_bytes, groups_bytes, last_ending}
+use Rattle.properties_format.specs.Body.{HeldLine, AreHeld, as_lines, held_in, AreGroupsOf, ending_bytes, group_bytes, groups_bytes, last_ending}
 use Rattle.properties_format.specs.Edited.{is_editable, final_group}
 use Rattle.properties_format.specs.Computed.Cut.{cut_of, decoded_line}
 use Rattle.properties_format.specs.Computed.Body.{held_of, held_lines_of}
@@ -16,7 +16,8 @@ use Rattle.properties_format.specs.Computed.Parts.{unended_bytes, is_by_lf, is_b
 use Rattle.properties_format.proofs.Lines.Plain.{plain-no_lf, no_lf_first}
 use Rattle.properties_format.proofs.Cut.Meets.{cut_of-meets}
 use Rattle.properties_format.proofs.Body.Decoded.{decoded-nil}
-use Rattle.properties_format.proofs.Body.Groups.{as_lines-append, held_of-meets, IsLastFit, AreFit, held_ended, ended-bytes, held-bytes, IsHeldFront, IsHeldLast, AreHeldGroups, held-groups}
+use Rattle.properties_format.proofs.Body.Groups.{held_of-meets, IsLastFit, AreFit, held_ended, ended-bytes, held-bytes, IsHeldFront, IsHeldLast, AreHeldGroups, held-groups}
+use Rattle.properties_format.proofs.Valued.Lined.{groups-fit}
 use Rattle.properties_format.proofs.InTurn.Lines.{AreLinesBy, first-none, lines-front, lines-last, bytes-unended, ending-of, with_ending, texts-with, bytes-with, lines-with}
 
 -- ---- groups in turn
@@ -95,17 +96,13 @@ merged-two g h gs k = rw k refl
 
 -- A line ending that passes the test for an LF is one.
 pub by_lf-is : (o : Option LineEnding) → is_by_lf o ≡ true → o ≡ Some lf
-by_lf-is None k = absurd (cc)
 by_lf-is (Some lf) k = refl
-by_lf-is (Some cr) k = absurd (cc)
-by_lf-is (Some crlf) k = absurd (cc)
+by_lf-is o k = absurd (cc)
 
 -- A line ending that passes the test for a CR is one.
 pub by_cr-is : (o : Option LineEnding) → is_by_cr o ≡ true → o ≡ Some cr
-by_cr-is None k = absurd (cc)
-by_cr-is (Some lf) k = absurd (cc)
 by_cr-is (Some cr) k = refl
-by_cr-is (Some crlf) k = absurd (cc)
+by_cr-is o k = absurd (cc)
 
 -- A text that passes the test for an empty one is empty.
 pub empty-is : (x : List ℕ) → is_empty x ≡ true → x ≡ []
@@ -164,8 +161,7 @@ after-cr e g h gs a s k = of-turn gs a
     no_lf (c ∷ x) o y p q n = p
     no_lf [] None y p q n = ap begins_with_lf (n refl)
     no_lf [] (Some lf) y p q n = absurd (cc)
-    no_lf [] (Some cr) y p q n = refl
-    no_lf [] (Some crlf) y p q n = refl
+    no_lf [] o y p q n = refl
 
     other : (is_by_lf (last_ending h) && is_empty (unended_bytes h)) ≡ false
     other = ap (λ o. is_by_cr o && (is_by_lf (last_ending h) && is_empty (unended_bytes h))) (sym s) ∙ k
@@ -220,37 +216,6 @@ merged-fit e (g ∷ h ∷ gs) ((by, a, w), r) = elim (cases_Bool (are_one_ending
   | inr k ↦ subst AreFit (sym (merged-two g h gs k)) (fit-before g (merged (h ∷ gs)) w (merged-fit e (h ∷ gs) r))
 ]
 
--- If all groups but the last are whole, and the last is whole or ends open, they are the groups of their lines.
-fit-groups : (gs : List (List HeldLine)) → AreFit gs → IsGroups (as_lines (held_in gs)) end (as_groups gs)
-fit-groups [] f = record { whole = []; unfinished = []; are_lines = refl; are_whole = tt; is_unfinished = tt; are_groups = refl }
-fit-groups (g ∷ []) (inl w) = record {
-  whole = as_lines g ∷ [];
-  unfinished = [];
-  are_lines = ap as_lines (append-nil g) ∙ sym (append-nil (as_lines g)) ∙ sym (append-nil (as_lines g ++ []));
-  are_whole = (w, tt);
-  is_unfinished = tt;
-  are_groups = refl;
-}
-fit-groups ([] ∷ []) (inr u) = absurd u
-fit-groups ((h ∷ hs) ∷ []) (inr u) = record {
-  whole = [];
-  unfinished = as_lines (h ∷ hs);
-  are_lines = ap as_lines (append-nil (h ∷ hs));
-  are_whole = tt;
-  is_unfinished = u;
-  are_groups = refl;
-}
-fit-groups (g ∷ h ∷ gs) (w, f) =
-    let m = fit-groups (h ∷ gs) f in
-    record {
-      whole = as_lines g ∷ m.whole;
-      unfinished = m.unfinished;
-      are_lines = as_lines-append g (held_in (h ∷ gs)) ∙ ap (λ v. as_lines g ++ v) m.are_lines ∙ sym (append_assoc (as_lines g) (lines_in m.whole) m.unfinished);
-      are_whole = (w, m.are_whole);
-      is_unfinished = m.is_unfinished;
-      are_groups = ap (λ v. as_lines g ∷ v) {y = m.whole ++ last_group m.unfinished end} m.are_groups;
-    }
-
 -- Groups in turn, with each CR and single LF made one line ending, are the groups of their bytes.
 pub merged-groups : (e : Encoding) (gs : List (List HeldLine)) → is_editable e ≡ true → AreInTurn e gs → AreGroupsOf e (groups_bytes gs) (merged gs)
 merged-groups e gs ok a =
@@ -259,7 +224,7 @@ merged-groups e gs ok a =
       cut = cut_of e body;
       is_cut = cut_of-meets e body;
       are_held = subst (AreHeld e (cut_of e body).ended (cut_of e body).last) (merged-lines e gs ok a) (held_of-meets e (cut_of e body).ended (cut_of e body).last);
-      grouped = fit-groups (merged gs) (merged-fit e gs a);
+      grouped = groups-fit (merged gs) (merged-fit e gs a);
     }
 
 -- ---- what else is unchanged
@@ -271,12 +236,11 @@ final-next g (h ∷ gs) n = refl
 
 -- If there is a group, there is one once line endings are made one.
 merged-some : (gs : List (List HeldLine)) → gs ≢ [] → merged gs ≢ []
-merged-some [] n = n
-merged-some (g ∷ []) n = n
 merged-some (g ∷ h ∷ gs) n = elim (cases_Bool (are_one_ending g h)) [
   | inl k ↦ let s = merged-one g h gs k in λ q. cc
   | inr k ↦ let s = merged-two g h gs k in λ q. cc
 ]
+merged-some gs n = n
 
 -- Groups in turn are at least one.
 pub turn-some : (e : Encoding) (gs : List (List HeldLine)) → AreInTurn e gs → gs ≢ []

@@ -4,10 +4,10 @@ use Rattle.properties_format.specs.Encoding.{Encoding}
 use Rattle.properties_format.specs.Computed.Encoding.{decoded_of}
 use Rattle.properties_format.specs.Lines.{InputEnd, end, fault, more, Ended, Line, Lines, line_ends, numbered, numbered_lines}
 use Rattle.properties_format.specs.Computed.Lines.{lines_of}
-use Rattle.properties_format.specs.Groups.{AreWhole, lines_in, last_group, IsGroups, joined, first_number}
+use Rattle.properties_format.specs.Groups.{AreWhole, lines_in, last_group, IsGroups, first_number}
 use Rattle.properties_format.specs.Computed.Groups.{groups_of}
-use Rattle.properties_format.specs.Items.{Entry, NumbersAscend, Outcome, ignored, given, broken, last_entries}
-use Rattle.properties_format.specs.Computed.Items.{outcome_of, followed, entries_of, items_of}
+use Rattle.properties_format.specs.Items.{Entry, NumbersAscend, last_entries}
+use Rattle.properties_format.specs.Computed.Items.{entries_of, items_of}
 use Rattle.properties_format.proofs.Groups.Meets.{groups_of-meets}
 
 -- the numbers of the lines ascend, start above low, and are at most high
@@ -31,9 +31,8 @@ last_line more = 0
 -- The numbers of the lines after n line ends ascend, start above n, and are at most n plus their count.
 numbered-within : (n : ℕ) (ls : List Ended) (last : List ℕ) (ending : InputEnd) (high : ℕ) → n + length ls + last_line ending ≤ high → LinesWithin n high (numbered n ls last ending)
 numbered-within n [] last end high h = (omega arith, omega arith)
-numbered-within n [] last fault high h = omega arith
-numbered-within n [] last more high h = omega arith
 numbered-within n (l ∷ ls) last ending high h = (omega arith, numbered-within (n + 1) ls last ending high (omega arith))
+numbered-within n [] last ending high h = omega arith
 
 -- If lines lie within two numbers, the first number isn't above the second.
 lines-bounded : (low high : ℕ) (ls : List Line) → LinesWithin low high ls → low ≤ high
@@ -58,10 +57,7 @@ lines-behind_first low high xs ys zs h = lines-after low high xs (ys ++ zs) (sub
 
 -- The number of a last group lies within the numbers that its lines lie within.
 firsts-of_last : (low high : ℕ) (ls : List Line) (ending : InputEnd) → LinesWithin low high ls → FirstsWithin low high (last_group ls ending)
-firsts-of_last low high [] ending h = h
-firsts-of_last low high (l ∷ ls) end h = (h.0, lines-bounded l.number high ls h.1)
-firsts-of_last low high (l ∷ ls) fault h = lines-bounded low high (l ∷ ls) h
-firsts-of_last low high (l ∷ ls) more h = lines-bounded low high (l ∷ ls) h
+firsts-of_last low high ls ending h = grind (arith, lines-bounded)
 
 -- The numbers of whole groups and of a last one lie within those that their lines lie within.
 firsts-of : (low high : ℕ) (whole : List (List Line)) (unfinished : List Line) (ending : InputEnd) → AreWhole whole → LinesWithin low high (lines_in whole ++ unfinished)
@@ -77,12 +73,6 @@ groups-within low high ls ending gs g h = rw g.are_groups (firsts-of low high g.
 
 -- ---- entries
 
--- If a line's number and those after it ascend, so do the numbers of its entry and of the entries after it.
-followed-ascend : (low high number : ℕ) (outcome : Outcome) (rest : List Entry) → low < number → NumbersAscend number rest → NumbersAscend low rest → NumbersAscend low (followed number outcome rest)
-followed-ascend low high number ignored rest h k m = m
-followed-ascend low high number (given content) rest h k m = (h, k)
-followed-ascend low high number (broken kind) rest h k m = (h, tt)
-
 -- Numbers that ascend from above one number ascend from above any lower one.
 ascend-lower : (low less : ℕ) (entries : List Entry) → less < low → NumbersAscend low entries → NumbersAscend less entries
 ascend-lower low less [] k h = tt
@@ -90,16 +80,13 @@ ascend-lower low less (x ∷ xs) k h = (let b = h.0 in omega arith, h.1)
 
 -- A read that fails after n line ends has a number above n, and above those of the lines before it.
 last-ascend : (low high n : ℕ) (ending : InputEnd) → high ≤ n + last_line ending → low ≤ high → NumbersAscend low (last_entries n ending)
-last-ascend low high n end h k = tt
-last-ascend low high n fault h k = (omega arith, tt)
-last-ascend low high n more h k = tt
+last-ascend low high n ending h k = grind (arith)
 
 -- The numbers of the entries of groups ascend if those of the groups' first lines do.
 entries-ascend : (low high n : ℕ) (ending : InputEnd) (gs : List (List Line)) → high ≤ n + last_line ending → FirstsWithin low high gs → NumbersAscend low (entries_of n ending gs)
 entries-ascend low high n ending [] h k = last-ascend low high n ending h k
 entries-ascend low high n ending (g ∷ gs) h k =
-    let rest = entries-ascend (first_number g) high n ending gs h k.1 in
-    followed-ascend low high (first_number g) (outcome_of (joined g)) (entries_of n ending gs) k.0 rest (ascend-lower (first_number g) low (entries_of n ending gs) k.0 rest)
+    grind (arith, ascend-lower, entries-ascend (first_number g) high n ending gs h k.1)
 
 -- The numbers of the entries of lines after n line ends ascend strictly, and are at least n + 1.
 pub lines-ascend : (n : ℕ) (lines : Lines) (ending : InputEnd)

@@ -11,7 +11,7 @@ use Rattle.properties_format.specs.Computed.Split.{split_of}
 use Rattle.properties_format.specs.Escapes.{Meaning, means, breaks, IsMeaning}
 use Rattle.properties_format.specs.Computed.Escapes.{meaning_of}
 use Rattle.properties_format.specs.Items.{comment, pair, Entry, item, Outcome, ignored, given, broken, IsOutcome, IsFollowed, AreEntries, IsItems}
-use Rattle.properties_format.specs.Computed.Items.{comment_outcome, pair_outcome, split_outcome, outcome_of, followed, entries_of, items_of_lines, items_of}
+use Rattle.properties_format.specs.Computed.Items.{comment_outcome, pair_outcome, split_outcome, outcome_of, followed, entries_of, items_of, items_of_lines}
 use Rattle.properties_format.proofs.Encodings.Pieces.{decoded_of-meets, decoded_of-only}
 use Rattle.properties_format.proofs.Lines.Meets.{lines_of-meets}
 use Rattle.properties_format.proofs.Lines.Only.{lines_of-only}

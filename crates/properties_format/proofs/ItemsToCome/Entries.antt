@@ -63,8 +63,7 @@ pub pending-closed : {s t : ReaderState} {x y : List ℕ} {l : Line} {ending : I
     → entries_pending None s x ending ≡ followed l.number (outcome_of l.text) (entries_pending None t y ending)
 unfolding entries_pending
 pending-closed {s} {t} {x} {y} {l} {ending} h k =
-    pending-gives None s t x y (l ∷ []) ending h
-    ∙ ap (λ v. entries_of_logical v (last_to_come t y ending)) (logical_lines-closed l (natural_to_come t y ending) ending k)
+    rw (pending-gives None s t x y (l ∷ []) ending h, logical_lines-closed l (natural_to_come t y ending) ending k)
 
 -- An open line that isn't a comment line starts a logical line.
 pub pending-open : {s t : ReaderState} {x y : List ℕ} {l : Line} {ending : InputEnd} → Gives s x (l ∷ []) t y ending → is_comment_line l.text ≡ false
@@ -72,8 +71,7 @@ pub pending-open : {s t : ReaderState} {x y : List ℕ} {l : Line} {ending : Inp
     → entries_pending None s x ending ≡ entries_pending (Some (record { number = l.number; text = without_open_backslash l.text })) t y ending
 unfolding entries_pending
 pending-open {s} {t} {x} {y} {l} {ending} h k m =
-    pending-gives None s t x y (l ∷ []) ending h
-    ∙ ap (λ v. entries_of_logical v (last_to_come t y ending)) (logical_lines-open l (natural_to_come t y ending) ending k m)
+    rw (pending-gives None s t x y (l ∷ []) ending h, logical_lines-open l (natural_to_come t y ending) ending k m)
 
 -- ---- a logical line has been started, and a line comes next
 

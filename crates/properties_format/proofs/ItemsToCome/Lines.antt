@@ -1,6 +1,6 @@
 -- The natural lines to come, step by step: bytes are read, the byte order mark is determined, an LF is skipped, a line
 -- is taken, the input ends.
-use Rattle.std.proofs.Common.{◌≡◌, ◌==◌, ℕ, ◌+◌, ◌<◌, Bool, true, false, List, [], ◌∷◌, ◌++◌, length, refl, ap, ap₂, sym, ◌∙◌, inl, inr}
+use Rattle.std.proofs.Common.{◌≡◌, ◌==◌, ℕ, ◌+◌, ◌<◌, Bool, true, false, List, [], ◌∷◌, ◌++◌, length, refl, ap, ap₂, sym, ◌∙◌, inl, inr, lit<}
 use Rattle.std.proofs.Common.{append_assoc, append-nil, eqb-true, add-zero}
 use Rattle.std.specs.Prelude.{if◌then◌else◌}
 use Rattle.std.proofs.lemmas.Bool.{or_cases}
@@ -20,11 +20,13 @@ use Rattle.properties_format.proofs.Encodings.ByteOrderMarks.{byte_order_mark-ap
 use Rattle.properties_format.proofs.Lines.Only.{lines_of-plain}
 use Rattle.properties_format.proofs.Lines.Plain.{one-more, plain-no_lf, without_leading_lf-none}
 use Rattle.properties_format.proofs.Cut.Units.{lf_first-append}
-use Rattle.properties_format.proofs.Cut.Byline.{no_end-decoded}
+use Rattle.properties_format.proofs.Cut.Byline.{no_end-decoded, end-ascii}
 use Rattle.properties_format.proofs.Cut.Steps.{line_in_front}
-use Rattle.properties_format.proofs.Cut.ToCome.{decoded-end, decoded-lf_first, decoded-no_lf}
+use Rattle.properties_format.proofs.Cut.ToCome.{decoded-no_lf}
 use Rattle.properties_format.specs.Cut.{units}
 use Rattle.properties_format.proofs.Lines.Steps.{lines_of-line, lines_of-cr, cr_end}
+use Rattle.properties_format.proofs.Encodings.Cuts.{characters-cut_ascii}
+use Rattle.properties_format.proofs.Encodings.Characters.{pieces_of-ascii}
 
 -- ---- states with equal text to come
 
@@ -92,7 +94,7 @@ pub gives-passed_lf : (s : ReaderState) (rest d : List ℕ) (ending : InputEnd) 
 gives-passed_lf s rest d ending h k m =
     let e : s.held ++ d ≡ ascii_bytes s.encoding line_feed ++ (rest ++ d) = ap (λ v. v ++ d) m ∙ append_assoc (ascii_bytes s.encoding line_feed) rest d in
     let f : decoded_line s.encoding (s.held ++ d) ≡ line_feed ∷ decoded_line s.encoding (rest ++ d) =
-    ap (decoded_line s.encoding) e ∙ decoded-lf_first s.encoding (rest ++ d) in
+    ap (decoded_line s.encoding) e ∙ ap characters (pieces_of-ascii s.encoding line_feed (rest ++ d) (lit< tt)) in
     let g : text_to_come s d ≡ decoded_line s.encoding (rest ++ d) = text-decided s d h ∙ ap₂ rest_of_end k f in
     gives-text s (after_passed s rest) d d ending refl refl (g ∙ sym (text-decided (after_passed s rest) d h))
 
@@ -156,7 +158,7 @@ line-plain s l c rest d ending h plain =
     text-decided s d h.decided
     ∙ ap (λ v. rest_of_end v (decoded_line s.encoding (s.held ++ d))) h.passed
     ∙ ap (λ v. decoded_line s.encoding v) e
-    ∙ decoded-end s.encoding c l (rest ++ d) h.ends h.aligned in
+    ∙ characters-cut_ascii s.encoding c l (rest ++ d) (end-ascii c h.ends) h.aligned in
     let g : rest_of_end (c == carriage_return) y ≡ text_to_come t d = sym (text-decided t d h.decided) in
     let k = lines_of-ended text c y plain h.ends in
     gives-lines s t d ending text k.0 h.going h.going refl (ap lines_of f ∙ k.1 ∙ ap (λ v. line_in_front text k.0 (lines_of v)) g)

@@ -35,9 +35,7 @@ goes-line text by ls last h k m goes n y e =
 goes-cr : (text : List ℕ) → HoldsNoLineEnd text → Goes (record { text = text; by = cr } ∷ []) []
 unfolding Goes
 goes-cr text h n y e =
-    ap (λ v. lines_to_come n false [] v e) (regroup text cr [] y)
-    ∙ lines_to_come-cr n false text y e h
-    ∙ ap (λ v. record { number = n + 1; text = text } ∷ lines_to_come (n + 1) v [] y e) (sym (ends_in_cr-append text carriage_return []))
+    cc (regroup text cr [] y, lines_to_come-cr n false text y e h, ends_in_cr-append text carriage_return [])
 
 -- A CR that no LF follows ends its line, before a text that isn't empty.
 goes-cr-on : (text : List ℕ) (ls : List Ended) (last : List ℕ) (c : ℕ) (x : List ℕ) → put_together ls last ≡ c ∷ x → (c == line_feed) ≡ false

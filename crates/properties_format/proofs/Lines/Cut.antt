@@ -1,7 +1,7 @@
 -- Where a text may be cut so that the lines of the two parts are the lines of the whole: anywhere except between a CR
 -- and an LF.
 use Rattle.std.proofs.Common.{◌≡◌, ℕ, true, false, List, [], ◌∷◌, ◌++◌, refl, ap, ◌∙◌}
-use Rattle.properties_format.specs.Text.{carriage_return, LineEnding, lf, cr, crlf, line_ending_text}
+use Rattle.properties_format.specs.Text.{carriage_return, LineEnding, cr, line_ending_text}
 use Rattle.properties_format.specs.Lines.{Ended, Lines, put_together, AreLines}
 use Rattle.properties_format.specs.Computed.Lines.{begins_with_lf, ends_in_cr, lines_of}
 use Rattle.properties_format.proofs.Lines.Meets.{lines_of-meets}
@@ -15,10 +15,9 @@ PartsNoEnd x y = ends_in_cr x ≡ true → begins_with_lf y ≡ false
 -- If a cut separates no CR from an LF, it still separates none without the first line and its end.
 after-line : (text : List ℕ) (by : LineEnding) (x y : List ℕ) → (by ≡ cr → begins_with_lf x ≡ false) → PartsNoEnd (text ++ (line_ending_text by ++ x)) y
     → (by ≡ cr → begins_with_lf (x ++ y) ≡ false) × PartsNoEnd x y
-after-line text lf [] y h k = ((λ e. absurd (cc)), (λ e. absurd (cc)))
 after-line text cr [] y h k = ((λ e. k (ends_in_cr-append text carriage_return [])), (λ e. absurd (cc)))
-after-line text crlf [] y h k = ((λ e. absurd (cc)), (λ e. absurd (cc)))
 after-line text by (c ∷ x) y h k = (h, (λ e. k (ends-after text by c x ∙ e)))
+after-line text by [] y h k = ((λ e. absurd (cc)), (λ e. absurd (cc)))
 
 -- the lines, followed by those of the last one and what follows it
 abbrev pub lines_on : List Ended → Lines → Lines

@@ -2,9 +2,9 @@
 use Rattle.std.proofs.Common.{◌≡◌, ℕ, ◌==◌, false, List, [], ◌∷◌, refl, ap, inl, inr}
 use Rattle.std.proofs.lemmas.Bool.{or_from, or_parts}
 use Rattle.std.proofs.lemmas.Bool.Decides.{eqb_tells}
-use Rattle.properties_format.specs.Text.{line_feed, carriage_return, is_line_end, LineEnding, lf, cr, crlf}
+use Rattle.properties_format.specs.Text.{line_feed, carriage_return, is_line_end, LineEnding, lf}
 use Rattle.properties_format.specs.Lines.{Ended, Lines, IsLines}
-use Rattle.properties_format.specs.Computed.Lines.{end_before, cr_before, character_before, before, lines_of}
+use Rattle.properties_format.specs.Computed.Lines.{cr_before, character_before, before, lines_of}
 
 -- A character that ends no line is neither a CR nor an LF.
 pub before-plain : (c : ℕ) (lines : Lines) → is_line_end c ≡ false → before c lines ≡ character_before c lines.ended lines.last
@@ -13,18 +13,12 @@ before-plain c lines h =
     let f : (c == carriage_return) ≡ false = (or_parts (c == line_feed) (c == carriage_return) h).1 in
     rw e (rw f refl)
 
--- An LF before any lines.
-lf-meets : (x : List ℕ) (lines : Lines) → IsLines x lines → IsLines (line_feed ∷ x) (record lines { ended = end_before lf lines.ended })
-lf-meets x lines h = record { text = ap (λ v. line_feed ∷ v) h.text; are_lines = (tt, (λ k. absurd (cc)), h.are_lines) }
-
 -- A CR before a line.
 cr-meets-line : (text : List ℕ) (by : LineEnding) (ls : List Ended) (last x : List ℕ)
     → IsLines x (record { ended = record { text = text; by = by } ∷ ls; last = last })
     → IsLines (carriage_return ∷ x) (record { ended = cr_before (record { text = text; by = by } ∷ ls); last = last })
 cr-meets-line [] lf ls last x h = record { text = ap (λ v. carriage_return ∷ v) h.text; are_lines = (tt, (λ k. absurd (cc)), h.are_lines.2) }
-cr-meets-line [] cr ls last x h = record { text = ap (λ v. carriage_return ∷ v) h.text; are_lines = (tt, (λ k p. absurd (cc)), h.are_lines) }
-cr-meets-line [] crlf ls last x h = record { text = ap (λ v. carriage_return ∷ v) h.text; are_lines = (tt, (λ k p. absurd (cc)), h.are_lines) }
-cr-meets-line (c ∷ cs) by ls last x h = record { text = ap (λ v. carriage_return ∷ v) h.text; are_lines = (tt, (λ k p. absurd (cc)), h.are_lines) }
+cr-meets-line text by ls last x h = record { text = ap (λ v. carriage_return ∷ v) h.text; are_lines = (tt, (λ k p. absurd (cc)), h.are_lines) }
 
 -- A CR before any lines, or before none.
 cr-meets : (ended : List Ended) (last x : List ℕ) → IsLines x (record { ended = ended; last = last })
@@ -41,7 +35,7 @@ character-meets c (l ∷ ls) last x e h = record { text = ap (λ v. c ∷ v) h.t
 -- Any character before any lines.
 before-meets : (c : ℕ) (x : List ℕ) (lines : Lines) → IsLines x lines → IsLines (c ∷ x) (before c lines)
 before-meets c x lines h = elim (eqb_tells c line_feed) [
-  | inl k ↦ rw k.1 (lf-meets x lines h)
+  | inl k ↦ rw k.1 (record { text = ap (λ v. line_feed ∷ v) h.text; are_lines = (tt, (λ k. absurd (cc)), h.are_lines) })
   | inr k ↦ elim (eqb_tells c carriage_return) [
     | inl m ↦ rw m.1 (cr-meets lines.ended lines.last x h)
     | inr m ↦

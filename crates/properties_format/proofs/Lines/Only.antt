@@ -14,9 +14,7 @@ lines_of-plain (c ∷ l) h = ap (before c) (lines_of-plain l h.1) ∙ before-pla
 cr-before-line : (text : List ℕ) (by : LineEnding) (ls : List Ended) → ¬ ((text ≡ []) × (by ≡ lf))
     → cr_before (record { text = text; by = by } ∷ ls) ≡ end_before cr (record { text = text; by = by } ∷ ls)
 cr-before-line [] lf ls h = absurd (h (refl, refl))
-cr-before-line [] cr ls h = refl
-cr-before-line [] crlf ls h = refl
-cr-before-line (c ∷ cs) by ls h = refl
+cr-before-line text by ls h = refl
 
 -- A CR takes only the LF of an empty line that an LF ends.
 pub cr-before : (ls : List Ended) → BeginsWithNoLoneLf ls → cr_before ls ≡ end_before cr ls

@@ -21,18 +21,17 @@ pub plain-right : (x y : List ℕ) → HoldsNoLineEnd (x ++ y) → HoldsNoLineEn
 plain-right [] y h = h
 plain-right (c ∷ x) y h = plain-right x y h.1
 
--- The last line of a text contains no line end.
+-- The last of a text's lines contains no line end.
+pub plain-last : (ls : List Ended) (last : List ℕ) → AreLines ls last → HoldsNoLineEnd last
+plain-last [] last h = h
+plain-last (l ∷ ls) last h = plain-last ls last h.2
+
 pub last-plain : (x : List ℕ) → HoldsNoLineEnd (lines_of x).last
-last-plain x = of_lines (lines_of x).ended (lines_of x).last (lines_of-meets x).are_lines
-  where
-    of_lines : (ls : List Ended) (last : List ℕ) → AreLines ls last → HoldsNoLineEnd last
-    of_lines [] last h = h
-    of_lines (l ∷ ls) last h = of_lines ls last h.2
+last-plain x = plain-last (lines_of x).ended (lines_of x).last (lines_of-meets x).are_lines
 
 -- A text without line ends doesn't begin with an LF.
 pub plain-no_lf : (x : List ℕ) → HoldsNoLineEnd x → begins_with_lf x ≡ false
-plain-no_lf [] h = refl
-plain-no_lf (c ∷ x) h = (or_parts (c == line_feed) (c == carriage_return) h.0).0
+plain-no_lf x h = grind (arith)
 
 -- A text without line ends doesn't end in a CR.
 pub plain-no_cr : (x : List ℕ) → HoldsNoLineEnd x → ends_in_cr x ≡ false
@@ -68,30 +67,24 @@ lines_of-no_lone_lf y h = no_lone_lf (lines_of y).ended (lines_of y).last (sym (
 
 -- A text that doesn't begin with an LF has none to lose.
 pub without_leading_lf-none : (y : List ℕ) → begins_with_lf y ≡ false → without_leading_lf y ≡ y
-without_leading_lf-none [] h = refl
-without_leading_lf-none (c ∷ cs) h = rw h refl
+without_leading_lf-none y h = grind (arith)
 
 -- A text ends as its last part ends.
 pub ends_in_cr-append : (x : List ℕ) (c : ℕ) (y : List ℕ) → ends_in_cr (x ++ c ∷ y) ≡ ends_in_cr (c ∷ y)
-ends_in_cr-append [] c y = refl
-ends_in_cr-append (b ∷ []) c y = refl
 ends_in_cr-append (b ∷ d ∷ x) c y = ends_in_cr-append (d ∷ x) c y
+ends_in_cr-append x c y = refl
 
 -- A text with characters after a line end ends in a CR exactly if those characters do.
 pub ends-after : (text : List ℕ) (by : LineEnding) (c : ℕ) (x : List ℕ) → ends_in_cr (text ++ (line_ending_text by ++ c ∷ x)) ≡ ends_in_cr (c ∷ x)
-ends-after text lf c x = ends_in_cr-append text line_feed (c ∷ x)
-ends-after text cr c x = ends_in_cr-append text carriage_return (c ∷ x)
-ends-after text crlf c x = ends_in_cr-append text carriage_return (line_feed ∷ c ∷ x)
+ends-after text by c x = grind (arith, ends_in_cr-append)
 
 -- A text ends in a CR exactly if what follows an LF in it does.
 pub ends-lf : (text : List ℕ) (x : List ℕ) → ends_in_cr (text ++ line_feed ∷ x) ≡ ends_in_cr x
-ends-lf text [] = ends_in_cr-append text line_feed []
-ends-lf text (c ∷ x) = ends_in_cr-append text line_feed (c ∷ x)
+ends-lf text x = grind (arith, ends_in_cr-append)
 
 -- A text ends in a CR exactly if what follows a CR LF in it does.
 pub ends-crlf : (text : List ℕ) (x : List ℕ) → ends_in_cr (text ++ carriage_return ∷ line_feed ∷ x) ≡ ends_in_cr x
-ends-crlf text [] = ends_in_cr-append text carriage_return (line_feed ∷ [])
-ends-crlf text (c ∷ x) = ends_in_cr-append text carriage_return (line_feed ∷ c ∷ x)
+ends-crlf text x = grind (arith, ends_in_cr-append)
 
 -- ---- regrouping sums and texts
 

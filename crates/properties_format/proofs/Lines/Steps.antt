@@ -52,13 +52,9 @@ lines_to_come-held n held x y e = ap (λ v. lines_to_come n false [] v e) (sym (
 -- A CR ends the line that is held, and an LF after the CR belongs to the same line end.
 pub lines_to_come-cr : (n : ℕ) (after_cr : Bool) (held y : List ℕ) (e : InputEnd) → HoldsNoLineEnd held
     → lines_to_come n after_cr held (carriage_return ∷ y) e ≡ record { number = n + 1; text = held } ∷ lines_to_come (n + 1) true [] y e
-lines_to_come-cr n after_cr held y e h =
-    lines_to_come-no_lf n after_cr held (carriage_return ∷ y) e refl
-    ∙ ap (λ v. let w : Lines = v in numbered n w.ended w.last e) (lines_of-cr held y h)
+lines_to_come-cr n after_cr held y e h = simp (lines_to_come-no_lf, lines_of-cr)
 
 -- A whole line end ends the line that is held.
 pub lines_to_come-line : (n : ℕ) (held text : List ℕ) (by : LineEnding) (y : List ℕ) (e : InputEnd) → HoldsNoLineEnd held → HoldsNoLineEnd text → (by ≡ cr → begins_with_lf y ≡ false)
     → lines_to_come n false held (text ++ (line_ending_text by ++ y)) e ≡ record { number = n + 1; text = held ++ text } ∷ lines_to_come (n + 1) false [] y e
-lines_to_come-line n held text by y e h k m =
-    lines_to_come-held n held text (line_ending_text by ++ y) e
-    ∙ ap (λ v. let w : Lines = v in numbered n w.ended w.last e) (lines_of-line (held ++ text) by y (plain-append held text h k) m)
+lines_to_come-line n held text by y e h k m = simp (lines_to_come-held, lines_of-line, plain-append)

@@ -1,11 +1,11 @@
 -- How printed lines are put together. They contain only characters that can be encoded.
-use Rattle.std.proofs.Common.{◌≡◌, ℕ, ◌+◌, ◌/◌, ◌%◌, ◌<◌, ◌==◌, ◌||◌, ◌&&◌, not, Bool, true, false, cond, List, [], ◌∷◌, ◌++◌, refl, ap, sym, ◌∙◌, inl, inr, append_assoc, arith, lit<, lt-ltb, eqb-true}
+use Rattle.std.proofs.Common.{◌≡◌, ℕ, ◌+◌, ◌/◌, ◌%◌, ◌<◌, ◌==◌, ◌||◌, ◌&&◌, not, Bool, true, false, cond, List, [], ◌∷◌, ◌++◌, refl, ap, ◌∙◌, append_assoc, arith, lit<, lt-ltb}
 use Rattle.std.specs.Prelude.{Some, is_some, unwrap_or, nat_lt}
 use Rattle.std.specs.Char.{digit_char}
-use Rattle.std.proofs.lemmas.Bool.{cond_both, or_cases, and_from, and_parts}
+use Rattle.std.proofs.lemmas.Bool.{cond_both, and_from, and_parts}
 use Rattle.std.proofs.lemmas.Str.{encode_ascii}
-use Rattle.properties_format.specs.Text.{scalar, line_ending_text, LineEnding, lf, cr, crlf, is_blank, space, backslash, is_separator, is_comment_sign}
-use Rattle.properties_format.specs.Encoding.{Encoding, windows_1252, utf_8, utf_16le, utf_16be, encoded, one_byte}
+use Rattle.properties_format.specs.Text.{scalar, line_ending_text, LineEnding, is_blank, space, backslash}
+use Rattle.properties_format.specs.Encoding.{Encoding, encoded}
 use Rattle.properties_format.specs.Entries.{Content, comment, pair}
 use Rattle.properties_format.specs.Split.{AreBlanks}
 use Rattle.properties_format.specs.Settings.{Settings, IsGoodSeparator}
@@ -17,15 +17,13 @@ use Rattle.properties_format.proofs.Encodings.Windows1252.{windows_1252_byte-asc
 -- The bytes of two texts.
 pub encoded_text-append : (e : Encoding) (x y : List ℕ) → encoded_text e (x ++ y) ≡ encoded_text e x ++ encoded_text e y
 encoded_text-append e [] y = refl
-encoded_text-append e (c ∷ x) y =
-    ap (λ v. unwrap_or (encoded e c) [] ++ v) (encoded_text-append e x y) ∙ sym (append_assoc (unwrap_or (encoded e c) []) (encoded_text e x) (encoded_text e y))
+encoded_text-append e (c ∷ x) y = simp (append_assoc, encoded_text-append e x y)
 
 -- What is printed for two texts.
 pub printed_characters-append : (e : Encoding) (only : Bool) (place : Place) (x y : List ℕ)
     → printed_characters e only place (x ++ y) ≡ printed_characters e only place x ++ printed_characters e only place y
 printed_characters-append e only place [] y = refl
-printed_characters-append e only place (c ∷ x) y = ap (λ v. printed_character e only place c ++ v) (printed_characters-append e only place x y)
-    ∙ sym (append_assoc (printed_character e only place c) (printed_characters e only place x) (printed_characters e only place y))
+printed_characters-append e only place (c ∷ x) y = simp (append_assoc, printed_characters-append e only place x y)
 
 -- ---- printed lines, by their parts
 
@@ -44,9 +42,7 @@ pub printed-pair : (e : Encoding) (s : Settings) (first : Bool) (key value : Lis
     → printed e s first (pair key value)
     ≡ encoded_text e (printed_key e s.ascii_only first key)
     ++ (encoded_text e s.kv_separator ++ (encoded_text e (printed_characters e s.ascii_only in_key_or_value value) ++ encoded_text e (line_ending_text s.line_ending)))
-printed-pair e s first key value =
-    encoded_text-append e (printed_key e s.ascii_only first key) (s.kv_separator ++ (printed_characters e s.ascii_only in_key_or_value value ++ line_ending_text s.line_ending))
-    ∙ ap (λ v. encoded_text e (printed_key e s.ascii_only first key) ++ v) (three-parts e s.kv_separator (printed_characters e s.ascii_only in_key_or_value value) (line_ending_text s.line_ending))
+printed-pair e s first key value = simp encoded_text-append
 
 -- ---- characters that can be encoded
 
@@ -66,10 +62,7 @@ AreEncodable-append e (c ∷ x) y h k = (h.0, AreEncodable-append e x y h.1 k)
 
 -- An ASCII character is encoded as itself in every encoding.
 pub encoded-ascii : (e : Encoding) (c : ℕ) → c < 0x80 → encoded e c ≡ Some (c ∷ [])
-encoded-ascii windows_1252 c h = ap one_byte (windows_1252_byte-ascii c h)
-encoded-ascii utf_8 c h = ap Some (encode_ascii c h)
-encoded-ascii utf_16le c h = ap Some (encode_ascii c h)
-encoded-ascii utf_16be c h = ap Some (encode_ascii c h)
+encoded-ascii e c h = grind (arith, windows_1252_byte-ascii, encode_ascii)
 
 -- every character of the text is ASCII
 abbrev pub AreAscii : List ℕ → Type 0
@@ -93,9 +86,7 @@ encoded_text-ascii e (c ∷ x) h = ap (λ o. unwrap_or o [] ++ encoded_text e x)
 
 -- a line ending is an ASCII text
 pub line_end-ascii : (by : LineEnding) → AreAscii (line_ending_text by)
-line_end-ascii lf = (lit< tt, tt)
-line_end-ascii cr = (lit< tt, tt)
-line_end-ascii crlf = (lit< tt, (lit< tt, tt))
+line_end-ascii by = grind (arith)
 
 -- ---- what is printed can be encoded
 
@@ -123,27 +114,11 @@ pub letter_escape-ascii : (c : ℕ) → AreAscii (letter_escape c)
 letter_escape-ascii c = (lit< tt, (letter c, tt))
   where
     letter : (c : ℕ) → cond (c == 0x09) 0x74 (cond (c == 0x0a) 0x6e (cond (c == 0x0c) 0x66 0x72)) < 0x80
-    letter c =
-        cond_both (c == 0x09) 0x74 (cond (c == 0x0a) 0x6e (cond (c == 0x0c) 0x66 0x72)) (λ v. v < 0x80) (λ k. lit< tt)
-        (λ k. cond_both (c == 0x0a) 0x6e (cond (c == 0x0c) 0x66 0x72) (λ v. v < 0x80) (λ k. lit< tt)
-        (λ k. cond_both (c == 0x0c) 0x66 0x72 (λ v. v < 0x80) (λ k. lit< tt) (λ k. lit< tt)))
-
--- A character that equals an ASCII character is ASCII.
-is-ascii : (c k : ℕ) → k < 0x80 → (c == k) ≡ true → c < 0x80
-is-ascii c k h e = rw (eqb-true c k e) h
+    letter c = grind (arith)
 
 -- A character that is escaped with a backslash is ASCII.
 pub special-ascii : (c : ℕ) → is_special c ≡ true → c < 0x80
-special-ascii c h = elim (or_cases (c == backslash) (c == space || (is_separator c || is_comment_sign c)) h) [
-  | inl e ↦ is-ascii c backslash (lit< tt) e
-  | inr h ↦ elim (or_cases (c == space) (is_separator c || is_comment_sign c) h) [
-    | inl e ↦ is-ascii c space (lit< tt) e
-    | inr h ↦ elim (or_cases (is_separator c) (is_comment_sign c) h) [
-      | inl h ↦ elim (or_cases (c == 0x3d) (c == 0x3a) h) [ inl e ↦ is-ascii c 0x3d (lit< tt) e | inr e ↦ is-ascii c 0x3a (lit< tt) e ]
-      | inr h ↦ elim (or_cases (c == 0x23) (c == 0x21) h) [ inl e ↦ is-ascii c 0x23 (lit< tt) e | inr e ↦ is-ascii c 0x21 (lit< tt) e ]
-    ]
-  ]
-]
+special-ascii c h = grind (arith)
 
 -- A character that may be written unescaped can be encoded.
 may_be_unescaped-encodable : (e : Encoding) (only : Bool) (c : ℕ) → may_be_unescaped e only c ≡ true → is_some (encoded e c) ≡ true
@@ -154,10 +129,6 @@ pub may_be_unescaped-ascii : (e : Encoding) (only : Bool) (c : ℕ) → c < 0x80
 may_be_unescaped-ascii e true c h = and_from (nat_lt c 0x80) (is_some (encoded e c)) (lt-ltb c 0x80 h) (ap is_some (encoded-ascii e c h))
 may_be_unescaped-ascii e false c h = ap is_some (encoded-ascii e c h)
 
--- A special character with its backslash is an ASCII text.
-special-escape : (c : ℕ) → is_special c ≡ true → AreAscii (backslash ∷ c ∷ [])
-special-escape c h = (lit< tt, (special-ascii c h, tt))
-
 -- A character that is unescaped if that is allowed, and escaped otherwise, is printed as an ASCII text or as itself.
 literal-either : (e : Encoding) (only : Bool) (c : ℕ) (P : List ℕ → Type 0) → ((x : List ℕ) → AreAscii x → P x) → (may_be_unescaped e only c ≡ true → P (c ∷ [])) → P (literal e only c)
 literal-either e only c P ascii as_it_is = cond_both (may_be_unescaped e only c) (c ∷ []) (unicode_escape c) P as_it_is (λ k. ascii (unicode_escape c) (unicode_escape-ascii c))
@@ -167,7 +138,7 @@ pub printed-either : (e : Encoding) (only : Bool) (place : Place) (c : ℕ) (P :
     → P (printed_character e only place c)
 printed-either e only in_key_or_value c P ascii as_it_is =
     cond_both (is_special c) (backslash ∷ c ∷ []) (cond (has_letter c) (letter_escape c) (cond (nat_lt c space) (unicode_escape c) (literal e only c))) P
-    (λ k. ascii (backslash ∷ c ∷ []) (special-escape c k))
+    (λ k. ascii (backslash ∷ c ∷ []) (lit< tt, (special-ascii c k, tt)))
     (λ k. cond_both (has_letter c) (letter_escape c) (cond (nat_lt c space) (unicode_escape c) (literal e only c)) P
     (λ k. ascii (letter_escape c) (letter_escape-ascii c))
     (λ k. cond_both (nat_lt c space) (unicode_escape c) (literal e only c) P
@@ -189,8 +160,7 @@ printed-encodable e only place c = printed-either e only place c (AreEncodable e
 pub printed_characters-encodable : (e : Encoding) (only : Bool) (place : Place) (x : List ℕ) → AreEncodable e (printed_characters e only place x)
 printed_characters-encodable e only place [] = tt
 printed_characters-encodable e only place (c ∷ x) =
-    AreEncodable-append e (printed_character e only place c) (printed_characters e only place x)
-    (printed-encodable e only place c) (printed_characters-encodable e only place x)
+    grind (arith, AreEncodable-append, printed-encodable, printed_characters-encodable e only place x)
 
 -- A key with its first character escaped can be encoded.
 with_first_escaped-encodable : (e : Encoding) (only : Bool) (key : List ℕ) → AreEncodable e (with_first_escaped e only key)
@@ -209,14 +179,7 @@ printed_key-encodable e only first key =
 
 -- a blank is an ASCII character
 pub blank-ascii : (c : ℕ) → is_blank c ≡ true → c < 0x80
-blank-ascii c h = elim (or_cases (c == 0x20) (c == 0x09 || c == 0x0c) h) [
-  | inl e ↦ is-ascii c 0x20 (lit< tt) e
-  | inr h ↦ elim (or_cases (c == 0x09) (c == 0x0c) h) [ inl e ↦ is-ascii c 0x09 (lit< tt) e | inr e ↦ is-ascii c 0x0c (lit< tt) e ]
-]
-
--- A separator is an ASCII character.
-pub separator-ascii : (c : ℕ) → is_separator c ≡ true → c < 0x80
-separator-ascii c h = elim (or_cases (c == 0x3d) (c == 0x3a) h) [ inl e ↦ is-ascii c 0x3d (lit< tt) e | inr e ↦ is-ascii c 0x3a (lit< tt) e ]
+blank-ascii c h = grind (arith)
 
 -- blanks are an ASCII text
 pub blanks-ascii : (x : List ℕ) → AreBlanks x → AreAscii x
@@ -225,17 +188,12 @@ blanks-ascii (c ∷ x) h = (blank-ascii c h.0, blanks-ascii x h.1)
 
 -- A good separator is an ASCII text.
 pub good_separator-ascii : (separator : List ℕ) → IsGoodSeparator separator → AreAscii separator
-good_separator-ascii separator (inl g) =
-    rw g.division (AreAscii-append g.before (g.sign ∷ g.after) (blanks-ascii g.before g.blank_before) (separator-ascii g.sign g.signed, blanks-ascii g.after g.blank_after))
-good_separator-ascii separator (inr g) = blanks-ascii separator g.blank
+good_separator-ascii separator h = grind (arith, AreAscii-append, blanks-ascii)
 
 -- A printed line can be encoded if its separator is good.
 pub printed_text-encodable : (e : Encoding) (s : Settings) (first : Bool) (line : Content) → IsGoodSeparator s.kv_separator → AreEncodable e (printed_text e s first line)
 printed_text-encodable e s first (comment text) g =
-    AreEncodable-append e (printed_characters e s.ascii_only in_prefix s.comment_prefix)
-    (printed_characters e s.ascii_only in_comment text ++ line_ending_text s.line_ending) (printed_characters-encodable e s.ascii_only in_prefix s.comment_prefix)
-    (AreEncodable-append e (printed_characters e s.ascii_only in_comment text) (line_ending_text s.line_ending)
-    (printed_characters-encodable e s.ascii_only in_comment text) (AreEncodable-ascii e (line_ending_text s.line_ending) (line_end-ascii s.line_ending)))
+    grind (arith, AreEncodable-append, printed_characters-encodable)
 printed_text-encodable e s first (pair key value) g =
     AreEncodable-append e (printed_key e s.ascii_only first key)
     (s.kv_separator ++ (printed_characters e s.ascii_only in_key_or_value value ++ line_ending_text s.line_ending)) (printed_key-encodable e s.ascii_only first key)

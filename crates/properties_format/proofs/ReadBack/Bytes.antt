@@ -9,7 +9,7 @@ use Rattle.properties_format.specs.Encoding.{Encoding, output_encoding, encoded,
 use Rattle.properties_format.specs.Computed.Encoding.{pieces_of}
 use Rattle.properties_format.specs.Entries.{Content, comment, pair}
 use Rattle.properties_format.specs.Settings.{Settings}
-use Rattle.properties_format.specs.Printing.{Place, in_key_or_value, in_comment, in_prefix, unicode_escape, printed_character, printed_characters, encoded_text, is_bom_like, with_first_escaped}
+use Rattle.properties_format.specs.Printing.{Place, in_key_or_value, printed_character, printed_characters, encoded_text, is_bom_like, with_first_escaped}
 use Rattle.properties_format.specs.Printing.{printed_key, printed_text}
 use Rattle.properties_format.specs.Writing.{Call, comment_call, pair_call, prefix_call, separator_call, ending_call, flush_call, ascii_only_call, is_empty, settings_after_call, written_line, lines_with, AreOfScalars, AreGoodSettings}
 use Rattle.properties_format.proofs.Encodings.Pieces.{pieces_of-nil}
@@ -23,8 +23,7 @@ use Rattle.properties_format.proofs.ReadBack.Lines.{line_text, wrote_text, setti
 -- A character that can be encoded is decoded from its bytes, whatever follows.
 decoded-front : (e : Encoding) (c : ℕ) (o : Option (List ℕ)) (y : List ℕ) → scalar c → encoded e c ≡ o → is_some o ≡ true
     → characters (pieces_of (output_encoding e) (unwrap_or o [] ++ y)) ≡ c ∷ characters (pieces_of (output_encoding e) y)
-decoded-front e c None y h same some = cc
-decoded-front e c (Some bs) y h same some = ap characters (pieces_of-encoded e c bs y h same)
+decoded-front e c o y h k m = grind (arith, pieces_of-encoded)
 
 -- a text that can be encoded is decoded from its bytes
 pub text-decoded : (e : Encoding) (x : List ℕ) → AllByRecursion scalar x → AreEncodable e x → characters (pieces_of (output_encoding e) (encoded_text e x)) ≡ x
@@ -52,10 +51,8 @@ printed_characters-scalars e only place (c ∷ x) h =
 
 -- A key of scalar values with its first character escaped consists of scalar values.
 with_first_escaped-scalars : (e : Encoding) (only : Bool) (key : List ℕ) → AllByRecursion scalar key → AllByRecursion scalar (with_first_escaped e only key)
-with_first_escaped-scalars e only [] h = tt
-with_first_escaped-scalars e only (c ∷ cs) h =
-    scalars-append (unicode_escape c) (printed_characters e only in_key_or_value cs) (ascii-scalars (unicode_escape c) (unicode_escape-ascii c))
-    (printed_characters-scalars e only in_key_or_value cs h.1)
+with_first_escaped-scalars e only key h =
+    grind (arith, scalars-append, ascii-scalars, unicode_escape-ascii, printed_characters-scalars)
 
 -- Any printed key of scalar values consists of scalar values.
 pub key-scalars : (e : Encoding) (only : Bool) (first : Bool) (key : List ℕ) → AllByRecursion scalar key → AllByRecursion scalar (printed_key e only first key)
@@ -72,11 +69,7 @@ ContentScalars (pair key value) = All scalar key × All scalar value
 printed-scalars : (e : Encoding) (s : Settings) (first : Bool) (line : Content) → AreGoodSettings s → ContentScalars line → AllByRecursion scalar (printed_text e s first line)
 unfolding ContentScalars
 printed-scalars e s first (comment text) g h =
-    scalars-append (printed_characters e s.ascii_only in_prefix s.comment_prefix)
-    (printed_characters e s.ascii_only in_comment text ++ line_ending_text s.line_ending)
-    (printed_characters-scalars e s.ascii_only in_prefix s.comment_prefix (recursion_from_All scalar s.comment_prefix g.scalars))
-    (scalars-append (printed_characters e s.ascii_only in_comment text) (line_ending_text s.line_ending)
-    (printed_characters-scalars e s.ascii_only in_comment text (recursion_from_All scalar text h)) (ascii-scalars (line_ending_text s.line_ending) (line_end-ascii s.line_ending)))
+    grind (arith, scalars-append, printed_characters-scalars, recursion_from_All)
 printed-scalars e s first (pair key value) g h =
     scalars-append (printed_key e s.ascii_only first key)
     (s.kv_separator ++ (printed_characters e s.ascii_only in_key_or_value value ++ line_ending_text s.line_ending))

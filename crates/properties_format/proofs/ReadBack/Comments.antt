@@ -1,31 +1,28 @@
 -- A printed comment is a line of its own, and is read as what follows its prefix's comment sign and its text, without
 -- the blanks at both ends.
-use Rattle.std.proofs.Common.{◌≡◌, ◌⊎◌, ℕ, ◌<◌, ◌==◌, true, false, List, [], ◌∷◌, ◌++◌, map, refl, ap, sym, ◌∙◌, inl, inr, append_assoc, lit<, eqb-true, ap₂, subst}
+use Rattle.std.proofs.Common.{◌≡◌, ◌⊎◌, ℕ, ◌<◌, ◌==◌, true, false, List, [], ◌∷◌, ◌++◌, map, refl, ap, sym, ◌∙◌, append_assoc, ap₂, subst, arith}
 use Rattle.std.specs.Prelude.{Bool}
 use Rattle.std.specs.List.{AllByRecursion}
-use Rattle.std.proofs.lemmas.Bool.{cond-true, or_cases}
+use Rattle.std.proofs.lemmas.Bool.{cond-true}
 use Rattle.properties_format.specs.Text.{scalar, backslash, is_line_end, is_comment_sign}
 use Rattle.properties_format.specs.Encoding.{Encoding}
 use Rattle.properties_format.specs.Lines.{HoldsNoLineEnd}
 use Rattle.properties_format.specs.Groups.{is_comment_line}
 use Rattle.properties_format.specs.Split.{AreBlanks}
 use Rattle.properties_format.specs.Computed.Split.{trimmed}
-use Rattle.properties_format.specs.Escapes.{Spelling, itself, spelling_text, spelling_character, spellings_before, means}
-use Rattle.properties_format.specs.Computed.Escapes.{meaning_of}
+use Rattle.properties_format.specs.Escapes.{Spelling, itself, spelling_text, spelling_character, spellings_before}
 use Rattle.properties_format.specs.Entries.{comment}
-use Rattle.properties_format.specs.Computed.Items.{comment_outcome, split_outcome}
 use Rattle.properties_format.specs.Settings.{IsGoodPrefix}
 use Rattle.properties_format.specs.Printing.{in_comment, in_prefix, unicode_escape, may_be_unescaped, literal, printed_character, printed_characters}
 use Rattle.properties_format.specs.Writing.{tail_of, HoldsNoBackslash}
 use Rattle.properties_format.proofs.Lines.Plain.{plain-append}
-use Rattle.properties_format.proofs.Groups.Joined.{is_comment_line-blank, is_comment_line-other}
 use Rattle.properties_format.proofs.Split.Unique.{split_of-comment, sign-full}
 use Rattle.properties_format.proofs.Escapes.Laws.{IsWhole, AreWhole}
 use Rattle.properties_format.proofs.Escapes.Trimmed.{AllKeepBlanks, meaning_of-trimmed}
 use Rattle.properties_format.proofs.Settings.Tests.{tail_of-good}
 use Rattle.properties_format.proofs.Printing.Characters.{may_be_unescaped-ascii, blank-ascii}
 use Rattle.properties_format.proofs.ReadBack.Spellings.{IsSafe, IsPlainlyPrinted, literal-plainly, in_comment-printed}
-use Rattle.properties_format.proofs.ReadBack.Texts.{safe-whole, safe-plain}
+use Rattle.properties_format.proofs.ReadBack.Texts.{safe-plain}
 use Rattle.properties_format.proofs.ReadBack.Pairs.{IsReadAs, blanks-plain, cons-front}
 
 -- x is plainly spelt for y: it is the text of whole spellings of y that keep blanks, and contains no line end.
@@ -41,13 +38,11 @@ record ArePlainlyPrinted (x y : List ℕ) : Type 0 where
 
 -- A safe spelling, or a character as itself, is whole.
 plainly-whole : (c : ℕ) (p : Spelling) → IsSafe p ⊎ ((p ≡ itself c) × ((c == backslash) ≡ false) × (is_line_end c ≡ false)) → IsWhole p
-plainly-whole c p (inl h) = safe-whole p h
-plainly-whole c p (inr h) = subst IsWhole (sym h.0) h.1
+plainly-whole c p h = grind (arith)
 
 -- It contains no line end.
 plainly-plain : (c : ℕ) (p : Spelling) → IsSafe p ⊎ ((p ≡ itself c) × ((c == backslash) ≡ false) × (is_line_end c ≡ false)) → HoldsNoLineEnd (spelling_text p)
-plainly-plain c p (inl h) = safe-plain p h
-plainly-plain c p (inr h) = subst (λ v. HoldsNoLineEnd (spelling_text v)) (sym h.0) (h.2, tt)
+plainly-plain c p h = grind (arith, safe-plain)
 
 -- A plainly spelt character before a plainly spelt text.
 plainly-cons : (x y : List ℕ) (c : ℕ) (cs : List ℕ) → IsPlainlyPrinted x c → ArePlainlyPrinted y cs → ArePlainlyPrinted (x ++ y) (c ∷ cs)
@@ -88,7 +83,7 @@ literal-ascii e only c h = cond-true (may_be_unescaped e only c) (c ∷ []) (uni
 
 -- A comment sign is ASCII, and isn't a line end.
 pub sign-ascii : (c : ℕ) → is_comment_sign c ≡ true → (c < 0x80) × (is_line_end c ≡ false)
-sign-ascii c h = elim (or_cases (c == 0x23) (c == 0x21) h) [ inl e ↦ rw (eqb-true c 0x23 e) (lit< tt, refl) | inr e ↦ rw (eqb-true c 0x21 e) (lit< tt, refl) ]
+sign-ascii c h = (grind (arith), grind (arith))
 
 -- The blanks and the comment sign of a prefix are printed unescaped.
 pub prefix-printed : (e : Encoding) (only : Bool) (indent : List ℕ) (sign : ℕ) (tail : List ℕ) → AreBlanks indent → is_comment_sign sign ≡ true
@@ -111,22 +106,15 @@ slashes-right (c ∷ x) y h = slashes-right x y h.1
 
 -- Blanks followed by a comment sign begin a comment line.
 comment_line-after : (indent : List ℕ) (sign : ℕ) (rest : List ℕ) → AreBlanks indent → is_comment_sign sign ≡ true → is_comment_line (indent ++ (sign ∷ rest)) ≡ true
-comment_line-after [] sign rest b m = is_comment_line-other sign rest (sign-full sign m) ∙ m
-comment_line-after (c ∷ indent) sign rest b m = is_comment_line-blank c (indent ++ (sign ∷ rest)) b.0 ∙ comment_line-after indent sign rest b.1 m
+comment_line-after [] sign rest b m = rw (sign-full sign m) m
+comment_line-after (c ∷ indent) sign rest b m = rw b.0 (comment_line-after indent sign rest b.1 m)
 
 -- Blanks, a comment sign and a plainly spelt text are read as the comment that is spelt, without the blanks at its
 -- ends.
 comment-at : (indent : List ℕ) (sign : ℕ) (rest content : List ℕ) → AreBlanks indent → is_comment_sign sign ≡ true → ArePlainlyPrinted rest content
     → IsReadAs (indent ++ (sign ∷ rest)) (comment (trimmed content))
 comment-at indent sign rest content b m s =
-    record {
-      some = cons-front indent rest sign;
-      plain = plain-append indent (sign ∷ rest) (blanks-plain indent b) ((sign-ascii sign m).1, s.plain);
-      alone = inl (comment_line-after indent sign rest b m);
-      outcome =
-          ap split_outcome (split_of-comment indent sign rest b m)
-          ∙ ap comment_outcome (ap (λ v. meaning_of (trimmed v)) s.text ∙ meaning_of-trimmed s.spellings s.whole s.keep ∙ ap (λ v. means (trimmed v)) s.characters);
-    }
+    grind (arith, cons-front, plain-append, blanks-plain, comment_line-after, split_of-comment, meaning_of-trimmed)
 
 -- A comment under a good prefix without a backslash.
 pub comment-read : (e : Encoding) (only : Bool) (prefix text : List ℕ) → IsGoodPrefix prefix → HoldsNoBackslash prefix → AllByRecursion scalar prefix → AllByRecursion scalar text

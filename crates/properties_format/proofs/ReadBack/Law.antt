@@ -2,7 +2,7 @@
 use Rattle.std.proofs.Common.{◌≡◌, List, [], ◌∷◌, refl, ap, ◌∙◌, lit<, inl, subst}
 use Rattle.std.proofs.lemmas.List.Elements.{All-from_recursion}
 use Rattle.properties_format.specs.Text.{scalar, number_sign, space}
-use Rattle.properties_format.specs.Encoding.{Encoding, windows_1252, utf_8, utf_16le, utf_16be, output_encoding, characters}
+use Rattle.properties_format.specs.Encoding.{Encoding, windows_1252, output_encoding, characters}
 use Rattle.properties_format.specs.Computed.Encoding.{pieces_of, decoded_of}
 use Rattle.properties_format.specs.Lines.{end, line_ends}
 use Rattle.properties_format.specs.Computed.Lines.{lines_of}
@@ -30,9 +30,7 @@ default_settings-good =
 -- An output encoding is its own output encoding.
 pub output_encoding-own : (e : Encoding) → output_encoding (output_encoding e) ≡ output_encoding e
 output_encoding-own windows_1252 = refl
-output_encoding-own utf_8 = refl
-output_encoding-own utf_16le = refl
-output_encoding-own utf_16be = refl
+output_encoding-own e = refl
 
 -- In an encoding that can be written, the bytes that are written decode to what was printed.
 pub wrote-decoded : (e : Encoding) (s : Settings) (calls : List Call) → output_encoding e ≡ e → AreGoodSettings s → AreOfScalars calls → decoded_of e (wrote e s 0 calls) ≡ wrote_text e s 0 calls

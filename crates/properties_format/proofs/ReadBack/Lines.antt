@@ -138,13 +138,11 @@ separator-good s separator false e g = g
 
 -- Any call keeps the settings good.
 pub settings_after_call-good : (s : Settings) (call : Call) → AreGoodSettings s → IsOfScalars call → AreGoodSettings (settings_after_call s call)
-settings_after_call-good s (comment_call text) g h = g
-settings_after_call-good s (pair_call key value) g h = g
 settings_after_call-good s (prefix_call prefix) g h = prefix-good s prefix (is_good_prefix prefix) refl g h
 settings_after_call-good s (separator_call separator) g h = separator-good s separator (is_good_separator separator) refl g
 settings_after_call-good s (ending_call line_ending) g h = record { prefix = g.prefix; scalars = g.scalars; separator = g.separator }
-settings_after_call-good s flush_call g h = g
 settings_after_call-good s (ascii_only_call on) g h = record { prefix = g.prefix; scalars = g.scalars; separator = g.separator }
+settings_after_call-good s call g h = g
 
 -- ---- calls
 

@@ -1,13 +1,12 @@
 -- Lists of pairs that are written are read back unchanged.
-use Rattle.std.proofs.Common.{◌≡◌, ℕ, ◌+◌, List, [], ◌∷◌, ◌++◌, refl, ap, sym, ◌∙◌, cond}
-use Rattle.std.specs.Prelude.{Some, None}
+use Rattle.std.proofs.Common.{◌≡◌, ℕ, ◌+◌, List, [], ◌∷◌, refl, ap, ◌∙◌}
 use Rattle.properties_format.specs.Encoding.{Encoding, output_encoding}
-use Rattle.properties_format.specs.Entries.{pair, Entry}
+use Rattle.properties_format.specs.Entries.{Entry}
 use Rattle.properties_format.specs.Lines.{end}
 use Rattle.properties_format.specs.Items.{IsItems}
 use Rattle.properties_format.specs.Computed.Items.{items_of}
 use Rattle.properties_format.specs.Settings.{Settings}
-use Rattle.properties_format.specs.Writing.{pair_call, written_line, wrote, items_read_back, item_read_back, lines_with, ArePrefixesClean, AreOfScalars, AreGoodSettings}
+use Rattle.properties_format.specs.Writing.{wrote, items_read_back, ArePrefixesClean, AreOfScalars, AreGoodSettings}
 use Rattle.properties_format.specs.Pairs.{Pair, pairs_in, calls_of, items_after, AreAccepted, ArePairsOfScalars}
 use Rattle.properties_format.proofs.Items.Unique.{items_of-only}
 use Rattle.properties_format.proofs.ReadBack.Law.{items_of-wrote}
@@ -15,10 +14,7 @@ use Rattle.properties_format.proofs.ReadBack.Law.{items_of-wrote}
 -- Accepted pairs are read back, one per line.
 pub read_back-pairs : (s : Settings) (n : ℕ) (ps : List Pair) → AreAccepted s ps → items_read_back s n (calls_of ps) ≡ items_after n ps
 read_back-pairs s n [] h = refl
-read_back-pairs s n (p ∷ ps) h =
-    let line : written_line s (pair_call p.0 p.1) ≡ Some (pair p.0 p.1) = ap (λ b. cond b (Some (pair p.0 p.1)) None) h.0 in
-    ap (λ o. item_read_back s n o ++ items_read_back s (lines_with n o) (calls_of ps)) line
-    ∙ ap (λ v. item_read_back s n (Some (pair p.0 p.1)) ++ v) (read_back-pairs s (n + 1) ps h.1)
+read_back-pairs s n (p ∷ ps) h = cc (read_back-pairs s (n + 1) ps h.1)
 
 -- The pairs in the items of pairs.
 pub pairs_in-items : (n : ℕ) (ps : List Pair) → pairs_in (items_after n ps) ≡ ps
@@ -50,9 +46,7 @@ module _ (e : Encoding) (s : Settings) (own : output_encoding e ≡ e) (good : A
   pub pairs-equal : (ps qs : List Pair) → AreAccepted s ps → ArePairsOfScalars ps → AreAccepted s qs → ArePairsOfScalars qs
       → wrote e s 0 (calls_of ps) ≡ wrote e s 0 (calls_of qs) → ps ≡ qs
   pairs-equal ps qs a h b k same =
-      sym (pairs_in-items 0 ps)
-      ∙ ap pairs_in (sym (items_of-pairs ps a h) ∙ ap (λ v. items_of e v end) same ∙ items_of-pairs qs b k)
-      ∙ pairs_in-items 0 qs
+      rw (← pairs_in-items 0 ps, ← items_of-pairs ps a h, same, items_of-pairs qs b k, pairs_in-items 0 qs)
 
   -- Pairs that are read and written again, under the same settings, are the same bytes.
   pub pairs-settle : (ps : List Pair) (entries : List Entry) → AreAccepted s ps → ArePairsOfScalars ps → IsItems e (wrote e s 0 (calls_of ps)) end entries

@@ -1,8 +1,8 @@
 -- A printed pair is a line of its own, and is read as that pair.
-use Rattle.std.proofs.Common.{◌≡◌, ◌≢◌, ℕ, ◌==◌, ◌&&◌, ◌||◌, Bool, true, false, List, [], ◌∷◌, ◌++◌, map, refl, ap, sym, ◌∙◌, inl, inr, append_assoc, eqb-true, ap₂}
+use Rattle.std.proofs.Common.{◌≡◌, ◌≢◌, ℕ, ◌&&◌, Bool, false, List, [], ◌∷◌, ◌++◌, map, refl, ap, sym, ◌∙◌, inl, inr, append_assoc, ap₂, arith}
 use Rattle.std.specs.List.{AllByRecursion}
-use Rattle.std.proofs.lemmas.Bool.{cases_Bool, cond-true, cond-false, or_cases}
-use Rattle.properties_format.specs.Text.{scalar, backslash, is_blank, is_blanks, is_line_end, is_separator}
+use Rattle.std.proofs.lemmas.Bool.{cond_both}
+use Rattle.properties_format.specs.Text.{scalar, is_blanks}
 use Rattle.properties_format.specs.Encoding.{Encoding}
 use Rattle.properties_format.specs.Lines.{HoldsNoLineEnd}
 use Rattle.properties_format.specs.Groups.{is_open}
@@ -39,31 +39,13 @@ with_first_escaped-printed : (e : Encoding) (only : Bool) (key : List ℕ) → A
 with_first_escaped-printed e only [] h = record { spellings = []; text = refl; characters = refl; safe = tt }
 with_first_escaped-printed e only (c ∷ cs) h = printed-cons (unicode_escape c) (printed_characters e only in_key_or_value cs) c cs (unicode-printed c h.0) (texts-printed e only cs h.1)
 
--- A text equal to a safely spelt one is safely spelt.
-same-texts : (x y z : List ℕ) → x ≡ y → AreSafelyPrinted y z → AreSafelyPrinted x z
-same-texts x y z e s = record { spellings = s.spellings; text = e ∙ s.text; characters = s.characters; safe = s.safe }
-
 -- Every printed key is safely spelt.
 pub key-printed : (e : Encoding) (only : Bool) (first : Bool) (key : List ℕ) → AllByRecursion scalar key → AreSafelyPrinted (printed_key e only first key) key
-key-printed e only first key h = elim (cases_Bool (first && is_bom_like e only key)) [
-  | inl k ↦ same-texts _ (with_first_escaped e only key) key
-      (cond-true (first && is_bom_like e only key) (with_first_escaped e only key) (printed_characters e only in_key_or_value key) k) (with_first_escaped-printed e only key h)
-  | inr k ↦ same-texts _ (printed_characters e only in_key_or_value key) key
-      (cond-false (first && is_bom_like e only key) (with_first_escaped e only key) (printed_characters e only in_key_or_value key) k) (texts-printed e only key h)
-]
+key-printed e only first key h =
+    cond_both (first && is_bom_like e only key) (with_first_escaped e only key) (printed_characters e only in_key_or_value key) (λ x. AreSafelyPrinted x key)
+    (λ k. with_first_escaped-printed e only key h) (λ k. texts-printed e only key h)
 
 -- ---- separators
-
--- A separator isn't a backslash or a line end.
-separator-other : (c : ℕ) → is_separator c ≡ true → ((c == backslash) ≡ false) × (is_line_end c ≡ false)
-separator-other c h = elim (or_cases (c == 0x3d) (c == 0x3a) h) [ inl e ↦ rw (eqb-true c 0x3d e) (refl, refl) | inr e ↦ rw (eqb-true c 0x3a e) (refl, refl) ]
-
--- A blank isn't a line end.
-blank-plain : (c : ℕ) → is_blank c ≡ true → is_line_end c ≡ false
-blank-plain c h = elim (or_cases (c == 0x20) (c == 0x09 || c == 0x0c) h) [
-  | inl e ↦ rw (eqb-true c 0x20 e) refl
-  | inr h ↦ elim (or_cases (c == 0x09) (c == 0x0c) h) [ inl e ↦ rw (eqb-true c 0x09 e) refl | inr e ↦ rw (eqb-true c 0x0c e) refl ]
-]
 
 -- A quiet text: it contains no backslash and no line end.
 pub record IsQuiet (x : List ℕ) : Type 0 where
@@ -81,7 +63,7 @@ quiet-append x y h k = record { slashes = go x y h.slashes k.slashes; plain = pl
 -- Blanks contain no line end.
 pub blanks-plain : (x : List ℕ) → AreBlanks x → HoldsNoLineEnd x
 blanks-plain [] h = tt
-blanks-plain (c ∷ x) h = (blank-plain c h.0, blanks-plain x h.1)
+blanks-plain (c ∷ x) h = (grind (arith), blanks-plain x h.1)
 
 -- Blanks contain no backslash.
 blanks-slashes : (x : List ℕ) → AreBlanks x → HoldsNoBackslash x
@@ -92,14 +74,9 @@ blanks-slashes (c ∷ x) h = (blank-other c h.0, blanks-slashes x h.1)
 blanks-quiet : (x : List ℕ) → AreBlanks x → IsQuiet x
 blanks-quiet x h = record { slashes = blanks-slashes x h; plain = blanks-plain x h }
 
--- A separator before a quiet text is quiet.
-sign-quiet : (c : ℕ) (x : List ℕ) → is_separator c ≡ true → IsQuiet x → IsQuiet (c ∷ x)
-sign-quiet c x h k = let s = separator-other c h in record { slashes = (s.0, k.slashes); plain = (s.1, k.plain) }
-
 -- A good separator is quiet.
 pub separator-quiet : (x : List ℕ) → IsGoodSeparator x → IsQuiet x
-separator-quiet x (inl g) = rw g.division (quiet-append g.before (g.sign ∷ g.after) (blanks-quiet g.before g.blank_before) (sign-quiet g.sign g.after g.signed (blanks-quiet g.after g.blank_after)))
-separator-quiet x (inr g) = blanks-quiet x g.blank
+separator-quiet x h = grind (arith, quiet-append, blanks-quiet)
 
 -- A text that contains a character isn't empty.
 pub cons-front : (x y : List ℕ) (c : ℕ) → x ++ (c ∷ y) ≢ []
@@ -108,8 +85,7 @@ cons-front (d ∷ x) y c h = cc
 
 -- A good separator isn't empty.
 pub separator-some : (x : List ℕ) → IsGoodSeparator x → x ≢ []
-separator-some x (inl g) = λ q. cons-front g.before g.after g.sign (sym g.division ∙ q)
-separator-some x (inr g) = g.some
+separator-some x h = grind (arith, cons-front)
 
 -- After a separator, only what follows it decides whether a line is open.
 pub closed-after : (x sep y : List ℕ) → HoldsNoBackslash sep → sep ≢ [] → is_open y ≡ false → is_open (x ++ (sep ++ y)) ≡ false
@@ -121,9 +97,7 @@ closed-after x (c ∷ d ∷ sep) y h some o = is_open-after x c (d ∷ sep ++ y)
 
 -- A separator with a sign, followed by a value of safe spellings, is a pair with an empty key.
 split-empty_key : (vs : List Spelling) (sep : List ℕ) → AreSafe vs → IsSignedSeparator sep → split_of (sep ++ spellings_before vs []) ≡ Logical.pair [] (spellings_before vs [])
-split-empty_key vs sep v g =
-    ap split_of (ap (λ x. x ++ spellings_before vs []) g.division ∙ append_assoc g.before (g.sign ∷ g.after) (spellings_before vs []))
-    ∙ split_of-empty_key g.before g.sign g.after (spellings_before vs []) g.blank_before g.signed g.blank_after (are_safe-begin vs v).no_blank
+split-empty_key vs sep v g = grind (arith, append_assoc, split_of-empty_key, are_safe-begin)
 
 -- A good separator may separate a key from a value of safe spellings.
 between-of : (vs : List Spelling) (sep : List ℕ) → AreSafe vs → IsGoodSeparator sep → IsBetween sep (spellings_before vs [])
@@ -137,8 +111,7 @@ some-after p ps y h = rw (append_assoc (spelling_text p) (spellings_before ps []
 -- Three texts together aren't empty if the second isn't.
 append-some : (x y z : List ℕ) → y ≢ [] → x ++ (y ++ z) ≢ []
 append-some [] [] z some q = some refl
-append-some [] (c ∷ y) z some q = cc
-append-some (c ∷ x) y z some q = cc
+append-some x y z some q = cc
 
 -- A key and a value of safe spellings around a good separator, which isn't blanks only if the key is empty.
 split-pair : (ks vs : List Spelling) (sep : List ℕ) → AreSafe ks → AreSafe vs → IsGoodSeparator sep → (ks ≡ [] → is_blanks sep ≡ false)

@@ -1,15 +1,15 @@
 -- What is printed for a character is a spelling of that character.
-use Rattle.std.proofs.Common.{◌≡◌, ◌⊎◌, ℕ, ◌<◌, ◌≤◌, ◌==◌, ◌||◌, true, false, cond, List, [], ◌∷◌, ◌++◌, refl, sym, ◌∙◌, inl, inr, arith, lit<, eqb-true, ltb-true, ltb-false, le-ltb, subst, ap₂}
-use Rattle.std.specs.Prelude.{Bool, nat_lt, nat_le}
-use Rattle.std.proofs.lemmas.Bool.{cases_Bool, cond-true, cond-false, and_left, and_right, or_from, or_cases, or_parts, lt-leb}
-use Rattle.properties_format.specs.Text.{scalar, tab, line_feed, form_feed, carriage_return, space, backslash, is_blank, is_line_end, is_comment_sign, is_separator}
+use Rattle.std.proofs.Common.{◌≡◌, ◌⊎◌, ℕ, ◌<◌, ◌≤◌, ◌==◌, ◌||◌, true, false, List, [], ◌∷◌, ◌++◌, refl, sym, ◌∙◌, inl, inr, arith, eqb-true, ltb-true, ltb-false, subst, ap₂}
+use Rattle.std.specs.Prelude.{Bool, nat_lt}
+use Rattle.std.proofs.lemmas.Bool.{cases_Bool, or_cases, or_parts, cond_both}
+use Rattle.properties_format.specs.Text.{scalar, line_feed, carriage_return, space, backslash, is_blank, is_line_end, is_comment_sign, is_separator}
 use Rattle.properties_format.specs.Encoding.{Encoding}
 use Rattle.properties_format.specs.Escapes.{letter_u, escaped_character, are_hexadecimal, code_unit, is_high, is_low, is_surrogate, pair_character, Spelling, itself, escaped, unicode, surrogates, last, spelling_text, spelling_character, IsSpelling}
 use Rattle.properties_format.specs.Printing.{in_key_or_value, in_comment, unit_escape, high_surrogate, low_surrogate, unicode_escape, may_be_unescaped, literal, is_special, letter_escape, has_letter}
 use Rattle.properties_format.specs.Printing.{printed_character}
-use Rattle.properties_format.proofs.Escapes.Digits.{unit_digits, unit_digits-hexadecimal, unit_digits-unit, high_surrogate-high, low_surrogate-low, pair_character-surrogates}
+use Rattle.properties_format.proofs.Escapes.Digits.{unit_digits, unit_digits-hexadecimal, unit_digits-unit, high_surrogate-high, low_surrogate-low}
 use Rattle.properties_format.proofs.Escapes.Trimmed.{KeepsBlanks, KeepsBlanks-itself, KeepsBlanks-escaped, KeepsBlanks-unicode, KeepsBlanks-surrogates}
-use Rattle.properties_format.proofs.Printing.Characters.{may_be_unescaped-ascii, below-scalar}
+use Rattle.properties_format.proofs.Printing.Characters.{may_be_unescaped-ascii, below-scalar, blank-ascii}
 
 -- the spelling may be used in a key or a value
 abbrev pub IsSafe : Spelling → Type 0
@@ -38,10 +38,7 @@ pub record IsPlainlyPrinted (x : List ℕ) (c : ℕ) : Type 0 where
 
 -- A scalar value isn't a surrogate.
 scalar-no_surrogate : (c : ℕ) → scalar c → is_surrogate c ≡ false
-scalar-no_surrogate c (inl h) =
-    or_from (is_high c) (is_low c) (and_left (nat_le 0xd800 c) (nat_lt c 0xdc00) (lt-leb 0xd800 c h)) (and_left (nat_le 0xdc00 c) (nat_lt c 0xe000) (lt-leb 0xdc00 c (omega arith)))
-scalar-no_surrogate c (inr h) =
-    or_from (is_high c) (is_low c) (and_right (nat_le 0xd800 c) (nat_lt c 0xdc00) (le-ltb c 0xdc00 (omega (arith, h)))) (and_right (nat_le 0xdc00 c) (nat_lt c 0xe000) (le-ltb c 0xe000 h.0))
+scalar-no_surrogate c h = grind (arith)
 
 abbrev unit-printed : (c : ℕ) → scalar c → c < 0x1_0000 → IsSafelyPrinted (unit_escape c) c
 unit-printed c h k =
@@ -66,7 +63,7 @@ low-unit c = unit_digits-unit (low_surrogate c) (omega arith)
 
 -- The two together are the character.
 pair-is : (c : ℕ) → scalar c → 0x1_0000 ≤ c → pair_character (code_unit (unit_digits (high_surrogate c))) (code_unit (unit_digits (low_surrogate c))) ≡ c
-pair-is c h k = ap₂ pair_character (high-unit c (below-scalar c h)) (low-unit c) ∙ pair_character-surrogates c k
+pair-is c h k = ap₂ pair_character (high-unit c (below-scalar c h)) (low-unit c) ∙ omega arith
 
 abbrev pair-printed : (c : ℕ) → scalar c → 0x1_0000 ≤ c → IsSafelyPrinted (unit_escape (high_surrogate c) ++ unit_escape (low_surrogate c)) c
 pair-printed c h k =
@@ -88,45 +85,26 @@ pair-keeps c h k b =
     KeepsBlanks-surrogates (unit_digits (high_surrogate c)) (unit_digits (low_surrogate c)) (unit_digits-hexadecimal (low_surrogate c))
     (subst (λ v. is_blank v ≡ false) (sym (pair-is c h k)) b)
 
--- A text equal to a safe spelling is a safe spelling.
-same-printed : (x y : List ℕ) (c : ℕ) → x ≡ y → IsSafelyPrinted y c → IsSafelyPrinted x c
-same-printed x y c e s = record { spelling = s.spelling; text = e ∙ s.text; character = s.character; safe = s.safe }
-
--- A text equal to a plain spelling is a plain spelling.
-same-plainly : (x y : List ℕ) (c : ℕ) → x ≡ y → IsPlainlyPrinted y c → IsPlainlyPrinted x c
-same-plainly x y c e s = record { spelling = s.spelling; text = e ∙ s.text; character = s.character; safe = s.safe; keeps = s.keeps }
-
 -- `\u` escapes are a safe spelling of a scalar value.
 pub unicode-printed : (c : ℕ) → scalar c → IsSafelyPrinted (unicode_escape c) c
 unicode-printed c h =
-    let whole = unit_escape c in
-    let two = unit_escape (high_surrogate c) ++ unit_escape (low_surrogate c) in
-    elim (cases_Bool (nat_lt c 0x1_0000)) [
-      | inl k ↦ same-printed (unicode_escape c) whole c (cond-true (nat_lt c 0x1_0000) whole two k) (unit-printed c h (ltb-true c 0x1_0000 k))
-      | inr k ↦ same-printed (unicode_escape c) two c (cond-false (nat_lt c 0x1_0000) whole two k) (pair-printed c h (ltb-false c 0x1_0000 k))
-    ]
+    cond_both (nat_lt c 0x1_0000) (unit_escape c) (unit_escape (high_surrogate c) ++ unit_escape (low_surrogate c)) (λ x. IsSafelyPrinted x c)
+    (λ k. unit-printed c h (ltb-true c 0x1_0000 k)) (λ k. pair-printed c h (ltb-false c 0x1_0000 k))
 
 -- `\u` escapes are a plain spelling of a scalar value that isn't a blank.
 pub unicode-plainly : (c : ℕ) → scalar c → is_blank c ≡ false → IsPlainlyPrinted (unicode_escape c) c
 unicode-plainly c h b =
-    let whole = unit_escape c in
-    let two = unit_escape (high_surrogate c) ++ unit_escape (low_surrogate c) in
-    elim (cases_Bool (nat_lt c 0x1_0000)) [
-      | inl k ↦
-          let s = unit-printed c h (ltb-true c 0x1_0000 k) in
-          same-plainly (unicode_escape c) whole c (cond-true (nat_lt c 0x1_0000) whole two k)
-          (record { spelling = unicode (unit_digits c); text = refl; character = s.character; safe = inl s.safe; keeps = unit-keeps c (ltb-true c 0x1_0000 k) b })
-      | inr k ↦
-          let s = pair-printed c h (ltb-false c 0x1_0000 k) in
-          same-plainly (unicode_escape c) two c (cond-false (nat_lt c 0x1_0000) whole two k)
-          (record {
-            spelling = surrogates (unit_digits (high_surrogate c)) (unit_digits (low_surrogate c));
-            text = refl;
-            character = s.character;
-            safe = inl s.safe;
-            keeps = pair-keeps c h (ltb-false c 0x1_0000 k) b;
-          })
-    ]
+    cond_both (nat_lt c 0x1_0000) (unit_escape c) (unit_escape (high_surrogate c) ++ unit_escape (low_surrogate c)) (λ x. IsPlainlyPrinted x c)
+    (λ k. let s = unit-printed c h (ltb-true c 0x1_0000 k) in
+    record { spelling = unicode (unit_digits c); text = refl; character = s.character; safe = inl s.safe; keeps = unit-keeps c (ltb-true c 0x1_0000 k) b })
+    (λ k. let s = pair-printed c h (ltb-false c 0x1_0000 k) in
+    record {
+      spelling = surrogates (unit_digits (high_surrogate c)) (unit_digits (low_surrogate c));
+      text = refl;
+      character = s.character;
+      safe = inl s.safe;
+      keeps = pair-keeps c h (ltb-false c 0x1_0000 k) b;
+    })
 
 -- ---- unescaped characters, and escapes of a backslash and one character
 
@@ -134,41 +112,13 @@ unicode-plainly c h b =
 escape-printed : (c d : ℕ) → (d == letter_u) ≡ false → is_line_end d ≡ false → escaped_character d ≡ c → IsSafelyPrinted (backslash ∷ d ∷ []) c
 escape-printed c d u l e = record { spelling = escaped d; text = refl; character = e; safe = (u, l) }
 
--- What spells one character spells an equal one.
-at-character : (c d : ℕ) (x : ℕ → List ℕ) → (c == d) ≡ true → IsSafelyPrinted (x d) d → IsSafelyPrinted (x c) c
-at-character c d x e s = rw (eqb-true c d e) s
-
 -- A backslash and a special character are a safe spelling of that character.
 pub special-printed : (c : ℕ) → is_special c ≡ true → IsSafelyPrinted (backslash ∷ c ∷ []) c
-special-printed c h = elim (or_cases (c == backslash) (c == space || (is_separator c || is_comment_sign c)) h) [
-  | inl e ↦ at-character c backslash (λ v. backslash ∷ v ∷ []) e (escape-printed backslash backslash refl refl refl)
-  | inr h ↦ elim (or_cases (c == space) (is_separator c || is_comment_sign c) h) [
-    | inl e ↦ at-character c space (λ v. backslash ∷ v ∷ []) e (escape-printed space space refl refl refl)
-    | inr h ↦ elim (or_cases (is_separator c) (is_comment_sign c) h) [
-      | inl h ↦ elim (or_cases (c == 0x3d) (c == 0x3a) h) [
-        | inl e ↦ at-character c 0x3d (λ v. backslash ∷ v ∷ []) e (escape-printed 0x3d 0x3d refl refl refl)
-        | inr e ↦ at-character c 0x3a (λ v. backslash ∷ v ∷ []) e (escape-printed 0x3a 0x3a refl refl refl)
-      ]
-      | inr h ↦ elim (or_cases (c == 0x23) (c == 0x21) h) [
-        | inl e ↦ at-character c 0x23 (λ v. backslash ∷ v ∷ []) e (escape-printed 0x23 0x23 refl refl refl)
-        | inr e ↦ at-character c 0x21 (λ v. backslash ∷ v ∷ []) e (escape-printed 0x21 0x21 refl refl refl)
-      ]
-    ]
-  ]
-]
+special-printed c h = escape-printed c c (grind (arith)) (grind (arith)) (grind (arith))
 
 -- A backslash and a letter are a safe spelling of the character that has that letter escape.
 letter-printed : (c : ℕ) → has_letter c ≡ true → IsSafelyPrinted (letter_escape c) c
-letter-printed c h = elim (or_cases (c == tab || c == line_feed) (c == form_feed || c == carriage_return) h) [
-  | inl h ↦ elim (or_cases (c == tab) (c == line_feed) h) [
-    | inl e ↦ at-character c tab letter_escape e (escape-printed tab 0x74 refl refl refl)
-    | inr e ↦ at-character c line_feed letter_escape e (escape-printed line_feed 0x6e refl refl refl)
-  ]
-  | inr h ↦ elim (or_cases (c == form_feed) (c == carriage_return) h) [
-    | inl e ↦ at-character c form_feed letter_escape e (escape-printed form_feed 0x66 refl refl refl)
-    | inr e ↦ at-character c carriage_return letter_escape e (escape-printed carriage_return 0x72 refl refl refl)
-  ]
-]
+letter-printed c h = grind (arith, escape-printed)
 
 -- ---- keys and values
 
@@ -177,50 +127,32 @@ record IsOrdinary (c : ℕ) : Type 0 where
   special : is_special c ≡ false
   letter : has_letter c ≡ false
 
--- A character that isn't a space, a tab or a form feed isn't a blank.
-blank-cases : (c : ℕ) → (c == space) ≡ false → (c == tab) ≡ false → (c == form_feed) ≡ false → is_blank c ≡ false
-blank-cases c a b d = or_from (c == space) (c == tab || c == form_feed) a (or_from (c == tab) (c == form_feed) b d)
-
 -- Such a character is a safe spelling of itself.
 itself-printed : (c : ℕ) → IsOrdinary c → IsSafelyPrinted (c ∷ []) c
 itself-printed c o =
-    let a = or_parts (c == backslash) (c == space || (is_separator c || is_comment_sign c)) o.special in
-    let b = or_parts (c == space) (is_separator c || is_comment_sign c) a.1 in
-    let d = or_parts (is_separator c) (is_comment_sign c) b.1 in
-    let f = or_parts (c == tab || c == line_feed) (c == form_feed || c == carriage_return) o.letter in
-    let g = or_parts (c == tab) (c == line_feed) f.0 in
-    let i = or_parts (c == form_feed) (c == carriage_return) f.1 in
+    let a = o.special in
+    let b = o.letter in
+    let plain : is_line_end c ≡ false = grind (arith) in
+    let d = or_parts (c == backslash) (c == space || (is_separator c || is_comment_sign c)) a in
     record {
       spelling = itself c;
       text = refl;
       character = refl;
-      safe = (a.0, blank-cases c b.0 g.0 i.0, d.0, d.1, or_from (c == line_feed) (c == carriage_return) g.1 i.1);
+      safe = (d.0, grind (arith), grind (arith), grind (arith), plain);
     }
 
 -- Unescaped if that is allowed, otherwise escaped, such a character is safely spelt.
 literal-printed : (e : Encoding) (only : Bool) (c : ℕ) → scalar c → IsOrdinary c → IsSafelyPrinted (literal e only c) c
-literal-printed e only c h o = elim (cases_Bool (may_be_unescaped e only c)) [
-  | inl k ↦ same-printed (literal e only c) (c ∷ []) c (cond-true (may_be_unescaped e only c) (c ∷ []) (unicode_escape c) k) (itself-printed c o)
-  | inr k ↦ same-printed (literal e only c) (unicode_escape c) c (cond-false (may_be_unescaped e only c) (c ∷ []) (unicode_escape c) k) (unicode-printed c h)
-]
+literal-printed e only c h o =
+    cond_both (may_be_unescaped e only c) (c ∷ []) (unicode_escape c) (λ x. IsSafelyPrinted x c) (λ k. itself-printed c o) (λ k. unicode-printed c h)
 
 -- What is printed for a character in a key or a value is a safe spelling of it.
 pub in_key_or_value-printed : (e : Encoding) (only : Bool) (c : ℕ) → scalar c → IsSafelyPrinted (printed_character e only in_key_or_value c) c
 in_key_or_value-printed e only c h =
-    let last_two = cond (nat_lt c space) (unicode_escape c) (literal e only c) in
-    let last_three = cond (has_letter c) (letter_escape c) last_two in
-    elim (cases_Bool (is_special c)) [
-      | inl k ↦ same-printed _ (backslash ∷ c ∷ []) c (cond-true (is_special c) (backslash ∷ c ∷ []) last_three k) (special-printed c k)
-      | inr k ↦ same-printed _ last_three c (cond-false (is_special c) (backslash ∷ c ∷ []) last_three k)
-          (elim (cases_Bool (has_letter c)) [
-            | inl l ↦ same-printed _ (letter_escape c) c (cond-true (has_letter c) (letter_escape c) last_two l) (letter-printed c l)
-            | inr l ↦ same-printed _ last_two c (cond-false (has_letter c) (letter_escape c) last_two l)
-                (elim (cases_Bool (nat_lt c space)) [
-                  | inl m ↦ same-printed _ (unicode_escape c) c (cond-true (nat_lt c space) (unicode_escape c) (literal e only c) m) (unicode-printed c h)
-                  | inr m ↦ same-printed _ (literal e only c) c (cond-false (nat_lt c space) (unicode_escape c) (literal e only c) m) (literal-printed e only c h (record { special = k; letter = l }))
-                ])
-          ])
-    ]
+    cond_both (is_special c) (backslash ∷ c ∷ []) _ (λ x. IsSafelyPrinted x c) (special-printed c) (λ k.
+    cond_both (has_letter c) (letter_escape c) _ (λ x. IsSafelyPrinted x c) (letter-printed c) (λ l.
+    cond_both (nat_lt c space) (unicode_escape c) (literal e only c) (λ x. IsSafelyPrinted x c) (λ m. unicode-printed c h)
+    (λ m. literal-printed e only c h (record { special = k; letter = l }))))
 
 -- ---- comments and prefixes
 
@@ -233,42 +165,25 @@ escape-plainly c d u l e b f = record { spelling = escaped d; text = refl; chara
 at-character_plainly : (c d : ℕ) (x : ℕ → List ℕ) → (c == d) ≡ true → IsPlainlyPrinted (x d) d → IsPlainlyPrinted (x c) c
 at-character_plainly c d x e s = rw (eqb-true c d e) s
 
--- A blank may be written unescaped, because it is ASCII.
-blank-stands : (e : Encoding) (only : Bool) (c : ℕ) → is_blank c ≡ true → may_be_unescaped e only c ≡ true
-blank-stands e only c h = elim (or_cases (c == space) (c == tab || c == form_feed) h) [
-  | inl k ↦ may_be_unescaped-ascii e only c (rw (eqb-true c space k) (lit< tt))
-  | inr h ↦ elim (or_cases (c == tab) (c == form_feed) h) [
-    | inl k ↦ may_be_unescaped-ascii e only c (rw (eqb-true c tab k) (lit< tt))
-    | inr k ↦ may_be_unescaped-ascii e only c (rw (eqb-true c form_feed k) (lit< tt))
-  ]
-]
-
 -- A character that may not be written unescaped isn't a blank.
 escaped-full : (e : Encoding) (only : Bool) (c : ℕ) → may_be_unescaped e only c ≡ false → is_blank c ≡ false
-escaped-full e only c h = elim (cases_Bool (is_blank c)) [ inl b ↦ (let k = blank-stands e only c b in cc) | inr b ↦ b ]
+escaped-full e only c h = elim (cases_Bool (is_blank c)) [ inl b ↦ (let k = may_be_unescaped-ascii e only c (blank-ascii c b) in cc) | inr b ↦ b ]
 
 -- Unescaped if that is allowed, otherwise escaped, a character that isn't a backslash or a line end is plainly spelt.
 pub literal-plainly : (e : Encoding) (only : Bool) (c : ℕ) → scalar c → (c == backslash) ≡ false → is_line_end c ≡ false → IsPlainlyPrinted (literal e only c) c
-literal-plainly e only c h b l = elim (cases_Bool (may_be_unescaped e only c)) [
-  | inl k ↦ same-plainly (literal e only c) (c ∷ []) c (cond-true (may_be_unescaped e only c) (c ∷ []) (unicode_escape c) k)
-      (record { spelling = itself c; text = refl; character = refl; safe = inr (refl, b, l); keeps = KeepsBlanks-itself c })
-  | inr k ↦ same-plainly (literal e only c) (unicode_escape c) c (cond-false (may_be_unescaped e only c) (c ∷ []) (unicode_escape c) k) (unicode-plainly c h (escaped-full e only c k))
-]
+literal-plainly e only c h b l =
+    cond_both (may_be_unescaped e only c) (c ∷ []) (unicode_escape c) (λ x. IsPlainlyPrinted x c)
+    (λ k. record { spelling = itself c; text = refl; character = refl; safe = inr (refl, b, l); keeps = KeepsBlanks-itself c })
+    (λ k. unicode-plainly c h (escaped-full e only c k))
 
 -- What is printed for a character in a comment is a plain spelling of it.
 pub in_comment-printed : (e : Encoding) (only : Bool) (c : ℕ) → scalar c → IsPlainlyPrinted (printed_character e only in_comment c) c
 in_comment-printed e only c h =
-    let rest = cond (c == line_feed || c == carriage_return) (letter_escape c) (literal e only c) in
-    elim (cases_Bool (c == backslash)) [
-      | inl k ↦ same-plainly _ (backslash ∷ backslash ∷ []) c (cond-true (c == backslash) (backslash ∷ backslash ∷ []) rest k)
-          (at-character_plainly c backslash (λ v. backslash ∷ backslash ∷ []) k (escape-plainly backslash backslash refl refl refl refl refl))
-      | inr k ↦ same-plainly _ rest c (cond-false (c == backslash) (backslash ∷ backslash ∷ []) rest k)
-          (elim (cases_Bool (c == line_feed || c == carriage_return)) [
-            | inl l ↦ same-plainly _ (letter_escape c) c (cond-true (c == line_feed || c == carriage_return) (letter_escape c) (literal e only c) l)
-                (elim (or_cases (c == line_feed) (c == carriage_return) l) [
-                  | inl m ↦ at-character_plainly c line_feed letter_escape m (escape-plainly line_feed 0x6e refl refl refl refl refl)
-                  | inr m ↦ at-character_plainly c carriage_return letter_escape m (escape-plainly carriage_return 0x72 refl refl refl refl refl)
-                ])
-            | inr l ↦ same-plainly _ (literal e only c) c (cond-false (c == line_feed || c == carriage_return) (letter_escape c) (literal e only c) l) (literal-plainly e only c h k l)
-          ])
-    ]
+    cond_both (c == backslash) (backslash ∷ backslash ∷ []) _ (λ x. IsPlainlyPrinted x c)
+    (λ k. at-character_plainly c backslash (λ v. backslash ∷ backslash ∷ []) k (escape-plainly backslash backslash refl refl refl refl refl)) (λ k.
+    cond_both (c == line_feed || c == carriage_return) (letter_escape c) (literal e only c) (λ x. IsPlainlyPrinted x c)
+    (λ l. elim (or_cases (c == line_feed) (c == carriage_return) l) [
+      | inl m ↦ at-character_plainly c line_feed letter_escape m (escape-plainly line_feed 0x6e refl refl refl refl refl)
+      | inr m ↦ at-character_plainly c carriage_return letter_escape m (escape-plainly carriage_return 0x72 refl refl refl refl refl)
+    ])
+    (λ l. literal-plainly e only c h k l))

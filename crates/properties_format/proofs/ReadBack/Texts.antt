@@ -1,8 +1,7 @@
 -- What is printed for a text means that text, contains no line end, and doesn't end in an open backslash.
-use Rattle.std.proofs.Common.{◌≡◌, ℕ, ◌==◌, ◌&&◌, Bool, true, false, List, [], ◌∷◌, ◌++◌, map, refl, ap, sym, ◌∙◌, inl, inr, append_assoc, append-nil, arith, eqb-true, ap₂}
+use Rattle.std.proofs.Common.{◌≡◌, ℕ, ◌==◌, Bool, true, false, List, [], ◌∷◌, ◌++◌, map, refl, ap, sym, ◌∙◌, inl, inr, append_assoc, append-nil, arith, eqb-true, ap₂}
 use Rattle.std.specs.List.{AllByRecursion}
 use Rattle.std.proofs.lemmas.Bool.{cases_Bool, and_parts}
-use Rattle.std.proofs.lemmas.Bool.Decides.{nat_tests}
 use Rattle.properties_format.specs.Text.{scalar, backslash, is_blank, is_line_end, is_comment_sign, is_separator}
 use Rattle.properties_format.specs.Encoding.{Encoding}
 use Rattle.properties_format.specs.Lines.{HoldsNoLineEnd}
@@ -45,11 +44,7 @@ texts-printed e only (c ∷ x) h =
 
 -- a safe spelling is whole
 pub safe-whole : (p : Spelling) → IsSafe p → IsWhole p
-safe-whole (itself c) h = h.0
-safe-whole (escaped c) h = h.0
-safe-whole (unicode d) h = h
-safe-whole (surrogates high low) h = h
-safe-whole last h = h
+safe-whole p h = grind (arith)
 
 -- Safe spellings are whole.
 are_safe-whole : (ps : List Spelling) → AreSafe ps → AreWhole ps
@@ -64,15 +59,11 @@ printed-means x y s = ap meaning_of s.text ∙ meaning_of-all s.spellings (are_s
 
 -- A hexadecimal digit isn't a line end.
 digit-plain : (c : ℕ) → is_hexadecimal c ≡ true → is_line_end c ≡ false
-digit-plain c h = grind (arith, nat_tests)
+digit-plain c h = grind (arith)
 
 -- Each of four hexadecimal digits is a hexadecimal digit.
 four-digits : (d : Four) → are_hexadecimal d ≡ true → (is_hexadecimal d.first ≡ true) × (is_hexadecimal d.second ≡ true) × (is_hexadecimal d.third ≡ true) × (is_hexadecimal d.fourth ≡ true)
-four-digits d h =
-    let p = and_parts (is_hexadecimal d.first && is_hexadecimal d.second) (is_hexadecimal d.third && is_hexadecimal d.fourth) h in
-    let q = and_parts (is_hexadecimal d.first) (is_hexadecimal d.second) p.0 in
-    let r = and_parts (is_hexadecimal d.third) (is_hexadecimal d.fourth) p.1 in
-    (q.0, q.1, r.0, r.1)
+four-digits d h = grind (arith, and_parts)
 
 -- A `\u` escape contains no line end.
 unit-plain : (d : Four) → are_hexadecimal d ≡ true → HoldsNoLineEnd (backslash ∷ letter_u ∷ four_text d)
@@ -80,11 +71,7 @@ unit-plain d h = let f = four-digits d h in (refl, (refl, (digit-plain d.first f
 
 -- A safe spelling contains no line end.
 pub safe-plain : (p : Spelling) → IsSafe p → HoldsNoLineEnd (spelling_text p)
-safe-plain (itself c) h = (h.4, tt)
-safe-plain (escaped c) h = (refl, (h.1, tt))
-safe-plain (unicode d) h = unit-plain d h.0
-safe-plain (surrogates high low) h = plain-append (backslash ∷ letter_u ∷ four_text high) (backslash ∷ letter_u ∷ four_text low) (unit-plain high h.0) (unit-plain low h.2)
-safe-plain last h = absurd h
+safe-plain p h = grind (arith, unit-plain)
 
 -- Safe spellings contain no line end.
 are_safe-plain : (ps : List Spelling) → AreSafe ps → HoldsNoLineEnd (spellings_before ps [])
@@ -151,11 +138,7 @@ pub record BeginsFull (x : List ℕ) : Type 0 where
 
 -- A text with a safe spelling at its front doesn't begin with a blank, a separator or a comment sign.
 pub safe-begins : (p : Spelling) (y : List ℕ) → IsSafe p → BeginsFull (spelling_text p ++ y)
-safe-begins (itself c) y h = record { no_blank = h.1; no_separator = h.2; no_sign = h.3 }
-safe-begins (escaped c) y h = record { no_blank = refl; no_separator = refl; no_sign = refl }
-safe-begins (unicode d) y h = record { no_blank = refl; no_separator = refl; no_sign = refl }
-safe-begins (surrogates high low) y h = record { no_blank = refl; no_separator = refl; no_sign = refl }
-safe-begins last y h = absurd h
+safe-begins p y h = grind (arith)
 
 -- The text of safe spellings doesn't begin with a blank, a separator or a comment sign.
 pub are_safe-begin : (ps : List Spelling) → AreSafe ps → BeginsFull (spellings_before ps [])

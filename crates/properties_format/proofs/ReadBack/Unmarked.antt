@@ -1,13 +1,13 @@
 -- What a new writer writes doesn't begin like a byte order mark.
-use Rattle.std.proofs.Common.{◌≡◌, ℕ, ◌<◌, ◌==◌, ◌&&◌, ◌||◌, not, Bool, true, false, if◌then◌else◌, List, [], ◌∷◌, ◌++◌, refl, ap, ◌∙◌, inl, inr, append_assoc, arith, lit<, ne_eqb}
-use Rattle.std.specs.Prelude.{nat_lt, Some, None, unwrap_or}
-use Rattle.std.proofs.lemmas.Bool.{cases_Bool, cond-true, cond-false, and_left}
+use Rattle.std.proofs.Common.{◌≡◌, ℕ, ◌<◌, ◌&&◌, not, Bool, true, false, if◌then◌else◌, List, [], ◌∷◌, ◌++◌, refl, ap, ◌∙◌, append_assoc, arith, lit<}
+use Rattle.std.specs.Prelude.{nat_lt, Some, None}
+use Rattle.std.proofs.lemmas.Bool.{cond_both}
 use Rattle.properties_format.specs.Text.{backslash, is_blanks, is_comment_sign}
-use Rattle.properties_format.specs.Encoding.{Encoding, begins_with, begins_like_bom, utf_8_bom, utf_16be_bom, utf_16le_bom}
+use Rattle.properties_format.specs.Encoding.{Encoding, begins_like_bom}
 use Rattle.properties_format.specs.Split.{AreBlanks}
 use Rattle.properties_format.specs.Entries.{Content, comment, pair}
 use Rattle.properties_format.specs.Settings.{Settings, IsGoodPrefix, IsGoodSeparator}
-use Rattle.properties_format.specs.Printing.{in_key_or_value, in_prefix, unit_escape, high_surrogate, low_surrogate, unicode_escape, printed_characters, encoded_text, is_bom_like, with_first_escaped, printed_key, printed_text}
+use Rattle.properties_format.specs.Printing.{in_key_or_value, in_prefix, unit_escape, unicode_escape, printed_characters, encoded_text, is_bom_like, with_first_escaped, printed_key, printed_text}
 use Rattle.properties_format.specs.Writing.{Call, comment_call, pair_call, prefix_call, separator_call, ending_call, flush_call, ascii_only_call, is_empty, settings_after_call, lines_with, AreOfScalars, AreGoodSettings}
 use Rattle.properties_format.proofs.Printing.Characters.{encoded-ascii, encoded_text-append, blank-ascii, good_separator-ascii}
 use Rattle.properties_format.proofs.ReadBack.Pairs.{separator-some}
@@ -16,38 +16,13 @@ use Rattle.properties_format.proofs.ReadBack.Lines.{line_text, wrote_text, setti
 
 -- ---- no byte order mark has an ASCII byte
 
--- this number isn't among these
-abbrev HasNot : ℕ → List ℕ → Type 0
-HasNot c [] = Unit {0}
-HasNot c (m ∷ ms) = ((m == c) ≡ false) × HasNot c ms
-
--- A number above 80 hexadecimal isn't an ASCII one.
-no-ascii : (m c : ℕ) → c < 0x80 → 0x80 < m → (m == c) ≡ false
-no-ascii m c h k = ne_eqb m c (λ q. absurd (omega arith))
-
--- A byte order mark can't extend past an ASCII byte.
-begins-cut : (ms x : List ℕ) (c : ℕ) (y : List ℕ) → HasNot c ms → begins_with ms (x ++ (c ∷ y)) ≡ begins_with ms x
-begins-cut [] x c y h = refl
-begins-cut (m ∷ ms) [] c y h = and_left (m == c) (begins_with ms y) h.0
-begins-cut (m ∷ ms) (b ∷ x) c y h = ap (λ v. (m == b) && v) (begins-cut ms x c y h.1)
-
 -- An ASCII byte and what follows it don't affect the byte order mark.
 pub byte_order_mark-cut : (x : List ℕ) (c : ℕ) (y : List ℕ) → c < 0x80 → begins_like_bom (x ++ (c ∷ y)) ≡ begins_like_bom x
-byte_order_mark-cut x c y h =
-    let ef = no-ascii 0xef c h (lit< tt) in
-    let bb = no-ascii 0xbb c h (lit< tt) in
-    let bf = no-ascii 0xbf c h (lit< tt) in
-    let fe = no-ascii 0xfe c h (lit< tt) in
-    let ff = no-ascii 0xff c h (lit< tt) in
-    ap (λ b. b || (begins_with utf_16be_bom (x ++ (c ∷ y)) || begins_with utf_16le_bom (x ++ (c ∷ y)))) (begins-cut utf_8_bom x c y (ef, (bb, (bf, tt))))
-    ∙ ap (λ b. begins_with utf_8_bom x || (b || begins_with utf_16le_bom (x ++ (c ∷ y)))) (begins-cut utf_16be_bom x c y (fe, (ff, tt)))
-    ∙ ap (λ b. begins_with utf_8_bom x || (begins_with utf_16be_bom x || b)) (begins-cut utf_16le_bom x c y (ff, (fe, tt)))
+byte_order_mark-cut x c y h = grind (arith)
 
 -- The bytes of a text up to its first ASCII character.
 text-cut : (e : Encoding) (x : List ℕ) (c : ℕ) (y : List ℕ) → c < 0x80 → begins_like_bom (encoded_text e (x ++ (c ∷ y))) ≡ begins_like_bom (encoded_text e x)
-text-cut e x c y h =
-    ap begins_like_bom (encoded_text-append e x (c ∷ y) ∙ ap (λ o. encoded_text e x ++ (unwrap_or o [] ++ encoded_text e y)) (encoded-ascii e c h))
-    ∙ byte_order_mark-cut (encoded_text e x) c (encoded_text e y) h
+text-cut e x c y h = simp (encoded_text-append, encoded-ascii, byte_order_mark-cut)
 
 -- ---- the first line
 
@@ -81,10 +56,7 @@ IsEscape x = (rest : List ℕ) × (x ≡ backslash ∷ rest)
 
 -- `\u` escapes begin with a backslash
 unicode-is_escape : (c : ℕ) → IsEscape (unicode_escape c)
-unicode-is_escape c = elim (cases_Bool (nat_lt c 0x1_0000)) [
-  | inl e ↦ (_, cond-true (nat_lt c 0x1_0000) (unit_escape c) (unit_escape (high_surrogate c) ++ unit_escape (low_surrogate c)) e)
-  | inr e ↦ (_, cond-false (nat_lt c 0x1_0000) (unit_escape c) (unit_escape (high_surrogate c) ++ unit_escape (low_surrogate c)) e)
-]
+unicode-is_escape c = cond_both (nat_lt c 0x1_0000) (unit_escape c) _ IsEscape (λ k. (_, refl)) (λ k. (_, refl))
 
 -- A key with its first character escaped, with what follows it.
 with_first_escaped-unmarked : (e : Encoding) (only : Bool) (key rest : List ℕ) → is_bom_like e only key ≡ true → IsUnmarked e (with_first_escaped e only key ++ rest)
@@ -104,21 +76,14 @@ plain-unmarked e only key sep rest g h =
 -- A pair on the first line, with what follows its separator.
 pub pair-unmarked : (e : Encoding) (only : Bool) (key sep rest : List ℕ) → IsGoodSeparator sep
     → begins_like_bom (encoded_text e (printed_key e only true key ++ (sep ++ rest))) ≡ false
-pair-unmarked e only key sep rest g = elim (cases_Bool (is_bom_like e only key)) [
-  | inl h ↦ ap (λ v. begins_like_bom (encoded_text e (v ++ (sep ++ rest))))
-      (cond-true (is_bom_like e only key) (with_first_escaped e only key) (printed_characters e only in_key_or_value key) h) ∙ with_first_escaped-unmarked e only key (sep ++ rest) h
-  | inr h ↦ ap (λ v. begins_like_bom (encoded_text e (v ++ (sep ++ rest))))
-      (cond-false (is_bom_like e only key) (with_first_escaped e only key) (printed_characters e only in_key_or_value key) h) ∙ plain-unmarked e only key sep rest g h
-]
+pair-unmarked e only key sep rest g =
+    cond_both (is_bom_like e only key) (with_first_escaped e only key) (printed_characters e only in_key_or_value key)
+    (λ v. begins_like_bom (encoded_text e (v ++ (sep ++ rest))) ≡ false)
+    (λ h. with_first_escaped-unmarked e only key (sep ++ rest) h) (λ h. plain-unmarked e only key sep rest g h)
 
 -- A printed first line, with what follows it.
 printed-unmarked : (e : Encoding) (s : Settings) (line : Content) (rest : List ℕ) → AreGoodSettings s → IsUnmarked e (printed_text e s true line ++ rest)
-printed-unmarked e s (comment text) rest g =
-    ap (λ v. begins_like_bom (encoded_text e v)) (append_assoc (printed_characters e s.ascii_only in_prefix s.comment_prefix) _ rest) ∙ comment-unmarked e s.ascii_only s.comment_prefix _ g.prefix
-printed-unmarked e s (pair key value) rest g =
-    ap (λ v. begins_like_bom (encoded_text e v))
-    (append_assoc (printed_key e s.ascii_only true key) (s.kv_separator ++ _) rest ∙ ap (λ v. printed_key e s.ascii_only true key ++ v) (append_assoc s.kv_separator _ rest))
-    ∙ pair-unmarked e s.ascii_only key s.kv_separator _ g.separator
+printed-unmarked e s line rest h = grind (arith, append_assoc, comment-unmarked, pair-unmarked)
 
 -- ---- all lines
 

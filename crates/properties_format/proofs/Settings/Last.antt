@@ -1,10 +1,10 @@
 -- The settings after some calls are the last ones that were accepted, or else the initial ones.
-use Rattle.std.proofs.Common.{◌≡◌, ℕ, Bool, true, false, List, [], ◌∷◌, refl, ap, ◌∙◌}
+use Rattle.std.proofs.Common.{◌≡◌, ℕ, Bool, true, false, List, [], ◌∷◌, refl}
 use Rattle.std.specs.Prelude.{Option, Some, None, unwrap_or, if◌then◌else◌}
 use Rattle.properties_format.specs.Text.{LineEnding}
 use Rattle.properties_format.specs.Settings.{Settings}
 use Rattle.properties_format.specs.Computed.Settings.{is_good_prefix, is_good_separator}
-use Rattle.properties_format.specs.Writing.{Call, comment_call, pair_call, prefix_call, separator_call, ending_call, flush_call, ascii_only_call, settings_after_call, settings_after}
+use Rattle.properties_format.specs.Writing.{Call, prefix_call, separator_call, ending_call, ascii_only_call, settings_after_call, settings_after}
 
 -- the second value if there is one, otherwise the first
 abbrev pub later : {A : Type 0} → Option A → Option A → Option A
@@ -18,100 +18,62 @@ last_given given (call ∷ calls) = later (given call) (last_given given calls)
 
 -- the prefix, the separator, the line ending and the ASCII-only mode that a call sets, if it is accepted
 abbrev pub prefix_of : Call → Option (List ℕ)
-prefix_of (comment_call text) = None
-prefix_of (pair_call key value) = None
 prefix_of (prefix_call prefix) = if is_good_prefix prefix then Some prefix else None
-prefix_of (separator_call separator) = None
-prefix_of (ending_call line_ending) = None
-prefix_of flush_call = None
-prefix_of (ascii_only_call on) = None
+prefix_of call = None
 
 abbrev pub separator_of : Call → Option (List ℕ)
-separator_of (comment_call text) = None
-separator_of (pair_call key value) = None
-separator_of (prefix_call prefix) = None
 separator_of (separator_call separator) = if is_good_separator separator then Some separator else None
-separator_of (ending_call line_ending) = None
-separator_of flush_call = None
-separator_of (ascii_only_call on) = None
+separator_of call = None
 
 abbrev pub ending_of : Call → Option LineEnding
-ending_of (comment_call text) = None
-ending_of (pair_call key value) = None
-ending_of (prefix_call prefix) = None
-ending_of (separator_call separator) = None
 ending_of (ending_call line_ending) = Some line_ending
-ending_of flush_call = None
-ending_of (ascii_only_call on) = None
+ending_of call = None
 
 abbrev pub ascii_only_of : Call → Option Bool
-ascii_only_of (comment_call text) = None
-ascii_only_of (pair_call key value) = None
-ascii_only_of (prefix_call prefix) = None
-ascii_only_of (separator_call separator) = None
-ascii_only_of (ending_call line_ending) = None
-ascii_only_of flush_call = None
 ascii_only_of (ascii_only_call on) = Some on
+ascii_only_of call = None
 
 -- ---- after one call
 
 -- A prefix is set if it is accepted, and every other setting is unchanged.
 after-prefix : (s : Settings) (prefix : List ℕ) (b : Bool)
-    → ((if b then record s { comment_prefix = prefix } else s).comment_prefix ≡ unwrap_or (if b then Some prefix else None) s.comment_prefix)
-    × ((if b then record s { comment_prefix = prefix } else s).kv_separator ≡ s.kv_separator)
-    × ((if b then record s { comment_prefix = prefix } else s).line_ending ≡ s.line_ending)
-    × ((if b then record s { comment_prefix = prefix } else s).ascii_only ≡ s.ascii_only)
+    → let t : Settings = if b then record s { comment_prefix = prefix } else s in
+    (t.comment_prefix ≡ unwrap_or (if b then Some prefix else None) s.comment_prefix) × (t.kv_separator ≡ s.kv_separator)
+    × (t.line_ending ≡ s.line_ending) × (t.ascii_only ≡ s.ascii_only)
 after-prefix s prefix true = (refl, refl, refl, refl)
 after-prefix s prefix false = (refl, refl, refl, refl)
 
 -- A separator is set if it is accepted, and every other setting is unchanged.
 after-separator : (s : Settings) (separator : List ℕ) (b : Bool)
-    → ((if b then record s { kv_separator = separator } else s).kv_separator ≡ unwrap_or (if b then Some separator else None) s.kv_separator)
-    × ((if b then record s { kv_separator = separator } else s).comment_prefix ≡ s.comment_prefix)
-    × ((if b then record s { kv_separator = separator } else s).line_ending ≡ s.line_ending)
-    × ((if b then record s { kv_separator = separator } else s).ascii_only ≡ s.ascii_only)
+    → let t : Settings = if b then record s { kv_separator = separator } else s in
+    (t.kv_separator ≡ unwrap_or (if b then Some separator else None) s.kv_separator) × (t.comment_prefix ≡ s.comment_prefix)
+    × (t.line_ending ≡ s.line_ending) × (t.ascii_only ≡ s.ascii_only)
 after-separator s separator true = (refl, refl, refl, refl)
 after-separator s separator false = (refl, refl, refl, refl)
 
 -- The prefix after a call is the one that it sets, or else the one before it.
 prefix-after_call : (s : Settings) (call : Call) → (settings_after_call s call).comment_prefix ≡ unwrap_or (prefix_of call) s.comment_prefix
-prefix-after_call s (comment_call text) = refl
-prefix-after_call s (pair_call key value) = refl
 prefix-after_call s (prefix_call prefix) = (after-prefix s prefix (is_good_prefix prefix)).0
 prefix-after_call s (separator_call separator) = (after-separator s separator (is_good_separator separator)).1
-prefix-after_call s (ending_call line_ending) = refl
-prefix-after_call s flush_call = refl
-prefix-after_call s (ascii_only_call on) = refl
+prefix-after_call s call = refl
 
 -- The separator after a call is the one that it sets, or else the one before it.
 separator-after_call : (s : Settings) (call : Call) → (settings_after_call s call).kv_separator ≡ unwrap_or (separator_of call) s.kv_separator
-separator-after_call s (comment_call text) = refl
-separator-after_call s (pair_call key value) = refl
 separator-after_call s (prefix_call prefix) = (after-prefix s prefix (is_good_prefix prefix)).1
 separator-after_call s (separator_call separator) = (after-separator s separator (is_good_separator separator)).0
-separator-after_call s (ending_call line_ending) = refl
-separator-after_call s flush_call = refl
-separator-after_call s (ascii_only_call on) = refl
+separator-after_call s call = refl
 
 -- The line ending after a call is the one that it sets, or else the one before it.
 ending-after_call : (s : Settings) (call : Call) → (settings_after_call s call).line_ending ≡ unwrap_or (ending_of call) s.line_ending
-ending-after_call s (comment_call text) = refl
-ending-after_call s (pair_call key value) = refl
 ending-after_call s (prefix_call prefix) = (after-prefix s prefix (is_good_prefix prefix)).2
 ending-after_call s (separator_call separator) = (after-separator s separator (is_good_separator separator)).2
-ending-after_call s (ending_call line_ending) = refl
-ending-after_call s flush_call = refl
-ending-after_call s (ascii_only_call on) = refl
+ending-after_call s call = refl
 
 -- The ASCII-only mode after a call is the one that it sets, or else the one before it.
-pub ascii_only-after_call : (s : Settings) (call : Call) → (settings_after_call s call).ascii_only ≡ unwrap_or (ascii_only_of call) s.ascii_only
-ascii_only-after_call s (comment_call text) = refl
-ascii_only-after_call s (pair_call key value) = refl
+ascii_only-after_call : (s : Settings) (call : Call) → (settings_after_call s call).ascii_only ≡ unwrap_or (ascii_only_of call) s.ascii_only
 ascii_only-after_call s (prefix_call prefix) = (after-prefix s prefix (is_good_prefix prefix)).3
 ascii_only-after_call s (separator_call separator) = (after-separator s separator (is_good_separator separator)).3
-ascii_only-after_call s (ending_call line_ending) = refl
-ascii_only-after_call s flush_call = refl
-ascii_only-after_call s (ascii_only_call on) = refl
+ascii_only-after_call s call = refl
 
 -- ---- after a list of calls
 
@@ -120,34 +82,26 @@ unwrap-later : {A : Type 0} (o p : Option A) (x : A) → unwrap_or p (unwrap_or 
 unwrap-later o None x = refl
 unwrap-later o (Some y) x = refl
 
+-- A setting after calls is the last one that one of them sets, or else the initial one, if that is so after each call.
+after-calls : {A : Type 0} (setting : Settings → A) (given : Call → Option A)
+    → ((s : Settings) (call : Call) → setting (settings_after_call s call) ≡ unwrap_or (given call) (setting s))
+    → (s : Settings) (calls : List Call) → setting (settings_after s calls) ≡ unwrap_or (last_given given calls) (setting s)
+after-calls setting given each s [] = refl
+after-calls setting given each s (call ∷ calls) =
+    simp (after-calls setting given each (settings_after_call s call) calls, each s call, unwrap-later)
+
 -- The prefix is the last one that was accepted, or else the initial one.
 pub prefix-after : (s : Settings) (calls : List Call) → (settings_after s calls).comment_prefix ≡ unwrap_or (last_given prefix_of calls) s.comment_prefix
-prefix-after s [] = refl
-prefix-after s (call ∷ calls) =
-    prefix-after (settings_after_call s call) calls
-    ∙ ap (unwrap_or (last_given prefix_of calls)) (prefix-after_call s call)
-    ∙ unwrap-later (prefix_of call) (last_given prefix_of calls) s.comment_prefix
+prefix-after = after-calls (λ s. s.comment_prefix) prefix_of prefix-after_call
 
 -- The separator is the last one that was accepted, or else the initial one.
 pub separator-after : (s : Settings) (calls : List Call) → (settings_after s calls).kv_separator ≡ unwrap_or (last_given separator_of calls) s.kv_separator
-separator-after s [] = refl
-separator-after s (call ∷ calls) =
-    separator-after (settings_after_call s call) calls
-    ∙ ap (unwrap_or (last_given separator_of calls)) (separator-after_call s call)
-    ∙ unwrap-later (separator_of call) (last_given separator_of calls) s.kv_separator
+separator-after = after-calls (λ s. s.kv_separator) separator_of separator-after_call
 
 -- The line ending is the last one that was set, or else the initial one.
 pub ending-after : (s : Settings) (calls : List Call) → (settings_after s calls).line_ending ≡ unwrap_or (last_given ending_of calls) s.line_ending
-ending-after s [] = refl
-ending-after s (call ∷ calls) =
-    ending-after (settings_after_call s call) calls
-    ∙ ap (unwrap_or (last_given ending_of calls)) (ending-after_call s call)
-    ∙ unwrap-later (ending_of call) (last_given ending_of calls) s.line_ending
+ending-after = after-calls (λ s. s.line_ending) ending_of ending-after_call
 
 -- The ASCII-only mode is the last one that was set, or else the initial one.
 pub ascii_only-after : (s : Settings) (calls : List Call) → (settings_after s calls).ascii_only ≡ unwrap_or (last_given ascii_only_of calls) s.ascii_only
-ascii_only-after s [] = refl
-ascii_only-after s (call ∷ calls) =
-    ascii_only-after (settings_after_call s call) calls
-    ∙ ap (unwrap_or (last_given ascii_only_of calls)) (ascii_only-after_call s call)
-    ∙ unwrap-later (ascii_only_of call) (last_given ascii_only_of calls) s.ascii_only
+ascii_only-after = after-calls (λ s. s.ascii_only) ascii_only_of ascii_only-after_call

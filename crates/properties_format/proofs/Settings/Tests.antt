@@ -1,6 +1,6 @@
 -- The tests of settings pass for exactly the good settings.
-use Rattle.std.proofs.Common.{◌≡◌, ℕ, ◌==◌, ◌&&◌, ◌||◌, not, true, false, List, [], ◌∷◌, ◌++◌, refl, ap, sym, ◌∙◌, inl, inr}
-use Rattle.std.proofs.lemmas.Bool.{cases_Bool, cond-true, cond-false, and_parts, and_from, or_cases, or_left, or_right, not-true, not_from_false, eqb-true}
+use Rattle.std.proofs.Common.{◌≡◌, ℕ, not, true, false, List, [], ◌∷◌, ◌++◌, refl, ap, ◌∙◌, inl, inr, arith}
+use Rattle.std.proofs.lemmas.Bool.{cases_Bool, cond-true, cond-false, and_parts, and_from, or_left, or_right, not-true, not_from_false}
 use Rattle.properties_format.specs.Text.{is_blank, is_blanks, is_line_end, is_comment_sign, is_separator}
 use Rattle.properties_format.specs.Lines.{HoldsNoLineEnd}
 use Rattle.properties_format.specs.Split.{AreBlanks}
@@ -35,20 +35,9 @@ holds_no_line_end-from (c ∷ x) h = and_from (not (is_line_end c)) (holds_no_li
 
 -- No blank is a comment sign.
 pub blank_not_sign : (c : ℕ) → is_blank c ≡ true → is_comment_sign c ≡ false
-blank_not_sign c h = elim (or_cases (c == 0x20) (c == 0x09 || c == 0x0c) h) [
-  | inl e ↦ ap is_comment_sign (eqb-true c 0x20 e)
-  | inr k ↦ elim (or_cases (c == 0x09) (c == 0x0c) k) [ inl e ↦ ap is_comment_sign (eqb-true c 0x09 e) | inr e ↦ ap is_comment_sign (eqb-true c 0x0c e) ]
-]
+blank_not_sign c h = grind (arith)
 
 -- ---- prefixes
-
--- A blank at the front doesn't decide whether a prefix is good.
-prefix-of_blank : (c : ℕ) (cs : List ℕ) → is_blank c ≡ true → is_good_prefix (c ∷ cs) ≡ is_good_prefix cs
-prefix-of_blank c cs e = cond-true (is_blank c) _ _ e
-
--- Any other character at the front decides it, with what follows.
-prefix-of_other : (c : ℕ) (cs : List ℕ) → is_blank c ≡ false → is_good_prefix (c ∷ cs) ≡ (is_comment_sign c && holds_no_line_end cs)
-prefix-of_other c cs e = cond-false (is_blank c) _ _ e
 
 -- A good prefix with a blank at the front is good.
 blank-in_front : (c : ℕ) (cs : List ℕ) → is_blank c ≡ true → IsGoodPrefix cs → IsGoodPrefix (c ∷ cs)
@@ -59,16 +48,16 @@ blank-in_front c cs e g =
 pub IsGoodPrefix-from_test : (prefix : List ℕ) → is_good_prefix prefix ≡ true → IsGoodPrefix prefix
 IsGoodPrefix-from_test [] h = cc
 IsGoodPrefix-from_test (c ∷ cs) h = elim (cases_Bool (is_blank c)) [
-  | inl e ↦ blank-in_front c cs e (IsGoodPrefix-from_test cs (sym (prefix-of_blank c cs e) ∙ h))
+  | inl e ↦ blank-in_front c cs e (IsGoodPrefix-from_test cs (rw e at h))
   | inr e ↦
-      let p = and_parts (is_comment_sign c) (holds_no_line_end cs) (sym (prefix-of_other c cs e) ∙ h) in
+      let p = and_parts (is_comment_sign c) (holds_no_line_end cs) (rw e at h) in
       record { indent = []; sign = c; tail = cs; division = refl; indented = tt; signed = p.0; one_line = HoldsNoLineEnd-from_test cs p.1 }
 ]
 
 -- Blanks, a comment sign and a text without a line end pass the test.
 divided-is_good : (indent : List ℕ) (sign : ℕ) (tail : List ℕ) → AreBlanks indent → is_comment_sign sign ≡ true → HoldsNoLineEnd tail → is_good_prefix (indent ++ (sign ∷ tail)) ≡ true
-divided-is_good [] sign tail h m p = prefix-of_other sign tail (sign-full sign m) ∙ and_from (is_comment_sign sign) (holds_no_line_end tail) m (holds_no_line_end-from tail p)
-divided-is_good (c ∷ indent) sign tail h m p = prefix-of_blank c (indent ++ (sign ∷ tail)) h.0 ∙ divided-is_good indent sign tail h.1 m p
+divided-is_good [] sign tail h m p = rw (sign-full sign m) (and_from (is_comment_sign sign) (holds_no_line_end tail) m (holds_no_line_end-from tail p))
+divided-is_good (c ∷ indent) sign tail h m p = rw h.0 (divided-is_good indent sign tail h.1 m p)
 
 -- A good prefix passes the test.
 pub is_good_prefix-from : (prefix : List ℕ) → IsGoodPrefix prefix → is_good_prefix prefix ≡ true
@@ -85,14 +74,6 @@ tail_of-good prefix g = ap tail_of g.division ∙ tail-divided g.indent g.sign g
 
 -- ---- separators
 
--- A blank at the front doesn't decide whether a separator has a sign.
-signed-of_blank : (c : ℕ) (cs : List ℕ) → is_blank c ≡ true → is_signed_separator (c ∷ cs) ≡ is_signed_separator cs
-signed-of_blank c cs e = cond-true (is_blank c) _ _ e
-
--- Any other character at the front decides it, with what follows.
-signed-of_other : (c : ℕ) (cs : List ℕ) → is_blank c ≡ false → is_signed_separator (c ∷ cs) ≡ (is_separator c && is_blanks cs)
-signed-of_other c cs e = cond-false (is_blank c) _ _ e
-
 -- A separator with a sign has one with a blank at the front too.
 blank-in_front_of_signed : (c : ℕ) (cs : List ℕ) → is_blank c ≡ true → IsSignedSeparator cs → IsSignedSeparator (c ∷ cs)
 blank-in_front_of_signed c cs e g =
@@ -102,16 +83,16 @@ blank-in_front_of_signed c cs e g =
 pub IsSignedSeparator-from_test : (separator : List ℕ) → is_signed_separator separator ≡ true → IsSignedSeparator separator
 IsSignedSeparator-from_test [] h = cc
 IsSignedSeparator-from_test (c ∷ cs) h = elim (cases_Bool (is_blank c)) [
-  | inl e ↦ blank-in_front_of_signed c cs e (IsSignedSeparator-from_test cs (sym (signed-of_blank c cs e) ∙ h))
+  | inl e ↦ blank-in_front_of_signed c cs e (IsSignedSeparator-from_test cs (rw e at h))
   | inr e ↦
-      let p = and_parts (is_separator c) (is_blanks cs) (sym (signed-of_other c cs e) ∙ h) in
+      let p = and_parts (is_separator c) (is_blanks cs) (rw e at h) in
       record { before = []; sign = c; after = cs; division = refl; blank_before = tt; signed = p.0; blank_after = AreBlanks-from_test cs p.1 }
 ]
 
 -- Blanks, a sign and blanks pass the test.
 divided-is_signed : (before : List ℕ) (sign : ℕ) (after : List ℕ) → AreBlanks before → is_separator sign ≡ true → AreBlanks after → is_signed_separator (before ++ (sign ∷ after)) ≡ true
-divided-is_signed [] sign after h m p = signed-of_other sign after (separator-full sign m) ∙ and_from (is_separator sign) (is_blanks after) m (is_blanks-from after p)
-divided-is_signed (c ∷ before) sign after h m p = signed-of_blank c (before ++ (sign ∷ after)) h.0 ∙ divided-is_signed before sign after h.1 m p
+divided-is_signed [] sign after h m p = rw (separator-full sign m) (and_from (is_separator sign) (is_blanks after) m (is_blanks-from after p))
+divided-is_signed (c ∷ before) sign after h m p = rw h.0 (divided-is_signed before sign after h.1 m p)
 
 -- A separator with a sign passes the test.
 pub is_signed_separator-from : (separator : List ℕ) → IsSignedSeparator separator → is_signed_separator separator ≡ true
@@ -119,11 +100,7 @@ is_signed_separator-from separator g = ap is_signed_separator g.division ∙ div
 
 -- A separator that passes the other test is good.
 pub IsGoodSeparator-from_test : (separator : List ℕ) → is_good_separator separator ≡ true → IsGoodSeparator separator
-IsGoodSeparator-from_test [] h = cc
-IsGoodSeparator-from_test (c ∷ cs) h = elim (or_cases (is_signed_separator (c ∷ cs)) (is_blanks (c ∷ cs)) h) [
-  | inl e ↦ inl (IsSignedSeparator-from_test (c ∷ cs) e)
-  | inr e ↦ inr (record { blank = AreBlanks-from_test (c ∷ cs) e; some = λ k. cc })
-]
+IsGoodSeparator-from_test separator h = grind (arith, IsSignedSeparator-from_test, AreBlanks-from_test)
 
 -- A good separator passes the other test.
 pub is_good_separator-from : (separator : List ℕ) → IsGoodSeparator separator → is_good_separator separator ≡ true

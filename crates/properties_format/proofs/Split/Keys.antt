@@ -1,6 +1,6 @@
 -- Where a key ends: the units of a key, and the computation that divides it from the rest.
-use Rattle.std.proofs.Common.{◌≡◌, ℕ, ◌==◌, Bool, true, false, List, [], ◌∷◌, ◌++◌, refl, ap, sym, ◌∙◌, inl, inr, append_assoc, append-nil}
-use Rattle.std.proofs.lemmas.Bool.{cases_Bool, both_ways, eqb-true}
+use Rattle.std.proofs.Common.{◌≡◌, ℕ, ◌==◌, Bool, true, false, List, [], ◌∷◌, ◌++◌, refl, ap, sym, ◌∙◌, inl, inr, append_assoc, append-nil, arith}
+use Rattle.std.proofs.lemmas.Bool.{cases_Bool, eqb-true}
 use Rattle.properties_format.specs.Text.{backslash, is_blank, is_separator}
 use Rattle.properties_format.specs.Split.{KeyUnit, plain, escaped, last, unit_text, units_before, IsUnit, AreUnits, IsKey}
 use Rattle.properties_format.specs.Computed.Split.{Cut, with_front, ends_key, cut_key}
@@ -19,42 +19,18 @@ abbrev pub ends_here : List ℕ → Bool
 ends_here [] = true
 ends_here (c ∷ cs) = ends_key c
 
--- A character that is neither a blank nor a separator doesn't end a key.
-ends_key-plain : (c : ℕ) → is_blank c ≡ false → is_separator c ≡ false → ends_key c ≡ false
-ends_key-plain c b s = rw b s
-
 -- A character that doesn't end a key is neither a blank nor a separator.
 plain-parts : (c : ℕ) → ends_key c ≡ false → (is_blank c ≡ false) × (is_separator c ≡ false)
-plain-parts c e = elim (cases_Bool (is_blank c)) [
-  | inl b ↦ absurd (both_ways (ends_key c) e (rw b refl))
-  | inr b ↦ (b, rw b at e)
-]
-
--- A character that ends a key isn't a backslash.
-pub ends_key-backslash : (c : ℕ) → ends_key c ≡ true → (c == backslash) ≡ false
-ends_key-backslash c e = elim (cases_Bool (c == backslash)) [
-  | inl b ↦ absurd (both_ways (ends_key c) (rw (eqb-true c backslash b) refl) e)
-  | inr b ↦ b
-]
+plain-parts c e = (grind (arith), grind (arith))
 
 -- If the key ends at once, it is empty.
 pub cut_key-ends : (rest : List ℕ) → ends_here rest ≡ true → cut_key rest false ≡ record { key = []; rest = rest }
-cut_key-ends [] e = refl
-cut_key-ends (c ∷ rest) e = rw (ends_key-backslash c e) (rw e refl)
-
--- A unit at the front.
-pub cut_key-unit : (u : KeyUnit) (rest : List ℕ) → IsUnit u rest → cut_key (unit_text u ++ rest) false ≡ with_text (unit_text u) (cut_key rest false)
-cut_key-unit (plain c) rest h = rw h.0 (rw (ends_key-plain c h.1 h.2) refl)
-cut_key-unit (escaped c) rest h = refl
-cut_key-unit last rest h = rw h refl
+cut_key-ends rest h = grind (arith)
 
 -- Units at the front.
 pub cut_key-units : (us : List KeyUnit) (rest : List ℕ) → AreUnits us rest → cut_key (units_before us rest) false ≡ with_text (units_before us []) (cut_key rest false)
 cut_key-units [] rest h = refl
-cut_key-units (u ∷ us) rest h =
-    cut_key-unit u (units_before us rest) h.0
-    ∙ ap (with_text (unit_text u)) (cut_key-units us rest h.1)
-    ∙ ap (λ v. let cut : Cut = record { key = v; rest = (cut_key rest false).rest } in cut) (sym (append_assoc (unit_text u) (units_before us []) (cut_key rest false).key))
+cut_key-units (u ∷ us) rest h = grind (arith, cut_key-units us rest h.1)
 
 -- A key before what ends it.
 pub cut_key-only : (key rest : List ℕ) → IsKey key rest → ends_here rest ≡ true → cut_key (key ++ rest) false ≡ record { key = key; rest = rest }

@@ -1,7 +1,6 @@
 -- Facts about split lines, for code that prints or parses them.
-use Rattle.std.proofs.Common.{◌≡◌, ℕ, ◌==◌, ◌&&◌, true, false, List, [], ◌∷◌, ◌++◌, refl, ap, sym, ◌∙◌, arith}
+use Rattle.std.proofs.Common.{◌≡◌, ℕ, ◌==◌, true, false, List, [], ◌∷◌, ◌++◌, refl, ap, sym, ◌∙◌, arith}
 use Rattle.std.proofs.lemmas.Bool.{and_parts}
-use Rattle.std.proofs.lemmas.Bool.Decides.{nat_tests}
 use Rattle.properties_format.specs.Text.{backslash, is_blank, is_comment_sign, is_separator}
 use Rattle.properties_format.specs.Split.{Logical, pair, AreBlanks, begins, plain, escaped, IsKey, separator, IsSplit}
 use Rattle.properties_format.specs.Computed.Split.{split_of}
@@ -33,19 +32,13 @@ IsKey-digit c x rest h k = let p = hexadecimal-plain c h in IsKey-plain c x rest
 
 -- A key with a `\u` escape at its front is a key.
 pub IsKey-unicode : (d : Four) (x rest : List ℕ) → are_hexadecimal d ≡ true → IsKey x rest → IsKey (backslash ∷ letter_u ∷ four_text d ++ x) rest
-IsKey-unicode d x rest h k =
-    let p = and_parts (is_hexadecimal d.first && is_hexadecimal d.second) (is_hexadecimal d.third && is_hexadecimal d.fourth) h in
-    let q = and_parts (is_hexadecimal d.first) (is_hexadecimal d.second) p.0 in
-    let r = and_parts (is_hexadecimal d.third) (is_hexadecimal d.fourth) p.1 in
-    IsKey-escaped letter_u (four_text d ++ x) rest
-    (IsKey-digit d.first (d.second ∷ d.third ∷ d.fourth ∷ x) rest q.0
-    (IsKey-digit d.second (d.third ∷ d.fourth ∷ x) rest q.1 (IsKey-digit d.third (d.fourth ∷ x) rest r.0 (IsKey-digit d.fourth x rest r.1 k))))
+IsKey-unicode d x rest h k = grind (arith, and_parts, IsKey-escaped, IsKey-digit)
 
 -- ---- pairs
 
 -- A separator isn't a comment sign.
 pub separator-sign : (c : ℕ) → is_separator c ≡ true → is_comment_sign c ≡ false
-separator-sign c h = grind (arith, nat_tests)
+separator-sign c h = grind (arith)
 
 -- If the key is empty, what comes before the separator is the line's indentation.
 pub split_of-empty_key : (before : List ℕ) (sign : ℕ) (after value : List ℕ) → AreBlanks before → is_separator sign ≡ true → AreBlanks after

@@ -1,6 +1,6 @@
 -- Each line is blank, a comment or a pair, in exactly one way.
 use Rattle.std.proofs.Common.{◌≡◌, ◌≢◌, ℕ, true, false, List, [], ◌∷◌, ◌++◌, refl, ap, sym, ◌∙◌, inl, inr, append_assoc, append-nil, arith}
-use Rattle.std.proofs.lemmas.Bool.{cases_Bool, both_ways}
+use Rattle.std.proofs.lemmas.Bool.{cases_Bool}
 use Rattle.properties_format.specs.Text.{is_blank, is_comment_sign, is_separator, without_leading_blanks}
 use Rattle.properties_format.specs.Split.{Logical, blank, comment, pair, AreBlanks, begins, IsKey, IsBetween, nothing, blanks, separator, IsSplit}
 use Rattle.properties_format.specs.Computed.Split.{Cut, trimmed, cut_key, past_separator, pair_of, split_full, split_of, ends_key}
@@ -11,49 +11,24 @@ use Rattle.properties_format.proofs.Split.Keys.{ends_here, cut_key-only, IsCut, 
 
 -- A separator isn't a blank.
 pub separator-full : (c : ℕ) → is_separator c ≡ true → is_blank c ≡ false
-separator-full c e = elim (cases_Bool (is_blank c)) [
-  | inl b ↦ absurd (grind (arith))
-  | inr b ↦ b
-]
+separator-full c e = grind (arith)
 
 -- a blank ends a key
 ends_key-blank : (c : ℕ) → is_blank c ≡ true → ends_key c ≡ true
 ends_key-blank c b = rw b refl
-
--- A separator ends a key.
-ends_key-separator : (c : ℕ) → is_separator c ≡ true → ends_key c ≡ true
-ends_key-separator c s = rw (separator-full c s) s
-
--- A text that doesn't begin with a separator has none to skip.
-past_separator-full : (y : List ℕ) → begins is_separator y ≡ false → past_separator y ≡ y
-past_separator-full [] e = refl
-past_separator-full (c ∷ y) e = rw e refl
 
 -- A key ends before at least one blank.
 blanks-end : (between value : List ℕ) → between ≢ [] → AreBlanks between → ends_here (between ++ value) ≡ true
 blanks-end [] value h b = absurd (h refl)
 blanks-end (c ∷ between) value h b = ends_key-blank c b.0
 
--- A key ends before a separator, with or without blanks before it.
-sign-end : (before : List ℕ) (sign : ℕ) (rest : List ℕ) → AreBlanks before → is_separator sign ≡ true → ends_here (before ++ (sign ∷ rest)) ≡ true
-sign-end [] sign rest b s = ends_key-separator sign s
-sign-end (c ∷ before) sign rest b s = ends_key-blank c b.0
-
 -- A key ends before what separates it from its value, or at the end of the line.
 pub between-ends : (between value : List ℕ) → IsBetween between value → ends_here (between ++ value) ≡ true
-between-ends between value (nothing e f) = rw (e, f) refl
-between-ends between value (blanks h b e f) = blanks-end between value h b
-between-ends between value (separator before sign after e b s d f) =
-    rw e (rw (append_assoc before (sign ∷ after) value) (sign-end before sign (after ++ value) b s))
+between-ends between value h = grind (arith, blanks-end, append_assoc)
 
 -- What separates the key from the value is followed by the value.
 pub between-value : (between value : List ℕ) → IsBetween between value → past_separator (without_leading_blanks (between ++ value)) ≡ value
-between-value between value (nothing e f) = rw (e, f) refl
-between-value between value (blanks h b e f) = ap past_separator (without_leading_blanks-only between value b e) ∙ past_separator-full value f
-between-value between value (separator before sign after e b s d f) =
-    ap (λ v. past_separator (without_leading_blanks v)) (ap (λ v. v ++ value) e ∙ append_assoc before (sign ∷ after) value)
-    ∙ ap past_separator (without_leading_blanks-only before (sign ∷ (after ++ value)) b (separator-full sign s))
-    ∙ rw s (without_leading_blanks-only after value d f)
+between-value between value h = grind (arith, without_leading_blanks-only, append_assoc)
 
 pub record IsBehind (rest value : List ℕ) : Type 0 where
   pub between : List ℕ
@@ -62,8 +37,7 @@ pub record IsBehind (rest value : List ℕ) : Type 0 where
 
 -- A key doesn't end before a character that is neither a blank nor a separator.
 not-here : (before : List ℕ) (c : ℕ) (y : List ℕ) → ends_here (before ++ (c ∷ y)) ≡ true → is_blank c ≡ false → is_separator c ≡ false → before ≢ []
-not-here [] c y k b s q = both_ways (ends_key c) (rw (b, s) refl) k
-not-here (d ∷ before) c y k b s q = absurd (cc)
+not-here before c y h k m p = grind (arith)
 
 -- After the blanks there is a separator, or there is none.
 after-step : (rest : List ℕ) (before y : List ℕ) → rest ≡ before ++ y → AreBlanks before → begins is_blank y ≡ false → ends_here rest ≡ true → IsBehind rest (past_separator y)
@@ -110,10 +84,7 @@ full-pair line indent x e b h f m = whole (cut_key x false) (cut_key-meets x)
 -- Blanks, followed by a text that doesn't begin with a blank, are what is computed for that text.
 full-meets : (line indent x : List ℕ) → line ≡ indent ++ x → AreBlanks indent → begins is_blank x ≡ false → IsSplit line (split_full x)
 full-meets line indent [] e b f = rw (e, append-nil indent) b
-full-meets line indent (c ∷ x) e b f = elim (cases_Bool (is_comment_sign c)) [
-  | inl m ↦ rw m (record { indent = indent; sign = c; rest = x; whole = e; indent_blank = b; is_sign = m; trimmed = trimmed-meets x })
-  | inr m ↦ rw m (full-pair line indent (c ∷ x) e b (λ q. absurd (cc)) f m)
-]
+full-meets line indent (c ∷ x) e b f = grind (arith, trimmed-meets, full-pair)
 
 -- A line is what is computed for it.
 pub split_of-meets : (line : List ℕ) → IsSplit line (split_of line)
@@ -125,10 +96,7 @@ split_of-meets line = let p : IsPast line (without_leading_blanks line) =
 
 -- A comment sign isn't a blank.
 pub sign-full : (c : ℕ) → is_comment_sign c ≡ true → is_blank c ≡ false
-sign-full c e = elim (cases_Bool (is_blank c)) [
-  | inl b ↦ absurd (grind (arith))
-  | inr b ↦ b
-]
+sign-full c e = grind (arith)
 
 -- a line of blanks
 pub split_of-blank : (line : List ℕ) → AreBlanks line → split_of line ≡ blank
@@ -143,8 +111,7 @@ split_of-comment indent sign rest b m = ap split_full (without_leading_blanks-on
 
 -- What is computed for a text that isn't empty and doesn't begin with a comment sign is a pair.
 split_full-pair : (x : List ℕ) → x ≢ [] → begins is_comment_sign x ≡ false → split_full x ≡ pair_of (cut_key x false)
-split_full-pair [] h m = absurd (h refl)
-split_full-pair (c ∷ x) h m = rw m refl
+split_full-pair x h k = grind (arith)
 
 -- Blanks, a key, what separates it from the value, and the value.
 pub split_of-pair : (indent key between value : List ℕ) → AreBlanks indent → key ++ (between ++ value) ≢ []
@@ -152,10 +119,7 @@ pub split_of-pair : (indent key between value : List ℕ) → AreBlanks indent �
     → IsKey key (between ++ value) → IsBetween between value → split_of (indent ++ (key ++ (between ++ value))) ≡ pair key value
 unfolding split_of
 split_of-pair indent key between value b h f m k w =
-    ap split_full (without_leading_blanks-only indent (key ++ (between ++ value)) b f)
-    ∙ split_full-pair (key ++ (between ++ value)) h m
-    ∙ ap pair_of (cut_key-only key (between ++ value) k (between-ends between value w))
-    ∙ ap (pair key) (between-value between value w)
+    simp (without_leading_blanks-only, split_full-pair, cut_key-only, between-ends, between-value)
 
 -- A line is nothing else.
 pub split_of-only : (line : List ℕ) (what : Logical) → IsSplit line what → what ≡ split_of line

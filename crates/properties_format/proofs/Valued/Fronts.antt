@@ -1,15 +1,15 @@
 -- The front of a pair: the computed front is the front of its group, and the only one.
-use Rattle.std.proofs.Common.{◌≡◌, ◌≢◌, ◌⊎◌, ◌<◌, ◌≤◌, ℕ, ◌==◌, ◌||◌, not, Bool, true, false, List, [], ◌∷◌, ◌++◌}
-use Rattle.std.proofs.Common.{None, length, drop, refl, ap, ap₂, sym, ◌∙◌, inl, inr, arith, append_assoc, append-nil, length-append, lit<, eqb-true, subst}
+use Rattle.std.proofs.Common.{◌≡◌, ◌≢◌, ◌⊎◌, ◌<◌, ◌≤◌, ℕ, not, Bool, true, false, List, [], ◌∷◌, ◌++◌, arith}
+use Rattle.std.proofs.Common.{None, length, drop, refl, ap, ap₂, sym, ◌∙◌, inl, inr, arith, append_assoc, append-nil, length-append, subst}
 use Rattle.std.specs.Prelude.{nat_le, if◌then◌else◌}
 use Rattle.std.proofs.Math.Seq.{drop-append_seam}
-use Rattle.std.proofs.lemmas.Bool.{cases_Bool, or_cases, not-true}
+use Rattle.std.proofs.lemmas.Bool.{cases_Bool, not-true}
 use Rattle.std.proofs.lemmas.List.{append_cancel_left}
-use Rattle.properties_format.specs.Text.{backslash, is_blank, is_separator, without_leading_blanks}
+use Rattle.properties_format.specs.Text.{backslash, is_blank, without_leading_blanks}
 use Rattle.properties_format.specs.Encoding.{Encoding}
 use Rattle.properties_format.specs.Cut.{IsDecodedLine}
 use Rattle.properties_format.specs.Groups.{is_open, is_comment_line, without_last, without_open_backslash, joined_after, joined}
-use Rattle.properties_format.specs.Split.{AreBlanks, begins, ends, IsBetween, nothing, blanks, separator, IsPair}
+use Rattle.properties_format.specs.Split.{AreBlanks, begins, ends, IsBetween, IsPair}
 use Rattle.properties_format.specs.Computed.Split.{ends_key}
 use Rattle.properties_format.specs.Computed.Cut.{decoded_line}
 use Rattle.properties_format.specs.Body.{HeldLine, as_lines, ending_bytes, group_bytes}
@@ -19,12 +19,10 @@ use Rattle.properties_format.specs.Computed.Valued.{without_indent, added_by, he
 use Rattle.properties_format.proofs.Groups.Open.{is_open-backslash, is_open-other, is_open-after, blank-other, open-ends, without_open_backslash-closed}
 use Rattle.properties_format.proofs.Groups.Joined.{joined-comment_line, joined-unmarked, joined-closed}
 use Rattle.properties_format.proofs.Split.Blanks.{begins-front, without_leading_blanks-only, without_leading_blanks-meets}
-use Rattle.properties_format.proofs.Split.Keys.{ends_key-backslash}
-use Rattle.properties_format.proofs.Split.Unique.{separator-full}
 use Rattle.properties_format.proofs.Cut.Byline.{decoded_line-meets, decoded_line-only}
 use Rattle.properties_format.proofs.Valued.Parts.{pair-line, between_in-pair, before_value-pair, comment_line-no_pair}
 use Rattle.properties_format.proofs.Valued.Heads.{EndsInAscii, IsLittle, IsHeadOf, head_of-meets, heads-same}
-use Rattle.properties_format.proofs.Encodings.PieceEnds.{no-front}
+use Rattle.properties_format.proofs.Encodings.PieceEnds.{no-front, none-right}
 
 -- ---- what a line adds
 
@@ -63,8 +61,7 @@ past-head (c ∷ x) y h = elim (cases_Bool (is_blank c)) [
 
 -- This holds whether or not the indentation counts.
 pub indent-head : (first : Bool) (x y : List ℕ) → ¬ (AreBlanks x) → without_indent first (x ++ y) ≡ without_indent first x ++ y
-indent-head true x y h = refl
-indent-head false x y h = past-head x y h
+indent-head first x y h = grind (arith, past-head)
 
 -- Without its open backslash, a text isn't open.
 pub shut-closed : (x : List ℕ) → is_open (without_open_backslash x) ≡ false
@@ -106,22 +103,14 @@ is_first_after first (h ∷ hs) = false
 
 -- A line after others isn't the first of its group.
 after-later : (a : List HeldLine) → is_first_after false a ≡ false
-after-later [] = refl
-after-later (i ∷ a) = refl
+after-later a = grind (arith)
 
 -- What two lists of lines add.
 pub joined_by-append : (first : Bool) (a b : List HeldLine) → joined_by first (a ++ b) ≡ joined_by first a ++ joined_by (is_first_after first a) b
 joined_by-append first [] b = refl
-joined_by-append first (h ∷ a) b =
-    ap (λ v. added_by first h.text ++ v) (joined_by-append false a b ∙ ap (λ v. joined_by false a ++ joined_by v b) (after-later a))
-    ∙ sym (append_assoc (added_by first h.text) (joined_by false a) (joined_by false b))
+joined_by-append first (h ∷ a) b = simp (after-later, append_assoc, joined_by-append false a b)
 
 -- ---- empty texts
-
--- If two texts together are empty, the second is.
-pub none-right : (x y : List ℕ) → x ++ y ≡ [] → y ≡ []
-none-right [] y h = h
-none-right (c ∷ x) y h = absurd (cc)
 
 -- If the second of two texts isn't empty, the two together aren't.
 pub right-some : (x y : List ℕ) → y ≢ [] → x ++ y ≢ []
@@ -158,22 +147,17 @@ ends-last kind (c ∷ d ∷ p) h = let m = ends-last kind (d ∷ p) h in (c ∷ 
 
 -- The last character of a text that another text precedes.
 pub ends-right : (kind : ℕ → Bool) (a p : List ℕ) → p ≢ [] → ends kind (a ++ p) ≡ ends kind p
-ends-right kind [] p h = refl
 ends-right kind (c ∷ []) [] h = absurd (h refl)
-ends-right kind (c ∷ []) (d ∷ p) h = refl
 ends-right kind (c ∷ b ∷ a) p h = ends-right kind (b ∷ a) p h
+ends-right kind a p h = refl
+
+-- If a text may end, so may its second part.
+pub may-later : (a q p v : List ℕ) → q ≢ [] → p ≡ a ++ q → MayEnd p v → MayEnd q v
+may-later a q p v h k m = grind (arith, ends-right)
 
 -- A character that ends a key is an ASCII character.
 pub ends_key-ascii : (c : ℕ) → ends_key c ≡ true → c < 0x80
-ends_key-ascii c h = elim (cases_Bool (is_blank c)) [
-  | inl b ↦ elim (or_cases (c == 0x20) (c == 0x09 || c == 0x0c) b) [
-    | inl e ↦ rw (eqb-true c 0x20 e) (lit< tt)
-    | inr e ↦ elim (or_cases (c == 0x09) (c == 0x0c) e) [ inl f ↦ rw (eqb-true c 0x09 f) (lit< tt) | inr f ↦ rw (eqb-true c 0x0c f) (lit< tt) ]
-  ]
-  | inr b ↦
-      let s : is_separator c ≡ true = rw b at h in
-      elim (or_cases (c == 0x3d) (c == 0x3a) s) [ inl e ↦ rw (eqb-true c 0x3d e) (lit< tt) | inr e ↦ rw (eqb-true c 0x3a e) (lit< tt) ]
-]
+ends_key-ascii c h = grind (arith)
 
 -- ---- the head of a line
 
@@ -195,9 +179,7 @@ IsSome false q = q ≢ []
 
 -- Blanks followed by such a text aren't blank, if in a later line the text doesn't begin with a blank.
 some-full : (first : Bool) (b q : List ℕ) → IsSome first q → (first ≡ false → begins is_blank q ≡ false) → ¬ (AreBlanks (b ++ q))
-some-full true b q h k = λ m. h (blanks-right b q m)
-some-full false b [] h k = absurd (h refl)
-some-full false b (c ∷ q) h k = λ m. let n = blanks-right b (c ∷ q) m in let o = k refl in absurd (cc (n.0, o))
+some-full first b q h k = grind (arith, blanks-right)
 
 -- In a later line, the text without its indentation doesn't begin with a blank.
 indent-full : (first : Bool) (x q r : List ℕ) → first ≡ false → without_indent first x ≡ q ++ r → begins is_blank q ≡ false
@@ -207,8 +189,7 @@ indent-full false x q r f s = begins-front is_blank q r (ap (begins is_blank) (s
 -- Such a text is what is left of itself with blanks before it, without the indentation.
 indent-only : (first : Bool) (b q : List ℕ) → AreBlanks b → (first ≡ true → b ≡ []) → (first ≡ false → begins is_blank q ≡ false)
     → without_indent first (b ++ q) ≡ q
-indent-only true b q h k m = rw (k refl) refl
-indent-only false b q h k m = without_leading_blanks-only b q h (m refl)
+indent-only first b q h k m = grind (arith, without_leading_blanks-only)
 
 -- The indentation of a first line doesn't count.
 indent-none : (first : Bool) (x : List ℕ) → first ≡ true → (indented first x).indent ≡ []
@@ -218,19 +199,11 @@ indent-none false x f = absurd (cc)
 
 -- A head that ends where it may isn't open.
 may-closed : (y q r : List ℕ) → without_open_backslash y ≡ q ++ r → MayEnd q r → is_open q ≡ false
-may-closed y q r s (inl k) =
-    let m = ends-last ends_key q k in ap is_open m.2 ∙ is_open-other m.0 m.1 (ends_key-backslash m.1 m.3)
-may-closed y q r s (inr k) = ap is_open (sym (s ∙ ap (λ v. q ++ v) k ∙ append-nil q)) ∙ shut-closed y
+may-closed y q r h k = grind (arith, ends-last, is_open-other, append-nil, shut-closed)
 
 -- The size of the head.
 pub head-size : (first : Bool) (x b q r : List ℕ) → x ≡ b ++ (q ++ r) → without_indent first x ≡ q ++ r → head_size first x q ≡ length (b ++ q)
-head-size first x b q r s t =
-    let a : length x ≡ length (b ++ (q ++ r)) = ap length s in
-    let c : length (without_indent first x) ≡ length (q ++ r) = ap length t in
-    let d = length-append b (q ++ r) in
-    let f = length-append q r in
-    let g = length-append b q in
-    omega arith
+head-size first x b q r s t = grind (arith, length-append)
 
 -- The computed head of a line.
 head-meets : (e : Encoding) (first : Bool) (line : HeldLine) (q r : List ℕ) → is_editable e ≡ true → decoded_line e line.bytes ≡ line.text
@@ -261,8 +234,7 @@ head-adds e first line q head h = without_open_backslash-closed (without_indent 
 
 -- The line without its indentation is what the head adds, followed by the rest.
 head-line : (e : Encoding) (first : Bool) (line : HeldLine) (q head : List ℕ) (h : IsHead e first line q head) → without_indent first line.text ≡ q ++ h.rest
-head-line e first line q head h =
-    ap (without_indent first) h.cut_text ∙ indent-head first h.text h.rest h.not_blank ∙ ap (λ v. v ++ h.rest) h.adds
+head-line e first line q head h = rw (h.cut_text, indent-head first h.text h.rest h.not_blank, h.adds)
 
 -- A head adds something.
 head-some : (e : Encoding) (first : Bool) (line : HeldLine) (q head : List ℕ) → IsHead e first line q head → q ≢ []
@@ -301,8 +273,7 @@ front-later e first p h hs k = rw (k, front_in) refl
 
 -- An empty text isn't such a text.
 some-nil : (first : Bool) → IsSome first [] → ⊥
-some-nil true h = h tt
-some-nil false h = h refl
+some-nil first h = grind (arith)
 
 -- One more line at the front.
 after-line : (e : Encoding) (first : Bool) (h : HeldLine) (hs : List HeldLine) (p q front : List ℕ) → p ≡ added_by first h.text ++ q → HasFront e false hs q front
@@ -351,17 +322,13 @@ front_in-meets e first (h ∷ hs) p v ok d s k some = elim (cases_Bool (nat_le (
       let l : length p ≡ length a = ap length (m.1 ∙ ap (λ w. a ++ w) q ∙ append-nil a) in
       absurd (grind (arith)) in
       subst (HasFront e first (h ∷ hs) p) (sym t)
-      (after-line e first h hs p m.0 (front_in e false m.0 hs) m.1 (front_in-meets e false hs m.0 v ok d.1 m.2 (may-later a m.0 more m.1 k) more))
+      (after-line e first h hs p m.0 (front_in e false m.0 hs) m.1 (front_in-meets e false hs m.0 v ok d.1 m.2 (may-later a m.0 p v more m.1 k) more))
 ]
   where
     may-here : (r : List ℕ) → v ≡ r ++ joined_by false hs → MayEnd p v → MayEnd p r
     may-here r t (inl q) = inl q
     may-here [] t (inr q) = inr refl
     may-here (c ∷ r) t (inr q) = absurd (cc)
-
-    may-later : (a q : List ℕ) → q ≢ [] → p ≡ a ++ q → MayEnd p v → MayEnd q v
-    may-later a q more t (inl z) = inl (sym (ends-right ends_key a q more) ∙ ap (ends ends_key) (sym t) ∙ z)
-    may-later a q more t (inr z) = inr z
 
 -- ---- there is only one front
 
@@ -410,23 +377,12 @@ head-less e first line q head h =
     let t = head-line e first line q head h in
     elim (cases_Bool (is_open y)) [
       | inl k ↦
-          let a : length y ≡ length (without_last y ++ backslash ∷ []) = ap length (open-ends y k) in
-          let b = length-append (without_last y) (backslash ∷ []) in
-          let c : length y ≡ length (q ++ h.rest) = ap length t in
-          let d = length-append q h.rest in
-          let w : without_open_backslash y ≡ without_last y = rw k refl in
-          let l : length (without_open_backslash y) ≡ length (without_last y) = ap length w in
           let more : h.rest ≢ [] = λ n.
           let u : is_open y ≡ is_open q = ap is_open (t ∙ ap (λ v. q ++ v) n ∙ append-nil q) in
           let o : is_open q ≡ false = ap is_open (sym h.adds) ∙ open-indent first h.text ∙ h.closed in
           absurd (cc) in
-          let f : 1 ≤ length h.rest = some-length h.rest more in
-          omega arith
-      | inr k ↦
-          let w : without_open_backslash y ≡ q ++ h.rest = without_open_backslash-closed y k ∙ t in
-          let l : length (without_open_backslash y) ≡ length (q ++ h.rest) = ap length w in
-          let d = length-append q h.rest in
-          omega arith
+          rw k (omega (arith, ap length (open-ends y k), length-append (without_last y) (backslash ∷ []), ap length t, length-append q h.rest, some-length h.rest more))
+      | inr k ↦ rw k (omega (arith, ap length t, length-append q h.rest))
     ]
 
 -- A head is the computed one.
@@ -435,11 +391,8 @@ head-only : (e : Encoding) (first : Bool) (line : HeldLine) (more : List HeldLin
     → head ≡ head_of e (head_size first line.text q) line.bytes
 head-only e first line more q v head ok d h s k =
     let t = head-line e first line q head h in
-    let a : length line.text ≡ length (h.text ++ h.rest) = ap length h.cut_text in
-    let b = length-append h.text h.rest in
-    let c : length (without_indent first line.text) ≡ length (q ++ h.rest) = ap length t in
-    let f = length-append q h.rest in
-    let size : length h.text ≡ head_size first line.text q = omega arith in
+    let size : length h.text ≡ head_size first line.text q =
+    omega (arith, ap length h.cut_text, length-append h.text h.rest, ap length t, length-append q h.rest) in
     heads-same e line.bytes h.text h.rest head (head_of e (length h.text) line.bytes) ok (head-ends e first line more q v head h s k) h.is_head
     (head_of-meets e line.bytes h.text h.rest ok (d ∙ h.cut_text))
     ∙ ap (λ n. head_of e n line.bytes) size
@@ -470,13 +423,9 @@ front_in-only e first (i ∷ kept) line more p v q head ok d s k h u =
     append_assoc i.bytes (ending_bytes i.ending ++ group_bytes kept) head
     ∙ ap (λ w. i.bytes ++ w) (append_assoc (ending_bytes i.ending) (group_bytes kept) head)
     ∙ ap (λ w. i.bytes ++ (ending_bytes i.ending ++ w))
-    (front_in-only e false kept line more j v q head ok d.1 rest (may-later j some t k) (subst (λ b. IsHead e b line q head) (sym (after-later kept)) h) refl)
+    (front_in-only e false kept line more j v q head ok d.1 rest (may-later a j p v some t k) (subst (λ b. IsHead e b line q head) (sym (after-later kept)) h) refl)
     ∙ ap (λ w. i.bytes ++ (ending_bytes i.ending ++ front_in e false w (kept ++ line ∷ more))) (sym (ap (drop (length a)) t ∙ drop-append_seam a j))
     ∙ sym (front-later e first p i (kept ++ line ∷ more) n)
-  where
-    may-later : (w : List ℕ) → w ≢ [] → p ≡ added_by first i.text ++ w → MayEnd p v → MayEnd w v
-    may-later w f t (inl z) = inl (sym (ends-right ends_key (added_by first i.text) w f) ∙ ap (ends ends_key) (sym t) ∙ z)
-    may-later w f t (inr z) = inr z
 
 -- ---- the front of a pair
 
@@ -486,18 +435,10 @@ blanks-end [] h b = absurd (h refl)
 blanks-end (c ∷ []) h b = rw b.0 refl
 blanks-end (c ∷ d ∷ x) h b = blanks-end (d ∷ x) (λ q. cc) b.1
 
--- So does a separator with blanks after it.
-sign-end : (sign : ℕ) (x : List ℕ) → is_separator sign ≡ true → AreBlanks x → ends ends_key (sign ∷ x) ≡ true
-sign-end sign [] s b = rw (separator-full sign s) s
-sign-end sign (c ∷ x) s b = blanks-end (c ∷ x) (λ q. cc) b
-
 -- What separates the key from the value ends with a character that ends a key, or both the separator and the value are
 -- empty.
 pub between-end : (between value : List ℕ) → IsBetween between value → (between ≢ []) × (ends ends_key between ≡ true) ⊎ (between ≡ []) × (value ≡ [])
-between-end between value (nothing a b) = inr (a, b)
-between-end between value (blanks h b a c) = inl (h, blanks-end between h b)
-between-end between value (separator before sign after s b t c d) =
-    inl ((λ q. right-some before (sign ∷ after) (λ z. cc) (sym s ∙ q)), ap (ends ends_key) s ∙ ends-right ends_key before (sign ∷ after) (λ q. cc) ∙ sign-end sign after t c)
+between-end between value h = grind (arith, blanks-end, ends-right)
 
 -- What comes before the value of a pair may end a head.
 pub pair-end : (line key value : List ℕ) (h : IsPair line key value) → MayEnd (h.indent ++ (key ++ h.between)) value
@@ -510,20 +451,13 @@ pair-end line key value h = elim (between-end h.between value h.is_between) [
 
 -- What comes before the value of a pair isn't blank.
 pub pair-some : (line key value : List ℕ) (h : IsPair line key value) → ¬ (AreBlanks (h.indent ++ (key ++ h.between)))
-pair-some line key value h = λ b.
-    of-text (key ++ h.between) (blanks-right h.indent (key ++ h.between) b)
-    (begins-front is_blank (key ++ h.between) value (ap (begins is_blank) (append_assoc key h.between value) ∙ h.begins_full))
-    (λ q. h.not_empty (all-empty q))
+pair-some line key value h = grind (arith, blanks-right, begins-front)
   where
     all-empty : key ++ h.between ≡ [] → key ++ (h.between ++ value) ≡ []
-    all-empty q = elim (between-end h.between value h.is_between) [
-      | inl m ↦ absurd (m.0 (none-right key h.between q))
-      | inr m ↦ ap₂ (λ v w. v ++ w) (no-front key h.between q) (ap₂ (λ v w. v ++ w) m.0 m.1)
-    ]
+    all-empty q = grind (arith, no-front)
 
     of-text : (x : List ℕ) → AreBlanks x → begins is_blank x ≡ false → x ≢ [] → ⊥
-    of-text [] b f n = n refl
-    of-text (c ∷ x) b f n = absurd (cc (b.0, f))
+    of-text x h k m = grind (arith)
 
 -- The lines that are kept and the head add what comes before the value.
 kept-joined : (e : Encoding) (kept : List HeldLine) (line : HeldLine) (more : List HeldLine) (q head : List ℕ) (h : IsHead e (is_first_after true kept) line q head)

@@ -5,72 +5,35 @@ use Rattle.std.specs.Prelude.{All}
 use Rattle.std.proofs.lemmas.Bool.{cases_Bool, cond-true, cond-false}
 use Rattle.properties_format.specs.Text.{scalar, LineEnding, lf, line_ending_text, is_blanks}
 use Rattle.properties_format.specs.Encoding.{Encoding}
-use Rattle.properties_format.specs.Lines.{Ended}
-use Rattle.properties_format.specs.Groups.{IsWhole, joined}
+use Rattle.properties_format.specs.Groups.{joined}
 use Rattle.properties_format.specs.Entries.{Content, pair}
 use Rattle.properties_format.specs.Items.{given}
 use Rattle.properties_format.specs.Printing.{encoded_text, printed_key}
 use Rattle.properties_format.specs.Writing.{is_empty}
-use Rattle.properties_format.specs.Body.{HeldLine, as_lines, as_groups, held_in, AreGroupsOf, group_bytes, groups_bytes, ending_bytes, last_ending, HasKey, NoneHasKey}
+use Rattle.properties_format.specs.Body.{HeldLine, as_lines, as_groups, held_in, AreGroupsOf, group_bytes, groups_bytes, ending_bytes, last_ending, NoneHasKey}
 use Rattle.properties_format.specs.Edited.{final_group, is_editable}
 use Rattle.properties_format.specs.Changed.{IsSetIn}
 use Rattle.properties_format.specs.Valued.{printed_value, value_text, HasPair, IsThere, IsRevalued, ending_among, ending_in, separation_by, IsBodyValued}
+use Rattle.properties_format.specs.Computed.Body.{held_groups_of}
 use Rattle.properties_format.specs.Computed.Edited.{KeyPlace, last_place}
 use Rattle.properties_format.specs.Computed.Valued.{last_between, separator_by, has_value, revalued_at, added_at, valued_at}
 use Rattle.properties_format.proofs.Items.Unique.{outcome_of-only}
 use Rattle.properties_format.proofs.Printing.Characters.{encoded_text-append}
-use Rattle.properties_format.proofs.Body.Decoded.{decoded-nil}
-use Rattle.properties_format.proofs.Body.Groups.{IsLastFit, AreFit, group_bytes-append, groups_bytes-append}
-use Rattle.properties_format.proofs.Edited.Outcomes.{outcome_before, outcomes_of, givens}
-use Rattle.properties_format.proofs.Edited.Contents.{outcomes_of-append, givens-append, givens-parted, key-outcome, none-hold}
+use Rattle.properties_format.proofs.Body.Groups.{IsLastFit, AreFit, group_bytes-append, groups_bytes-append, held-body, held_groups_of-meets}
+use Rattle.properties_format.proofs.Edited.Outcomes.{outcomes_of, givens}
+use Rattle.properties_format.proofs.Edited.Contents.{none-hold, HaveContents, pair-outcomes}
 use Rattle.properties_format.proofs.Edited.Made.{last_place-none, last_place-some}
 use Rattle.properties_format.proofs.Valued.Fronts.{front_of-only}
 use Rattle.properties_format.proofs.Valued.Made.{group-decoded, has_value-true, new_separator-meets, valued-only}
-use Rattle.properties_format.proofs.Valued.Lined.{AreLined, groups-lined, lined-groups, lines-join, held_of-append, held_in-append}
-use Rattle.properties_format.proofs.Valued.Lined.{fit-join, fit-parts, fit-first, changed-lined, plain-lines, group-plain}
+use Rattle.properties_format.proofs.Valued.Lined.{AreLined, groups-lined, lined-groups}
+use Rattle.properties_format.proofs.Valued.Lined.{fit-parts, fit-first, changed-lined, plain-lines, group-plain}
 use Rattle.properties_format.proofs.Valued.Revalued.{between_after, value_after, missing}
 use Rattle.properties_format.proofs.Valued.Pair.{after-bytes, new_bytes, new_line, changed-pair}
 use Rattle.properties_format.proofs.Valued.Separators.{added_bytes, added_line, added-pair, new_separator-fit}
-use Rattle.properties_format.proofs.Valued.Added.{empty_line, outcomes-empty, closed-groups}
-
--- ---- their outcomes
-
--- the outcomes of these groups are contents with this property
-abbrev pub HaveContents : List (List HeldLine) → (List Content → Type 0) → Type 0
-HaveContents gs Such = (new : List Content) × Such new × (outcomes_of (as_groups gs) ≡ givens new)
-
--- If the last pair with a key has a value, or gets it, the contents are those with the key set to it.
-pub pair-outcomes : (before : List (List HeldLine)) (g h : List HeldLine) (after : List (List HeldLine)) (key value : List ℕ) (old : List Content)
-    → HasKey key g → NoneHasKey key after → HasPair key value h → outcomes_of (as_groups (before ++ g ∷ after)) ≡ givens old
-    → HaveContents (before ++ h ∷ after) (IsSetIn key value old)
-pair-outcomes before g h after key value old k n p t =
-    let a = key-outcome key g k in
-    let s : outcomes_of (as_groups before) ++ given (pair key a.0) ∷ outcomes_of (as_groups after) ≡ givens old =
-    ap (λ w. outcomes_of (as_groups before) ++ outcome_before w (outcomes_of (as_groups after))) (sym a.1) ∙ sym (outcomes_of-append before (g ∷ after)) ∙ t in
-    let m = givens-parted (outcomes_of (as_groups before)) (given (pair key a.0) ∷ outcomes_of (as_groups after)) old s in
-    of_back m.front m.back a.0 m.whole m.front_given m.back_given
-  where
-    of_back : (front back : List Content) (old_value : List ℕ) → old ≡ front ++ back → outcomes_of (as_groups before) ≡ givens front
-        → given (pair key old_value) ∷ outcomes_of (as_groups after) ≡ givens back
-        → HaveContents (before ++ h ∷ after) (IsSetIn key value old)
-    of_back front [] old_value w ft bt = absurd (cc)
-    of_back front (c ∷ back) old_value w ft bt =
-        let x : pair key old_value ≡ c = cc in
-        let q : outcomes_of (as_groups after) ≡ givens back = cc in (
-          front ++ pair key value ∷ back,
-          inl (record {
-            before = front;
-            old_value = old_value;
-            after = back;
-            was = w ∙ ap (λ y. front ++ y ∷ back) (sym x);
-            no_later = none-hold key after back n q;
-            now = refl;
-          }),
-          outcomes_of-append before (h ∷ after)
-              ∙ ap₂ (λ y z. y ++ outcome_before z (outcomes_of (as_groups after))) ft (sym (outcome_of-only (joined (as_lines h)) (given (pair key value)) p))
-              ∙ ap (λ y. givens front ++ given (pair key value) ∷ y) q
-              ∙ sym (givens-append front (pair key value ∷ back)),
-        )
+use Rattle.properties_format.proofs.Edited.AppendedPair.{appended_groups, appended-held, appended-outcomes, empty-other}
+use Rattle.properties_format.proofs.Edited.Closed.{closed-by, value-seam}
+use Rattle.properties_format.proofs.Edited.Steps.{final_group-push, last_ending-push}
+use Rattle.properties_format.proofs.Valued.Added.{empty_line}
 
 -- ---- the body with a value set
 
@@ -88,7 +51,7 @@ pub record IsValued (e : Encoding) (only : Bool) (gs : List (List HeldLine)) (ke
   pub again : (second : List ℕ) → IsNotAt second (last_place key gs) → valued_at e only groups key second (last_place key groups) ≡ valued_at e only gs key second (last_place key gs)
 
 -- A group that is a pair has exactly one value.
-one-value : (key value second : List ℕ) (g : List HeldLine) → HasPair key value g → has_value second g ≡ true → value ≡ second
+pub one-value : (key value second : List ℕ) (g : List HeldLine) → HasPair key value g → has_value second g ≡ true → value ≡ second
 one-value key value second g h k =
     let s = sym (outcome_of-only (joined (as_lines g)) (given (pair key value)) h) in
     let t = sym (outcome_of-only (joined (as_lines g)) (given (pair key second)) (has_value-true key second g (value, h) k)) in
@@ -127,16 +90,7 @@ pub revalued-bytes : (e : Encoding) (only : Bool) (before : List (List HeldLine)
     → groups_bytes (before ++ (kept ++ new_line e only head between value ending ∷ []) ∷ after)
     ≡ groups_bytes before ++ (front ++ (encoded_text e (value_text e only between value) ++ (ending_bytes ending ++ groups_bytes after)))
 revalued-bytes e only before kept head between front value ending after s =
-    let x = encoded_text e (value_text e only between value) in
-    let rest = ending_bytes ending ++ groups_bytes after in
-    groups_bytes-append before ((kept ++ new_line e only head between value ending ∷ []) ∷ after)
-    ∙ ap (λ v. groups_bytes before ++ (v ++ groups_bytes after))
-    (group_bytes-append kept (new_line e only head between value ending ∷ [])
-    ∙ ap (λ v. group_bytes kept ++ ((head ++ x) ++ v)) (append-nil (ending_bytes ending))
-    ∙ ap (λ v. group_bytes kept ++ v) (append_assoc head x (ending_bytes ending))
-    ∙ sym (append_assoc (group_bytes kept) head (x ++ ending_bytes ending))
-    ∙ ap (λ v. v ++ (x ++ ending_bytes ending)) (sym s))
-    ∙ ap (λ v. groups_bytes before ++ v) (append_assoc front (x ++ ending_bytes ending) (groups_bytes after) ∙ ap (λ v. front ++ v) (append_assoc x (ending_bytes ending) (groups_bytes after)))
+    rw (s, groups_bytes-append, group_bytes-append) (simp (append_assoc, append-nil))
 
 -- What follows the front, if that is the old front followed by what was missing.
 after-missing : (e : Encoding) (only : Bool) (between value : List ℕ) → value_text e only (between_after between) value ≡ value_after e only between value
@@ -183,16 +137,11 @@ revalued-valued e only source_body gs key value body ok v held r =
           (append_assoc r.front (missing r.between) (encoded_text e (value_after e only r.between second) ++ (ending_bytes (last_ending g) ++ groups_bytes r.after))
           ∙ ap (λ x. r.front ++ x)
           (sym (append_assoc (missing r.between) (encoded_text e (value_after e only r.between second)) (ending_bytes (last_ending g) ++ groups_bytes r.after))
-          ∙ ap₂ (λ x o. x ++ (ending_bytes o ++ groups_bytes r.after)) (sym (after-bytes e only r.between second)) (last-of f.kept (new_line e only f.head r.between value ending) ∙ ends))))
+          ∙ ap₂ (λ x o. x ++ (ending_bytes o ++ groups_bytes r.after)) (sym (after-bytes e only r.between second)) (last_ending-push f.kept (new_line e only f.head r.between value ending) ∙ ends))))
           ∙ sym (ap (valued_at e only gs key second) place
           ∙ cond-false (has_value second r.group) (groups_bytes gs) (revalued_at e only second (record { before = r.before; group = r.group; after = r.after })) other
           ∙ ap₂ (λ b x. groups_bytes r.before ++ (x ++ (encoded_text e (value_text e only b second) ++ (ending_bytes (last_ending r.group) ++ groups_bytes r.after)))) (sym old_front.0) (sym old_front.1));
     }
-  where
-    last-of : (a : List HeldLine) (h : HeldLine) → last_ending (a ++ h ∷ []) ≡ h.ending
-    last-of [] h = refl
-    last-of (i ∷ []) h = refl
-    last-of (i ∷ j ∷ a) h = last-of (j ∷ a) h
 
 -- ---- a new pair
 
@@ -207,33 +156,23 @@ added-valued : (e : Encoding) (only : Bool) (source_body : List ℕ) (gs : List 
     → IsValued e only gs key value body
 added-valued e only source_body gs key value body ok k v held none s =
     let l = groups-lined e source_body gs ok held in
-    let m = closed-groups e gs l in
-    let closed = m.0 in
-    let c = m.1 in
+    let by = ending_among lf (held_in gs) in
+    let c = closed-by e by gs l (value-seam e gs l by refl) in
+    let final : final_group gs ≡ c.final = ap final_group c.division ∙ final_group-push c.before c.final in
     let front = groups_bytes gs ++ separation_by (ending_in gs) (final_group gs) in
     let first = is_empty front in
     let sep = separator_by key (last_between gs) in
-    let by = ending_among lf (held_in gs) in
     let p = added-pair e only first key sep value by ok k v (new_separator-fit gs key sep (new_separator-meets gs key)) in
-    let line = added_line e only first key sep value by in
-    let g = line ∷ [] in
-    let z = empty_line e None ∷ [] in
-    let groups = closed ++ g ∷ z ∷ [] in
-    let n : Ended = record { text = added_bytes e only first key sep value; by = by } in
-    let next : AreLined e groups = record {
-      ended = c.lines ++ n ∷ [];
-      last = [];
-      held = held_in-append closed (g ∷ z ∷ []) ∙ ap (λ w. w ++ line ∷ empty_line e None ∷ []) c.held ∙ sym (held_of-append e c.lines (n ∷ []) []);
-      are_lines = lines-join c.lines (n ∷ []) [] c.are_lines (λ q. λ y. p.some y.0) (p.plain, (λ q. tt), tt);
-      fit = fit-join closed g (z ∷ []) c.whole (p.whole, inl (empty-whole e));
-    } in
+    let pb = added_bytes e only first key sep value in
+    let g = added_line e only first key sep value by ∷ [] in
+    let said = sym (outcome_of-only (joined (as_lines g)) (given (pair key value)) p.has_pair) in
+    let groups = appended_groups e by by gs key value pb ok c p.plain p.some p.whole said in
     let made : List ℕ → List ℕ = added_at e only gs key in
-    let bytes : groups_bytes groups ≡ body =
-    groups_bytes-append closed (g ∷ z ∷ [])
-    ∙ ap₂ (λ w x. w ++ x) c.bytes
-    (append-nil (group_bytes g) ∙ ap (λ w. added_bytes e only first key sep value ++ w) (append-nil (line_ending_text by)))
-    ∙ sym s in
-    let next_held : AreGroupsOf e body groups = subst (λ w. AreGroupsOf e w groups) bytes (lined-groups e groups ok next) in
+    let closed_bytes : groups_bytes (c.before ++ c.left) ≡ front = c.bytes ∙ ap (λ w. groups_bytes gs ++ separation_by (ending_in gs) w) (sym final) in
+    let are : groups ≡ held_groups_of e body =
+    appended-held e by by gs key value pb ok c p.plain p.some p.whole said body (s ∙ ap (λ w. (groups_bytes gs ++ separation_by (ending_in gs) w) ++ (pb ++ ending_in gs)) final) in
+    let next_held : AreGroupsOf e body groups = subst (AreGroupsOf e body) (sym are) (held_groups_of-meets e body) in
+    let bytes = held-body e body groups ok next_held in
     let written = printed_key e only first key in
     let new_front = front_of-only e g p.between (encoded_text e (written ++ sep)) ok (refl, tt) p.is_front in
     record {
@@ -242,15 +181,12 @@ added-valued e only source_body gs key value body ok k v held none s =
       contents_set = λ old t. (
         old ++ pair key value ∷ [],
         inr (none-hold key gs old none t, refl),
-        outcomes_of-append closed (g ∷ z ∷ [])
-            ∙ ap₂ (λ w x. w ++ x) (c.outcomes ∙ t)
-            (ap₂ (λ w x. outcome_before w (outcome_before x [])) (sym (outcome_of-only (joined (as_lines g)) (given (pair key value)) p.has_pair)) (outcomes-empty e None))
-            ∙ sym (givens-append old (pair key value ∷ [])),
+        appended-outcomes e by by gs key value pb ok c p.plain p.some p.whole said old t,
       );
       again = λ second no.
-          again-at e only groups closed g (z ∷ []) key value second body refl p.has_pair (empty-no_key e key, tt) bytes made s
-          (ap₂ (λ x b. groups_bytes closed ++ (x ++ (encoded_text e (value_text e only b second) ++ (line_ending_text by ++ [])))) (sym new_front.1) (sym new_front.0)
-          ∙ ap₂ (λ w x. w ++ (encoded_text e (written ++ sep) ++ (encoded_text e x ++ (line_ending_text by ++ [])))) c.bytes (added-text e only p.between sep second p.between_some p.blanks)
+          again-at e only groups (c.before ++ c.left) g ((empty_line e None ∷ []) ∷ []) key value second body refl p.has_pair (empty-other e key, tt) bytes made s
+          (ap₂ (λ x b. groups_bytes (c.before ++ c.left) ++ (x ++ (encoded_text e (value_text e only b second) ++ (line_ending_text by ++ [])))) (sym new_front.1) (sym new_front.0)
+          ∙ ap₂ (λ w x. w ++ (encoded_text e (written ++ sep) ++ (encoded_text e x ++ (line_ending_text by ++ [])))) closed_bytes (added-text e only p.between sep second p.between_some p.blanks)
           ∙ ap (λ w. front ++ w)
           (sym (append_assoc (encoded_text e (written ++ sep)) (encoded_text e (printed_value e only (is_blanks sep) second)) (line_ending_text by ++ []))
           ∙ ap₂ (λ w x. w ++ x)
@@ -258,14 +194,6 @@ added-valued e only source_body gs key value body ok k v held none s =
           (append-nil (line_ending_text by))))
           ∙ sym (ap (valued_at e only gs key second) (last_place-none key gs none));
     }
-  where
-    empty-whole : (e : Encoding) → IsWhole (as_lines (empty_line e None ∷ []))
-    empty-whole e = subst (λ w. IsWhole (record { number = 0; text = w } ∷ [])) (sym (decoded-nil e)) (inr (refl, refl))
-
-    empty-no_key : (e : Encoding) (key : List ℕ) → ¬ (HasKey key (empty_line e None ∷ []))
-    empty-no_key e key (x, h) =
-        let q = outcome_of-only (joined (as_lines (empty_line e None ∷ []))) (given (pair key x)) h ∙ outcomes-empty e None in
-        absurd (cc)
 
 -- A body with a value set has these properties.
 pub body-valued : (e : Encoding) (only : Bool) (source_body : List ℕ) (gs : List (List HeldLine)) (key value body : List ℕ) → is_editable e ≡ true → All scalar key → All scalar value

@@ -3,7 +3,7 @@ use Rattle.std.proofs.Common.{◌≡◌, ◌⊎◌, ◌<◌, ℕ, true, List, []
 use Rattle.std.proofs.lemmas.List.{append_cancel_right}
 use Rattle.properties_format.specs.Text.{backslash}
 use Rattle.properties_format.specs.Pieces.{Piece, characters}
-use Rattle.properties_format.specs.Encoding.{Encoding, windows_1252, utf_8, utf_16le, utf_16be, IsPiece, IsPieces, IsAligned, ascii_bytes}
+use Rattle.properties_format.specs.Encoding.{Encoding, IsPiece, IsPieces, IsAligned, ascii_bytes}
 use Rattle.properties_format.specs.Computed.Encoding.{pieces_of}
 use Rattle.properties_format.specs.Computed.Cut.{decoded_line}
 use Rattle.properties_format.specs.Edited.{is_editable}
@@ -17,10 +17,7 @@ use Rattle.properties_format.proofs.Cut.Byline.{nothing-decoded}
 
 -- In an encoding that can be edited, every byte is at a unit's boundary.
 pub aligned-editable : (e : Encoding) (d : List ℕ) → is_editable e ≡ true → IsAligned e d
-aligned-editable windows_1252 d ok = tt
-aligned-editable utf_8 d ok = tt
-aligned-editable utf_16le d ok = absurd (cc)
-aligned-editable utf_16be d ok = absurd (cc)
+aligned-editable e d h = grind (arith)
 
 -- Bytes that are cut after these pieces: the head has the bytes of these pieces, and the rest has those of the others.
 record IsCutAfter (e : Encoding) (d : List ℕ) (ps : List Piece) (x y : List ℕ) : Type 0 where
@@ -84,10 +81,7 @@ EndsInAscii x = (w : List ℕ) × (c : ℕ) × (x ≡ w ++ c ∷ []) × (c < 0x8
 
 -- Only the bytes of an ASCII character decode to it.
 pub ascii-own : (e : Encoding) (c : ℕ) → is_editable e ≡ true → ascii_bytes e c ≡ c ∷ []
-ascii-own windows_1252 c ok = refl
-ascii-own utf_8 c ok = refl
-ascii-own utf_16le c ok = absurd (cc)
-ascii-own utf_16be c ok = absurd (cc)
+ascii-own e c h = grind (arith)
 
 -- Bytes whose text ends in an ASCII character end in that character, and the bytes before it decode to the text before
 -- it.
@@ -98,10 +92,7 @@ pub record EndsAscii (e : Encoding) (d w : List ℕ) (c : ℕ) : Type 0 where
 
 -- Bytes whose text ends in an ASCII character are of this form.
 pub ascii-end : (e : Encoding) (d w : List ℕ) (c : ℕ) → is_editable e ≡ true → c < 0x80 → decoded_line e d ≡ w ++ c ∷ [] → EndsAscii e d w c
-ascii-end e d w c ok l s =
-    let k = cut-at_ascii e d w c [] l s in
-    let n : k.1 ≡ [] = nothing-decoded e k.1 k.2.back in
-    record { front = k.0; bytes = k.2.joins ∙ ap₂ (λ v z. k.0 ++ (v ++ z)) (ascii-own e c ok) n; text = k.2.front }
+ascii-end e d w c ok l s = grind (arith, cut-at_ascii, nothing-decoded)
 
 -- The text of bytes that contain an ASCII character.
 pub ascii-among : (e : Encoding) (u : List ℕ) (c : ℕ) (v : List ℕ) → is_editable e ≡ true → c < 0x80
@@ -111,25 +102,14 @@ ascii-among e u c v ok l =
 
 -- A text isn't equal to itself with more after it.
 no-more : (x : List ℕ) (c : ℕ) (y : List ℕ) → x ≡ x ++ c ∷ y → ⊥
-no-more x c y h =
-    let l : length x ≡ length (x ++ c ∷ y) = ap length h in
-    let m = length-append x (c ∷ y) in
-    absurd (omega arith)
+no-more x c y h = absurd (omega (arith, ap length h, length-append x (c ∷ y)))
 
 -- Two fronts of the same bytes, each before the same character, with the same text.
 same-fronts : (e : Encoding) (u v : List ℕ) (c : ℕ) (y z : List ℕ) → is_editable e ≡ true → c < 0x80 → u ++ c ∷ y ≡ v ++ c ∷ z
     → (w : List ℕ) → decoded_line e (w ++ u) ≡ decoded_line e (w ++ v) → u ≡ v
 same-fronts e [] [] c y z ok l s w h = refl
-same-fronts e [] (d ∷ v) c y z ok l s w h =
-    let k : c ≡ d = cc in
-    let m : decoded_line e w ≡ decoded_line e w ++ c ∷ decoded_line e v =
-    ap (decoded_line e) (sym (append-nil w)) ∙ h ∙ ap (λ b. decoded_line e (w ++ b ∷ v)) (sym k) ∙ ascii-among e w c v ok l in
-    absurd (no-more (decoded_line e w) c (decoded_line e v) m)
-same-fronts e (d ∷ u) [] c y z ok l s w h =
-    let k : d ≡ c = cc in
-    let m : decoded_line e w ≡ decoded_line e w ++ c ∷ decoded_line e u =
-    ap (decoded_line e) (sym (append-nil w)) ∙ sym h ∙ ap (λ b. decoded_line e (w ++ b ∷ u)) k ∙ ascii-among e w c u ok l in
-    absurd (no-more (decoded_line e w) c (decoded_line e u) m)
+same-fronts e [] (d ∷ v) c y z ok l s w h = grind (arith, append-nil, ascii-among, no-more)
+same-fronts e (d ∷ u) [] c y z ok l s w h = grind (arith, append-nil, ascii-among, no-more)
 same-fronts e (b ∷ u) (d ∷ v) c y z ok l s w h =
     let k : b ≡ d = cc in
     let r : u ++ c ∷ y ≡ v ++ c ∷ z = cc in

@@ -9,7 +9,7 @@ use Rattle.properties_format.specs.Writing.{is_empty}
 use Rattle.properties_format.specs.Edited.{pair_bytes}
 use Rattle.properties_format.specs.Valued.{is_free, printed_inside, printed_first, printed_last, printed_rest, printed_value, value_text, new_pair_bytes}
 use Rattle.properties_format.proofs.Printing.Characters.{AreAscii, AreAscii-append, encoded_text-ascii, unicode_escape-ascii, special-ascii, good_separator-ascii}
-use Rattle.properties_format.proofs.AsciiOnly.{printed-same, printed-ascii, printed_characters-same, printed_characters-ascii, printed_key-same, printed_key-ascii}
+use Rattle.properties_format.proofs.AsciiOnly.{printed-same, printed-ascii, printed_characters-ascii, printed_key-same, printed_key-ascii}
 use Rattle.properties_format.proofs.Valued.Texts.{free-plain, first-special}
 
 -- ---- values
@@ -60,17 +60,10 @@ rest-same e f [] = refl
 rest-same e f (c ∷ []) = ap (λ x. cond (c == space) (unit_escape space) x) (inside-same e f c)
 rest-same e f (c ∷ d ∷ cs) = ap₂ (λ v w. v ++ w) (inside-same e f c) (rest-same e f (d ∷ cs))
 
--- the whole value,
+-- and the whole value.
 pub printed_value-same : (e f : Encoding) (after_blanks : Bool) (value : List ℕ) → printed_value e true after_blanks value ≡ printed_value f true after_blanks value
 printed_value-same e f after_blanks [] = refl
-printed_value-same e f after_blanks (c ∷ cs) =
-    ap₂ (λ v w. cond (is_empty cs && c == space) (unit_escape space) (cond (c == space || (after_blanks && is_separator c)) (backslash ∷ c ∷ []) v ++ w))
-    (inside-same e f c) (rest-same e f cs)
-
--- and what follows the front of a pair.
-pub value_text-same : (e f : Encoding) (between value : List ℕ) → value_text e true between value ≡ value_text f true between value
-value_text-same e f [] value = ap (λ v. equals_sign ∷ v) (printed_value-same e f false value)
-value_text-same e f (c ∷ cs) value = printed_value-same e f (is_blanks (c ∷ cs)) value
+printed_value-same e f after_blanks (c ∷ cs) = cc (inside-same e f c, rest-same e f cs)
 
 -- ---- bytes
 
@@ -92,24 +85,14 @@ pair-text_ascii e first key value =
 pub pair_bytes-ascii : (e : Encoding) (first : Bool) (key value : List ℕ) → AreAscii (pair_bytes e true first key value)
 pair_bytes-ascii e first key value = encoded-in_ascii e _ (pair-text_ascii e first key value)
 
--- They are the same in every encoding.
-pub pair_bytes-same : (e f : Encoding) (first : Bool) (key value : List ℕ) → pair_bytes e true first key value ≡ pair_bytes f true first key value
-pair_bytes-same e f first key value =
-    encoded-same e f _ _ (pair-text_ascii e first key value)
-    (ap₂ (λ v w. v ++ (equals_sign ∷ w)) (printed_key-same e f first key) (printed_characters-same e f in_key_or_value value))
-
 -- The bytes of a key by itself are the same in every encoding,
 pub key_bytes-same : (e f : Encoding) (first : Bool) (key : List ℕ) → encoded_text e (printed_key e true first key) ≡ encoded_text f (printed_key f true first key)
 key_bytes-same e f first key = encoded-same e f _ _ (printed_key-ascii e first key) (printed_key-same e f first key)
 
--- those of a value,
+-- and those of a value.
 pub value_bytes-same : (e f : Encoding) (after_blanks : Bool) (value : List ℕ)
     → encoded_text e (printed_value e true after_blanks value) ≡ encoded_text f (printed_value f true after_blanks value)
 value_bytes-same e f after_blanks value = encoded-same e f _ _ (printed_value-ascii e after_blanks value) (printed_value-same e f after_blanks value)
-
--- those of what follows the front of a pair,
-pub value_text_bytes-same : (e f : Encoding) (between value : List ℕ) → encoded_text e (value_text e true between value) ≡ encoded_text f (value_text f true between value)
-value_text_bytes-same e f between value = encoded-same e f _ _ (value_text-ascii e between value) (value_text-same e f between value)
 
 -- The characters of a new pair with a good separator are ASCII.
 new_pair-text_ascii : (e : Encoding) (first : Bool) (key separator value : List ℕ) → IsGoodSeparator separator
@@ -123,11 +106,3 @@ pub new_pair_bytes-ascii : (e : Encoding) (front key separator value ending : Li
     → AreAscii (new_pair_bytes e true front key separator value ending)
 new_pair_bytes-ascii e front key separator value ending g h =
     AreAscii-append _ ending (encoded-in_ascii e _ (new_pair-text_ascii e (is_empty front) key separator value g)) h
-
--- They are the same in every encoding.
-pub new_pair_bytes-same : (e f : Encoding) (front key separator value ending : List ℕ) → IsGoodSeparator separator
-    → new_pair_bytes e true front key separator value ending ≡ new_pair_bytes f true front key separator value ending
-new_pair_bytes-same e f front key separator value ending g =
-    ap (λ v. v ++ ending)
-    (encoded-same e f _ _ (new_pair-text_ascii e (is_empty front) key separator value g)
-    (ap₂ (λ v w. v ++ (separator ++ w)) (printed_key-same e f (is_empty front) key) (printed_value-same e f (is_blanks separator) value)))

@@ -1,10 +1,10 @@
 -- The laws of setting a value.
-use Rattle.std.proofs.Common.{◌≡◌, ℕ, ◌+◌, List, [], ◌∷◌, ◌++◌, length, Option, Some, None, refl, ap, sym, ◌∙◌, inl, inr, subst, Bool}
-use Rattle.std.proofs.lemmas.Bool.{cases_Bool, cond-true}
+use Rattle.std.proofs.Common.{◌≡◌, ℕ, ◌+◌, true, List, [], ◌∷◌, ◌++◌, length, Option, Some, None, refl, ap, sym, ◌∙◌, inl, inr, subst, Bool}
+use Rattle.std.proofs.lemmas.Bool.{cases_Bool, cond-true, false_from_ne_true}
 use Rattle.properties_format.specs.Encoding.{Encoding, byte_order_mark}
 use Rattle.properties_format.specs.Lines.{end}
 use Rattle.properties_format.specs.Groups.{joined}
-use Rattle.properties_format.specs.Entries.{comment, pair, Entry, item, AreItems}
+use Rattle.properties_format.specs.Entries.{pair, Entry, item, AreItems}
 use Rattle.properties_format.specs.Items.{Outcome, ignored, given, broken, IsOutcome}
 use Rattle.properties_format.specs.Computed.Items.{outcome_of, followed, items_of}
 use Rattle.properties_format.specs.Maps.{HasNoPair, IsLastValue, HasValue}
@@ -16,6 +16,8 @@ use Rattle.properties_format.specs.Valued.{HasPair, IsSetValueResult}
 use Rattle.properties_format.specs.Computed.Body.{held_groups_of, entries_in}
 use Rattle.properties_format.specs.Computed.Edited.{KeyPlace, last_place}
 use Rattle.properties_format.specs.Computed.Valued.{has_value, revalued_at, valued_at, value_set, set_value_result}
+use Rattle.properties_format.specs.Laws.{HasOne}
+use Rattle.properties_format.proofs.Laws.{one}
 use Rattle.properties_format.proofs.Items.Unique.{items_of-meets, items_of-only, outcome_of-meets, outcome_of-only}
 use Rattle.properties_format.proofs.Maps.{value_in-only}
 use Rattle.properties_format.proofs.Body.Groups.{held_groups_of-meets, held-body}
@@ -24,9 +26,9 @@ use Rattle.properties_format.proofs.Edited.Made.{IsPlace, last_place-meets}
 use Rattle.properties_format.proofs.Edited.ByteOrderMarks.{source-whole}
 use Rattle.properties_format.proofs.Changed.Laws.{IsReadable}
 use Rattle.properties_format.proofs.Changed.Read.{readable}
-use Rattle.properties_format.proofs.EditLaws.{result-made, maps-differ, set-differs}
-use Rattle.properties_format.proofs.Valued.Made.{has_value-true, HasPair-test, value_set-only, set_value_result-meets, set_value_result-only}
-use Rattle.properties_format.proofs.Valued.Groups.{IsNotAt}
+use Rattle.properties_format.proofs.EditLaws.{result-made, same-results, maps-differ, set-differs}
+use Rattle.properties_format.proofs.Valued.Made.{HasPair-test, value_set-only, set_value_result-meets, set_value_result-only}
+use Rattle.properties_format.proofs.Valued.Groups.{IsNotAt, one-value}
 use Rattle.properties_format.proofs.Valued.Read.{value_set-contents, set_value-reads, value_set-again}
 
 -- ---- the value of a key in a source
@@ -34,10 +36,9 @@ use Rattle.properties_format.proofs.Valued.Read.{value_set-contents, set_value-r
 -- If an outcome isn't a pair with the key, neither is its entry.
 followed-other : (key : List ℕ) (n : ℕ) (o : Outcome) (entries : List Entry) → ((v : List ℕ) → o ≡ given (pair key v) → ⊥) → AreItems (followed n o entries)
     → (AreItems entries → HasNoPair key entries) → HasNoPair key (followed n o entries)
-followed-other key n ignored entries h a k = k a
-followed-other key n (given (comment text)) entries h a k = k a
 followed-other key n (given (pair l v)) entries h a k = ((λ s. h v (ap (λ x. given (pair x v)) s)), k a)
 followed-other key n (broken kind) entries h a k = absurd a
+followed-other key n o entries h a k = k a
 
 -- If no group has the key, no item is a pair with it.
 none-pairs : (key : List ℕ) (n : ℕ) (gs : List (List HeldLine)) → NoneHasKey key gs → AreItems (entries_in n gs) → HasNoPair key (entries_in n gs)
@@ -94,34 +95,27 @@ no_place-value e source key r s =
     let all = items_of-groups e source in
     subst (HasNoPair key) (sym all) (none-pairs key 1 gs m (subst AreItems all r.no_fault))
 
+-- If the pair at that place has a value, the source has it.
+place-has : (e : Encoding) (source key value : List ℕ) → IsReadable e source → (p : KeyPlace)
+    → last_place key (held_groups_of (byte_order_mark e source).encoding (byte_order_mark e source).body) ≡ Some p
+    → has_value value p.group ≡ true → HasValue e source key (Some value)
+place-has e source key value r p s k =
+    let m = place-value e source key r p s in
+    record {
+      entries = items_of e source end;
+      items = items_of-meets e source end;
+      whole = r.no_fault;
+      is = subst (IsLastValue (items_of e source end) key) (one-value key m.0 value p.group m.1 k) m.2;
+    }
+
 -- If the source doesn't have the value, the pair at that place doesn't have it.
 not-at : (e : Encoding) (source key value : List ℕ) → IsReadable e source → ¬ (HasValue e source key (Some value))
     → IsNotAt value (last_place key (held_groups_of (byte_order_mark e source).encoding (byte_order_mark e source).body))
-not-at e source key value r h =
-    let f = byte_order_mark e source in
-    of-place (last_place key (held_groups_of f.encoding f.body)) refl
+not-at e source key value r h = of-place (last_place key (held_groups_of (byte_order_mark e source).encoding (byte_order_mark e source).body)) refl
   where
     of-place : (o : Option KeyPlace) → last_place key (held_groups_of (byte_order_mark e source).encoding (byte_order_mark e source).body) ≡ o → IsNotAt value o
     of-place None s = tt
-    of-place (Some p) s = elim (cases_Bool (has_value value p.group)) [
-      | inl k ↦
-          let m = place-value e source key r p s in
-          let q = has_value-true key value p.group (m.0, m.1) k in
-          let t : m.0 ≡ value = same m.0 m.1 q in
-          absurd (h (record {
-            entries = items_of e source end;
-            items = items_of-meets e source end;
-            whole = r.no_fault;
-            is = subst (IsLastValue (items_of e source end) key) t m.2;
-          }))
-      | inr k ↦ k
-    ]
-      where
-        same : (w : List ℕ) → HasPair key w p.group → HasPair key value p.group → w ≡ value
-        same w a b =
-            let x : given (pair key w) ≡ given (pair key value) =
-            outcome_of-only (joined (as_lines p.group)) (given (pair key w)) a ∙ sym (outcome_of-only (joined (as_lines p.group)) (given (pair key value)) b) in
-            cc
+    of-place (Some p) s = false_from_ne_true (has_value value p.group) (λ k. h (place-has e source key value r p s k))
 
 -- If the source has the value, setting that value results in the source.
 own-made : (e : Encoding) (only : Bool) (source key value : List ℕ) → IsReadable e source → HasValue e source key (Some value) → value_set e only source key value ≡ source
@@ -157,6 +151,11 @@ pub setting-own_value : (e : Encoding) (only : Bool) (source key value : List �
 setting-own_value e only source key value has result h =
     value_set-only e only source key value result h.0 h.2 ∙ own-made e only source key value (readable e source h.0 h.1) has
 
+-- Setting a value has one result.
+abbrev one-value_set : (e : Encoding) (only : Bool) (source key value : List ℕ) → HasOne (IsSetValueResult e only source key value)
+one-value_set e only source key value =
+    one (set_value_result e only source key value) (set_value_result-meets e only source key value) (set_value_result-only e only source key value)
+
 -- Setting a value twice equals setting it once, to the later value, if the source doesn't have that value already.
 pub setting-value_twice : (e : Encoding) (only : Bool) (source key first second : List ℕ) → SettingAValueTwiceIsSettingItOnce e only source key first second
 setting-value_twice e only source key first second k v w other between h result =
@@ -164,10 +163,8 @@ setting-value_twice e only source key first second k v w other between h result 
     let next = (value_set-contents e only source key first between r k v h.2).readable in
     let bytes = value_set-again e only source key first second between h.0 k v h.2 (not-at e source key second r other) in
     let same : set_value_result e only between key second ≡ set_value_result e only source key second =
-    result-made e between (value_set e only between key second) next ∙ ap edited bytes ∙ sym (result-made e source (value_set e only source key second) r) in (
-      (λ i. subst (IsSetValueResult e only source key second) (sym (set_value_result-only e only between key second result i ∙ same)) (set_value_result-meets e only source key second)),
-      (λ i. subst (IsSetValueResult e only between key second) (sym (set_value_result-only e only source key second result i ∙ sym same)) (set_value_result-meets e only between key second)),
-    )
+    result-made e between (value_set e only between key second) next ∙ ap edited bytes ∙ sym (result-made e source (value_set e only source key second) r) in
+    same-results _ _ (one-value_set e only between key second) (one-value_set e only source key second) same result
 
 -- Setting a value a second time changes no byte.
 pub setting-value_again : (e : Encoding) (only : Bool) (source key value : List ℕ) → SettingAValueAgainChangesNothing e only source key value
@@ -185,24 +182,10 @@ setting-value_again e only source key value k v between h =
     of-place made (Some p) s = elim (cases_Bool (has_value value p.group)) [
       | inl t ↦
           let r = readable e source h.0 h.1 in
-          let m = place-value e source key r p s in
-          let q = has_value-true key value p.group (m.0, m.1) t in
-          let same : m.0 ≡ value = one m.0 m.1 q in
-          let own = own-made e only source key value r (record {
-            entries = items_of e source end;
-            items = items_of-meets e source end;
-            whole = r.no_fault;
-            is = subst (IsLastValue (items_of e source end) key) same m.2;
-          }) in
+          let own = own-made e only source key value r (place-has e source key value r p s t) in
           ap (λ x. value_set e only x key value) (made ∙ own) ∙ own ∙ sym (made ∙ own)
       | inr t ↦ value_set-again e only source key value value between h.0 k v h.2 (subst (IsNotAt value) (sym s) t) ∙ sym made
     ]
-      where
-        one : (w : List ℕ) → HasPair key w p.group → HasPair key value p.group → w ≡ value
-        one w a b =
-            let x : given (pair key w) ≡ given (pair key value) =
-            outcome_of-only (joined (as_lines p.group)) (given (pair key w)) a ∙ sym (outcome_of-only (joined (as_lines p.group)) (given (pair key value)) b) in
-            cc
 
 -- After a value is set, the map has it for the key, and for every other key what it had before.
 pub setting-value_gives : (e : Encoding) (only : Bool) (source key value : List ℕ) → SettingAValueGivesIt e only source key value

@@ -58,6 +58,10 @@ fit-groups (g ∷ i ∷ gs) h =
       are_groups = ap (λ v. as_lines g ∷ v) m.are_groups;
     }
 
+-- They are the groups of their lines.
+pub groups-fit : (gs : List (List HeldLine)) → AreFit gs → IsGroups (as_lines (held_in gs)) end (as_groups gs)
+groups-fit gs h = subst (λ v. IsGroups v end (as_groups gs)) (sym (texts-in gs)) (fit-groups gs h)
+
 -- Lines of a text are those of the same bytes.
 lines-cut : (e : Encoding) (d : List ℕ) (lines : Lines) → is_editable e ≡ true → IsLines d lines → IsCut e d lines
 lines-cut e d lines ok h = subst (IsCut e d) (sym (lines_of-only d lines h ∙ sym (cut_of-lines e d ok))) (cut_of-meets e d)
@@ -74,7 +78,7 @@ lined-groups e gs ok h =
       cut = lines;
       is_cut = lines-cut e (groups_bytes gs) lines ok whole;
       are_held = rw h.held (held_of-meets e h.ended h.last);
-      grouped = subst (λ v. IsGroups v end (as_groups gs)) (sym (texts-in gs)) (fit-groups gs h.fit);
+      grouped = groups-fit gs h.fit;
     }
 
 -- ---- lines one after the other
@@ -99,10 +103,9 @@ lines-seam (l ∷ m ∷ x) y last h q = lines-seam (m ∷ x) y last h.2 q
 
 -- The line ending of the last of two lists of lines.
 pub last_by-append : (x y : List Ended) → y ≢ [] → last_by (x ++ y) ≡ last_by y
-last_by-append [] y h = refl
 last_by-append (l ∷ []) [] h = absurd (h refl)
-last_by-append (l ∷ []) (m ∷ y) h = refl
 last_by-append (l ∷ m ∷ x) y h = last_by-append (m ∷ x) y h
+last_by-append x y h = refl
 
 -- With another last line, they are still lines.
 pub lines-last : (x : List Ended) (last : List ℕ) → AreLines x [] → HoldsNoLineEnd last → AreLines x last
@@ -121,16 +124,14 @@ held_ended-append e (l ∷ x) y = ap (λ v. record { bytes = l.text; text = deco
 
 -- The line ending of the last of them.
 pub last_ending-ended : (e : Encoding) (x : List Ended) → last_ending (held_ended e x) ≡ last_by x
-last_ending-ended e [] = refl
-last_ending-ended e (l ∷ []) = refl
 last_ending-ended e (l ∷ m ∷ x) = last_ending-ended e (m ∷ x)
+last_ending-ended e x = refl
 
 -- The line ending of the last line of two parts.
 pub last_ending-append : (a b : List HeldLine) → b ≢ [] → last_ending (a ++ b) ≡ last_ending b
-last_ending-append [] b h = refl
 last_ending-append (l ∷ []) [] h = absurd (h refl)
-last_ending-append (l ∷ []) (m ∷ b) h = refl
 last_ending-append (l ∷ m ∷ a) b h = last_ending-append (m ∷ a) b h
+last_ending-append a b h = refl
 
 -- ---- groups one after the other
 

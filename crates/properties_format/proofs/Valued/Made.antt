@@ -1,6 +1,6 @@
 -- The computed result of setting a value in place is the result of that edit, and the only one.
 use Rattle.std.proofs.Common.{◌≡◌, ℕ, true, false, List, [], ◌∷◌, ◌++◌, Option, Some, None, refl, ap, ap₂, sym, ◌∙◌, inl, inr, subst, Bool}
-use Rattle.std.proofs.lemmas.Bool.{cases_Bool, cond-true, cond-false, false_from_ne_true}
+use Rattle.std.proofs.lemmas.Bool.{cases_Bool, cond-false, false_from_ne_true, cond-true}
 use Rattle.std.proofs.lemmas.Slice.Eq.{bytes_eq-Decides}
 use Rattle.properties_format.specs.Encoding.{Encoding, byte_order_mark}
 use Rattle.properties_format.specs.Lines.{Ended}
@@ -12,8 +12,8 @@ use Rattle.properties_format.specs.Items.{Outcome, given}
 use Rattle.properties_format.specs.Computed.Items.{outcome_of}
 use Rattle.properties_format.specs.Printing.{encoded_text}
 use Rattle.properties_format.specs.Body.{HeldLine, AreHeld, AreGroupsOf, as_lines, held_in, groups_bytes, ending_bytes, last_ending, HasKey}
-use Rattle.properties_format.specs.Edited.{bom_of, final_group, is_editable, EditResult}
-use Rattle.properties_format.specs.Valued.{value_text, HasPair, NoPairs, IsNewSeparator, ending_in, separation_by, new_pair_bytes, IsBodyValued, IsValueSet, IsSetValueResult}
+use Rattle.properties_format.specs.Edited.{bom_of, is_editable, EditResult}
+use Rattle.properties_format.specs.Valued.{value_text, HasPair, NoPairs, IsNewSeparator, IsBodyValued, IsValueSet, IsSetValueResult}
 use Rattle.properties_format.specs.Computed.Body.{held_groups_of}
 use Rattle.properties_format.specs.Computed.Edited.{KeyPlace, last_place}
 use Rattle.properties_format.specs.Computed.Valued.{front_of, between_of, between_if_pair, or_else, last_between, separator_by, is_pair_to, has_value, revalued_at, valued_at, value_set}
@@ -89,9 +89,7 @@ no_value-test key value g k h = false_from_ne_true (has_value value g) (λ m. h 
 -- If no group is a pair, there is no last one.
 last_between-none : (gs : List (List HeldLine)) → NoPairs gs → last_between gs ≡ None
 last_between-none [] h = refl
-last_between-none (g ∷ gs) h =
-    ap (λ v. or_else v (between_if_pair (split_of (joined (as_lines g))) (joined (as_lines g)))) (last_between-none gs h.1)
-    ∙ of-split (split_of (joined (as_lines g))) refl
+last_between-none (g ∷ gs) h = simp (last_between-none gs h.1, of-split (split_of (joined (as_lines g))) refl)
   where
     of-split : (l : Logical) → split_of (joined (as_lines g)) ≡ l → between_if_pair (split_of (joined (as_lines g))) (joined (as_lines g)) ≡ None
     of-split Logical.blank s = rw s refl
@@ -107,10 +105,8 @@ between-parsed_pair line key value h =
 last_between-some : (before : List (List HeldLine)) (g : List HeldLine) (after : List (List HeldLine)) (key value : List ℕ)
     (h : IsPair (joined (as_lines g)) key value) → NoPairs after → last_between (before ++ g ∷ after) ≡ Some h.between
 last_between-some [] g after key value h k =
-    ap (λ v. or_else v (between_if_pair (split_of (joined (as_lines g))) (joined (as_lines g)))) (last_between-none after k)
-    ∙ between-parsed_pair (joined (as_lines g)) key value h
-last_between-some (f ∷ before) g after key value h k =
-    ap (λ v. or_else v (between_if_pair (split_of (joined (as_lines f))) (joined (as_lines f)))) (last_between-some before g after key value h k)
+    rw (last_between-none after k, between-parsed_pair (joined (as_lines g)) key value h)
+last_between-some (f ∷ before) g after key value h k = simp (last_between-some before g after key value h k)
 
 -- The first choice followed by nothing is the first choice.
 pub or_else-none : (a : Option (List ℕ)) → or_else a None ≡ a
@@ -126,10 +122,7 @@ or_else-three (Some x) b c = refl
 pub last_between-push : (gs : List (List HeldLine)) (g : List HeldLine)
     → last_between (gs ++ g ∷ []) ≡ or_else (between_if_pair (split_of (joined (as_lines g))) (joined (as_lines g))) (last_between gs)
 last_between-push [] g = sym (or_else-none (between_if_pair (split_of (joined (as_lines g))) (joined (as_lines g))))
-last_between-push (f ∷ gs) g =
-    let told = between_if_pair (split_of (joined (as_lines f))) (joined (as_lines f)) in
-    ap (λ v. or_else v told) (last_between-push gs g)
-    ∙ or_else-three (between_if_pair (split_of (joined (as_lines g))) (joined (as_lines g))) (last_between gs) told
+last_between-push (f ∷ gs) g = simp (or_else-three, last_between-push gs g)
 
 -- The separator is the computed one.
 new_separator-only : (groups : List (List HeldLine)) (key separator : List ℕ) → IsNewSeparator groups key separator
@@ -200,7 +193,7 @@ valued-meets e only body key value gs (Some p) ok g h = elim (cases_Bool (has_va
         division = h.division;
         has_pair = has_value-true key value p.group h.has k;
         no_later = h.no_later;
-        bytes = cond-true (has_value value p.group) (groups_bytes gs) (revalued_at e only value p) k;
+        bytes = rw k refl;
       })
   | inr k ↦
       let m = raw-pair key p.group h.has in
@@ -215,7 +208,7 @@ valued-meets e only body key value gs (Some p) ok g h = elim (cases_Bool (has_va
         between = between_of p.group;
         front = front_of e p.group;
         is_front = front_of-meets e p.group m.0 m.1 ok (group-decoded e body gs p.before p.group p.after g h.division) m.2;
-        bytes = cond-false (has_value value p.group) (groups_bytes gs) (revalued_at e only value p) k;
+        bytes = rw k refl;
       }))
 ]
 
@@ -235,10 +228,7 @@ valued-only e only body key value gs result ok g (inr (inl h)) =
     ∙ sym (cond-false (has_value value h.group) (groups_bytes gs) (revalued_at e only value p) (no_value-test key value h.group h.has_key h.other_value))
     ∙ ap (valued_at e only gs key value) (sym (ap (last_place key) h.division ∙ last_place-some key h.before h.group h.after h.has_key h.no_later))
 valued-only e only body key value gs result ok g (inr (inr h)) =
-    let front = groups_bytes gs ++ separation_by (ending_in gs) (final_group gs) in
-    h.bytes
-    ∙ ap (λ s. front ++ new_pair_bytes e only front key s value (ending_in gs)) (new_separator-only gs key h.separator h.is_separator)
-    ∙ ap (valued_at e only gs key value) (sym (last_place-none key gs h.no_pair))
+    cc (new_separator-only gs key h.separator h.is_separator, last_place-none key gs h.no_pair)
 
 -- What is computed is the source with the value set.
 pub value_set-meets : (e : Encoding) (only : Bool) (source key value : List ℕ) → is_editable (byte_order_mark e source).encoding ≡ true

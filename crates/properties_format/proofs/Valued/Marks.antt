@@ -1,74 +1,43 @@
 -- The encoding in force of a source with a value set is that of the source: the byte order mark stays, and no new one
 -- appears.
-use Rattle.std.proofs.Common.{◌≡◌, ◌⊎◌, ◌<◌, ℕ, ◌==◌, ◌||◌, true, false, List, [], ◌∷◌, ◌++◌, refl, ap, sym, ◌∙◌, inl, inr, append_assoc, append-nil, lit<, subst, Bool}
-use Rattle.std.specs.Prelude.{unwrap_or}
-use Rattle.std.proofs.lemmas.Bool.{cases_Bool, and_parts, and_from, or_cases, or_left, or_right, false_from_ne_true}
-use Rattle.properties_format.specs.Text.{equals_sign, LineEnding, lf, line_ending_text, is_blanks}
-use Rattle.properties_format.specs.Encoding.{Encoding, byte_order_mark, begins_with, begins_like_bom, utf_8_bom, utf_16be_bom, utf_16le_bom}
+use Rattle.std.proofs.Common.{◌≡◌, ◌<◌, ℕ, true, false, List, [], ◌∷◌, ◌++◌, ap, sym, ◌∙◌, inl, inr, append_assoc, append-nil, Bool, arith}
+use Rattle.properties_format.specs.Text.{LineEnding, lf, line_ending_text, is_blanks}
+use Rattle.properties_format.specs.Encoding.{Encoding, byte_order_mark, begins_like_bom}
 use Rattle.properties_format.specs.Printing.{encoded_text, printed_key}
-use Rattle.properties_format.specs.Writing.{is_empty}
 use Rattle.properties_format.specs.Body.{HeldLine, held_in, ending_bytes, group_bytes, groups_bytes, last_ending}
-use Rattle.properties_format.specs.Edited.{final_group, is_empty_line, is_left_open, is_editable}
-use Rattle.properties_format.specs.Valued.{printed_value, value_text, IsFrontOf, IsRevalued, ending_among, ending_in, separation_by, IsNewSeparator, IsAdded, IsValueSet}
+use Rattle.properties_format.specs.Edited.{is_editable}
+use Rattle.properties_format.specs.Valued.{new_pair_bytes, printed_value, value_text, IsFrontOf, IsRevalued, ending_among, IsNewSeparator, IsValueSet}
 use Rattle.properties_format.proofs.Cut.Byline.{decoded_line-only}
 use Rattle.properties_format.proofs.Printing.Characters.{encoded-ascii}
-use Rattle.properties_format.proofs.ReadBack.Unmarked.{byte_order_mark-cut, pair-unmarked}
-use Rattle.properties_format.proofs.Body.Groups.{groups_bytes-append, group_bytes-append, AreHeldGroups, held-groups}
-use Rattle.properties_format.proofs.Edited.ByteOrderMarks.{in_force, ending-cut, front-unmarked, first-ascii, groups-unmarked, empty-last}
+use Rattle.properties_format.proofs.ReadBack.Unmarked.{pair-unmarked}
+use Rattle.properties_format.proofs.Body.Groups.{group_bytes-append, AreHeldGroups, held-groups}
+use Rattle.properties_format.proofs.Edited.ByteOrderMarks.{in_force, ending-cut, changed-unmarked, added-unmarked, groups-unmarked}
 use Rattle.properties_format.proofs.Valued.Heads.{ascii-end}
 use Rattle.properties_format.proofs.Valued.Revalued.{front-ends}
 use Rattle.properties_format.proofs.Valued.Separators.{new_separator-fit}
 
 -- ---- the front of bytes
 
--- Bytes that begin with others still do with more after them.
-begins-more : (m b z : List ℕ) → begins_with m b ≡ true → begins_with m (b ++ z) ≡ true
-begins-more [] b z h = refl
-begins-more (c ∷ m) [] z h = absurd (cc)
-begins-more (c ∷ m) (d ∷ b) z h =
-    let p = and_parts (c == d) (begins_with m b) h in and_from (c == d) (begins_with m (b ++ z)) p.0 (begins-more m b z p.1)
-
 -- Bytes that begin like a byte order mark still do with more after them.
 like-more : (b z : List ℕ) → begins_like_bom b ≡ true → begins_like_bom (b ++ z) ≡ true
-like-more b z h =
-    let x = begins_with utf_8_bom (b ++ z) in
-    let y = begins_with utf_16be_bom (b ++ z) in
-    let w = begins_with utf_16le_bom (b ++ z) in
-    elim (or_cases (begins_with utf_8_bom b) (begins_with utf_16be_bom b || begins_with utf_16le_bom b) h) [
-      | inl k ↦ or_left x (y || w) (begins-more utf_8_bom b z k)
-      | inr k ↦ elim (or_cases (begins_with utf_16be_bom b) (begins_with utf_16le_bom b) k) [
-        | inl m ↦ or_right x (y || w) (or_left y w (begins-more utf_16be_bom b z m))
-        | inr m ↦ or_right x (y || w) (or_right y w (begins-more utf_16le_bom b z m))
-      ]
-    ]
+like-more b z h = grind (arith)
 
 -- If bytes don't begin like a byte order mark, neither does their front followed by an ASCII character and any bytes.
 prefix-unmarked : (b z : List ℕ) (c : ℕ) (y : List ℕ) → c < 0x80 → begins_like_bom (b ++ z) ≡ false → begins_like_bom (b ++ c ∷ y) ≡ false
-prefix-unmarked b z c y l h =
-    byte_order_mark-cut b c y l ∙ false_from_ne_true (begins_like_bom b) (λ k. let m = like-more b z k in cc)
+prefix-unmarked b z c y l h = grind (arith, like-more)
 
 -- ---- the last pair has another value
 
 -- The bytes of a group are those of its front, followed by others.
 pub front-bytes : (e : Encoding) (group : List HeldLine) (between front : List ℕ) (f : IsFrontOf e group between front)
     → group_bytes group ≡ front ++ (f.tail ++ (ending_bytes f.line.ending ++ group_bytes f.more))
-front-bytes e group between front f =
-    let rest = ending_bytes f.line.ending ++ group_bytes f.more in
-    ap group_bytes f.division
-    ∙ group_bytes-append f.kept (f.line ∷ f.more)
-    ∙ ap (λ v. group_bytes f.kept ++ (v ++ rest)) f.cut
-    ∙ ap (λ v. group_bytes f.kept ++ v) (append_assoc f.head f.tail rest)
-    ∙ sym (append_assoc (group_bytes f.kept) f.head (f.tail ++ rest))
-    ∙ ap (λ v. v ++ (f.tail ++ rest)) (sym f.bytes)
+front-bytes e group between front f = grind (arith, group_bytes-append, append_assoc)
 
 -- A front followed by what is printed for a value, instead of a group at the front of a body.
 front-valued : (e : Encoding) (only : Bool) (group : List HeldLine) (between front value : List ℕ) (f : IsFrontOf e group between front) (rest more : List ℕ)
     → is_editable e ≡ true
     → begins_like_bom (front ++ rest) ≡ false → begins_like_bom (front ++ (encoded_text e (value_text e only between value) ++ more)) ≡ false
-front-valued e only group [] front value f rest more ok h =
-    let x = printed_value e only false value in
-    ap (λ o. begins_like_bom (front ++ ((unwrap_or o [] ++ encoded_text e x) ++ more))) (encoded-ascii e equals_sign (lit< tt))
-    ∙ prefix-unmarked front rest equals_sign (encoded_text e x ++ more) (lit< tt) h
+front-valued e only group [] front value f rest more ok h = grind (arith, encoded-ascii, prefix-unmarked)
 front-valued e only group (b ∷ bs) front value f rest more ok h =
     let m = front-ends e group (b ∷ bs) front f (λ q. cc) in
     let n = ascii-end e f.head m.0 m.1 ok m.3 (sym (decoded_line-only e f.head f.head_text f.is_head) ∙ m.2) in
@@ -82,24 +51,17 @@ front-valued e only group (b ∷ bs) front value f rest more ok h =
 revalued-unmarked : (e : Encoding) (only : Bool) (gs : List (List HeldLine)) (key value body : List ℕ) → is_editable e ≡ true → AreHeldGroups e gs
     → begins_like_bom (groups_bytes gs) ≡ false → IsRevalued e only gs key value body
     → begins_like_bom body ≡ false
-revalued-unmarked e only gs key value body ok k h r = of_before r.before r.division r.bytes
-  where
-    of_before : (before : List (List HeldLine)) → gs ≡ before ++ r.group ∷ r.after
-        → body ≡ groups_bytes before ++ (r.front ++ (encoded_text e (value_text e only r.between value) ++ (ending_bytes (last_ending r.group) ++ groups_bytes r.after)))
-        → begins_like_bom body ≡ false
-    of_before [] s t =
-        let f = r.is_front in
-        let old = f.tail ++ (ending_bytes f.line.ending ++ group_bytes f.more) in
-        let u : groups_bytes gs ≡ r.front ++ (old ++ groups_bytes r.after) =
-        ap groups_bytes s ∙ ap (λ v. v ++ groups_bytes r.after) (front-bytes e r.group r.between r.front f) ∙ append_assoc r.front old (groups_bytes r.after) in
-        ap begins_like_bom t
-        ∙ front-valued e only r.group r.between r.front value f (old ++ groups_bytes r.after) (ending_bytes (last_ending r.group) ++ groups_bytes r.after) ok
-        (ap begins_like_bom (sym u) ∙ h)
-    of_before (g ∷ before) s t =
-        ap begins_like_bom t
-        ∙ front-unmarked g before (r.front ++ (encoded_text e (value_text e only r.between value) ++ (ending_bytes (last_ending r.group) ++ groups_bytes r.after))) (groups_bytes (r.group ∷ r.after))
-        (first-ascii e g before r.group r.after (subst (AreHeldGroups e) s k))
-        (ap begins_like_bom (sym (groups_bytes-append (g ∷ before) (r.group ∷ r.after)) ∙ ap groups_bytes (sym s)) ∙ h)
+revalued-unmarked e only gs key value body ok k h r =
+    let f = r.is_front in
+    let old = f.tail ++ (ending_bytes f.line.ending ++ group_bytes f.more) in
+    let more = ending_bytes (last_ending r.group) ++ groups_bytes r.after in
+    ap begins_like_bom r.bytes
+    ∙ changed-unmarked e gs r.before r.group r.after (r.front ++ (encoded_text e (value_text e only r.between value) ++ more)) r.division k h (λ q.
+    let u : groups_bytes gs ≡ r.front ++ (old ++ groups_bytes r.after) =
+    ap groups_bytes (r.division ∙ ap (λ v. v ++ r.group ∷ r.after) q)
+    ∙ ap (λ v. v ++ groups_bytes r.after) (front-bytes e r.group r.between r.front f)
+    ∙ append_assoc r.front old (groups_bytes r.after) in
+    front-valued e only r.group r.between r.front value f (old ++ groups_bytes r.after) more ok (ap begins_like_bom (sym u) ∙ h))
 
 -- ---- a new pair
 
@@ -111,47 +73,6 @@ first-unmarked e only key sep value by groups s =
     ap (λ v. begins_like_bom (x ++ v)) (sym (append-nil (line_ending_text by)))
     ∙ ending-cut x by []
     ∙ pair-unmarked e only key sep (printed_value e only (is_blanks sep) value) (new_separator-fit groups key sep s).good
-
--- What separates a pair from the last group is empty after an empty line, and otherwise begins with a line ending.
-separation_by-cases : (by : LineEnding) (g : List HeldLine)
-    → (is_empty_line g ≡ true) × (separation_by (line_ending_text by) g ≡ []) ⊎ (rest : List ℕ) × (separation_by (line_ending_text by) g ≡ line_ending_text by ++ rest)
-separation_by-cases by g = elim (cases_Bool (is_empty_line g)) [
-  | inl h ↦ inl (h, rw h refl)
-  | inr h ↦ elim (cases_Bool (is_left_open g)) [
-    | inl k ↦ inr (line_ending_text by, rw (h, k) refl)
-    | inr k ↦ inr ([], rw (h, k) (sym (append-nil (line_ending_text by))))
-  ]
-]
-
--- If a new pair is added, a body that didn't begin like a byte order mark still doesn't.
-added-unmarked : (e : Encoding) (only : Bool) (gs : List (List HeldLine)) (key value body : List ℕ) → AreHeldGroups e gs → begins_like_bom (groups_bytes gs) ≡ false
-    → IsAdded e only gs key value body → begins_like_bom body ≡ false
-added-unmarked e only gs key value body k h r = elim (separation_by-cases (ending_among lf (held_in gs)) (final_group gs)) [
-  | inl p ↦ none gs k h p.0 (ap (λ v. groups_bytes gs ++ v) p.1 ∙ append-nil (groups_bytes gs))
-  | inr p ↦
-      ap begins_like_bom r.bytes
-      ∙ ap (λ v. begins_like_bom ((groups_bytes gs ++ v) ++ tail front)) p.1
-      ∙ ap begins_like_bom (append_assoc (groups_bytes gs) (ending_in gs ++ p.0) (tail front) ∙ ap (λ v. groups_bytes gs ++ v) (append_assoc (ending_in gs) p.0 (tail front)))
-      ∙ ending-cut (groups_bytes gs) (ending_among lf (held_in gs)) (p.0 ++ tail front)
-      ∙ h
-]
-  where
-    front : List ℕ
-    front = groups_bytes gs ++ separation_by (ending_in gs) (final_group gs)
-
-    tail : List ℕ → List ℕ
-    tail x = encoded_text e (printed_key e only (is_empty x) key ++ (r.separator ++ printed_value e only (is_blanks r.separator) value)) ++ ending_in gs
-
-    none : (hs : List (List HeldLine)) → AreHeldGroups e hs → begins_like_bom (groups_bytes hs) ≡ false → is_empty_line (final_group hs) ≡ true
-        → groups_bytes gs ++ separation_by (ending_in gs) (final_group gs) ≡ groups_bytes hs → begins_like_bom body ≡ false
-    none [] k h m s = absurd (cc)
-    none (g ∷ []) k h m s =
-        let q : groups_bytes gs ++ separation_by (ending_in gs) (final_group gs) ≡ [] = s ∙ append-nil (group_bytes g) ∙ empty-last g m k.ending in
-        ap begins_like_bom r.bytes ∙ ap (λ v. begins_like_bom (v ++ tail v)) q ∙ first-unmarked e only key r.separator value (ending_among lf (held_in gs)) gs r.is_separator
-    none (g ∷ i ∷ hs) k h m s =
-        ap begins_like_bom r.bytes
-        ∙ ap (λ v. begins_like_bom (v ++ tail v)) s
-        ∙ front-unmarked g (i ∷ hs) (tail (groups_bytes (g ∷ i ∷ hs))) [] k.0.ascii (ap begins_like_bom (append-nil (groups_bytes (g ∷ i ∷ hs))) ∙ h)
 
 -- ---- the source
 
@@ -168,5 +89,9 @@ value_set-in_force e only source key value result ok h =
     elim h.edited [
       | inl r ↦ ap begins_like_bom r.bytes ∙ old
       | inr (inl r) ↦ revalued-unmarked f.encoding only h.groups key value h.body ok gs old r
-      | inr (inr r) ↦ added-unmarked f.encoding only h.groups key value h.body gs old r
+      | inr (inr r) ↦
+          let by = ending_among lf (held_in h.groups) in
+          ap begins_like_bom r.bytes
+          ∙ added-unmarked f.encoding by h.groups (λ x. new_pair_bytes f.encoding only x key r.separator value (line_ending_text by)) gs old
+          (first-unmarked f.encoding only key r.separator value by h.groups r.is_separator)
     ])

@@ -41,10 +41,7 @@ missing-bytes e (c ∷ cs) = refl
 
 -- The bytes after the front.
 pub after-bytes : (e : Encoding) (only : Bool) (between value : List ℕ) → encoded_text e (value_text e only between value) ≡ missing between ++ encoded_text e (value_after e only between value)
-after-bytes e only between value =
-    ap (encoded_text e) (value_text-parts e only between value)
-    ∙ encoded_text-append e (missing between) (value_after e only between value)
-    ∙ ap (λ v. v ++ encoded_text e (value_after e only between value)) (missing-bytes e between)
+after-bytes e only between value = simp (value_text-parts, encoded_text-append, missing, value_after, missing-bytes)
 
 -- It leaves no line open.
 missing-closed : (x between : List ℕ) → is_open x ≡ false → is_open (x ++ missing between) ≡ false
@@ -204,6 +201,5 @@ changed-pair e only group key between front value ending f ok scalars fit line_p
         ascii-first : (e : Encoding) (va : List ℕ) → is_editable e ≡ true → AreWritable e va
             → decoded_line e (equals_sign ∷ encoded_text e va) ≡ equals_sign ∷ va
         ascii-first e va ok w =
-            ascii-among e [] equals_sign (encoded_text e va) ok (lit< tt)
-            ∙ ap₂ (λ v z. v ++ equals_sign ∷ z) (decoded-nil e) (text-own e va ok w)
+            rw (ascii-among e [] equals_sign (encoded_text e va) ok (lit< tt), decoded-nil e, text-own e va ok w)
     text-after e (c ∷ cs) va ok w = text-own e va ok w

@@ -1,11 +1,11 @@
 -- The computed parts of a pair's line are its parts: what separates the key from the value, and what comes before the
 -- value.
-use Rattle.std.proofs.Common.{◌≡◌, ℕ, ◌-◌, true, false, List, [], ◌∷◌, ◌++◌, length, take, ap, ap₂, sym, ◌∙◌, arith, append_assoc, length-append}
+use Rattle.std.proofs.Common.{◌≡◌, ℕ, ◌-◌, true, false, List, ◌++◌, length, take, ap, ap₂, ◌∙◌, arith, append_assoc, length-append}
 use Rattle.std.proofs.Math.Seq.{take-append_seam}
 use Rattle.properties_format.specs.Text.{is_comment_sign, without_leading_blanks}
-use Rattle.properties_format.specs.Groups.{is_comment_line, begins_with_comment_sign}
+use Rattle.properties_format.specs.Groups.{is_comment_line}
 use Rattle.properties_format.specs.Split.{begins, IsPair}
-use Rattle.properties_format.specs.Computed.Split.{Cut, cut_key, past_separator}
+use Rattle.properties_format.specs.Computed.Split.{Cut, cut_key}
 use Rattle.properties_format.specs.Computed.Valued.{without_end, after_key, written_value, between_in, before_value}
 use Rattle.properties_format.proofs.Split.Blanks.{without_leading_blanks-only}
 use Rattle.properties_format.proofs.Split.Keys.{cut_key-only}
@@ -27,8 +27,7 @@ after_key-pair line key value h =
 
 -- The value of a pair.
 pub written_value-pair : (line key value : List ℕ) (h : IsPair line key value) → written_value line ≡ value
-written_value-pair line key value h =
-    ap (λ v. past_separator (without_leading_blanks v)) (after_key-pair line key value h) ∙ between-value h.between value h.is_between
+written_value-pair line key value h = rw (after_key-pair line key value h, between-value h.between value h.is_between)
 
 -- What separates the key of a pair from its value.
 pub between_in-pair : (line key value : List ℕ) (h : IsPair line key value) → between_in line ≡ h.between
@@ -37,10 +36,7 @@ between_in-pair line key value h =
 
 -- A pair's line is what comes before the value, followed by the value.
 pub pair-line : (line key value : List ℕ) (h : IsPair line key value) → line ≡ (h.indent ++ (key ++ h.between)) ++ value
-pair-line line key value h =
-    h.whole
-    ∙ ap (λ v. h.indent ++ v) (sym (append_assoc key h.between value))
-    ∙ sym (append_assoc h.indent (key ++ h.between) value)
+pair-line line key value h = cc (append_assoc key h.between value, append_assoc h.indent (key ++ h.between) value)
 
 -- What comes before the value of a pair.
 pub before_value-pair : (line key value : List ℕ) (h : IsPair line key value) → before_value line ≡ h.indent ++ (key ++ h.between)
@@ -49,11 +45,7 @@ before_value-pair line key value h =
 
 -- A comment line isn't a pair.
 pub comment_line-no_pair : (line key value : List ℕ) → is_comment_line line ≡ true → IsPair line key value → ⊥
-comment_line-no_pair line key value c h =
-    let s : without_leading_blanks line ≡ key ++ (h.between ++ value) =
-    ap without_leading_blanks h.whole ∙ without_leading_blanks-only h.indent (key ++ (h.between ++ value)) h.indent_blank h.begins_full in
-    of_text (key ++ (h.between ++ value)) s h.no_comment
+comment_line-no_pair line key value c h = grind (arith, without_leading_blanks-only)
   where
     of_text : (x : List ℕ) → without_leading_blanks line ≡ x → begins is_comment_sign x ≡ false → ⊥
-    of_text [] s b = let m : begins_with_comment_sign [] ≡ true = ap begins_with_comment_sign (sym s) ∙ c in absurd (cc)
-    of_text (d ∷ x) s b = let m : begins_with_comment_sign (d ∷ x) ≡ true = ap begins_with_comment_sign (sym s) ∙ c in absurd (cc)
+    of_text x h k = grind (arith)

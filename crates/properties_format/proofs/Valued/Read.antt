@@ -1,26 +1,27 @@
 -- What a source with a value set contains, what stays unchanged, and the result of setting another value.
-use Rattle.std.proofs.Common.{◌≡◌, ℕ, true, List, [], ◌∷◌, ◌++◌, refl, ap, ap₂, sym, ◌∙◌, inl, inr, append_assoc, append-nil, subst, All, Bool}
+use Rattle.std.proofs.Common.{◌≡◌, ℕ, true, List, [], ◌∷◌, ◌++◌, refl, ap, ap₂, sym, ◌∙◌, inl, inr, append_assoc, subst, All, Bool}
 use Rattle.std.proofs.lemmas.List.{append_cancel_right}
 use Rattle.properties_format.specs.Text.{scalar}
 use Rattle.properties_format.specs.Encoding.{Encoding, InForce, byte_order_mark}
 use Rattle.properties_format.specs.Printing.{encoded_text}
-use Rattle.properties_format.specs.Body.{HeldLine, group_bytes, groups_bytes, ending_bytes, last_ending}
+use Rattle.properties_format.specs.Body.{HasKey, HeldLine, NoneHasKey, group_bytes, groups_bytes, ending_bytes, last_ending}
 use Rattle.properties_format.specs.Edited.{bom_of, final_group, edited, is_editable}
 use Rattle.properties_format.specs.Edits.{put}
-use Rattle.properties_format.specs.Changed.{IsSetIn, map_edited, AreOthersThanLast, OccurIn, ReadsAfter, KeepsOthers}
-use Rattle.properties_format.specs.Valued.{value_text, ending_in, separation_by, new_pair_bytes, IsFrontOf, IsValueSet, IsSetValueResult, KeepsFront}
+use Rattle.properties_format.specs.Changed.{IsSetIn, map_edited, AreOthersThanLast, ReadsAfter, KeepsOthers}
+use Rattle.properties_format.specs.Valued.{IsAlikeAround, value_text, ending_in, separation_by, new_pair_bytes, IsFrontOf, IsValueSet, IsSetValueResult, KeepsFront}
 use Rattle.properties_format.specs.Computed.Body.{held_groups_of}
 use Rattle.properties_format.specs.Computed.Edited.{last_place}
 use Rattle.properties_format.specs.Computed.Parts.{unended_bytes}
 use Rattle.properties_format.specs.Computed.Valued.{front_of, between_of, valued_at, value_set}
-use Rattle.properties_format.proofs.Body.Groups.{held_groups_of-only, held-groups, held-body, groups_bytes-append}
-use Rattle.properties_format.proofs.Edited.Outcomes.{outcomes_in, givens}
-use Rattle.properties_format.proofs.Edited.Contents.{told-groups}
+use Rattle.properties_format.proofs.Body.Groups.{held_groups_of-only, held-body, groups_bytes-append}
+use Rattle.properties_format.proofs.Edited.Contents.{groups-come}
 use Rattle.properties_format.proofs.Edited.ByteOrderMarks.{source-whole}
 use Rattle.properties_format.proofs.Changed.Laws.{IsReadable, source_contents, IsReadTo, read-to, groups-contents}
 use Rattle.properties_format.proofs.Changed.Read.{readable, reads-after}
 use Rattle.properties_format.proofs.Changed.Maps.{map-edited}
-use Rattle.properties_format.proofs.Changed.Occur.{occur-after, occur-before, occur-all, occur-alone}
+use Rattle.properties_format.proofs.Changed.Occur.{all-kept, occur-after, occur-alone, others-kept}
+use Rattle.properties_format.proofs.InTurn.Lines.{bytes-unended}
+use Rattle.properties_format.proofs.Valued.Lined.{last_ending-append}
 use Rattle.properties_format.proofs.Valued.Made.{group-decoded}
 use Rattle.properties_format.proofs.Valued.Fronts.{front_of-meets}
 use Rattle.properties_format.proofs.Valued.Groups.{IsNotAt, IsValued, body-valued}
@@ -44,12 +45,9 @@ value_set-contents e only source key value result r k v h =
     let f = byte_order_mark e source in
     let m = valued-body e only source key value result r.editable k v h in
     let t = m.contents_set (source_contents e source) (groups-contents e source h.groups r h.held) in
-    let same : outcomes_in f.encoding h.body ≡ givens t.0 =
-    ap (outcomes_in f.encoding) (sym (held-body f.encoding h.body m.groups r.editable m.held))
-    ∙ told-groups f.encoding m.groups (held-groups f.encoding h.body m.groups r.editable m.held)
-    ∙ t.2 in
     read-to e result (record { encoding = f.encoding; body = h.body }) (IsSetIn key value (source_contents e source)) r.editable
-    (value_set-in_force e only source key value result r.editable h) (t.0, t.1, same)
+    (value_set-in_force e only source key value result r.editable h)
+    (groups-come f.encoding h.body (IsSetIn key value (source_contents e source)) m.groups r.editable m.held t)
 
 -- The result of setting a value reads as the source with that value.
 pub set_value-reads : (e : Encoding) (only : Bool) (source key value result : List ℕ) → All scalar key → All scalar value → IsSetValueResult e only source key value (edited result)
@@ -89,52 +87,19 @@ value_set-again e only source key first second between ok k v h other =
 -- If a value is set, every group but the last pair with the key is unchanged.
 pub value_set-keeps : (e : Encoding) (only : Bool) (source key value result : List ℕ) → IsValueSet e only source key value result → KeepsOthers (AreOthersThanLast key) e source result
 value_set-keeps e only source key value result h = elim h.edited [
-  | inl r ↦ (
-    h.groups,
-    r.before ++ r.after,
-    h.held,
-    inr (r.before, r.group, r.after, r.division, (value, r.has_pair), r.no_later, refl),
-    subst (OccurIn (r.before ++ r.after))
-        (sym (h.whole ∙ ap (λ v. bom_of source ++ v) (r.bytes ∙ ap groups_bytes r.division ∙ groups_bytes-append r.before (r.group ∷ r.after))))
-        (occur-after (r.before ++ r.after) (bom_of source) _ (occur-before r.before r.after _ (occur-after r.after (group_bytes r.group) (groups_bytes r.after) (occur-alone r.after)))),
-  )
-  | inr (inl r) ↦ (
-    h.groups,
-    r.before ++ r.after,
-    h.held,
-    inr (r.before, r.group, r.after, r.division, r.has_key, r.no_later, refl),
-    subst (OccurIn (r.before ++ r.after)) (sym (h.whole ∙ ap (λ v. bom_of source ++ v) r.bytes))
-        (occur-after (r.before ++ r.after) (bom_of source) _
-        (occur-before r.before r.after _
-        (occur-after r.after r.front _ (occur-after r.after _ _ (occur-after r.after _ (groups_bytes r.after) (occur-alone r.after)))))),
-  )
-  | inr (inr r) ↦ (
-    h.groups,
-    h.groups,
-    h.held,
-    inl (r.no_pair, refl),
-    subst (OccurIn h.groups) (sym (h.whole ∙ ap (λ v. bom_of source ++ v) (r.bytes ∙ append_assoc (groups_bytes h.groups) _ _)))
-        (occur-after h.groups (bom_of source) _ (occur-all h.groups _)),
-  )
+  | inl r ↦ others-kept e source key result h.groups r.before r.group r.after _ h.held r.division (value, r.has_pair) r.no_later
+      (occur-after r.after (group_bytes r.group) (groups_bytes r.after) (occur-alone r.after))
+      (h.whole ∙ ap (λ v. bom_of source ++ v) (r.bytes ∙ ap groups_bytes r.division ∙ groups_bytes-append r.before (r.group ∷ r.after)))
+  | inr (inl r) ↦ others-kept e source key result h.groups r.before r.group r.after _ h.held r.division r.has_key r.no_later
+      (occur-after r.after r.front _ (occur-after r.after _ _ (occur-after r.after _ (groups_bytes r.after) (occur-alone r.after))))
+      (h.whole ∙ ap (λ v. bom_of source ++ v) r.bytes)
+  | inr (inr r) ↦ all-kept e source key result h.groups _ h.held r.no_pair
+      (h.whole ∙ ap (λ v. bom_of source ++ v) (r.bytes ∙ append_assoc (groups_bytes h.groups) _ _))
 ]
-
--- Lines are their bytes up to the last line ending, followed by that ending.
-ended-whole : (h : HeldLine) (hs : List HeldLine) → group_bytes (h ∷ hs) ≡ unended_bytes (h ∷ hs) ++ ending_bytes (last_ending (h ∷ hs))
-ended-whole h [] = ap (λ v. h.bytes ++ v) (append-nil (ending_bytes h.ending))
-ended-whole h (i ∷ hs) =
-    ap (λ v. h.bytes ++ (ending_bytes h.ending ++ v)) (ended-whole i hs)
-    ∙ ap (λ v. h.bytes ++ v) (sym (append_assoc (ending_bytes h.ending) (unended_bytes (i ∷ hs)) (ending_bytes (last_ending (i ∷ hs)))))
-    ∙ sym (append_assoc h.bytes (ending_bytes h.ending ++ unended_bytes (i ∷ hs)) (ending_bytes (last_ending (i ∷ hs))))
 
 -- what follows the front of a pair, up to its last line ending
 abbrev after_front : HeldLine → List ℕ → List HeldLine → List ℕ
 after_front line tail more = unended_bytes (record { bytes = tail; text = line.text; ending = line.ending } ∷ more)
-
--- The line ending of the last of some lines.
-last-ending : (a : List HeldLine) (h : HeldLine) (b : List HeldLine) → last_ending (a ++ h ∷ b) ≡ last_ending (h ∷ b)
-last-ending [] h b = refl
-last-ending (i ∷ []) h b = refl
-last-ending (i ∷ j ∷ a) h b = last-ending (j ∷ a) h b
 
 -- The line ending doesn't depend on the bytes.
 same-ending : (line : HeldLine) (tail : List ℕ) (more : List HeldLine)
@@ -147,8 +112,8 @@ pair-bytes : (e : Encoding) (group : List HeldLine) (between front : List ℕ) (
     → group_bytes group ≡ front ++ (after_front f.line f.tail f.more ++ ending_bytes (last_ending group))
 pair-bytes e group between front f =
     front-bytes e group between front f
-    ∙ ap (λ v. front ++ v) (ended-whole (record { bytes = f.tail; text = f.line.text; ending = f.line.ending }) f.more)
-    ∙ ap (λ o. front ++ (after_front f.line f.tail f.more ++ ending_bytes o)) (same-ending f.line f.tail f.more ∙ sym (ap last_ending f.division ∙ last-ending f.kept f.line f.more))
+    ∙ ap (λ v. front ++ v) (bytes-unended (record { bytes = f.tail; text = f.line.text; ending = f.line.ending } ∷ f.more))
+    ∙ ap (λ o. front ++ (after_front f.line f.tail f.more ++ ending_bytes o)) (same-ending f.line f.tail f.more ∙ sym (ap last_ending f.division ∙ last_ending-append f.kept (f.line ∷ f.more) (λ q. cc)))
 
 -- The front of a pair comes before its last line ending.
 pub front-unended : (e : Encoding) (group : List HeldLine) (between front : List ℕ) (f : IsFrontOf e group between front)
@@ -162,7 +127,7 @@ front-unended e (i ∷ is) between front f =
     let by = ending_bytes (last_ending (i ∷ is)) in
     let after = after_front f.line f.tail f.more in
     append_cancel_right (unended_bytes (i ∷ is)) (front ++ after) by
-    (sym (ended-whole i is) ∙ pair-bytes e (i ∷ is) between front f ∙ sym (append_assoc front after by))
+    (sym (bytes-unended (i ∷ is)) ∙ pair-bytes e (i ∷ is) between front f ∙ sym (append_assoc front after by))
 
 -- A source that contains such a pair, divided around the pair's value.
 around-source : (e : Encoding) (source : List ℕ) (before : List (List HeldLine)) (group : List HeldLine) (after : List (List HeldLine)) (between front : List ℕ)
@@ -179,6 +144,34 @@ around-source e source before group after between front f s =
     ∙ ap (λ v. groups_bytes before ++ v) (append_assoc front (old ++ by) (groups_bytes after) ∙ ap (λ v. front ++ v) (append_assoc old by (groups_bytes after)))
     ∙ sym (append_assoc (groups_bytes before) front (old ++ (by ++ groups_bytes after))))
 
+-- Such a source, and a result with other bytes instead of that value.
+alike-around : (e : Encoding) (source key new result : List ℕ) (groups before : List (List HeldLine)) (group : List HeldLine) (after : List (List HeldLine)) (between front : List ℕ)
+    → groups ≡ before ++ group ∷ after → HasKey key group → NoneHasKey key after → (byte_order_mark e source).body ≡ groups_bytes groups
+    → IsFrontOf (byte_order_mark e source).encoding group between front
+    → result ≡ bom_of source ++ ((groups_bytes before ++ front) ++ (new ++ (ending_bytes (last_ending group) ++ groups_bytes after)))
+    → IsAlikeAround (byte_order_mark e source).encoding source groups key result
+alike-around e source key new result groups before group after between front s has none body f is = record {
+  front = groups_bytes before ++ front;
+  back = ending_bytes (last_ending group) ++ groups_bytes after;
+  around = record {
+    before = before;
+    group = group;
+    after = after;
+    division = s;
+    has_key = has;
+    no_later = none;
+    between = between;
+    pair_front = front;
+    is_front = f;
+    front_bytes = refl;
+    back_bytes = refl;
+  };
+  old = after_front f.line f.tail f.more;
+  new = new;
+  source_is = around-source e source before group after between front f (body ∙ ap groups_bytes s);
+  result_is = is;
+}
+
 -- If a value is set, every byte outside the old value is unchanged.
 pub value_set-keeps_front : (e : Encoding) (only : Bool) (source key value result : List ℕ) → is_editable (byte_order_mark e source).encoding ≡ true
     → IsValueSet e only source key value result
@@ -193,55 +186,16 @@ value_set-keeps_front e only source key value result ok h =
           let s = around-source e source r.before r.group r.after (between_of r.group) (front_of f.encoding r.group) m (body ∙ ap groups_bytes r.division) in (
             h.groups,
             h.held,
-            inl (record {
-              front = groups_bytes r.before ++ front_of f.encoding r.group;
-              back = ending_bytes (last_ending r.group) ++ groups_bytes r.after;
-              around = record {
-                before = r.before;
-                group = r.group;
-                after = r.after;
-                division = r.division;
-                has_key = (value, r.has_pair);
-                no_later = r.no_later;
-                between = between_of r.group;
-                pair_front = front_of f.encoding r.group;
-                is_front = m;
-                front_bytes = refl;
-                back_bytes = refl;
-              };
-              old = after_front m.line m.tail m.more;
-              new = after_front m.line m.tail m.more;
-              source_is = s;
-              result_is = h.whole ∙ ap (λ v. bom_of source ++ v) (r.bytes ∙ sym body) ∙ sym (source-whole e source) ∙ s;
-            }),
+            inl (alike-around e source key (after_front m.line m.tail m.more) result h.groups r.before r.group r.after (between_of r.group) (front_of f.encoding r.group)
+                r.division (value, r.has_pair) r.no_later body m (h.whole ∙ ap (λ v. bom_of source ++ v) (r.bytes ∙ sym body) ∙ sym (source-whole e source) ∙ s)),
           )
       | inr (inl r) ↦
-          let m = r.is_front in
           let back = ending_bytes (last_ending r.group) ++ groups_bytes r.after in
           let new = encoded_text f.encoding (value_text f.encoding only r.between value) in (
             h.groups,
             h.held,
-            inl (record {
-              front = groups_bytes r.before ++ r.front;
-              back = back;
-              around = record {
-                before = r.before;
-                group = r.group;
-                after = r.after;
-                division = r.division;
-                has_key = r.has_key;
-                no_later = r.no_later;
-                between = r.between;
-                pair_front = r.front;
-                is_front = m;
-                front_bytes = refl;
-                back_bytes = refl;
-              };
-              old = after_front m.line m.tail m.more;
-              new = new;
-              source_is = around-source e source r.before r.group r.after r.between r.front m (body ∙ ap groups_bytes r.division);
-              result_is = h.whole ∙ ap (λ v. bom_of source ++ v) (r.bytes ∙ sym (append_assoc (groups_bytes r.before) r.front (new ++ back)));
-            }),
+            inl (alike-around e source key new result h.groups r.before r.group r.after r.between r.front r.division r.has_key r.no_later body r.is_front
+                (h.whole ∙ ap (λ v. bom_of source ++ v) (r.bytes ∙ sym (append_assoc (groups_bytes r.before) r.front (new ++ back))))),
           )
       | inr (inr r) ↦
           let separation = separation_by (ending_in h.groups) (final_group h.groups) in

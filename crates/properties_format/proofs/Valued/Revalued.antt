@@ -22,12 +22,12 @@ use Rattle.properties_format.proofs.Cut.Byline.{decoded_line-only}
 use Rattle.properties_format.proofs.Printing.Characters.{encoded-ascii}
 use Rattle.properties_format.proofs.ReadBack.Bytes.{AreWritable, text-decoded}
 use Rattle.properties_format.proofs.Body.Groups.{IsLastFit}
-use Rattle.properties_format.proofs.Edited.Pair.{editable-own}
+use Rattle.properties_format.proofs.Edited.Pair.{alone-whole, editable-own}
 use Rattle.properties_format.proofs.Valued.Heads.{ascii-end, ascii-among}
 use Rattle.properties_format.proofs.Valued.Fronts.{indented, open-indent, indent-head, shut-closed, joined_by, joined-by, is_first_after, joined_by-append}
-use Rattle.properties_format.proofs.Valued.Fronts.{none-right, right-some, ends-last, ends-right, ends_key-ascii, between-end, front-text}
+use Rattle.properties_format.proofs.Valued.Fronts.{right-some, ends-last, ends-right, ends_key-ascii, between-end, front-text, pair-some}
 use Rattle.properties_format.proofs.Valued.Texts.{BeginsAfter}
-use Rattle.properties_format.proofs.Encodings.PieceEnds.{no-front}
+use Rattle.properties_format.proofs.Encodings.PieceEnds.{no-front, none-right}
 
 -- ---- whether two texts together are open
 
@@ -52,8 +52,7 @@ open-closed x y h = open-on x y ∙ ap (λ b. open_on b y) h ∙ sym (open-on []
 -- What lines add isn't open.
 pub added-closed : (first : Bool) (hs : List HeldLine) → is_open (joined_by first hs) ≡ false
 added-closed first [] = refl
-added-closed first (h ∷ hs) =
-    open-closed (added_by first h.text) (joined_by false hs) (shut-closed (without_indent first h.text)) ∙ added-closed false hs
+added-closed first (h ∷ hs) = simp (open-closed, joined_by, shut-closed, added-closed false hs)
 
 -- ---- a key before another text
 
@@ -72,9 +71,7 @@ units-anew (escaped c ∷ us) rest other h (inr k) =
     two (inr m) = is_open-other (backslash ∷ []) c m
 units-anew (last ∷ us) rest other h (inl k) = absurd (k (none-right (units_before us []) rest (sym (units_before-append us rest) ∙ h.0)))
 units-anew (last ∷ us) rest other h (inr k) =
-    let n : units_before us [] ≡ [] = no-front (units_before us []) rest (sym (units_before-append us rest) ∙ h.0) in
-    let m : is_open (backslash ∷ []) ≡ false = ap (λ v. is_open (backslash ∷ v)) (sym n) ∙ k in
-    absurd (cc)
+    cc (no-front (units_before us []) rest (sym (units_before-append us rest) ∙ h.0))
 
 -- A key that doesn't end in a single backslash may come before any text.
 key-anew : (key rest other : List ℕ) → IsKey key rest → (rest ≢ []) ⊎ (is_open key ≡ false) → IsKey key other
@@ -124,16 +121,31 @@ begins-more kind (c ∷ x) y z h k = k
 
 -- The key of a pair and what separates it from the value aren't both empty.
 key-between : (line key value : List ℕ) (h : IsPair line key value) → key ++ h.between ≢ []
-key-between line key value h q = elim (between-end h.between value h.is_between) [
-  | inl m ↦ m.0 (none-right key h.between q)
-  | inr m ↦ h.not_empty (ap₂ (λ v w. v ++ w) (no-front key h.between q) (ap₂ (λ v w. v ++ w) m.0 m.1))
-]
+key-between line key value h q = pair-some line key value h (rw (q, append-nil) h.indent_blank)
 
 -- The line is a pair with this key and value, and with the same indentation and the same text between key and value.
 pub record IsPairAnew (line key value indent between : List ℕ) : Type 0 where
   pub is_pair : IsPair line key value
   pub indent_is : is_pair.indent ≡ indent
   pub between_is : is_pair.between ≡ between
+
+-- An equal line is the same pair.
+pub pair-moved : (line other key value : List ℕ) → other ≡ line → (h : IsPair line key value) → IsPairAnew other key value h.indent h.between
+pair-moved line other key value s h = record {
+  is_pair = record {
+    indent = h.indent;
+    between = h.between;
+    whole = s ∙ h.whole;
+    indent_blank = h.indent_blank;
+    not_empty = h.not_empty;
+    begins_full = h.begins_full;
+    no_comment = h.no_comment;
+    is_key = h.is_key;
+    is_between = h.is_between;
+  };
+  indent_is = refl;
+  between_is = refl;
+}
 
 -- After the change, the line is the pair with the new value.
 pub pair-anew : (line key old new : List ℕ) (h : IsPair line key old) (between other : List ℕ) → between ≡ h.between
@@ -190,7 +202,7 @@ longer-joined e (i ∷ kept) text more bytes o f n c =
 pub longer-whole : (kept : List HeldLine) (line : HeldLine) (more : List HeldLine) (h : HeldLine) → IsLastFit (kept ++ line ∷ more) → is_open h.text ≡ false
     → ((i : HeldLine) (is : List HeldLine) → kept ≡ i ∷ is → is_comment_line i.text ≡ false)
     → IsWhole (as_lines (kept ++ h ∷ []))
-longer-whole [] line more h k c f = elim (cases_Bool (is_comment_line h.text)) [ inl m ↦ inl (m, refl) | inr m ↦ inr (m, c) ]
+longer-whole [] line more h k c f = alone-whole (record { number = 0; text = h.text }) (inr c)
 longer-whole (i ∷ kept) line more h (inl (inl k)) c f = let m = f i kept refl in absurd (cc (k.0, m))
 longer-whole (i ∷ kept) line more h (inl (inr k)) c f = inr (k.0, closes i kept k.1)
   where

@@ -1,15 +1,15 @@
 -- A new pair: its separator is good, its line is the pair, and everything before the value is its front.
 use Rattle.std.proofs.Common.{◌≡◌, ◌≢◌, ℕ, ◌&&◌, Bool, true, false, List, [], ◌∷◌, ◌++◌, Some, map, refl, ap, sym, ◌∙◌, inl, inr, append_assoc, append-nil, subst}
 use Rattle.std.specs.Prelude.{All}
-use Rattle.std.proofs.lemmas.Bool.{cases_Bool, cond-true, cond-false, and_left}
+use Rattle.std.proofs.lemmas.Bool.{cases_Bool, cond_both}
 use Rattle.std.proofs.lemmas.List.Elements.{recursion_from_All}
 use Rattle.properties_format.specs.Text.{scalar, equals_sign, LineEnding, is_blank, is_blanks, is_separator}
 use Rattle.properties_format.specs.Encoding.{Encoding}
-use Rattle.properties_format.specs.Lines.{HoldsNoLineEnd, Line}
+use Rattle.properties_format.specs.Lines.{HoldsNoLineEnd}
 use Rattle.properties_format.specs.Cut.{IsDecodedLine}
 use Rattle.properties_format.specs.Computed.Cut.{decoded_line}
-use Rattle.properties_format.specs.Groups.{is_open, is_comment_line, IsWhole, joined}
-use Rattle.properties_format.specs.Split.{AreBlanks, begins, IsBetween, nothing, blanks, separator, IsPair}
+use Rattle.properties_format.specs.Groups.{is_open, IsWhole, joined}
+use Rattle.properties_format.specs.Split.{AreBlanks, IsBetween, nothing, blanks, separator, IsPair}
 use Rattle.properties_format.specs.Escapes.{Spelling, spelling_text, spelling_character, spellings_before}
 use Rattle.properties_format.specs.Settings.{IsGoodSeparator}
 use Rattle.properties_format.specs.Printing.{printed_key, encoded_text}
@@ -29,10 +29,11 @@ use Rattle.properties_format.proofs.ReadBack.Texts.{AreSafe, AreSafelyPrinted, p
 use Rattle.properties_format.proofs.ReadBack.Pairs.{key-printed, separator-some, separator-quiet, closed-after}
 use Rattle.properties_format.proofs.ReadBack.Bytes.{AreWritable, writable-append, key-scalars}
 use Rattle.properties_format.proofs.Body.Decoded.{decoded-nil, plain-bytes}
-use Rattle.properties_format.proofs.Valued.Fronts.{blanks-right, none-right, right-some}
+use Rattle.properties_format.proofs.Edited.Pair.{alone-whole}
+use Rattle.properties_format.proofs.Valued.Fronts.{pair-some}
 use Rattle.properties_format.proofs.Valued.Texts.{BeginsAfter, value-loose, loose-means, loosely-plain, loosely-closed, value-begins, ascii-writable, value-writable}
-use Rattle.properties_format.proofs.Valued.Revalued.{text-own}
-use Rattle.properties_format.proofs.Encodings.PieceEnds.{no-front}
+use Rattle.properties_format.proofs.Valued.Revalued.{pair-moved, text-own}
+use Rattle.properties_format.proofs.Encodings.PieceEnds.{no-front, none-right}
 
 -- ---- the separator
 
@@ -72,17 +73,8 @@ shortened-good c cs value (separator before sign after s are t d f) =
 -- It is blank only if it was before.
 shortened-blanks : (was : Bool) (x : List ℕ) → is_blanks (shortened_after was x) ≡ is_blanks x
 shortened-blanks was [] = refl
-shortened-blanks true (c ∷ x) = elim (cases_Bool (is_blank c)) [
-  | inl k ↦ rw k (shortened-blanks true x)
-  | inr k ↦
-      ap is_blanks (cond-false (is_blank c) (shortened_after true x) (c ∷ shortened_after (is_blank c) x) k)
-      ∙ and_left (is_blank c) (is_blanks (shortened_after (is_blank c) x)) k
-      ∙ sym (and_left (is_blank c) (is_blanks x) k)
-]
-shortened-blanks false (c ∷ x) = elim (cases_Bool (is_blank c)) [
-  | inl k ↦ rw k (shortened-blanks true x)
-  | inr k ↦ and_left (is_blank c) (is_blanks (shortened_after (is_blank c) x)) k ∙ sym (and_left (is_blank c) (is_blanks x) k)
-]
+shortened-blanks true (c ∷ x) = elim (cases_Bool (is_blank c)) [ inl k ↦ rw k (shortened-blanks true x) | inr k ↦ rw (k, k) refl ]
+shortened-blanks false (c ∷ x) = elim (cases_Bool (is_blank c)) [ inl k ↦ rw k (shortened-blanks true x) | inr k ↦ rw k refl ]
 
 -- A fit separator for this key: a good one, and not blanks only if the key is empty.
 pub record IsFitSeparator (key separator : List ℕ) : Type 0 where
@@ -92,17 +84,13 @@ pub record IsFitSeparator (key separator : List ℕ) : Type 0 where
 -- The separator for a new pair, given what separates another pair's key from its value, is fit for the new key.
 after-fit : (key between value : List ℕ) → IsBetween between value → IsFitSeparator key (separator_after key between)
 after-fit key [] value h = record { good = equals-good; signed = λ q. refl }
-after-fit key (c ∷ cs) value h = elim (cases_Bool (is_empty key && is_blanks (c ∷ cs))) [
-  | inl k ↦
-      subst (IsFitSeparator key) (sym (cond-true (is_empty key && is_blanks (c ∷ cs)) (equals_sign ∷ []) (shortened_after false (c ∷ cs)) k))
-      (record { good = equals-good; signed = λ q. refl })
-  | inr k ↦
-      subst (IsFitSeparator key) (sym (cond-false (is_empty key && is_blanks (c ∷ cs)) (equals_sign ∷ []) (shortened_after false (c ∷ cs)) k))
-      (record {
-        good = shortened-good c cs value h;
-        signed = λ q. shortened-blanks false (c ∷ cs) ∙ sym (ap (λ v. is_empty v && is_blanks (c ∷ cs)) q) ∙ k;
-      })
-]
+after-fit key (c ∷ cs) value h =
+    cond_both (is_empty key && is_blanks (c ∷ cs)) (equals_sign ∷ []) (shortened_after false (c ∷ cs)) (IsFitSeparator key)
+    (λ k. record { good = equals-good; signed = λ q. refl })
+    (λ k. record {
+      good = shortened-good c cs value h;
+      signed = λ q. shortened-blanks false (c ∷ cs) ∙ sym (ap (λ v. is_empty v && is_blanks (c ∷ cs)) q) ∙ k;
+    })
 
 -- The separator of a new pair is fit for its key.
 pub new_separator-fit : (groups : List (List HeldLine)) (key sep : List ℕ) → IsNewSeparator groups key sep → IsFitSeparator key sep
@@ -233,15 +221,15 @@ added-pair e only first key sep value by ok k v f =
     ap (λ x. let l : HeldLine = record { bytes = added_bytes e only first key sep value; text = x; ending = Some by } in l) (sym decoded) in
     let joined_is : joined (as_lines (added_line e only first key sep value by ∷ [])) ≡ written ++ (sep ++ va) =
     ap (λ x. joined (as_lines (x ∷ []))) (sym same) ∙ joined-closed (record { number = 0; text = written ++ (sep ++ va) }) closed in
-    let p = again (joined (as_lines (added_line e only first key sep value by ∷ []))) written sep va joined_is n in
+    let p = pair-moved (written ++ (sep ++ va)) (joined (as_lines (added_line e only first key sep value by ∷ []))) written va joined_is n.is_pair in
     record {
       plain = plain-bytes e (added_bytes e only first key sep value) ok (subst HoldsNoLineEnd (sym decoded) plain_text);
       some = text-some e (written ++ (sep ++ va)) ok writable (λ q. sep_some (no-front sep va (none-right written (sep ++ va) q)));
-      whole = subst (λ x. IsWhole (as_lines (x ∷ []))) same (alone (record { number = 0; text = written ++ (sep ++ va) }) closed);
+      whole = subst (λ x. IsWhole (as_lines (x ∷ []))) same (alone-whole (record { number = 0; text = written ++ (sep ++ va) }) (inr closed));
       has_pair = record {
         raw_key = written;
         raw_value = va;
-        split = p.0;
+        split = p.is_pair;
         key_means = rw (printed-means written key printed_character) at (meaning_of-meets written);
         value_means = rw (loose-means va value loose) at (meaning_of-meets va);
       };
@@ -259,50 +247,18 @@ added-pair e only first key sep value by ok k v f =
         cut_text = decoded ∙ sym (append_assoc written sep va);
         is_head = subst (IsDecodedLine e (encoded_text e (written ++ sep))) (text-own e (written ++ sep) ok front_writable) (decoded_line-meets e (encoded_text e (written ++ sep)));
         is_tail = subst (IsDecodedLine e (encoded_text e va)) (text-own e va ok value_written) (decoded_line-meets e (encoded_text e va));
-        not_blank = not-blank written sep va n;
+        not_blank = λ b. pair-some (written ++ (sep ++ va)) written va n.is_pair (subst AreBlanks (sym n.front) b);
         closed = closed_front;
         key = written;
         value = va;
-        is_pair = p.0;
-        is_between = sym p.2;
+        is_pair = p.is_pair;
+        is_between = sym p.between_is;
         up_to =
             joined-closed (record { number = 0; text = written ++ sep }) closed_front
             ∙ sym n.front
-            ∙ ap (λ x. x ++ (written ++ n.is_pair.between)) (sym p.1);
+            ∙ ap (λ x. x ++ (written ++ n.is_pair.between)) (sym p.indent_is);
         bytes = refl;
       };
       between_some = n.some;
       blanks = n.blanks;
     }
-  where
-    alone : (l : Line) → is_open l.text ≡ false → IsWhole (l ∷ [])
-    alone l c = elim (cases_Bool (is_comment_line l.text)) [ inl m ↦ inl (m, refl) | inr m ↦ inr (m, c) ]
-
-    again : (line written sep va : List ℕ) → line ≡ written ++ (sep ++ va) → (n : IsNewPair written sep va)
-        → (p : IsPair line written va) × (p.indent ≡ n.is_pair.indent) × (p.between ≡ n.is_pair.between)
-    again line written sep va s n =
-        let h = n.is_pair in (
-          record {
-            indent = h.indent;
-            between = h.between;
-            whole = s ∙ h.whole;
-            indent_blank = h.indent_blank;
-            not_empty = h.not_empty;
-            begins_full = h.begins_full;
-            no_comment = h.no_comment;
-            is_key = h.is_key;
-            is_between = h.is_between;
-          },
-          refl,
-          refl,
-        )
-
-    not-blank : (written sep va : List ℕ) (n : IsNewPair written sep va) → ¬ (AreBlanks (written ++ sep))
-    not-blank written sep va n b =
-        let h = n.is_pair in
-        let m : AreBlanks (written ++ h.between) = blanks-right h.indent (written ++ h.between) (subst AreBlanks (sym n.front) b) in
-        full (written ++ h.between) va (right-some written h.between n.some) m (ap (begins is_blank) (append_assoc written h.between va) ∙ h.begins_full)
-      where
-        full : (x y : List ℕ) → x ≢ [] → AreBlanks x → begins is_blank (x ++ y) ≡ false → ⊥
-        full [] y s m c = s refl
-        full (d ∷ x) y s m c = absurd (cc (m.0, c))

@@ -4,11 +4,11 @@ use Rattle.std.proofs.Common.{◌≡◌, ◌≢◌, ◌⊎◌, ◌<◌, ℕ, zer
 use Rattle.std.proofs.Common.{◌++◌, length, refl, ap, ap₂, sym, ◌∙◌, inl, inr, arith, append_assoc, append-nil, length-append, ltb-true}
 use Rattle.std.specs.Prelude.{nat_lt}
 use Rattle.std.specs.Str.{chars, IsUtf8}
-use Rattle.std.proofs.lemmas.Bool.{cases_Bool, cond-true, cond-false, lt-ltb}
-use Rattle.properties_format.specs.Text.{backslash}
+use Rattle.std.proofs.lemmas.Bool.{cases_Bool, cond-true, lt-ltb}
 use Rattle.properties_format.specs.Pieces.{characters}
-use Rattle.properties_format.specs.Encoding.{Encoding, utf_8}
 use Rattle.properties_format.specs.Computed.Encoding.{pieces_of}
+use Rattle.properties_format.specs.Text.{backslash}
+use Rattle.properties_format.specs.Encoding.{Encoding, utf_8}
 use Rattle.properties_format.specs.Computed.Cut.{decoded_line}
 use Rattle.properties_format.specs.Edited.{is_editable}
 use Rattle.properties_format.specs.Computed.Valued.{ascii_count, after_ascii}
@@ -27,41 +27,19 @@ count-ascii c d h = cond-true (nat_lt c 0x80) (suc (ascii_count d)) (ascii_count
 -- The count of two parts.
 pub count-append : (x y : List ℕ) → ascii_count (x ++ y) ≡ ascii_count x + ascii_count y
 count-append [] y = omega arith
-count-append (c ∷ x) y =
-    let m = count-append x y in
-    elim (cases_Bool (nat_lt c 0x80)) [
-      | inl k ↦
-          let a : ascii_count (c ∷ x ++ y) ≡ suc (ascii_count (x ++ y)) = cond-true (nat_lt c 0x80) (suc (ascii_count (x ++ y))) (ascii_count (x ++ y)) k in
-          let b : ascii_count (c ∷ x) ≡ suc (ascii_count x) = cond-true (nat_lt c 0x80) (suc (ascii_count x)) (ascii_count x) k in
-          omega arith
-      | inr k ↦
-          let a : ascii_count (c ∷ x ++ y) ≡ ascii_count (x ++ y) = cond-false (nat_lt c 0x80) (suc (ascii_count (x ++ y))) (ascii_count (x ++ y)) k in
-          let b : ascii_count (c ∷ x) ≡ ascii_count x = cond-false (nat_lt c 0x80) (suc (ascii_count x)) (ascii_count x) k in
-          omega arith
-    ]
+count-append (c ∷ x) y = grind (arith, count-append x y)
 
 -- A text has no ASCII character, or it has a first one.
 first-ascii : (x : List ℕ) → (ascii_count x ≡ 0) ⊎ ((u : List ℕ) × (c : ℕ) × (v : List ℕ) × (x ≡ u ++ c ∷ v) × (c < 0x80) × (ascii_count u ≡ 0))
 first-ascii [] = inl refl
 first-ascii (c ∷ x) = elim (cases_Bool (nat_lt c 0x80)) [
   | inl k ↦ inr ([], c, x, refl, ltb-true c 0x80 k, refl)
-  | inr k ↦ elim (first-ascii x) [
-    | inl h ↦ inl (cond-false (nat_lt c 0x80) (suc (ascii_count x)) (ascii_count x) k ∙ h)
-    | inr h ↦ inr (c ∷ h.0, h.1, h.2, ap (λ w. c ∷ w) h.3, h.4, cond-false (nat_lt c 0x80) (suc (ascii_count h.0)) (ascii_count h.0) k ∙ h.5)
-  ]
+  | inr k ↦ elim (first-ascii x) [ inl h ↦ inl (rw k h) | inr h ↦ inr (c ∷ h.0, h.1, h.2, ap (λ w. c ∷ w) h.3, h.4, rw k h.5) ]
 ]
 
 -- If no byte is ASCII, no decoded character is.
 no_ascii-decoded : (e : Encoding) (d : List ℕ) → is_editable e ≡ true → ascii_count d ≡ 0 → ascii_count (decoded_line e d) ≡ 0
-no_ascii-decoded e d ok h = elim (first-ascii (decoded_line e d)) [
-  | inl k ↦ k
-  | inr k ↦
-      let m = cut-at_ascii e d k.0 k.1 k.2 k.4 k.3 in
-      let s : ascii_count d ≡ ascii_count (m.0 ++ (k.1 ∷ [] ++ m.1)) = ap ascii_count (m.2.joins ∙ ap (λ v. m.0 ++ (v ++ m.1)) (ascii-own e k.1 ok)) in
-      let a = count-append m.0 (k.1 ∷ m.1) in
-      let b = count-ascii k.1 m.1 k.4 in
-      absurd (omega arith)
-]
+no_ascii-decoded e d ok h = grind (arith, first-ascii, cut-at_ascii, ascii-own, count-append, count-ascii)
 
 -- Decoded bytes have as many ASCII characters as they have ASCII bytes.
 pub count-decoded : (e : Encoding) (n : ℕ) (d : List ℕ) → is_editable e ≡ true → length d < n → ascii_count (decoded_line e d) ≡ ascii_count d
@@ -69,18 +47,19 @@ count-decoded e zero d ok l = absurd (omega arith)
 count-decoded e (suc n) d ok l = elim (first-ascii d) [
   | inl k ↦ no_ascii-decoded e d ok k ∙ sym k
   | inr k ↦
-      let size : length d ≡ length (k.0 ++ k.1 ∷ k.2) = ap length k.3 in
-      let sum = length-append k.0 (k.1 ∷ k.2) in
-      let m = count-decoded e n k.2 ok (omega arith) in
+      let m = count-decoded e n k.2 ok (omega (arith, ap length k.3, length-append k.0 (k.1 ∷ k.2))) in
       let a = no_ascii-decoded e k.0 ok k.5 in
-      let b : ascii_count (decoded_line e d) ≡ ascii_count (decoded_line e k.0 ++ k.1 ∷ decoded_line e k.2) = ap ascii_count (ap (decoded_line e) k.3 ∙ ascii-among e k.0 k.1 k.2 ok k.4) in
-      let c = count-append (decoded_line e k.0) (k.1 ∷ decoded_line e k.2) in
-      let f = count-ascii k.1 (decoded_line e k.2) k.4 in
-      let g : ascii_count d ≡ ascii_count (k.0 ++ k.1 ∷ k.2) = ap ascii_count k.3 in
-      let i = count-append k.0 (k.1 ∷ k.2) in
-      let j = count-ascii k.1 k.2 k.4 in
+      let b : decoded_line e d ≡ decoded_line e k.0 ++ k.1 ∷ decoded_line e k.2 = ap (decoded_line e) k.3 ∙ ascii-among e k.0 k.1 k.2 ok k.4 in
       let z = k.5 in
-      omega arith
+      omega (
+        arith,
+        ap ascii_count b,
+        count-append (decoded_line e k.0) (k.1 ∷ decoded_line e k.2),
+        count-ascii k.1 (decoded_line e k.2) k.4,
+        ap ascii_count k.3,
+        count-append k.0 (k.1 ∷ k.2),
+        count-ascii k.1 k.2 k.4,
+      )
 ]
 
 -- A text has as many ASCII characters as its UTF-8 bytes have ASCII bytes.
@@ -97,31 +76,18 @@ count-text x u =
 
 -- The index after the last of some ASCII bytes.
 pub after-last : (u : List ℕ) (c : ℕ) (v : List ℕ) → c < 0x80 → after_ascii (ascii_count (u ++ c ∷ [])) (u ++ c ∷ v) ≡ length (u ++ c ∷ [])
-after-last [] c v h =
-    ap (λ n. after_ascii n (c ∷ v)) (count-ascii c [] h) ∙ cond-true (nat_lt c 0x80) (suc (after_ascii 0 v)) (suc (after_ascii 1 v)) (lt-ltb c 0x80 h)
-after-last (b ∷ u) c v h =
-    let m = after-last u c v h in
-    let n = ascii_count (u ++ c ∷ []) in
-    elim (cases_Bool (nat_lt b 0x80)) [
-      | inl k ↦
-          ap (λ w. after_ascii w (b ∷ u ++ c ∷ v)) (cond-true (nat_lt b 0x80) (suc n) n k)
-          ∙ cond-true (nat_lt b 0x80) (suc (after_ascii n (u ++ c ∷ v))) (suc (after_ascii (suc n) (u ++ c ∷ v))) k
-          ∙ ap suc m
-      | inr k ↦
-          ap (λ w. after_ascii w (b ∷ u ++ c ∷ v)) (cond-false (nat_lt b 0x80) (suc n) n k)
-          ∙ past n (some u) k
-          ∙ ap suc m
-    ]
+after-last [] c v h = let k = lt-ltb c 0x80 h in rw (k, k) refl
+after-last (b ∷ u) c v h = elim (cases_Bool (nat_lt b 0x80)) [
+  | inl k ↦ rw (k, k) (ap suc (after-last u c v h))
+  | inr k ↦ rw k (past (ascii_count (u ++ c ∷ [])) some k ∙ ap suc (after-last u c v h))
+]
   where
-    some : (u : List ℕ) → ascii_count (u ++ c ∷ []) ≢ 0
-    some u q =
-        let a = count-append u (c ∷ []) in
-        let d = count-ascii c [] h in
-        absurd (omega arith)
+    some : ascii_count (u ++ c ∷ []) ≢ 0
+    some q = absurd (omega (arith, count-append u (c ∷ []), count-ascii c [] h))
 
     past : (n : ℕ) → n ≢ 0 → nat_lt b 0x80 ≡ false → after_ascii n (b ∷ u ++ c ∷ v) ≡ suc (after_ascii n (u ++ c ∷ v))
     past zero s k = absurd (s refl)
-    past (suc n) s k = cond-false (nat_lt b 0x80) (suc (after_ascii n (u ++ c ∷ v))) (suc (after_ascii (suc n) (u ++ c ∷ v))) k
+    past (suc n) s k = rw k refl
 
 -- The size of a head whose text ends in an ASCII character: the index after as many ASCII bytes.
 pub head-inside : (e : Encoding) (d x y head w : List ℕ) (c : ℕ) → is_editable e ≡ true → x ≡ w ++ c ∷ [] → c < 0x80 → IsHeadOf e d x y head
@@ -136,14 +102,8 @@ head-inside e d x y head w c ok s l h =
 
 -- The size of a head that is followed by nothing of the line.
 pub head-end : (e : Encoding) (d x head : List ℕ) → IsHeadOf e d x [] head → length head ≡ length d
-head-end e d x head h =
-    let n : h.tail ≡ [] = nothing-decoded e h.tail h.tail_text in
-    ap length (sym (append-nil head) ∙ ap (λ v. head ++ v) (sym n) ∙ sym h.joins)
+head-end e d x head h = cc (nothing-decoded e h.tail h.tail_text, append-nil head)
 
 -- The size of a head that is followed by a backslash.
 pub head-before_backslash : (e : Encoding) (d x head : List ℕ) → is_editable e ≡ true → IsHeadOf e d x (backslash ∷ []) head → length head ≡ length d - 1
-head-before_backslash e d x head ok h =
-    let n : h.tail ≡ backslash ∷ [] = backslash-own e h.tail ok h.tail_text in
-    let l : length d ≡ length (head ++ backslash ∷ []) = ap length (h.joins ∙ ap (λ v. head ++ v) n) in
-    let s = length-append head (backslash ∷ []) in
-    omega arith
+head-before_backslash e d x head ok h = grind (arith, backslash-own, length-append)

@@ -1,7 +1,7 @@
 -- The size of a front, line by line: past a line that belongs to the front, to the end of a line, or to a position
 -- inside it.
-use Rattle.std.proofs.Common.{◌≡◌, ◌≢◌, ℕ, ◌+◌, ◌-◌, Bool, true, false, List, [], ◌∷◌, ◌++◌, length, drop, inl, inr, ap, ap₂, sym, ◌∙◌, arith, append_assoc, append-nil, length-append, subst}
-use Rattle.std.specs.Prelude.{nat_le, if◌then◌else◌}
+use Rattle.std.proofs.Common.{◌≡◌, ◌≢◌, ℕ, ◌+◌, ◌-◌, Bool, true, false, List, [], ◌∷◌, ◌++◌, length, inl, inr, ap, ap₂, sym, ◌∙◌, arith, append_assoc, append-nil, length-append, subst}
+use Rattle.std.specs.Prelude.{if◌then◌else◌}
 use Rattle.std.proofs.Math.Seq.{drop-append_seam}
 use Rattle.std.proofs.lemmas.Bool.{cases_Bool}
 use Rattle.properties_format.specs.Text.{backslash}
@@ -14,7 +14,7 @@ use Rattle.properties_format.specs.Body.{HeldLine, ending_bytes}
 use Rattle.properties_format.specs.Edited.{is_editable}
 use Rattle.properties_format.specs.Computed.Valued.{without_indent, added_by, head_of, head_size, front_in, ascii_count, after_ascii}
 use Rattle.properties_format.proofs.Valued.Heads.{IsHeadOf, head_of-meets}
-use Rattle.properties_format.proofs.Valued.Fronts.{indented, open-indent, open_backslash, shut-whole, ends-last, ends_key-ascii, head-size, front-here, front-later, some-length}
+use Rattle.properties_format.proofs.Valued.Fronts.{indented, open-indent, open_backslash, shut-whole, ends-last, ends_key-ascii, head-size, some-length}
 use Rattle.properties_format.proofs.Valued.Sizes.{head-inside, head-end, head-before_backslash}
 
 -- The text of a line, divided at the end of what it adds to a front.
@@ -45,11 +45,7 @@ head-there e first h p r ok d s =
 -- The front ends in the line.
 front-head : (e : Encoding) (first : Bool) (h : HeldLine) (hs : List HeldLine) (p r : List ℕ) → added_by first h.text ≡ p ++ r
     → front_in e first p (h ∷ hs) ≡ head_of e (head_size first h.text p) h.bytes
-front-head e first h hs p r s =
-    let l : length (added_by first h.text) ≡ length (p ++ r) = ap length s in
-    let m = length-append p r in
-    let n : nat_le (length p) (length (added_by first h.text)) ≡ true = grind (arith) in
-    front-here e first p h hs n
+front-head e first h hs p r s = grind (arith, length-append)
 
 -- A front that ends inside what a line adds, after a character that ends a key: its size is the index after as many
 -- ASCII bytes as its text has ASCII characters.
@@ -83,13 +79,4 @@ front_size-end e first h hs p ok d s =
 -- A front that continues past a line: the line with its line ending, followed by what comes after it.
 pub front_size-later : (e : Encoding) (first : Bool) (h : HeldLine) (hs : List HeldLine) (p q : List ℕ) → p ≡ added_by first h.text ++ q → q ≢ []
     → length (front_in e first p (h ∷ hs)) ≡ length h.bytes + (length (ending_bytes h.ending) + length (front_in e false q hs))
-front_size-later e first h hs p q s some =
-    let a = added_by first h.text in
-    let l : length p ≡ length (a ++ q) = ap length s in
-    let m = length-append a q in
-    let z = some-length q some in
-    let n : nat_le (length p) (length a) ≡ false = grind (arith) in
-    ap length (front-later e first p h hs n)
-    ∙ ap (λ v. length (h.bytes ++ (ending_bytes h.ending ++ front_in e false v hs))) (ap (drop (length a)) s ∙ drop-append_seam a q)
-    ∙ length-append h.bytes (ending_bytes h.ending ++ front_in e false q hs)
-    ∙ ap (λ v. length h.bytes + v) (length-append (ending_bytes h.ending) (front_in e false q hs))
+front_size-later e first h hs p q s some = grind (arith, length-append, some-length, drop-append_seam)

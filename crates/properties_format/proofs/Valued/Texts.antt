@@ -1,9 +1,9 @@
 -- What is printed for a value that is set in place: it means the value, and can follow what separates the key from the
 -- value.
-use Rattle.std.proofs.Common.{◌≡◌, ◌⊎◌, ◌<◌, ℕ, ◌==◌, ◌&&◌, ◌||◌, Bool, true, false, List, [], ◌∷◌, ◌++◌, map, refl, ap, ap₂, sym, ◌∙◌, inl, inr, append_assoc, append-nil, eqb-true, lit<, subst}
+use Rattle.std.proofs.Common.{◌≡◌, ◌⊎◌, ◌<◌, ℕ, ◌==◌, ◌&&◌, ◌||◌, Bool, true, false, List, [], ◌∷◌, ◌++◌, map, refl, ap, ap₂, sym, ◌∙◌, inl, inr, append_assoc, append-nil, eqb-true, lit<, subst, arith}
 use Rattle.std.specs.List.{AllByRecursion}
-use Rattle.std.proofs.lemmas.Bool.{cases_Bool, cond_both, cond-true, cond-false, and_parts, or_cases, or_parts}
-use Rattle.properties_format.specs.Text.{scalar, space, backslash, is_blank, is_line_end, is_separator, is_comment_sign}
+use Rattle.std.proofs.lemmas.Bool.{cond_both}
+use Rattle.properties_format.specs.Text.{scalar, space, backslash, is_blank, is_line_end, is_separator}
 use Rattle.properties_format.specs.Encoding.{Encoding}
 use Rattle.properties_format.specs.Lines.{HoldsNoLineEnd}
 use Rattle.properties_format.specs.Groups.{is_open}
@@ -16,9 +16,9 @@ use Rattle.properties_format.specs.Valued.{is_free, printed_inside, printed_firs
 use Rattle.properties_format.proofs.Lines.Plain.{plain-append}
 use Rattle.properties_format.proofs.Groups.Open.{is_open-other}
 use Rattle.properties_format.proofs.Escapes.Laws.{IsWhole, AreWhole, meaning_of-all}
-use Rattle.properties_format.proofs.Printing.Characters.{AreAscii, AreEncodable-ascii, printed-encodable, printed-either, unicode_escape-ascii, special-ascii}
+use Rattle.properties_format.proofs.Printing.Characters.{AreAscii, AreEncodable-ascii, printed-encodable, printed-either, unicode_escape-ascii}
 use Rattle.properties_format.proofs.ReadBack.Spellings.{IsSafe, IsSafelyPrinted, special-printed, unicode-printed, in_key_or_value-printed}
-use Rattle.properties_format.proofs.ReadBack.Texts.{safe-whole, safe-plain, safe-closed, safe-begins}
+use Rattle.properties_format.proofs.ReadBack.Texts.{safe-plain, safe-closed, safe-begins}
 use Rattle.properties_format.proofs.ReadBack.Bytes.{AreWritable, ascii-scalars, writable-append}
 
 -- ---- spellings that may be used in such a value
@@ -60,16 +60,11 @@ loose-one x c s =
 safely-loose : (x : List ℕ) (c : ℕ) → IsSafelyPrinted x c → IsLooselyPrinted x c
 safely-loose x c s = record { spelling = s.spelling; text = s.text; character = s.character; loose = inl s.safe }
 
--- A text equal to a loose spelling is a loose spelling.
-same-loose : (x y : List ℕ) (c : ℕ) → x ≡ y → IsLooselyPrinted y c → IsLooselyPrinted x c
-same-loose x y c e s = record { spelling = s.spelling; text = e ∙ s.text; character = s.character; loose = s.loose }
-
 -- ---- what they mean
 
 -- A loose spelling is whole.
 loose-whole : (p : Spelling) → IsLoose p → IsWhole p
-loose-whole p (inl h) = safe-whole p h
-loose-whole p (inr h) = subst IsWhole (sym h.1) h.2
+loose-whole p h = grind (arith)
 
 -- Loose spellings are whole.
 are_loose-whole : (ps : List Spelling) → AreLoose ps → AreWhole ps
@@ -82,8 +77,7 @@ loose-means x y s = ap meaning_of s.text ∙ meaning_of-all s.spellings (are_loo
 
 -- A loose spelling contains no line end.
 loose-plain : (p : Spelling) → IsLoose p → HoldsNoLineEnd (spelling_text p)
-loose-plain p (inl h) = safe-plain p h
-loose-plain p (inr h) = subst (λ v. HoldsNoLineEnd (spelling_text v)) (sym h.1) (h.3, tt)
+loose-plain p h = grind (arith, safe-plain)
 
 -- Loose spellings contain no line end.
 are_loose-plain : (ps : List Spelling) → AreLoose ps → HoldsNoLineEnd (spellings_before ps [])
@@ -96,8 +90,7 @@ loosely-plain x y s = rw s.text (are_loose-plain s.spellings s.loose)
 
 -- A loose spelling leaves no line open.
 loose-closed : (p : Spelling) (x : List ℕ) → IsLoose p → is_open x ≡ false → is_open (x ++ spelling_text p) ≡ false
-loose-closed p x (inl h) o = safe-closed p x h o
-loose-closed p x (inr h) o = ap (λ v. is_open (x ++ spelling_text v)) h.1 ∙ is_open-other x h.0 h.2
+loose-closed p x h k = grind (arith, safe-closed, is_open-other)
 
 -- Loose spellings leave no line open.
 are_loose-closed : (ps : List Spelling) (x : List ℕ) → AreLoose ps → is_open x ≡ false → is_open (x ++ spellings_before ps []) ≡ false
@@ -113,47 +106,24 @@ loosely-closed x y z s o = ap (λ v. is_open (x ++ v)) s.text ∙ are_loose-clos
 
 -- A character that a value may have unescaped isn't a backslash or a line end.
 pub free-plain : (c : ℕ) → is_free c ≡ true → ((c == backslash) ≡ false) × (is_line_end c ≡ false) × (c < 0x80)
-free-plain c h = elim (or_cases (c == space) (is_separator c || is_comment_sign c) h) [
-  | inl e ↦ rw (eqb-true c space e) (refl, refl, lit< tt)
-  | inr h ↦ elim (or_cases (is_separator c) (is_comment_sign c) h) [
-    | inl h ↦ elim (or_cases (c == 0x3d) (c == 0x3a) h) [ inl e ↦ rw (eqb-true c 0x3d e) (refl, refl, lit< tt) | inr e ↦ rw (eqb-true c 0x3a e) (refl, refl, lit< tt) ]
-    | inr h ↦ elim (or_cases (c == 0x23) (c == 0x21) h) [ inl e ↦ rw (eqb-true c 0x23 e) (refl, refl, lit< tt) | inr e ↦ rw (eqb-true c 0x21 e) (refl, refl, lit< tt) ]
-  ]
-]
+free-plain c h = (grind (arith), grind (arith), grind (arith))
 
 -- A space and a separator are special.
 pub first-special : (after_blanks : Bool) (c : ℕ) → (c == space || (after_blanks && is_separator c)) ≡ true → is_special c ≡ true
-first-special after_blanks c h = elim (or_cases (c == space) (after_blanks && is_separator c) h) [
-  | inl e ↦ rw (eqb-true c space e) refl
-  | inr h ↦ elim (or_cases (c == 0x3d) (c == 0x3a) (and_parts after_blanks (is_separator c) h).1) [
-    | inl e ↦ rw (eqb-true c 0x3d e) refl
-    | inr e ↦ rw (eqb-true c 0x3a e) refl
-  ]
-]
+first-special after_blanks c h = grind (arith)
 
 -- A character inside a value is loosely spelt.
 inside-loose : (e : Encoding) (only : Bool) (c : ℕ) → scalar c → IsLooselyPrinted (printed_inside e only c) c
-inside-loose e only c h = elim (cases_Bool (is_free c)) [
-  | inl k ↦
-      let f = free-plain c k in
-      same-loose (printed_inside e only c) (c ∷ []) c (cond-true (is_free c) (c ∷ []) (printed_character e only in_key_or_value c) k)
-      (record { spelling = itself c; text = refl; character = refl; loose = inr (c, refl, f.0, f.1) })
-  | inr k ↦
-      same-loose (printed_inside e only c) (printed_character e only in_key_or_value c) c (cond-false (is_free c) (c ∷ []) (printed_character e only in_key_or_value c) k)
-      (safely-loose (printed_character e only in_key_or_value c) c (in_key_or_value-printed e only c h))
-]
+inside-loose e only c h =
+    cond_both (is_free c) (c ∷ []) (printed_character e only in_key_or_value c) (λ x. IsLooselyPrinted x c)
+    (λ k. let f = free-plain c k in record { spelling = itself c; text = refl; character = refl; loose = inr (c, refl, f.0, f.1) })
+    (λ k. safely-loose (printed_character e only in_key_or_value c) c (in_key_or_value-printed e only c h))
 
 -- A character at the front of a value is loosely spelt.
 first-loose : (e : Encoding) (only : Bool) (after_blanks : Bool) (c : ℕ) → scalar c → IsLooselyPrinted (printed_first e only after_blanks c) c
-first-loose e only after_blanks c h = elim (cases_Bool (c == space || (after_blanks && is_separator c))) [
-  | inl k ↦
-      same-loose (printed_first e only after_blanks c) (backslash ∷ c ∷ []) c
-      (cond-true (c == space || (after_blanks && is_separator c)) (backslash ∷ c ∷ []) (printed_inside e only c) k)
-      (safely-loose (backslash ∷ c ∷ []) c (special-printed c (first-special after_blanks c k)))
-  | inr k ↦
-      same-loose (printed_first e only after_blanks c) (printed_inside e only c) c
-      (cond-false (c == space || (after_blanks && is_separator c)) (backslash ∷ c ∷ []) (printed_inside e only c) k) (inside-loose e only c h)
-]
+first-loose e only after_blanks c h =
+    cond_both (c == space || (after_blanks && is_separator c)) (backslash ∷ c ∷ []) (printed_inside e only c) (λ x. IsLooselyPrinted x c)
+    (λ k. safely-loose (backslash ∷ c ∷ []) c (special-printed c (first-special after_blanks c k))) (λ k. inside-loose e only c h)
 
 -- A space as `\u0020` is loosely spelt.
 space-loose : (c : ℕ) → (c == space) ≡ true → IsLooselyPrinted (unit_escape space) c
@@ -161,10 +131,8 @@ space-loose c k = rw (eqb-true c space k) (safely-loose (unit_escape space) spac
 
 -- A character at the end of a value is loosely spelt.
 last-loose : (e : Encoding) (only : Bool) (c : ℕ) → scalar c → IsLooselyPrinted (printed_last e only c) c
-last-loose e only c h = elim (cases_Bool (c == space)) [
-  | inl k ↦ same-loose (printed_last e only c) (unit_escape space) c (cond-true (c == space) (unit_escape space) (printed_inside e only c) k) (space-loose c k)
-  | inr k ↦ same-loose (printed_last e only c) (printed_inside e only c) c (cond-false (c == space) (unit_escape space) (printed_inside e only c) k) (inside-loose e only c h)
-]
+last-loose e only c h =
+    cond_both (c == space) (unit_escape space) (printed_inside e only c) (λ x. IsLooselyPrinted x c) (λ k. space-loose c k) (λ k. inside-loose e only c h)
 
 -- The characters after the first are loosely spelt.
 rest-loose : (e : Encoding) (only : Bool) (cs : List ℕ) → AllByRecursion scalar cs → AreLooselyPrinted (printed_rest e only cs) cs
@@ -174,23 +142,15 @@ rest-loose e only (c ∷ d ∷ cs) h = loose-cons (printed_inside e only c) (pri
 
 -- The test for a value that is a single space.
 alone-space : (c : ℕ) (cs : List ℕ) → (is_empty cs && c == space) ≡ true → (cs ≡ []) × ((c == space) ≡ true)
-alone-space c [] h = (refl, h)
-alone-space c (d ∷ cs) h = absurd (cc)
+alone-space c cs h = grind (arith)
 
 -- What is printed for a value is loosely spelt.
 pub value-loose : (e : Encoding) (only : Bool) (after_blanks : Bool) (value : List ℕ) → AllByRecursion scalar value → AreLooselyPrinted (printed_value e only after_blanks value) value
 value-loose e only after_blanks [] h = record { spellings = []; text = refl; characters = refl; loose = tt }
 value-loose e only after_blanks (c ∷ cs) h =
-    let more = printed_first e only after_blanks c ++ printed_rest e only cs in
-    elim (cases_Bool (is_empty cs && c == space)) [
-      | inl k ↦
-          let a = alone-space c cs k in
-          subst (λ v. AreLooselyPrinted v (c ∷ cs)) (sym (cond-true (is_empty cs && c == space) (unit_escape space) more k))
-          (subst (λ v. AreLooselyPrinted (unit_escape space) (c ∷ v)) (sym a.0) (loose-one (unit_escape space) c (space-loose c a.1)))
-      | inr k ↦
-          subst (λ v. AreLooselyPrinted v (c ∷ cs)) (sym (cond-false (is_empty cs && c == space) (unit_escape space) more k))
-          (loose-cons (printed_first e only after_blanks c) (printed_rest e only cs) c cs (first-loose e only after_blanks c h.0) (rest-loose e only cs h.1))
-    ]
+    cond_both (is_empty cs && c == space) (unit_escape space) (printed_first e only after_blanks c ++ printed_rest e only cs) (λ x. AreLooselyPrinted x (c ∷ cs))
+    (λ k. let a = alone-space c cs k in subst (λ v. AreLooselyPrinted (unit_escape space) (c ∷ v)) (sym a.0) (loose-one (unit_escape space) c (space-loose c a.1)))
+    (λ k. loose-cons (printed_first e only after_blanks c) (printed_rest e only cs) c cs (first-loose e only after_blanks c h.0) (rest-loose e only cs h.1))
 
 -- ---- how it begins
 
@@ -202,51 +162,25 @@ pub record BeginsAfter (after_blanks : Bool) (x : List ℕ) : Type 0 where
 -- A character that isn't escaped at the front.
 free-begins : (after_blanks : Bool) (c : ℕ) (y : List ℕ) → is_free c ≡ true → (c == space || (after_blanks && is_separator c)) ≡ false
     → BeginsAfter after_blanks (c ∷ y)
-free-begins after_blanks c y h k =
-    let p = or_parts (c == space) (after_blanks && is_separator c) k in
-    record {
-      no_blank = blank (cases_Bool (is_separator c)) p.0;
-      no_separator = λ q. rw q at p.1;
-    }
-  where
-    blank : (is_separator c ≡ true) ⊎ (is_separator c ≡ false) → (c == space) ≡ false → is_blank c ≡ false
-    blank (inl s) n = elim (or_cases (c == 0x3d) (c == 0x3a) s) [ inl e ↦ rw (eqb-true c 0x3d e) refl | inr e ↦ rw (eqb-true c 0x3a e) refl ]
-    blank (inr s) n =
-        let m : is_comment_sign c ≡ true = rw (n, s) at h in
-        elim (or_cases (c == 0x23) (c == 0x21) m) [ inl e ↦ rw (eqb-true c 0x23 e) refl | inr e ↦ rw (eqb-true c 0x21 e) refl ]
+free-begins after_blanks c y h k = grind (arith)
 
 -- The first character of a value, before any text.
 first-begins : (e : Encoding) (only : Bool) (after_blanks : Bool) (c : ℕ) (y : List ℕ) → scalar c → BeginsAfter after_blanks (printed_first e only after_blanks c ++ y)
-first-begins e only after_blanks c y h = elim (cases_Bool (c == space || (after_blanks && is_separator c))) [
-  | inl k ↦
-      subst (λ v. BeginsAfter after_blanks (v ++ y)) (sym (cond-true (c == space || (after_blanks && is_separator c)) (backslash ∷ c ∷ []) (printed_inside e only c) k))
-      (record { no_blank = refl; no_separator = λ q. refl })
-  | inr k ↦
-      subst (λ v. BeginsAfter after_blanks (v ++ y)) (sym (cond-false (c == space || (after_blanks && is_separator c)) (backslash ∷ c ∷ []) (printed_inside e only c) k))
-      (elim (cases_Bool (is_free c)) [
-        | inl m ↦
-            subst (λ v. BeginsAfter after_blanks (v ++ y)) (sym (cond-true (is_free c) (c ∷ []) (printed_character e only in_key_or_value c) m))
-            (free-begins after_blanks c y m k)
-        | inr m ↦
-            let s = in_key_or_value-printed e only c h in
-            let b = safe-begins s.spelling y s.safe in
-            subst (λ v. BeginsAfter after_blanks (v ++ y)) (sym (cond-false (is_free c) (c ∷ []) (printed_character e only in_key_or_value c) m ∙ s.text))
-            (record { no_blank = b.no_blank; no_separator = λ q. b.no_separator })
-      ])
-]
+first-begins e only after_blanks c y h =
+    cond_both (c == space || (after_blanks && is_separator c)) (backslash ∷ c ∷ []) (printed_inside e only c) (λ x. BeginsAfter after_blanks (x ++ y))
+    (λ k. record { no_blank = refl; no_separator = λ q. refl })
+    (λ k. cond_both (is_free c) (c ∷ []) (printed_character e only in_key_or_value c) (λ x. BeginsAfter after_blanks (x ++ y))
+    (λ m. free-begins after_blanks c y m k)
+    (λ m. let s = in_key_or_value-printed e only c h in
+    let b = safe-begins s.spelling y s.safe in
+    subst (λ x. BeginsAfter after_blanks (x ++ y)) (sym s.text) (record { no_blank = b.no_blank; no_separator = λ q. b.no_separator })))
 
 -- What is printed for a value doesn't begin with a blank, and after blanks it doesn't begin with a separator.
 pub value-begins : (e : Encoding) (only : Bool) (after_blanks : Bool) (value : List ℕ) → AllByRecursion scalar value → BeginsAfter after_blanks (printed_value e only after_blanks value)
 value-begins e only after_blanks [] h = record { no_blank = refl; no_separator = λ q. refl }
 value-begins e only after_blanks (c ∷ cs) h =
-    let more = printed_first e only after_blanks c ++ printed_rest e only cs in
-    elim (cases_Bool (is_empty cs && c == space)) [
-      | inl k ↦
-          subst (BeginsAfter after_blanks) (sym (cond-true (is_empty cs && c == space) (unit_escape space) more k))
-          (record { no_blank = refl; no_separator = λ q. refl })
-      | inr k ↦
-          subst (BeginsAfter after_blanks) (sym (cond-false (is_empty cs && c == space) (unit_escape space) more k)) (first-begins e only after_blanks c (printed_rest e only cs) h.0)
-    ]
+    cond_both (is_empty cs && c == space) (unit_escape space) (printed_first e only after_blanks c ++ printed_rest e only cs) (BeginsAfter after_blanks)
+    (λ k. record { no_blank = refl; no_separator = λ q. refl }) (λ k. first-begins e only after_blanks c (printed_rest e only cs) h.0)
 
 -- ---- it can be written
 
@@ -263,8 +197,7 @@ inside-writable e only c h =
 -- A character at the front of a value can be written.
 first-writable : (e : Encoding) (only : Bool) (after_blanks : Bool) (c : ℕ) → scalar c → AreWritable e (printed_first e only after_blanks c)
 first-writable e only after_blanks c h =
-    cond_both (c == space || (after_blanks && is_separator c)) (backslash ∷ c ∷ []) (printed_inside e only c) (AreWritable e)
-    (λ k. ascii-writable e (backslash ∷ c ∷ []) (lit< tt, (special-ascii c (first-special after_blanks c k), tt))) (λ k. inside-writable e only c h)
+    grind (arith, inside-writable)
 
 -- A space as `\u0020` can be written.
 space-writable : (e : Encoding) → AreWritable e (unit_escape space)
@@ -278,7 +211,5 @@ rest-writable e only (c ∷ d ∷ cs) h = writable-append e (printed_inside e on
 
 -- What is printed for a value of scalar values can be written.
 pub value-writable : (e : Encoding) (only : Bool) (after_blanks : Bool) (value : List ℕ) → AllByRecursion scalar value → AreWritable e (printed_value e only after_blanks value)
-value-writable e only after_blanks [] h = ascii-writable e [] tt
-value-writable e only after_blanks (c ∷ cs) h =
-    cond_both (is_empty cs && c == space) (unit_escape space) (printed_first e only after_blanks c ++ printed_rest e only cs) (AreWritable e) (λ k. space-writable e)
-    (λ k. writable-append e (printed_first e only after_blanks c) (printed_rest e only cs) (first-writable e only after_blanks c h.0) (rest-writable e only cs h.1))
+value-writable e only after_blanks value h =
+    grind (arith, writable-append, first-writable, rest-writable)

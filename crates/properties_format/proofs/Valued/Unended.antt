@@ -14,20 +14,15 @@ use Rattle.properties_format.specs.Computed.Valued.{between_in, front_of, betwee
 use Rattle.properties_format.specs.Computed.Items.{outcome_of}
 use Rattle.properties_format.proofs.Body.Groups.{EndsOpen, IsLastFit, held_ended, cut-off, held_groups_of-only, lines-front, lines-back, fit-some}
 use Rattle.properties_format.proofs.Valued.Fronts.{AreDecoded, front_of-meets, front_of-only}
+use Rattle.properties_format.proofs.Encodings.PieceEnds.{no-front}
+use Rattle.properties_format.proofs.InTurn.Lines.{texts-with, with_ending}
+use Rattle.properties_format.proofs.Valued.Revalued.{pair-moved}
 use Rattle.properties_format.proofs.Valued.Lined.{AreLined, groups-lined, lined-groups, held_in-append, fit-parts, fit-first}
 use Rattle.properties_format.proofs.Valued.Added.{fit-lines}
 
 -- the lines without the last line ending
 abbrev pub without_ending : List HeldLine → List HeldLine
-without_ending [] = []
-without_ending (h ∷ []) = record { bytes = h.bytes; text = h.text; ending = None } ∷ []
-without_ending (h ∷ i ∷ hs) = h ∷ without_ending (i ∷ hs)
-
--- They have the same texts.
-pub unended-texts : (g : List HeldLine) → as_lines (without_ending g) ≡ as_lines g
-unended-texts [] = refl
-unended-texts (h ∷ []) = refl
-unended-texts (h ∷ i ∷ g) = ap (λ v. record { number = 0; text = h.text } ∷ v) (unended-texts (i ∷ g))
+without_ending g = with_ending None g
 
 -- Their bytes are those up to the last line ending.
 pub unended-bytes : (g : List HeldLine) → group_bytes (without_ending g) ≡ unended_bytes g
@@ -37,9 +32,8 @@ unended-bytes (h ∷ i ∷ g) = ap (λ v. h.bytes ++ (ending_bytes h.ending ++ v
 
 -- The last line of a body has no line ending to lose.
 unended-held : (e : Encoding) (ls : List Ended) (last : List ℕ) → without_ending (held_of e ls last) ≡ held_of e ls last
-unended-held e [] last = refl
-unended-held e (l ∷ []) last = refl
 unended-held e (l ∷ m ∷ ls) last = ap (λ v. record { bytes = l.text; text = decoded_line e l.text; ending = Some l.by } ∷ v) (unended-held e (m ∷ ls) last)
+unended-held e ls last = refl
 
 -- the ended lines except the last
 abbrev all_but_last : List Ended → List Ended
@@ -71,7 +65,7 @@ unended-lines l (m ∷ ls) h = (h.0, (λ k. first-stays m ls (h.1 k)), unended-l
 
 -- A group that is whole or ends open is still one without its last line ending.
 unended-fit : (g : List HeldLine) → IsLastFit g → IsLastFit (without_ending g)
-unended-fit g h = subst (λ v. IsWhole v ⊎ EndsOpen v) (sym (unended-texts g)) h
+unended-fit g h = subst (λ v. IsWhole v ⊎ EndsOpen v) (sym (texts-with None g)) h
 
 -- One group of a body, without its last line ending, is the group of its bytes.
 unended-lined : (e : Encoding) (before : List (List HeldLine)) (g : List HeldLine) (after : List (List HeldLine)) → AreLined e (before ++ g ∷ after)
@@ -91,15 +85,11 @@ unended-lined e before g (i ∷ after) h =
     let m = fit-parts before g (i ∷ after) h.fit in
     let first = fit-first g (i ∷ after) m.1 in
     let s : held_in before ++ (g ++ held_in (i ∷ after)) ≡ held_of e h.ended h.last = sym (held_in-append before (g ∷ i ∷ after)) ∙ h.held in
-    let a = cut-off e (held_in before) (g ++ held_in (i ∷ after)) h.ended h.last (λ q. fit-lines g first (none-left g (held_in (i ∷ after)) q)) s in
+    let a = cut-off e (held_in before) (g ++ held_in (i ∷ after)) h.ended h.last (λ q. fit-lines g first (no-front g (held_in (i ∷ after)) q)) s in
     let b = cut-off e g (held_in (i ∷ after)) a.back h.last (fit-some i after m.1.1) a.others in
     let lines : AreLines (a.front ++ (b.front ++ b.back)) h.last = subst (λ v. AreLines v h.last) (a.all ∙ ap (λ v. a.front ++ v) b.all) h.are_lines in
     of-front b.front b.group (lines-front b.front b.back h.last (lines-back a.front (b.front ++ b.back) h.last lines)) first
   where
-    none-left : (x y : List HeldLine) → x ++ y ≡ [] → x ≡ []
-    none-left [] y q = refl
-    none-left (c ∷ x) y q = absurd (cc)
-
     of-front : (ls : List Ended) → g ≡ held_ended e ls → AreLines ls [] → IsLastFit g → AreLined e (without_ending g ∷ [])
     of-front [] q k f = absurd (fit-lines g f q)
     of-front (l ∷ ls) q k f = record {
@@ -125,9 +115,8 @@ unended-groups e body before g after ok h =
 -- The lines that are kept before another line.
 unended-kept : (kept : List HeldLine) (line : HeldLine) (more : List HeldLine)
     → without_ending (kept ++ line ∷ more) ≡ kept ++ without_ending (line ∷ more)
-unended-kept [] line more = refl
-unended-kept (i ∷ []) line more = refl
 unended-kept (i ∷ j ∷ kept) line more = ap (λ v. i ∷ v) (unended-kept (j ∷ kept) line more)
+unended-kept kept line more = refl
 
 -- A line with the same bytes and text.
 record IsAlikeLine (line : HeldLine) (more : List HeldLine) : Type 0 where
@@ -144,7 +133,7 @@ alike-line line (i ∷ more) = record { other = line; rest = without_ending (i �
 
 -- The logical line is the same.
 pub unended-joined : (g : List HeldLine) → joined (as_lines (without_ending g)) ≡ joined (as_lines g)
-unended-joined g = ap joined (unended-texts g)
+unended-joined g = ap joined (texts-with None g)
 
 -- The front of a group is that of the group without its last ending.
 pub unended-front : (e : Encoding) (g : List HeldLine) (key value : List ℕ) → is_editable e ≡ true → AreDecoded e g → IsPair (joined (as_lines g)) key value
@@ -152,18 +141,7 @@ pub unended-front : (e : Encoding) (g : List HeldLine) (key value : List ℕ) �
 unended-front e g key value ok d h =
     let f = front_of-meets e g key value ok d h in
     let a = alike-line f.line f.more in
-    let k = f.is_pair in
-    let p : IsPair (joined (as_lines (without_ending g))) f.key f.value = record {
-      indent = k.indent;
-      between = k.between;
-      whole = unended-joined g ∙ k.whole;
-      indent_blank = k.indent_blank;
-      not_empty = k.not_empty;
-      begins_full = k.begins_full;
-      no_comment = k.no_comment;
-      is_key = k.is_key;
-      is_between = k.is_between;
-    } in
+    let p = pair-moved (joined (as_lines g)) (joined (as_lines (without_ending g))) f.key f.value (unended-joined g) f.is_pair in
     let front : IsFrontOf e (without_ending g) (between_of g) (front_of e g) = record {
       kept = f.kept;
       line = a.other;
@@ -181,9 +159,9 @@ unended-front e g key value ok d h =
       closed = f.closed;
       key = f.key;
       value = f.value;
-      is_pair = p;
-      is_between = f.is_between;
-      up_to = f.up_to;
+      is_pair = p.is_pair;
+      is_between = f.is_between ∙ sym p.between_is;
+      up_to = f.up_to ∙ ap (λ v. v ++ (f.key ++ between_of g)) (sym p.indent_is);
       bytes = f.bytes;
     } in
     sym (front_of-only e (without_ending g) (between_of g) (front_of e g) ok (unended-decoded g d) front).1

@@ -22,7 +22,7 @@ use Rattle.properties_format.specs.Computed.Valued.{without_indent, added_by, be
 use Rattle.properties_format.proofs.Body.Decoded.{decoded-nil}
 use Rattle.properties_format.proofs.Valued.Parts.{pair-line, before_value-pair}
 use Rattle.properties_format.proofs.Valued.Fronts.{indented, open-indent, open_backslash, shut-whole, joined_by, joined-by}
-use Rattle.properties_format.proofs.Valued.Fronts.{split-longer, MayEnd, ends-right, AreDecoded, pair-end, pair-some, pair-unmarked, no_lines-no_pair, front_of-meets}
+use Rattle.properties_format.proofs.Valued.Fronts.{split-longer, MayEnd, may-later, AreDecoded, pair-end, pair-some, pair-unmarked, no_lines-no_pair, front_of-meets}
 use Rattle.properties_format.proofs.Valued.Steps.{front_size-inside}
 use Rattle.properties_format.proofs.Valued.Read.{front-unended}
 use Rattle.properties_format.proofs.Encodings.PieceEnds.{no-front}
@@ -97,8 +97,7 @@ open-some e (b ∷ d) x s o = omega arith
 -- The backslash that leaves a line open is one byte, if there is one.
 open-size : (o : Bool) → utf8_size (if o then backslash ∷ [] else []) ≡ (if o then 1 else 0)
 unfolding std_utf8.encode
-open-size true = refl
-open-size false = refl
+open-size o = grind (arith)
 
 -- A line without its indentation has as many bytes in UTF-8 as what it adds, and one more if it is open.
 pub added-size : (first : Bool) (x : List ℕ)
@@ -145,9 +144,7 @@ walk-here e first h hs left value w l =
 
 -- If a line adds more than is left, the front may end in it.
 may-here : (p r j v : List ℕ) → (p ++ r) ++ j ≡ p ++ v → r ≢ [] → MayEnd p v → ends ends_key p ≡ true
-may-here p r j v s some (inl k) = k
-may-here p r j v s some (inr k) =
-    absurd (some (no-front r j (append_cancel_left p (r ++ j) [] (sym (append_assoc p r j) ∙ s ∙ ap (λ w. p ++ w) k))))
+may-here p r j v h k m = grind (arith, no-front, append_cancel_left, append_assoc)
 
 -- If less is left than a line adds, the front ends inside it: at the index after as many ASCII bytes as the text of the
 -- line has ASCII characters up to there.
@@ -186,19 +183,12 @@ walk-on e first h hs left value w l =
       next = m.0;
       whole = m.1;
       size = m.2;
-      is_before = record { decoded = w.decoded.1; adds = rest; may_end = may-later m.0 some m.1 w.may_end; some = some };
+      is_before = record { decoded = w.decoded.1; adds = rest; may_end = may-later a m.0 left value some m.1 w.may_end; some = some };
     }
-  where
-    may-later : (q : List ℕ) → q ≢ [] → left ≡ added_by first h.text ++ q → MayEnd left value → MayEnd q value
-    may-later q more t (inl z) = inl (sym (ends-right ends_key (added_by first h.text) q more) ∙ ap (ends ends_key) (sym t) ∙ z)
-    may-later q more t (inr z) = inr z
 
 -- The front of some bytes is no longer than they are.
 front-less : (x y z : List ℕ) → x ≡ y ++ z → length y ≤ length x
-front-less x y z s =
-    let l : length x ≡ length (y ++ z) = ap length s in
-    let m = length-append y z in
-    omega arith
+front-less x y z s = omega (arith, ap length s, length-append y z)
 
 -- The front is no longer than the group without its last line ending.
 pub front-within : (e : Encoding) (group : List HeldLine) (key value : List ℕ) → is_editable e ≡ true → AreDecoded e group → IsPair (joined (as_lines group)) key value

@@ -1,0 +1,107 @@
+-- The groups of a body in which a key was set, and what they say.
+use Rattle.std.proofs.Common.{◌≡◌, ℕ, true, List, [], ◌∷◌, ◌++◌, All, Option, Some, None, refl, ap, sym, ◌∙◌, inr, subst, Bool}
+use Rattle.std.specs.Prelude.{if◌then◌else◌}
+use Rattle.std.proofs.lemmas.Bool.{cond-true}
+use Rattle.properties_format.specs.Text.{scalar, LineEnding, lf, cr, line_ending_text}
+use Rattle.properties_format.specs.Encoding.{Encoding, byte_order_mark}
+use Rattle.properties_format.specs.Computed.Lines.{ends_in_cr}
+use Rattle.properties_format.specs.Computed.Cut.{decoded_line}
+use Rattle.properties_format.specs.Groups.{IsWhole, joined}
+use Rattle.properties_format.specs.Entries.{Content, pair}
+use Rattle.properties_format.specs.Items.{given, IsOutcome}
+use Rattle.properties_format.specs.Writing.{is_empty}
+use Rattle.properties_format.specs.Body.{HeldLine, as_groups, as_lines, groups_bytes, last_ending}
+use Rattle.properties_format.specs.Edited.{bom_of, final_group, is_editable, pair_bytes, separation}
+use Rattle.properties_format.specs.Changed.{IsSetIn}
+use Rattle.properties_format.specs.Valued.{HasPair}
+use Rattle.properties_format.specs.Computed.Body.{held_groups_of}
+use Rattle.properties_format.specs.Computed.Edited.{KeyPlace, key_set, last_place, set_at}
+use Rattle.properties_format.specs.Computed.Items.{outcome_of}
+use Rattle.properties_format.proofs.Items.Unique.{outcome_of-meets}
+use Rattle.properties_format.proofs.Body.Groups.{held_groups_of-meets, held-body}
+use Rattle.properties_format.proofs.Edited.AppendedPair.{appended-held, appended-outcomes, line}
+use Rattle.properties_format.proofs.Edited.ByteOrderMarks.{key_set-in_force, source-whole}
+use Rattle.properties_format.proofs.Edited.Closed.{closed-by, put-seam}
+use Rattle.properties_format.proofs.Edited.Contents.{ends-right, none-hold, HaveContents, pair-outcomes}
+use Rattle.properties_format.proofs.Edited.Made as made
+use Rattle.properties_format.proofs.Edited.Made.{key_set-body, key_set-meets}
+use Rattle.properties_format.proofs.Edited.Outcomes.{outcomes_of, givens}
+use Rattle.properties_format.proofs.Edited.Pair.{pair_text, pair-decoded, pair-whole, pair-outcome, pair-plain}
+use Rattle.properties_format.proofs.Edited.Parts.{pair-some}
+use Rattle.properties_format.proofs.Edited.Replaced.{reput-of}
+use Rattle.properties_format.proofs.Edited.Steps.{final_group-push}
+use Rattle.properties_format.proofs.Valued.Added.{empty_line}
+use Rattle.properties_format.proofs.Valued.Lined.{groups-lined}
+
+-- Where a pair is appended, closed groups, its group and an empty last line are the groups.
+pub record IsPutLast (e : Encoding) (only : Bool) (source key value : List ℕ) (gs : List (List HeldLine)) : Type 0 where
+  pub closed : List (List HeldLine)
+  pub group : List HeldLine
+  pub is_groups : closed ++ group ∷ (empty_line e None ∷ []) ∷ [] ≡ held_groups_of e (set_at e only source gs key value None)
+  pub has_pair : HasPair key value group
+  pub ending : last_ending group ≡ Some lf
+  pub bytes : groups_bytes closed ≡ groups_bytes gs ++ separation source (final_group gs)
+  pub told : (old : List Content) → outcomes_of (as_groups gs) ≡ givens old
+      → outcomes_of (as_groups (held_groups_of e (set_at e only source gs key value None))) ≡ givens (old ++ pair key value ∷ [])
+
+module _ (e : Encoding) (only : Bool) (source key value body : List ℕ) (ok : is_editable e ≡ true) (k : All scalar key)
+    (v : All scalar value) (ends : ends_in_cr body ≡ true → ends_in_cr source ≡ true) where
+  -- The groups of the body are closed, and the pair comes after them.
+  pub put-last : IsPutLast e only source key value (held_groups_of e body)
+  put-last =
+      let all = held_groups_of e body in
+      let lined = groups-lined e body all ok (held_groups_of-meets e body) in
+      let bytes : groups_bytes all ≡ body = held-body e body all ok (held_groups_of-meets e body) in
+      let by : LineEnding = if ends_in_cr source then cr else lf in
+      let seam = put-seam e all lined by (λ q. cond-true (ends_in_cr source) cr lf (ends (ap ends_in_cr (sym bytes) ∙ q))) in
+      let c = closed-by e by all lined seam in
+      let final : final_group all ≡ c.final = ap final_group c.division ∙ final_group-push c.before c.final in
+      let front = groups_bytes all ++ separation source (final_group all) in
+      let first = is_empty front in
+      let pb = pair_bytes e only first key value in
+      let text : pair_text e only first key value ≡ decoded_line e pb = sym (pair-decoded e only first key value ok k v) in
+      let whole : IsWhole (record { number = 0; text = decoded_line e pb } ∷ []) =
+      subst (λ w. IsWhole (record { number = 0; text = w } ∷ [])) text (pair-whole e only first key value k v) in
+      let said : outcome_of (joined (record { number = 0; text = decoded_line e pb } ∷ [])) ≡ given (pair key value) =
+      ap (λ w. outcome_of (joined (record { number = 0; text = w } ∷ []))) (sym text) ∙ pair-outcome e only first key value k v in
+      let plain = pair-plain e only first key value ok k v in
+      let some = pair-some e only first key value in
+      let own : List HeldLine = line e by lf all key value pb ok c plain some whole said ∷ [] in
+      let groups =
+      appended-held e by lf all key value pb ok c plain some whole said (set_at e only source all key value None)
+      (ap (λ g. (groups_bytes all ++ separation source g) ++ (pb ++ line_ending_text lf)) final) in
+      record {
+        closed = c.before ++ c.left;
+        group = own;
+        is_groups = groups;
+        has_pair = subst (IsOutcome (joined (as_lines own))) said (outcome_of-meets (joined (as_lines own)));
+        ending = refl;
+        bytes = c.bytes ∙ ap (λ g. groups_bytes all ++ separation source g) (sym final);
+        told = λ old t.
+            ap (λ w. outcomes_of (as_groups w)) (sym groups)
+            ∙ appended-outcomes e by lf all key value pb ok c plain some whole said old t;
+      }
+
+  -- The contents are those of the body with the key set.
+  pub put-contents : (p : Option KeyPlace) → made.IsPlace key (held_groups_of e body) p → (old : List Content)
+      → outcomes_of (as_groups (held_groups_of e body)) ≡ givens old
+      → HaveContents (held_groups_of e (set_at e only source (held_groups_of e body) key value p)) (IsSetIn key value old)
+  put-contents (Some p) m old t =
+      let r = reput-of e only source body key value p.before p.group p.after ok k v m.has m.division in
+      subst (λ w. HaveContents w (IsSetIn key value old)) r.is_groups
+      (pair-outcomes p.before p.group r.group p.after key value old m.has m.no_later r.has_pair
+      (ap (λ w. outcomes_of (as_groups w)) (sym m.division) ∙ t))
+  put-contents None m old t = (old ++ pair key value ∷ [], inr (none-hold key (held_groups_of e body) old m t, refl), put-last.told old t)
+
+-- A CR at the end of the body is at the end of the source.
+pub ends-alike : (e : Encoding) (source : List ℕ) → ends_in_cr (byte_order_mark e source).body ≡ true → ends_in_cr source ≡ true
+ends-alike e source q = ap ends_in_cr (source-whole e source) ∙ ends-right (bom_of source) (byte_order_mark e source).body q
+
+-- After a key is set, the same encoding is in force, with the computed body.
+pub put-in_force : (e : Encoding) (only : Bool) (source key value : List ℕ) → is_editable (byte_order_mark e source).encoding ≡ true
+    → (let f = byte_order_mark e source in let gs = held_groups_of f.encoding f.body in
+    byte_order_mark e (key_set e only source key value)
+    ≡ record { encoding = f.encoding; body = set_at f.encoding only source gs key value (last_place key gs) })
+put-in_force e only source key value ok =
+    key_set-in_force e only source key value (key_set e only source key value) ok (key_set-meets e only source key value)
+    ∙ ap (λ b. record { encoding = (byte_order_mark e source).encoding; body = b }) (key_set-body e only source key value)
