@@ -21,7 +21,7 @@ use byte_blocks::{Byte, Either, LineEnds, find};
 use counted_io::{Counted, CountedRead, CountedWrite, ScriptedReader, ScriptedSink, SinkFault, Tail, send};
 use java_properties::{
     Call, Cause, ContentRef, Document, Edit, Encoding, LineContent, LineEnding, PropertiesError, PropertiesIter,
-    PropertiesWriter, edit_all, edit_all_ascii, key_lines, laws, malformed_escapes, read, read_lines, read_sorted, read_source, remove_key, run_calls,
+    PropertiesWriter, edit_all, edit_all_ascii, first_malformed_escape, key_lines, laws, malformed_escapes, read, read_lines, read_sorted, read_source, remove_key, run_calls,
     set_key, set_value, value_of, write, write_sorted, write_source,
 };
 use properties_text::encoding::TextBuffer;

@@ -45,9 +45,9 @@ use Rattle.properties_items.specs.declared.found.Found as found
 use Rattle.properties_items.proofs.FoundItems.{found-item}
 use Rattle.properties_items.proofs.TextMaps.Values.{at_chars-sorted, at_chars-updated}
 use Rattle.java_properties.specs.KeyLines.{KeyPlace, keys_from, AreKeysIn, AreKeys, HasNoKey, HasFirstNumber, KeyEntry, AreFirstsOf, AreKeyLines, key_line_entry, key_line_entries, FindsAllKeys}
-use Rattle.java_properties.specs.Private.LineByLine.{number_at, KeepsFirst, AddsKeyLine, AddsIfKey, PushesKey}
+use Rattle.java_properties.specs.Private.LineByLine.{number_at, KeepsFirst, AddsKeyLine, AddsIfKey, PushesKey, Collected}
 use Rattle.properties_items.specs.declared.findings.KeyLine as code
-use Rattle.java_properties.proofs.MalformedEscapes.{Collected, collected-start, collected-next, collected-groups, found-error, found-lost, broken-in}
+use Rattle.java_properties.proofs.MalformedEscapes.{collected-start, collected-next, collected-groups, found-error, found-lost, broken-in}
 
 -- ---- the keys, computed
 

@@ -1,29 +1,31 @@
 -- How the malformed escapes of a whole input are found, logical line after logical line.
-use Rattle.std.proofs.Common.{◌≡◌, ℕ, true, false, List, [], ◌∷◌, ◌++◌, refl, sym, ap, ap₂, ◌∙◌, inl, inr, subst, append_assoc, append-nil}
-use Rattle.std.specs.Prelude.{◌⊎◌, Option, Some, None, Ok, Err}
-use Rattle.std.specs.declared.vec.Vec.{Vec}
+use Rattle.std.proofs.Common.{◌≡◌, ℕ, ◌+◌, true, false, List, [], ◌∷◌, ◌++◌, refl, sym, ap, ap₂, ◌∙◌, inl, inr, subst, append_assoc, append-nil}
+use Rattle.std.specs.Prelude.{◌⊎◌, Option, Some, None, Result, Ok, Err}
 use Rattle.std.proofs.lemmas.List.{map-append}
 use Rattle.std.specs.Str.{chars}
-use Rattle.counted_io.specs.Streams.{Reader, HasRead}
+use Rattle.counted_io.specs.Streams.{Reader}
 use Rattle.counted_io.proofs.Streams.{read-none, read-more, failed-more}
 use Rattle.properties_format.specs.Encoding.{Encoding}
-use Rattle.properties_format.specs.Lines.{end, fault, Line, numbered_lines}
+use Rattle.properties_format.specs.Lines.{InputEnd, end, fault, Line, line_ends, numbered_lines}
 use Rattle.properties_format.specs.Computed.Encoding.{decoded_of}
 use Rattle.properties_format.specs.Computed.Lines.{lines_of}
 use Rattle.properties_format.specs.Groups.{IsGroups, AreWhole, IsWhole, IsUnfinished, is_comment_line, lines_in, joined, first_number}
 use Rattle.properties_format.specs.Computed.Groups.{groups_of}
 use Rattle.properties_format.specs.Escapes.{Malformed, not_enough_digits, not_hex, invalid_character}
-use Rattle.properties_format.specs.Items.{broken}
-use Rattle.properties_format.specs.Entries.{read_fault}
-use Rattle.properties_format.specs.Computed.Items.{outcome_of}
+use Rattle.properties_format.specs.Items.{Outcome, ignored, given, broken}
+use Rattle.properties_format.specs.Entries.{Entry, read_fault}
+use Rattle.properties_format.specs.Computed.Items.{outcome_of, followed, entries_of}
 use Rattle.properties_format.specs.ItemsToCome.{ReaderState, start}
-use Rattle.properties_format.specs.Computed.ItemsToCome.{last_to_come}
-use Rattle.properties_format.specs.MalformedEscapes.{escapes_from}
+use Rattle.properties_format.specs.Computed.ItemsToCome.{items_to_come, natural_to_come, last_to_come, text_to_come}
+use Rattle.properties_format.specs.MalformedEscapes as format
+use Rattle.properties_format.specs.MalformedEscapes.{escapes_from, AreEscapesIn, AreMalformedEscapes}
 use Rattle.properties_format.specs.Computed.MalformedEscapes.{escapes_in, malformed_escapes_of}
+use Rattle.properties_format.proofs.Encodings.Pieces.{decoded_of-meets}
+use Rattle.properties_format.proofs.Lines.Meets.{lines_of-meets}
 use Rattle.properties_format.proofs.Groups.Meets.{groups_of-meets}
 use Rattle.properties_format.proofs.Groups.Only.{groups_of-only}
 use Rattle.properties_format.proofs.ItemsToCome.Lines.{natural-done}
-use Rattle.properties_format.proofs.MalformedEscapes.{malformed_escapes_of-meets, malformed_escapes_of-only, escapes_in-groups, escapes_in-push, natural-start, fault-last, cut-line}
+use Rattle.properties_format.proofs.MalformedEscapes.{malformed_escapes_of-meets, malformed_escapes_of-only, escapes_in-meets, escapes_in-append, escapes_in-groups, natural-start, fault-last, cut-line}
 use Rattle.properties_lines.specs.LineReader.{Passes}
 use Rattle.properties_lines.specs.LineJoiner.{LineState, JoinsNext, JoinsError, JoinsFault}
 use Rattle.properties_lines.specs.declared.error.LineError.{LineError}
@@ -34,8 +36,8 @@ use Rattle.properties_text.specs.declared.escape.UnescapeError.TheVariants as un
 use Rattle.properties_items.specs.Errors.{IsBareError, IsLineError, malformed_kind, malformed_cause}
 use Rattle.properties_items.specs.FoundItems.{FindsIn, IsNoItem}
 use Rattle.properties_items.specs.declared.found.Found as code
-use Rattle.java_properties.specs.MalformedEscapes.{escape_record, escape_records, FindsAll, FailsToFind, StopsFinding}
-use Rattle.java_properties.specs.Private.LineByLine.{PushesMalformed}
+use Rattle.java_properties.specs.MalformedEscapes.{escape_record, escape_records, FindsAll, FailsToFind, StopsFinding, BeginsEscapes, FindsFirst, CompletesNone, FindsFirstMalformed}
+use Rattle.java_properties.specs.Private.LineByLine.{FindsLineEscape, Collected, Found, FindsNextEscape}
 use Rattle.properties_items.specs.declared.error.ErrorKind.TheVariants as kind
 use Rattle.properties_items.specs.declared.error.PropertiesError.{PropertiesError}
 use Rattle.properties_items.specs.declared.findings.MalformedEscape.{MalformedEscape}
@@ -61,6 +63,21 @@ whole-groups gs h = record {
   is_unfinished = tt;
   are_groups = sym (append-nil gs);
 }
+
+-- whole groups at the front
+groups-after : (gs : List (List Line)) (ls : List Line) (ending : InputEnd) (hs : List (List Line)) → AreWhole gs → IsGroups ls ending hs
+    → IsGroups (lines_in gs ++ ls) ending (gs ++ hs)
+groups-after [] ls ending hs h k = k
+groups-after (g ∷ gs) ls ending hs h k =
+    let after = groups-after gs ls ending hs h.1 k in
+    record {
+      whole = g ∷ after.whole;
+      unfinished = after.unfinished;
+      are_lines = append_assoc g (lines_in gs) ls ∙ ap (λ v. g ++ v) after.are_lines ∙ sym (append_assoc g (lines_in after.whole) after.unfinished);
+      are_whole = (h.0, after.are_whole);
+      is_unfinished = after.is_unfinished;
+      are_groups = ap (λ v. g ∷ v) after.are_groups;
+    }
 
 last-groups : (gs : List (List Line)) (l : Line) (ls : List Line) → AreWhole gs → IsUnfinished (l ∷ ls) → IsGroups (lines_in (gs ++ (l ∷ ls) ∷ [])) end (gs ++ (l ∷ ls) ∷ [])
 last-groups gs l ls h k = record {
@@ -89,7 +106,41 @@ pub found-push : (gs : List (List Line)) (g : List Line) (number : ℕ) (x : Lis
 found-push gs g number x old new h i j k =
     k
     ∙ ap₂ (λ v w. v ++ escape_records w) h (ap₂ (λ v w. escapes_from v w (outcome_of w) []) i j)
-    ∙ sym (ap escape_records (escapes_in-push gs g) ∙ map-append escape_record (escapes_in gs) (escapes_from (first_number g) (joined g) (outcome_of (joined g)) []))
+    ∙ sym (ap escape_records (escapes_in-append gs (g ∷ [])) ∙ map-append escape_record (escapes_in gs) (escapes_from (first_number g) (joined g) (outcome_of (joined g)) []))
+
+-- the bytes with these groups have this escape first
+begins : (e : Encoding) (bytes : List ℕ) (gs : List (List Line)) (x : format.MalformedEscape) (xs : List format.MalformedEscape)
+    → IsGroups (numbered_lines (lines_of (decoded_of e bytes)) end) end gs → escapes_in gs ≡ x ∷ xs → BeginsEscapes e bytes x
+begins e bytes gs x xs h k =
+    let same : malformed_escapes_of e bytes ≡ x ∷ xs = sym (escapes_in-groups e bytes gs h) ∙ k in
+    record {
+      others = xs;
+      are = subst (AreMalformedEscapes e bytes) same (malformed_escapes_of-meets e bytes);
+      only = λ all are. malformed_escapes_of-only e bytes all are ∙ same;
+    }
+
+-- ---- groups before a failed read
+
+none-from : (number : ℕ) (x : List ℕ) (outcome : Outcome) (rest : List Entry) (escapes : List format.MalformedEscape) (n : ℕ)
+    → followed number outcome rest ≡ read_fault n ∷ [] → (rest ≡ read_fault n ∷ [] → escapes ≡ []) → escapes_from number x outcome escapes ≡ []
+none-from number x ignored rest escapes n h k = k h
+none-from number x (given content) rest escapes n h k = absurd (cc)
+none-from number x (broken kind) rest escapes n h k = absurd (cc)
+
+-- If only the failed read is left to come, no escape of theirs is malformed.
+none-before : (m : ℕ) (gs : List (List Line)) (n : ℕ) → entries_of m fault gs ≡ read_fault n ∷ [] → escapes_in gs ≡ []
+none-before m [] n h = refl
+none-before m (g ∷ gs) n h =
+    none-from (first_number g) (joined g) (outcome_of (joined g)) (entries_of m fault gs) (escapes_in gs) n h (none-before m gs n)
+
+items-groups : (s : ReaderState) (d : List ℕ) → s.is_done ≡ false
+    → items_to_come s d fault ≡ entries_of (s.passed + line_ends (lines_of (text_to_come s d))) fault (groups_of (natural_to_come s d fault) fault)
+unfolding items_to_come natural_to_come
+items-groups s d h = rw h refl
+
+pub records-none : (escapes : List format.MalformedEscape) → [] ≡ escape_records escapes → escapes ≡ []
+records-none [] h = refl
+records-none (x ∷ xs) h = absurd (cc)
 
 -- ---- a logical line
 
@@ -104,9 +155,8 @@ none-in line number None h = ap (λ v. escapes_from number (chars line) v []) h
 none-in line number (Some f) h = ap (λ v. escapes_from number (chars line) v []) (found-item line f h.1)
 
 -- It has none.
-pub pushes-none : {Z : Type 0} (line : List ℕ) (number : ℕ) (found : Option code.Found) (old : Vec MalformedEscape Z) → FindsIn line number (Ok found)
-    → PushesMalformed number (chars line) old (Ok tt) old
-pushes-none line number found old h = sym (ap (λ v. old.items ++ escape_records v) (none-in line number found h) ∙ append-nil old.items)
+pub line-none : (line : List ℕ) (number : ℕ) (found : Option code.Found) → FindsIn line number (Ok found) → FindsLineEscape number (chars line) (Ok None)
+line-none line number found h = sym (ap escape_records (none-in line number found h))
 
 pub broken-in : (line : List ℕ) (number : ℕ) (how : escape.Malformed) → FindsIn line number (Err (unescape.Malformed how))
     → (k : Malformed) × (outcome_of (chars line) ≡ broken k) × (malformed_kind (malformed_in how) ≡ malformed_kind k)
@@ -121,32 +171,14 @@ broken-in line number how h =
     by-reason (inr is) = absurd (not_memory (malformed_in how) is.its_kind)
 
 -- It has this one.
-pub pushes-one : {Z : Type 0} (line : List ℕ) (number : ℕ) (how : escape.Malformed) (old new : Vec MalformedEscape Z)
-    → FindsIn line number (Err (unescape.Malformed how))
-    → new.items ≡ old.items ++ record { line_number = number; kind = malformed_kind (malformed_in how); in_comment = is_comment_line (chars line) } ∷ []
-    → PushesMalformed number (chars line) old (Ok tt) new
-pushes-one line number how old new h k =
+pub line-one : (line : List ℕ) (number : ℕ) (how : escape.Malformed) → FindsIn line number (Err (unescape.Malformed how))
+    → FindsLineEscape number (chars line) (Ok (Some (record { line_number = number; kind = malformed_kind (malformed_in how); in_comment = is_comment_line (chars line) })))
+line-one line number how h =
     let b = broken-in line number how h in
-    k
-    ∙ ap (λ v. old.items ++ record { line_number = number; kind = v; in_comment = is_comment_line (chars line) } ∷ []) b.2
-    ∙ sym (ap (λ v. old.items ++ escape_records (escapes_from number (chars line) v [])) b.1)
+    ap (λ v. record { line_number = number; kind = v; in_comment = is_comment_line (chars line) } ∷ []) b.2
+    ∙ sym (ap (λ v. escape_records (escapes_from number (chars line) v [])) b.1)
 
 -- ---- the reading
-
--- These groups came, and no others of what was read.
-pub record Collected {R : Type 0} (reader : Reader R) (e : Encoding) (from : R) (groups : List (List Line)) (state : ReaderState) (to : R) : Type 0 where
-  pub bytes : List ℕ
-  pub read : HasRead reader from bytes to
-  pub passes : Passes (start e) bytes (lines_in groups) state
-  pub whole : state.is_done ≡ false → AreWhole groups
-  pub grouped : IsGroups (lines_in groups) end groups
-  pub ended : state.is_done ≡ true → reader.at_end to ≡ true
-
--- and these escapes were found in them
-pub record Found {R : Type 0} (reader : Reader R) (e : Encoding) (from : R) (found : List MalformedEscape) (state : ReaderState) (to : R) : Type 0 where
-  pub groups : List (List Line)
-  pub collected : Collected reader e from groups state to
-  pub escapes : found ≡ escape_records (escapes_in groups)
 
 module _ {R : Type 0} {reader : Reader R} where
   pub collected-start : (e : Encoding) (from : R) → Collected reader e from [] (start e) from
@@ -186,18 +218,36 @@ module _ {R : Type 0} {reader : Reader R} where
     escapes = found-push h.groups (n.group.first ∷ n.group.others) number (chars new.line) old found h.escapes n.group.number n.group.text k;
   }
 
-  -- no more came: these are the groups of the bytes
-  pub collected-groups : {e : Encoding} {from to : R} {gs : List (List Line)} {s : ReaderState} (h : Collected reader e from gs s to) → s.is_done ≡ true
-      → gs ≡ groups_of (numbered_lines (lines_of (decoded_of e h.bytes)) end) end
-  collected-groups {e} {gs = gs} {s = s} h d = by-passes h.passes
+  -- others are to come: these groups come before theirs
+  collected-on : {e : Encoding} {from to : R} {gs : List (List Line)} {s : ReaderState} (h : Collected reader e from gs s to) → s.is_done ≡ false
+      → (d : List ℕ) (ending : InputEnd)
+      → IsGroups (numbered_lines (lines_of (decoded_of e (h.bytes ++ d))) ending) ending (gs ++ groups_of (natural_to_come s d ending) ending)
+  collected-on {e} {gs = gs} {s = s} h live d ending =
+      let later = natural_to_come s d ending in
+      let P : List Line → Type 0 = λ v. IsGroups v ending (gs ++ groups_of later ending) in
+      subst P (sym (by-passes h.passes) ∙ natural-start e (h.bytes ++ d) ending)
+      (groups-after gs later ending (groups_of later ending) (h.whole live) (groups_of-meets later ending))
     where
-      by-passes : Passes (start e) h.bytes (lines_in gs) s → gs ≡ groups_of (numbered_lines (lines_of (decoded_of e h.bytes)) end) end
+      by-passes : Passes (start e) h.bytes (lines_in gs) s → natural_to_come (start e) (h.bytes ++ d) ending ≡ lines_in gs ++ natural_to_come s d ending
+      by-passes (Passes.going_on g reads) = (reads.gives d ending).natural
+      by-passes (Passes.at_last g gives) = absurd (cc)
+
+  -- no more came: these are the groups of the bytes
+  collected-lines : {e : Encoding} {from to : R} {gs : List (List Line)} {s : ReaderState} (h : Collected reader e from gs s to) → s.is_done ≡ true
+      → IsGroups (numbered_lines (lines_of (decoded_of e h.bytes)) end) end gs
+  collected-lines {e} {gs = gs} {s = s} h d = by-passes h.passes
+    where
+      by-passes : Passes (start e) h.bytes (lines_in gs) s → IsGroups (numbered_lines (lines_of (decoded_of e h.bytes)) end) end gs
       by-passes (Passes.going_on g reads) = absurd (cc)
       by-passes (Passes.at_last g gives) =
           let lines : numbered_lines (lines_of (decoded_of e h.bytes)) end ≡ lines_in gs =
           sym (natural-start e h.bytes end) ∙ gives.natural ∙ ap (λ v. lines_in gs ++ v) (natural-done s [] end d).0 ∙ append-nil (lines_in gs) in
           let P : List Line → Type 0 = λ v. IsGroups v end gs in
-          groups_of-only (numbered_lines (lines_of (decoded_of e h.bytes)) end) end gs (subst P (sym lines) h.grouped)
+          subst P (sym lines) h.grouped
+
+  pub collected-groups : {e : Encoding} {from to : R} {gs : List (List Line)} {s : ReaderState} (h : Collected reader e from gs s to) → s.is_done ≡ true
+      → gs ≡ groups_of (numbered_lines (lines_of (decoded_of e h.bytes)) end) end
+  collected-groups {e} {gs = gs} h d = groups_of-only (numbered_lines (lines_of (decoded_of e h.bytes)) end) end gs (collected-lines h d)
 
   pub found-all : {e : Encoding} {from to next : R} {found : List MalformedEscape} {s : ReaderState} → Found reader e from found s to → s.is_done ≡ true → next ≡ to
       → FindsAll reader e from found next
@@ -210,44 +260,89 @@ module _ {R : Type 0} {reader : Reader R} where
         ended = h.collected.ended d;
         are = malformed_escapes_of-meets e bytes;
         only = malformed_escapes_of-only e bytes;
-        is = h.escapes
-            ∙ ap (λ v. escape_records (escapes_in v)) (collected-groups h.collected d)
-            ∙ ap escape_records (escapes_in-groups e bytes _ (groups_of-meets (numbered_lines (lines_of (decoded_of e bytes)) end) end));
+        is = h.escapes ∙ ap escape_records (escapes_in-groups e bytes h.groups (collected-lines h.collected d));
       })
 
-  -- a read failed
+  -- one escape came: it is the first one
+  pub found-first : {e : Encoding} {from to : R} {escape : MalformedEscape} {s : ReaderState} → Found reader e from (escape ∷ []) s to → FindsFirst reader e from escape to
+  found-first {e} {from} {to} {escape} {s} h = by (escapes_in h.groups) refl
+    where
+      at : (x : format.MalformedEscape) (xs : List format.MalformedEscape) → escapes_in h.groups ≡ x ∷ xs → Passes (start e) h.collected.bytes (lines_in h.groups) s
+          → ((d : List ℕ) → BeginsEscapes e (h.collected.bytes ++ d) x) ⊎ (reader.at_end to ≡ true) × BeginsEscapes e h.collected.bytes x
+      at x xs k (Passes.going_on live reads) = inl (λ d.
+          let later = groups_of (natural_to_come s d end) end in
+          begins e (h.collected.bytes ++ d) (h.groups ++ later) x (xs ++ escapes_in later) (collected-on h.collected live d end)
+          (escapes_in-append h.groups later ∙ ap (λ v. v ++ escapes_in later) k))
+      at x xs k (Passes.at_last done gives) =
+          inr (h.collected.ended done, begins e h.collected.bytes h.groups x xs (collected-lines h.collected done) k)
+
+      by : (all : List format.MalformedEscape) → escapes_in h.groups ≡ all → FindsFirst reader e from escape to
+      by [] k = let none : escape ∷ [] ≡ [] = h.escapes ∙ ap escape_records k in absurd (cc)
+      by (x ∷ xs) k =
+          let one : escape ∷ [] ≡ escape_record x ∷ escape_records xs = h.escapes ∙ ap escape_records k in
+          record { bytes = h.collected.bytes; escape = x; read = h.collected.read; begins = at x xs k h.collected.passes; is = cc }
+
+  -- a read failed; if no escape was found, none came before
   found-fault : {e : Encoding} {from to next : R} {found : List MalformedEscape} {s : ReaderState} {why : LineError} {error : PropertiesError}
-      → Found reader e from found s to → s.is_done ≡ false → JoinsFault reader s to why next → IsLineError why error → FailsToFind reader e from error next
+      → Found reader e from found s to → s.is_done ≡ false → JoinsFault reader s to why next → IsLineError why error
+      → (fails : FailsToFind reader e from error next) × (found ≡ [] → CompletesNone e fails.bytes)
   found-fault {e} {s = s} {error = error} h live f says =
       let S : LineError → Type 0 = λ v. IsLineError v error in
-      record {
-        bytes = h.collected.bytes ++ f.bytes;
-        cause = f.error;
-        number = f.number;
-        failed = failed-more h.collected.read f.failed;
-        is = subst S f.is says;
-        cut = cut-line e (h.collected.bytes ++ f.bytes) f.number (by-passes h.collected.passes);
-      }
+      let bytes = h.collected.bytes ++ f.bytes in
+      let later = groups_of (natural_to_come s f.bytes fault) fault in (
+        record {
+          bytes = bytes;
+          cause = f.error;
+          number = f.number;
+          failed = failed-more h.collected.read f.failed;
+          is = subst S f.is says;
+          cut = cut-line e bytes f.number (by-passes h.collected.passes);
+        },
+        λ none. record {
+          text = decoded_of e bytes;
+          lines = lines_of (decoded_of e bytes);
+          groups = h.groups ++ later;
+          decoded = decoded_of-meets e bytes;
+          divided = lines_of-meets (decoded_of e bytes);
+          grouped = collected-on h.collected live f.bytes fault;
+          are_escapes = subst (AreEscapesIn (h.groups ++ later)) (
+              escapes_in-append h.groups later
+              ∙ ap₂ (λ v w. v ++ w) (records-none (escapes_in h.groups) (sym none ∙ h.escapes))
+              (none-before _ later f.number (sym (items-groups s f.bytes live) ∙ f.items))) (escapes_in-meets (h.groups ++ later));
+        },
+      )
     where
       by-passes : Passes (start e) h.collected.bytes (lines_in h.groups) s → last_to_come (start e) (h.collected.bytes ++ f.bytes) fault ≡ read_fault f.number ∷ []
       by-passes (Passes.going_on g reads) = (reads.gives f.bytes fault).last ∙ fault-last s f.bytes f.number f.items
       by-passes (Passes.at_last g gives) = absurd (cc)
 
   -- no line came
-  pub found-error : {e : Encoding} {from to next : R} {found : List MalformedEscape} {s t : ReaderState} {why : LineError} {error : PropertiesError}
+  pub found-stops : {e : Encoding} {from to next : R} {found : List MalformedEscape} {s t : ReaderState} {why : LineError} {error : PropertiesError}
       → Found reader e from found s to → s.is_done ≡ false → JoinsError reader s to why t next → IsLineError why error
-      → FailsToFind reader e from error next ⊎ StopsFinding reader e from error next
-  found-error h live (inl f) says = inl (found-fault h live f says)
-  found-error {error = error} h live (inr (inl f)) says =
+      → ((fails : FailsToFind reader e from error next) × (found ≡ [] → CompletesNone e fails.bytes)) ⊎ StopsFinding reader e from error next
+  found-stops h live (inl f) says = inl (found-fault h live f says)
+  found-stops {error = error} h live (inr (inl f)) says =
       let S : LineError → Type 0 = λ v. IsLineError v error in
       inr (record {
         bytes = h.collected.bytes ++ f.bytes;
         read = read-more h.collected.read f.read;
         is = inl (subst S f.is says, state-all (all-on (some-come h.collected.passes live) f.passes));
       })
-  found-error {error = error} h live (inr (inr f)) says =
+  found-stops {error = error} h live (inr (inr f)) says =
       let S : LineError → Type 0 = λ v. IsLineError v error in
       inr (record { bytes = h.collected.bytes ++ f.bytes; read = read-more h.collected.read f.read; is = inr (subst S f.is says) })
+
+  pub found-error : {e : Encoding} {from to next : R} {found : List MalformedEscape} {s t : ReaderState} {why : LineError} {error : PropertiesError}
+      → Found reader e from found s to → s.is_done ≡ false → JoinsError reader s to why t next → IsLineError why error
+      → FailsToFind reader e from error next ⊎ StopsFinding reader e from error next
+  found-error h live n says = elim (found-stops h live n says) [ inl f ↦ inl f.0 | inr f ↦ inr f ]
+
+  -- the search for the next one, where none was found before
+  pub first-found : {e : Encoding} {from : R} {s : ReaderState} (t : ReaderState) (to : R) (result : Result (Option MalformedEscape) PropertiesError) → Found reader e from [] s from
+      → FindsNextEscape reader s from result t to → FindsFirstMalformed reader e from result to
+  first-found {e} {from} t to (Ok (Some escape)) h n = found-first (n e from [] h)
+  first-found {e} {from} t to (Ok None) h n = n e from [] h
+  first-found {e} {from} t to (Err error) h n = elim (n e from [] h) [ inl f ↦ inl (record { fails = f.0; none = f.1 refl }) | inr f ↦ inr f ]
 
   -- there was no memory for an escape
   pub found-lost : {e : Encoding} {from to next : R} {found : List MalformedEscape} {s : ReaderState} {error : PropertiesError} (number : ℕ) (new : LineState)

@@ -1,11 +1,13 @@
--- The result of searching for malformed escapes, and the reader afterwards.
-use Rattle.std.specs.Prelude.{◌≡◌, ◌⊎◌, ℕ, true, List, map, Some, Result, Ok, Err}
+-- The result of searching for malformed escapes, all of them or the first one, and the reader afterwards.
+use Rattle.std.specs.Prelude.{◌≡◌, ◌⊎◌, ℕ, true, List, [], ◌∷◌, ◌++◌, map, Option, Some, None, Result, Ok, Err}
 use Rattle.std.specs.declared.io.Error.{Error}
 use Rattle.std.specs.declared.vec.Vec.{Vec}
 use Rattle.counted_io.specs.Streams.{Reader, HasRead, HasFailed}
-use Rattle.properties_format.specs.Encoding.{Encoding}
+use Rattle.properties_format.specs.Encoding.{Encoding, IsDecoded}
+use Rattle.properties_format.specs.Lines.{fault, Line, Lines, IsLines, numbered_lines}
+use Rattle.properties_format.specs.Groups.{IsGroups}
 use Rattle.properties_format.specs.MalformedEscapes as format
-use Rattle.properties_format.specs.MalformedEscapes.{AreMalformedEscapes, IsCutLine}
+use Rattle.properties_format.specs.MalformedEscapes.{AreEscapesIn, AreMalformedEscapes, IsCutLine}
 use Rattle.properties_format.specs.ItemsToCome.{start}
 use Rattle.properties_items.specs.Errors.{IsBareError, IsStreamError, malformed_kind}
 use Rattle.java_properties.specs.PropertiesIter.{PassesAll}
@@ -49,3 +51,42 @@ pub record StopsFinding {R : Type 0} (reader : Reader R) (e : Encoding) (from : 
 abbrev pub FindsMalformed : {R Z : Type 0} → Reader R → Encoding → R → Result (Vec MalformedEscape Z) PropertiesError → R → Type 0
 FindsMalformed reader e from (Ok found) to = FindsAll reader e from found.items to
 FindsMalformed reader e from (Err error) to = FailsToFind reader e from error to ⊎ StopsFinding reader e from error to
+
+-- ---- the first one
+
+-- The malformed escapes of these bytes begin with this one, and no other list of them is right.
+pub record BeginsEscapes (e : Encoding) (bytes : List ℕ) (escape : format.MalformedEscape) : Type 0 where
+  pub others : List format.MalformedEscape
+  pub are : AreMalformedEscapes e bytes (escape ∷ others)
+  pub only : (all : List format.MalformedEscape) → AreMalformedEscapes e bytes all → all ≡ escape ∷ others
+
+-- This is the first malformed escape of the bytes that were read, whatever comes after them; or of the whole input, if
+-- the reader is at its end.
+pub record FindsFirst {R : Type 0} (reader : Reader R) (e : Encoding) (from : R) (found : MalformedEscape) (to : R) : Type 0 where
+  pub bytes : List ℕ
+  pub escape : format.MalformedEscape
+  pub read : HasRead reader from bytes to
+  pub begins : ((d : List ℕ) → BeginsEscapes e (bytes ++ d) escape) ⊎ (reader.at_end to ≡ true) × BeginsEscapes e bytes escape
+  pub is : found ≡ escape_record escape
+
+-- The logical lines that end within these bytes have no malformed escape.
+pub record CompletesNone (e : Encoding) (bytes : List ℕ) : Type 0 where
+  pub text : List ℕ
+  pub lines : Lines
+  pub groups : List (List Line)
+  pub decoded : IsDecoded e bytes text
+  pub divided : IsLines text lines
+  pub grouped : IsGroups (numbered_lines lines fault) fault groups
+  pub are_escapes : AreEscapesIn groups []
+
+-- A read failed, and no malformed escape came before.
+pub record FailsBeforeFirst {R : Type 0} (reader : Reader R) (e : Encoding) (from : R) (error : PropertiesError) (to : R) : Type 0 where
+  pub fails : FailsToFind reader e from error to
+  pub none : CompletesNone e fails.bytes
+
+-- The result of searching for the first malformed escape. None is returned only at the reader's own end, and if there
+-- is none.
+abbrev pub FindsFirstMalformed : {R : Type 0} → Reader R → Encoding → R → Result (Option MalformedEscape) PropertiesError → R → Type 0
+FindsFirstMalformed reader e from (Ok (Some escape)) to = FindsFirst reader e from escape to
+FindsFirstMalformed reader e from (Ok None) to = FindsAll reader e from [] to
+FindsFirstMalformed reader e from (Err error) to = FailsBeforeFirst reader e from error to ⊎ StopsFinding reader e from error to

@@ -22,7 +22,7 @@ use crate::iter::items::ItemReader;
 pub use all_lines::{Stopped, read_lines};
 use counted_io::CountedRead;
 pub use last_value::value_of;
-pub use malformed_lines::malformed_escapes;
+pub use malformed_lines::{first_malformed_escape, malformed_escapes};
 pub use numbered_keys::key_lines;
 use properties_items::borrowed::LineRef;
 use properties_items::error::PropertiesError;

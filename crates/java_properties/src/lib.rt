@@ -24,7 +24,10 @@ mod streams;
 mod writer;
 
 pub use copy::CopyError;
-pub use iter::{PropertiesIter, Stopped, key_lines, malformed_escapes, read_lines, value_of};
+pub use iter::{
+    PropertiesIter, Stopped, first_malformed_escape, key_lines, malformed_escapes, read_lines,
+    value_of,
+};
 pub use maps::{read, read_sorted, write, write_sorted};
 pub use properties_editing::{
     Document, Edit, edit_all, edit_all_ascii, remove_key, set_key, set_value,

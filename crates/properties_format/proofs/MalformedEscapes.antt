@@ -22,7 +22,7 @@ use Rattle.properties_format.proofs.Items.Unique.{outcome_of-meets, outcome_of-o
 use Rattle.properties_format.proofs.ItemsToCome.Entries.{items_to_come-pending}
 
 -- The computed escapes are the malformed escapes of the groups.
-escapes_in-meets : (gs : List (List Line)) → AreEscapesIn gs (escapes_in gs)
+pub escapes_in-meets : (gs : List (List Line)) → AreEscapesIn gs (escapes_in gs)
 escapes_in-meets [] = refl
 escapes_in-meets (g ∷ gs) = (outcome_of (joined g), escapes_in gs, outcome_of-meets (joined g), refl, escapes_in-meets gs)
 
@@ -101,14 +101,13 @@ cut-line e d n h =
       is = (let k = last-start e d in cc);
     }
 
--- ---- one more group
+-- ---- groups after others
 
 from-append : (number : ℕ) (x : List ℕ) (outcome : Outcome) (rest others : List MalformedEscape)
     → escapes_from number x outcome (rest ++ others) ≡ escapes_from number x outcome rest ++ others
 from-append number x ignored rest others = refl
 from-append number x outcome rest others = refl
 
-pub escapes_in-push : (gs : List (List Line)) (g : List Line)
-    → escapes_in (gs ++ g ∷ []) ≡ escapes_in gs ++ escapes_from (first_number g) (joined g) (outcome_of (joined g)) []
-escapes_in-push [] g = refl
-escapes_in-push (h ∷ gs) g = simp (from-append, escapes_in-push gs g)
+pub escapes_in-append : (gs hs : List (List Line)) → escapes_in (gs ++ hs) ≡ escapes_in gs ++ escapes_in hs
+escapes_in-append [] hs = refl
+escapes_in-append (g ∷ gs) hs = simp (from-append, escapes_in-append gs hs)

@@ -16,7 +16,7 @@ use Rattle.java_properties.proofs.SliceReads.{slice_reader, slice-whole, slice-f
 use Rattle.properties_tools.specs.Propedit.Sources.{FindsKeysIn, FindsMalformedIn}
 
 -- It has a number for each of its lines, so an error can only be for want of memory.
-slice-error : (e : Encoding) (from to : Bor (List ℕ)) (error : PropertiesError) → length from.now + 1 < 2 ^ 64
+pub slice-error : (e : Encoding) (from to : Bor (List ℕ)) (error : PropertiesError) → length from.now + 1 < 2 ^ 64
     → FailsToFind slice_reader e from error to ⊎ StopsFinding slice_reader e from error to → IsBareError kind.Memory error
 slice-error e from to error small (inl h) = absurd (slice-faultless h.failed)
 slice-error e from to error small (inr h) = elim h.is [

@@ -1,25 +1,34 @@
 -- Why a source is refused.
-use Rattle.std.proofs.Common.{◌≡◌, ℕ, List, [], ◌∷◌, Some, None, refl, ap, subst, ◌∙◌}
-use Rattle.std.specs.List.{slice_get}
+use Rattle.std.proofs.Common.{List, ℕ, [], sym, subst, inl, inr}
+use Rattle.std.specs.Prelude.{◌⊎◌}
+use Rattle.std.specs.Borrow.{Bor}
 use Rattle.properties_format.specs.Encoding.{Encoding}
 use Rattle.properties_format.specs.MalformedEscapes as format
 use Rattle.properties_format.specs.MalformedEscapes.{AreMalformedEscapes}
-use Rattle.java_properties.specs.MalformedEscapes.{escape_record, escape_records}
+use Rattle.java_properties.specs.MalformedEscapes.{BeginsEscapes, FindsAll, FindsFirst}
+use Rattle.java_properties.proofs.MalformedEscapes.{records-none}
+use Rattle.java_properties.proofs.SliceReads.{slice_reader, slice-read, slice-whole}
 use Rattle.properties_items.specs.declared.findings.MalformedEscape.{MalformedEscape}
 use Rattle.properties_tools.specs.Propedit.Lines.{AreIllFormedLines}
-use Rattle.properties_tools.specs.Propedit.Sources.{HasMalformed, IsFirstMalformed}
+use Rattle.properties_tools.specs.Propedit.Sources.{IsFirstMalformed, IsSound}
 
--- No line is ill-formed, and this is the first of the escapes.
-pub first-malformed : {e : Encoding} {source : List ℕ} (found : List MalformedEscape) (escape : MalformedEscape) → AreIllFormedLines e source []
-    → HasMalformed e source found → Some escape ≡ slice_get found 0 → IsFirstMalformed e source escape
-first-malformed {e} {source} found escape lines h first = by h.escapes refl
+-- No line is ill-formed, and this escape was found first.
+pub first-malformed : {e : Encoding} (from to : Bor (List ℕ)) (escape : MalformedEscape) → AreIllFormedLines e from.now []
+    → FindsFirst slice_reader e from escape to → IsFirstMalformed e from.now escape
+first-malformed {e} from to escape lines h = record { well_formed = lines; escape = h.escape; others = first.others; are = first.are; is = h.is }
   where
-    by : (escapes : List format.MalformedEscape) → h.escapes ≡ escapes → IsFirstMalformed e source escape
-    by [] k =
-        let empty : found ≡ [] = h.is ∙ ap escape_records k in
-        let q : Some escape ≡ None = first ∙ ap (λ v. slice_get v 0) empty in
-        absurd (cc)
-    by (x ∷ xs) k =
-        let some : found ≡ escape_record x ∷ escape_records xs = h.is ∙ ap escape_records k in
-        let q : Some escape ≡ Some (escape_record x) = first ∙ ap (λ v. slice_get v 0) some in
-        record { well_formed = lines; escape = x; others = xs; are = subst (AreMalformedEscapes e source) k h.are; is = cc }
+    P : List ℕ → Type 0
+    P = λ v. BeginsEscapes e v h.escape
+
+    first : BeginsEscapes e from.now h.escape
+    first = elim h.begins [
+      | inl always ↦ subst P (sym (slice-read h.read)) (always to.now)
+      | inr last ↦ subst P (slice-whole h.read last.0) last.1
+    ]
+
+-- No line is ill-formed, and no escape was found.
+pub none-malformed : {e : Encoding} (from to : Bor (List ℕ)) → AreIllFormedLines e from.now [] → FindsAll slice_reader e from [] to → IsSound e from.now
+none-malformed {e} from to lines h = record {
+  well_formed = lines;
+  resolved = subst (λ v. AreMalformedEscapes e v []) (slice-whole h.read h.ended) (subst (AreMalformedEscapes e h.bytes) (records-none h.escapes h.is) h.are);
+}

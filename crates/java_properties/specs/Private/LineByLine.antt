@@ -1,15 +1,22 @@
--- What a logical line adds to the keys and the malformed escapes of an input, by its outcome as it is computed.
-use Rattle.std.specs.Prelude.{◌≡◌, ℕ, List, [], ◌∷◌, ◌++◌, Option, Some, None, bytes_eq, Result, Ok, Err}
+-- What a logical line adds to the keys and the malformed escapes of an input, by its outcome as it is computed; and what
+-- came of the input so far.
+use Rattle.std.specs.Prelude.{◌≡◌, ◌⊎◌, ℕ, true, false, List, [], ◌∷◌, ◌++◌, Option, Some, None, bytes_eq, Result, Ok, Err}
 use Rattle.std.specs.Option.{option_map, unwrap_or}
 use Rattle.std.specs.Map.{lookup, update}
 use Rattle.std.specs.declared.string.String.{String}
-use Rattle.std.specs.declared.vec.Vec.{Vec}
+use Rattle.counted_io.specs.Streams.{Reader, HasRead}
+use Rattle.properties_format.specs.Encoding.{Encoding}
+use Rattle.properties_format.specs.Lines.{end, Line}
+use Rattle.properties_format.specs.Groups.{IsGroups, AreWhole, lines_in}
 use Rattle.properties_format.specs.MalformedEscapes.{escapes_from}
+use Rattle.properties_format.specs.ItemsToCome.{ReaderState, start}
 use Rattle.properties_format.specs.Computed.Items.{outcome_of}
+use Rattle.properties_format.specs.Computed.MalformedEscapes.{escapes_in}
 use Rattle.properties_format.specs.Computed.Parts.{outcome_key}
+use Rattle.properties_lines.specs.LineReader.{Passes}
 use Rattle.properties_items.specs.Errors.{IsBareError}
 use Rattle.properties_items.specs.Texts.{characters}
-use Rattle.java_properties.specs.MalformedEscapes.{escape_records}
+use Rattle.java_properties.specs.MalformedEscapes.{escape_records, FindsAll, FailsToFind, StopsFinding, CompletesNone}
 use Rattle.properties_items.specs.declared.error.ErrorKind.TheVariants as kind
 use Rattle.properties_items.specs.declared.error.PropertiesError.{PropertiesError}
 use Rattle.properties_items.specs.declared.findings.KeyLine as code
@@ -45,7 +52,41 @@ abbrev pub PushesKey : {Z : Type 0} → ℕ → List ℕ → List code.KeyLine �
 PushesKey number x old firsts (Ok done) new firsts' = AddsIfKey number (outcome_key (outcome_of x)) old new firsts firsts'
 PushesKey number x old firsts (Err error) new firsts' = IsBareError kind.Memory error
 
--- The malformed escape that such a line adds; or memory ran out.
-abbrev pub PushesMalformed : {Z : Type 0} → ℕ → List ℕ → Vec MalformedEscape Z → Result Unit PropertiesError → Vec MalformedEscape Z → Type 0
-PushesMalformed number x old (Ok done) new = new.items ≡ old.items ++ escape_records (escapes_from number x (outcome_of x) [])
-PushesMalformed number x old (Err error) new = IsBareError kind.Memory error
+-- The malformed escape of such a line, if it has one; or memory ran out.
+abbrev pub FindsLineEscape : ℕ → List ℕ → Result (Option MalformedEscape) PropertiesError → Type 0
+FindsLineEscape number x (Ok None) = [] ≡ escape_records (escapes_from number x (outcome_of x) [])
+FindsLineEscape number x (Ok (Some escape)) = escape ∷ [] ≡ escape_records (escapes_from number x (outcome_of x) [])
+FindsLineEscape number x (Err error) = IsBareError kind.Memory error
+
+-- ---- the groups that came
+
+-- These groups came, and no others of what was read.
+pub record Collected {R : Type 0} (reader : Reader R) (e : Encoding) (from : R) (groups : List (List Line)) (state : ReaderState) (to : R) : Type 0 where
+  pub bytes : List ℕ
+  pub read : HasRead reader from bytes to
+  pub passes : Passes (start e) bytes (lines_in groups) state
+  pub whole : state.is_done ≡ false → AreWhole groups
+  pub grouped : IsGroups (lines_in groups) end groups
+  pub ended : state.is_done ≡ true → reader.at_end to ≡ true
+
+-- and these escapes were found in them
+pub record Found {R : Type 0} (reader : Reader R) (e : Encoding) (from : R) (found : List MalformedEscape) (state : ReaderState) (to : R) : Type 0 where
+  pub groups : List (List Line)
+  pub collected : Collected reader e from groups state to
+  pub escapes : found ≡ escape_records (escapes_in groups)
+
+-- Whatever was found before, no more was found.
+abbrev pub FindsNoMore : {R : Type 0} → Reader R → ReaderState → R → ReaderState → R → Type 0
+FindsNoMore {R} reader old from new to =
+    (e : Encoding) (begin : R) (found : List MalformedEscape) → Found reader e begin found old from → Found reader e begin found new to
+
+-- The next malformed escape, after any others that were found before; or those were all; or no line came, and if none
+-- were found before, none came.
+abbrev pub FindsNextEscape : {R : Type 0} → Reader R → ReaderState → R → Result (Option MalformedEscape) PropertiesError → ReaderState → R → Type 0
+FindsNextEscape {R} reader old from (Ok (Some escape)) new to =
+    (e : Encoding) (begin : R) (found : List MalformedEscape) → Found reader e begin found old from → Found reader e begin (found ++ escape ∷ []) new to
+FindsNextEscape {R} reader old from (Ok None) new to =
+    (e : Encoding) (begin : R) (found : List MalformedEscape) → Found reader e begin found old from → FindsAll reader e begin found to
+FindsNextEscape {R} reader old from (Err error) new to =
+    (e : Encoding) (begin : R) (found : List MalformedEscape) → Found reader e begin found old from
+    → ((fails : FailsToFind reader e begin error to) × (found ≡ [] → CompletesNone e fails.bytes)) ⊎ StopsFinding reader e begin error to

@@ -1,10 +1,12 @@
 // Finds the malformed escapes of an input.
 
+ghost use Rattle.std.specs.Prelude.{◌≡◌, ◌<◌, None, IfOk, OnSome};
 ghost use Rattle.std.specs.Str.{chars};
 ghost use Rattle.counted_io.specs.Streams.{IsSameReader};
 ghost use Rattle.properties_text.specs.Encoding.{encoding_of};
-ghost use Rattle.java_properties.specs.MalformedEscapes.{FindsMalformed};
-ghost use Rattle.java_properties.specs.Private.LineByLine.{PushesMalformed};
+ghost use Rattle.properties_lines.specs.LineReader.{lines_left};
+ghost use Rattle.java_properties.specs.MalformedEscapes.{FindsFirstMalformed, FindsMalformed};
+ghost use Rattle.java_properties.specs.Private.LineByLine.{FindsLineEscape, FindsNextEscape};
 
 use counted_io::CountedRead;
 use properties_items::error::{PropertiesError, make};
@@ -37,34 +39,79 @@ pub fn malformed_escapes<R: CountedRead>(
 {
     let mut lines = LineJoiner::new(alloc, encoding);
     let mut escapes = Vec::new(alloc);
-    while let Some(number) = lines.next_text(input) {
-        push_malformed(alloc, &mut escapes, number, lines.line())?;
-    }
-    if let Some(error) = lines.take_error() {
-        return Err(PropertiesError::from(error));
+    while let Some(escape) = next_malformed(alloc, &mut lines, input)? {
+        escapes.push(escape)?;
     }
     Ok(escapes)
 }
 
-// Appends the first malformed escape of a logical line that begins in the line with this number, if it has one.
-fn push_malformed(
+/// Reads an input up to its first malformed escape and returns it, or `None` if the whole input has none.
+///
+/// It is the first one that [`malformed_escapes`] would return, whatever comes after the lines that were read: nothing
+/// is read once its logical line is known. It fails if the reader fails before that, if there are too many lines to
+/// number, or if memory runs out. A byte order mark at the front overrides the encoding.
+///
+/// ```text
+/// let mut input: &[u8] = b"# greetings\na = \\u12\nb = \\uzzzz";
+/// match first_malformed_escape(alloc, &mut input, Encoding::UTF_8)? {
+///     Some(escape) => println!(rt; "{}: {}", escape.line_number, escape.kind)?, // of line 2
+///     None => println!(rt; "all escapes are well-formed")?,
+/// }
+/// ```
+pub fn first_malformed_escape<R: CountedRead>(
     alloc: Global,
-    escapes: &mut Vec<MalformedEscape>,
+    input: &mut R,
+    encoding: Encoding,
+) -> Result<Option<MalformedEscape>, PropertiesError>
+    ensures finds { FindsFirstMalformed R.CountedRead (encoding_of encoding) input.old result input.new }
+    ensures same_reader { IsSameReader R.CountedRead input.old input.new }
+{
+    let mut lines = LineJoiner::new(alloc, encoding);
+    next_malformed(alloc, &mut lines, input)
+}
+
+// Goes on to the next logical line that has a malformed escape and returns the first one. Returns `None` at the end.
+#[inline(always)]
+fn next_malformed<R: CountedRead>(
+    alloc: Global,
+    lines: &mut LineJoiner,
+    input: &mut R,
+) -> Result<Option<MalformedEscape>, PropertiesError>
+    requires { lines.old.error ≡ None }
+    ensures finds { FindsNextEscape R.CountedRead lines.old.at.state input.old result lines.new.at.state input.new }
+    ensures error { lines.new.error ≡ None }
+    ensures nearer { IfOk result (λ o. OnSome o (lines_left lines.new.at.state < lines_left lines.old.at.state)) }
+    ensures same_reader { IsSameReader R.CountedRead input.old input.new }
+{
+    while let Some(number) = lines.next_text(input) {
+        if let Some(escape) = malformed_in(alloc, number, lines.line())? {
+            return Ok(Some(escape));
+        }
+    }
+    match lines.take_error() {
+        Some(error) => Err(PropertiesError::from(error)),
+        None => Ok(None),
+    }
+}
+
+// Returns the first malformed escape of a logical line that begins in the line with this number, if it has one.
+#[inline(always)]
+fn malformed_in(
+    alloc: Global,
     line_number: usize,
     line: &str,
-) -> Result<(), PropertiesError>
-    ensures { PushesMalformed line_number (chars line.now) escapes.old result escapes.new }
+) -> Result<Option<MalformedEscape>, PropertiesError>
+    ensures { FindsLineEscape line_number (chars line.now) result }
 {
     let Err(error) = find_escaped(alloc, line_number, line) else {
-        return Ok(());
+        return Ok(None);
     };
     let UnescapeError::Malformed(malformed) = error else {
         return Err(make::unresolved(line_number, UnescapeError::Memory));
     };
-    escapes.push(MalformedEscape {
+    Ok(Some(MalformedEscape {
         line_number,
         kind: make::malformed_kind(malformed),
         in_comment: is_comment(line.as_bytes()),
-    })?;
-    Ok(())
+    }))
 }

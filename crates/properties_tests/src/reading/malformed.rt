@@ -1,9 +1,11 @@
-// All malformed escapes of an input.
+// The malformed escapes of an input: all of them, and the first one.
 
 use crate::failure::failure_of;
 use crate::same::same;
 use counted_io::{ScriptedReader, Tail};
-use java_properties::{Encoding, ErrorKind, MalformedEscape, malformed_escapes};
+use java_properties::{
+    Encoding, ErrorKind, MalformedEscape, first_malformed_escape, malformed_escapes,
+};
 use std::io;
 use std::test::Fail;
 
@@ -41,5 +43,40 @@ fn a_fault_is_told_in_place_of_the_escapes_before_it(rt: HostRuntime) -> Result<
     };
     let timed_out = (ErrorKind::Io, Some(2), Some(io::ErrorKind::TimedOut));
     same(&rt, failure, Some(timed_out));
+    Ok(())
+}
+
+#[test]
+fn the_first_malformed_escape_is_found(rt: HostRuntime) -> Result<(), Fail> {
+    let sources: [(&str, Option<MalformedEscape>); 4] = [
+        (
+            "a = \\u00e9\n# \\u12\nb = \\uzzzz",
+            Some(escape(2, ErrorKind::NotEnoughDigits, true)),
+        ),
+        (
+            "a\nb = \\\n  \\ud83d",
+            Some(escape(2, ErrorKind::InvalidCharacter, false)),
+        ),
+        ("# a comment\na = \\u00e9", None),
+        ("", None),
+    ];
+    for (source, wanted) in sources {
+        let mut input = source.as_bytes();
+        let found = first_malformed_escape(rt.alloc(), &mut input, Encoding::UTF_8)?;
+        same(&rt, found, wanted);
+    }
+    Ok(())
+}
+
+#[test]
+fn nothing_is_read_after_the_first_malformed_escape(rt: HostRuntime) -> Result<(), Fail> {
+    let pieces = vec![in rt.alloc(); Vec::from_slice(rt.alloc(), b"a = \\u12\nb")?]?;
+    let mut input = ScriptedReader::new(pieces, Tail::Fault(io::ErrorKind::TimedOut));
+    let found = first_malformed_escape(rt.alloc(), &mut input, Encoding::UTF_8)?;
+    same(
+        &rt,
+        found,
+        Some(escape(1, ErrorKind::NotEnoughDigits, false)),
+    );
     Ok(())
 }

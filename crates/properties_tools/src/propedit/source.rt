@@ -6,7 +6,8 @@ ghost use Rattle.properties_tools.specs.Propedit.Sources.{FindsKeysIn, FindsMalf
 use crate::propedit::error::Failure;
 use crate::propedit::lines::first_ill_formed_line;
 use java_properties::{
-    Encoding, KeyLine, MalformedEscape, PropertiesError, key_lines, malformed_escapes,
+    Encoding, KeyLine, MalformedEscape, PropertiesError, first_malformed_escape, key_lines,
+    malformed_escapes,
 };
 use std::alloc::Global;
 
@@ -18,9 +19,9 @@ pub fn refuse_unsound(alloc: Global, source: &[u8], encoding: Encoding) -> Resul
     if let Some(number) = first_ill_formed_line(source, encoding) {
         return Err(not_utf_8(source, number));
     }
-    let escapes = malformed_in(alloc, source, encoding)?;
-    match escapes.first() {
-        Some(escape) => Err(Failure::Malformed(*escape)),
+    let mut input = source;
+    match first_malformed_escape(alloc, &mut input, encoding)? {
+        Some(escape) => Err(Failure::Malformed(escape)),
         None => Ok(()),
     }
 }

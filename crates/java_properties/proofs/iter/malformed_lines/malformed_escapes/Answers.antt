@@ -1,45 +1,25 @@
-use Rattle.std.proofs.Common.{◌∙◌, refl, ap, sym, subst, inr}
+use Rattle.std.proofs.Common.{ap, refl, inl, inr}
 use Rattle.std.proofs.lemmas.Result.{err_from_is_err_and}
 use Rattle.properties_text.specs.Encoding.{encoding_of}
 use Rattle.properties_lines.specs.LineJoiner.{LineState}
-use Rattle.properties_items.specs.Errors.{IsBareError}
-use Rattle.properties_items.specs.declared.error.ErrorKind.TheVariants.{Memory}
-use Rattle.properties_items.specs.declared.error.PropertiesError.{PropertiesError}
-use Rattle.java_properties.proofs.MalformedEscapes.{found-start, found-next, found-all, found-error, found-lost}
-use Rattle.java_properties.proofs.Items.{stopped, ended}
+use Rattle.java_properties.proofs.MalformedEscapes.{found-start}
 use Rattle.java_properties.proofs.iter.malformed_lines.malformed_escapes.Goals as goal
 
-pub loop-number-init : goal.loop-number-init
-loop-number-init g c = record {
+pub loop-escapes-init : goal.loop-escapes-init
+loop-escapes-init g c = record {
   found = found-start (encoding_of c.args.encoding) c.args.input.now _ _ c.new-escapes.ensures.items (ap (λ v. let w : LineState = v in w.state) c.new-lines.ensures.at);
   error = c.new-lines.ensures.error;
   same_reader = refl;
 }
 
-pub loop-number-preserved : goal.loop-number-preserved
-loop-number-preserved g c =
-    let next = c.in-Some.ensures.joins.0 in
-    let pushed = rw c.line.ensures at c.in_ok-push_malformed.ensures in
-    record {
-      found = found-next c.in-Some.number c.next_text.new.self.at c.push_malformed.new.escapes.items c.loop-number.invariant.found next pushed;
-      error = c.in-Some.ensures.joins.2;
-      same_reader = c.next_text.ensures.same_reader ∙ c.loop-number.invariant.same_reader;
-    }
-
-pub returns-in_err-push_malformed-clause-finds : goal.returns-in_err-push_malformed-clause-finds
-returns-in_err-push_malformed-clause-finds g c =
-    let next = c.in-Some.ensures.joins.0 in
+pub returns-in_err-escape-clause-finds : goal.returns-in_err-escape-clause-finds
+returns-in_err-escape-clause-finds g c =
     let error = err_from_is_err_and c.from_residual.result c.from_residual.ensures.1 in
-    let P : PropertiesError → Type 0 = λ v. IsBareError Memory v in
-    rw error.1
-    (inr (found-lost c.in-Some.number c.next_text.new.self.at c.loop-number.invariant.found next (subst P (sym error.2) c.in_err-push_malformed.ensures)))
+    rw (error.1, error.2) (elim (c.in_err-escape.ensures.finds _ _ _ c.loop-escapes.invariant.found) [ inl f ↦ inl f.0 | inr f ↦ inr f ])
 
-pub returns-in-Some-take_error-clause-finds : goal.returns-in-Some-take_error-clause-finds
-returns-in-Some-take_error-clause-finds g c =
-    let stop = stopped c.in_default.ensures.joins c.loop-number.invariant.error (sym c.take_error.ensures.error ∙ c.in-Some-take_error.is) in
-    found-error c.loop-number.invariant.found stop.0 stop.2 c.from.ensures
-
-pub returns-clause-finds : goal.returns-clause-finds
-returns-clause-finds g c =
-    let end = ended c.in_default.ensures.joins (sym c.take_error.ensures.error ∙ c.in_default-take_error.is) in
-    found-all c.loop-number.invariant.found end.0 end.2
+pub returns-in_err-push-clause-finds : goal.returns-in_err-push-clause-finds
+returns-in_err-push-clause-finds g c =
+    let error = err_from_is_err_and c.from_residual-in_err-push.result c.from_residual-in_err-push.ensures.1 in
+    let found = rw c.in-Some.is at c.in_ok-escape.ensures.finds in
+    let came = (found _ _ _ c.loop-escapes.invariant.found).collected in
+    rw error.1 (inr (record { bytes = came.bytes; read = came.read; is = inr error.2 }))

@@ -1,9 +1,18 @@
-use Rattle.std.proofs.Common.{ap, ◌∙◌}
-use Rattle.std.specs.List.{slice_get}
-use Rattle.properties_tools.proofs.Unsound.{first-malformed}
+use Rattle.std.proofs.Common.{arith, inl, inr}
+use Rattle.std.proofs.lemmas.Result.{err_from_is_err_and}
+use Rattle.properties_text.specs.Encoding.{encoding_of}
+use Rattle.properties_tools.proofs.Slices.{slice-error}
+use Rattle.properties_tools.proofs.Unsound.{first-malformed, none-malformed}
 use Rattle.properties_tools.proofs.propedit.source.refuse_unsound.Goals as goal
 
-pub returns-in-Some-first : goal.returns-in-Some-first
-returns-in-Some-first c =
-    let first = c.in-Some-first.ensures.value ∙ ap (λ v. slice_get v 0) c.deref.ensures.value in
-    first-malformed c.in_ok-escapes.escapes.items c.in-Some-first.escape.now c.in_default.ensures c.in_ok-escapes.ensures first
+pub returns-in_err-escape : goal.returns-in_err-escape
+returns-in_err-escape c =
+    let error = err_from_is_err_and c.from_residual.result c.from_residual.ensures.1 in
+    rw (error.1, error.2) (slice-error (encoding_of c.args.encoding) c.args.source c.first_malformed_escape.new.input c.in_err-escape.field-0.0 (omega arith)
+    (elim c.in_err-escape.ensures.finds [ inl h ↦ inl h.fails | inr h ↦ inr h ]))
+
+pub returns-in-Some-2 : goal.returns-in-Some-2
+returns-in-Some-2 c = first-malformed c.args.source c.first_malformed_escape.new.input c.in-Some-2.escape c.in_default.ensures (rw c.in-Some-2.is at c.in_ok-escape.ensures.finds)
+
+pub returns-in-None : goal.returns-in-None
+returns-in-None c = none-malformed c.args.source c.first_malformed_escape.new.input c.in_default.ensures (rw c.in-None.is at c.in_ok-escape.ensures.finds)
