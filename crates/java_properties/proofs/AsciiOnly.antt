@@ -6,7 +6,7 @@ use Rattle.std.specs.Global.{Vec}
 use Rattle.counted_io.specs.Streams.{Sink, HasWritten}
 use Rattle.counted_io.proofs.Streams.{written-none, faulted-more, written-failed_flush}
 use Rattle.properties_format.specs.Entries.{Content, comment, pair}
-use Rattle.properties_format.specs.Writing.{Call, comment_call, pair_call, prefix_call, separator_call, ending_call, flush_call, ascii_only_call, wrote, AreOfScalars}
+use Rattle.properties_format.specs.Writing.{Call, comment_call, pair_call, prefix_call, separator_call, flush_call, ascii_only_call, wrote, AreOfScalars}
 use Rattle.properties_format.specs.AsciiOnly.{AreAsciiOnly}
 use Rattle.properties_format.proofs.AsciiOnly.{wrote-ascii, AreItemsInBoth-wrote, begun-ascii, begun-line_ascii}
 use Rattle.java_properties.specs.PropertiesWriter.{Writing, WritesLine, Flushes, next_line}
@@ -36,7 +36,7 @@ module _ {W : Type 0} {sink : Sink W} {old middle new : Writing W} (before : Lis
   kept-ascii : new ≡ middle → TakesAscii sink old.sink new.sink
   kept-ascii same = record {
     bytes = wrote old.encoding old.settings old.lines before;
-    taken = inl (subst (λ (v : Writing W). HasWritten sink old.sink (wrote old.encoding old.settings old.lines before) v.sink) (sym same) made.written);
+    taken = inl (rw same made.written);
     ascii = begun-ascii old.encoding old.settings old.lines before (call ∷ others) on good.settings.separator;
   }
 
@@ -69,9 +69,8 @@ fails-ascii new before (comment_call text) others error good made on f = line-as
 fails-ascii new before (pair_call key value) others error good made on f = line-ascii before (pair_call key value) others good made on (pair key value) error (λ q. absurd (cc)) f
 fails-ascii new before (prefix_call prefix) others error good made on f = kept-ascii before (prefix_call prefix) others good made on f.same
 fails-ascii new before (separator_call separator) others error good made on f = kept-ascii before (separator_call separator) others good made on f.same
-fails-ascii new before (ending_call line_ending) others error good made on f = absurd f
 fails-ascii new before flush_call others error good made on f = flush-ascii before flush_call others good made on error f
-fails-ascii new before (ascii_only_call mode) others error good made on f = absurd f
+fails-ascii new before call others error good made on f = absurd f
 
 -- Whatever running the calls returned.
 pub runs-ascii : {W : Type 0} (sink : Sink W) (old new : Writing W) (calls : List Call) (result : Result (Vec Bool) PropertiesError)

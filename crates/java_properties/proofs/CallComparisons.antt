@@ -12,37 +12,25 @@ use Rattle.properties_items.proofs.Comparisons.{both-tests, ending-eq}
 -- `==` of two calls
 pub call-eq : (x y : Call) → IsTrue ((call_eq.ghosts).eq x y) ↔ IsSameCall x y
 call-eq (call.Comment x) (call.Comment y) = bytes_decides (string_bytes x) (string_bytes y)
-call-eq (call.Comment x) other = ((λ e. absurd (cc)), (λ h. absurd h))
 call-eq (call.Pair k v) (call.Pair l w) =
     both-tests _ _ (bytes_decides (string_bytes k) (string_bytes l)) (bytes_decides (string_bytes v) (string_bytes w))
-call-eq (call.Pair k v) other = ((λ e. absurd (cc)), (λ h. absurd h))
 call-eq (call.Prefix x) (call.Prefix y) = bytes_decides (string_bytes x) (string_bytes y)
-call-eq (call.Prefix x) other = ((λ e. absurd (cc)), (λ h. absurd h))
 call-eq (call.Separator x) (call.Separator y) = bytes_decides (string_bytes x) (string_bytes y)
-call-eq (call.Separator x) other = ((λ e. absurd (cc)), (λ h. absurd h))
 call-eq (call.Ending x) (call.Ending y) = ending-eq x y
-call-eq (call.Ending x) other = ((λ e. absurd (cc)), (λ h. absurd h))
 call-eq call.Flush call.Flush = ((λ e. tt), (λ h. refl))
-call-eq call.Flush other = ((λ e. absurd (cc)), (λ h. absurd h))
 call-eq (call.AsciiOnly true) (call.AsciiOnly true) = ((λ e. refl), (λ h. refl))
 call-eq (call.AsciiOnly true) (call.AsciiOnly false) = ((λ e. absurd (cc)), (λ h. absurd (cc)))
 call-eq (call.AsciiOnly false) (call.AsciiOnly true) = ((λ e. absurd (cc)), (λ h. absurd (cc)))
 call-eq (call.AsciiOnly false) (call.AsciiOnly false) = ((λ e. refl), (λ h. refl))
-call-eq (call.AsciiOnly on) other = ((λ e. absurd (cc)), (λ h. absurd h))
+call-eq x y = ((λ e. absurd (cc)), (λ h. absurd h))
 
 -- a clone of a call
 pub call-clone : (x y : Call) → (call_clone.ghosts).is_clone x y → IsSameCall x y
 call-clone (call.Comment x) (call.Comment y) e = cc
-call-clone (call.Comment x) other e = absurd e
 call-clone (call.Pair k v) (call.Pair l w) e = (cc, cc)
-call-clone (call.Pair k v) other e = absurd e
 call-clone (call.Prefix x) (call.Prefix y) e = cc
-call-clone (call.Prefix x) other e = absurd e
 call-clone (call.Separator x) (call.Separator y) e = cc
-call-clone (call.Separator x) other e = absurd e
 call-clone (call.Ending x) (call.Ending y) e = cc
-call-clone (call.Ending x) other e = absurd e
 call-clone call.Flush call.Flush e = tt
-call-clone call.Flush other e = absurd e
 call-clone (call.AsciiOnly on) (call.AsciiOnly same) e = cc
-call-clone (call.AsciiOnly on) other e = absurd e
+call-clone x y e = absurd e

@@ -1,3 +1,1 @@
 pub mod Made
-pub mod Setters
-pub mod Lists

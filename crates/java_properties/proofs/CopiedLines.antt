@@ -10,8 +10,7 @@ use Rattle.std.proofs.lemmas.Str.{IsUtf8-between, encodes-chars}
 use Rattle.properties_format.specs.Text.{byte, scalar}
 use Rattle.properties_format.specs.Encoding.{windows_1252}
 use Rattle.properties_format.specs.Entries.{pair}
-use Rattle.properties_format.specs.Escapes as escapes
-use Rattle.properties_format.specs.Escapes.{Means, means, breaks, IsMeaning, Spelling, spelling_character, spellings_before}
+use Rattle.properties_format.specs.Escapes.{Means, means, IsMeaning, Spelling, spelling_character, spellings_before}
 use Rattle.properties_format.specs.Items.{MeansPair, IsOutcome, given, broken}
 use Rattle.properties_format.specs.Settings.{Settings}
 use Rattle.properties_format.specs.Split as split
@@ -89,32 +88,18 @@ pub record IsWithin (n : ℕ) (span : Span) : Type 0 where
 pub comment-within : (line : List ℕ) (text : Span) → IsCommentAt line text → IsWithin (length line) text
 comment-within line text h =
     let d = h.division in
-    let raw = bytes_in line text in
-    let whole = ap length d.whole ∙ length-append d.indent (d.sign ∷ d.rest) in
-    let rest = ap length d.trimmed.whole ∙ length-append d.trimmed.before (raw ++ d.trimmed.after) in
-    let end = length-append raw d.trimmed.after in
-    record { ordered = omega (arith, h.end); within = omega (arith, h.start, h.end, whole, rest, end) }
+    let whole = simp length-append at (ap length d.whole) in
+    let rest = simp length-append at (ap length d.trimmed.whole) in
+    record { ordered = omega (arith, h.end); within = omega (arith, h.start, h.end, whole, rest) }
 
--- The parts of a pair lie within its line.
-pub record AreWithin (n : ℕ) (key value : Span) : Type 0 where
-  pub key_within : IsWithin n key
-  pub value_within : IsWithin n value
-
-pub pair-within : (line : List ℕ) (key value : Span) → IsPairAt line key value → AreWithin (length line) key value
+-- the parts of a pair lie within its line
+pub pair-within : (line : List ℕ) (key value : Span) → IsPairAt line key value → IsWithin (length line) key × IsWithin (length line) value
 pair-within line key value h =
     let d = h.division in
-    let k = bytes_in line key in
-    let v = bytes_in line value in
-    let whole = ap length d.whole ∙ length-append d.indent (k ++ (d.between ++ v)) in
-    let rest = length-append k (d.between ++ v) in
-    let end = length-append d.between v in
-    record {
-      key_within = record { ordered = omega (arith, h.key_end); within = omega (arith, h.key_start, h.key_end, whole, rest) };
-      value_within = record {
-        ordered = omega (arith, h.key_start, h.key_end, h.value_start, h.value_end, whole, rest, end);
-        within = omega (arith, h.value_end);
-      };
-    }
+    let whole = simp length-append at (ap length d.whole) in (
+      record { ordered = omega (arith, h.key_end); within = omega (arith, h.key_start, h.key_end, whole) },
+      record { ordered = omega (arith, h.key_start, h.key_end, h.value_start, h.value_end, whole); within = omega (arith, h.value_end) },
+    )
 
 -- a part of a line at the front of bytes
 pub front-part : (bytes line : List ℕ) (n : ℕ) (span : Span) → take n bytes ≡ line → IsWithin n span → bytes_in bytes span ≡ bytes_in line span
@@ -133,10 +118,6 @@ front-part bytes line n span front h =
 all-left : (x y : List ℕ) → All scalar (x ++ y) → All scalar x
 all-left [] y h = All-nil scalar
 all-left (c ∷ x) y h = All-cons scalar c x (All-head scalar c (x ++ y) h) (all-left x y (All-tail scalar c (x ++ y) h))
-
--- a line at the front of bytes
-pub front-bytes : (bytes line : List ℕ) (n : ℕ) → All byte bytes → take n bytes ≡ line → All byte line
-front-bytes bytes line n h e = subst (All byte) e (All-take byte n bytes h)
 
 -- the text of a line is of scalar values
 pub text-scalars : (e : LineEncoding) (line : List ℕ) → IsWell e line → All byte line → All scalar (text_in e line)
@@ -195,27 +176,6 @@ span-accepts s e line span (c ∷ key) value h w m = elim (cases_Bool (span.star
   | inr k ↦ rw k refl
 ]
 
--- ---- what a line is
-
--- a comment whose escapes can be resolved, and one whose escapes can't
-pub comment-is : (e : LineEncoding) (text raw : List ℕ) → split_of text ≡ split.comment (text_in e raw) → (c : Checks e raw (Ok tt)) → outcome_of text ≡ comment_outcome (means c.0)
-comment-is e text raw h c = ap split_outcome h ∙ ap comment_outcome c.1
-
-pub comment-breaks : (e : LineEncoding) (text raw : List ℕ) (kind : Malformed) → split_of text ≡ split.comment (text_in e raw) → Checks e raw (Err kind)
-    → outcome_of text ≡ broken (malformed_in kind)
-comment-breaks e text raw kind h c = ap split_outcome h ∙ ap comment_outcome c
-
--- a pair whose escapes can be resolved, and one whose escapes can't
-module _ (text raw_key raw_value : List ℕ) (h : split_of text ≡ split.pair raw_key raw_value) where
-  pub pair-is : (key value : List ℕ) → meaning_of raw_key ≡ means key → meaning_of raw_value ≡ means value → outcome_of text ≡ given (pair key value)
-  pair-is key value k v = ap split_outcome h ∙ ap₂ pair_outcome k v
-
-  pub key-breaks : (kind : escapes.Malformed) → meaning_of raw_key ≡ breaks kind → outcome_of text ≡ broken kind
-  key-breaks kind k = ap split_outcome h ∙ ap (λ v. pair_outcome v (meaning_of raw_value)) k
-
-  pub value-breaks : (key : List ℕ) (kind : escapes.Malformed) → meaning_of raw_key ≡ means key → meaning_of raw_value ≡ breaks kind → outcome_of text ≡ broken kind
-  value-breaks key kind k v = ap split_outcome h ∙ ap₂ pair_outcome k v
-
 -- ---- what is built
 
 -- an empty line is blank
@@ -230,15 +190,16 @@ pub record AreFound (e : LineEncoding) (line bytes : List ℕ) (parts : Option P
   pub places : AreInPlace line parts
   pub spans : IsUtf8 line → AreSpans line parts
 
-pub found-in : (e : LineEncoding) (line bytes slice : List ℕ) (parts : Option ParsedSpans) → IsWell e line → take (length line) bytes ≡ line → slice ≡ line
-    → IsSplit slice (spanned slice parts) → AreInPlace slice parts → (IsUtf8 slice → AreFoundInText slice parts) → AreFound e line bytes parts
-found-in e line bytes slice parts w front is h places t =
-    let text = subst (λ v. IsUtf8 v → AreFoundInText v parts) is t in
+pub found-in : (e : LineEncoding) (line bytes : List ℕ) (n : ℕ) (parts : Option ParsedSpans) → IsWell e line → take (length line) bytes ≡ line → n ≡ length line
+    → IsSplit (take n bytes) (spanned (take n bytes) parts) → AreInPlace (take n bytes) parts → (IsUtf8 (take n bytes) → AreFoundInText (take n bytes) parts) → AreFound e line bytes parts
+found-in e line bytes n parts w front same h places t =
+    let is = ap (λ n. take n bytes) same ∙ front in
+    let text = rw is at t in
     record {
       well = w;
       front = front;
-      split = split-in e line parts w (subst (λ v. IsSplit v (spanned v parts)) is h) text;
-      places = subst (λ v. AreInPlace v parts) is places;
+      split = split-in e line parts w (rw is at h) text;
+      places = rw is at places;
       spans = λ u. (text u).spans;
     }
 
@@ -256,17 +217,17 @@ module _ (e : LineEncoding) (line bytes : List ℕ) (text : Span) (f : AreFound 
   pub comment-read : Checks e (bytes_in bytes text) (Ok tt) → IsNoPair (text_in e line)
   comment-read c =
       let k = subst (λ v. Checks e v (Ok tt)) same-comment c in
-      inr (k.0, comment-is e (text_in e line) (bytes_in line text) f.split k)
+      inr (k.0, ap split_outcome f.split ∙ ap comment_outcome k.1)
 
   pub comment-unread : (kind : Malformed) → Checks e (bytes_in bytes text) (Err kind) → outcome_of (text_in e line) ≡ broken (malformed_in kind)
-  comment-unread kind c = comment-breaks e (text_in e line) (bytes_in line text) kind f.split (subst (λ v. Checks e v (Err kind)) same-comment c)
+  comment-unread kind c = ap split_outcome f.split ∙ ap comment_outcome (subst (λ v. Checks e v (Err kind)) same-comment c)
 
 module _ (e : LineEncoding) (line bytes : List ℕ) (key value : Span) (f : AreFound e line bytes (Some (spans.KVPair key value))) where
   same-key : bytes_in bytes key ≡ bytes_in line key
-  same-key = front-part bytes line (length line) key f.front (pair-within line key value f.places).key_within
+  same-key = front-part bytes line (length line) key f.front (pair-within line key value f.places).0
 
   same-value : bytes_in bytes value ≡ bytes_in line value
-  same-value = front-part bytes line (length line) value f.front (pair-within line key value f.places).value_within
+  same-value = front-part bytes line (length line) value f.front (pair-within line key value f.places).1
 
   pub key-well : IsWell e (bytes_in bytes key)
   key-well = subst (IsWell e) (sym same-key) (well-in e line key f.well (λ u. (f.spans u).0))
@@ -286,24 +247,23 @@ module _ (e : LineEncoding) (line bytes : List ℕ) (key value : Span) (f : AreF
         → HasBuilt (text_in e line) accepted w
     pair-built accepted all b same takes =
         let text = text_in e line in
-        let o = pair-is text (text_in e (bytes_in line key)) (text_in e (bytes_in line value)) f.split b.0 b.1 (key-means ∙ b.2) (value-means ∙ b.3) in
-        let scalars = text-scalars e line f.well (front-bytes bytes line (length line) all f.front) in
+        let o = ap split_outcome f.split ∙ ap₂ pair_outcome (key-means ∙ b.2) (value-means ∙ b.3) in
+        let scalars = text-scalars e line f.well (subst (All byte) f.front (All-take byte (length line) bytes all)) in
         let well = well-in e line key f.well (λ u. (f.spans u).0) in
         record {
           key = b.0;
           value = b.1;
           outcome = o;
           scalars = pair-scalars text b.0 b.1 scalars o;
-          accepts = takes ∙ span-accepts w.settings e line key b.0 b.1 (pair-within line key value f.places).key_within well (key-means ∙ b.2);
+          accepts = takes ∙ span-accepts w.settings e line key b.0 b.1 (pair-within line key value f.places).0 well (key-means ∙ b.2);
           built = b.4 ∙ sym (ap (λ (x : Engine). line_bytes x (pair b.0 b.1)) same);
         }
 
     -- or the pair is malformed, or memory ran out
     pub pair-unbuilt : (error : UnescapeError) → BuildsPair old p (Err error) w.line → BuildsLine (text_in e line) (Err error) w
     pair-unbuilt (error.Malformed kind) (inl b) =
-        key-breaks (text_in e line) (text_in e (bytes_in line key)) (text_in e (bytes_in line value)) f.split (malformed_in kind) (key-means ∙ b)
-    pair-unbuilt (error.Malformed kind) (inr (meant, m, b)) =
-        value-breaks (text_in e line) (text_in e (bytes_in line key)) (text_in e (bytes_in line value)) f.split meant (malformed_in kind) (key-means ∙ m) (value-means ∙ b)
+        ap split_outcome f.split ∙ ap (λ v. pair_outcome v (meaning_of (text_in e (bytes_in line value)))) (key-means ∙ b)
+    pair-unbuilt (error.Malformed kind) (inr (meant, m, b)) = ap split_outcome f.split ∙ ap₂ pair_outcome (key-means ∙ m) (value-means ∙ b)
     pair-unbuilt error.Memory b = tt
 
 -- why nothing was built says why a line has no item

@@ -1,5 +1,5 @@
 -- The lines that an engine builds, from their parts.
-use Rattle.std.proofs.Common.{◌≡◌, ◌<◌, ◌==◌, ◌++◌, ◌+◌, ◌^◌, ℕ, Bool, true, false, List, [], refl, ap, ap₂, sym, subst, ◌∙◌, append_assoc, inl, inr}
+use Rattle.std.proofs.Common.{◌≡◌, ◌<◌, ◌==◌, ◌++◌, ◌+◌, ◌^◌, ℕ, Bool, true, false, List, [], refl, ap, sym, subst, ◌∙◌, append_assoc, inl, inr}
 use Rattle.std.specs.Prelude.{Some, Option, Result, Ok, Err}
 use Rattle.std.specs.declared.io.Error.{Error}
 use Rattle.counted_io.specs.Streams.{Sink, HasWritten, HasSentPart}
@@ -7,14 +7,14 @@ use Rattle.properties_format.specs.Text.{line_ending_text}
 use Rattle.properties_format.specs.Entries.{Content, comment, pair}
 use Rattle.properties_format.specs.Writing.{is_accepted}
 use Rattle.properties_format.specs.Printing.{encoded_text, printed_characters, printed_key, in_prefix, in_comment, in_key_or_value}
-use Rattle.properties_format.proofs.Printing.Characters.{encoded_text-ascii, printed-comment, printed-pair}
+use Rattle.properties_format.proofs.Printing.Characters.{AreAscii, encoded_text-ascii, printed-comment, printed-pair}
 use Rattle.properties_text.specs.Encoding.{line_of}
 use Rattle.properties_items.specs.Errors.{IsError, IsBareError, cause_of_write}
 use Rattle.java_properties.specs.PropertiesWriter.{Writing, call_of, TakesLine, HasWrittenLine, RefusesLine, FailsInLine}
 use Rattle.properties_items.specs.declared.error.ErrorKind.TheVariants.{Io}
 use Rattle.properties_items.specs.declared.error.PropertiesError.{PropertiesError}
 use Rattle.java_properties.specs.Private.Engine.{writing, NumbersLine, SendsLine, repertoire_in, repertoire_of, line_bytes, comment_bytes, BuildsPair}
-use Rattle.properties_format.specs.Encoding.{utf_8}
+use Rattle.properties_format.specs.Encoding.{Encoding, utf_8}
 use Rattle.properties_format.proofs.AsciiOnly.{printed_characters-ascii, printed_characters-same, printed_key-ascii, printed_key-same}
 use Rattle.properties_text.specs.Printing.{text_bytes, key_bytes, puts_of, place_of, encoding_in, only_in}
 use Rattle.properties_text.specs.PrintedTexts.{PrintsPair}
@@ -28,6 +28,10 @@ use Rattle.properties_text.specs.declared.print.Repertoire.{Repertoire}
 use Rattle.properties_text.specs.declared.print.Repertoire.TheVariants as repertoire
 use Rattle.properties_text.specs.declared.escape.UnescapeError.{UnescapeError}
 use Rattle.java_properties.specs.declared.writer.engine.Engine.{Engine}
+use Rattle.std.proofs.lemmas.Bool.{eq-eqb}
+use Rattle.std.proofs.lemmas.Str.{chars-nil}
+use Rattle.std.proofs.lemmas.Result.{on_ok_weaker}
+use Rattle.properties_items.proofs.RawTexts.{line_ending-bytes, separator-bytes}
 
 -- the bytes of the line ending
 abbrev pub ending_bytes : Engine → List ℕ
@@ -44,32 +48,28 @@ repertoire-of repertoire.Utf8 line.Utf8 same h = refl
 repertoire-of repertoire.Ascii e same h = absurd (cc)
 
 -- ASCII alone is the same bytes in each encoding
+alike : (e : Encoding) (x y : List ℕ) → AreAscii x → AreAscii y → x ≡ y → encoded_text utf_8 x ≡ encoded_text e y
+alike e x y h k same = encoded_text-ascii utf_8 x h ∙ same ∙ sym (encoded_text-ascii e y k)
+
 text-alike : (only : Bool) (e : LineEncoding) (p : Place) (text : List ℕ)
     → text_bytes (repertoire_in only e) p text ≡ encoded_text (line_of e) (printed_characters (line_of e) only (place_of p) text)
 text-alike false line.Windows1252 p text = refl
 text-alike false line.Utf8 p text = refl
 text-alike true e p text =
-    encoded_text-ascii utf_8 (printed_characters utf_8 true (place_of p) text) (printed_characters-ascii utf_8 (place_of p) text)
-    ∙ printed_characters-same utf_8 (line_of e) (place_of p) text
-    ∙ sym (encoded_text-ascii (line_of e) (printed_characters (line_of e) true (place_of p) text) (printed_characters-ascii (line_of e) (place_of p) text))
+    alike (line_of e) _ _ (printed_characters-ascii utf_8 (place_of p) text) (printed_characters-ascii _ (place_of p) text) (printed_characters-same utf_8 (line_of e) (place_of p) text)
 
 value-alike : (only : Bool) (e : LineEncoding) (text : List ℕ)
     → puts_of (repertoire_in only e) text ≡ encoded_text (line_of e) (printed_characters (line_of e) only in_key_or_value text)
 value-alike false line.Windows1252 text = refl
 value-alike false line.Utf8 text = refl
 value-alike true e text =
-    encoded_text-ascii utf_8 (printed_characters utf_8 true in_key_or_value text) (printed_characters-ascii utf_8 in_key_or_value text)
-    ∙ printed_characters-same utf_8 (line_of e) in_key_or_value text
-    ∙ sym (encoded_text-ascii (line_of e) (printed_characters (line_of e) true in_key_or_value text) (printed_characters-ascii (line_of e) in_key_or_value text))
+    alike (line_of e) _ _ (printed_characters-ascii utf_8 in_key_or_value text) (printed_characters-ascii _ in_key_or_value text) (printed_characters-same utf_8 (line_of e) in_key_or_value text)
 
 key-alike : (only : Bool) (e : LineEncoding) (first : Bool) (key : List ℕ)
     → key_bytes (repertoire_in only e) first key ≡ encoded_text (line_of e) (printed_key (line_of e) only first key)
 key-alike false line.Windows1252 first key = refl
 key-alike false line.Utf8 first key = refl
-key-alike true e first key =
-    encoded_text-ascii utf_8 (printed_key utf_8 true first key) (printed_key-ascii utf_8 first key)
-    ∙ printed_key-same utf_8 (line_of e) first key
-    ∙ sym (encoded_text-ascii (line_of e) (printed_key (line_of e) true first key) (printed_key-ascii (line_of e) first key))
+key-alike true e first key = alike (line_of e) _ _ (printed_key-ascii utf_8 first key) (printed_key-ascii _ first key) (printed_key-same utf_8 (line_of e) first key)
 
 -- ---- what is built in an empty buffer
 
@@ -80,11 +80,9 @@ comment-built w text cleared printed all ending h k m n =
     let e = line_of w.encoding in
     let front = encoded_text e (printed_characters e w.settings.ascii_only in_prefix w.settings.comment_prefix) in
     let rest = encoded_text e (printed_characters e w.settings.ascii_only in_comment text) in
-    n ∙ ap₂ (λ u v. u ++ v) (k ∙ ap (λ v. v ++ comment_bytes w text) h) m
-    ∙ ap (λ v. v ++ ending_bytes w) (ap₂ (λ u v. u ++ v) (text-alike w.settings.ascii_only w.encoding place.Prefix w.settings.comment_prefix)
-    (text-alike w.settings.ascii_only w.encoding place.Comment text))
-    ∙ append_assoc front rest (ending_bytes w)
-    ∙ sym (printed-comment e w.settings (w.lines == 0) text)
+    let prefix = text-alike w.settings.ascii_only w.encoding place.Prefix w.settings.comment_prefix in
+    let body = text-alike w.settings.ascii_only w.encoding place.Comment text in
+    rw (n, k, h, m, prefix, body, printed-comment e w.settings (w.lines == 0) text) (append_assoc front rest (ending_bytes w))
 
 -- a key, a separator, a value and a line ending
 pub pair-built : (w : Engine) (key value cleared separator ending all : List ℕ) → cleared ≡ []
@@ -92,14 +90,9 @@ pub pair-built : (w : Engine) (key value cleared separator ending all : List ℕ
     → all ≡ cleared ++ (key_bytes (repertoire_of w) (w.lines == 0) key ++ (separator ++ (puts_of (repertoire_of w) value ++ ending)))
     → all ≡ line_bytes w (pair key value)
 pair-built w key value cleared separator ending all h s m n =
-    let e = line_of w.encoding in
-    let front = encoded_text e (printed_key e w.settings.ascii_only (w.lines == 0) key) in
-    let back = puts_of (repertoire_of w) value in
-    n ∙ ap (λ v. v ++ (key_bytes (repertoire_of w) (w.lines == 0) key ++ (separator ++ (back ++ ending)))) h
-    ∙ ap (λ v. v ++ (separator ++ (back ++ ending))) (key-alike w.settings.ascii_only w.encoding (w.lines == 0) key)
-    ∙ ap (λ v. front ++ (v ++ (back ++ ending))) s
-    ∙ ap₂ (λ u v. front ++ (encoded_text e w.settings.kv_separator ++ (u ++ v))) (value-alike w.settings.ascii_only w.encoding value) m
-    ∙ sym (printed-pair e w.settings (w.lines == 0) key value)
+    let named = key-alike w.settings.ascii_only w.encoding (w.lines == 0) key in
+    let valued = value-alike w.settings.ascii_only w.encoding value in
+    rw (n, h, named, s, valued, m) (sym (printed-pair (line_of w.encoding) w.settings (w.lines == 0) key value))
 
 -- the pair that a spelling means
 pub spelt-built : (w : Engine) (p : Pair) (cleared separator ending new : List ℕ) → cleared ≡ []
@@ -147,3 +140,11 @@ module _ {W : Type 0} {sink : Sink W} (w built : Engine) (from : W) (line : Cont
     is = subst (λ n. IsError Io (Some n) (cause_of_write cause) error) next e;
     after = h.1 ∙ ap (λ (e : Engine). record (writing e from) { sink = after.sink; failed = true }) same;
   }
+
+pub ruleset repertoires = (repertoire-of)
+
+pub ruleset spans = (eq-eqb, chars-nil)
+
+pub ruleset building = (on_ok_weaker, comment-built, pair-built, line_ending-bytes, separator-bytes)
+
+pub ruleset spelling = (spelt-built, line_ending-bytes, separator-bytes)

@@ -2,18 +2,18 @@
 use Rattle.std.proofs.Common.{◌≡◌, ℕ, true, false, List, [], ◌∷◌, ◌++◌, refl, sym, ap, ap₂, subst, ◌∙◌, inl, inr, append_assoc, append-nil}
 use Rattle.std.specs.Prelude.{◌⊎◌, Some, None, Result, Ok, Err}
 use Rattle.std.specs.Str.{chars, IsUtf8, is_utf8}
-use Rattle.std.proofs.lemmas.Str.{IsUtf8-from_is_utf8, is_utf8-from_IsUtf8, chars-nil}
+use Rattle.std.proofs.lemmas.Str.{IsUtf8-nil, IsUtf8-from_is_utf8, is_utf8-from_IsUtf8, chars-nil}
 use Rattle.properties_format.specs.Split.{IsSplit}
 use Rattle.properties_text.specs.Parsing.{in_characters, spanned}
 use Rattle.std.proofs.lemmas.Bool.{cases_Bool}
-use Rattle.properties_format.specs.Entries.{Content, Entry, item, malformed}
-use Rattle.properties_format.specs.Items.{ignored, given}
+use Rattle.properties_format.specs.Entries.{Content, item}
+use Rattle.properties_format.specs.Items.{Outcome, ignored, given, broken}
 use Rattle.properties_format.specs.Computed.Items.{outcome_of, followed}
 use Rattle.counted_io.specs.Streams.{Reader, HasRead}
 use Rattle.counted_io.proofs.Streams.{read-none, read-more, failed-more}
 use Rattle.properties_format.specs.Lines.{Line, InputEnd, end, fault, more}
-use Rattle.properties_format.specs.ItemsToCome.{ReaderState, AreLinesToCome}
-use Rattle.properties_format.specs.Computed.ItemsToCome.{items_to_come, natural_to_come}
+use Rattle.properties_format.specs.ItemsToCome.{ReaderState}
+use Rattle.properties_format.specs.Computed.ItemsToCome.{items_to_come}
 use Rattle.properties_format.proofs.ItemsToCome.Unique.{items_to_come-done}
 use Rattle.properties_format.proofs.ItemsToCome.Lines.{natural-done}
 use Rattle.properties_format.proofs.ItemsToCome.Divisions.{lines_come_first, natural_to_come-meets}
@@ -33,7 +33,6 @@ use Rattle.properties_items.specs.declared.error.ErrorKind.TheVariants.{Memory}
 use Rattle.properties_items.specs.declared.found.Found.{Found}
 use Rattle.properties_items.specs.declared.error.PropertiesError.{PropertiesError}
 use Rattle.properties_items.specs.declared.line.Line as line
-use Rattle.java_properties.specs.PropertiesIter.{entry_of}
 
 -- ---- the line that was read last
 
@@ -46,6 +45,8 @@ kept-utf8 bytes u = rw (is_utf8-from_IsUtf8 bytes u) refl
 kept-none : (bytes : List ℕ) → is_utf8 bytes ≡ false → in_utf_8 bytes ≡ []
 unfolding in_utf_8
 kept-none bytes k = rw k refl
+
+pub ruleset keeping = (kept-utf8, IsUtf8-nil)
 
 -- Nothing comes after something in an empty text.
 none-last : (xs ys : List ℕ) → [] ≡ xs ++ ys → ys ≡ []
@@ -71,11 +72,7 @@ come-next (Passes.going_on g h) = ComeNext.going_on g (lines_come_first h)
 come-next {old} {new} {bytes} {lines} (Passes.at_last d h) =
     let none = natural-done new [] end d in
     let all = h.natural ∙ ap (λ v. lines ++ v) none.0 ∙ append-nil lines in
-    ComeNext.at_last d (
-    subst (λ v. AreLinesToCome old bytes end v []) all (
-    subst (λ v. AreLinesToCome old bytes end (natural_to_come old bytes end) v) (h.last ∙ none.1) (natural_to_come-meets old bytes end)
-    )
-    )
+    ComeNext.at_last d (rw (all, h.last ∙ none.1) at (natural_to_come-meets old bytes end))
 
 -- ---- item after item
 
@@ -88,17 +85,15 @@ pub record Passed {R : Type 0} (reader : Reader R) (old : ReaderState) (from : R
   pub passes : new.is_done ≡ false → PassesSome old bytes new
   pub lazy : IsLazyItems old from bytes to
 
-passed-items : (s : ReaderState) (R : Type 0) (reader : Reader R) (from : R)
-    → (s.is_done ≡ false) × ((d : List ℕ) (ending : InputEnd) → items_to_come s ([] ++ d) ending ≡ items_to_come s d ending)
-    ⊎ (s.is_done ≡ true) × (items_to_come s [] end ≡ []) × ((s.is_done ≡ true) ⊎ (reader.at_end from ≡ true))
-passed-items s R reader from = elim (cases_Bool s.is_done) [
-  | inl h ↦ inr (h, items_to_come-done s [] end h, inl h)
-  | inr h ↦ inl (h, λ d ending. refl)
-]
-
 module _ {R : Type 0} {reader : Reader R} where
   pub passed-start : (s : ReaderState) (from : R) → Passed reader s from [] s from
-  passed-start s from = record { read = read-none from; live = λ h. (refl, refl, refl); items = passed-items s R reader from; passes = λ g. some-start s; lazy = inl (refl, refl) }
+  passed-start s from = record {
+    read = read-none from;
+    live = λ h. (refl, refl, refl);
+    items = elim (cases_Bool s.is_done) [ inl h ↦ inr (h, items_to_come-done s [] end h, inl h) | inr h ↦ inl (h, λ d ending. refl) ];
+    passes = λ g. some-start s;
+    lazy = inl (refl, refl);
+  }
 
   passed-live : {s t : ReaderState} {from to : R} {r : List ℕ} → Passed reader s from r t to → t.is_done ≡ false → s.is_done ≡ false
   passed-live {s} h g = elim (cases_Bool s.is_done) [
@@ -106,27 +101,28 @@ module _ {R : Type 0} {reader : Reader R} where
     | inr e ↦ e
   ]
 
-  -- the items to come where no more than the held bytes come
-  passed-more : {s t : ReaderState} {from to : R} {r : List ℕ} → Passed reader s from r t to → t.is_done ≡ false → r ≡ [] → items_to_come t [] more ≡ [] → items_to_come s [] more ≡ []
-  passed-more {s} {t} {to = to} {r = r} h g e none = by-items h.items
-    where
-      by-items : (t.is_done ≡ false) × ((d : List ℕ) (ending : InputEnd) → items_to_come s (r ++ d) ending ≡ items_to_come t d ending)
-          ⊎ (t.is_done ≡ true) × (items_to_come s r end ≡ []) × ((s.is_done ≡ true) ⊎ (reader.at_end to ≡ true)) → items_to_come s [] more ≡ []
-      by-items (inr k) = let d = k.0 in absurd (cc)
-      by-items (inl k) = ap (λ v. items_to_come s (v ++ []) more) (sym e) ∙ k.1 [] more ∙ none
-
-  passed-lazy : {s t : ReaderState} {from to next : R} {r q : List ℕ} → Passed reader s from r t to → t.is_done ≡ false → IsLazyItems t to q next → IsLazyItems s from (r ++ q) next
-  passed-lazy h g (inl k) = elim h.lazy [ inl e ↦ inl (k.0 ∙ e.0, ap₂ (λ v w. v ++ w) e.1 k.1) | inr e ↦ inr e ]
-  passed-lazy h g (inr k) = elim h.lazy [ inl e ↦ inr (passed-more h g e.1 k) | inr e ↦ inr e ]
-
   -- the items of what was read, where there are more
   passed-on : {s t : ReaderState} {from to : R} {r : List ℕ} → Passed reader s from r t to → t.is_done ≡ false
       → (d : List ℕ) (ending : InputEnd) → items_to_come s (r ++ d) ending ≡ items_to_come t d ending
   passed-on h g = elim h.items [ inl k ↦ k.1 | inr k ↦ let d = k.0 in absurd (cc) ]
 
-  passed-after : {s t : ReaderState} {from to : R} {r : List ℕ} → Passed reader s from r t to → t.is_done ≡ false
-      → (q d : List ℕ) (ending : InputEnd) → items_to_come s ((r ++ q) ++ d) ending ≡ items_to_come t (q ++ d) ending
-  passed-after {s} {r = r} h g q d ending = ap (λ v. items_to_come s v ending) (append_assoc r q d) ∙ passed-on h g (q ++ d) ending
+  -- the items to come where no more than the held bytes come
+  passed-more : {s t : ReaderState} {from to : R} {r : List ℕ} → Passed reader s from r t to → t.is_done ≡ false → r ≡ [] → items_to_come t [] more ≡ [] → items_to_come s [] more ≡ []
+  passed-more {s} h g e none = ap (λ v. items_to_come s (v ++ []) more) (sym e) ∙ passed-on h g [] more ∙ none
+
+  passed-lazy : {s t : ReaderState} {from to next : R} {r q : List ℕ} → Passed reader s from r t to → t.is_done ≡ false → IsLazyItems t to q next → IsLazyItems s from (r ++ q) next
+  passed-lazy h g (inl k) = elim h.lazy [ inl e ↦ inl (k.0 ∙ e.0, ap₂ (λ v w. v ++ w) e.1 k.1) | inr e ↦ inr e ]
+  passed-lazy h g (inr k) = elim h.lazy [ inl e ↦ inr (passed-more h g e.1 k) | inr e ↦ inr e ]
+
+  -- the items of one line more
+  passed-after : {s t : ReaderState} {from to next : R} {r : List ℕ} (line : Line) (new : ReaderState) (o : Outcome) → Passed reader s from r t to
+      → (n : JoinsLine reader t to line new next) → outcome_of line.text ≡ o
+      → (new.is_done ≡ false) × ((d : List ℕ) (ending : InputEnd) → items_to_come s ((r ++ n.bytes) ++ d) ending ≡ followed line.number o (items_to_come new d ending))
+      ⊎ (new.is_done ≡ true) × (items_to_come s (r ++ n.bytes) end ≡ followed line.number o [])
+  passed-after {r = r} line new o h n is = elim n.comes [
+    | Comes.going_on k logical ↦ inl (k, λ d ending. rw (append_assoc r n.bytes d, ← is) (passed-on h n.live (n.bytes ++ d) ending ∙ logical.items d ending))
+    | Comes.at_last k items ↦ inr (k, rw (← is) (passed-on h n.live n.bytes end ∙ items))
+  ]
 
   -- an item came, in a line that is spelt as in the input
   pub gives-spelt : {s t : ReaderState} {from to next : R} {r : List ℕ} (line : Line) (new : ReaderState) (content : Content) → Passed reader s from r t to
@@ -137,7 +133,7 @@ module _ {R : Type 0} {reader : Reader R} where
       bytes = r ++ n.bytes;
       read = read-more h.read n.read;
       live = passed-live h n.live;
-      gives = by-comes n.comes;
+      gives = elim (passed-after line new (given content) h n o) [ inl k ↦ Gives.going_on k.0 (record { items = k.1 }) | inr k ↦ Gives.at_last k.0 k.1 ];
       passes = λ g. some-on (h.passes n.live) (n.passes g);
       ended = n.ended;
       lazy = passed-lazy h n.live n.lazy;
@@ -152,13 +148,6 @@ module _ {R : Type 0} {reader : Reader R} where
       ends = n.group.ends;
     },
   )
-    where
-      by-comes : Comes t n.bytes line new → Gives s (r ++ n.bytes) (item line.number content) new
-      by-comes (Comes.going_on k logical) = Gives.going_on k (record {
-        items = λ d ending.
-            passed-after h n.live n.bytes d ending ∙ logical.items d ending ∙ ap (λ v. followed line.number v (items_to_come new d ending)) o;
-      })
-      by-comes (Comes.at_last k items) = Gives.at_last k (passed-on h n.live n.bytes end ∙ items ∙ ap (λ v. followed line.number v []) o)
 
   -- a blank line came
   pub passed-blank : {s t : ReaderState} {from to next : R} {r : List ℕ} (line : Line) (new : ReaderState) → Passed reader s from r t to
@@ -166,21 +155,10 @@ module _ {R : Type 0} {reader : Reader R} where
   passed-blank {s} {t} {next = next} {r = r} line new h n o = record {
     read = read-more h.read n.read;
     live = λ e. let l = passed-live h n.live in absurd (cc);
-    items = by-comes n.comes;
+    items = elim (passed-after line new ignored h n o) [ inl k ↦ inl k | inr k ↦ inr (k.0, k.1, inr (n.ended k.0)) ];
     passes = λ g. some-on (h.passes n.live) (n.passes g);
     lazy = passed-lazy h n.live n.lazy;
   }
-    where
-      by-comes : Comes t n.bytes line new
-          → (new.is_done ≡ false) × ((d : List ℕ) (ending : InputEnd) → items_to_come s ((r ++ n.bytes) ++ d) ending ≡ items_to_come new d ending)
-          ⊎ (new.is_done ≡ true) × (items_to_come s (r ++ n.bytes) end ≡ []) × ((s.is_done ≡ true) ⊎ (reader.at_end next ≡ true))
-      by-comes (Comes.going_on k logical) = inl (
-        k,
-        λ d ending.
-            passed-after h n.live n.bytes d ending ∙ logical.items d ending ∙ ap (λ v. followed line.number v (items_to_come new d ending)) o,
-      )
-      by-comes (Comes.at_last k items) =
-          inr (k, passed-on h n.live n.bytes end ∙ items ∙ ap (λ v. followed line.number v []) o, inr (n.ended k))
 
   -- a line could not be read
   pub passed-error : {s t : ReaderState} {from to next : R} {r : List ℕ} {e : PropertiesError} → Passed reader s from r t to → t.is_done ≡ false
@@ -220,15 +198,10 @@ module _ {R : Type 0} {reader : Reader R} where
       kind = kind;
       read = read-more h.read n.read;
       is = is;
-      breaks = by-comes n.comes;
+      breaks = elim (passed-after line new (broken kind) h n o) [ inl k ↦ BreaksOff.before_all k.1 | inr k ↦ BreaksOff.at_last (n.ended k.0) k.1 ];
       lazy = passed-lazy h n.live n.lazy;
     }),
   )
-    where
-      by-comes : Comes t n.bytes line new → BreaksOff s (r ++ n.bytes) (malformed kind line.number) (reader.at_end next)
-      by-comes (Comes.going_on k logical) = BreaksOff.before_all (λ d ending.
-          passed-after h n.live n.bytes d ending ∙ logical.items d ending ∙ ap (λ v. followed line.number v (items_to_come new d ending)) o)
-      by-comes (Comes.at_last k items) = BreaksOff.at_last (n.ended k) (passed-on h n.live n.bytes end ∙ items ∙ ap (λ v. followed line.number v []) o)
 
   -- no line came
   pub passed-none : {s t u : ReaderState} {from to next : R} {r : List ℕ} → Passed reader s from r t to → t.is_done ≡ true → u ≡ t → next ≡ to
@@ -248,10 +221,7 @@ module _ {R : Type 0} {reader : Reader R} where
   -- an item came, and is owned now, or there was no memory for that
   pub gives-owned : {s : ReaderState} {from to : R} (found : Found) (old new : LineState) (answer : Result line.Line PropertiesError)
       → GivesEntry reader s from (found_entry old.line found) old.state to → Owns old found answer new → GivesItem reader s from (Some answer) new.state to
-  gives-owned {s} {from} {to} found old new (Ok line) n k =
-      let P : Entry → Type 0 = λ v. GivesEntry reader s from v old.state to in
-      let Q : LineState → Type 0 = λ v. GivesEntry reader s from (entry_of line) v.state to in
-      subst Q (sym k.1) (subst P (sym k.0) n)
+  gives-owned found old new (Ok line) n k = rw (k.0, k.1) n
   gives-owned found old new (Err e) n k = (n.live, ap (λ v. let w : LineState = v in w.state.is_done) k.1, inr (no-room n.bytes n.read n.lazy k.0))
 
 -- ---- no line came

@@ -6,9 +6,8 @@ use Rattle.std.specs.Prelude.{Some, None, Result, Ok, Err}
 use Rattle.std.specs.Global.{Global}
 use Rattle.std.specs.declared.string.String.{String}
 use Rattle.std.proofs.lemmas.Fn.{FoldsTo-push}
-use Rattle.counted_io.specs.Streams.{Reader, HasRead}
+use Rattle.counted_io.specs.Streams.{Reader}
 use Rattle.counted_io.proofs.Streams.{read-none, read-more}
-use Rattle.properties_format.specs.ItemsToCome.{IsItemsToCome}
 use Rattle.properties_format.specs.Lines.{end}
 use Rattle.properties_items.specs.Line.{content_of}
 use Rattle.java_properties.specs.PropertiesIter.{Iteration, Gives, NextGives, entry_of}
@@ -35,9 +34,7 @@ module _ {R : Type 0} (reader : Reader R) where
       by (Gives.going_on l comes) = record {
         bytes = n.0.bytes ++ k.bytes;
         read = read-more n.0.read k.read;
-        items = λ d ending others h.
-            subst (λ v. IsItemsToCome old.state v ending (entry_of line ∷ (entries_in lines ++ others))) (sym (append_assoc n.0.bytes k.bytes d))
-            (comes.others (k.bytes ++ d) ending (entries_in lines ++ others) (k.items d ending others h));
+        items = λ d ending others h. rw (append_assoc n.0.bytes k.bytes d) (comes.others (k.bytes ++ d) ending (entries_in lines ++ others) (k.items d ending others h));
       }
       by (Gives.at_last l items) = absurd (cc)
 
@@ -68,11 +65,7 @@ module _ {R : Type 0} (reader : Reader R) where
       }
       by (Gives.at_last l items) =
           let none = none-left lines next before new given last l in
-          record {
-            bytes = n.0.bytes;
-            read = subst (λ r. HasRead reader old.reader n.0.bytes r) (sym none.1) n.0.read;
-            items = subst (λ v. IsItemsToCome old.state n.0.bytes end (entry_of line ∷ entries_in v)) (sym none.0) items;
-          }
+          record { bytes = n.0.bytes; read = rw none.1 n.0.read; items = rw none.0 items }
 
   lines-all : (lines : List Line) (old before new : Iteration R) → GivesLines reader old lines before → NextGives reader before None new → HasReadAll reader old lines new
   lines-all [] old before new h n =
@@ -108,28 +101,22 @@ module _ {R F : Type 0} {reader : Reader R} {step : F → String Global → Stri
     given-more : GivesLines reader old (h.lines ++ (line ∷ [])) next
     given-more = FoldsTo-push (λ before (l : Line) after. NextGives reader before (Some (Ok l)) after) old h.lines it line next h.given gives
 
-    -- a comment came
-    called-same : (text : String Global) → content ≡ Comment text → HasCalled reader step old f next g
-    called-same text comment =
-        let none = pairs-more h.lines line ∙ ap (λ c. pairs_among h.lines ++ pair_in c) (sym is ∙ comment) ∙ append-nil (pairs_among h.lines) in
-        let P : List KeyAndValue → Type 0 = λ v. IsCalledOn step f v g in
-        record { lines = h.lines ++ (line ∷ []); given = given-more; called = subst P (sym none) h.called }
-
     -- no pair came
     pub called-other : ((key value : String Global) → content ≡ KVPair key value → ⊥) → HasCalled reader step old f next g
     called-other other = by content refl
       where
         by : (c : LineContent) → content ≡ c → HasCalled reader step old f next g
-        by (Comment text) e = called-same text e
+        by (Comment text) e =
+            let none = pairs-more h.lines line ∙ ap (λ c. pairs_among h.lines ++ pair_in c) (sym is ∙ e) ∙ append-nil (pairs_among h.lines) in
+            record { lines = h.lines ++ (line ∷ []); given = given-more; called = rw none h.called }
         by (KVPair key value) e = absurd (other key value e)
 
     -- a pair came, and the closure was called on it
     pub called-more : (k : F) (key value : String Global) → content ≡ KVPair key value → step g key value tt k → HasCalled reader step old f next k
     called-more k key value pair call =
         let one = pairs-more h.lines line ∙ ap (λ c. pairs_among h.lines ++ pair_in c) (sym is ∙ pair) in
-        let P : List KeyAndValue → Type 0 = λ v. IsCalledOn step f v k in
         let push = FoldsTo-push (λ before (e : KeyAndValue) after. step before e.0 e.1 tt after) f (pairs_among h.lines) g (key, value) k h.called call in
-        record { lines = h.lines ++ (line ∷ []); given = given-more; called = subst P (sym one) push }
+        record { lines = h.lines ++ (line ∷ []); given = given-more; called = rw one push }
 
   -- no line comes any more
   pub called-all : {it : Iteration R} {g : F} (next : Iteration R) (result : Result Unit PropertiesError) → HasCalled reader step old f it g

@@ -6,7 +6,7 @@ use Rattle.counted_io.specs.Streams.{Reader, HasRead}
 use Rattle.counted_io.proofs.Streams.{read-none, read-more, failed-more}
 use Rattle.properties_format.specs.Encoding.{Encoding}
 use Rattle.properties_format.specs.Lines.{InputEnd, end, fault}
-use Rattle.properties_format.specs.Entries.{Entry, malformed}
+use Rattle.properties_format.specs.Entries.{Entry}
 use Rattle.properties_format.specs.Computed.Items.{items_of}
 use Rattle.properties_format.specs.ItemsToCome.{ReaderState, start}
 use Rattle.properties_format.specs.Computed.ItemsToCome.{items_to_come}
@@ -56,6 +56,11 @@ live-on (Comes.going_on g m) h = m
 live-on (Comes.at_last d k m) h = absurd (cc)
 
 module _ {R : Type 0} {reader : Reader R} where
+  -- what comes after more bytes
+  live-after : {e : Encoding} {from to : R} {r : List ℕ} {entries : List Entry} {s : ReaderState} → Collected reader e from r entries s to → s.is_done ≡ false
+      → (q d : List ℕ) (ending : InputEnd) → items_of e ((r ++ q) ++ d) ending ≡ entries ++ items_to_come s (q ++ d) ending
+  live-after {r = r} h g q d ending = rw (append_assoc r q d) (live-on h.comes g (q ++ d) ending)
+
   pub collected-start : (e : Encoding) (from : R) → Collected reader e from [] [] (start e) from
   collected-start e from = record { read = read-none from; comes = Comes.going_on refl (λ d ending. sym (items_to_come-start e d ending)); passes = λ g. some-start (start e) }
 
@@ -64,18 +69,13 @@ module _ {R : Type 0} {reader : Reader R} where
       → (n : GivesEntry reader s to entry t next) → Collected reader e from (r ++ n.bytes) (entries ++ entry ∷ []) t next
   collected-next {e} {to = to} {next = next} {r = r} {entries} {s} {t} {entry} h n = record {
     read = read-more h.read n.read;
-    comes = by-comes h.comes n.gives;
+    comes = elim n.gives [
+      | Gives.going_on k reads ↦ Comes.going_on k (λ d ending.
+          live-after h n.live n.bytes d ending ∙ ap (λ v. entries ++ v) (reads.items d ending) ∙ sym (append_assoc entries (entry ∷ []) (items_to_come t d ending)))
+      | Gives.at_last k items ↦ Comes.at_last k (n.ended k) (live-on h.comes n.live n.bytes end ∙ ap (λ v. entries ++ v) items)
+    ];
     passes = λ g. some-on (h.passes n.live) (n.passes g);
   }
-    where
-      by-comes : Comes e r entries (reader.at_end to) s → Gives s n.bytes entry t → Comes e (r ++ n.bytes) (entries ++ entry ∷ []) (reader.at_end next) t
-      by-comes (Comes.at_last d k m) g = let l = n.live in absurd (cc)
-      by-comes (Comes.going_on g m) (Gives.going_on k reads) = Comes.going_on k (λ d ending.
-          ap (λ v. items_of e v ending) (append_assoc r n.bytes d)
-          ∙ m (n.bytes ++ d) ending
-          ∙ ap (λ v. entries ++ v) (reads.items d ending)
-          ∙ sym (append_assoc entries (entry ∷ []) (items_to_come t d ending)))
-      by-comes (Comes.going_on g m) (Gives.at_last k items) = Comes.at_last k (n.ended k) (m n.bytes end ∙ ap (λ v. entries ++ v) items)
 
   -- no more came
   pub collected-none : {e : Encoding} {from to next : R} {r : List ℕ} {entries : List Entry} {s t : ReaderState} → Collected reader e from r entries s to
@@ -94,23 +94,6 @@ module _ {R : Type 0} {reader : Reader R} where
           let P : R → Type 0 = λ v. ReadsWhole reader e from entries v in
           subst P (sym i.1) (record { bytes = r; read = h.read; ended = k; reading = reading-of e r end entries m })
 
-  -- the items begin with those before a line that could not be kept
-  pub collected-lost : {e : Encoding} {from to next : R} {r : List ℕ} {entries : List Entry} {s t : ReaderState} {entry : Entry} {error : PropertiesError}
-      → Collected reader e from r entries s to → GivesEntry reader s to entry t next → IsBareError kind.Memory error → StopsEarly reader e from entries error next
-  collected-lost {e} {to = to} {next = next} {r = r} {entries} {s} {t} {entry} h n is =
-      record { bytes = r ++ n.bytes; read = read-more h.read n.read; is = inr is; begins = by-comes h.comes n.gives }
-    where
-      by-comes : Comes e r entries (reader.at_end to) s → Gives s n.bytes entry t → BeginsReading e (r ++ n.bytes) entries (reader.at_end next)
-      by-comes (Comes.at_last d k m) g = let l = n.live in absurd (cc)
-      by-comes (Comes.going_on g m) (Gives.going_on k reads) = inl (λ d ending. (
-        entry ∷ items_to_come t d ending,
-        reading-of e ((r ++ n.bytes) ++ d) ending _ (
-            ap (λ v. items_of e v ending) (append_assoc r n.bytes d) ∙ m (n.bytes ++ d) ending ∙ ap (λ v. entries ++ v) (reads.items d ending)
-            ),
-      ))
-      by-comes (Comes.going_on g m) (Gives.at_last k items) =
-          inr (n.ended k, (entry ∷ [], reading-of e (r ++ n.bytes) end _ (m n.bytes end ∙ ap (λ v. entries ++ v) items)))
-
   -- malformed escapes came
   pub collected-malformed : {e : Encoding} {from to next : R} {r : List ℕ} {entries : List Entry} {s : ReaderState} {error : PropertiesError} → Collected reader e from r entries s to
       → s.is_done ≡ false → GivesMalformed reader s to error next → StopsMalformed reader e from entries error next
@@ -120,25 +103,20 @@ module _ {R : Type 0} {reader : Reader R} where
     how = n.kind;
     read = read-more h.read n.read;
     is = n.is;
-    reading = by-breaks n.breaks;
+    reading = elim n.breaks [
+      | BreaksOff.before_all m ↦ inl (λ d ending. reading-of e _ ending _ (live-after h g n.bytes d ending ∙ ap (λ v. entries ++ v) (m d ending)))
+      | BreaksOff.at_last k m ↦ inr (k, reading-of e _ end _ (live-on h.comes g n.bytes end ∙ ap (λ v. entries ++ v) m))
+    ];
   }
-    where
-      entry : Entry
-      entry = malformed n.kind n.number
-
-      by-breaks : BreaksOff s n.bytes (malformed n.kind n.number) (reader.at_end next)
-          → ((d : List ℕ) (ending : InputEnd) → IsReading e ((r ++ n.bytes) ++ d) ending (entries ++ malformed n.kind n.number ∷ []))
-          ⊎ (reader.at_end next ≡ true) × IsReading e (r ++ n.bytes) end (entries ++ malformed n.kind n.number ∷ [])
-      by-breaks (BreaksOff.before_all m) = inl (λ d ending. reading-of e ((r ++ n.bytes) ++ d) ending _ (
-          ap (λ v. items_of e v ending) (append_assoc r n.bytes d) ∙ live-on h.comes g (n.bytes ++ d) ending ∙ ap (λ v. entries ++ v) (m d ending)))
-      by-breaks (BreaksOff.at_last k m) = inr (k, reading-of e (r ++ n.bytes) end _ (live-on h.comes g n.bytes end ∙ ap (λ v. entries ++ v) m))
 
   early : {e : Encoding} {from to : R} {r : List ℕ} {entries : List Entry} {s : ReaderState} → Collected reader e from r entries s to → s.is_done ≡ false
       → (q : List ℕ) {at_end : Bool} → BeginsReading e (r ++ q) entries at_end
-  early {e} {r = r} {entries} {s} h g q = inl (λ d ending. (
-    items_to_come s (q ++ d) ending,
-    reading-of e ((r ++ q) ++ d) ending _ (ap (λ v. items_of e v ending) (append_assoc r q d) ∙ live-on h.comes g (q ++ d) ending),
-  ))
+  early {e} {s = s} h g q = inl (λ d ending. (items_to_come s (q ++ d) ending, reading-of e _ ending _ (live-after h g q d ending)))
+
+  -- the items begin with those before a line that could not be kept
+  pub collected-lost : {e : Encoding} {from to next : R} {r : List ℕ} {entries : List Entry} {s t : ReaderState} {entry : Entry} {error : PropertiesError}
+      → Collected reader e from r entries s to → GivesEntry reader s to entry t next → IsBareError kind.Memory error → StopsEarly reader e from entries error next
+  collected-lost {r = r} h n is = record { bytes = r ++ n.bytes; read = read-more h.read n.read; is = inr is; begins = early h n.live n.bytes }
 
   -- a line could not be read
   pub collected-error : {e : Encoding} {from to next : R} {r : List ℕ} {entries : List Entry} {s : ReaderState} {error : PropertiesError} → Collected reader e from r entries s to
@@ -178,14 +156,14 @@ pub record HasDropped {R : Type 0} (reader : Reader R) (e : Encoding) (from : R)
   pub collected : Collected reader e from bytes (entries_in lines) state to
 
 module _ {R : Type 0} {reader : Reader R} {e : Encoding} where
-  pub dropped-none : (from : R) (s : ReaderState) → s ≡ start e → HasDropped reader e from s from
-  dropped-none from s is = let P : ReaderState → Type 0 = λ v. HasDropped reader e from v from in
-      subst P (sym is) (record { lines = []; bytes = []; collected = collected-start e from })
+  unfoldable pub dropped-none : (from : R) (s : ReaderState) → s ≡ start e → HasDropped reader e from s from
+  dropped-none from s is = record { lines = []; bytes = []; collected = subst (λ v. Collected reader e from [] [] v from) (sym is) (collected-start e from) }
 
-  pub dropped-more : {from to next : R} {s t : ReaderState} (line : Line) → HasDropped reader e from s to → GivesEntry reader s to (entry_of line) t next → HasDropped reader e from t next
+  unfoldable pub dropped-more : {from to next : R} {s t : ReaderState} (line : Line) → HasDropped reader e from s to → GivesEntry reader s to (entry_of line) t next → HasDropped reader e from t next
   dropped-more {from = from} {next = next} {t = t} line h g = record {
     lines = h.lines ++ (line ∷ []);
     bytes = h.bytes ++ g.bytes;
-    collected = let P : List Entry → Type 0 = λ v. Collected reader e from (h.bytes ++ g.bytes) v t next in
-        subst P (entries-more h.lines line) (collected-next h.collected g);
+    collected = subst (λ v. Collected reader e from (h.bytes ++ g.bytes) v t next) (entries-more h.lines line) (collected-next h.collected g);
   }
+
+pub ruleset dropping = (dropped-none, dropped-more)

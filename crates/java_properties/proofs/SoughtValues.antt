@@ -7,7 +7,7 @@ use Rattle.std.specs.declared.string.String.{String}
 use Rattle.counted_io.specs.Streams.{Reader}
 use Rattle.properties_format.specs.Edited.{IsFirstMalformed}
 use Rattle.properties_format.specs.Encoding.{Encoding}
-use Rattle.properties_format.specs.Entries.{Content, comment, pair, Entry, item, malformed, read_fault, AreItems}
+use Rattle.properties_format.specs.Entries.{Content, comment, pair, Entry, item, malformed, AreItems}
 use Rattle.properties_format.specs.Escapes.{Malformed}
 use Rattle.properties_format.specs.Items.{IsItems}
 use Rattle.properties_format.specs.ItemsToCome.{ReaderState, start}
@@ -32,8 +32,7 @@ use Rattle.java_properties.proofs.SliceReads.{slice_reader, slice-read, slice-wh
 items-added : (entries : List Entry) (number : ℕ) (content : Content) → AreItems entries → AreItems (entries ++ item number content ∷ [])
 items-added [] number content h = tt
 items-added (item n c ∷ entries) number content h = items-added entries number content h
-items-added (malformed kind n ∷ entries) number content h = absurd h
-items-added (read_fault n ∷ entries) number content h = absurd h
+items-added (entry ∷ entries) number content h = absurd h
 
 -- the value of a key after one item more
 value-added : (entries : List Entry) (number : ℕ) (content : Content) (key : List ℕ) (value : Option (List ℕ)) → IsValue entries key value
@@ -102,8 +101,7 @@ module _ {R : Type 0} {reader : Reader R} {e : Encoding} {key : List ℕ} where
 first-malformed : (entries : List Entry) (how : Malformed) (number : ℕ) → AreItems entries → IsFirstMalformed how number (entries ++ (malformed how number ∷ []))
 first-malformed [] how number h = (refl, refl)
 first-malformed (item n content ∷ entries) how number h = first-malformed entries how number h
-first-malformed (malformed kind n ∷ entries) how number h = absurd h
-first-malformed (read_fault n ∷ entries) how number h = absurd h
+first-malformed (entry ∷ entries) how number h = absurd h
 
 module _ (e : Encoding) (from to : Bor (List ℕ)) where
   -- the items of a slice whose reading stops at a malformed escape

@@ -76,13 +76,9 @@ state-item reader old new from to (Some (Err e)) h = (h.0, h.1, state-error h.2)
 
 pub state-advance : {R : Type 0} (reader : Reader R) (old new : Iteration R) (answer : Option (Result Found PropertiesError))
     → FindsItem reader old.state old.reader answer (record { state = new.state; line = new.line }) new.reader → AdvancesTo reader old answer new
+unfolding state-entry
 state-advance reader old new None h = state-none h
-state-advance reader old new (Some (Ok found)) h =
-    let n = h.0 in (
-      record { bytes = n.bytes; read = n.read; live = n.live; gives = state-gives n.gives; passes = λ g. state-some (n.passes g); ended = n.ended; lazy = state-lazy n.lazy },
-      h.1,
-      h.2,
-    )
+state-advance reader old new (Some (Ok found)) h = (state-entry h.0, h.1, h.2)
 state-advance reader old new (Some (Err e)) h = (h.0, h.1, state-error h.2)
 
 -- ---- as it is computed
@@ -152,3 +148,5 @@ pub compute-item : {R : Type 0} (reader : Reader R) (old new : ReaderState) (fro
 compute-item reader old new from to None h = compute-none h
 compute-item reader old new from to (Some (Ok line)) h = compute-entry h
 compute-item reader old new from to (Some (Err e)) h = (h.0, h.1, compute-error h.2)
+
+pub ruleset stating = (state-item, state-advance)

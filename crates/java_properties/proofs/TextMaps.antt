@@ -1,7 +1,10 @@
 -- Maps that are read, and maps that are written.
+use Rattle.properties_items.proofs.TextMaps.Values.{same-characters, value-inserted, value-inserted-sorted}
 pub use Rattle.properties_items.proofs.TextMaps.Values
 pub mod Reading
-pub mod Order
 pub mod Writing
-pub mod Distinct
 pub mod ReadBack
+
+pub ruleset puts = (value-inserted, value-inserted-sorted)
+
+pub ruleset texts = (same-characters)

@@ -1,31 +1,25 @@
 -- A source whose reader failed, read again up to that fault.
-use Rattle.std.proofs.Common.{◌≡◌, ℕ, false, List, [], ◌∷◌, ◌++◌, refl, sym, ap, ◌∙◌, inl, inr, subst, append_assoc, append-nil}
-use Rattle.std.specs.Prelude.{if◌then◌else◌, Option, Some, Err, IfErr}
+use Rattle.std.proofs.Common.{◌≡◌, ℕ, false, List, [], ◌++◌, refl, sym, ap, ◌∙◌, inl, inr, subst, append_assoc, append-nil}
+use Rattle.std.specs.Prelude.{◌⊎◌, if◌then◌else◌, Option, Some, Err, IfErr}
 use Rattle.std.specs.declared.io.Error.{Error}
-use Rattle.std.specs.Io.KnownBytes.{Consumes, Keeps}
+use Rattle.std.specs.Io.KnownBytes.{Keeps}
 use Rattle.counted_io.specs.Faults.{HasRisen}
 use Rattle.counted_io.specs.Streams.{Reader, HasRead, HasFailed}
-use Rattle.counted_io.proofs.Streams.{read-more, failed-more}
-use Rattle.properties_format.specs.Encoding.{Encoding, InForce, IsPieces, byte_order_mark}
+use Rattle.counted_io.proofs.Streams.{failed-more}
+use Rattle.properties_format.specs.Encoding.{Encoding, InForce, byte_order_mark}
 use Rattle.properties_format.specs.Escapes.{Malformed, not_enough_digits, not_hex, invalid_character}
-use Rattle.properties_format.specs.Entries.{Entry, malformed, read_fault}
+use Rattle.properties_format.specs.Entries.{Entry}
 use Rattle.properties_format.specs.Lines as format
 use Rattle.properties_format.specs.Lines.{InputEnd, fault}
 use Rattle.properties_format.specs.ItemsToCome.{ReaderState, start, in_force, AreLinesToCome}
 use Rattle.properties_lines.proofs.InputBuffer.{keeps-consumes}
 use Rattle.properties_items.specs.Errors.{cause_of, cause_by, IsError, IsMalformed}
 use Rattle.java_properties.specs.PropertiesIter.{PassesAll}
-use Rattle.java_properties.specs.ReadLines.{IsReading, StopsMalformed, StopsFailed, StopsEarly, StopsReading}
+use Rattle.java_properties.specs.ReadLines.{entries_in, IsReading, StopsMalformed, StopsFailed, StopsEarly, StopsReading}
 use Rattle.java_properties.specs.WholeSources.{FailsInRead}
 use Rattle.properties_items.specs.declared.error.Cause.{Cause}
 use Rattle.properties_items.specs.declared.error.ErrorKind.{ErrorKind}
 use Rattle.properties_items.specs.declared.error.PropertiesError.{PropertiesError}
-
-module _ {R : Type 0} {reader : Reader R} {from place to : R} {bytes : List ℕ} where
-  -- a read that gave bytes, after others
-  pub read-on : (part : List ℕ) → HasRead reader from bytes place → Consumes (reader.remaining place) (reader.remaining to) part → reader.faults to ≡ reader.faults place
-      → HasRead reader from (bytes ++ part) to
-  read-on part h moved same = read-more h (record { moved = moved; faultless = same })
 
 -- a read that failed
 pub fails-here : {R : Type 0} {reader : Reader R} {place to : R} (source : Error) → Keeps (reader.remaining place) (reader.remaining to)
@@ -62,7 +56,7 @@ lines-more s q d ending further last (inr k) = inr (
     pieces = k.1.pieces;
     text = k.1.text;
     all = k.1.all;
-    are_pieces = let P : InForce → Type 0 = λ v. IsPieces v.encoding v.body k.1.pieces in subst P (in_force-more s q d) k.1.are_pieces;
+    are_pieces = rw (← in_force-more s q d) k.1.are_pieces;
     after_end = k.1.after_end;
     divided = k.1.divided;
     are_lines = k.1.are_lines;
@@ -109,8 +103,7 @@ module _ {B : Type 0} (left : B → List ℕ) (faults : B → ℕ) (identity : B
       read = read;
       is = malformed-by source h.how h.is;
       reading = elim h.reading [
-        | inl k ↦ inl (λ d ending. let P : List ℕ → Type 0 = λ v. IsReading e v ending (entries ++ (malformed h.how h.number ∷ [])) in
-            subst P (divided b c bytes h.bytes d whole h.read.moved) (k (left c ++ d) ending))
+        | inl k ↦ inl (λ d ending. rw (← divided b c bytes h.bytes d whole h.read.moved) (k (left c ++ d) ending))
         | inr k ↦ let never = k.0 in absurd (cc)
       ];
     }
@@ -118,15 +111,13 @@ module _ {B : Type 0} (left : B → List ℕ) (faults : B → ℕ) (identity : B
     again-failed : StopsFailed broken e b entries error c → StopsFailed reader e from entries (caused_by source error) to
     again-failed h =
         let all : h.bytes ≡ bytes = sym (append-nil h.bytes) ∙ ap (λ v. h.bytes ++ v) (sym h.failed.given.1) ∙ sym h.failed.moved ∙ whole in
-        let P : List ℕ → Type 0 = λ v. IsReading e v fault (entries ++ (read_fault h.number ∷ [])) in
-        let Q : List ℕ → Type 0 = λ v. HasFailed reader from v source to in
         record {
           bytes = bytes;
           cause = source;
           number = h.number;
-          failed = subst Q (append-nil bytes) (failed-more read failed);
+          failed = rw append-nil at (failed-more read failed);
           is = error-by source h.is;
-          reading = subst P all h.reading;
+          reading = rw all at h.reading;
         }
 
     again-early : StopsEarly broken e b entries error c → StopsEarly reader e from entries (caused_by source error) place
@@ -150,34 +141,22 @@ module _ {B : Type 0} (left : B → List ℕ) (faults : B → ℕ) (identity : B
   pub fails-in-read : {R : Type 0} {reader : Reader R} {e : Encoding} {from place to : R} {source : Error} {error : PropertiesError} {bytes : List ℕ} (b c : B)
       → left b ≡ bytes → HasRead reader from bytes place → HasFailed reader place [] source to → StopsReading broken e b error c
       → FailsInRead reader e from (caused_by source error) to
-  fails-in-read {reader = reader} {from = from} {place = place} {to = to} {source = source} {bytes = bytes} b c whole read failed h =
-      let Q : List ℕ → Type 0 = λ v. HasFailed reader from v source to in
-      let all = subst Q (append-nil bytes) (failed-more read failed) in
-      elim h.stops [
-        | inl k ↦ record {
-          bytes = bytes;
-          cause = source;
-          failed = all;
-          place = place;
-          stops = record { lines = h.lines; stops = inl (again-malformed b c whole read failed k) };
-          before = inr failed;
-        }
-        | inr j ↦ elim j [
-          | inl k ↦ record {
-            bytes = bytes;
-            cause = source;
-            failed = all;
-            place = to;
-            stops = record { lines = h.lines; stops = inr (inl (again-failed b c whole read failed k)) };
-            before = inl refl;
-          }
-          | inr k ↦ record {
-            bytes = bytes;
-            cause = source;
-            failed = all;
-            place = place;
-            stops = record { lines = h.lines; stops = inr (inr (again-early b c whole read failed k)) };
-            before = inr failed;
-          }
-        ]
-      ]
+  fails-in-read {R} {reader} {e} {from} {place} {to} {source} {error} {bytes} b c whole read failed h = elim h.stops [
+    | inl k ↦ of place (inl (again-malformed b c whole read failed k)) (inr failed)
+    | inr j ↦ elim j [
+      | inl k ↦ of to (inr (inl (again-failed b c whole read failed k))) (inl refl)
+      | inr k ↦ of place (inr (inr (again-early b c whole read failed k))) (inr failed)
+    ]
+  ]
+    where
+      of : (p : R) → StopsMalformed reader e from (entries_in h.lines) (caused_by source error) p
+          ⊎ (StopsFailed reader e from (entries_in h.lines) (caused_by source error) p ⊎ StopsEarly reader e from (entries_in h.lines) (caused_by source error) p)
+          → (p ≡ to) ⊎ HasFailed reader p [] source to → FailsInRead reader e from (caused_by source error) to
+      of p stops before = record {
+        bytes = bytes;
+        cause = source;
+        failed = rw append-nil at (failed-more read failed);
+        place = p;
+        stops = record { lines = h.lines; stops = stops };
+        before = before;
+      }

@@ -107,6 +107,7 @@ impl<R: CountedRead> PropertiesIter<R> {
     ///     println!(rt; "{}", line.line_number())?;
     /// }
     /// ```
+    #[tactic(auto, using(crate::proofs::StatedItems::stating))]
     pub fn advance(&mut self) -> Option<Result<Found, PropertiesError>>
         ensures gives { AdvanceGives R.CountedRead self.old result self.new }
         ensures nearer { OnSome result (lines_left self.new.state < lines_left self.old.state) }
@@ -147,6 +148,7 @@ impl<R: CountedRead> Iterator for PropertiesIter<R> {
 
     ghost remaining = { λ it. at_most (lines_left it.state) };
 
+    #[tactic(auto, using(crate::proofs::StatedItems::stating))]
     fn next(&mut self) -> Option<Result<Line, PropertiesError>> {
         self.items.next_item(&mut self.reader)
     }

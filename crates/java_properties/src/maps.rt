@@ -85,6 +85,7 @@ impl TextMap for HashMap<String, String> {
 
     ghost is_ordered = { λ map. Unit {0} };
 
+    #[tactic(auto, using(crate::proofs::TextMaps::puts))]
     fn put(&mut self, key: String, value: String) -> Result<(), AllocError> {
         HashMap::insert(self, key, value)?;
         Ok(())
@@ -96,6 +97,7 @@ impl TextMap for BTreeMap<String, String> {
 
     ghost is_ordered = { λ map. IsOrdered string_cmp map };
 
+    #[tactic(auto, using(crate::proofs::TextMaps::puts))]
     fn put(&mut self, key: String, value: String) -> Result<(), AllocError> {
         BTreeMap::insert(self, key, value)?;
         Ok(())

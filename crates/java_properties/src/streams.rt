@@ -77,6 +77,7 @@ fn read_through<R: CountedRead>(
 }
 
 // Reads all items and drops them.
+#[tactic(auto, using(crate::proofs::Readings::dropping))]
 fn read_all_items<R: CountedRead>(
     alloc: Global,
     reader: &mut R,

@@ -1,14 +1,21 @@
 -- Calls that were made, one after another.
-use Rattle.std.proofs.Common.{◌≡◌, Bool, true, false, ℕ, List, [], ◌∷◌, ◌++◌, refl, ap, sym, ◌∙◌, append-nil, cond, subst}
-use Rattle.std.specs.Prelude.{Some, None, is_some}
+use Rattle.std.proofs.Common.{◌≡◌, Bool, true, false, ℕ, List, [], ◌∷◌, ◌++◌, refl, ap, sym, ◌∙◌, append-nil, cond, subst, ◌+◌, ◌<◌, ◌≤◌, zero, suc, length, take, drop, get_or, add-one, arith, inl, inr}
+use Rattle.std.specs.Prelude.{Some, None, is_some, map, Result, Ok, Err}
 use Rattle.counted_io.specs.Streams.{Sink}
 use Rattle.counted_io.proofs.Streams.{written-none, written-more}
 use Rattle.properties_format.specs.Entries.{Content, pair}
-use Rattle.properties_format.specs.Settings.{Settings}
-use Rattle.properties_format.specs.Writing.{Call, comment_call, pair_call, prefix_call, separator_call, ending_call, flush_call, ascii_only_call, is_accepted, settings_after_call, settings_after, line_count_after, written_line}
-use Rattle.properties_format.proofs.Writing.{settings_after-append, line_count_after-append, wrote-append}
-use Rattle.java_properties.specs.PropertiesWriter.{Writing, HasWrittenLine, with_settings}
-use Rattle.java_properties.specs.Calls.{after_calls, flushed_after, MayMake, MayMakeAll, HasMade, HasMadeCall}
+use Rattle.properties_format.specs.Settings.{Settings, IsGoodPrefix, IsGoodSeparator}
+use Rattle.properties_format.specs.Writing.{Call, comment_call, pair_call, flush_call, is_accepted, settings_after_call, settings_after, line_count_after, written_line, answers, prefix_call, separator_call}
+use Rattle.properties_format.proofs.Writing.{settings_after-append, line_count_after-append, wrote-append, answers-append}
+use Rattle.java_properties.specs.PropertiesWriter.{Writing, HasWrittenLine, with_settings, SetsPrefix, SetsSeparator}
+use Rattle.java_properties.specs.Calls.{after_calls, flushed_after, MayMake, MayMakeAll, HasMade, HasMadeCall, FailsInCall, StopsAtCall, is_not_accepted, IsAcceptedResult, Fails, MakesCall}
+use Rattle.std.proofs.lemmas.List.{take_all, length-map}
+use Rattle.properties_items.specs.declared.error.PropertiesError.{PropertiesError}
+use Rattle.std.proofs.lemmas.Bool.{cases_Bool}
+use Rattle.properties_format.specs.Computed.Settings.{is_good_prefix, is_good_separator}
+use Rattle.properties_format.proofs.Settings.Tests.{is_good_prefix-from, IsGoodPrefix-from_test, is_good_separator-from, IsGoodSeparator-from_test}
+use Rattle.properties_items.specs.Errors.{kind_of}
+use Rattle.java_properties.specs.Settings.{with_prefix, with_separator}
 
 -- calls that may be made, and others after them
 may-append : (failed : Bool) (xs ys : List Call) → MayMakeAll failed xs → MayMakeAll failed ys → MayMakeAll failed (xs ++ ys)
@@ -20,25 +27,18 @@ flushed-append : (s : Settings) (b : Bool) (xs ys : List Call) → flushed_after
 flushed-append s b [] ys = refl
 flushed-append s b (comment_call text ∷ xs) ys = flushed-append s false xs ys
 flushed-append s b (pair_call key value ∷ xs) ys = flushed-append s (cond (is_some (written_line s (pair_call key value))) false b) xs ys
-flushed-append s b (prefix_call prefix ∷ xs) ys = flushed-append (settings_after_call s (prefix_call prefix)) b xs ys
-flushed-append s b (separator_call separator ∷ xs) ys = flushed-append (settings_after_call s (separator_call separator)) b xs ys
-flushed-append s b (ending_call line_ending ∷ xs) ys = flushed-append (settings_after_call s (ending_call line_ending)) b xs ys
 flushed-append s b (flush_call ∷ xs) ys = flushed-append s true xs ys
-flushed-append s b (ascii_only_call on ∷ xs) ys = flushed-append (settings_after_call s (ascii_only_call on)) b xs ys
+flushed-append s b (call ∷ xs) ys = flushed-append (settings_after_call s call) b xs ys
 
 -- a call alone, other than a flush, leaves no sink flushed
 never-flushed : (s : Settings) (call : Call) → (call ≡ flush_call → ⊥) → flushed_after s false (call ∷ []) ≡ true → ⊥
-never-flushed s (comment_call text) other e = absurd (cc)
 never-flushed s (pair_call key value) other e = both (is_some (written_line s (pair_call key value))) e
   where
     both : (b : Bool) → cond b false false ≡ true → ⊥
     both true e = absurd (cc)
     both false e = absurd (cc)
-never-flushed s (prefix_call prefix) other e = absurd (cc)
-never-flushed s (separator_call separator) other e = absurd (cc)
-never-flushed s (ending_call line_ending) other e = absurd (cc)
 never-flushed s flush_call other e = other refl
-never-flushed s (ascii_only_call on) other e = absurd (cc)
+never-flushed s call other e = absurd (cc)
 
 -- the writer with these changed
 abbrev changed : {W : Type 0} → Writing W → W → Settings → ℕ → Writing W
@@ -96,11 +96,8 @@ module _ {W : Type 0} {sink : Sink W} where
           → cond (is_some (cond x (Some (pair key value)) None)) false b ≡ true → sink.is_flushed new.sink ≡ true
       lined true quiet e = absurd (cc)
       lined false quiet e = ap sink.is_flushed (quiet refl (λ q. absurd (cc))) ∙ before e
-  last-flushed b (prefix_call prefix) before k e = ap sink.is_flushed (k.quiet refl (λ q. absurd (cc))) ∙ before e
-  last-flushed b (separator_call separator) before k e = ap sink.is_flushed (k.quiet refl (λ q. absurd (cc))) ∙ before e
-  last-flushed b (ending_call line_ending) before k e = ap sink.is_flushed (k.quiet refl (λ q. absurd (cc))) ∙ before e
   last-flushed b flush_call before k e = k.made.flushed refl
-  last-flushed b (ascii_only_call on) before k e = ap sink.is_flushed (k.quiet refl (λ q. absurd (cc))) ∙ before e
+  last-flushed b call before k e = ap sink.is_flushed (k.quiet refl (λ q. absurd (cc))) ∙ before e
 
   from-after : {old middle new : Writing W} {calls : List Call} {call : Call} {accepted : Bool} → HasMade sink old calls middle
       → HasMadeCall sink middle call accepted new → HasMadeCall sink (after_calls old calls middle.sink) call accepted new
@@ -118,3 +115,86 @@ module _ {W : Type 0} {sink : Sink W} where
         flushed = λ e. last-flushed (flushed_after old.settings false calls) call m.flushed next (sym whole ∙ e);
         after = next.made.after ∙ sym (after-append old calls (call ∷ []) middle.sink new.sink);
       }
+
+-- ---- a list of calls, call by call
+
+module _ {W : Type 0} {sink : Sink W} where
+  -- the answer of one call more
+  pub answers-more : {old middle new : Writing W} {calls : List Call} {call : Call} {accepted : Bool} → HasMade sink old calls middle
+      → HasMadeCall sink middle call accepted new → answers old.settings (calls ++ (call ∷ [])) ≡ answers old.settings calls ++ (accepted ∷ [])
+  answers-more {old = old} {calls = calls} {call = call} m k =
+      answers-append old.settings calls (call ∷ [])
+      ∙ ap (λ b. answers old.settings calls ++ (b ∷ [])) (ap (λ s. is_accepted s call) (sym (ap (λ (v : Writing W). v.settings) m.after)) ∙ sym k.answer)
+
+  -- a call failed after others were made
+  pub stops : {old middle new : Writing W} {calls before : List Call} {call : Call} {error : PropertiesError} (others : List Call) → calls ≡ before ++ (call ∷ others)
+      → HasMade sink old before middle → FailsInCall sink middle call error new → StopsAtCall sink old calls error new
+  stops {middle = middle} {before = before} {call = call} others division made fails =
+      record { before = before; call = call; others = others; division = division; middle = middle; made = made; fails = fails }
+
+-- a list of calls as they are seen, cut at one of them
+pub calls-cut : {X : Type 0} (f : X → Call) (xs : List X) (i : ℕ) (d : X) → i < length xs
+    → map f xs ≡ take i (map f xs) ++ (f (get_or xs i d) ∷ drop (i + 1) (map f xs))
+calls-cut f [] i d h = absurd (omega arith)
+calls-cut f (x ∷ xs) zero d h = refl
+calls-cut f (x ∷ xs) (suc i) d h = rw add-one (ap (λ v. f x ∷ v) (calls-cut f xs i d (omega arith) ∙ rw add-one refl))
+
+-- and as far as that one
+pub calls-take : {X : Type 0} (f : X → Call) (xs : List X) (i : ℕ) (d : X) → i < length xs
+    → take (i + 1) (map f xs) ≡ take i (map f xs) ++ (f (get_or xs i d) ∷ [])
+calls-take f [] i d h = absurd (omega arith)
+calls-take f (x ∷ xs) zero d h = refl
+calls-take f (x ∷ xs) (suc i) d h = rw (add-one (suc i)) (ap (λ v. f x ∷ v) (rw (add-one i) at (calls-take f xs i d (omega arith))))
+
+-- and all of them
+pub calls-all : {X : Type 0} (f : X → Call) (xs : List X) (i : ℕ) → length xs ≤ i → take i (map f xs) ≡ map f xs
+calls-all f xs i h = take_all i (map f xs) (omega (arith, length-map xs f))
+
+-- ---- what a call that sets a text does, by what the setter did
+
+-- ---- which settings are good
+
+good-prefix : (prefix : List ℕ) → (IsGoodPrefix prefix → ⊥) → is_good_prefix prefix ≡ false
+good-prefix prefix bad = elim (cases_Bool (is_good_prefix prefix)) [ inl e ↦ absurd (bad (IsGoodPrefix-from_test prefix e)) | inr e ↦ e ]
+
+good-separator : (separator : List ℕ) → (IsGoodSeparator separator → ⊥) → is_good_separator separator ≡ false
+good-separator separator bad = elim (cases_Bool (is_good_separator separator)) [ inl e ↦ absurd (bad (IsGoodSeparator-from_test separator e)) | inr e ↦ e ]
+
+module _ {W : Type 0} (sink : Sink W) (old new : Writing W) (result : Result Bool PropertiesError) where
+  -- the call failed
+  failed : (call : Call) (error : PropertiesError) → is_not_accepted (kind_of error) ≡ false → Fails sink old call error new → IsAcceptedResult (Err error) result
+      → MakesCall sink old call result new
+  failed call error final fails is = rw (is, final) (record { fails = fails; final = final })
+
+  -- the call was accepted or not, and set what it says
+  answered : (call : Call) (accepted : Bool) (settings : Settings) → MayMake old.failed call → is_accepted old.settings call ≡ accepted → written_line old.settings call ≡ None
+      → (call ≡ flush_call → ⊥) → settings_after_call old.settings call ≡ settings → new ≡ with_settings old settings → result ≡ Ok accepted → MakesCall sink old call result new
+  answered call accepted settings live said none other set after is = rw is (record {
+    answer = sym said;
+    made = made-quiet call live none other (after ∙ ap (with_settings old) (sym set));
+    quiet = λ e f. ap (λ (v : Writing W). v.sink) after;
+  })
+
+  pub prefix-makes : (prefix : List ℕ) (answer : Result Unit PropertiesError) → SetsPrefix old prefix answer new → IsAcceptedResult answer result
+      → MakesCall sink old (prefix_call prefix) result new
+  prefix-makes prefix (Ok done) h is =
+      let good = is_good_prefix-from prefix h.good in
+      answered (prefix_call prefix) true _ tt good refl (λ q. absurd (cc)) (ap (λ b. cond b (with_prefix old.settings prefix) old.settings) good) h.after is
+  prefix-makes prefix (Err error) (inl h) is =
+      let bad = good-prefix prefix h.bad in
+      let said = ap is_not_accepted h.refuses.its_kind in
+      answered (prefix_call prefix) false _ tt bad refl (λ q. absurd (cc)) (ap (λ b. cond b (with_prefix old.settings prefix) old.settings) bad) h.same (rw said at is)
+  prefix-makes prefix (Err error) (inr h) is = failed (prefix_call prefix) error (ap is_not_accepted h.is.its_kind) h is
+
+  pub separator-makes : (separator : List ℕ) (answer : Result Unit PropertiesError) → SetsSeparator old separator answer new → IsAcceptedResult answer result
+      → MakesCall sink old (separator_call separator) result new
+  separator-makes separator (Ok done) h is =
+      let good = is_good_separator-from separator h.good in
+      answered (separator_call separator) true _ tt good refl (λ q. absurd (cc)) (ap (λ b. cond b (with_separator old.settings separator) old.settings) good) h.after is
+  separator-makes separator (Err error) (inl h) is =
+      let bad = good-separator separator h.bad in
+      let said = ap is_not_accepted h.refuses.its_kind in
+      answered (separator_call separator) false _ tt bad refl (λ q. absurd (cc)) (ap (λ b. cond b (with_separator old.settings separator) old.settings) bad) h.same (rw said at is)
+  separator-makes separator (Err error) (inr h) is = failed (separator_call separator) error (ap is_not_accepted h.is.its_kind) h is
+
+pub ruleset setting = (prefix-makes, separator-makes)

@@ -5,7 +5,7 @@ use Rattle.std.specs.Global.{Vec}
 use Rattle.counted_io.specs.Streams.{Sink}
 use Rattle.properties_format.specs.Encoding.{output_encoding}
 use Rattle.properties_format.specs.Settings.{Settings}
-use Rattle.properties_format.specs.Writing.{Call, comment_call, pair_call, prefix_call, separator_call, ending_call, flush_call, ascii_only_call, settings_after_call, wrote, ArePrefixesClean, AreOfScalars}
+use Rattle.properties_format.specs.Writing.{Call, comment_call, settings_after_call, wrote, ArePrefixesClean, AreOfScalars}
 use Rattle.properties_format.specs.Pairs.{Pair, calls_of, ArePairsOfScalars}
 use Rattle.properties_format.specs.Laws.{wrote_pairs, ArePairsReadBack}
 use Rattle.properties_format.proofs.Items.Unique.{items_of-only}
@@ -32,12 +32,7 @@ scalars-before (x ∷ xs) ys h = (h.0, scalars-before xs ys h.1)
 clean-before : (s : Settings) (xs ys : List Call) → ArePrefixesClean s (xs ++ ys) → ArePrefixesClean s xs
 clean-before s [] ys h = tt
 clean-before s (comment_call text ∷ xs) ys h = (h.0, clean-before s xs ys h.1)
-clean-before s (pair_call key value ∷ xs) ys h = clean-before s xs ys h
-clean-before s (prefix_call prefix ∷ xs) ys h = clean-before (settings_after_call s (prefix_call prefix)) xs ys h
-clean-before s (separator_call separator ∷ xs) ys h = clean-before (settings_after_call s (separator_call separator)) xs ys h
-clean-before s (ending_call line_ending ∷ xs) ys h = clean-before (settings_after_call s (ending_call line_ending)) xs ys h
-clean-before s (flush_call ∷ xs) ys h = clean-before s xs ys h
-clean-before s (ascii_only_call on ∷ xs) ys h = clean-before (settings_after_call s (ascii_only_call on)) xs ys h
+clean-before s (call ∷ xs) ys h = clean-before (settings_after_call s call) xs ys h
 
 module _ {W : Type 0} {sink : Sink W} where
   -- calls that were made, and wrote cleanly, are read back
@@ -90,13 +85,7 @@ made-only {old = old} {calls = calls} good scalars made pairs these =
       bytes = wrote_pairs e s pairs;
       written = rw these.alone at (rw these.first at made.written);
       only = λ others accepted texts same.
-          let their : ArePairsReadBack e s others = record {
-            encoding = good.encoding;
-            settings = good.settings;
-            accepted = accepted;
-            scalars = texts;
-          } in
-          (equal-bytes e s others pairs their own).0 same;
+          (equal-bytes e s others pairs (record { encoding = good.encoding; settings = good.settings; accepted = accepted; scalars = texts }) own).0 same;
       anew = writing-anew e s pairs own;
     }
 

@@ -1,18 +1,16 @@
 -- The tests of settings, character by character.
-use Rattle.std.proofs.Common.{◌≡◌, ℕ, ◌||◌, ◌&&◌, not, if◌then◌else◌, Bool, true, false, List, [], ◌∷◌, ◌++◌, length, refl, ap, sym, ◌∙◌}
+use Rattle.std.proofs.Common.{◌≡◌, ℕ, ◌||◌, ◌&&◌, not, Bool, true, false, List, [], ◌∷◌, ◌++◌, length, refl, ap, sym, ◌∙◌}
 use Rattle.std.proofs.Math.Bool.{or-false, and-true}
 use Rattle.std.specs.Prelude.{encode_utf8}
 use Rattle.std.specs.Str.{IsUtf8, chars}
-use Rattle.std.proofs.lemmas.Bool.{cond-true, cond-false}
 use Rattle.std.proofs.lemmas.Str.{chars_past_char}
 use Rattle.std.proofs.StrCases.{chars_of_empty}
 use Rattle.properties_format.specs.Writing.{is_empty}
-use Rattle.properties_format.specs.Text.{is_blank, is_blanks, is_line_end, is_comment_sign, is_separator}
-use Rattle.properties_format.specs.Computed.Settings.{holds_no_line_end}
-use Rattle.properties_format.specs.Computed.Settings.{is_good_prefix, is_signed_separator, is_good_separator}
-use Rattle.properties_format.specs.Settings.{IsGoodPrefix, IsGoodSeparator}
-use Rattle.properties_format.proofs.Split.Unique.{sign-full, separator-full}
-use Rattle.properties_format.proofs.Settings.Tests.{is_good_prefix-from, is_good_separator-from}
+use Rattle.properties_format.specs.Text.{is_blank, is_blanks, is_separator}
+use Rattle.properties_format.specs.Computed.Settings.{holds_no_line_end, is_good_prefix, is_signed_separator}
+use Rattle.properties_format.proofs.Split.Unique.{separator-full}
+use Rattle.properties_text.proofs.Texts.Characters.{is_empty-chars}
+use Rattle.properties_format.proofs.Settings.Tests.{is_good_prefix-from, IsGoodPrefix-from_test, is_good_separator-from, IsGoodSeparator-from_test}
 
 -- what a test says of the characters is what it says of the first and of the others
 pub past_first : (test : List ℕ → Bool) (whole last : Bool) (bs rest : List ℕ) (c : ℕ) → IsUtf8 bs → bs ≡ encode_utf8 c ++ rest
@@ -33,21 +31,6 @@ pub prefix_left-end : (signed : Bool) → prefix_left signed [] ≡ signed
 prefix_left-end true = refl
 prefix_left-end false = refl
 
-pub prefix_left-in_line : (c : ℕ) (cs : List ℕ) → is_line_end c ≡ false → prefix_left true (c ∷ cs) ≡ prefix_left true cs
-prefix_left-in_line c cs e = ap (λ v. not v && holds_no_line_end cs) e
-
-pub prefix_left-line_end : (c : ℕ) (cs : List ℕ) → is_line_end c ≡ true → prefix_left true (c ∷ cs) ≡ false
-prefix_left-line_end c cs e = ap (λ v. not v && holds_no_line_end cs) e
-
-pub prefix_left-sign : (c : ℕ) (cs : List ℕ) → is_comment_sign c ≡ true → prefix_left false (c ∷ cs) ≡ prefix_left true cs
-prefix_left-sign c cs e = cond-false (is_blank c) _ _ (sign-full c e) ∙ ap (λ v. v && holds_no_line_end cs) e
-
-pub prefix_left-blank : (c : ℕ) (cs : List ℕ) → is_blank c ≡ true → prefix_left false (c ∷ cs) ≡ prefix_left false cs
-prefix_left-blank c cs e = cond-true (is_blank c) _ _ e
-
-pub prefix_left-other : (c : ℕ) (cs : List ℕ) → is_comment_sign c ≡ false → is_blank c ≡ false → prefix_left false (c ∷ cs) ≡ false
-prefix_left-other c cs m e = cond-false (is_blank c) _ _ e ∙ ap (λ v. v && holds_no_line_end cs) m
-
 -- ---- separators
 
 -- what is still to hold of a separator that isn't empty, past its sign or before it
@@ -64,26 +47,19 @@ separator_left-end true = refl
 separator_left-end false = refl
 
 pub separator_left-sign : (c : ℕ) (cs : List ℕ) → is_separator c ≡ true → separator_left false (c ∷ cs) ≡ separator_left true cs
-separator_left-sign c cs e =
-    let b = separator-full c e in
-    ap (λ v. (if v then is_signed_separator cs else is_separator c && is_blanks cs) || (v && is_blanks cs)) b
-    ∙ ap (λ v. (v && is_blanks cs) || false) e ∙ or-false (is_blanks cs)
+separator_left-sign c cs e = rw (separator-full c e, e) (or-false (is_blanks cs))
 
 pub separator_left-blank : (signed : Bool) (c : ℕ) (cs : List ℕ) → is_blank c ≡ true → separator_left signed (c ∷ cs) ≡ separator_left signed cs
-separator_left-blank true c cs e = ap (λ v. v && is_blanks cs) e
-separator_left-blank false c cs e = ap (λ v. (if v then is_signed_separator cs else is_separator c && is_blanks cs) || (v && is_blanks cs)) e
+separator_left-blank true c cs e = rw e
+separator_left-blank false c cs e = rw e
 
 -- neither a blank nor the first sign
 pub separator_left-other : (signed : Bool) (c : ℕ) (cs : List ℕ) → (is_separator c && not signed) ≡ false → is_blank c ≡ false → separator_left signed (c ∷ cs) ≡ false
-separator_left-other true c cs s e = ap (λ v. v && is_blanks cs) e
-separator_left-other false c cs s e =
-    ap (λ v. (if v then is_signed_separator cs else is_separator c && is_blanks cs) || (v && is_blanks cs)) e
-    ∙ ap (λ v. (v && is_blanks cs) || false) (sym (and-true (is_separator c)) ∙ s)
+separator_left-other true c cs s e = rw e
+separator_left-other false c cs s e = let t = sym (and-true (is_separator c)) ∙ s in rw (e, t)
 
--- ---- what a test that fails says
+pub ruleset emptiness = (is_empty-chars)
 
-pub bad_prefix : (prefix : List ℕ) → is_good_prefix prefix ≡ false → IsGoodPrefix prefix → ⊥
-bad_prefix prefix bad good = let yes = is_good_prefix-from prefix good in absurd (cc)
+pub ruleset prefixes = (is_good_prefix-from, IsGoodPrefix-from_test)
 
-pub bad_separator : (separator : List ℕ) → is_good_separator separator ≡ false → IsGoodSeparator separator → ⊥
-bad_separator separator bad good = let yes = is_good_separator-from separator good in absurd (cc)
+pub ruleset separators = (is_good_separator-from, IsGoodSeparator-from_test)

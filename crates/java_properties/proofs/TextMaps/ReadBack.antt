@@ -1,16 +1,21 @@
 -- A map that was written is read back as it was.
+use lib.Utf8.{encodes}
+use Rattle.std.proofs.lemmas.Map.Text.{is_eq-slice_cmp}
+use Rattle.std.specs.declared.cmp.Ordering.TheVariants.{Less}
+use Rattle.std.specs.Cmp.Lexicographic.{slice_cmp}
+use Rattle.std.specs.Ordering.{nat_cmp, is_eq}
 use Rattle.std.proofs.Common.{◌≡◌, ◌≢◌, ℕ, Bool, true, false, List, [], ◌∷◌, ◌++◌, refl, ap, sym, ◌∙◌, inl, inr, subst, append_assoc}
 use Rattle.std.specs.Prelude.{All, map, Option, Some, None, Result, Ok, Err, bytes_eq}
 use Rattle.std.specs.Option.{option_map}
 use Rattle.std.specs.Str.{chars, IsUtf8}
 use Rattle.std.specs.List.{AllByRecursion}
-use Rattle.std.specs.List.Sorted.{IsPermutation}
-use Rattle.std.specs.Map.{lookup}
+use Rattle.std.specs.List.Sorted.{IsPermutation, IsStrictlySortedBy}
+use Rattle.std.specs.Map.{lookup, keys_of}
 use Rattle.std.specs.declared.string.String.{String}
 use Rattle.std.proofs.lemmas.List.Elements.{recursion_from_All, All-from_recursion}
 use Rattle.std.proofs.lemmas.List.Sorted.{All-permutation, IsPermutation-sym, IsPermutation-map}
 use Rattle.std.proofs.lemmas.Slice.Eq.{bytes_eq-Decides}
-use Rattle.std.proofs.lemmas.Str.{IsUtf8-string_bytes}
+use Rattle.std.proofs.lemmas.Str.{IsUtf8-string_bytes, encodes-chars}
 use Rattle.counted_io.specs.Streams.{Sink, HasWritten}
 use Rattle.properties_format.specs.Text.{scalar}
 use Rattle.properties_format.specs.Encoding.{Encoding, output_encoding}
@@ -32,8 +37,32 @@ use Rattle.properties_items.specs.Texts.{Entries, characters, value_at}
 use Rattle.properties_items.specs.declared.error.PropertiesError.{PropertiesError}
 use Rattle.properties_items.proofs.Scalars.{string-scalars}
 use Rattle.java_properties.proofs.ReadBack.Written.{stops-read_back}
-use Rattle.java_properties.proofs.TextMaps.Distinct.{AreKeysUtf8, ascending-distinct}
 use Rattle.java_properties.proofs.TextMaps.Writing.{accepted}
+
+-- ---- keys that ascend strictly by their bytes are distinct as characters too
+
+-- the texts of the pairs are texts of the program
+abbrev AreTexts : Texts → Type 0
+AreTexts texts = IsUtf8 texts.0 × All scalar (chars texts.0) × All scalar (chars texts.1)
+
+-- a key before another is another, also as characters
+before-differs : (x y : List ℕ) → IsUtf8 x → IsUtf8 y → slice_cmp nat_cmp x y ≡ Less → chars y ≡ chars x → ⊥
+before-differs x y u v less same =
+    let equal : x ≡ y = sym (encodes-chars x u) ∙ ap encodes (sym same) ∙ encodes-chars y v in
+    let yes : bytes_eq x y ≡ true = (bytes_eq-Decides x y).1 equal in
+    let no : bytes_eq x y ≡ false = sym (is_eq-slice_cmp x y) ∙ ap is_eq less in
+    absurd (cc)
+
+key-differs : (x : List ℕ) (pairs : List (List ℕ × List ℕ)) → IsUtf8 x → AllByRecursion AreTexts pairs → AllByRecursion (λ y. slice_cmp nat_cmp x y ≡ Less) (keys_of pairs)
+    → HasNoKey (chars x) (map character_pair pairs)
+key-differs x [] u h less = tt
+key-differs x (texts ∷ pairs) u h less = ((λ same. before-differs x texts.0 u h.0.0 less.0 same), key-differs x pairs u h.1 less.1)
+
+-- pairs whose keys ascend strictly have keys of their own
+pub ascending-distinct : (pairs : List (List ℕ × List ℕ)) → AllByRecursion AreTexts pairs → IsStrictlySortedBy (slice_cmp nat_cmp) (keys_of pairs) → AreDistinct (map character_pair pairs)
+unfolding IsStrictlySortedBy
+ascending-distinct [] h up = tt
+ascending-distinct (texts ∷ pairs) h up = (key-differs texts.0 pairs h.0.0 h.1 up.0, ascending-distinct pairs h.1 up.1)
 
 -- ---- pairs in another order
 
@@ -54,18 +83,14 @@ moved-pair xs ys key value moved has =
     let all = All-permutation P ys xs (IsPermutation-sym xs ys moved) (All-from_recursion P ys (among-after [] ys)) in
     all-at P has.0 (key, value) has.1 (subst (AllByRecursion P) has.2 (recursion_from_All P xs all))
 
-no_key-all : (key : List ℕ) (ps : List Pair) → HasNoKey key ps → AllByRecursion (λ p. p.0 ≢ key) ps
-no_key-all key [] h = tt
-no_key-all key (p ∷ ps) h = (h.0, no_key-all key ps h.1)
-
-all-no_key : (key : List ℕ) (ps : List Pair) → AllByRecursion (λ p. p.0 ≢ key) ps → HasNoKey key ps
-all-no_key key [] h = tt
-all-no_key key (p ∷ ps) h = (h.0, all-no_key key ps h.1)
+no_key : (key : List ℕ) (ps : List Pair) → HasNoKey key ps ≡ AllByRecursion (λ p. p.0 ≢ key) ps
+no_key key [] = refl
+no_key key (p ∷ ps) = ap (λ V. (p.0 ≢ key) × V) (no_key key ps)
 
 moved-none : (xs ys : List Pair) (key : List ℕ) → IsPermutation xs ys → HasNoKey key xs → HasNoKey key ys
 moved-none xs ys key moved h =
     let P : Pair → Type 0 = λ p. p.0 ≢ key in
-    all-no_key key ys (recursion_from_All P ys (All-permutation P xs ys moved (All-from_recursion P xs (no_key-all key xs h))))
+    rw no_key (recursion_from_All P ys (All-permutation P xs ys moved (All-from_recursion P xs (rw no_key at h))))
 
 -- ---- what a map has at a key
 
@@ -121,17 +146,9 @@ pub pairs-accepted : (ps : List Pair) → AreAccepted default_settings ps
 pairs-accepted [] = tt
 pairs-accepted (p ∷ ps) = (accepted p.0 p.1, pairs-accepted ps)
 
--- and their texts are texts of the program
-abbrev AreTexts : Texts → Type 0
-AreTexts texts = IsUtf8 texts.0 × All scalar (chars texts.0) × All scalar (chars texts.1)
-
 entries-texts : {Y Z : Type 0} (entries : List (String Y × String Z)) → AllByRecursion AreTexts (map entry_texts entries)
 entries-texts [] = tt
 entries-texts (e ∷ entries) = ((IsUtf8-string_bytes e.0, string-scalars e.0, string-scalars e.1), entries-texts entries)
-
-texts-utf8 : (pairs : List Texts) → AllByRecursion AreTexts pairs → AreKeysUtf8 pairs
-texts-utf8 [] h = tt
-texts-utf8 (texts ∷ pairs) h = (h.0.0, texts-utf8 pairs h.1)
 
 texts-scalars : (pairs : List Texts) → AllByRecursion AreTexts pairs → ArePairsOfScalars (map character_pair pairs)
 texts-scalars [] h = tt
@@ -179,7 +196,7 @@ writes-read_back sink a entries old new (Ok done) own h =
     let ps = map character_pair h.pairs in
     let bytes = wrote a default_settings 0 (calls_of ps) in
     let texts = map-texts entries h.pairs h.in_order in
-    let distinct = ascending-distinct h.pairs (texts-utf8 h.pairs texts) h.in_order.ascend in
+    let distinct = ascending-distinct h.pairs texts h.in_order.ascend in
     let moved = IsPermutation-map character_pair xs h.pairs h.in_order.entries in
     let told = items_of-pairs a default_settings own default_settings-good ps (pairs-accepted ps) (texts-scalars h.pairs texts) in
     record {

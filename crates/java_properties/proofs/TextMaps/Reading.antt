@@ -1,30 +1,25 @@
 -- A map that is read, item after item.
-use Rattle.std.proofs.Common.{◌≡◌, ℕ, false, List, [], ◌∷◌, ◌++◌, refl, sym, inr, subst}
-use Rattle.std.specs.Prelude.{◌⊎◌, Option}
+use Rattle.std.proofs.Common.{◌≡◌, ℕ, List, [], ◌∷◌, ◌++◌, refl, sym, subst}
+use Rattle.std.specs.Prelude.{Option}
 use Rattle.counted_io.specs.Streams.{Reader}
 use Rattle.properties_format.specs.Encoding.{Encoding}
 use Rattle.properties_format.specs.ItemsToCome.{ReaderState, start}
-use Rattle.properties_format.specs.Entries.{Content, comment, pair, Entry, item, AreItems}
+use Rattle.properties_format.specs.Entries.{Content, comment, pair, item, AreItems}
 use Rattle.properties_format.specs.Maps.{IsMap}
 use Rattle.properties_format.proofs.Maps.{map-none, map-comment, map-pair}
-use Rattle.properties_items.specs.Errors.{IsBareError}
 use Rattle.properties_items.specs.Line.{number_of, content_of}
 use Rattle.java_properties.specs.PropertiesIter.{format_content, entry_of}
-use Rattle.java_properties.specs.Private.GivenItems.{GivesEntry, GivesNone, GivesMalformed, GivesError}
-use Rattle.java_properties.specs.ReadLines.{entries_in, StopsReading}
+use Rattle.java_properties.specs.Private.GivenItems.{GivesEntry, GivesNone}
+use Rattle.java_properties.specs.ReadLines.{entries_in}
 use Rattle.java_properties.specs.Maps.{HasPut, HasReadMap, ReadsValue}
 use Rattle.properties_items.specs.Texts.{Entries, value_at}
-use Rattle.properties_items.specs.declared.error.ErrorKind.TheVariants as kind
-use Rattle.properties_items.specs.declared.error.PropertiesError.{PropertiesError}
 use Rattle.properties_items.specs.declared.line.Line.{Line}
-use Rattle.java_properties.proofs.Readings.{Collected, collected-start, collected-next, collected-none, collected-lost, collected-stops, entries-more}
+use Rattle.java_properties.proofs.Readings.{HasDropped, collected-none, dropped-none, dropped-more, entries-more}
 
 -- These lines came so far, and the map is theirs.
 pub record HasPassed {R Y Z : Type 0} (reader : Reader R) (e : Encoding) (from : R) (m : Entries Y Z) (state : ReaderState) (to : R) : Type 0 where
-  pub lines : List Line
-  pub bytes : List ℕ
-  pub collected : Collected reader e from bytes (entries_in lines) state to
-  pub is_map : IsMap (entries_in lines) (value_at m)
+  pub so_far : HasDropped reader e from state to
+  pub is_map : IsMap (entries_in so_far.lines) (value_at m)
 
 -- A pair sets the value of its key. A comment changes nothing.
 abbrev pub Takes : {Y Z : Type 0} → Entries Y Z → Content → Entries Y Z → Type 0
@@ -38,50 +33,34 @@ lines-are-items (line ∷ lines) = lines-are-items lines
 
 module _ {R Y Z : Type 0} {reader : Reader R} {e : Encoding} where
   -- before the first item
-  pub passed-none : (from : R) (m : Entries Y Z) → m ≡ [] → HasPassed reader e from m (start e) from
-  passed-none from m empty = record {
-    lines = [];
-    bytes = [];
-    collected = collected-start e from;
-    is_map = map-none (value_at m) (λ key. rw empty refl);
-  }
+  pub passed-none : (from : R) (m : Entries Y Z) (s : ReaderState) → m ≡ [] → s ≡ start e → HasPassed reader e from m s from
+  unfolding dropped-none
+  passed-none from m s empty is = record { so_far = dropped-none from s is; is_map = map-none (value_at m) (λ key. rw empty refl) }
 
   -- an item came, and went into the map if it is a pair
   pub passed-more : {from to next : R} {m n : Entries Y Z} {s t : ReaderState} (line : Line) → HasPassed reader e from m s to
       → GivesEntry reader s to (entry_of line) t next → Takes m (format_content (content_of line)) n → HasPassed reader e from n t next
-  passed-more {from = from} {next = next} {m = m} {n = n} {t = t} line h g k = record {
-    lines = h.lines ++ (line ∷ []);
-    bytes = h.bytes ++ g.bytes;
-    collected = let P : List Entry → Type 0 = λ v. Collected reader e from (h.bytes ++ g.bytes) v t next in
-        subst P (entries-more h.lines line) (collected-next h.collected g);
-    is_map = let P : List Entry → Type 0 = λ v. IsMap v (value_at n) in subst P (entries-more h.lines line) (by-content (format_content (content_of line)) k);
+  unfolding dropped-more
+  passed-more {m = m} {n = n} line h g k = record {
+    so_far = dropped-more line h.so_far g;
+    is_map = subst (λ v. IsMap v (value_at n)) (entries-more h.so_far.lines line) (by-content (format_content (content_of line)) k);
   }
     where
-      by-content : (c : Content) → Takes m c n → IsMap (entries_in h.lines ++ (item (number_of line) c ∷ [])) (value_at n)
+      by-content : (c : Content) → Takes m c n → IsMap (entries_in h.so_far.lines ++ (item (number_of line) c ∷ [])) (value_at n)
       by-content (comment text) k =
-          let P : Entries Y Z → Type 0 = λ v. IsMap (entries_in h.lines ++ (item (number_of line) (comment text) ∷ [])) (value_at v) in
-          subst P (sym k) (map-comment (entries_in h.lines) (number_of line) text (value_at m) h.is_map)
-      by-content (pair key value) k = map-pair (entries_in h.lines) (number_of line) key value (value_at m) (value_at n) h.is_map k
-
-  -- an item came for which there was no memory
-  pub passed-lost : {from to next : R} {m : Entries Y Z} {s t : ReaderState} {error : PropertiesError} (line : Line) → HasPassed reader e from m s to
-      → GivesEntry reader s to (entry_of line) t next → IsBareError kind.Memory error → StopsReading reader e from error next
-  passed-lost line h g is = record { lines = h.lines; stops = inr (inr (collected-lost h.collected g is)) }
-
-  -- an error came
-  pub passed-error : {from to next : R} {m : Entries Y Z} {s : ReaderState} {error : PropertiesError} → HasPassed reader e from m s to
-      → s.is_done ≡ false → GivesMalformed reader s to error next ⊎ GivesError reader s to error next → StopsReading reader e from error next
-  passed-error h live k = collected-stops h.lines h.collected live k
+          let P : Entries Y Z → Type 0 = λ v. IsMap (entries_in h.so_far.lines ++ (item (number_of line) (comment text) ∷ [])) (value_at v) in
+          subst P (sym k) (map-comment (entries_in h.so_far.lines) (number_of line) text (value_at m) h.is_map)
+      by-content (pair key value) k = map-pair (entries_in h.so_far.lines) (number_of line) key value (value_at m) (value_at n) h.is_map k
 
   -- no item comes any more
   pub passed-all : {from to next : R} {m : Entries Y Z} {s t : ReaderState} → HasPassed reader e from m s to
       → GivesNone reader s to t next → HasReadMap reader e from m next
   passed-all h n =
-      let whole = collected-none h.collected n in
+      let whole = collected-none h.so_far.collected n in
       record {
-        lines = h.lines;
+        lines = h.so_far.lines;
         reads = whole;
-        values = λ key. record { entries = entries_in h.lines; items = whole.reading.items; whole = lines-are-items h.lines; is = h.is_map key };
+        values = λ key. record { entries = entries_in h.so_far.lines; items = whole.reading.items; whole = lines-are-items h.so_far.lines; is = h.is_map key };
       }
 
 -- What a map that was read has at a key is the value of that key in the input.

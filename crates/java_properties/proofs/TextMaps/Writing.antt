@@ -1,10 +1,10 @@
 -- A map that is written, pair after pair.
-use Rattle.std.proofs.Common.{◌≡◌, ℕ, ◌+◌, ◌<◌, ◌≤◌, true, false, zero, suc, List, [], ◌∷◌, ◌++◌, length, get_or, take, drop, refl, ap, sym, ◌∙◌, inl, inr, subst, append_assoc, arith}
-use Rattle.std.specs.Prelude.{map, Result, Ok, Err, string_bytes}
+use Rattle.std.proofs.Common.{◌≡◌, ℕ, ◌+◌, ◌<◌, ◌≤◌, true, false, zero, suc, List, [], ◌∷◌, ◌++◌, length, get_or, take, drop, refl, ap, ◌∙◌, inl, inr, append_assoc, arith, sym, subst}
+use Rattle.std.specs.Prelude.{map, Result, Ok, Err, string_bytes, bytes_eq}
 use Rattle.std.specs.Borrow.{Bor}
 use Rattle.std.specs.Str.{chars}
 use Rattle.std.specs.declared.string.String.{String}
-use Rattle.std.proofs.lemmas.List.{length-map, take_all}
+use Rattle.std.proofs.lemmas.List.{length-map, take_all, get_or-map}
 use Rattle.std.proofs.lemmas.Simd.{map-map}
 use Rattle.counted_io.specs.Streams.{Sink}
 use Rattle.counted_io.proofs.Streams.{written-flushed}
@@ -17,13 +17,28 @@ use Rattle.java_properties.specs.Private.Engine.{writing}
 use Rattle.properties_items.specs.Errors.{kind_of}
 use Rattle.java_properties.specs.PropertiesWriter.{Writing, new_writer, WritesLine, Flushes, HasWrittenLine, IsRefusedBy}
 use Rattle.java_properties.specs.Calls.{HasMade, is_not_accepted}
-use Rattle.java_properties.specs.Maps.{Texts, borrowed_texts, texts_of, call_for, calls_for, StopsInPairs, WritesPairs}
+use Rattle.java_properties.specs.Maps.{Texts, borrowed_texts, texts_of, call_for, calls_for, StopsInPairs, WritesPairs, entry_texts, AreInOrder}
 use Rattle.properties_items.specs.declared.error.ErrorKind.{ErrorKind}
 use Rattle.properties_items.specs.declared.error.ErrorKind.TheVariants as kind
 use Rattle.properties_items.specs.declared.error.PropertiesError.{PropertiesError}
 use Rattle.java_properties.specs.declared.writer.engine.Engine.{Engine}
-use Rattle.java_properties.proofs.Calls.Made.{made-none, made-more, pair-made}
-use Rattle.java_properties.proofs.Calls.Lists.{calls-cut, calls-take}
+use Rattle.java_properties.proofs.Calls.Made.{made-none, made-more, pair-made, calls-cut, calls-take}
+use Rattle.std.specs.Cmp.Lexicographic.{slice_cmp, nat_list_cmp_total}
+use Rattle.std.specs.HashMap.{HashMap, IsUnique}
+use Rattle.std.specs.List.{IsDistinct, AllByRecursion}
+use Rattle.std.specs.List.Sorted.{IsPermutation, IsSorted, IsStrictlySortedBy}
+use Rattle.std.specs.Map.{keys_of}
+use Rattle.std.specs.Map.Iter.{deref_pair}
+use Rattle.std.specs.Ordering.{nat_cmp, is_lt, ordering_then, ordering_reverse}
+use Rattle.std.specs.String.{string_cmp, string_eq}
+use Rattle.std.specs.declared.cmp.Ordering.{Ordering}
+use Rattle.std.specs.declared.cmp.Ordering.TheVariants.{Less, Equal, Greater}
+use Rattle.std.proofs.lemmas.List.Sorted.{IsPermutation-map, IsPermutation-refl}
+use Rattle.std.proofs.lemmas.Map.Keys.{IsDistinct-head, IsDistinct-tail, IsDistinct-cons, IsDistinct-from_apart, IsDistinct-IsPermutation, apart_from_distinct, sorted_from_all_adjacent}
+use Rattle.std.proofs.lemmas.Map.Lookups.{exact_bytes}
+use Rattle.std.proofs.lemmas.Slice.Eq.{bytes_eq-Decides}
+use Rattle.properties_items.specs.Texts.{Entries}
+use Rattle.properties_items.proofs.TextMaps.Values.{flipped}
 
 -- a new engine is a new writer
 pub new-writing : {W : Type 0} {a : Encoding} (engine : Engine) (to : W) → line_of engine.encoding ≡ a → engine.settings ≡ default_settings
@@ -64,16 +79,10 @@ calls-are entries = map-map call_for borrowed_texts entries
 
 module _ {Y Z : Type 0} (entries : List (Bor (String Y) × Bor (String Z))) (i : ℕ) (entry : Bor (String Y) × Bor (String Z)) (below : i < length entries) (is : entry ≡ get_or entries i entry) where
   cut-at : calls_for (texts_of entries) ≡ first_calls i entries ++ (borrowed_call entry ∷ drop (i + 1) (calls_for (texts_of entries)))
-  cut-at =
-      let P : List Call → Type 0 = λ v. v ≡ take i v ++ (borrowed_call entry ∷ drop (i + 1) v) in
-      let Q : Bor (String Y) × Bor (String Z) → Type 0 = λ e. map borrowed_call entries ≡ take i (map borrowed_call entries) ++ (borrowed_call e ∷ drop (i + 1) (map borrowed_call entries)) in
-      subst P (sym (calls-are entries)) (subst Q (sym is) (calls-cut borrowed_call entries i entry below))
+  cut-at = rw (calls-are entries) (rw (← is) at (calls-cut borrowed_call entries i entry below))
 
   take-at : first_calls (i + 1) entries ≡ first_calls i entries ++ (borrowed_call entry ∷ [])
-  take-at =
-      let P : List Call → Type 0 = λ v. take (i + 1) v ≡ take i v ++ (borrowed_call entry ∷ []) in
-      let Q : Bor (String Y) × Bor (String Z) → Type 0 = λ e. take (i + 1) (map borrowed_call entries) ≡ take i (map borrowed_call entries) ++ (borrowed_call e ∷ []) in
-      subst P (sym (calls-are entries)) (subst Q (sym is) (calls-take borrowed_call entries i entry below))
+  take-at = rw (calls-are entries) (rw (← is) at (calls-take borrowed_call entries i entry below))
 
 -- ---- pairs that are written
 
@@ -90,11 +99,10 @@ module _ {W Y Z : Type 0} (sink : Sink W) (a : Encoding) (old : W) (entries : Li
   pub first-all : (i : ℕ) (w : Writing W) → length entries ≤ i → HasMadeFirst sink a old entries i w
       → HasMade sink (new_writer a old) (calls_for (texts_of entries)) w
   first-all i w above h =
-      let P : List Call → Type 0 = λ v. HasMade sink (new_writer a old) v w in
       let one = length-map (texts_of entries) call_for in
       let two = length-map entries borrowed_texts in
       let all : length (calls_for (texts_of entries)) ≤ i = omega (arith, above, one, two) in
-      subst P (take_all i (calls_for (texts_of entries)) all) h
+      rw (take_all i (calls_for (texts_of entries)) all) at h
 
   settings-first : (i : ℕ) (w : Writing W) → HasMadeFirst sink a old entries i w → w.settings ≡ default_settings
   settings-first i w h = ap (λ (v : Writing W). v.settings) h.after ∙ settings-kept i (texts_of entries)
@@ -109,18 +117,13 @@ module _ {W Y Z : Type 0} (sink : Sink W) (a : Encoding) (old : W) (entries : Li
     -- one pair more
     pub first-more : HasWrittenLine sink w (pair (chars key) (chars value)) new → HasMadeFirst sink a old entries (i + 1) new
     first-more line =
-        let P : List Call → Type 0 = λ v. HasMade sink (new_writer a old) v new in
-        let Q : List ℕ → Type 0 = λ v. HasWrittenLine sink w (pair (chars v) (chars value)) new in
-        let R : List ℕ → Type 0 = λ v. HasWrittenLine sink w (pair (chars (string_bytes entry.0.now)) (chars v)) new in
-        let made = pair-made (chars (string_bytes entry.0.now)) (chars (string_bytes entry.1.now)) (subst R value_is (subst Q key_is line)) in
-        subst P (sym (take-at entries i entry below is)) (made-more h made)
+        let made = pair-made (chars (string_bytes entry.0.now)) (chars (string_bytes entry.1.now)) (rw (key_is, value_is) at line) in
+        rw (take-at entries i entry below is) (made-more h made)
 
     -- a pair was not written
     pub stops-in-pair : (error : PropertiesError) → WritesLine sink w (pair (chars key) (chars value)) (Err error) new
         → StopsInPairs sink a (texts_of entries) old error new.sink
     stops-in-pair error fails =
-        let Q : List ℕ → Type 0 = λ v. WritesLine sink w (pair (chars v) (chars value)) (Err error) new in
-        let R : List ℕ → Type 0 = λ v. WritesLine sink w (pair (chars (string_bytes entry.0.now)) (chars v)) (Err error) new in
         let others = drop (i + 1) (calls_for (texts_of entries)) in
         record {
           writer = new;
@@ -133,7 +136,7 @@ module _ {W Y Z : Type 0} (sink : Sink W) (a : Encoding) (old : W) (entries : Li
                 ∙ append_assoc (first_calls i entries) (borrowed_call entry ∷ others) (flush_call ∷ []);
             middle = w;
             made = h;
-            fails = record { fails = subst R value_is (subst Q key_is fails); final = pair-final i (chars key) (chars value) w new error h fails };
+            fails = record { fails = rw (key_is, value_is) at fails; final = pair-final i (chars key) (chars value) w new error h fails };
           };
           sink_after = refl;
         }
@@ -159,3 +162,91 @@ module _ {W Y Z : Type 0} (sink : Sink W) (a : Encoding) (old : W) (entries : Li
     };
     sink_after = refl;
   }
+
+-- ---- entries of a map, in the order of their keys
+
+-- of two keys that differ, the one that isn't greater is less
+ascends : (x y : List ℕ) → is_lt (slice_cmp nat_cmp y x) ≡ false → bytes_eq x y ≡ false → slice_cmp nat_cmp x y ≡ Less
+ascends x y above apart = nat_list_cmp_total.antisymm x y ∙ by (slice_cmp nat_cmp y x) refl
+  where
+    by : (o : Ordering) → slice_cmp nat_cmp y x ≡ o → ordering_reverse o ≡ Less
+    by Less e = absurd (let f = ap is_lt e in cc)
+    by Equal e = absurd (let t = (bytes_eq-Decides x y).1 (sym (exact_bytes y x e)) in cc)
+    by Greater e = refl
+
+-- the first of two orders decides
+first-decides : (a b : Ordering) → is_lt (ordering_then a b) ≡ false → is_lt a ≡ false
+first-decides Less b h = h
+first-decides Equal b h = refl
+first-decides Greater b h = refl
+
+-- what holds of the bytes of all keys
+all-keys : {Y Z : Type 0} (P : List ℕ → Type 0) (entries : List (String Y × String Z)) → AllByRecursion (λ k. P (string_bytes k)) (keys_of entries)
+    → AllByRecursion P (keys_of (map entry_texts entries))
+all-keys P [] h = tt
+all-keys P (e ∷ entries) h = (h.0, all-keys P entries h.1)
+
+-- keys that differ as texts differ as bytes
+distinct-bytes : {Y Z : Type 0} (entries : List (String Y × String Z)) → IsDistinct string_eq (keys_of entries) → IsDistinct bytes_eq (keys_of (map entry_texts entries))
+distinct-bytes [] h = IsDistinct-from_apart bytes_eq [] (λ i j d below inside. absurd (omega (arith, inside)))
+distinct-bytes (e ∷ entries) h = IsDistinct-cons bytes_eq (string_bytes e.0) (keys_of (map entry_texts entries))
+    (all-keys (λ k. bytes_eq (string_bytes e.0) k ≡ false) entries (IsDistinct-head string_eq e.0 (keys_of entries) h)) (distinct-bytes entries (IsDistinct-tail string_eq e.0 (keys_of entries) h))
+
+module _ {Y Z : Type 0} where
+  abbrev borrowed_key : Bor (String Y) × Bor (String Z) → List ℕ
+  borrowed_key entry = string_bytes entry.0.now
+
+  abbrev pair_cmp : Bor (String Y) × Bor (String Z) → Bor (String Y) × Bor (String Z) → Ordering
+  pair_cmp x y = ordering_then (string_cmp x.0.now y.0.now) (string_cmp x.1.now y.1.now)
+
+  keys-are : (xs : List (Bor (String Y) × Bor (String Z))) → keys_of (texts_of xs) ≡ map borrowed_key xs
+  keys-are xs = map-map (λ (e : List ℕ × List ℕ). e.0) borrowed_texts xs
+
+  neighbours : (xs : List (Bor (String Y) × Bor (String Z))) (d : Bor (String Y) × Bor (String Z)) → IsSorted pair_cmp xs → IsDistinct bytes_eq (map borrowed_key xs)
+      → (k : ℕ) → k + 1 < length (map borrowed_key xs)
+      → slice_cmp nat_cmp (get_or (map borrowed_key xs) k (borrowed_key d)) (get_or (map borrowed_key xs) (k + 1) (borrowed_key d)) ≡ Less
+  neighbours xs d sorted distinct k inside =
+      let within : k + 1 < length xs = let e = length-map xs borrowed_key in omega (arith, inside, e) in
+      let here = get_or-map borrowed_key xs k d (borrowed_key d) (omega (arith, within)) in
+      let next = get_or-map borrowed_key xs (k + 1) d (borrowed_key d) within in
+      let apart = apart_from_distinct bytes_eq (map borrowed_key xs) k (k + 1) (borrowed_key d) distinct (omega arith) inside in
+      let x = get_or xs k d in
+      let y = get_or xs (k + 1) d in
+      let above = first-decides (string_cmp y.0.now x.0.now) (string_cmp y.1.now x.1.now) (sorted k d (omega arith) within) in
+      rw (here, next) (ascends (borrowed_key x) (borrowed_key y) above (rw (here, next) at apart))
+
+  -- pairs in order, whose keys differ, have keys that ascend
+  strict : (xs : List (Bor (String Y) × Bor (String Z))) → IsSorted pair_cmp xs → IsDistinct bytes_eq (map borrowed_key xs)
+      → IsStrictlySortedBy (slice_cmp nat_cmp) (map borrowed_key xs)
+  strict [] sorted distinct = sorted_from_all_adjacent nat_list_cmp_total [] [] (λ k inside. absurd (omega (arith, inside)))
+  strict (x ∷ xs) sorted distinct = sorted_from_all_adjacent nat_list_cmp_total (map borrowed_key (x ∷ xs)) (borrowed_key x) (neighbours (x ∷ xs) x sorted distinct)
+
+-- borrowed entries have the texts of the entries
+borrowed : {Y Z : Type 0} (entries : Entries Y Z) (xs : List (Bor (String Y) × Bor (String Z))) → map deref_pair xs ≡ entries → texts_of xs ≡ map entry_texts entries
+borrowed entries xs all = sym (map-map entry_texts deref_pair xs) ∙ ap (map entry_texts) all
+
+-- the entries of a map, after they were sorted
+pub in-order : {Y Z S : Type 0} (m : HashMap (String Y) (String Z) S) (xs ys : List (Bor (String Y) × Bor (String Z))) → map deref_pair xs ≡ m.entries
+    → IsUnique string_eq m → IsPermutation xs ys → IsSorted (pair_cmp {Y = Y} {Z = Z}) ys → AreInOrder m.entries (texts_of ys)
+in-order {Y} {Z} m xs ys all unique moved sorted =
+    let P : List (List ℕ × List ℕ) → Type 0 = λ v. IsPermutation v (texts_of ys) in
+    let entries = subst P (borrowed m.entries xs all) (IsPermutation-map borrowed_texts xs ys moved) in
+    let keys = IsPermutation-map (λ (e : List ℕ × List ℕ). e.0) (map entry_texts m.entries) (texts_of ys) entries in
+    let distinct = IsDistinct-IsPermutation bytes_eq flipped (keys_of (map entry_texts m.entries)) (keys_of (texts_of ys)) keys (distinct-bytes m.entries unique) in
+    let Q : List (List ℕ) → Type 0 = IsDistinct bytes_eq in
+    let A : List (List ℕ) → Type 0 = IsStrictlySortedBy (slice_cmp nat_cmp) in
+    record { entries = entries; ascend = subst A (sym (keys-are ys)) (strict ys sorted (subst Q (keys-are ys) distinct)) }
+
+-- ---- the entries of a sorted map
+
+ascend-bytes : {Y Z : Type 0} (entries : Entries Y Z) → IsStrictlySortedBy string_cmp (keys_of entries) → IsStrictlySortedBy (slice_cmp nat_cmp) (keys_of (map entry_texts entries))
+unfolding IsStrictlySortedBy
+ascend-bytes [] up = tt
+ascend-bytes (e ∷ entries) up = (all-keys (λ k. slice_cmp nat_cmp (string_bytes e.0) k ≡ Less) entries up.0, ascend-bytes entries up.1)
+
+-- they are in order
+pub sorted-in-order : {Y Z : Type 0} (entries : Entries Y Z) (xs : List (Bor (String Y) × Bor (String Z))) → map deref_pair xs ≡ entries
+    → IsStrictlySortedBy string_cmp (keys_of entries) → AreInOrder entries (texts_of xs)
+sorted-in-order entries xs all up =
+    let P : List (List ℕ × List ℕ) → Type 0 = AreInOrder entries in
+    subst P (sym (borrowed entries xs all)) (record { entries = IsPermutation-refl (map entry_texts entries); ascend = ascend-bytes entries up })

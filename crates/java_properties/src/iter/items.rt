@@ -37,6 +37,7 @@ impl Model for ItemReader {
 
 impl ItemReader {
     /// Returns the state at the start of an input. Allocates nothing.
+    #[tactic(auto, using(crate::proofs::Items::keeping))]
     pub fn new(alloc: Global, encoding: Encoding) -> ItemReader
         ensures { result ≡ record { state = start (encoding_of encoding); line = [] } }
     {

@@ -82,6 +82,7 @@ fn later_value(
 }
 
 // Returns whether a borrowed text equals `text`.
+#[tactic(auto, using(crate::proofs::TextMaps::texts))]
 fn is_text(found: &CowStr<'_>, text: &str) -> bool
     ensures { result ≡ bytes_eq (chars (cow_str_bytes found.now)) (chars text.now) }
 {

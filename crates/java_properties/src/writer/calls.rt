@@ -68,6 +68,7 @@ pub fn run_calls<W: CountedWrite>(
     Ok(answers)
 }
 
+#[tactic(auto, using(crate::proofs::Calls::Made::setting))]
 fn run_call<W: CountedWrite>(
     call: &Call,
     writer: &mut PropertiesWriter<W>,

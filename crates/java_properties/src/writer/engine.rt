@@ -161,6 +161,7 @@ impl Engine {
 
     /// Returns whether a pair can be written whose key is spelt by this span.
     #[inline(always)]
+    #[tactic(auto, using(crate::proofs::Engine::spans))]
     pub fn takes_span(&self, key: Span) -> bool
         ensures { result ≡ takes_span self.now.settings key }
     {
@@ -169,6 +170,7 @@ impl Engine {
 
     /// Builds the line of a pair. Fails with the first malformed escape, or if memory runs out.
     #[inline(always)]
+    #[tactic(auto, using(crate::proofs::Engine::spelling))]
     pub fn build_pair(&mut self, pair: Pair<'_>) -> Result<(), UnescapeError>
         requires { IsPair pair }
         ensures printed { BuildsPair self.old pair.entry result self.new.line }
@@ -188,6 +190,7 @@ impl Engine {
 
     // Builds the bytes of the line.
     #[inline(always)]
+    #[tactic(auto, using(crate::proofs::Engine::building))]
     fn build(&mut self, content: Content<'_>) -> Result<(), AllocError>
         ensures printed { let bytes = line_bytes self.old (entry_content content.entry) in
             OnOk result (self.new.line ≡ bytes) }
@@ -229,6 +232,7 @@ impl Engine {
     }
 
     #[inline(always)]
+    #[tactic(auto, using(crate::proofs::Engine::repertoires))]
     fn repertoire(&self) -> Repertoire
         ensures { result ≡ repertoire_of self.now }
     {

@@ -94,6 +94,7 @@ impl Settings {
 
     /// Sets what comes before the text of a comment. Fails if the text isn't a valid prefix. The text is copied, also
     /// for the error.
+    #[tactic(auto, using(crate::proofs::Settings::Tests::prefixes))]
     pub fn set_comment_prefix(&mut self, prefix: &str) -> Result<(), PropertiesError>
         ensures { TakesPrefix self.old (chars prefix.now) result self.new }
     {
@@ -107,6 +108,7 @@ impl Settings {
 
     /// Sets what comes between a key and its value. Fails if the text isn't a valid separator. The text is copied, also
     /// for the error.
+    #[tactic(auto, using(crate::proofs::Settings::Tests::separators))]
     pub fn set_kv_separator(&mut self, separator: &str) -> Result<(), PropertiesError>
         ensures { TakesSeparator self.old (chars separator.now) result self.new }
     {
@@ -121,6 +123,7 @@ impl Settings {
 
     /// Returns whether a pair with this key can be written. If the separator consists only of blanks, the value of an
     /// empty key would be read as the key.
+    #[tactic(auto, using(crate::proofs::Settings::Tests::emptiness))]
     pub fn takes_key(&self, key: &str) -> bool
         ensures { result ≡ not (is_empty (chars key.now) && is_blanks self.now.kv_separator) }
     {

@@ -1,8 +1,8 @@
-use Rattle.std.proofs.Common.{◌≡◌, take, length, refl, ap, ◌∙◌, sym, subst, rules}
+use Rattle.std.proofs.Common.{arith}
+use Rattle.std.proofs.Common.{refl, sym, subst}
 use Rattle.std.specs.Prelude.{None, Some, Err}
 use Rattle.std.proofs.lemmas.Result.{err_from_is_err_and}
 use Rattle.properties_text.specs.declared.escape.UnescapeError.{UnescapeError}
-use Rattle.properties_text.specs.declared.parse.ParsedSpans.{ParsedSpans}
 use Rattle.properties_text.specs.declared.parse.ParsedSpans.TheVariants.{Comment, KVPair}
 use Rattle.java_properties.specs.Private.Engine.{BuildsPair}
 use Rattle.java_properties.proofs.CopiedLines.{AreFound, empty-is, found-in, blank-is, comment-well, comment-read, comment-unread, key-well, value-well, pair-built, pair-unbuilt}
@@ -14,11 +14,9 @@ comment : (c : In-Some-Comment) → AreFound c.args.lines.now.encoding c.args.li
 comment c =
     let lines = c.args.lines.now in
     let bytes = c.with_room-bytes.result.now in
-    let is = ap (λ n. take n bytes) c.length-length.ensures ∙ c.with_room-bytes.ensures.front in
     let found = c.in-Some-Comment.ensures in
-    let P : ParsedSpans → Type 0 = λ v. AreFound lines.encoding lines.at.line bytes (Some v) in
-    subst P c.in-Some-Comment.field-0-is
-    (found-in lines.encoding lines.at.line bytes _ (Some c.in-Some-Comment.field-0) c.requires c.with_room-bytes.ensures.front is found.slices found.places found.text)
+    rw c.in-Some-Comment.field-0-is at
+    (found-in lines.encoding lines.at.line bytes _ (Some c.in-Some-Comment.field-0) c.requires c.with_room-bytes.ensures.front c.length-length.ensures found.slices found.places found.text)
 
 -- where the key and the value of a pair are
 pair : (c : In-Some-KVPair)
@@ -26,25 +24,19 @@ pair : (c : In-Some-KVPair)
 pair c =
     let lines = c.args.lines.now in
     let bytes = c.with_room-bytes.result.now in
-    let is = ap (λ n. take n bytes) c.length-length.ensures ∙ c.with_room-bytes.ensures.front in
     let found = c.in-Some-KVPair.ensures in
-    let P : ParsedSpans → Type 0 = λ v. AreFound lines.encoding lines.at.line bytes (Some v) in
-    subst P c.in-Some-KVPair.field-0-is
-    (found-in lines.encoding lines.at.line bytes _ (Some c.in-Some-KVPair.field-0) c.requires c.with_room-bytes.ensures.front is found.slices found.places found.text)
+    rw c.in-Some-KVPair.field-0-is at
+    (found-in lines.encoding lines.at.line bytes _ (Some c.in-Some-KVPair.field-0) c.requires c.with_room-bytes.ensures.front c.length-length.ensures found.slices found.places found.text)
 
 pub returns-then-length-eq0-clause-builds : goal.returns-then-length-eq0-clause-builds
-returns-then-length-eq0-clause-builds c =
-    let lines = c.args.lines.now in
-    let none : length lines.at.line ≡ 0 = search rules in
-    empty-is lines.encoding lines.at.line none
+returns-then-length-eq0-clause-builds c = grind (arith, empty-is)
 
 pub returns-in-None-clause-builds : goal.returns-in-None-clause-builds
 returns-in-None-clause-builds c =
     let lines = c.args.lines.now in
     let bytes = c.with_room-bytes.result.now in
-    let is = ap (λ n. take n bytes) c.length-length.ensures ∙ c.with_room-bytes.ensures.front in
     blank-is lines.encoding lines.at.line bytes
-    (found-in lines.encoding lines.at.line bytes _ None c.requires c.with_room-bytes.ensures.front is c.in-None.ensures.slices c.in-None.ensures.places c.in-None.ensures.text)
+    (found-in lines.encoding lines.at.line bytes _ None c.requires c.with_room-bytes.ensures.front c.length-length.ensures c.in-None.ensures.slices c.in-None.ensures.places c.in-None.ensures.text)
 
 pub check_escapes-requires : goal.check_escapes-requires
 check_escapes-requires c = rw c.encoding.ensures (comment-well _ _ _ _ (comment (goal.at.check_escapes-requires c).In-Some-Comment))

@@ -1,12 +1,7 @@
-use Rattle.std.proofs.Common.{refl, sym, ap, ◌∙◌, subst}
-use Rattle.std.specs.Prelude.{Ok, Err}
-use Rattle.counted_io.specs.Streams.{reader, sink}
+use Rattle.std.proofs.Common.{refl, sym, ap, ◌∙◌}
 use Rattle.properties_lines.specs.LineJoiner.{LineJoining}
-use Rattle.java_properties.specs.Copying.{Copies}
-use Rattle.java_properties.specs.Private.CopiedLines.{iteration}
 use Rattle.java_properties.specs.Private.Engine.{writing}
 use Rattle.java_properties.specs.Private.GivenItems.{in_utf_8}
-use Rattle.java_properties.specs.declared.copy.CopyError.TheVariants.{Read}
 use Rattle.java_properties.proofs.CopiedLines.{unbuilt-no_item}
 use Rattle.java_properties.proofs.Copying.{built-sent, built-unsent, built-refused, copied-start, copied-same, copied-no_pair, copied-pair, copied-unwritten, copied-unread, copied-all, copied-error}
 use Rattle.java_properties.proofs.copy.copy_lines.Goals as goal
@@ -77,10 +72,7 @@ returns-in-None-clause-copies g c =
     let held = c.loop-number.invariant in
     let so_far = writing c.loop-number.engine c.loop-number.sink in
     let quiet = sym c.take_error.ensures.error ∙ c.in-None.is in
-    let P : LineJoining → Type 0 = λ l.
-    Copies (reader g.R.Read g.R.CountedRead) (sink g.W.Write g.W.CountedWrite) (iteration c.args.lines.now.at c.args.reader.now) (writing c.args.engine.now c.args.sink.now)
-    (Ok tt) (iteration l.at next) so_far in
-    subst P (sym c.take_error.ensures.taken) (copied-all c.loop-number.lines new next held.copied held.error c.in_default.ensures.advances (in_utf_8 new.at.line) quiet)
+    rw c.take_error.ensures.taken (copied-all c.loop-number.lines new next held.copied held.error c.in_default.ensures.advances (in_utf_8 new.at.line) quiet)
 
 pub returns-in-Some-take_error-clause-copies : goal.returns-in-Some-take_error-clause-copies
 returns-in-Some-take_error-clause-copies g c =
@@ -89,8 +81,5 @@ returns-in-Some-take_error-clause-copies g c =
     let held = c.loop-number.invariant in
     let so_far = writing c.loop-number.engine c.loop-number.sink in
     let kept = sym c.take_error.ensures.error ∙ c.in-Some-take_error.is in
-    let P : LineJoining → Type 0 = λ l.
-    Copies (reader g.R.Read g.R.CountedRead) (sink g.W.Write g.W.CountedWrite) (iteration c.args.lines.now.at c.args.reader.now) (writing c.args.engine.now c.args.sink.now)
-    (Err (Read c.from.result)) (iteration l.at next) so_far in
-    subst P (sym c.take_error.ensures.taken)
+    rw c.take_error.ensures.taken
     (copied-error c.loop-number.lines new next held.copied held.error c.in_default.ensures.advances (in_utf_8 new.at.line) c.in-Some-take_error.error c.from.result kept c.from.ensures)

@@ -1,17 +1,15 @@
-use Rattle.std.proofs.Common.{◌≡◌, refl, sym, ap, ◌∙◌, subst}
+use Rattle.std.proofs.Common.{arith}
+use Rattle.std.proofs.Common.{◌≡◌, refl, sym, ◌∙◌, inr}
 use Rattle.std.specs.Global.{Global}
 use Rattle.std.specs.declared.string.String.{String}
 use Rattle.std.proofs.lemmas.Result.{err_from_is_err_and}
-use Rattle.properties_format.specs.ItemsToCome.{ReaderState}
-use Rattle.properties_text.specs.Encoding.{encoding_of}
-use Rattle.counted_io.specs.Streams.{reader}
-use Rattle.properties_lines.specs.LineJoiner.{LineState}
 use Rattle.properties_items.specs.Line.{content_of}
 use Rattle.properties_items.specs.Texts.{Entries}
 use Rattle.properties_items.specs.declared.line.LineContent.{LineContent}
 use Rattle.properties_items.specs.declared.line.LineContent.TheVariants.{Comment, KVPair}
 use Rattle.java_properties.specs.PropertiesIter.{format_content}
-use Rattle.java_properties.proofs.TextMaps.Reading.{HasPassed, Takes, passed-none, passed-more, passed-lost, passed-error, passed-all}
+use Rattle.java_properties.proofs.Readings.{collected-lost, collected-stops}
+use Rattle.java_properties.proofs.TextMaps.Reading.{Takes, passed-none, passed-more, passed-all}
 use Rattle.java_properties.proofs.maps.read_map.Goals as goal
 
 -- what is no pair changes nothing
@@ -20,20 +18,14 @@ takes-other m (Comment text) other = refl
 takes-other m (KVPair key value) other = absurd (other key value refl)
 
 pub loop-item-init : goal.loop-item-init
-loop-item-init g c =
-    let r = reader g.R.Read g.R.CountedRead in
-    let P : ReaderState → Type 0 = λ v. HasPassed r (encoding_of c.args.encoding) c.args.input.now (g.M.TextMap.entries c.args.map) v c.args.input.now in
-    record {
-      passed = subst P (sym (ap (λ v. let w : LineState = v in w.state) c.new-items.ensures)) (passed-none {reader = r} c.args.input.now _ c.requires.empty);
-      ordered = c.requires.ordered;
-      same_reader = refl;
-    }
+loop-item-init g c = grind (arith, passed-none)
 
 pub returns-in_err-line-clause-reads : goal.returns-in_err-line-clause-reads
 returns-in_err-line-clause-reads g c =
     let error = err_from_is_err_and c.from_residual.result c.from_residual.ensures.1 in
     let refused = rw c.in_err-line.was at c.in-Some.ensures.gives in
-    rw (error.1, error.2) (passed-error c.loop-item.invariant.passed refused.0 refused.2)
+    let held = c.loop-item.invariant.passed.so_far in
+    rw (error.1, error.2) (collected-stops held.lines held.collected refused.0 refused.2)
 
 pub loop-item-preserved : goal.loop-item-preserved
 loop-item-preserved g c =
@@ -60,7 +52,8 @@ pub returns-in_err-put-clause-reads : goal.returns-in_err-put-clause-reads
 returns-in_err-put-clause-reads g c =
     let error = err_from_is_err_and c.from_residual-in_err-put.result c.from_residual-in_err-put.ensures.1 in
     let next = rw c.in_ok-line.was at c.in-Some.ensures.gives in
-    rw error.1 (passed-lost c.in_ok-line.line c.loop-item.invariant.passed next error.2)
+    let held = c.loop-item.invariant.passed.so_far in
+    rw error.1 (record { lines = held.lines; stops = inr (inr (collected-lost held.collected next error.2)) })
 
 pub returns-clause-reads : goal.returns-clause-reads
 returns-clause-reads g c = passed-all c.loop-item.invariant.passed c.in_default.ensures.gives

@@ -1,9 +1,9 @@
-use Rattle.std.proofs.Common.{refl}
+use Rattle.std.proofs.Common.{arith}
 use Rattle.std.proofs.lemmas.Iterator.Consumers.{map_from_collect, YieldsList-from_rest}
 use Rattle.counted_io.specs.Streams.{sink}
 use Rattle.properties_format.specs.Encoding.{windows_1252}
 use Rattle.java_properties.specs.Maps.{texts_of}
-use Rattle.java_properties.proofs.TextMaps.Order.{in-order}
+use Rattle.java_properties.proofs.TextMaps.Writing.{in-order}
 use Rattle.java_properties.proofs.TextMaps.ReadBack.{writes-map, writes-read_back}
 use Rattle.java_properties.proofs.maps.write.Goals as goal
 
@@ -16,6 +16,4 @@ returns-clause-writes g c =
     writes-map (sink g.W.Write g.W.CountedWrite) windows_1252 m.entries (texts_of c.sort_unstable.new.self.items) c.args.writer.now _ c.write_pairs.result ordered writes
 
 pub returns-clause-reads_back : goal.returns-clause-reads_back
-returns-clause-reads_back g c =
-    let whole = returns-clause-writes g c in
-    writes-read_back (sink g.W.Write g.W.CountedWrite) windows_1252 c.args.map.now.entries c.args.writer.now _ c.write_pairs.result refl whole
+returns-clause-reads_back g c = grind (arith, writes-read_back, returns-clause-writes)

@@ -1,10 +1,11 @@
+use Rattle.std.proofs.Common.{arith}
 use Rattle.std.proofs.lemmas.Iterator.Consumers.{map_from_collect, YieldsList-from_rest}
 use Rattle.counted_io.specs.Streams.{sink}
 use Rattle.properties_format.specs.Encoding.{output_encoding}
 use Rattle.properties_format.proofs.ReadBack.Law.{output_encoding-own}
 use Rattle.properties_text.specs.Encoding.{encoding_of}
 use Rattle.java_properties.specs.Maps.{texts_of}
-use Rattle.java_properties.proofs.TextMaps.Order.{sorted-in-order}
+use Rattle.java_properties.proofs.TextMaps.Writing.{sorted-in-order}
 use Rattle.java_properties.proofs.TextMaps.ReadBack.{writes-map, writes-read_back}
 use Rattle.java_properties.proofs.maps.write_sorted.Goals as goal
 
@@ -18,7 +19,4 @@ returns-clause-writes g c =
     writes-map (sink g.W.Write g.W.CountedWrite) (output_encoding (encoding_of c.args.encoding)) entries (texts_of pairs) c.args.writer.now _ c.write_pairs.result ordered writes
 
 pub returns-clause-reads_back : goal.returns-clause-reads_back
-returns-clause-reads_back g c =
-    let e = encoding_of c.args.encoding in
-    let whole = returns-clause-writes g c in
-    writes-read_back (sink g.W.Write g.W.CountedWrite) (output_encoding e) c.args.map.now.entries c.args.writer.now _ c.write_pairs.result (output_encoding-own e) whole
+returns-clause-reads_back g c = grind (arith, writes-read_back, output_encoding-own, returns-clause-writes)

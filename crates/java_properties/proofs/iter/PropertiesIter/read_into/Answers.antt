@@ -1,3 +1,4 @@
+use Rattle.std.proofs.Common.{arith}
 use Rattle.std.specs.Prelude.{Ok, Err}
 use Rattle.std.proofs.lemmas.Result.{err_from_is_err_and}
 use Rattle.java_properties.proofs.ReadInto.{called-none, called-other, called-more, called-all}
@@ -13,20 +14,10 @@ returns-in_err-line g c =
     rw (error.1, error.2) (record { reads = called-all c.next.new.self (Err _) c.loop-item.invariant.called gives })
 
 pub loop-item-preserved : goal.loop-item-preserved
-loop-item-preserved g c =
-    let gives = rw c.in_ok-line.was at c.in-Some.ensures.steps in
-    let held = c.loop-item.invariant in
-    record {
-      called = called-more c.next.new.self c.in_ok-line.line c.consume_content.result held.called c.consume_content.ensures gives _ _ _ c.in-KVPair.is c.f.ensures;
-    }
+loop-item-preserved g c = grind (arith, called-more)
 
 pub loop-item-preserved-in_default-consume_content : goal.loop-item-preserved-in_default-consume_content
-loop-item-preserved-in_default-consume_content g c =
-    let gives = rw c.in_ok-line.was at c.in-Some.ensures.steps in
-    let held = c.loop-item.invariant in
-    record {
-      called = called-other c.next.new.self c.in_ok-line.line c.consume_content.result held.called c.consume_content.ensures gives c.in_default-consume_content.not-KVPair;
-    }
+loop-item-preserved-in_default-consume_content g c = grind (arith, called-other)
 
 pub returns : goal.returns
 returns g c = record { reads = called-all c.next.new.self (Ok tt) c.loop-item.invariant.called c.in_default.ensures.steps }

@@ -1,42 +1,32 @@
-use Rattle.std.proofs.Common.{◌++◌, ◌∷◌, ◌∙◌, List, [], sym, ap, subst, refl, inl, inr}
-use Rattle.properties_format.specs.Entries.{Entry}
-use Rattle.properties_format.specs.ItemsToCome.{ReaderState}
-use Rattle.counted_io.specs.Streams.{reader}
+use Rattle.std.proofs.Common.{◌++◌, ◌∷◌, ◌∙◌, [], ap, refl, inl, inr}
 use Rattle.properties_text.specs.Encoding.{encoding_of}
-use Rattle.java_properties.specs.ReadLines.{entries_in, StopsEarly}
-use Rattle.properties_lines.specs.LineJoiner.{LineState}
+use Rattle.java_properties.specs.ReadLines.{entries_in}
 use Rattle.java_properties.specs.PropertiesIter.{entry_of}
 use Rattle.std.proofs.lemmas.List.{map-append}
-use Rattle.java_properties.proofs.Readings.{Collected, collected-start, collected-next, collected-none, collected-lost, collected-malformed, collected-error}
+use Rattle.java_properties.proofs.Readings.{collected-start, collected-next, collected-none, collected-lost, collected-malformed, collected-error}
 use Rattle.java_properties.proofs.iter.all_lines.read_lines.Goals as goal
 
 pub loop-item-init : goal.loop-item-init
-loop-item-init g c =
-    let e = encoding_of c.args.encoding in
-    let P : ReaderState → Type 0 = λ v. Collected (reader g.R.Read g.R.CountedRead) e c.args.input.now [] [] v c.args.input.now in
-    let Q : List Entry → Type 0 = λ v. Collected (reader g.R.Read g.R.CountedRead) e c.args.input.now [] v c.new-items.result.state c.args.input.now in
-    record {
-      collected = ([], subst Q (sym (ap entries_in c.new-lines.ensures.items)) (subst P (sym (ap (λ v. let w : LineState = v in w.state) c.new-items.ensures)) (collected-start e c.args.input.now)));
-      same_reader = refl;
-    }
+loop-item-init g c = record {
+  collected = ([], rw (c.new-lines.ensures.items, c.new-items.ensures) (collected-start (encoding_of c.args.encoding) c.args.input.now));
+  same_reader = refl;
+}
 
 pub loop-item-preserved : goal.loop-item-preserved
 loop-item-preserved g c =
     let next = rw c.in-Ok.is at c.in-Some.ensures.gives in
     let bytes = c.loop-item.invariant.collected.0 ++ next.bytes in
-    let Q : List Entry → Type 0 = λ v. Collected (reader g.R.Read g.R.CountedRead) (encoding_of c.args.encoding) c.args.input.now bytes v c.next_item.new.self.state c.next_item.new.reader in
     let added = ap entries_in c.in_default-push.ensures.items ∙ map-append entry_of c.loop-item.lines.items (c.in-Ok.line ∷ []) in
     record {
-      collected = (bytes, subst Q (sym added) (collected-next c.loop-item.invariant.collected.1 next));
+      collected = (bytes, rw added (collected-next c.loop-item.invariant.collected.1 next));
       same_reader = c.next_item.ensures.same_reader ∙ c.loop-item.invariant.same_reader;
     }
 
 pub returns-in-Err-push-clause-reads : goal.returns-in-Err-push-clause-reads
 returns-in-Err-push-clause-reads g c =
     let next = rw c.in-Ok.is at c.in-Some.ensures.gives in
-    let Q : List Entry → Type 0 = λ v. StopsEarly (reader g.R.Read g.R.CountedRead) (encoding_of c.args.encoding) c.args.input.now v c.from-error.result c.next_item.new.reader in
     let lost = collected-lost c.loop-item.invariant.collected.1 next c.from-error.ensures in
-    inr (inr (subst Q (sym (ap entries_in c.in-Err-push.ensures.items)) lost))
+    inr (inr (rw c.in-Err-push.ensures.items lost))
 
 pub returns-in-Err-clause-reads : goal.returns-in-Err-clause-reads
 returns-in-Err-clause-reads g c =

@@ -3,8 +3,7 @@ use Rattle.std.proofs.lemmas.Result.{err_from_is_err_and}
 use Rattle.counted_io.specs.Streams.{sink}
 use Rattle.java_properties.specs.Calls.{calls_in, call_in}
 use Rattle.java_properties.specs.PropertiesWriter.{Writing}
-use Rattle.java_properties.proofs.Calls.Made.{made-more}
-use Rattle.java_properties.proofs.Calls.Lists.{answers-more, stops, calls-cut, calls-take, calls-all}
+use Rattle.java_properties.proofs.Calls.Made.{made-more, answers-more, stops, calls-cut, calls-take, calls-all}
 use Rattle.java_properties.proofs.ReadBack.Scalars.{calls-scalars}
 use Rattle.java_properties.proofs.ReadBack.Written.{made-read_back, runs-read_back, made-only}
 use Rattle.java_properties.proofs.AsciiOnly.{made-ascii, runs-ascii}
@@ -20,14 +19,10 @@ returns-in_err-accepted-clause-runs g c =
     rw (error.1, error.2) (inr (stops (drop (at + 1) (calls_in c.args.calls.now)) cut c.loop-call.invariant.made fails))
 
 pub returns-clause-reads_back : goal.returns-clause-reads_back
-returns-clause-reads_back g c = λ clean.
-    let all = calls-all call_in c.args.calls.now c.loop-call.call-index c.loop-call-test.false in
-    made-read_back {new = c.loop-call.writer} c.settings_are_good.ensures (calls-scalars c.args.calls.now) (rw all at c.loop-call.invariant.made) clean
+returns-clause-reads_back g c = grind (arith, calls-all, calls-scalars, made-read_back)
 
 pub returns-in_err-accepted-clause-reads_back : goal.returns-in_err-accepted-clause-reads_back
-returns-in_err-accepted-clause-reads_back g c =
-    runs-read_back (sink g.W.Write g.W.CountedWrite) c.args.writer.now _ (calls_in c.args.calls.now) _ c.settings_are_good.ensures
-    (calls-scalars c.args.calls.now) (returns-in_err-accepted-clause-runs g c)
+returns-in_err-accepted-clause-reads_back g c = grind (arith, calls-scalars, runs-read_back, returns-in_err-accepted-clause-runs)
 
 pub returns-in_err-accepted-clause-ascii : goal.returns-in_err-accepted-clause-ascii
 returns-in_err-accepted-clause-ascii g c =
@@ -35,14 +30,10 @@ returns-in_err-accepted-clause-ascii g c =
     runs-ascii s c.args.writer.now _ (calls_in c.args.calls.now) _ c.settings_are_good.ensures (calls-scalars c.args.calls.now) (returns-in_err-accepted-clause-runs g c)
 
 pub returns-clause-only : goal.returns-clause-only
-returns-clause-only g c = λ pairs these.
-    let all = calls-all call_in c.args.calls.now c.loop-call.call-index c.loop-call-test.false in
-    made-only {new = c.loop-call.writer} c.settings_are_good.ensures (calls-scalars c.args.calls.now) (rw all at c.loop-call.invariant.made) pairs these
+returns-clause-only g c = grind (arith, calls-all, calls-scalars, made-only)
 
 pub returns-clause-ascii : goal.returns-clause-ascii
-returns-clause-ascii g c =
-    let all = calls-all call_in c.args.calls.now c.loop-call.call-index c.loop-call-test.false in
-    made-ascii {new = c.loop-call.writer} c.settings_are_good.ensures (calls-scalars c.args.calls.now) (rw all at c.loop-call.invariant.made)
+returns-clause-ascii g c = grind (arith, calls-all, calls-scalars, made-ascii)
 
 pub loop-call-preserved : goal.loop-call-preserved
 loop-call-preserved g c =

@@ -3,7 +3,8 @@ use Rattle.std.specs.Str.{IsUtf8, chars}
 use Rattle.std.specs.Str.Iter.{chars_rest}
 use Rattle.std.proofs.lemmas.Str.{IsUtf8-past_char}
 use Rattle.properties_format.specs.Computed.Settings.{is_good_prefix}
-use Rattle.java_properties.proofs.Settings.Tests.{prefix_left, past_first, past_last, prefix_left-end, prefix_left-in_line, prefix_left-line_end, prefix_left-sign, prefix_left-blank, prefix_left-other}
+use Rattle.properties_format.proofs.Split.Unique.{sign-full}
+use Rattle.java_properties.proofs.Settings.Tests.{prefix_left, past_first, past_last, prefix_left-end}
 use Rattle.java_properties.proofs.writer.settings.is_good_prefix.Goals as goal
 use Rattle.java_properties.proofs.writer.settings.is_good_prefix.Goals.{In-Some}
 
@@ -20,31 +21,31 @@ past-utf8 c = IsUtf8-past_char _ _ c.in-Some.character c.loop-character.invarian
 pub returns-then-is_line_end : goal.returns-then-is_line_end
 returns-then-is_line_end c =
     let ends = sym c.is_line_end.ensures ∙ c.if-is_line_end.true in
-    sym (past (goal.at.returns-then-is_line_end c).In-Some true false c.if-signed.true (prefix_left-line_end c.in-Some.character (chars (chars_rest c.next.new.self)) ends))
+    sym (past (goal.at.returns-then-is_line_end c).In-Some true false c.if-signed.true (rw ends))
 
 pub loop-character-preserved-else-is_line_end : goal.loop-character-preserved-else-is_line_end
 loop-character-preserved-else-is_line_end c =
     let at = (goal.at.loop-character-preserved-else-is_line_end c).In-Some in
     let stays = sym c.is_line_end.ensures ∙ c.if-is_line_end.false in
-    record { utf8 = past-utf8 at; same = rw c.if-signed.true (past at true _ c.if-signed.true (prefix_left-in_line c.in-Some.character (chars (chars_rest c.next.new.self)) stays)) }
+    record { utf8 = past-utf8 at; same = rw c.if-signed.true (past at true _ c.if-signed.true (rw stays)) }
 
 pub loop-character-preserved-then-is_comment_sign : goal.loop-character-preserved-then-is_comment_sign
 loop-character-preserved-then-is_comment_sign c =
     let at = (goal.at.loop-character-preserved-then-is_comment_sign c).In-Some in
     let marks = sym c.is_comment_sign.ensures ∙ c.if-is_comment_sign.true in
-    record { utf8 = past-utf8 at; same = past at false _ c.if-signed.false (prefix_left-sign c.in-Some.character (chars (chars_rest c.next.new.self)) marks) }
+    record { utf8 = past-utf8 at; same = past at false _ c.if-signed.false (rw (sign-full c.in-Some.character marks, marks)) }
 
 pub returns-then-not-is_blank : goal.returns-then-not-is_blank
 returns-then-not-is_blank c =
     let marks = sym c.is_comment_sign.ensures ∙ c.if-is_comment_sign.false in
     let blank = sym c.is_blank.ensures ∙ c.if-not-is_blank.true in
-    sym (past (goal.at.returns-then-not-is_blank c).In-Some false false c.if-signed.false (prefix_left-other c.in-Some.character (chars (chars_rest c.next.new.self)) marks blank))
+    sym (past (goal.at.returns-then-not-is_blank c).In-Some false false c.if-signed.false (rw (blank, marks)))
 
 pub loop-character-preserved : goal.loop-character-preserved
 loop-character-preserved c =
     let at = (goal.at.loop-character-preserved c).In-Some in
     let blank = sym c.is_blank.ensures ∙ c.if-not-is_blank.false in
-    record { utf8 = past-utf8 at; same = rw c.if-signed.false (past at false _ c.if-signed.false (prefix_left-blank c.in-Some.character (chars (chars_rest c.next.new.self)) blank)) }
+    record { utf8 = past-utf8 at; same = rw c.if-signed.false (past at false _ c.if-signed.false (rw blank)) }
 
 pub returns : goal.returns
 returns c =

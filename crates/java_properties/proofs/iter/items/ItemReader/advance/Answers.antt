@@ -1,17 +1,15 @@
-use Rattle.std.proofs.Common.{◌≡◌, ◌++◌, ◌∙◌, ◌-◌, ◌^◌, arith, sym, ap, subst, inr, List, ℕ, [], refl}
+use Rattle.std.proofs.Common.{◌≡◌, ◌++◌, ◌∙◌, arith, sym, ap, subst, inr, List, ℕ, [], refl}
 use Rattle.std.specs.Prelude.{Some, Ok}
 use Rattle.std.specs.Str.{chars}
 use Rattle.properties_format.specs.Entries as entry
 use Rattle.properties_format.specs.Items.{ignored}
 use Rattle.properties_format.specs.Computed.Items.{outcome_of}
-use Rattle.properties_format.specs.ItemsToCome.{ReaderState}
 use Rattle.counted_io.specs.Streams.{reader}
 use Rattle.properties_lines.specs.LineReader.{lines_left}
 use Rattle.properties_lines.specs.LineJoiner.{LineState, LineJoining, numbered_line}
 use Rattle.properties_items.specs.BorrowedItems.{found_content, IsFoundIn}
 use Rattle.java_properties.specs.Borrowing.{logical_line, IsSpelt}
 use Rattle.java_properties.specs.Private.GivenItems.{as_text, FindsItem, GivesEntry}
-use Rattle.properties_items.specs.FoundItems.{IsNoItem}
 use Rattle.properties_items.specs.declared.found.Found.{Found}
 use Rattle.java_properties.proofs.Items.{kept-utf8, Passed, passed-start, passed-error, passed-no_item, gives-spelt, passed-blank, stopped}
 use Rattle.properties_items.proofs.FoundItems.{found-item, plain-blank}
@@ -22,9 +20,8 @@ use Rattle.java_properties.proofs.iter.items.ItemReader.advance.Goals.{After-lin
 pub loop-number-init : goal.loop-number-init
 loop-number-init g c =
     let state = ap (λ v. let w : LineState = v in w.state) c.self.view_is in
-    let P : ReaderState → Type 0 = λ v. Passed (reader g.R.Read g.R.CountedRead) c.args.self.now.state c.args.reader.now [] v c.args.reader.now in
     record {
-      passed = ([], subst P (sym state) (passed-start c.args.self.now.state c.args.reader.now));
+      passed = ([], rw state (passed-start c.args.self.now.state c.args.reader.now));
       left = omega (arith, ap lines_left state);
       error = c.self.invariant;
       same_reader = refl;
@@ -35,17 +32,14 @@ gives-found : (g : Over) (c : After-line-line g) (item : Found) → (item.line_n
     → FindsItem (reader g.R.Read g.R.CountedRead) c.args.self.now.state c.args.reader.now (Some (Ok item)) (as_text c.next_text.new.self.at) c.next_text.new.reader
 gives-found g c item found =
     let new = c.next_text.new.self.at in
-    let kept : List ℕ → LineState = λ v. record { state = new.state; line = v } in
-    let Q : List ℕ → Type 0 = λ v. FindsItem (reader g.R.Read g.R.CountedRead) c.args.self.now.state c.args.reader.now (Some (Ok item)) (kept v) c.next_text.new.reader in
-    let P : List ℕ → Type 0 = λ v. (item.line_number ≡ c.in-Some.number) × IsFoundIn v item in
-    let is = subst P c.line-line.ensures found in
+    let is = rw c.line-line.ensures at found in
     let line = numbered_line c.in-Some.number new in
     let content = found_content new.line item.content in
     let spelt = gives-spelt line new.state content c.loop-number.invariant.passed.1 c.in-Some.ensures.joins.0 (found-item new.line item is.1) in
     let R : ℕ → Type 0 = λ n.
     (gives : GivesEntry (reader g.R.Read g.R.CountedRead) c.args.self.now.state c.args.reader.now (entry.item n content) new.state c.next_text.new.reader)
     × IsFoundIn new.line item × IsSpelt c.args.self.now.state gives.bytes (logical_line n new.line) new.state in
-    subst Q (sym (kept-utf8 new.line c.in-Some.ensures.text)) (subst R (sym is.0) (spelt.0, is.1, spelt.1))
+    rw (kept-utf8 new.line c.in-Some.ensures.text) (subst R (sym is.0) (spelt.0, is.1, spelt.1))
 
 -- and a blank line is passed
 passes-blank : (g : Over) (c : After-line-line g) → outcome_of (chars c.line-line.result.now) ≡ ignored
@@ -85,8 +79,7 @@ loop-number-preserved g c = record {
 pub returns-in-Err-clause-finds : goal.returns-in-Err-clause-finds
 returns-in-Err-clause-finds g c =
     let next = c.in-Some.ensures.joins.0 in
-    let Q : List ℕ → Type 0 = λ v. IsNoItem c.in-Some.number (chars v) c.unresolved.result in
-    let none = subst Q c.line-line.ensures (c.in-Err.ensures c.in-Some.number c.unresolved.result c.unresolved.ensures) in
+    let none = rw c.line-line.ensures at (c.in-Err.ensures c.in-Some.number c.unresolved.result c.unresolved.ensures) in
     let done = ap (λ v. let w : LineJoining = v in w.at.state.is_done) c.end.ensures in
     let k = passed-no_item (numbered_line c.in-Some.number c.next_text.new.self.at) c.next_text.new.self.at.state c.loop-number.invariant.passed.1 next none in
     (k.0, done, k.1)
@@ -99,9 +92,4 @@ returns-clause-finds g c =
     (p.0, done, inr p.1)
 
 pub returns-clause-nearer : goal.returns-clause-nearer
-returns-clause-nearer g c =
-    let stop = stopped c.in_default.ensures.joins c.loop-number.invariant.error (sym c.take_error.ensures.error ∙ c.in_ok-error.was) in
-    let done = ap (λ v. let w : LineJoining = v in w.at.state.is_done) c.take_error.ensures.taken ∙ stop.1 in
-    let left : lines_left c.take_error.new.self.at.state ≡ 0 = rw done refl in
-    let all : lines_left c.loop-number.self-inside.lines.at.state ≡ 2 ^ 64 - c.loop-number.self-inside.lines.at.state.passed = rw stop.0 refl in
-    omega (arith, left, all, c.next_text.ensures.fits, c.loop-number.invariant.left)
+returns-clause-nearer g c = grind (arith, stopped)

@@ -1,6 +1,7 @@
+use Rattle.std.proofs.Common.{arith}
 use Rattle.std.proofs.Common.{◌≡◌, ◌∙◌, ap, sym, subst, List, ℕ}
-use Rattle.std.specs.Str.{IsUtf8, chars}
-use Rattle.properties_items.specs.BorrowedItems.{IsFoundIn, BorrowsPlain, found_entry}
+use Rattle.std.specs.Str.{IsUtf8}
+use Rattle.properties_items.specs.BorrowedItems.{IsFoundIn}
 use Rattle.properties_items.specs.declared.found.Found.{Found}
 use Rattle.properties_lines.specs.LineJoiner.{LineState}
 use Rattle.java_properties.specs.Private.GivenItems.{as_text}
@@ -19,19 +20,14 @@ shown lines seen found same h text is =
     is ∙ sym (kept-utf8 lines.line (is-text lines seen found same h)) ∙ ap (λ v. let w : LineState = v in w.line) same
 
 pub line-requires : goal.line-requires
-line-requires c = is-text c.self.inside.lines.at c.args.self.now c.args.found c.self.view_is c.requires
+line-requires c = grind (arith, is-text)
 
 pub cut_item-requires : goal.cut_item-requires
 cut_item-requires c =
-    let P : List ℕ → Type 0 = λ v. IsFoundIn v c.args.found in
-    subst P (sym (shown c.self.inside.lines.at c.args.self.now c.args.found c.self.view_is c.requires c.line.result.now c.line.ensures)) c.requires
+    rw (shown c.self.inside.lines.at c.args.self.now c.args.found c.self.view_is c.requires c.line.result.now c.line.ensures) c.requires
 
 pub returns-clause-item : goal.returns-clause-item
-returns-clause-item c =
-    c.cut_item.ensures.item
-    ∙ ap (λ v. found_entry v c.args.found) (shown c.self.inside.lines.at c.args.self.now c.args.found c.self.view_is c.requires c.line.result.now c.line.ensures)
+returns-clause-item c = grind (arith, shown)
 
 pub returns-clause-borrowed : goal.returns-clause-borrowed
-returns-clause-borrowed c =
-    let P : List ℕ → Type 0 = λ v. BorrowsPlain (chars v) c.cut_item.result.content in
-    subst P (shown c.self.inside.lines.at c.args.self.now c.args.found c.self.view_is c.requires c.line.result.now c.line.ensures) c.cut_item.ensures.borrowed
+returns-clause-borrowed c = grind (arith, shown)
