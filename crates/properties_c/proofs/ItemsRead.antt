@@ -1,5 +1,5 @@
 -- The items of a slice, on their way to C.
-use Rattle.std.proofs.Common.{◌≡◌, ◌≢◌, ℕ, ◌+◌, ◌^◌, ◌<◌, List, [], ◌∷◌, ◌++◌, length, ap, sym, ◌∙◌, refl, subst, inl, inr}
+use Rattle.std.proofs.Common.{◌≡◌, ◌≢◌, ℕ, ◌+◌, ◌^◌, ◌<◌, List, [], ◌∷◌, ◌++◌, length, ap, ◌∙◌, refl, inl, inr}
 use Rattle.std.specs.Prelude.{◌⊎◌}
 use Rattle.std.specs.Borrow.{Bor}
 use Rattle.properties_format.specs.Encoding.{Encoding}
@@ -22,26 +22,17 @@ use Rattle.properties_c.proofs.Slices.{slice-stopped}
 
 -- ---- what a reading says of its end
 
-whole-status : (lines : List Line) → reading_status (entries_in lines) ≡ Done
-whole-status [] = refl
-whole-status (line ∷ lines) = whole-status lines
+whole-ends : (lines : List Line) → (reading_status (entries_in lines) ≡ Done) × (reading_line (entries_in lines) ≡ 0)
+whole-ends [] = (refl, refl)
+whole-ends (line ∷ lines) = whole-ends lines
 
-whole-line : (lines : List Line) → reading_line (entries_in lines) ≡ 0
-whole-line [] = refl
-whole-line (line ∷ lines) = whole-line lines
-
-stopped-status : (lines : List Line) (how : Malformed) (number : ℕ) → reading_status (entries_in lines ++ malformed how number ∷ []) ≡ malformed_status how
-stopped-status [] how number = refl
-stopped-status (line ∷ lines) how number = stopped-status lines how number
-
-stopped-line : (lines : List Line) (how : Malformed) (number : ℕ) → reading_line (entries_in lines ++ malformed how number ∷ []) ≡ number
-stopped-line [] how number = refl
-stopped-line (line ∷ lines) how number = stopped-line lines how number
-
-stopped-items : (lines : List Line) (how : Malformed) (number : ℕ)
-    → packed_items (entries_in lines ++ malformed how number ∷ []) ≡ packed_items (entries_in lines)
-stopped-items [] how number = refl
-stopped-items (line ∷ lines) how number = ap (λ v. line_bytes line ++ v) (stopped-items lines how number)
+stopped-ends : (lines : List Line) (how : Malformed) (number : ℕ)
+    → let entries = entries_in lines ++ malformed how number ∷ [] in
+    (reading_status entries ≡ malformed_status how) × (reading_line entries ≡ number)
+    × (packed_items entries ≡ packed_items (entries_in lines))
+stopped-ends [] how number = (refl, refl, refl)
+stopped-ends (line ∷ lines) how number =
+    let h = stopped-ends lines how number in (h.0, h.1, ap (λ v. line_bytes line ++ v) h.2)
 
 malformed-status : (how : Malformed) → status_of_kind (malformed_kind how) ≡ malformed_status how
 malformed-status not_enough_digits = refl
@@ -50,21 +41,12 @@ malformed-status invalid_character = refl
 
 -- ---- what is given
 
-given-with : {bytes others : List ℕ} {status other : Status} {line number : ℕ} {x : Crossing}
-    → bytes ≡ others → status ≡ other → line ≡ number → Delivers bytes status line x → Delivers others other number x
-given-with {bytes} {others} {status} {other} {line} {number} {x} same_bytes same_status same_line h =
-    subst (λ n. Delivers others other n x) same_line (subst (λ s. Delivers others s line x) same_status (subst (λ b. Delivers b status line x) same_bytes h))
-
 pub items-whole : {e : Encoding} {source : List ℕ} {x : Crossing} (lines given : List Line) → given ≡ lines → IsReading e source end (entries_in lines)
     → Delivers (packed_items (entries_in given)) Done 0 x ⊎ Refuses NoMemory 0 x → GivesItems e source x ⊎ Refuses NoMemory 0 x
-items-whole {e} {source} {x} lines given same reading h = elim h [
-  | inl d ↦ inl (record {
-    entries = entries_in lines;
-    reading = reading;
-    given = given-with (ap (λ v. packed_items (entries_in v)) same) (sym (whole-status lines)) (sym (whole-line lines)) d;
-  })
-  | inr r ↦ inr r
-]
+items-whole {e} {source} {x} lines given same reading (inl d) =
+    let ends = whole-ends lines in
+    inl (record { entries = entries_in lines; reading = reading; given = rw (ends.0, ends.1, ← same) d })
+items-whole {e} {source} {x} lines given same reading (inr r) = inr r
 
 -- An error of a slice is a malformed escape, or memory ran out.
 pub items-stopped : {e : Encoding} {source to : Bor (List ℕ)} {x : Crossing} (lines given : List Line) (error : PropertiesError) (status : Status) (line : ℕ)
@@ -74,16 +56,14 @@ pub items-stopped : {e : Encoding} {source to : Bor (List ℕ)} {x : Crossing} (
     → status ≡ status_of_kind (kind_of error) → status ≢ NoMemory → line ≡ error_line error
     → Delivers (packed_items (entries_in given)) status line x ⊎ Refuses NoMemory 0 x → GivesItems e source.now x ⊎ Refuses NoMemory 0 x
 items-stopped {e} {source} {to} {x} lines given error status line same small (inl stops) is_status some is_line (inl d) =
-    let how = stops.how in
-    let number = stops.number in
+    let ends = stopped-ends lines stops.how stops.number in
+    let how : status ≡ malformed_status stops.how =
+    is_status ∙ ap status_of_kind stops.is.its_kind ∙ malformed-status stops.how in
+    let number : line ≡ stops.number = is_line ∙ ap line_or_none stops.is.its_line in
     inl (record {
-      entries = entries_in lines ++ malformed how number ∷ [];
+      entries = entries_in lines ++ malformed stops.how stops.number ∷ [];
       reading = slice-stopped stops;
-      given = given-with
-          (ap (λ v. packed_items (entries_in v)) same ∙ sym (stopped-items lines how number))
-          (is_status ∙ ap status_of_kind stops.is.its_kind ∙ malformed-status how ∙ sym (stopped-status lines how number))
-          (is_line ∙ ap line_or_none stops.is.its_line ∙ sym (stopped-line lines how number))
-          d;
+      given = rw (ends.2, ends.0, ends.1, ← how, ← number, ← same) d;
     })
 items-stopped {e} {source} {to} {x} lines given error status line same small (inl stops) is_status some is_line (inr r) = inr r
 items-stopped {e} {source} {to} {x} lines given error status line same small (inr (inl failed)) is_status some is_line h =

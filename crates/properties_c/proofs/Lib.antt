@@ -3,7 +3,6 @@ pub mod PackedLines
 pub mod Splitting
 pub mod TakenApart
 pub mod Slices
-pub mod Repeats
 pub mod Refusals
 pub mod ItemsRead
 pub mod OneReading

@@ -67,6 +67,8 @@ found_bytes-escapes (escape ∷ escapes) =
     ap (λ v. v ++ flat_map found_bytes (escape_records escapes)) (found-same escape.kind escape.number)
     ∙ ap (λ v. escape_bytes escape ++ v) (found_bytes-escapes escapes)
 
+pub ruleset finding = (found_bytes-escapes)
+
 -- The items of a slice that was read whole.
 pub slice-items : {e : Encoding} {from to : Bor (List ℕ)} {entries : List Entry} → ReadsWhole slice_reader e from entries to → IsReading e from.now end entries
 slice-items {e} {from} {to} {entries} h = subst (λ v. IsReading e v end entries) (slice-whole h.read h.ended) h.reading

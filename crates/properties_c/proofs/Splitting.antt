@@ -1,14 +1,14 @@
 -- Packed bytes have one division into records.
-use Rattle.std.proofs.Common.{◌≡◌, ℕ, ◌^◌, ◌<◌, List, ◌++◌, length, take, drop, ap, sym, ◌∙◌, refl, arith, length-append, append_assoc}
+use Rattle.std.proofs.Common.{◌≡◌, ℕ, ◌^◌, ◌<◌, List, ◌++◌, length, take, drop, ap, sym, ◌∙◌, refl, arith, append_assoc}
 use Rattle.std.specs.Int.{w64, from_le_bytes}
 use Rattle.std.proofs.lemmas.List.{take_at, drop_at, take-append-drop}
 use Rattle.std.proofs.lemmas.Nat.{from_le_bytes-to_le_bytes_8}
 use Rattle.properties_c.specs.Numbers.{number_bytes}
-use Rattle.properties_c.specs.Records.{Record, packed}
+use Rattle.properties_c.specs.Records.{Record, packed, IsSized}
 use Rattle.properties_c.specs.Private.Headers.{header_bytes, IsSizedHeader}
 use Rattle.properties_c.specs.Private.Lists.{Splits}
 use Rattle.properties_c.specs.declared.records.Header.{Header}
-use Rattle.properties_c.proofs.Packing.{length-number_bytes, length-packed}
+use Rattle.properties_c.proofs.Packing.{length-number_bytes}
 
 from-number_bytes : (n : ℕ) → n < 2 ^ 64 → from_le_bytes w64 (number_bytes n) ≡ n
 unfolding number_bytes
@@ -36,11 +36,6 @@ header-regroup : (h : Header) (rest : List ℕ)
     → header_bytes h ++ rest ≡ number_bytes h.kind ++ (number_bytes h.line ++ (number_bytes h.key_length ++ (number_bytes h.value_length ++ rest)))
 header-regroup h rest = simp append_assoc
 
--- A list that is cut short of four numbers has no record.
-pub Splits-short : (list : List ℕ) (first : Record) (rest : List ℕ) → length list < 32 → Splits list first rest → ⊥
-Splits-short list first rest short h =
-    omega (arith, ap length h.division, length-append (packed first) rest, length-packed first)
-
 -- what a list says of its first record, by the header at its front
 pub record IsHeaderOf (h : Header) (texts : List ℕ) (first : Record) (rest : List ℕ) : Type 0 where
   pub kind : h.kind ≡ first.kind
@@ -49,9 +44,9 @@ pub record IsHeaderOf (h : Header) (texts : List ℕ) (first : Record) (rest : L
   pub value : h.value_length ≡ length first.value
   pub tail : texts ≡ first.key ++ (first.value ++ rest)
 
-pub Splits-header : (list : List ℕ) (h : Header) (tail : List ℕ) (first : Record) (rest : List ℕ)
+pub Splits-header : {list : List ℕ} {h : Header} {tail : List ℕ} {first : Record} {rest : List ℕ}
     → IsSizedHeader h → list ≡ header_bytes h ++ tail → Splits list first rest → IsHeaderOf h tail first rest
-Splits-header list h tail first rest sized is splits =
+Splits-header {list} {h} {tail} {first} {rest} sized is splits =
     let e = sym (header-regroup h tail) ∙ sym is ∙ splits.division ∙ packed-regroup first rest in
     let kinds = number-same _ _ _ _ sized.kind splits.sized.kind e in
     let lines = number-same _ _ _ _ sized.line splits.sized.line kinds.1 in
@@ -59,41 +54,34 @@ Splits-header list h tail first rest sized is splits =
     let values = number-same _ _ _ _ sized.value splits.sized.value keys.1 in
     record { kind = kinds.0; line = lines.0; key = keys.0; value = values.0; tail = values.1 }
 
--- A list has one first record.
-pub Splits-only : (list : List ℕ) (r s : Record) (x y : List ℕ) → Splits list r x → Splits list s y → (r ≡ s) × (x ≡ y)
-Splits-only list r s x y one other =
-    let e = sym (packed-regroup r x) ∙ sym one.division ∙ other.division ∙ packed-regroup s y in
-    let kinds = number-same _ _ _ _ one.sized.kind other.sized.kind e in
-    let lines = number-same _ _ _ _ one.sized.line other.sized.line kinds.1 in
-    let keys = number-same _ _ _ _ one.sized.key other.sized.key lines.1 in
-    let values = number-same _ _ _ _ one.sized.value other.sized.value keys.1 in
-    let texts = front-same r.key (r.value ++ x) s.key (s.value ++ y) keys.0 values.1 in
-    let ends = front-same r.value x s.value y values.0 texts.1 in (
-      ap (λ v. record r { kind = v }) kinds.0
-          ∙ ap (λ v. record { kind = s.kind; line = v; key = r.key; value = r.value }) lines.0
-          ∙ ap (λ v. record { kind = s.kind; line = s.line; key = v; value = r.value }) texts.0
-          ∙ ap (λ v. record { kind = s.kind; line = s.line; key = s.key; value = v }) ends.0,
-      ends.1,
-    )
+-- Equal bytes have the same first record, and the same bytes after it.
+pub packed-only : (r s : Record) (x y : List ℕ) → IsSized r → IsSized s → packed r ++ x ≡ packed s ++ y
+    → (r ≡ s) × (x ≡ y)
+packed-only r s x y sized small e =
+    let header : Header =
+    record { kind = r.kind; line = r.line; key_length = length r.key; value_length = length r.value } in
+    let h = Splits-header (record { kind = sized.kind; line = sized.line; key = sized.key; value = sized.value })
+    (packed-regroup r x ∙ sym (header-regroup header _)) (record { division = e; sized = small }) in
+    let texts = front-same r.key (r.value ++ x) s.key (s.value ++ y) h.key h.tail in
+    let ends = front-same r.value x s.value y h.value texts.1 in
+    let same : record { kind = r.kind; line = r.line; key = r.key; value = r.value } ≡ s =
+    rw (h.kind, h.line, texts.0, ends.0) in
+    (same, ends.1)
 
 -- A list is its two parts.
-pub parted : (xs front back : List ℕ) (n : ℕ) → front ≡ take n xs → back ≡ drop n xs → xs ≡ front ++ back
-parted xs front back n is_front is_back =
+pub parted : {xs front back : List ℕ} (n : ℕ) → front ≡ take n xs → back ≡ drop n xs → xs ≡ front ++ back
+parted {xs} {front} {back} n is_front is_back =
     sym (take-append-drop n xs) ∙ ap (λ v. v ++ drop n xs) (sym is_front) ∙ ap (λ v. front ++ v) (sym is_back)
 
 -- A header and its texts are a record.
-pub Splits-made : (list : List ℕ) (h : Header) (texts key values value rest : List ℕ) → IsSizedHeader h → list ≡ header_bytes h ++ texts
+pub Splits-made : {list : List ℕ} {h : Header} {texts key values value rest : List ℕ}
+    → IsSizedHeader h → list ≡ header_bytes h ++ texts
     → texts ≡ key ++ values → length key ≡ h.key_length → values ≡ value ++ rest → length value ≡ h.value_length
     → Splits list (record { kind = h.kind; line = h.line; key = key; value = value }) rest
-Splits-made list h texts key values value rest sized is is_texts keys is_values lengths =
+Splits-made {list} {h} {texts} {key} {values} {value} {rest} sized is is_texts keys is_values lengths =
     let r : Record = record { kind = h.kind; line = h.line; key = key; value = value } in
-    let whole : texts ≡ key ++ (value ++ rest) = is_texts ∙ ap (λ v. key ++ v) is_values in
     record {
-      division =
-          is ∙ header-regroup h texts
-          ∙ ap (λ v. number_bytes h.kind ++ (number_bytes h.line ++ (number_bytes h.key_length ++ (number_bytes h.value_length ++ v)))) whole
-          ∙ ap (λ n. number_bytes h.kind ++ (number_bytes h.line ++ (number_bytes n ++ (number_bytes h.value_length ++ (key ++ (value ++ rest)))))) (sym keys)
-          ∙ ap (λ n. number_bytes h.kind ++ (number_bytes h.line ++ (number_bytes (length key) ++ (number_bytes n ++ (key ++ (value ++ rest)))))) (sym lengths)
-          ∙ sym (packed-regroup r rest);
+      division = is ∙ header-regroup h texts
+          ∙ rw (is_texts, is_values, ← keys, ← lengths) (sym (packed-regroup r rest));
       sized = record { kind = sized.kind; line = sized.line; key = omega (arith, sized.key); value = omega (arith, sized.value) };
     }

@@ -1,5 +1,5 @@
 -- Packed lists that are taken apart from their fronts.
-use Rattle.std.proofs.Common.{◌≡◌, ℕ, ◌<◌, Bool, List, [], ◌∷◌, ◌++◌, length, map, ap, sym, ◌∙◌, refl, subst, arith, length-append, append_assoc, ◌≢◌}
+use Rattle.std.proofs.Common.{◌≡◌, ℕ, ◌<◌, Bool, List, [], ◌∷◌, ◌++◌, length, map, sym, ◌∙◌, arith, append_assoc, ◌≢◌}
 use Rattle.std.proofs.lemmas.List.{append-nil, map-append}
 use Rattle.std.proofs.lemmas.List.Concat.{flat_map-append}
 use Rattle.properties_format.specs.Entries.{Content}
@@ -9,20 +9,20 @@ use Rattle.java_properties.specs.Editing.{edit_in, edits_in}
 use Rattle.java_properties.specs.PropertiesWriter.{call_of}
 use Rattle.java_properties.specs.declared.writer.calls.Call.{Call}
 use Rattle.properties_c.specs.PackedLists.{Meaning, edits, lines, AreMeant, Begins}
-use Rattle.properties_c.specs.Records.{Record, packed, packed_all, IsSized}
+use Rattle.properties_c.specs.Records.{Record, IsSized}
 use Rattle.properties_c.specs.Writing.{calls_before}
 use Rattle.properties_c.specs.Private.Lists.{Splits, IsFirst, RefusesFirst, RefusesRecord, RefusesList}
 use Rattle.properties_c.specs.declared.status.Status.{Status}
 use Rattle.properties_c.specs.declared.status.Status.TheVariants.{NoMemory, NotUtf8, BadList}
-use Rattle.properties_c.proofs.Packing.{length-packed}
-use Rattle.properties_c.proofs.Splitting.{Splits-only}
+use Rattle.properties_c.proofs.Packing.{sizes}
+use Rattle.properties_c.proofs.Splitting.{packed-only}
 
 -- The list is refused for what its first record is refused for.
 pub first-refused : {A : Type 0} (m : Meaning A) (list : List ℕ) (r : Record) (rest : List ℕ) (status : Status)
     → Splits list r rest → RefusesRecord m r status → RefusesFirst m list status
 first-refused m list r rest BadList splits h = λ s after division sized known.
-    let same = Splits-only list s r after rest (record { division = division; sized = sized }) splits in
-    h (subst m.IsKnown same.0 known)
+    let same = packed-only s r after rest sized splits.sized (sym division ∙ splits.division) in
+    h (rw same.0 at known)
 first-refused m list r rest NotUtf8 splits h =
     record { record_there = r; rest = rest; division = splits.division; sized = splits.sized; known = h.0; no_text = h.1 }
 first-refused m list r rest NoMemory splits h = tt
@@ -31,30 +31,22 @@ first-refused m list r rest other splits h = h
 AreMeant-more : {A : Type 0} (m : Meaning A) (rs : List Record) (things : List A) (r : Record) (thing : A)
     → AreMeant m rs things → IsSized r → m.Means r thing → AreMeant m (rs ++ r ∷ []) (things ++ thing ∷ [])
 AreMeant-more m [] [] r thing meant sized means = (sized, means, tt)
-AreMeant-more m [] (t ∷ ts) r thing meant sized means = absurd meant
-AreMeant-more m (s ∷ ss) [] r thing meant sized means = absurd meant
 AreMeant-more m (s ∷ ss) (t ∷ ts) r thing meant sized means = (meant.0, meant.1, AreMeant-more m ss ts r thing meant.2 sized means)
+AreMeant-more m rs things r thing meant sized means = absurd meant
 
--- A list begins with nothing, and with one thing more.
-pub Begins-none : {A : Type 0} (m : Meaning A) (list : List ℕ) → Begins m list [] list
-Begins-none m list = record { records = []; division = refl; meant = tt }
-
+-- A list begins with one thing more.
 pub Begins-more : {A : Type 0} {m : Meaning A} {list rest after : List ℕ} {things : List A} {thing : A}
     → Begins m list things rest → IsFirst m rest thing after → Begins m list (things ++ thing ∷ []) after
 Begins-more {A} {m} {list} {rest} {after} {things} {thing} before next = record {
   records = before.records ++ next.first ∷ [];
-  division =
-      before.division ∙ ap (λ v. packed_all before.records ++ v) next.splits.division
-      ∙ sym (append_assoc (packed_all before.records) (packed next.first) after)
-      ∙ ap (λ v. (packed_all before.records ++ v) ++ after) (sym (append-nil (packed next.first)))
-      ∙ ap (λ v. v ++ after) (sym (flat_map-append packed before.records (next.first ∷ [])));
+  division = before.division ∙ rw next.splits.division (simp (flat_map-append, append-nil, append_assoc));
   meant = AreMeant-more m before.records things next.first thing before.meant next.splits.sized next.means;
 }
 
 -- What comes after the first thing is shorter.
 pub IsFirst-shorter : {A : Type 0} {m : Meaning A} {list rest : List ℕ} {thing : A} → IsFirst m list thing rest → length rest < length list
 IsFirst-shorter {A} {m} {list} {rest} h =
-    omega (arith, ap length h.splits.division, length-append (packed h.first) rest, length-packed h.first)
+    grind (arith, sizes, h.splits.division)
 
 -- A list is refused for what is after the things at its front.
 pub list-refused : {A : Type 0} (m : Meaning A) (list : List ℕ) (things : List A) (rest : List ℕ) (status : Status)
@@ -69,7 +61,9 @@ list-refused m list things rest other begins more h = h
 pub edits-more : {list rest after : List ℕ} (found : List Edit) (edit : Edit)
     → Begins edits list (edits_in found) rest → IsFirst edits rest (edit_in edit) after → Begins edits list (edits_in (found ++ edit ∷ [])) after
 edits-more {list} {rest} {after} found edit before next =
-    subst (λ v. Begins edits list v after) (sym (map-append edit_in found (edit ∷ []))) (Begins-more before next)
+    rw (map-append edit_in found (edit ∷ [])) (Begins-more before next)
+
+pub ruleset taking = (first-refused, edits-more, IsFirst-shorter)
 
 -- ---- lines to write
 
@@ -79,17 +73,10 @@ pub record HasCalls (list : List ℕ) (ascii_only : Bool) (found : List Call) (r
   pub begins : Begins lines list contents rest
   pub are : calls_in found ≡ calls_before ascii_only ++ map call_of contents
 
-pub HasCalls-none : (list : List ℕ) (ascii_only : Bool) (found : List Call) → calls_in found ≡ calls_before ascii_only → HasCalls list ascii_only found list
-HasCalls-none list ascii_only found is =
-    record { contents = []; begins = Begins-none lines list; are = is ∙ sym (append-nil (calls_before ascii_only)) }
-
 pub HasCalls-more : {list rest after : List ℕ} {ascii_only : Bool} {found : List Call} {content : Content} (call : Call)
     → HasCalls list ascii_only found rest → IsFirst lines rest content after → call_in call ≡ call_of content → HasCalls list ascii_only (found ++ call ∷ []) after
 HasCalls-more {list} {rest} {after} {ascii_only} {found} {content} call before next is = record {
   contents = before.contents ++ content ∷ [];
   begins = Begins-more before.begins next;
-  are =
-      map-append call_in found (call ∷ []) ∙ ap (λ v. v ++ call_in call ∷ []) before.are ∙ ap (λ v. (calls_before ascii_only ++ map call_of before.contents) ++ v ∷ []) is
-      ∙ append_assoc (calls_before ascii_only) (map call_of before.contents) (call_of content ∷ [])
-      ∙ ap (λ v. calls_before ascii_only ++ v) (sym (map-append call_of before.contents (content ∷ [])));
+  are = simp (map-append, before.are, is, append_assoc);
 }

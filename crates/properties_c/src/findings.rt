@@ -18,6 +18,7 @@ use std::alloc::{AllocError, Global};
 const REPEATED: usize = 0;
 
 /// Returns the malformed escapes of a source and then its repeated keys, packed.
+#[tactic(auto, using(crate::proofs::Slices::finding))]
 pub fn findings_in(
     alloc: Global,
     source: &[u8],
@@ -76,6 +77,7 @@ fn push_repeats(bytes: &mut Vec<u8>, keys: &[KeyLine]) -> Result<(), AllocError>
 }
 
 // Appends the finding that an earlier pair has the key, if one has.
+#[tactic(auto, using(crate::proofs::PackedLines::texts))]
 fn push_repeat(bytes: &mut Vec<u8>, key: &KeyLine) -> Result<(), AllocError>
     ensures { OnOk result (bytes.new.items ≡ bytes.old.items ++ repeat_bytes (key_line_entry key.now)) }
 {
@@ -92,6 +94,7 @@ fn push_repeat(bytes: &mut Vec<u8>, key: &KeyLine) -> Result<(), AllocError>
     )
 }
 
+#[tactic(auto, using(std::proofs::Common::append_assoc), unfolding(crate::specs::PackedFindings::finding_bytes))]
 fn push_finding(
     bytes: &mut Vec<u8>,
     kind: usize,

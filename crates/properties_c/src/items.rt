@@ -20,6 +20,7 @@ pub const COMMENT: usize = 0;
 pub const PAIR: usize = 1;
 
 /// Packs items into the front of `out`, if they fit, and answers with this status and this line.
+#[tactic(auto, using(crate::proofs::PackedLines::texts))]
 pub fn deliver_items(
     lines: &[Line],
     status: Status,
@@ -42,6 +43,7 @@ pub fn deliver_items(
 }
 
 // Returns the record of an item.
+#[tactic(auto, using(crate::proofs::PackedLines::texts))]
 fn record_of(line: &Line) -> Record<'_>
     ensures { record_in result ≡ line_record line.now }
 {

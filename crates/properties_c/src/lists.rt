@@ -41,6 +41,7 @@ impl<T: Drop> From<AllocFailed<T>> for Status {
 }
 
 /// Returns the edits of a packed list, or why it is refused.
+#[tactic(auto, using(crate::proofs::TakenApart::taking))]
 pub fn edits_of(alloc: Global, list: &[u8]) -> Result<Vec<Edit>, Status>
     ensures { ReadsEdits list.now result }
 {
@@ -89,6 +90,7 @@ fn calls_before(alloc: Global, ascii_only: bool) -> Result<Vec<Call>, AllocError
 }
 
 // Returns the first edit of a list and what comes after it.
+#[tactic(auto, using(crate::proofs::TakenApart::taking))]
 fn first_edit(alloc: Global, list: &[u8]) -> Result<(Edit, &[u8]), Status>
     ensures { ReadsFirstEdit list.now result }
 {
@@ -102,6 +104,7 @@ fn first_edit(alloc: Global, list: &[u8]) -> Result<(Edit, &[u8]), Status>
 }
 
 // Returns the first call of a list and what comes after it.
+#[tactic(auto, using(crate::proofs::TakenApart::taking))]
 fn first_call(alloc: Global, list: &[u8]) -> Result<(Call, &[u8]), Status>
     ensures { ReadsFirstCall list.now result }
 {

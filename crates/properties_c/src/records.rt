@@ -27,6 +27,7 @@ struct Header {
 }
 
 /// Returns how many bytes a record takes, if that is a number.
+#[tactic(auto, using(crate::proofs::Packing::sizes))]
 pub fn record_size(given: Record<'_>) -> Option<usize>
     ensures { IfSome result (λ size. size ≡ length (packed (record_in given.entry))) }
 {
@@ -35,6 +36,7 @@ pub fn record_size(given: Record<'_>) -> Option<usize>
 }
 
 /// Writes a record from this place on, and returns the place after it.
+#[tactic(auto, using(crate::proofs::Packing::sizes))]
 pub fn put_record(out: &mut [u8], at: usize, given: Record<'_>) -> usize
     requires { at + length (packed (record_in given)) ≤ length out.old }
     ensures place { result ≡ at + length (packed (record_in given.entry)) }
@@ -63,6 +65,7 @@ fn put_header(out: &mut [u8], at: usize, header: Header) -> usize
 }
 
 /// Returns the record at the front of a packed list and what comes after it, or `None` if it is cut short.
+#[tactic(auto, using(crate::proofs::Packing::sizes))]
 pub fn split_record(list: &[u8]) -> Option<(Record<'_>, &[u8])>
     ensures { SplitsRecord list.now result }
 {
@@ -84,6 +87,7 @@ pub fn split_record(list: &[u8]) -> Option<(Record<'_>, &[u8])>
     Some((first, rest))
 }
 
+#[tactic(auto, using(crate::proofs::Packing::sizes))]
 fn split_header(list: &[u8]) -> Option<(Header, &[u8])>
     ensures { MatchOption result (length list.now < 32)
         (λ split. IsSizedHeader split.0 × (list.now ≡ header_bytes split.0 ++ split.1.now)) }

@@ -1,11 +1,11 @@
-use Rattle.std.proofs.Common.{◌≡◌, [], ◌∷◌, ◌++◌, rules, arith}
+use Rattle.std.proofs.Common.{◌≡◌, [], ◌∷◌, ◌++◌, sym, ◌∙◌, rules, arith, append-nil}
 use Rattle.std.proofs.lemmas.Bool.Decides.{nat_tests}
-use Rattle.properties_c.proofs.OneReading.{lines-read}
-use Rattle.properties_c.proofs.TakenApart.{HasCalls-none, HasCalls-more, IsFirst-shorter}
+use Rattle.properties_c.proofs.OneReading.{line-one, list-read}
+use Rattle.properties_c.proofs.TakenApart.{HasCalls-more, IsFirst-shorter}
 use Rattle.properties_c.proofs.lists.calls_of.Goals as goal
 
 pub loop-rest-init : goal.loop-rest-init
-loop-rest-init c = HasCalls-none c.args.list.now c.args.ascii_only c.in_ok-calls.calls.items c.in_ok-calls.ensures
+loop-rest-init c = record { contents = []; begins = search rules; are = c.in_ok-calls.ensures ∙ sym (append-nil _) }
 
 pub loop-rest-smaller : goal.loop-rest-smaller
 loop-rest-smaller c = IsFirst-shorter c.in-Ok.ensures.1
@@ -18,4 +18,4 @@ loop-rest-preserved c =
 pub returns : goal.returns
 returns c =
     let h = c.loop-rest.invariant in
-    (h.contents, lines-read c.args.list.now h.contents c.loop-rest.rest.now (grind (arith, nat_tests)) h.begins, h.are)
+    (h.contents, list-read _ line-one c.loop-rest.rest.now (grind (arith, nat_tests)) h.begins, h.are)

@@ -1,4 +1,4 @@
-use Rattle.std.proofs.Common.{◌≡◌, ◌∙◌, sym, refl, rules, inl, inr, Some, None, string_bytes}
+use Rattle.std.proofs.Common.{◌≡◌, ◌∙◌, sym, refl, rules, inl, inr, Some, string_bytes}
 use Rattle.std.specs.Prelude.{encode_utf8_all}
 use Rattle.std.specs.Str.{chars}
 use Rattle.properties_text.specs.Encoding.{encoding_of}
@@ -22,12 +22,4 @@ returns-in-Err c =
       encoding_of c.in-Some.encoding,
       search rules,
       inl (search rules, inr (c.in-Err.error, search rules, record { answers = search rules; kept = refl })),
-    )
-
-pub returns-in-Ok-None : goal.returns-in-Ok-None
-returns-in-Ok-None c =
-    inl (
-      encoding_of c.in-Some.encoding,
-      search rules,
-      inl (search rules, inl (None, search rules, record { answers = search rules; kept = refl })),
     )
