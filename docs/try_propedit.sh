@@ -500,7 +500,7 @@ is_refused "the argument '--in-place <FILE>' cannot be used with '--file <FILE>'
 is_refused "the argument '--in-place <FILE>' cannot be used with 'get'" -i app.properties get a
 is_refused "the argument '--in-place <FILE>' cannot be used with 'list'" -i app.properties list
 is_refused "the argument '--in-place <FILE>' cannot be used with 'check'" -i app.properties check
-is_refused "the argument '--file <FILE>' cannot be used with 'check'" -f app.properties check app.properties
+is_refused "the argument '--file <FILE>' cannot be used with 'check <FILE>...'" -f app.properties check app.properties
 is_refused "the argument '--default <VALUE>' cannot be used with 'list'" -d 1 list
 is_refused "the argument '--default <VALUE>' cannot be used with 'check'" -d 1 check
 is_refused "the argument '--default <VALUE>' cannot be used with 'set'" -d 1 set a 1
