@@ -142,6 +142,11 @@ cp "$built/properties.py" alone/
 env PYTHONPATH=alone PYTHONDONTWRITEBYTECODE=1 python3 -c "$use" >log 2>&1
 grep -q '^ImportError: .*PROPERTIES_LIBRARY says where it is' log
 result $? 'the module without the shared object'
+printf 'unsigned properties_version(void) { return %s; }\n' "$(sed -n 's/^#define PROPERTIES_VERSION //p' "$built/properties.h")" |
+    cc -shared -fPIC -x c - -o older.so
+env PROPERTIES_LIBRARY=./older.so PYTHONPATH=alone PYTHONDONTWRITEBYTECODE=1 python3 -c "$use" >log 2>&1
+grep -q '^ImportError: ./older.so is older than this module' log
+result $? 'the module with an older shared object'
 counts 'the tables and the module, in Python' env PROPERTIES_LIBRARY="$built/libproperties.so" PYTHONDONTWRITEBYTECODE=1 \
     python3 "$top/bindings/python/test_rows.py"
 grep -E '^ *[0-9]+ of ' "$work/log"

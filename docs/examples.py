@@ -21,18 +21,18 @@ use byte_blocks::{Byte, Either, LineEnds, find};
 use counted_io::{Counted, CountedRead, CountedWrite, ScriptedReader, ScriptedSink, SinkFault, Tail, send};
 use java_properties::{
     Call, Cause, ContentRef, Document, Edit, Encoding, LineContent, LineEnding, PropertiesError, PropertiesIter,
-    PropertiesWriter, edit_all, edit_all_ascii, first_malformed_escape, key_lines, laws, malformed_escapes, read, read_lines, read_sorted, read_source, remove_key, run_calls,
+    PropertiesWriter, Spelling, convert, edit_all, edit_all_ascii, first_malformed_escape, key_lines, laws, malformed_escapes, read, read_lines, read_sorted, read_source, remove_key, run_calls,
     set_key, set_value, value_of, write, write_sorted, write_source,
 };
 use properties_text::encoding::TextBuffer;
 use properties_text::escape::unescape;
 use properties_text::print::{LineBuffer, Pair, Place, Repertoire, print_pair, print_text, print_texts, print_value};
-use propedit_arguments::{asked_for, explain};
+use propedit_arguments::{asked_for, explain, explain_not_utf_8};
 use properties_tools::arguments::words;
 use properties_tools::filter::{filter, filter_ascii};
-use properties_tools::messages::{print_error, print_line};
+use properties_tools::messages::{Escaped, print_error, print_line};
 use properties_tools::propedit::answers::{answer_to, name};
-use properties_tools::propedit::asked::{Command, Edits, FileEdits, Missing, Request, Source, TextEnd, Work};
+use properties_tools::propedit::asked::{Change, Command, Conversion, Edits, FileChange, Missing, Request, Source, TextEnd, Work};
 use properties_tools::propedit::error::{Failure, print_failure};
 use properties_tools::propedit::in_place::{Target, edit_file};
 use properties_tools::propedit::lines::ill_formed_lines;
@@ -80,8 +80,8 @@ GIVEN = {
     "value": 'let value = String::from_str(alloc, "v")?;',
 }
 EDITED_FILE = (
-    'let file = FileEdits { path: String::from_str(alloc, "my.properties")?, encoding: Encoding::UTF_8, '
-    "edits: Edits { list: Vec::new(alloc), ascii_only: false }, missing: Missing::Refuse };"
+    'let file = FileChange { path: String::from_str(alloc, "my.properties")?, encoding: Encoding::UTF_8, '
+    "change: Change::Edits(Edits { list: Vec::new(alloc), ascii_only: false }), missing: Missing::Refuse };"
 )
 
 

@@ -92,7 +92,7 @@ for name in single_lines properties_tools propedit_arguments; do
     cp -r "../todrenval/crates/$name" crates/
     grep "^$name:" "$top/crates.txt" >>crates.txt
 done
-echo 'examples: byte_blocks counted_io properties_text single_lines java_properties properties_tools propedit_arguments clap' >>crates.txt
+echo 'examples: byte_blocks counted_io properties_text single_lines java_properties properties_tools propedit_arguments' >>crates.txt
 (cd crates/examples && rt try --test >"$work/said" 2>&1) || { cat "$work/said"; exit 1; }
 grep 'test result' "$work/said"
 if [ "${1:-}" = --check ]; then

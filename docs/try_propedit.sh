@@ -4,7 +4,8 @@
 #
 #     docs/try_propedit.sh crates/propedit/out/propedit
 #
-# Run as root, it also tries files and folders of another user. With a JDK, it has Java read what -a writes.
+# Run as root, it also tries files and folders of another user. With a JDK, it has Java read what -a and convert write. With strace, it
+# tries what is synced and calls of the system that fail, with setfacl access control lists, with python3 the peak memory.
 set -u
 [ $# = 1 ] && [ -x "$1" ] || { echo "usage: try_propedit.sh PROGRAM" >&2; exit 2; }
 work=$(mktemp -d)
@@ -45,14 +46,16 @@ gives() {
     count=$((count + 1))
 }
 
-# The arguments after the first are wrong, which the first line on standard error says in these words.
+# The arguments after the first two are wrong, which the first line on standard error says in these words. After an
+# empty line comes this usage.
 is_refused() {
-    local words=$1
-    shift
+    local words=$1 usage=$2
+    shift 2
     run "$@"
     [ "$status" = 2 ] || fail "status $status, not 2"
     [ ! -s ../output ] || fail "standard output: $(cat -A ../output)"
-    [ "$(head -n 1 ../errors)" = "error: $words" ] || fail "standard error: $(cat -A ../errors)"
+    printf '%s\n\n%s\n%s\n' "propedit: $words" "$usage" "For more information, try 'propedit --help'." |
+        cmp -s - ../errors || fail "standard error: $(cat -A ../errors)"
     count=$((count + 1))
 }
 
@@ -79,22 +82,27 @@ leaves_nothing() {
 run --help
 gives 0 "$(cat ../output)\n" ''
 cp ../output ../usage
-for words in 'Usage: propedit [OPTIONS] <COMMAND>' '  get  ' '  list  ' '  check  ' '  set  ' '  remove  ' \
-    '-f, --file <FILE>' '-i, --in-place <FILE>' '--create' '-e, --encoding <NAME>' '-d, --default <VALUE>' \
-    '-z, --null' '-a, --ascii' '-h, --help' '-V, --version' '[default: utf-8]' 'standard input' 'Status: 0'; do
+for words in 'Usage: propedit [OPTION ..] COMMAND [WORD ..]' '  get KEY  ' '  list [PREFIX]  ' '  check [FILE ..]  ' \
+    '  set KEY VALUE ..  ' '  remove KEY ..  ' '  convert ENCODING  ' '-f, --file FILE' '-i, --in-place FILE' '--create' '-e, --encoding NAME' \
+    '-d, --default VALUE' '-z, --null' '-a, --ascii' '-r, --readable' '-h, --help' '-V, --version' 'utf-8 (the default)' \
+    'Options come before the command' 'Words after get, list, set and remove are never options' 'standard input' \
+    'Status: 0'; do
     grep -qF -- "$words" ../usage || fail "the usage lacks: $words"
     count=$((count + 1))
 done
+is "$(awk 'length > 80' ../usage)" ''
 run -h
 gives 0 "$(cat ../usage)\n" ''
 run --version
-gives 0 'propedit 1.6.0\n' ''
+gives 0 'propedit 1.7.0\n' ''
 run -V
-gives 0 'propedit 1.6.0\n' ''
+gives 0 'propedit 1.7.0\n' ''
 run -f nowhere --help get
 gives 0 "$(cat ../usage)\n" ''
-run check --help
-[ "$status" = 0 ] && grep -qF 'Usage: propedit check [FILE]...' ../output || fail 'no help of check'
+for words in 'check --help' 'check a -h' 'convert --help' 'convert ascii -h'; do
+    run $words
+    gives 0 "$(cat ../usage)\n" ''
+done
 
 # Each option, short and long.
 
@@ -204,7 +212,7 @@ run check
 gives 1 'standard input:2: Malformed \\uxxxx encoding: not hex. (in a comment)
 standard input:3: Malformed \\uxxxx encoding: not enough digits.
 standard input:4: repeats the key of line 1
-standard input:5: not UTF-8
+standard input:5: not UTF-8; -e windows-1252 reads it
 standard input:6: not UTF-8
 standard input:7: repeats the key of line 1
 ' ''
@@ -216,11 +224,11 @@ app.properties:7: repeats the key of line 1
 ' ''
 given '\xe9=1\n\xe8=1\n'
 run -f app.properties check
-gives 1 'app.properties:1: not UTF-8\napp.properties:2: not UTF-8\n' ''
+gives 1 'app.properties:1: not UTF-8; -e windows-1252 reads it\napp.properties:2: not UTF-8\n' ''
 printf 'a=1\na=2\n' >one.properties
 printf 'b=1\n' >two.properties
 run check one.properties two.properties app.properties
-gives 1 'one.properties:2: repeats the key of line 1\napp.properties:1: not UTF-8\napp.properties:2: not UTF-8\n' ''
+gives 1 'one.properties:2: repeats the key of line 1\napp.properties:1: not UTF-8; -e windows-1252 reads it\napp.properties:2: not UTF-8\n' ''
 run check two.properties two.properties two.properties
 gives 0 '' ''
 run -e latin1 check app.properties one.properties
@@ -328,12 +336,12 @@ gives 0 'a\n' ''
 run -e utf-16le check
 gives 0 '' ''
 run -e utf-16le set a 1
-gives 2 '' 'propedit: standard input: UTF-16 can be read but not edited; convert it first\n'
+gives 2 '' 'propedit: standard input: UTF-16 can be read but not edited; propedit convert utf-8 converts it\n'
 given '\0a\0=\0\xe9'
 run -e utf-16be get a
 gives 0 'é\n' ''
 run -e utf-16be -f app.properties remove a
-gives 2 '' 'propedit: app.properties: UTF-16 can be read but not edited; convert it first\n'
+gives 2 '' 'propedit: app.properties: UTF-16 can be read but not edited; propedit convert utf-8 converts it\n'
 given '\xff\xfea\0=\0\xe9\0'
 run get a
 gives 0 'é\n' ''
@@ -416,6 +424,97 @@ else
     echo 'try_propedit.sh: no JDK: Java reads nothing' >&2
 fi
 
+# Conversions
+
+given '# caf\xe9\n k\xe9y : \x80 \\\\u00e9 \\\xe9\\\n   \\\\u3042\r\n\r'
+for option in '-e windows-1252' '-elatin1' '--encoding=cp1252'; do
+    run $option convert utf-8
+    gives 0 '# café\n kéy : € \\\\u00e9 \\é\\\n   \\\\u3042\r\n\r' ''
+    run $option -f app.properties convert ascii
+    gives 0 '# caf\\u00e9\n k\\u00e9y : \\u20ac \\\\u00e9 \\u00e9\\\n   \\\\u3042\r\n\r' ''
+    run $option convert -- windows-1252
+    gives 0 '# caf\xe9\n k\xe9y : \x80 \\\\u00e9 \\\xe9\\\n   \\\\u3042\r\n\r' ''
+done
+for option in -r --readable; do
+    given '# \\u00e9\nk\\u003d\\u00e9 = \\\\u20ac \\ud83d\\udc1e\n'
+    run $option convert utf-8
+    gives 0 '# é\nk\\u003dé = \\\\u20ac 🐞\n' ''
+    run $option convert windows-1252
+    gives 0 '# \xe9\nk\\u003d\xe9 = \\\\u20ac \\ud83d\\udc1e\n' ''
+    run $option convert ascii
+    gives 0 '# \\u00e9\nk\\u003d\\u00e9 = \\\\u20ac \\ud83d\\udc1e\n' ''
+done
+
+# To ASCII and back, in place. What is converted already isn't written.
+given '# é\nk = 5 €\n'
+run -i app.properties convert ascii
+gives 0 '' ''
+holds app.properties '# \\u00e9\nk = 5 \\u20ac\n'
+inode=$(stat -c %i app.properties)
+run -i app.properties convert ascii
+gives 0 '' ''
+is "$(stat -c %i app.properties)" "$inode"
+run -r -i app.properties convert utf-8
+gives 0 '' ''
+holds app.properties '# é\nk = 5 €\n'
+leaves_nothing
+# With the encoding that it has no more, a file in UTF-8 is converted once more, and one in ASCII isn't.
+for target in utf-8 ascii; do
+    given 'k=\xe9\n'
+    run -e windows-1252 -i app.properties convert $target
+    run -e windows-1252 -i app.properties convert $target
+    gives 0 '' ''
+    [ $target = ascii ] && holds app.properties 'k=\\u00e9\n' || holds app.properties 'k=Ã©\n'
+done
+given '\xef\xbb\xbfa = 1\n'
+run -i app.properties convert utf-8
+gives 0 '' ''
+holds app.properties 'a = 1\n'
+given '\xff\xfea\0=\0\xe9\0'
+run -i app.properties convert utf-8
+gives 0 '' ''
+holds app.properties 'a=é'
+
+# A malformed escape stays; what is no text is refused, and the file stays.
+given '# C:\\users é\n'
+run -i app.properties convert ascii
+gives 0 '' ''
+holds app.properties '# C:\\users \\u00e9\n'
+given 'a=1\nb=\xe9\n'
+run -i app.properties convert ascii
+gives 2 '' 'propedit: app.properties:2: not UTF-8; -e windows-1252 reads it\n'
+holds app.properties 'a=1\nb=\xe9\n'
+given 'a\0\n\0\x3d\xd8\n\0b\0'
+for words in 'convert utf-8' 'get a' list; do
+    run -e utf-16le $words
+    gives 2 '' 'propedit: standard input:2: not UTF-16\n'
+done
+run -e utf-16le check
+gives 1 'standard input:2: not UTF-16\n' ''
+run -e utf-16le -i app.properties convert utf-8
+gives 2 '' 'propedit: app.properties:2: not UTF-16\n'
+holds app.properties 'a\0\n\0\x3d\xd8\n\0b\0'
+leaves_nothing
+
+# Java reads the same pairs from each form as it can: ASCII as a stream too.
+if [ -e ../Load.class ]; then
+    given 'żółw = \\\xc3\xa9 5 € 🐞 \\\\u00e9 \\u0141\n# 🐞\nk\xc3\xa9y\\u003d : \\t|\n'
+    java -cp .. Load reader <../input >../before
+    run convert ascii
+    gives 0 "$(cat ../output | sed 's/\\/\\\\/g')\n" ''
+    cp ../output ../converted
+    for way in stream reader bundle; do
+        command="java Load $way, converted"
+        java -cp .. Load $way <../converted >../after
+        is "$(cat ../after)" "$(cat ../before)"
+    done
+    cp ../converted ../input
+    run -r convert utf-8
+    command='java Load reader, readable'
+    java -cp .. Load reader <../output >../after
+    is "$(cat ../after)" "$(cat ../before)"
+fi
+
 # What is not UTF-8, where that is in force
 
 given 'a = 1\n# x\nb = caf\xe9\nc = \xff\n'
@@ -429,12 +528,54 @@ for line in 'get a' 'get absent' '-d 1 get absent' list 'list q' 'set a 2' 'remo
     count=$((count + 1))
 done
 run check
-gives 1 'standard input:3: not UTF-8\nstandard input:4: not UTF-8\n' ''
+gives 1 'standard input:3: not UTF-8; -e windows-1252 reads it\nstandard input:4: not UTF-8\n' ''
 run -e windows-1252 check
 gives 0 '' ''
 given '\xef\xbb\xbfa=\xe9'
 run -e windows-1252 get a
 gives 2 '' 'propedit: standard input:1: not UTF-8, though a byte order mark says so\n'
+run check
+gives 1 'standard input:1: not UTF-8, though a byte order mark says so\n' ''
+
+# UTF-16 whose byte order mark is missing, taken as UTF-8
+
+zero='U+0000; if this is UTF-16, -e utf-16le or -e utf-16be reads it'
+given '# x\n\0k\0=\00001\0\n\0'
+for line in 'get k' 'get absent' '-d 1 get absent' list 'list q' 'set k 2' 'set k 2 remove a' 'remove absent'; do
+    run $line
+    gives 2 '' "propedit: standard input:2: $zero\n"
+    run -f app.properties $line
+    gives 2 '' "propedit: app.properties:2: $zero\n"
+done
+run -i app.properties set k 2
+gives 2 '' "propedit: app.properties:2: $zero\n"
+holds app.properties '# x\n\0k\0=\00001\0\n\0'
+leaves_nothing
+run -f app.properties check
+gives 1 "app.properties:2: $zero\n" ''
+given 'a=\xff\n\0\n'
+run get a
+gives 2 '' "propedit: standard input:2: $zero\n"
+given 'k\0=\00001\0\n\0'
+run check
+gives 1 "standard input:1: $zero\n" ''
+run -e utf-16le get k
+gives 0 '1\n' ''
+given '\0k\0=\00001\0\n'
+run check
+gives 1 "standard input:1: $zero\n" ''
+run -e utf-16be get k
+gives 0 '1\n' ''
+given 'k=a\0b\n'
+run -z -e windows-1252 get k
+gives 0 'a\0b\0' ''
+run -e windows-1252 set k c
+gives 0 'k=c\n' ''
+given '\xef\xbb\xbfk=a\0b\n'
+run check
+gives 0 '' ''
+run set k c
+gives 0 '\xef\xbb\xbfk=c\n' ''
 
 # Malformed escapes
 
@@ -455,61 +596,146 @@ given 'a = \\uz\nb = \xff\n'
 run get a
 gives 2 '' 'propedit: standard input:2: not UTF-8; -e windows-1252 reads it\n'
 
-# Wrong arguments: the message names the word.
+# Wrong arguments: the message names the word, and the usage is that of the command that was meant.
 
 given 'a = 1\n'
-is_refused "'propedit' requires a subcommand but one was not provided"
-is_refused "'propedit' requires a subcommand but one was not provided" --
-is_refused "'propedit' requires a subcommand but one was not provided" -f app.properties
-is_refused "a value is required for '--file <FILE>' but none was supplied" -f
-is_refused "a value is required for '--encoding <NAME>' but none was supplied" -e
-is_refused "a value is required for '--in-place <FILE>' but none was supplied" -i
-is_refused 'the following required arguments were not provided:' get
-is_refused "unexpected argument 'b' found" get a b
-is_refused "unexpected argument 'b' found" list a b
-is_refused "unexpected argument '-q' found" -f app.properties check -q
-is_refused "the edit 'set' lacks its <KEY>" set
-is_refused "the edit 'set a' lacks its <VALUE>" set a
-is_refused "the edit 'set a=1' lacks its <VALUE>" -i app.properties set a=1
-is_refused "the edit 'remove' lacks its <KEY>" remove
-is_refused "the edit 'remove' lacks its <KEY>" set a 1 remove
-is_refused "the edit 'set b' lacks its <VALUE>" set a 1 set b
-edit='after an edit comes set or remove, and options come first'
-is_refused "unrecognized edit 'get': $edit" set a 1 get a
-is_refused "unrecognized edit 'b': $edit" -i app.properties set a 1 b 2
-is_refused "unrecognized edit '-i': $edit" set a 1 -i app.properties
-is_refused "unrecognized subcommand 'gett'" gett a
-is_refused "unrecognized subcommand 'GET'" GET a
-is_refused "unrecognized subcommand 'app.properties'" app.properties get a
-is_refused "unrecognized subcommand 'utf-8'" utf-8 get a
-is_refused "unexpected argument 'get' found" -- get a
-is_refused "invalid value 'latin-9' for '--encoding <NAME>': no encoding has this label" -e latin-9 get a
-is_refused "unexpected argument '-x' found" -x get a
-is_refused "unexpected argument '--fil' found" --fil app.properties get a
-is_refused "the argument '--null' cannot be used multiple times" -zz list
-for words in 'get a' list check 'remove a' 'remove a remove b'; do
-    is_refused "the argument '--ascii' cannot be used with '${words%% *}'" -a $words
+usage='Usage: propedit [OPTION ..]'
+edits="$usage (set KEY VALUE | remove KEY) .."
+all="$usage get KEY
+       propedit [OPTION ..] list [PREFIX]
+       propedit [OPTION ..] check [FILE ..]
+       propedit [OPTION ..] set KEY VALUE ..
+       propedit [OPTION ..] remove KEY ..
+       propedit [OPTION ..] convert ENCODING"
+shape() {
+    case $1 in
+        get) echo "$usage get KEY" ;;
+        list) echo "$usage list [PREFIX]" ;;
+        check) echo "$usage check [FILE ..]" ;;
+        set) echo "$usage set KEY VALUE .." ;;
+        remove) echo "$usage remove KEY .." ;;
+        convert) echo "$usage convert ENCODING" ;;
+    esac
+}
+is_refused "'convert' lacks its ENCODING" "$(shape convert)" convert
+is_refused "'convert' takes utf-8, windows-1252 or ascii, and not 'latin1'; 'ascii' is what Java reads right as ISO 8859-1" \
+    "$(shape convert)" convert latin1
+is_refused "'convert' takes utf-8, windows-1252 or ascii, and not 'UTF_8'; write 'utf-8'" "$(shape convert)" convert UTF_8
+for option in -a '-d VALUE' -z --create; do
+    is_refused "the option '$option' cannot be used with 'convert'" "$(shape convert)" -i app.properties ${option/VALUE/x} \
+        convert utf-8
 done
-is_refused "the argument '--null' cannot be used multiple times" -z --null list
-is_refused "the argument '--encoding <NAME>' cannot be used multiple times" -e utf-8 -e utf-8 get a
-is_refused "the argument '--default <VALUE>' cannot be used multiple times" -d 1 -d 2 get a
-is_refused "the argument '--file <FILE>' cannot be used multiple times" -f app.properties -f app.properties get a
-is_refused "the argument '--in-place <FILE>' cannot be used multiple times" -i a -i a set a 1
-is_refused "the argument '--file <FILE>' cannot be used with '--in-place <FILE>'" -f a -i a set a 1
-is_refused "the argument '--in-place <FILE>' cannot be used with '--file <FILE>'" -i a -f a set a 1
-is_refused "the argument '--in-place <FILE>' cannot be used with 'get'" -i app.properties get a
-is_refused "the argument '--in-place <FILE>' cannot be used with 'list'" -i app.properties list
-is_refused "the argument '--in-place <FILE>' cannot be used with 'check'" -i app.properties check
-is_refused "the argument '--file <FILE>' cannot be used with 'check <FILE>...'" -f app.properties check app.properties
-is_refused "the argument '--default <VALUE>' cannot be used with 'list'" -d 1 list
-is_refused "the argument '--default <VALUE>' cannot be used with 'check'" -d 1 check
-is_refused "the argument '--default <VALUE>' cannot be used with 'set'" -d 1 set a 1
-is_refused "the argument '--null' cannot be used with 'check'" -z check
-is_refused "the argument '--null' cannot be used with 'remove'" -z remove a
-is_refused 'the following required arguments were not provided:' --create set a 1
+for words in 'get a' list check 'set a 1' 'remove a'; do
+    is_refused "the option '-r' cannot be used with '${words%% *}'" "$(shape ${words%% *})" -r $words
+done
+is_refused 'no command' "$all"
+is_refused 'no command' "$all" -f app.properties
+is_refused "unexpected '--': the command stands without it" "$all" --
+is_refused "unexpected '--': the command stands without it" "$(shape get)" -- get a
+is_refused "unknown command 'gett'; 'get' is one" "$(shape get)" gett a
+is_refused "unknown command 'GET'; 'get' is one" "$(shape get)" GET a
+is_refused "unknown command 'utf-8'; a file is named as in '-f utf-8 get'" "$(shape get)" utf-8 get a
+is_refused "unknown command 'port'" "$all" port
+is_refused "unknown command '-'" "$all" -
+is_refused "unknown command 'app.properties'; a file is named as in '-f app.properties get'" "$(shape get)" \
+    app.properties get port
+is_refused "unknown command 'get.properties'; a file is named as in '-f get.properties list'" "$(shape list)" \
+    get.properties list
+is_refused "unknown command 'app.properties'; a file is named as in '-i app.properties set'" "$(shape set)" \
+    app.properties set port 1
+for word in delete del rm unset; do
+    is_refused "unknown command '$word'; 'remove' is one" "$(shape remove)" -f app.properties $word port
+    is_refused "unknown edit '$word'; 'remove' is one" "$edits" set a 1 $word b
+done
+is_refused "'get' lacks its KEY" "$(shape get)" get
+surplus="takes one word, and '-f FILE' before it names a file"
+is_refused "unexpected 'b': 'get' $surplus" "$(shape get)" get a b
+is_refused "unexpected 'b': 'list' $surplus" "$(shape list)" list a b
+is_refused "unexpected 'app.properties': 'get' $surplus" "$(shape get)" get port app.properties
+is_refused "unexpected 'server.host': 'get' $surplus" "$(shape get)" -f app.properties get port server.host
+first='options come before the command'
+is_refused "unexpected '-z' after 'get': $first" "$(shape get)" get k -z
+is_refused "unexpected '-z' after 'get': $first" "$(shape get)" get k -- -z
+is_refused "unexpected '-f' after 'get': $first" "$(shape get)" get -f a k
+is_refused "unexpected '-f' after 'list': $first" "$(shape list)" list -f a
+is_refused "unexpected '-z' after 'check': $first" "$(shape check)" check a -z
+is_refused "unexpected '-q' after 'check': $first" "$(shape check)" -f app.properties check -q
+is_refused "'set' lacks its KEY" "$(shape set)" set
+is_refused "'set a' lacks its VALUE" "$(shape set)" set a
+is_refused "'set port=8080' lacks its VALUE; write 'set port 8080'" "$(shape set)" -i app.properties set port=8080
+is_refused "'remove' lacks its KEY" "$(shape remove)" remove
+is_refused "'remove' lacks its KEY" "$(shape remove)" set a 1 remove
+is_refused "'set b' lacks its VALUE" "$(shape set)" set a 1 set b
+edit="after an edit comes set or remove, and $first"
+is_refused "unknown edit 'get': $edit" "$edits" set a 1 get a
+is_refused "unknown edit 'host': $edit" "$edits" -i app.properties set port 1 host 2
+is_refused "unknown edit '-i': $edit" "$edits" set a 1 -i app.properties
+is_refused "unknown edit 'app.properties': $edit" "$edits" set port=8080 -i app.properties
+for option in '-f FILE' '-i FILE' '-e NAME' '-d VALUE'; do
+    is_refused "the option '$option' lacks its ${option#* }" "$all" ${option% *}
+done
+is_refused "the option '-f FILE' lacks its FILE" "$all" --file
+is_refused "the option '-f FILE' lacks its FILE" "$all" -f '' get a
+is_refused "the option '-i FILE' lacks its FILE" "$all" --create --in-place= set a 1
+is_refused "the option '-z' takes no value" "$all" --null=1 list
+is_refused "unknown option in '-x'" "$all" -x get a
+is_refused "unknown option in '-zq'" "$all" -zq list
+is_refused "unknown option '--fil'; '--file' is one" "$all" --fil app.properties get a
+labels='is no label of windows-1252, utf-8, utf-16le or utf-16be'
+is_refused "'latin2' $labels" "$(shape get)" -e latin2 get a
+is_refused "'latin-1' $labels; 'latin1' is one" "$(shape get)" -e latin-1 -f app.properties get port
+is_refused "'Latin_1' $labels; 'latin1' is one" "$(shape list)" -e Latin_1 list
+is_refused "'iso8859_1' $labels; 'iso-8859-1' is one" "$(shape check)" -e iso8859_1 check
+is_refused "'utf_8' $labels; 'utf-8' is one" "$(shape set)" -e utf_8 set a 1
+is_refused "'--' $labels" "$(shape get)" -e -- get a
+for option in -z '-e NAME' '-d VALUE' '-f FILE' '-i FILE' --create -a; do
+    letter=${option% *}
+    value=
+    [ "$letter" = "$option" ] || value=utf-8
+    is_refused "the option '$option' is given twice" "$all" $letter $value $letter $value get a
+done
+is_refused "the option '-z' is given twice" "$all" -zz list
+is_refused "the option '-z' is given twice" "$all" -z --null list
+is_refused "the option '-f FILE' cannot be used with '-i FILE'" "$(shape set)" -f a -i a set a 1
+is_refused "the option '-f FILE' cannot be used with '-i FILE'" "$(shape set)" -i a -f a set a 1
+is_refused "the option '-f FILE' cannot be used with 'check FILE ..'" "$(shape check)" \
+    -f app.properties check app.properties
+for words in 'get a' list check 'remove a' 'remove a remove b'; do
+    is_refused "the option '-a' cannot be used with '${words%% *}'" "$(shape ${words%% *})" -a $words
+done
+for words in 'get a' list check; do
+    is_refused "the option '-i FILE' cannot be used with '${words%% *}'" "$(shape ${words%% *})" -i app.properties $words
+    is_refused "the option '--create' cannot be used with '${words%% *}'" "$(shape ${words%% *})" --create $words
+    is_refused "the option '--create' cannot be used with '${words%% *}'" "$(shape ${words%% *})" --create -f a $words
+done
+for words in list check 'set a 1' 'remove a'; do
+    is_refused "the option '-d VALUE' cannot be used with '${words%% *}'" "$(shape ${words%% *})" -d 1 $words
+done
+for words in check 'set a 1' 'remove a'; do
+    is_refused "the option '-z' cannot be used with '${words%% *}'" "$(shape ${words%% *})" -z $words
+done
+for words in 'set a 1' 'remove a'; do
+    for options in --create '--create -f app.properties'; do
+        is_refused "the option '--create' needs '-i FILE', whose FILE it makes" "$(shape ${words%% *})" $options $words
+    done
+done
 holds app.properties 'a = 1\n'
-run get $'\xff'
-gives 2 '' 'propedit: an argument is not UTF-8\n'
+# Control characters and bytes that are no characters are printed as escapes.
+is_refused "unknown command '\u{1b}[2J\u{a}\u{85}é'" "$all" $'\e[2J\n\u0085é'
+is_refused "'set \u{9}' lacks its VALUE" "$(shape set)" set $'\t'
+run -f $'no\twhere\n' get a
+gives 2 '' 'propedit: no\\u{9}where\\u{a}: No such file or directory (os error 2)\n'
+run -i $'no\twhere' set a 1
+gives 2 '' 'propedit: no\\u{9}where: No such file or directory (os error 2)\n'
+printf 'a\na\n' >$'two\nlines'
+run check $'two\nlines'
+gives 1 'two\\u{a}lines:2: repeats the key of line 1\n' ''
+touch $'two\nlines.propedit'
+run -i $'two\nlines' set b 1
+gives 2 '' 'propedit: two\\u{a}lines: two\\u{a}lines.propedit exists: another run is at work, or was killed; if none is, remove it\n'
+rm $'two\nlines' $'two\nlines.propedit'
+is_refused "the argument 'a\xff\n' is not UTF-8" "$all" get $'a\xff\n'
+is_refused "the argument '\xe9' is not UTF-8" "$all" check app.properties $'\xe9' app.properties
 
 # Files that can't be read, and standard streams that fail
 
@@ -519,18 +745,16 @@ run -f app.properties/a get a
 gives 2 '' 'propedit: app.properties/a: Not a directory (os error 20)\n'
 run -f . get a
 gives 2 '' 'propedit: .: Is a directory (os error 21)\n'
-run -f '' get a
-gives 2 '' 'propedit: : No such file or directory (os error 2)\n'
 command='propedit get a <&-'
 ../propedit get a <&- >../output 2>../errors
 status=$?
 gives 2 '' 'propedit: standard input: Bad file descriptor (os error 9)\n'
-for line in 'get a' list 'set a 2' --help --version; do
+for line in 'get a' list 'set a 2' 'convert ascii' --help --version; do
     command="propedit $line >/dev/full"
     ../propedit $line <../input >/dev/full 2>../errors
     is "$? $(cat ../errors)" '2 propedit: standard output: No space left on device (os error 28)'
 done
-for line in 'get a' list 'set a 2' check; do
+for line in 'get a' list 'set a 2' check 'convert ascii'; do
     command="propedit $line <."
     ../propedit $line <. >../output 2>../errors
     status=$?
@@ -598,7 +822,7 @@ gives 2 '' 'propedit: app.properties:2: Malformed \\uxxxx encoding: not enough d
 holds app.properties 'a=1\n# \\user\n'
 given 'a\0=\0'
 run -e utf-16le -i app.properties set a 2
-gives 2 '' 'propedit: app.properties: UTF-16 can be read but not edited; convert it first\n'
+gives 2 '' 'propedit: app.properties: UTF-16 can be read but not edited; propedit convert utf-8 converts it\n'
 holds app.properties 'a\0=\0'
 leaves_nothing
 
@@ -626,7 +850,7 @@ gives 0 '' ''
 (umask 027; ../propedit --create -i app.properties set a 1 set b 2)
 command='propedit --create -i app.properties set a 1 set b 2'
 holds app.properties 'a=1\nb=2\n'
-is "$(stat -c %a app.properties)" 640
+is "$(stat -c '%a %h' app.properties)" '640 1'
 run --create -i app.properties set a 2
 gives 0 '' ''
 holds app.properties 'a=2\nb=2\n'
@@ -685,6 +909,149 @@ gives 2 '' 'propedit: app.properties: cannot write app.properties.propedit: File
 holds app.properties 'a = 1\n'
 leaves_nothing
 
+# What is synced and in which order, and calls of the system that fail.
+# Runs the program with these calls traced. The first word is what strace injects, if anything.
+traced() {
+    local injected=$1
+    shift
+    command="strace ${injected:+-e inject=$injected }propedit $*"
+    strace -qq -y -a 1 -o ../trace -e trace=fsync,rename,link,unlink ${injected:+-e "inject=$injected"} \
+        ../propedit "$@" <../input >../output 2>../errors
+    status=$?
+}
+
+# The last run made exactly these calls. HERE is this folder.
+calls() {
+    sed -E "s|[0-9]+<([^>]*)>|\1|; s|$(pwd -P)|HERE|g" ../trace >../calls
+    printf '%s\n' "$@" | cmp -s - ../calls || fail "it called: $(cat ../calls)"
+    count=$((count + 1))
+}
+
+if strace -o ../trace true 2>../errors; then
+    given 'a = 1\n'
+    traced '' -i app.properties set a 2
+    gives 0 '' ''
+    calls 'fsync(HERE/app.properties.propedit) = 0' 'rename("app.properties.propedit", "app.properties") = 0' 'fsync(HERE) = 0'
+    traced '' -i app.properties set a 2
+    gives 0 '' ''
+    is "$(cat ../trace)" ''
+    traced '' -i sub/real.properties set a 3
+    gives 0 '' ''
+    calls 'fsync(HERE/sub/real.properties.propedit) = 0' \
+        'rename("sub/real.properties.propedit", "sub/real.properties") = 0' 'fsync(HERE/sub) = 0'
+    traced '' -i links/two set a 4
+    gives 0 '' ''
+    calls 'fsync(HERE/sub/real.properties.propedit) = 0' \
+        'rename("HERE/sub/real.properties.propedit", "HERE/sub/real.properties") = 0' 'fsync(HERE/sub) = 0'
+    traced '' --create -i made.properties set a 1
+    gives 0 '' ''
+    calls 'fsync(HERE/made.properties.propedit) = 0' 'link("made.properties.propedit", "made.properties") = 0' \
+        'unlink("made.properties.propedit") = 0' 'fsync(HERE) = 0'
+    holds made.properties 'a=1\n'
+
+    # A folder that can't be synced: no error where the file system can't do so at all.
+    traced fsync:error=EIO:when=2 -i app.properties set a 3
+    gives 2 '' "propedit: app.properties: is replaced, but its folder can't be synced: Input/output error (os error 5)\n"
+    holds app.properties 'a = 3\n'
+    rm made.properties
+    traced fsync:error=EIO:when=2 --create -i made.properties set a 1
+    gives 2 '' "propedit: made.properties: is made, but its folder can't be synced: Input/output error (os error 5)\n"
+    holds made.properties 'a=1\n'
+    for error in EINVAL EOPNOTSUPP; do
+        given 'a = 1\n'
+        traced fsync:error=$error:when=2 -i app.properties set a 2
+        gives 0 '' ''
+        holds app.properties 'a = 2\n'
+    done
+    leaves_nothing
+
+    # Before the new file has its name, nothing is touched.
+    for error in EIO EINVAL; do
+        traced fsync:error=$error:when=1 -i app.properties set a 3
+        [ "$status" = 2 ] && grep -q ': cannot write app.properties.propedit: ' ../errors || fail "$(cat ../errors)"
+        holds app.properties 'a = 2\n'
+    done
+    traced rename:error=EACCES -i app.properties set a 3
+    gives 2 '' 'propedit: app.properties: cannot rename app.properties.propedit: Permission denied (os error 13)\n'
+    holds app.properties 'a = 2\n'
+    rm made.properties
+    traced link:error=EPERM --create -i made.properties set a 1
+    gives 2 '' 'propedit: made.properties: cannot make a hard link to made.properties.propedit: Operation not permitted (os error 1)\n'
+    [ ! -e made.properties ] || fail 'a file was made though it has no hard link'
+    leaves_nothing
+    traced unlink:error=EIO --create -i made.properties set a 1
+    gives 2 '' 'propedit: made.properties: is made; made.properties.propedit is left\n'
+    holds made.properties 'a=1\n'
+    rm made.properties made.properties.propedit
+
+    # A file that another program makes before the new one gets its name.
+    command='another program makes made.properties'
+    strace -qq -o ../trace -e trace=link -e inject=link:delay_enter=1000000 \
+        ../propedit --create -i made.properties set a 1 <../input >../output 2>../errors &
+    while [ ! -e made.properties.propedit ] && kill -0 $! 2>../trace; do
+        sleep 0.01
+    done
+    echo 'b = 3' >made.properties
+    wait $!
+    status=$?
+    gives 2 '' 'propedit: made.properties: was made by another program meanwhile\n'
+    holds made.properties 'b = 3\n'
+    leaves_nothing
+    rm made.properties
+else
+    echo 'not tried, since strace is not at hand: what is synced, and calls that fail' >&2
+fi
+
+# Access control lists, as the manual has them.
+given 'a = 1\n'
+chmod 600 app.properties
+if setfacl -m u:12345:r app.properties 2>../errors; then
+    before=$(getfacl -cn app.properties)
+    is "$(grep '^group::' <<<"$before")" 'group::---'
+    getfacl -p app.properties >../list
+    run -i app.properties set a 2
+    gives 0 '' ''
+    is "$(getfacl -cn app.properties)" $'user::rw-\ngroup::r--\nother::---'
+    setfacl --restore=../list
+    is "$(getfacl -cn app.properties)" "$before"
+    run -f app.properties set a 3
+    cat ../output >app.properties
+    is "$(getfacl -cn app.properties)" "$before"
+    holds app.properties 'a = 3\n'
+    mkdir shared
+    printf 'a = 1\n' >shared/app.properties
+    chmod 640 shared/app.properties
+    setfacl -d -m u:12345:rwx shared
+    before=$(getfacl -cn shared/app.properties)
+    getfacl -p shared/app.properties >../list
+    run -i shared/app.properties set a 2
+    gives 0 '' ''
+    grep -q '^user:12345:rwx.*#effective:r--$' <<<"$(getfacl -cn shared/app.properties)" || fail "$(getfacl shared/app.properties)"
+    setfacl --restore=../list
+    is "$(getfacl -cn shared/app.properties)" "$before"
+else
+    echo 'not tried, since setfacl fails: access control lists' >&2
+fi
+
+# An edit in place needs no more memory than one that is printed.
+peak() {
+    command="propedit $*"
+    python3 -c 'import resource, subprocess, sys
+subprocess.run(sys.argv[1:], stdout=subprocess.DEVNULL, check=True)
+print(resource.getrusage(resource.RUSAGE_CHILDREN).ru_maxrss)' ../propedit "$@"
+}
+if command -v python3 >../trace; then
+    seq -f 'some.key.%07.0f = a value of a pair' 1000000 >large.properties
+    printed=$(peak -f large.properties set some.key.0000007 x)
+    edited=$(peak -i large.properties set some.key.0000007 x)
+    [ "$edited" -le $((printed + 2000)) ] || fail "in place $edited KB, printed $printed KB"
+    count=$((count + 1))
+    is "$(sed -n 7p large.properties)" 'some.key.0000007 = x'
+    rm large.properties
+else
+    echo 'not tried, since python3 is not at hand: peak memory' >&2
+fi
+
 # As another user than root, who may write anywhere.
 as_user() {
     command="propedit $*"
@@ -705,6 +1072,15 @@ if [ "$(id -u)" != 0 ] || setpriv --reuid=65534 --regid=65534 --clear-groups tru
     holds shut/app.properties 'a = 1\n'
     as_user -i shut/app.properties remove b
     gives 0 '' ''
+    mkdir blind
+    printf 'a = 1\n' >blind/app.properties
+    [ "$(id -u)" != 0 ] || chown -R 65534:65534 blind
+    chmod 333 blind
+    as_user -i blind/app.properties set a 2
+    chmod 755 blind
+    gives 2 '' "propedit: blind/app.properties: is replaced, but its folder can't be synced: Permission denied (os error 13)\n"
+    holds blind/app.properties 'a = 2\n'
+    leaves_nothing
     given 'a = 1\n'
     chmod 000 app.properties
     as_user -i app.properties set a 2

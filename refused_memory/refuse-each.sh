@@ -19,7 +19,7 @@ trap 'rm -rf "$work"' EXIT
 crate=$work/copy/crates/refused_memory
 mkdir -p "$crate/src"
 (cd "$here/.." && tar cf - --exclude=out --exclude='must-*' crates crates.txt HANDLES) | (cd "$work/copy" && tar xf -)
-echo 'refused_memory: counted_io properties_text properties_lines single_lines java_properties properties_tools propedit_arguments clap' \
+echo 'refused_memory: counted_io properties_text properties_lines single_lines java_properties properties_tools propedit_arguments' \
     >>"$work/copy/crates.txt"
 for file in "$here"/src/*.rt.txt; do
     cp "$file" "$crate/src/$(basename "$file" .txt)"

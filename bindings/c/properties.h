@@ -1,4 +1,4 @@
-/* Reads, checks, edits and writes Java .properties files, in memory.
+/* Reads, checks, edits, converts and writes Java .properties files, in memory.
  *
  * docs/C.md has a whole program, and says how to build and link. The functions are written and proved in Rattle; only
  * what is `static inline` here is C.
@@ -12,13 +12,13 @@
  *   the room that is needed, and `out` is as it was. With any other status but PROPERTIES_OK, *length is 0 and `out` is
  *   as it was; but at a malformed escape properties_items gives the items before it. Past *length, `out` always is as it
  *   was.
- * - If several errors could be reported, it is the first of these: the encoding, a key or a value that isn't UTF-8, the
- *   packed list, from its front on, and then the rest.
+ * - If several errors could be reported, it is the first of these: the encoding or the target, a key or a value that
+ *   isn't UTF-8, the packed list, from its front on, and then the rest.
  *
- * How much room: try four times the length of the source for items, the length of the list and some more for what is
- * written, and once the length of the source and some more for everything else. If that is too little, the call is to
- * be made again with the room that *length says; it then does all its work again. A call with room for 0 bytes asks for
- * the length; `out` is then any pointer that isn't null.
+ * How much room: try four times the length of the source for items, twice its length for a conversion, the length of
+ * the list and some more for what is written, and once the length of the source and some more for everything else. If
+ * that is too little, the call is to be made again with the room that *length says; it then does all its work again. A
+ * call with room for 0 bytes asks for the length; `out` is then any pointer that isn't null.
  *
  * What the caller owes:
  *
@@ -54,7 +54,7 @@ enum properties_status {
     PROPERTIES_NO_ROOM = 1,           /* *length bytes are needed in `out` */
     PROPERTIES_NO_KEY = 2,            /* properties_get: no pair has the key */
     PROPERTIES_NO_MEMORY = 3,         /* malloc or realloc returned null */
-    PROPERTIES_UNKNOWN_ENCODING = 4,  /* none of enum properties_encoding */
+    PROPERTIES_UNKNOWN_ENCODING = 4,  /* none of enum properties_encoding, or of enum properties_target */
     PROPERTIES_NOT_UTF_8 = 5,         /* a key, a value or a text of a packed list isn't UTF-8 */
     PROPERTIES_BAD_LIST = 6,          /* a packed list ends too early, or has a record that it may not have */
     PROPERTIES_NOT_ENOUGH_DIGITS = 7, /* fewer than four characters follow a \u in the line */
@@ -71,6 +71,13 @@ enum properties_encoding {
     PROPERTIES_UTF_8 = 1,
     PROPERTIES_UTF_16LE = 2, /* sources can't be edited; properties_write writes UTF-8 */
     PROPERTIES_UTF_16BE = 3  /* likewise */
+};
+
+/* What properties_convert converts to. No encoding has one of these numbers, so neither is taken for the other. */
+enum properties_target {
+    PROPERTIES_TO_WINDOWS_1252 = 16,
+    PROPERTIES_TO_UTF_8 = 17,
+    PROPERTIES_TO_ASCII = 18 /* reads the same in ISO 8859-1, windows-1252 and UTF-8 */
 };
 
 /* What an item of a source is, and a line to write. */
@@ -209,6 +216,21 @@ int properties_remove_key(uint8_t const *source, size_t source_length, uint32_t 
 int properties_edit(uint8_t const *source, size_t source_length, uint32_t encoding, bool ascii_only,
                     uint8_t const *edits, size_t edits_length, uint8_t *out, size_t room, size_t *length,
                     size_t *line);
+
+/* Writes the source in another encoding. All else stays as it is: comments, blank lines, layout, line endings, and what
+ * each key, value and comment means.
+ *
+ * A non-ASCII character that the target lacks becomes an escape. Each other character and each escape stays as it is
+ * written; but if `readable` is true, a non-ASCII character that the target has becomes itself. Escapes of ASCII
+ * characters stay in each case.
+ *
+ * A byte order mark is dropped. What isn't text of the encoding becomes U+FFFD, as it reads. A malformed escape is no
+ * error: it stays malformed, in the same line. If the result would begin like a byte order mark, its first character is
+ * an escape. The result is never longer than six times the source.
+ *
+ * Returns PROPERTIES_OK, _NO_ROOM, _NO_MEMORY or _UNKNOWN_ENCODING (of `encoding` or `target`). */
+int properties_convert(uint8_t const *source, size_t source_length, uint32_t encoding, uint32_t target, bool readable,
+                       uint8_t *out, size_t room, size_t *length, size_t *line);
 
 /* Writes a packed list of comments and pairs as a file: a line each, comments after `# `, pairs with `=`, and line
  * feeds. It reads back as the same pairs, and as the same comments but for blanks at their ends. What `ascii_only` does

@@ -117,9 +117,11 @@ static struct text text_of_list(struct packed const *list) {
     return text;
 }
 
-enum call { GET, ITEMS, FINDINGS, SET_VALUE, SET_KEY, REMOVE_KEY, EDIT, WRITE, CALLS };
+enum call { GET, ITEMS, FINDINGS, SET_VALUE, SET_KEY, REMOVE_KEY, EDIT, WRITE, CONVERT, CALLS };
 
-static char const *const names[] = {"get", "items", "findings", "set_value", "set_key", "remove_key", "edit", "write"};
+static char const *const names[] = {
+    "get", "items", "findings", "set_value", "set_key", "remove_key", "edit", "write", "convert",
+};
 
 /* What is passed to a call; each call takes of it what it has. */
 struct request {
@@ -130,6 +132,8 @@ struct request {
     struct text key;
     struct text value;
     struct text list;
+    uint32_t target;
+    bool readable;
 };
 
 static struct request request_of(enum call call, struct text source, uint32_t encoding) {
@@ -141,6 +145,8 @@ static struct request request_of(enum call call, struct text source, uint32_t en
     request.key = T("k");
     request.value = T("v");
     request.list = T("");
+    request.target = PROPERTIES_TO_ASCII;
+    request.readable = false;
     return request;
 }
 
@@ -165,6 +171,9 @@ static int make_call(struct request const *r, uint8_t *out, size_t room, size_t 
     case EDIT:
         return properties_edit(r->source.bytes, r->source.length, r->encoding, r->ascii_only, r->list.bytes,
                                r->list.length, out, room, length, line);
+    case CONVERT:
+        return properties_convert(r->source.bytes, r->source.length, r->encoding, r->target, r->readable, out, room,
+                                  length, line);
     default:
         return properties_write(r->list.bytes, r->list.length, r->encoding, r->ascii_only, out, room, length, line);
     }
@@ -443,6 +452,84 @@ static void try_write(void) {
     check("write, ASCII", request, PROPERTIES_OK, 0, T("# c \\u00e9\na\\ b=\\u20ac\\n\n=\n"));
 }
 
+/* Converts to each target, with spellings kept and readable. In ASCII that is the same. */
+static void converts(char const *name, struct text source, uint32_t encoding, struct text windows_1252,
+                     struct text windows_1252_readable, struct text utf_8, struct text utf_8_readable,
+                     struct text ascii) {
+    struct request request = request_of(CONVERT, source, encoding);
+    check(name, request, PROPERTIES_OK, 0, ascii);
+    request.readable = true;
+    check(name, request, PROPERTIES_OK, 0, ascii);
+    request.target = PROPERTIES_TO_UTF_8;
+    check(name, request, PROPERTIES_OK, 0, utf_8_readable);
+    request.readable = false;
+    check(name, request, PROPERTIES_OK, 0, utf_8);
+    request.target = PROPERTIES_TO_WINDOWS_1252;
+    check(name, request, PROPERTIES_OK, 0, windows_1252);
+    request.readable = true;
+    check(name, request, PROPERTIES_OK, 0, windows_1252_readable);
+}
+
+static void try_convert(void) {
+    static uint32_t const targets[] = {
+        0, 1, 2, 3, 4, 15, 19, 255, 256, 272, 0x10010, 0x7fffffff, 0x80000010, 0xffffffff,
+    };
+    struct text text;
+    size_t place;
+    text = T("");
+    converts("convert of nothing", text, PROPERTIES_UTF_8, text, text, text, text, text);
+    converts("convert of windows-1252", T("# caf\xe9\nk\xe9y : \\u20ac\n"), PROPERTIES_WINDOWS_1252,
+             T("# caf\xe9\nk\xe9y : \\u20ac\n"), T("# caf\xe9\nk\xe9y : \x80\n"),
+             T("# caf\xc3\xa9\nk\xc3\xa9y : \\u20ac\n"), T("# caf\xc3\xa9\nk\xc3\xa9y : \xe2\x82\xac\n"),
+             T("# caf\\u00e9\nk\\u00e9y : \\u20ac\n"));
+    converts("convert of UTF-8", T("\xe3\x81\x82=\\u3042\\u00E9"), PROPERTIES_UTF_8, T("\\u3042=\\u3042\\u00E9"),
+             T("\\u3042=\\u3042\xe9"), T("\xe3\x81\x82=\\u3042\\u00E9"), T("\xe3\x81\x82=\xe3\x81\x82\xc3\xa9"),
+             T("\\u3042=\\u3042\\u00E9"));
+    text = T("\\u3042=\xe9");
+    converts("convert of UTF-16LE", T("\x42\x30=\0\xe9\0"), PROPERTIES_UTF_16LE, text, text,
+             T("\xe3\x81\x82=\xc3\xa9"), T("\xe3\x81\x82=\xc3\xa9"), T("\\u3042=\\u00e9"));
+    converts("convert of UTF-16BE", T("\x30\x42\0=\0\xe9"), PROPERTIES_UTF_16BE, text, text, T("\xe3\x81\x82=\xc3\xa9"),
+             T("\xe3\x81\x82=\xc3\xa9"), T("\\u3042=\\u00e9"));
+    text = T("k=\\ud83d\\udc1e");
+    converts("convert of two escapes", text, PROPERTIES_UTF_8, text, text, text, T("k=\xf0\x9f\x90\x9e"), text);
+    converts("convert past U+FFFF", T("k=\xf0\x9f\x90\x9e"), PROPERTIES_UTF_8, text, text, T("k=\xf0\x9f\x90\x9e"),
+             T("k=\xf0\x9f\x90\x9e"), text);
+
+    /* Layout stays, escapes of ASCII stay, and the backslash goes with its character. */
+    text = T("\t! one \r\n\n  a\\\n  \t: \\t\\u003d\\\r\n");
+    converts("convert of ASCII", text, PROPERTIES_WINDOWS_1252, text, text, text, text, text);
+    converts("convert after a backslash", T("\\\xc3\xa9=1"), PROPERTIES_UTF_8, T("\\\xe9=1"), T("\xe9=1"),
+             T("\\\xc3\xa9=1"), T("\xc3\xa9=1"), T("\\u00e9=1"));
+    text = T("\\\\u00e9=\\u00\\\ne9");
+    converts("convert of no escapes", text, PROPERTIES_UTF_8, text, text, text, text, text);
+
+    /* A mark is dropped, and nothing at the front is like one. */
+    text = T("k=1");
+    converts("convert after a mark", T("\xef\xbb\xbfk=1"), PROPERTIES_UTF_16LE, text, text, text, text, text);
+    converts("convert after a mark", T("\xfe\xff\0k\0=\0001"), PROPERTIES_UTF_8, text, text, text, text, text);
+    text = T("\\ufeffk=1");
+    converts("convert after two marks", T("\xef\xbb\xbf\xef\xbb\xbfk=1"), PROPERTIES_UTF_8, text, text, text, text,
+             text);
+    text = T("\\u00ef\xbb\xbfk=1");
+    converts("convert like a mark", T("\xc3\xaf\xc2\xbb\xc2\xbfk=1"), PROPERTIES_UTF_8, text, text,
+             T("\xc3\xaf\xc2\xbb\xc2\xbfk=1"), T("\xc3\xaf\xc2\xbb\xc2\xbfk=1"), T("\\u00ef\\u00bb\\u00bfk=1"));
+
+    /* Malformed escapes, and bytes that aren't text. */
+    converts("convert of a malformed escape", T("# C:\\users \xe9\nk=\\u12\n\\ud83d=\\uxxxx"), PROPERTIES_WINDOWS_1252,
+             T("# C:\\users \xe9\nk=\\u12\n\\ud83d=\\uxxxx"), T("# C:\\users \xe9\nk=\\u12\n\\ud83d=\\uxxxx"),
+             T("# C:\\users \xc3\xa9\nk=\\u12\n\\ud83d=\\uxxxx"), T("# C:\\users \xc3\xa9\nk=\\u12\n\\ud83d=\\uxxxx"),
+             T("# C:\\users \\u00e9\nk=\\u12\n\\ud83d=\\uxxxx"));
+    text = T("k=\\ufffd");
+    converts("convert of what isn't UTF-8", T("k=\xff"), PROPERTIES_UTF_8, text, text, T("k=\xef\xbf\xbd"),
+             T("k=\xef\xbf\xbd"), text);
+
+    for (place = 0; place < sizeof targets / sizeof *targets; place++) {
+        struct request request = request_of(CONVERT, T("k=1"), PROPERTIES_UTF_8);
+        request.target = targets[place];
+        refuses("convert to none", request, PROPERTIES_UNKNOWN_ENCODING, 0);
+    }
+}
+
 /* What properties_items gives is what properties_write takes. */
 static void try_round_trip(void) {
     static char const source[] = "# one\na=1\nb=\\u00e9\n";
@@ -495,7 +582,7 @@ static void try_append(void) {
 
 /* Encodings that there are not, before all else that is wrong. */
 static void try_encodings(void) {
-    static uint32_t const encodings[] = {4, 5, 255, 256, 0x7fffffff, 0x80000000, 0xffffffff};
+    static uint32_t const encodings[] = {4, 5, 16, 17, 18, 255, 256, 0x7fffffff, 0x80000000, 0xffffffff};
     size_t place;
     int call;
     for (place = 0; place < sizeof encodings / sizeof *encodings; place++) {
@@ -701,6 +788,7 @@ static void try_memory(void) {
     results[EDIT][1] = T("# c\nk : \\u0031\nk=12\nb=\\u00e9\n");
     results[WRITE][0] = T("# c\nk=\xc3\xa9\n");
     results[WRITE][1] = T("# c\nk=\\u00e9\n");
+    results[CONVERT][0] = results[CONVERT][1] = T("# c\nk : \\u0031\nk=2\n");
     for (call = 0; call < CALLS; call++) {
         for (ascii_only = 0; ascii_only < 2; ascii_only++) {
             struct packed list = call == WRITE ? lines : edits;
@@ -711,7 +799,7 @@ static void try_memory(void) {
             refuse_each(names[call], request, PROPERTIES_OK, 0, results[call][ascii_only]);
 
             /* A malformed escape, before which there are items. */
-            if (call != FINDINGS && call != WRITE) {
+            if (call != FINDINGS && call != WRITE && call != CONVERT) {
                 request.source = T("# c\nk = 1\nb=\\u12\n");
                 refuse_each(names[call], request, PROPERTIES_NOT_ENOUGH_DIGITS, 3,
                             call == ITEMS ? text_of_list(&before) : T(""));
@@ -731,6 +819,15 @@ static void try_memory(void) {
     }
 }
 
+/* The same of a source that is decoded first, and of which the first character becomes an escape. */
+static void try_memory_converting(void) {
+    struct request request = request_of(CONVERT, T("\xff\xfe\xff\xfek\0=\0\xe9\0"), PROPERTIES_UTF_8);
+    request.target = PROPERTIES_TO_UTF_8;
+    refuse_each("convert of UTF-16", request, PROPERTIES_OK, 0, T("\\ufeffk=\xc3\xa9"));
+    request.source = T("\xef\xbb\xbf\xef\xbb\xbfk=\xff");
+    refuse_each("convert of what isn't UTF-8", request, PROPERTIES_OK, 0, T("\\ufeffk=\xef\xbf\xbd"));
+}
+
 static void try_words(void) {
     int status, other;
     for (status = PROPERTIES_OK; status <= PROPERTIES_UNSUPPORTED; status++) {
@@ -748,6 +845,7 @@ int main(void) {
     try_findings();
     try_edits();
     try_write();
+    try_convert();
     try_round_trip();
     try_append();
     try_encodings();
@@ -756,6 +854,7 @@ int main(void) {
     try_escapes();
     try_unsupported();
     try_memory();
+    try_memory_converting();
     try_words();
     printf("%ld passed, %ld failed\n", passed, failed);
     return failed > 0;

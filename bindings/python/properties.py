@@ -1,4 +1,4 @@
-r"""Reads, checks, edits and writes Java .properties files, by the library of which the repository's docs/C.md tells.
+r"""Reads, checks, edits, converts and writes Java .properties files, by the library of the repository's docs/C.md.
 
     >>> import properties
     >>> data = b"# the web server\nport    = 80\n"
@@ -45,6 +45,7 @@ __all__ = [
     "SetKey",
     "SetValue",
     "Status",
+    "convert",
     "dumps",
     "edit",
     "findings",
@@ -208,6 +209,7 @@ _ENCODINGS = {
     "utf-16-le": 2,
     "utf-16-be": 3,
 }
+_TARGETS = {"cp1252": 16, "utf-8": 17, "ascii": 18}
 
 _IN = [ctypes.c_char_p, ctypes.c_size_t]
 _OUT = [ctypes.c_char_p, ctypes.c_size_t, ctypes.POINTER(ctypes.c_size_t), ctypes.POINTER(ctypes.c_size_t)]
@@ -219,6 +221,7 @@ _ARGUMENTS = {
     "properties_set_key": [*_IN, ctypes.c_uint32, ctypes.c_bool, *_IN, *_IN, *_OUT],
     "properties_remove_key": [*_IN, ctypes.c_uint32, *_IN, *_OUT],
     "properties_edit": [*_IN, ctypes.c_uint32, ctypes.c_bool, *_IN, *_OUT],
+    "properties_convert": [*_IN, ctypes.c_uint32, ctypes.c_uint32, ctypes.c_bool, *_OUT],
     "properties_write": [*_IN, ctypes.c_uint32, ctypes.c_bool, *_OUT],
 }
 
@@ -236,7 +239,9 @@ def _library() -> ctypes.CDLL:
     if version != VERSION:
         raise ImportError(f"{path} has version {version} of the interface, and this module needs {VERSION}", path=path)
     for name, arguments in _ARGUMENTS.items():
-        function = getattr(library, name)
+        function = getattr(library, name, None)
+        if function is None:
+            raise ImportError(f"{path} is older than this module: it has no {name}", path=path)
         function.argtypes = arguments
         function.restype = ctypes.c_int
     return library
@@ -437,6 +442,31 @@ def _edit_record(each: Edit) -> bytes:
     if isinstance(each, SetValue):
         return _record(4, each.key, each.value)
     raise TypeError(f"an edit is a SetValue, a SetKey or a RemoveKey, not {type(each).__name__}")
+
+
+def convert(data: Bytes, to: str, *, encoding: str = "iso-8859-1", readable: bool = False) -> bytes:
+    r"""Returns the file in another encoding: ascii, cp1252 or utf-8. Everything else stays: comments, blank lines,
+    layout, line endings, and what each key, value and comment means.
+
+    A character that `to` lacks becomes an escape. Other characters and escapes stay as they are written; but if the
+    result is to be readable, each non-ASCII character that `to` has becomes itself. Escapes of ASCII characters stay.
+
+    A byte order mark is dropped, and if the result would begin like one, its first character becomes an escape. Bytes
+    that aren't text of the encoding become U+FFFD. Malformed escapes are no error: the result has them in the same
+    lines.
+
+    `to` isn't iso-8859-1, from which cp1252 differs in 27 bytes. A file in ascii reads the same there.
+
+    >>> convert("# café\nprice : 3 €\n".encode("utf-8"), "ascii", encoding="utf-8")
+    b'# caf\\u00e9\nprice : 3 \\u20ac\n'
+    >>> convert(b"# caf\\u00e9\nprice : 3 \\u20ac\n", "utf-8", readable=True).decode("utf-8")
+    '# café\nprice : 3 €\n'
+    """
+    source = _bytes(data)
+    target = _TARGETS.get(codecs.lookup(to).name)
+    if target is None:
+        raise LookupError(f"not an encoding that files are converted to: {to}; use ascii, cp1252 or utf-8")
+    return _result("properties_convert", 2 * len(source) + 16, source, _number(encoding), target, bool(readable))
 
 
 def dumps(

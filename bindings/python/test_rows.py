@@ -256,6 +256,15 @@ def edit(encoding, left, right):
     yield [item for name in readings for item in came_items(came, name)], wanted_items(parts[1 + len(asked) :])
 
 
+def convert(encoding, left, right):
+    (_, (source,)), (word, _) = clauses(left)
+    *words, to = word.split()
+    if words not in (["to"], ["readable", "to"]):
+        raise ValueError(word)
+    came = properties.convert(source, to, encoding=encoding, readable="readable" in words)
+    yield came, as_bytes(QUOTED.fullmatch(right)[1])
+
+
 EDITS = {"put": SetKey, "value": SetValue, "remove": RemoveKey}
 
 
@@ -297,6 +306,7 @@ ROWS = {
     "write-map": write_map,
     "copy": copy,
     "edit": edit,
+    "convert": convert,
     "write-print": left_out("how errors of a writer print"),
     "compare": left_out("the order of lines"),
     "label": left_out("labels of the WHATWG Encoding Standard"),
@@ -376,13 +386,20 @@ def try_arguments(count):
         (properties.set_key, ["a", "b"]),
         (properties.remove_key, ["a"]),
         (properties.edit, [[]]),
+        (properties.convert, ["ascii"]),
     ]
     for call, more in calls:
         for wrong in ("a=1", 3, None, ["a"]):
             count.check(isinstance(raised(call, wrong, *more), TypeError), f"{call.__name__} of {wrong!r}")
         for label in ("koi8-r", "ascii", "none such"):
             count.check(isinstance(raised(call, b"", *more, encoding=label), LookupError), f"{call.__name__} in {label}")
+    for label, name in (("US-ASCII", "ascii"), ("windows-1252", "cp1252"), ("UTF8", "utf-8")):
+        came = properties.convert(b"\xe9=\xe9", label)
+        count.check(came == properties.convert(b"\xe9=\xe9", name), f"convert to {label}")
+    for label in ("iso-8859-1", "latin-1", "utf-8-sig", "utf-16", "utf-16-le", "koi8-r", "none such"):
+        count.check(isinstance(raised(properties.convert, b"", label), LookupError), f"convert to {label}")
     for wrong in (3, b"a", None):
+        count.check(isinstance(raised(properties.convert, b"", wrong), TypeError), f"convert to {wrong!r}")
         count.check(isinstance(raised(properties.get, b"", wrong), TypeError), f"get of {wrong!r}")
         count.check(isinstance(raised(properties.set_value, b"", "a", wrong), TypeError), f"set_value of {wrong!r}")
         count.check(isinstance(raised(properties.dumps, {"a": wrong}), TypeError), f"dumps of {wrong!r}")
@@ -558,6 +575,55 @@ def try_random(count):
         count.check(read == [as_read_back(item) for item in items], f"dumps of {place}")
 
 
+CONVERSIONS = [(to, readable) for to in ("ascii", "cp1252", "utf-8") for readable in (False, True)]
+
+
+def try_conversion(count, source, encoding, to, readable):
+    """A converted source reads the same and has the same line endings, and converting it again changes nothing. It isn't
+    longer than the header says."""
+    place = f"{source!r} from {encoding} to {to}, {readable}"
+    came = properties.convert(source, to, encoding=encoding, readable=readable)
+    reading = "iso-8859-1" if to == "ascii" else to
+    count.check(all_of(came, reading) == all_of(source, encoding), f"what is in {place}")
+    count.check(len(came) <= 6 * len(source), f"the length of {place}")
+    count.check(to != "ascii" or came.isascii(), f"ASCII in {place}")
+    count.check(properties.convert(came, to, encoding=reading, readable=readable) == came, f"twice {place}")
+    direct = properties.convert(source, "utf-8", encoding=encoding, readable=True)
+    count.check(properties.convert(came, "utf-8", encoding=reading, readable=True) == direct, f"readable after {place}")
+    if not encoding.startswith("utf-16") and source[:2] not in (b"\xfe\xff", b"\xff\xfe"):
+        endings = re.compile(rb"\r\n|\r|\n")
+        count.check(endings.findall(came) == endings.findall(source), f"the line endings of {place}")
+
+
+def all_of(data, encoding):
+    """The items, and those before a malformed escape with its line: its kind may be another after a conversion."""
+    try:
+        return properties.items(data, encoding), None
+    except properties.MalformedEscape as error:
+        return error.items, error.line
+
+
+def try_conversions(count):
+    numbers = random.Random(2)
+    alphabet = ["a", "=", " ", "\n", "\r", "#", "\\", "u", "\\u00e9", "\\u20ac", "\\u003d", "\\ud83d", "\\udc1e", "e9", "\0", "\x81"]
+    alphabet += ["é", "€", "あ", "\U0001f41e", "\ufeff", "ï", "»", "¿", "þ", "ÿ", "\u0d0a"]
+    for _ in range(1500):
+        text = "".join(numbers.choices(alphabet, k=numbers.randrange(16)))
+        for encoding in ("cp1252", "utf-8", "utf-16-le", "utf-16-be"):
+            source = text.encode(encoding, "ignore")
+            if source and numbers.randrange(8) == 0:
+                # Bytes that aren't text.
+                source = source[1:] if numbers.randrange(2) else source[:-1] + b"\xff"
+            try_conversion(count, source, encoding, *numbers.choice(CONVERSIONS))
+    pieces = (b"\\", b"u", b"=", b"\n", b"\0", b"\xd8", b"\xef", b"\xbb\xbf", b"\xfe", b"\xff", b"\xc3", b"\x80")
+    for size in range(4):
+        for source in map(b"".join, itertools.product(pieces, repeat=size)):
+            encoding = numbers.choice(("cp1252", "utf-8", "utf-16-le", "utf-16-be"))
+            try_conversion(count, source, encoding, *numbers.choice(CONVERSIONS))
+    for times in (1, 1000, 100000):
+        count.check(properties.convert(b"\xe9" * times, "ascii") == b"\\u00e9" * times, f"{times} characters to ASCII")
+
+
 def as_read_back(item):
     """An item without its line. Of a comment that is written and read, blanks at its ends are lost, which were escapes."""
     return item.text.strip(" \t\f") if isinstance(item, Comment) else item[:2]
@@ -577,6 +643,9 @@ def try_header(count):
     count.check(f"PROPERTIES_VERSION {properties.VERSION}\n" in header, "the version")
     for each, name in ((SetKey("", ""), "SET_KEY"), (RemoveKey(""), "REMOVE_KEY"), (SetValue("", ""), "SET_VALUE")):
         count.check(numbers["EDIT_" + name] == properties._edit_record(each)[0], name)
+    for label, name in (("cp1252", "WINDOWS_1252"), ("utf-8", "UTF_8"), ("ascii", "ASCII")):
+        count.check(numbers["TO_" + name] == properties._TARGETS[label], name)
+    count.check(not set(properties._TARGETS.values()) & set(properties._ENCODINGS.values()), "numbers of targets of their own")
     for line, name in ((Comment(""), "COMMENT"), (Pair("", ""), "PAIR")):
         count.check(numbers[name] == properties._line_record(line)[0], name)
     for name in properties._ARGUMENTS:
@@ -604,8 +673,8 @@ def main():
     count = Count()
     run_tables(count)
     for test in (
-        try_arguments, try_errors, try_lists, try_newer, try_room, try_findings, try_round_trips, try_random, try_threads,
-        try_header, try_examples, try_page,
+        try_arguments, try_errors, try_lists, try_newer, try_room, try_findings, try_round_trips, try_random, try_conversions,
+        try_threads, try_header, try_examples, try_page,
     ):
         try:
             test(count)

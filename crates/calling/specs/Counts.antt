@@ -1,6 +1,6 @@
 -- The result of counting the items of an input.
 use Rattle.std.specs.Prelude.{◌≡◌, ℕ, true, List, length}
-use Rattle.counted_io.specs.Streams.{Reader, HasRead}
+use Rattle.counted_io.specs.Streams.{Reader, HasRead, has_ended}
 use Rattle.properties_format.specs.Encoding.{Encoding}
 use Rattle.properties_format.specs.Items.{IsItems}
 use Rattle.properties_format.specs.Lines.{end}
@@ -11,7 +11,7 @@ use Rattle.properties_items.specs.declared.line.Line.{Line}
 pub record CountsItems {R : Type 0} (reader : Reader R) (e : Encoding) (from : R) (count : ℕ) (to : R) : Type 0 where
   pub bytes : List ℕ
   pub read : HasRead reader from bytes to
-  pub ended : reader.at_end to ≡ true
+  pub ended : has_ended reader to ≡ true
   pub lines : List Line
   pub items : IsItems e bytes end (entries_in lines)
   pub counted : count ≡ length lines

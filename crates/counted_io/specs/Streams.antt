@@ -1,5 +1,5 @@
 -- What is known of a stream, as one value, and what calls did to it.
-use Rattle.std.specs.Prelude.{◌≡◌, ◌≢◌, ℕ, Bool, true, List, ◌++◌, [], Option, Result, Ok, Err}
+use Rattle.std.specs.Prelude.{◌≡◌, ◌≢◌, ℕ, Bool, true, false, ◌&&◌, List, ◌++◌, [], ◌∷◌, Option, None, Some, Result, Ok, Err}
 use Rattle.std.specs.Io.KnownBytes.{Consumes, Appends, Keeps}
 use Rattle.std.specs.declared.io.Error.{Error}
 use Rattle.std.specs.declared.io.traits.Read as read
@@ -44,6 +44,16 @@ sink w c = record {
 }
 
 -- ---- readers
+
+-- whether no known byte is left
+abbrev pub is_spent : Option (List ℕ) → Bool
+is_spent None = true
+is_spent (Some []) = true
+is_spent (Some (b ∷ bs)) = false
+
+-- whether the reader is at its end by its own word, and no known byte is left
+abbrev pub has_ended : {R : Type 0} → Reader R → R → Bool
+has_ended reader r = reader.at_end r && is_spent (reader.remaining r)
 
 -- These bytes were read, and no read failed.
 pub record HasRead {R : Type 0} (reader : Reader R) (old : R) (bytes : List ℕ) (new : R) : Type 0 where

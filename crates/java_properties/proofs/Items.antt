@@ -9,7 +9,7 @@ use Rattle.std.proofs.lemmas.Bool.{cases_Bool}
 use Rattle.properties_format.specs.Entries.{Content, item}
 use Rattle.properties_format.specs.Items.{Outcome, ignored, given, broken}
 use Rattle.properties_format.specs.Computed.Items.{outcome_of, followed}
-use Rattle.counted_io.specs.Streams.{Reader, HasRead}
+use Rattle.counted_io.specs.Streams.{Reader, HasRead, has_ended}
 use Rattle.counted_io.proofs.Streams.{read-none, read-more, failed-more}
 use Rattle.properties_format.specs.Lines.{Line, InputEnd, end, fault, more}
 use Rattle.properties_format.specs.ItemsToCome.{ReaderState}
@@ -81,7 +81,7 @@ pub record Passed {R : Type 0} (reader : Reader R) (old : ReaderState) (from : R
   pub read : HasRead reader from bytes to
   pub live : old.is_done ≡ true → (new ≡ old) × (to ≡ from) × (bytes ≡ [])
   pub items : (new.is_done ≡ false) × ((d : List ℕ) (ending : InputEnd) → items_to_come old (bytes ++ d) ending ≡ items_to_come new d ending)
-      ⊎ (new.is_done ≡ true) × (items_to_come old bytes end ≡ []) × ((old.is_done ≡ true) ⊎ (reader.at_end to ≡ true))
+      ⊎ (new.is_done ≡ true) × (items_to_come old bytes end ≡ []) × ((old.is_done ≡ true) ⊎ (has_ended reader to ≡ true))
   pub passes : new.is_done ≡ false → PassesSome old bytes new
   pub lazy : IsLazyItems old from bytes to
 

@@ -3,7 +3,7 @@ use Rattle.std.proofs.Common.{◌≡◌, ℕ, ◌+◌, true, false, List, [], �
 use Rattle.std.specs.Prelude.{◌⊎◌, Option, Some, None, Result, Ok, Err}
 use Rattle.std.proofs.lemmas.List.{map-append}
 use Rattle.std.specs.Str.{chars}
-use Rattle.counted_io.specs.Streams.{Reader}
+use Rattle.counted_io.specs.Streams.{Reader, has_ended}
 use Rattle.counted_io.proofs.Streams.{read-none, read-more, failed-more}
 use Rattle.properties_format.specs.Encoding.{Encoding}
 use Rattle.properties_format.specs.Lines.{InputEnd, end, fault, Line, line_ends, numbered_lines}
@@ -268,7 +268,7 @@ module _ {R : Type 0} {reader : Reader R} where
   found-first {e} {from} {to} {escape} {s} h = by (escapes_in h.groups) refl
     where
       at : (x : format.MalformedEscape) (xs : List format.MalformedEscape) → escapes_in h.groups ≡ x ∷ xs → Passes (start e) h.collected.bytes (lines_in h.groups) s
-          → ((d : List ℕ) → BeginsEscapes e (h.collected.bytes ++ d) x) ⊎ (reader.at_end to ≡ true) × BeginsEscapes e h.collected.bytes x
+          → ((d : List ℕ) → BeginsEscapes e (h.collected.bytes ++ d) x) ⊎ (has_ended reader to ≡ true) × BeginsEscapes e h.collected.bytes x
       at x xs k (Passes.going_on live reads) = inl (λ d.
           let later = groups_of (natural_to_come s d end) end in
           begins e (h.collected.bytes ++ d) (h.groups ++ later) x (xs ++ escapes_in later) (collected-on h.collected live d end)

@@ -2,7 +2,7 @@
 use Rattle.std.proofs.Common.{◌≡◌, ℕ, Bool, true, false, List, [], ◌∷◌, ◌++◌, refl, sym, ap, ◌∙◌, inl, inr, subst, append_assoc, append-nil}
 use Rattle.std.specs.Prelude.{◌⊎◌}
 use Rattle.std.proofs.lemmas.List.{map-append}
-use Rattle.counted_io.specs.Streams.{Reader, HasRead}
+use Rattle.counted_io.specs.Streams.{Reader, HasRead, has_ended}
 use Rattle.counted_io.proofs.Streams.{read-none, read-more, failed-more}
 use Rattle.properties_format.specs.Encoding.{Encoding}
 use Rattle.properties_format.specs.Lines.{InputEnd, end, fault}
@@ -47,7 +47,7 @@ pub data Comes (e : Encoding) (bytes : List ℕ) (entries : List Entry) (at_end 
 
 pub record Collected {R : Type 0} (reader : Reader R) (e : Encoding) (from : R) (bytes : List ℕ) (entries : List Entry) (new : ReaderState) (to : R) : Type 0 where
   pub read : HasRead reader from bytes to
-  pub comes : Comes e bytes entries (reader.at_end to) new
+  pub comes : Comes e bytes entries (has_ended reader to) new
   pub passes : new.is_done ≡ false → PassesSome (start e) bytes new
 
 pub live-on : {e : Encoding} {r : List ℕ} {entries : List Entry} {s : ReaderState} {at_end : Bool} → Comes e r entries at_end s → s.is_done ≡ false
@@ -82,7 +82,7 @@ module _ {R : Type 0} {reader : Reader R} where
       → GivesNone reader s to t next → ReadsWhole reader e from entries next
   collected-none {e} {from} {to} {next} {r} {entries} {s} h n = by-comes h.comes
     where
-      by-comes : Comes e r entries (reader.at_end to) s → ReadsWhole reader e from entries next
+      by-comes : Comes e r entries (has_ended reader to) s → ReadsWhole reader e from entries next
       by-comes (Comes.going_on g m) = record {
         bytes = r ++ n.bytes;
         read = read-more h.read n.read;

@@ -4,7 +4,7 @@ use Rattle.std.specs.Prelude.{Some, ◌==◌, true}
 use Rattle.std.specs.Borrow.{Bor}
 use Rattle.std.specs.declared.io.Error.{Error}
 use Rattle.std.proofs.lemmas.List.{nil_from_length, append-nil}
-use Rattle.counted_io.specs.Streams.{Reader, HasRead, HasFailed}
+use Rattle.counted_io.specs.Streams.{Reader, HasRead, HasFailed, has_ended}
 use Rattle.properties_format.specs.Encoding.{Encoding}
 use Rattle.properties_format.specs.ItemsToCome.{start}
 use Rattle.java_properties.specs.PropertiesIter.{PassesAll}
@@ -26,7 +26,7 @@ module _ {from to : Bor (List ℕ)} {bytes : List ℕ} where
   slice-read h = h.moved
 
   -- What was read to the end is all of it.
-  pub slice-whole : HasRead slice_reader from bytes to → slice_reader.at_end to ≡ true → bytes ≡ from.now
+  pub slice-whole : HasRead slice_reader from bytes to → has_ended slice_reader to ≡ true → bytes ≡ from.now
   slice-whole h ended =
       let empty : to.now ≡ [] = nil_from_length to.now (grind arith) in
       sym (append-nil bytes) ∙ ap (λ v. bytes ++ v) (sym empty) ∙ sym (slice-read h)

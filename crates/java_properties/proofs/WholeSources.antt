@@ -1,25 +1,26 @@
 -- A source whose reader failed, read again up to that fault.
-use Rattle.std.proofs.Common.{◌≡◌, ℕ, false, List, [], ◌++◌, refl, sym, ap, ◌∙◌, inl, inr, subst, append_assoc, append-nil}
-use Rattle.std.specs.Prelude.{◌⊎◌, if◌then◌else◌, Option, Some, Err, IfErr}
+use Rattle.std.proofs.Common.{◌≡◌, ◌≢◌, ℕ, false, List, [], ◌++◌, sym, ap, ◌∙◌, inl, inr, subst, append_assoc, append-nil}
+use Rattle.std.specs.Prelude.{if◌then◌else◌, Option, Some, Err, IfErr}
 use Rattle.std.specs.declared.io.Error.{Error}
 use Rattle.std.specs.Io.KnownBytes.{Keeps}
 use Rattle.counted_io.specs.Faults.{HasRisen}
-use Rattle.counted_io.specs.Streams.{Reader, HasRead, HasFailed}
-use Rattle.counted_io.proofs.Streams.{failed-more}
+use Rattle.counted_io.specs.Streams.{Reader, HasFailed}
 use Rattle.properties_format.specs.Encoding.{Encoding, InForce, byte_order_mark}
 use Rattle.properties_format.specs.Escapes.{Malformed, not_enough_digits, not_hex, invalid_character}
 use Rattle.properties_format.specs.Entries.{Entry}
 use Rattle.properties_format.specs.Lines as format
-use Rattle.properties_format.specs.Lines.{InputEnd, fault}
+use Rattle.properties_format.specs.Lines.{InputEnd}
 use Rattle.properties_format.specs.ItemsToCome.{ReaderState, start, in_force, AreLinesToCome}
 use Rattle.properties_lines.proofs.InputBuffer.{keeps-consumes}
-use Rattle.properties_items.specs.Errors.{cause_of, cause_by, IsError, IsMalformed}
+use Rattle.properties_items.specs.Errors.{kind_of, cause_of, cause_by, IsError, IsBareError, IsMalformed}
 use Rattle.java_properties.specs.PropertiesIter.{PassesAll}
 use Rattle.java_properties.specs.ReadLines.{entries_in, IsReading, StopsMalformed, StopsFailed, StopsEarly, StopsReading}
-use Rattle.java_properties.specs.WholeSources.{FailsInRead}
+use Rattle.java_properties.specs.WholeSources.{HasMalformedEscape, HasTooManyLines, IsCutShort, IsErrorAtFault}
 use Rattle.properties_items.specs.declared.error.Cause.{Cause}
 use Rattle.properties_items.specs.declared.error.ErrorKind.{ErrorKind}
+use Rattle.properties_items.specs.declared.error.ErrorKind.TheVariants as kind
 use Rattle.properties_items.specs.declared.error.PropertiesError.{PropertiesError}
+use Rattle.properties_items.specs.declared.line.Line.{Line}
 
 -- a read that failed
 pub fails-here : {R : Type 0} {reader : Reader R} {place to : R} (source : Error) → Keeps (reader.remaining place) (reader.remaining to)
@@ -93,70 +94,42 @@ module _ {B : Type 0} (left : B → List ℕ) (faults : B → ℕ) (identity : B
   divided : (b c : B) (bytes p d : List ℕ) → left b ≡ bytes → left b ≡ p ++ left c → p ++ (left c ++ d) ≡ bytes ++ d
   divided b c bytes p d whole moved = sym (append_assoc p (left c) d) ∙ ap (λ v. v ++ d) (sym moved ∙ whole)
 
-  module _ {R : Type 0} {reader : Reader R} {e : Encoding} {from place to : R} {source : Error} {error : PropertiesError} {entries : List Entry} {bytes : List ℕ} (b c : B)
-      (whole : left b ≡ bytes) (read : HasRead reader from bytes place) (failed : HasFailed reader place [] source to) where
-    again-malformed : StopsMalformed broken e b entries error c → StopsMalformed reader e from entries (caused_by source error) place
-    again-malformed h = record {
-      bytes = bytes;
+  module _ {e : Encoding} {error : PropertiesError} {bytes : List ℕ} (source : Error) (b c : B) (whole : left b ≡ bytes) where
+    again-malformed : (lines : List Line) → StopsMalformed broken e b (entries_in lines) error c → HasMalformedEscape e bytes (caused_by source error)
+    again-malformed lines h = record {
+      lines = lines;
       number = h.number;
       how = h.how;
-      read = read;
       is = malformed-by source h.how h.is;
       reading = elim h.reading [
-        | inl k ↦ inl (λ d ending. rw (← divided b c bytes h.bytes d whole h.read.moved) (k (left c ++ d) ending))
+        | inl k ↦ λ d ending. rw (← divided b c bytes h.bytes d whole h.read.moved) (k (left c ++ d) ending)
         | inr k ↦ let never = k.0 in absurd (cc)
       ];
     }
 
-    again-failed : StopsFailed broken e b entries error c → StopsFailed reader e from entries (caused_by source error) to
-    again-failed h =
+    again-failed : (lines : List Line) → StopsFailed broken e b (entries_in lines) error c → IsCutShort e bytes source (caused_by source error)
+    again-failed lines h =
         let all : h.bytes ≡ bytes = sym (append-nil h.bytes) ∙ ap (λ v. h.bytes ++ v) (sym h.failed.given.1) ∙ sym h.failed.moved ∙ whole in
-        record {
-          bytes = bytes;
-          cause = source;
-          number = h.number;
-          failed = rw append-nil at (failed-more read failed);
-          is = error-by source h.is;
-          reading = rw all at h.reading;
-        }
+        record { lines = lines; number = h.number; is = error-by source h.is; reading = rw all at h.reading }
 
-    again-early : StopsEarly broken e b entries error c → StopsEarly reader e from entries (caused_by source error) place
-    again-early h =
+    again-early : (lines : List Line) → kind_of error ≢ kind.Memory → StopsEarly broken e b (entries_in lines) error c → HasTooManyLines e bytes (caused_by source error)
+    again-early lines room h =
         let P : List ℕ → Type 0 = λ v. PassesAll (start e) v in
+        let few : IsBareError kind.TooManyLines error × PassesAll (start e) h.bytes = elim h.is [ inl k ↦ k | inr k ↦ absurd (room k.its_kind) ] in
         record {
-          bytes = bytes;
-          read = read;
-          is = elim h.is [
-            | inl k ↦ inl (error-by source k.0, subst P (sym h.read.moved ∙ whole) (all-more (left c) k.1))
-            | inr k ↦ inr (error-by source k)
-          ];
+          lines = lines;
+          is = error-by source few.0;
+          passes = subst P (sym h.read.moved ∙ whole) (all-more (left c) few.1);
           begins = elim h.begins [
-            | inl k ↦ inl (λ d ending. let began = k (left c ++ d) ending in
-                let Q : List ℕ → Type 0 = λ v. IsReading e v ending (entries ++ began.0) in (began.0, subst Q (divided b c bytes h.bytes d whole h.read.moved) began.1))
+            | inl k ↦ λ d ending. let began = k (left c ++ d) ending in
+                let Q : List ℕ → Type 0 = λ v. IsReading e v ending (entries_in lines ++ began.0) in (began.0, subst Q (divided b c bytes h.bytes d whole h.read.moved) began.1)
             | inr k ↦ let never = k.0 in absurd (cc)
           ];
         }
 
-  -- The error of the items of these bytes, up to a fault after them, is that of the fault.
-  pub fails-in-read : {R : Type 0} {reader : Reader R} {e : Encoding} {from place to : R} {source : Error} {error : PropertiesError} {bytes : List ℕ} (b c : B)
-      → left b ≡ bytes → HasRead reader from bytes place → HasFailed reader place [] source to → StopsReading broken e b error c
-      → FailsInRead reader e from (caused_by source error) to
-  fails-in-read {R} {reader} {e} {from} {place} {to} {source} {error} {bytes} b c whole read failed h = elim h.stops [
-    | inl k ↦ of place (inl (again-malformed b c whole read failed k)) (inr failed)
-    | inr j ↦ elim j [
-      | inl k ↦ of to (inr (inl (again-failed b c whole read failed k))) (inl refl)
-      | inr k ↦ of place (inr (inr (again-early b c whole read failed k))) (inr failed)
+    -- The error of the items of these bytes, up to a fault after them, is that of the fault.
+    pub error-at-fault : kind_of error ≢ kind.Memory → StopsReading broken e b error c → IsErrorAtFault e bytes source (caused_by source error)
+    error-at-fault room h = elim h.stops [
+      | inl k ↦ inl (again-malformed h.lines k)
+      | inr j ↦ inr (elim j [ inl k ↦ inr (inl (again-failed h.lines k)) | inr k ↦ inl (again-early h.lines room k) ])
     ]
-  ]
-    where
-      of : (p : R) → StopsMalformed reader e from (entries_in h.lines) (caused_by source error) p
-          ⊎ (StopsFailed reader e from (entries_in h.lines) (caused_by source error) p ⊎ StopsEarly reader e from (entries_in h.lines) (caused_by source error) p)
-          → (p ≡ to) ⊎ HasFailed reader p [] source to → FailsInRead reader e from (caused_by source error) to
-      of p stops before = record {
-        bytes = bytes;
-        cause = source;
-        failed = rw append-nil at (failed-more read failed);
-        place = p;
-        stops = record { lines = h.lines; stops = stops };
-        before = before;
-      }

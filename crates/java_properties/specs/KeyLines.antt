@@ -2,7 +2,7 @@
 -- of finding them. Source: java.util.Properties of Java SE 7, load.
 use Rattle.std.specs.Prelude.{◌≡◌, ◌≢◌, ◌⊎◌, ℕ, true, List, [], ◌∷◌, ◌++◌, map, Result, Ok, Err}
 use Rattle.std.specs.declared.vec.Vec.{Vec}
-use Rattle.counted_io.specs.Streams.{Reader, HasRead}
+use Rattle.counted_io.specs.Streams.{Reader, HasRead, has_ended}
 use Rattle.properties_format.specs.Encoding.{Encoding, IsDecoded}
 use Rattle.properties_format.specs.Lines.{end, Line, Lines, IsLines, numbered_lines}
 use Rattle.properties_format.specs.Groups.{IsGroups, joined, first_number}
@@ -92,7 +92,7 @@ key_line_entries lines = map key_line_entry lines
 pub record FindsAllKeys {R : Type 0} (reader : Reader R) (e : Encoding) (from : R) (found : List code.KeyLine) (to : R) : Type 0 where
   pub bytes : List ℕ
   pub read : HasRead reader from bytes to
-  pub ended : reader.at_end to ≡ true
+  pub ended : has_ended reader to ≡ true
   pub are : AreKeyLines e bytes (key_line_entries found)
   pub only : (others : List KeyEntry) → AreKeyLines e bytes others → others ≡ key_line_entries found
 

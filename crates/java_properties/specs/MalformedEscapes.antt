@@ -2,7 +2,7 @@
 use Rattle.std.specs.Prelude.{◌≡◌, ◌⊎◌, ℕ, true, List, [], ◌∷◌, ◌++◌, map, Option, Some, None, Result, Ok, Err}
 use Rattle.std.specs.declared.io.Error.{Error}
 use Rattle.std.specs.declared.vec.Vec.{Vec}
-use Rattle.counted_io.specs.Streams.{Reader, HasRead, HasFailed}
+use Rattle.counted_io.specs.Streams.{Reader, HasRead, HasFailed, has_ended}
 use Rattle.properties_format.specs.Encoding.{Encoding, IsDecoded}
 use Rattle.properties_format.specs.Lines.{fault, Line, Lines, IsLines, numbered_lines}
 use Rattle.properties_format.specs.Groups.{IsGroups}
@@ -27,7 +27,7 @@ pub record FindsAll {R : Type 0} (reader : Reader R) (e : Encoding) (from : R) (
   pub bytes : List ℕ
   pub escapes : List format.MalformedEscape
   pub read : HasRead reader from bytes to
-  pub ended : reader.at_end to ≡ true
+  pub ended : has_ended reader to ≡ true
   pub are : AreMalformedEscapes e bytes escapes
   pub only : (others : List format.MalformedEscape) → AreMalformedEscapes e bytes others → others ≡ escapes
   pub is : found ≡ escape_records escapes
@@ -66,7 +66,7 @@ pub record FindsFirst {R : Type 0} (reader : Reader R) (e : Encoding) (from : R)
   pub bytes : List ℕ
   pub escape : format.MalformedEscape
   pub read : HasRead reader from bytes to
-  pub begins : ((d : List ℕ) → BeginsEscapes e (bytes ++ d) escape) ⊎ (reader.at_end to ≡ true) × BeginsEscapes e bytes escape
+  pub begins : ((d : List ℕ) → BeginsEscapes e (bytes ++ d) escape) ⊎ (has_ended reader to ≡ true) × BeginsEscapes e bytes escape
   pub is : found ≡ escape_record escape
 
 -- The logical lines that end within these bytes have no malformed escape.

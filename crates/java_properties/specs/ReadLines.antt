@@ -2,7 +2,7 @@
 use Rattle.std.specs.Prelude.{◌≡◌, ◌⊎◌, ℕ, Bool, true, List, [], ◌∷◌, ◌++◌, map, Some, Result, Ok, Err}
 use Rattle.std.specs.declared.io.Error.{Error}
 use Rattle.std.specs.declared.vec.Vec.{Vec}
-use Rattle.counted_io.specs.Streams.{Reader, HasRead, HasFailed}
+use Rattle.counted_io.specs.Streams.{Reader, HasRead, HasFailed, has_ended}
 use Rattle.properties_format.specs.Encoding.{Encoding, IsDecoded}
 use Rattle.properties_format.specs.Lines.{InputEnd, end, fault, Lines, IsLines}
 use Rattle.properties_format.specs.Cut.{IsByline}
@@ -48,7 +48,7 @@ BeginsReading e bytes entries at_end =
 pub record ReadsWhole {R : Type 0} (reader : Reader R) (e : Encoding) (from : R) (entries : List Entry) (to : R) : Type 0 where
   pub bytes : List ℕ
   pub read : HasRead reader from bytes to
-  pub ended : reader.at_end to ≡ true
+  pub ended : has_ended reader to ≡ true
   pub reading : IsReading e bytes end entries
 
 -- After these items, an escape was malformed in the logical line that begins in the line with this number.
@@ -59,7 +59,7 @@ pub record StopsMalformed {R : Type 0} (reader : Reader R) (e : Encoding) (from 
   pub read : HasRead reader from bytes to
   pub is : IsMalformed how number error
   pub reading : ((d : List ℕ) (ending : InputEnd) → IsReading e (bytes ++ d) ending (entries ++ malformed how number ∷ []))
-      ⊎ (reader.at_end to ≡ true) × IsReading e bytes end (entries ++ malformed how number ∷ [])
+      ⊎ (has_ended reader to ≡ true) × IsReading e bytes end (entries ++ malformed how number ∷ [])
 
 -- After these items, a read failed in the line with this number, with the reader's own error.
 pub record StopsFailed {R : Type 0} (reader : Reader R) (e : Encoding) (from : R) (entries : List Entry) (error : PropertiesError) (to : R) : Type 0 where
@@ -76,7 +76,7 @@ pub record StopsEarly {R : Type 0} (reader : Reader R) (e : Encoding) (from : R)
   pub bytes : List ℕ
   pub read : HasRead reader from bytes to
   pub is : IsBareError kind.TooManyLines error × PassesAll (start e) bytes ⊎ IsBareError kind.Memory error
-  pub begins : BeginsReading e bytes entries (reader.at_end to)
+  pub begins : BeginsReading e bytes entries (has_ended reader to)
 
 -- The result of reading a whole input. Ok is returned only at the reader's own end.
 abbrev pub ReadsLines : {R Z : Type 0} → Reader R → Encoding → R → Result (Vec Line Z) Stopped → R → Type 0

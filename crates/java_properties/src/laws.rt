@@ -1,9 +1,10 @@
-//! The three laws of the format, the laws of its edits and a law of writers, for use in callers' proofs.
+//! The three laws of the format, the laws of its edits and conversions, and a law of writers, for use in callers'
+//! proofs.
 //!
 //! The functions do nothing: each states a law as its contract. The contracts of [`read_lines`](crate::read_lines) and
 //! [`run_calls`](crate::run_calls) state the same of a single run.
 
-ghost use Rattle.std.specs.Prelude.{ℕ, List};
+ghost use Rattle.std.specs.Prelude.{ℕ, Bool, List};
 ghost use Rattle.properties_format.specs.Encoding.{Encoding, IsPieces, IsDecoded};
 ghost use Rattle.properties_format.specs.Lines.{InputEnd, Line, IsLines};
 ghost use Rattle.properties_format.specs.Groups.{IsGroups};
@@ -13,6 +14,8 @@ ghost use Rattle.properties_format.specs.Settings.{Settings};
 ghost use Rattle.properties_format.specs.Writing.{Call};
 ghost use Rattle.properties_format.specs.Pairs.{Pair};
 ghost use Rattle.properties_format.specs.Laws.{HasOne, HasOneReading, ReadingInvertsWriting, EqualBytesOfEqualPairs, WritingAnewChangesNothing, MapIsReadBack, SplittingCommutes, LineEndsSeparatePieces};
+ghost use Rattle.properties_format.specs.Converting.{ConvertingKeepsItems, ConvertingKeepsLogicalLines, ConvertingKeepsEndings, ConvertsToOne, ConvertingGivesAscii};
+ghost use Rattle.properties_format.specs.Converting.{ConvertingTwiceIsConvertingOnce, ReadableAnyway, KeptIsItself, AsciiIsItself};
 ghost use Rattle.java_properties.specs.ReadBack.{IsGoodWriter};
 
 use crate::writer::PropertiesWriter;
@@ -83,4 +86,43 @@ pub fn settings_are_good<W>(writer: &PropertiesWriter<W>)
 pub fn splitting_commutes_with_decoding()
     ensures lines { (e : Encoding) (bytes : List ℕ) → SplittingCommutes e bytes }
     ensures parts { (e : Encoding) (before : List ℕ) (c : ℕ) (after : List ℕ) → LineEndsSeparatePieces e before c after }
+{}
+
+/// Converting keeps items, logical lines and line endings. The result of a conversion, read in its own encoding, has
+/// the items of the source: the same comments and pairs in lines with the same numbers.
+///
+/// Items end at a malformed escape, but the logical lines behind it are the same too. A malformed escape stays one in
+/// its line, and only the way in which it is malformed can change. The result has as many lines as the source, with the
+/// same line endings.
+///
+/// ```text
+/// laws::converting_keeps_items();
+/// // A proof that comes after may take what `convert` returned to have the items of the source.
+/// ```
+pub fn converting_keeps_items()
+    ensures items { (e to : Encoding) (only readable : Bool) (source : List ℕ) (ending : InputEnd) → ConvertingKeepsItems e to only readable source ending }
+    ensures lines { (e to : Encoding) (only readable : Bool) (source : List ℕ) (ending : InputEnd) → ConvertingKeepsLogicalLines e to only readable source ending }
+    ensures endings { (e to : Encoding) (only readable : Bool) (source : List ℕ) → ConvertingKeepsEndings e to only readable source }
+{}
+
+/// Each source has exactly one result. With ASCII as the target, every byte of it is ASCII, and it has the same items in
+/// windows-1252 and in UTF-8.
+///
+/// A second conversion of the same kind changes no byte. A source that is converted in any way and then made readable in
+/// UTF-8 gives what the source itself gives.
+///
+/// If spellings are kept, a conversion changes no byte of a well-formed source that is in the target's encoding and has
+/// no byte order mark, and none of an ASCII source.
+///
+/// ```text
+/// laws::converting_gives_one();
+/// // A proof that comes after may take a source that was converted twice to be one that was converted once.
+/// ```
+pub fn converting_gives_one()
+    ensures one { (e to : Encoding) (only readable : Bool) (source : List ℕ) → ConvertsToOne e to only readable source }
+    ensures ascii { (e to : Encoding) (readable : Bool) (source : List ℕ) → ConvertingGivesAscii e to readable source }
+    ensures twice { (e to : Encoding) (only readable : Bool) (source : List ℕ) → ConvertingTwiceIsConvertingOnce e to only readable source }
+    ensures anyway { (e to : Encoding) (only readable : Bool) (source : List ℕ) → ReadableAnyway e to only readable source }
+    ensures kept { (e : Encoding) (source : List ℕ) → KeptIsItself e source }
+    ensures kept_ascii { (e to : Encoding) (only : Bool) (source : List ℕ) → AsciiIsItself e to only source }
 {}

@@ -2,7 +2,7 @@
 //!
 //! [`PropertiesIter`] reads the comments and pairs of a file, each with its line number. [`PropertiesWriter`] writes
 //! comments and pairs. [`set_key`], [`set_value`], [`remove_key`], [`edit_all`] and [`Document`] edit the pairs of a
-//! file.
+//! file. [`convert`] changes its encoding.
 //!
 //! ```text
 //! for item in PropertiesIter::new(alloc, &mut input)? {
@@ -16,6 +16,7 @@
 //! ```
 #![tactic(auto)]
 
+mod converting;
 mod copy;
 mod iter;
 pub mod laws;
@@ -23,6 +24,7 @@ mod maps;
 mod streams;
 mod writer;
 
+pub use converting::convert;
 pub use copy::CopyError;
 pub use iter::{
     PropertiesIter, Stopped, first_malformed_escape, key_lines, malformed_escapes, read_lines,
@@ -37,6 +39,8 @@ pub use properties_items::error::{At, Cause, ErrorKind, PropertiesError, Reason}
 pub use properties_items::findings::{KeyLine, MalformedEscape};
 pub use properties_items::found::Found;
 pub use properties_items::line::{Line, LineContent, LineEnding};
+pub use properties_text::convert::Spelling;
 pub use properties_text::encoding::Encoding;
+pub use properties_text::print::Repertoire;
 pub use streams::{read_source, write_source};
 pub use writer::{Call, PropertiesWriter, run_calls};

@@ -6,14 +6,14 @@ ghost use Rattle.std.specs.Io.KnownBytes.{ReadConsumes};
 ghost use Rattle.counted_io.specs.Faults.{CountsFault, ShowsEnd};
 ghost use Rattle.counted_io.specs.Streams.{IsSameReader, IsSameSink};
 ghost use Rattle.properties_text.specs.Encoding.{encoding_of};
-ghost use Rattle.java_properties.specs.WholeSources.{ReadsAllItems, ReadsSource, WritesSource};
+ghost use Rattle.java_properties.specs.WholeSources.{IsErrorAtFault, ReadsAllItems, ReadsSource, WritesSource};
 
 use crate::iter::items::ItemReader;
 use counted_io::{CountedRead, CountedWrite, send};
-use properties_items::error::{PropertiesError, make};
+use properties_items::error::{ErrorKind, PropertiesError, make};
 use properties_text::encoding::Encoding;
 use std::alloc::{AllocError, Global};
-use std::io::{self, ErrorKind, Read};
+use std::io::{self, Read};
 
 // The maximum number of bytes in one read.
 const BLOCK: usize = 1 << 16;
@@ -21,7 +21,10 @@ const BLOCK: usize = 1 << 16;
 /// Reads to the end of a reader and returns all its bytes: the source of an edit.
 ///
 /// If a read fails, the error is the one that reading the items of this input would return: that of a malformed escape
-/// before the failure, or else the I/O error with its line number. The encoding is used only for this.
+/// before the failure, or else the I/O error with its line number. The encoding is used only for this. If memory runs
+/// out while the items are read for that, it is the I/O error without a line number. So an I/O error with a line number
+/// says that no logical line that ends before the failure has a malformed escape, and the kind `Memory` that no read
+/// failed.
 ///
 /// ```text
 /// let source = read_source(alloc, &mut input, Encoding::UTF_8)?;
@@ -62,17 +65,30 @@ fn read_through<R: CountedRead>(
         match reader.read_counted(block) {
             Ok(0) => return Ok(bytes),
             Ok(count) => bytes.extend_from_slice(&block[..count])?,
-            Err(fault) => {
-                let mut broken = Broken {
-                    left: &bytes,
-                    faults: 0,
-                };
-                return match read_all_items(alloc, &mut broken, encoding) {
-                    Ok(()) => unreachable!(),
-                    Err(error) => Err(make::caused_by(error, fault)),
-                };
-            }
+            Err(fault) => return Err(error_at_fault(alloc, &bytes, encoding, fault)),
         }
+    }
+}
+
+// The error of a read that failed after these bytes: the one at which reading their items stops.
+fn error_at_fault(
+    alloc: Global,
+    bytes: &[u8],
+    encoding: Encoding,
+    fault: io::Error,
+) -> PropertiesError
+    ensures { IsErrorAtFault (encoding_of encoding) bytes.now fault result }
+{
+    let mut broken = Broken {
+        left: bytes,
+        faults: 0,
+    };
+    match read_all_items(alloc, &mut broken, encoding) {
+        Ok(()) => unreachable!(),
+        Err(error) => match error.kind() {
+            ErrorKind::Memory => PropertiesError::from(fault),
+            _ => make::caused_by(error, fault),
+        },
     }
 }
 
@@ -113,7 +129,7 @@ impl Read for Broken<'_> {
     {
         if self.left.is_empty() {
             self.faults = self.faults.saturating_add(1);
-            return Err(io::Error::from(ErrorKind::Other));
+            return Err(io::Error::from(io::ErrorKind::Other));
         }
         self.left.read(buf)
     }

@@ -8,7 +8,7 @@ use properties_tools::propedit::asked::{Missing, Request};
 use properties_tools::propedit::in_place::{Target, edit_file};
 use std::fs::{self, File, Permissions};
 use std::io::{self, Read, Write};
-use std::os::unix::fs::{PermissionsExt, symlink};
+use std::os::unix::fs::{MetadataExt, PermissionsExt, symlink};
 use std::process::Abort;
 use std::test::Fail;
 
@@ -45,7 +45,7 @@ struct Outcome {
 // Puts these bytes into a file that was read.
 fn replace(rt: &HostRuntime, target: Target, path: &str, bytes: &[u8]) -> Result<Outcome, Fail> {
     let alloc = rt.alloc();
-    let said = match target.replace(rt, alloc, bytes) {
+    let said = match target.replace(rt, bytes) {
         Ok(()) => String::new(alloc),
         Err(error) => format!(in alloc; "{error}")?,
     };
@@ -129,6 +129,60 @@ fn check_changed(
 fn a_file_that_changed_meanwhile_stays(rt: HostRuntime) -> Result<(), Fail> {
     check_changed(&rt, &rt, 1, b"a=3", 0o644)?;
     check_changed(&rt, &rt, 2, b"a=1", 0o600)?;
+    Ok(())
+}
+
+const LARGE: &str = "large.properties";
+
+fn large(rt: &HostRuntime, size: usize, last: u8) -> Result<Vec<u8>, Fail> {
+    let mut bytes = Vec::new(rt.alloc());
+    bytes.resize(size, b'#')?;
+    bytes.push(last)?;
+    Ok(bytes)
+}
+
+// A file has so many bytes before this last one when it is read, and then so many. It is replaced if it is the same.
+fn check_large(
+    abort: &impl Abort,
+    rt: &HostRuntime,
+    row: usize,
+    (before, now, last): (usize, usize, u8),
+) -> Result<(), Fail> {
+    make(rt, LARGE, large(rt, before, b'#')?.as_slice())?;
+    set_mode(rt, LARGE, 0o644)?;
+    let target = Target::read(rt, rt.alloc(), LARGE, Missing::Refuse)?;
+    let bytes = large(rt, now, last)?;
+    File::create(rt, LARGE)?.write_all(bytes.as_slice())?;
+    let outcome = replace(rt, target, LARGE, b"a=2")?;
+    if before == now && last == b'#' {
+        check_outcome(abort, row, &outcome, "", b"a=2", 0o644);
+    } else {
+        let said = "changed while it was edited";
+        check_outcome(abort, row, &outcome, said, bytes.as_slice(), 0o644);
+    }
+    fs::remove_file(rt, LARGE)?;
+    Ok(())
+}
+
+const BLOCK: usize = 1 << 16;
+
+// What is compared ends before, at and after the end of a block.
+const SIZES: &[(usize, usize, u8)] = &[
+    (BLOCK - 1, BLOCK - 1, b'#'),
+    (BLOCK - 1, BLOCK, b'#'),
+    (BLOCK - 1, BLOCK - 1, b'!'),
+    (BLOCK, BLOCK - 1, b'#'),
+    (BLOCK, BLOCK, b'#'),
+    (BLOCK, BLOCK, b'!'),
+    (2 * BLOCK - 1, 2 * BLOCK - 1, b'#'),
+    (2 * BLOCK - 1, BLOCK - 1, b'#'),
+];
+
+#[test]
+fn a_large_file_is_compared_to_its_end(rt: HostRuntime) -> Result<(), Fail> {
+    for (number, row) in (1usize..).zip(SIZES) {
+        check_large(&rt, &rt, number, *row)?;
+    }
     Ok(())
 }
 
@@ -268,9 +322,9 @@ fn files_are_edited_whole_or_not_at_all(rt: HostRuntime) -> Result<(), Fail> {
     }
     let other = "edited.properties.propedit";
     make(&rt, other, b"of another")?;
-    check_edit(&rt, &rt, 7, HELD)?;
+    check_edit(&rt, &rt, 9, HELD)?;
     let now = content(&rt, other)?;
-    same(&rt, 7, Bytes(now.as_slice()), Bytes(b"of another"));
+    same(&rt, 9, Bytes(now.as_slice()), Bytes(b"of another"));
     fs::remove_file(&rt, other)?;
     Ok(())
 }
@@ -289,7 +343,25 @@ fn a_missing_file_is_made(rt: HostRuntime) -> Result<(), Fail> {
         let now = content(&rt, MADE)?;
         let found = (status, Bytes(errors.bytes()), Bytes(now.as_slice()));
         same(&rt, number, found, (0, Bytes(b""), Bytes(wanted)));
+        // It has no other name.
+        same(&rt, number, fs::metadata(&rt, MADE)?.nlink(), 1);
     }
     fs::remove_file(&rt, MADE)?;
+    Ok(())
+}
+
+const APPEARED: &str = "appeared.properties";
+
+#[test]
+fn a_file_that_another_program_made_meanwhile_stays(rt: HostRuntime) -> Result<(), Fail> {
+    let _ = fs::remove_file(&rt, APPEARED);
+    let target = Target::read(&rt, rt.alloc(), APPEARED, Missing::Create)?;
+    same(&rt, 1, Bytes(target.bytes()), Bytes(b""));
+    make(&rt, APPEARED, b"a=3")?;
+    set_mode(&rt, APPEARED, 0o644)?;
+    let outcome = replace(&rt, target, APPEARED, b"a=2")?;
+    let said = "was made by another program meanwhile";
+    check_outcome(&rt, 1, &outcome, said, b"a=3", 0o644);
+    fs::remove_file(&rt, APPEARED)?;
     Ok(())
 }

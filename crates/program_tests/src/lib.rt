@@ -4,6 +4,8 @@
 #![tactic(auto)]
 
 #[cfg(test)]
+mod converting;
+#[cfg(test)]
 mod filtering;
 #[cfg(test)]
 mod in_place;
@@ -17,3 +19,5 @@ mod runs;
 mod same;
 #[cfg(test)]
 mod streams;
+#[cfg(test)]
+mod words;

@@ -1,12 +1,12 @@
 // Runs of the program `propedit`.
 
-use crate::runs::{Program, Refusal, Row, SOUND, Streams, check_refusals, check_run, check_runs};
+use crate::runs::{Program, Row, SOUND, Streams, check_run, check_runs};
 use crate::same::{Bytes, same};
 use crate::streams::{AMPLE, OTHER, Plan, sink};
 use counted_io::{SinkFault, Tail};
 use java_properties::PropertiesError;
 use properties_tools::propedit::error::Failure;
-use properties_tools::propedit::{exit_status, print_not_utf_8, print_out_of_memory};
+use properties_tools::propedit::{exit_status, print_out_of_memory};
 use std::io::{self, ErrorKind};
 use std::test::Fail;
 
@@ -26,6 +26,11 @@ const GET: &[Row] = &[
         "",
     ),
     (&["-zdx", "get", "b"], b"a=1", 0, b"x\0", ""),
+    (&["-zd=x", "get", "b"], b"a=1", 0, b"x\0", ""),
+    (&["-d", "", "get", "b"], b"a=1", 0, b"\n", ""),
+    (&["--default=", "get", "b"], b"a=1", 0, b"\n", ""),
+    (&["-d", "--", "get", "b"], b"a=1", 0, b"--\n", ""),
+    (&["get", "a", "--"], b"a=1", 0, b"1\n", ""),
     (
         &["-e", " Latin1\n", "get", "a"],
         b"a=\xe9",
@@ -93,6 +98,8 @@ const KEYS: &[u8] = b"b.x = 1\n# b\n! c\nb.\\u0079 = 2\na=\nb.x = 3\nb";
 const LIST: &[Row] = &[
     (&["list"], b"a=1\nb=2\na = 3", 0, b"a\nb\n", ""),
     (&["list", "c"], b"a=1", 1, b"", ""),
+    (&["list", "--"], b"a=1", 0, b"a\n", ""),
+    (&["list", "--", "--"], b"--=1\na=2", 0, b"--\n", ""),
     (&["list", "--help"], b"--help=1\na=2", 0, b"--help\n", ""),
     (&["-z", "list", "a"], b"a=1", 0, b"a\0", ""),
     (&["-e", "utf-16le", "list"], b"a\0=\01\0", 0, b"a\n", ""),
@@ -137,7 +144,7 @@ const CHECK: &[Row] = &[
         b"# C:\\users\na=1\na=\xe9\nb=\\u12\nc=2\na=4",
         1,
         b"x:1: Malformed \\uxxxx encoding: not hex. (in a comment)\n\
-          x:3: not UTF-8\n\
+          x:3: not UTF-8; -e windows-1252 reads it\n\
           x:3: repeats the key of line 2\n\
           x:4: Malformed \\uxxxx encoding: not enough digits.\n\
           x:6: repeats the key of line 2\n",
@@ -156,12 +163,34 @@ const CHECK: &[Row] = &[
         &["-e", "windows-1252", "check"],
         b"\xef\xbb\xbfa=1\r\nb=caf\xe9\rc=\xc3\xa9\n\xc3\n\xa9",
         1,
-        b"standard input:2: not UTF-8\n\
+        b"standard input:2: not UTF-8, though a byte order mark says so\n\
           standard input:4: not UTF-8\n\
           standard input:5: not UTF-8\n",
         "",
     ),
     (&["check"], b"\xff\xfe\xe9\x00", 0, b"", ""),
+    // UTF-16 whose mark is missing. The first line with U+0000 is reported, with what helps, and each line that isn't
+    // UTF-8.
+    (
+        &["check"],
+        b"a=1\n\0\xe9\0=\0\n\0\xe8\0",
+        1,
+        b"standard input:2: U+0000; if this is UTF-16, -e utf-16le or -e utf-16be reads it\n\
+          standard input:2: not UTF-8\n\
+          standard input:3: not UTF-8\n",
+        "",
+    ),
+    (
+        &["-f", "x", "check"],
+        b"k\0\nk\0\n\0",
+        1,
+        b"x:1: U+0000; if this is UTF-16, -e utf-16le or -e utf-16be reads it\n\
+          x:2: repeats the key of line 1\n",
+        "",
+    ),
+    // After a mark it is a character like any other, and so it is in windows-1252.
+    (&["check"], b"\xef\xbb\xbfa=\0\n", 0, b"", ""),
+    (&["-e", "windows-1252", "check"], b"a=\0\n", 0, b"", ""),
     (
         &["-e", "windows-1252", "check"],
         b"# caf\xe9\na=1\nb=2",
@@ -286,6 +315,22 @@ const REFUSED: &[Row] = &[
         b"",
         "propedit: standard input:1: not UTF-8, though a byte order mark says so\n",
     ),
+    // What may be UTF-16 is refused first, even if an earlier line isn't UTF-8.
+    (
+        &["get", "k"],
+        b"k\0=\01\0\n\0",
+        2,
+        b"",
+        "propedit: standard input:1: U+0000; \
+         if this is UTF-16, -e utf-16le or -e utf-16be reads it\n",
+    ),
+    (
+        &["-f", "x", "set", "a", "1"],
+        b"\xe9\r\nb=\\\r\n\0",
+        2,
+        b"",
+        "propedit: x:3: U+0000; if this is UTF-16, -e utf-16le or -e utf-16be reads it\n",
+    ),
     // Lines that aren't UTF-8 are refused before malformed escapes.
     (
         &["list"],
@@ -350,14 +395,14 @@ const REFUSED: &[Row] = &[
         b"\xfe\xff\0a",
         2,
         b"",
-        "propedit: standard input: UTF-16 can be read but not edited; convert it first\n",
+        "propedit: standard input: UTF-16 can be read but not edited; propedit convert utf-8 converts it\n",
     ),
     (
         &["-e", "utf-16le", "set", "a", "1"],
         b"a\0",
         2,
         b"",
-        "propedit: standard input: UTF-16 can be read but not edited; convert it first\n",
+        "propedit: standard input: UTF-16 can be read but not edited; propedit convert utf-8 converts it\n",
     ),
 ];
 
@@ -371,6 +416,8 @@ fn sources_that_are_not_sound_are_refused(rt: HostRuntime) -> Result<(), Fail> {
 const FILES: &[Row] = &[
     (&["check", "x"], b"a=1", 3, b"", ""),
     (&["check", "x", "y", "x"], b"a=1", 3, b"", ""),
+    (&["check", "--", "-x"], b"a=1", 3, b"", ""),
+    (&["check", "-", "--", "--"], b"a=1", 3, b"", ""),
     (&["-i", "x", "remove", "a"], b"a=1", 3, b"", ""),
     (
         &["--in-place=x", "--create", "set", "a", "2"],
@@ -388,127 +435,13 @@ fn files_are_asked_for(rt: HostRuntime) -> Result<(), Fail> {
 }
 
 const THE_VERSION: &[Row] = &[
-    (&["--version"], b"", 0, b"propedit 1.6.0\n", ""),
-    (&["-i", "x", "-V"], b"", 0, b"propedit 1.6.0\n", ""),
+    (&["--version"], b"", 0, b"propedit 1.7.0\n", ""),
+    (&["-i", "x", "-V"], b"", 0, b"propedit 1.7.0\n", ""),
 ];
 
 #[test]
 fn the_version_is_printed(rt: HostRuntime) -> Result<(), Fail> {
     check_runs(&rt, rt.alloc(), Program::Propedit, THE_VERSION)?;
-    Ok(())
-}
-
-const OTHER_WORDS: &[Refusal] = &[
-    (
-        &[],
-        "error: 'propedit' requires a subcommand but one was not provided",
-    ),
-    (&["show", "a"], "error: unrecognized subcommand 'show'"),
-    (&["--", "check"], "error: unexpected argument 'check' found"),
-    (
-        &["get"],
-        "error: the following required arguments were not provided:",
-    ),
-    (&["get", "a", "b"], "error: unexpected argument 'b' found"),
-    (&["get", "a", "-z"], "error: unexpected argument '-z' found"),
-    (&["list", "a", "b"], "error: unexpected argument 'b' found"),
-    (&["check", "-q"], "error: unexpected argument '-q' found"),
-    (&["set", "a"], "error: the edit 'set a' lacks its <VALUE>"),
-    (&["set"], "error: the edit 'set' lacks its <KEY>"),
-    (&["remove"], "error: the edit 'remove' lacks its <KEY>"),
-    (
-        &["set", "a", "1", "remove"],
-        "error: the edit 'remove' lacks its <KEY>",
-    ),
-    (
-        &["set", "a", "1", "set", "b"],
-        "error: the edit 'set b' lacks its <VALUE>",
-    ),
-    (
-        &["set", "a", "1", "-i", "x"],
-        "error: unrecognized edit '-i': after an edit comes set or remove, and options come first",
-    ),
-    // Options that there are not, or without their value.
-    (&["-x", "check"], "error: unexpected argument '-x' found"),
-    (
-        &["--fil", "x", "check"],
-        "error: unexpected argument '--fil' found",
-    ),
-    (
-        &["-e", "latin-9", "check"],
-        "error: invalid value 'latin-9' for '--encoding <NAME>': no encoding has this label",
-    ),
-    (
-        &["-f"],
-        "error: a value is required for '--file <FILE>' but none was supplied",
-    ),
-    // Twice the same option.
-    (
-        &["-z", "-z", "list"],
-        "error: the argument '--null' cannot be used multiple times",
-    ),
-    (
-        &["-f", "x", "-i", "x", "set", "a", "1"],
-        "error: the argument '--file <FILE>' cannot be used with '--in-place <FILE>'",
-    ),
-    // Options that the command doesn't have.
-    (
-        &["-i", "x", "get", "a"],
-        "error: the argument '--in-place <FILE>' cannot be used with 'get'",
-    ),
-    (
-        &["-i", "x", "list"],
-        "error: the argument '--in-place <FILE>' cannot be used with 'list'",
-    ),
-    (
-        &["-i", "x", "check"],
-        "error: the argument '--in-place <FILE>' cannot be used with 'check'",
-    ),
-    (
-        &["-f", "x", "check", "y"],
-        "error: the argument '--file <FILE>' cannot be used with 'check <FILE>...'",
-    ),
-    (
-        &["-d", "x", "list"],
-        "error: the argument '--default <VALUE>' cannot be used with 'list'",
-    ),
-    (
-        &["-d", "x", "set", "a", "1"],
-        "error: the argument '--default <VALUE>' cannot be used with 'set'",
-    ),
-    (
-        &["-z", "check"],
-        "error: the argument '--null' cannot be used with 'check'",
-    ),
-    (
-        &["-z", "remove", "a"],
-        "error: the argument '--null' cannot be used with 'remove'",
-    ),
-    (
-        &["-a", "get", "a"],
-        "error: the argument '--ascii' cannot be used with 'get'",
-    ),
-    (
-        &["-a", "list"],
-        "error: the argument '--ascii' cannot be used with 'list'",
-    ),
-    (
-        &["-a", "check"],
-        "error: the argument '--ascii' cannot be used with 'check'",
-    ),
-    (
-        &["-a", "remove", "a"],
-        "error: the argument '--ascii' cannot be used with 'remove'",
-    ),
-    (
-        &["--create", "set", "a", "1"],
-        "error: the following required arguments were not provided:",
-    ),
-];
-
-#[test]
-fn other_words_are_named(rt: HostRuntime) -> Result<(), Fail> {
-    check_refusals(&rt, rt.alloc(), OTHER_WORDS)?;
     Ok(())
 }
 
@@ -690,8 +623,7 @@ fn streams_that_fail_are_named(rt: HostRuntime) -> Result<(), Fail> {
 }
 
 // What `main` prints if it has no arguments, no memory for them, or no file.
-const BEFORE_A_RUN: &[u8] = b"propedit: an argument is not UTF-8\n\
-    propedit: Out of memory.\n\
+const BEFORE_A_RUN: &[u8] = b"propedit: Out of memory.\n\
     propedit: app.properties: entity not found\n";
 
 #[test]
@@ -700,7 +632,6 @@ fn failures_before_a_run_are_printed(rt: HostRuntime) {
     let mut errors = sink(alloc, AMPLE);
     let absent = PropertiesError::from(io::Error::from(ErrorKind::NotFound));
     let statuses = (
-        print_not_utf_8(&mut errors),
         print_out_of_memory(&mut errors),
         exit_status(
             alloc,
@@ -711,5 +642,5 @@ fn failures_before_a_run_are_printed(rt: HostRuntime) {
         exit_status(alloc, &mut errors, "app.properties", Ok(1)),
     );
     let found = (statuses, Bytes(errors.bytes()));
-    same(&rt, 1, found, ((2, 2, 2, 1), Bytes(BEFORE_A_RUN)));
+    same(&rt, 1, found, ((2, 2, 1), Bytes(BEFORE_A_RUN)));
 }

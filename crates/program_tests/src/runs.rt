@@ -43,7 +43,7 @@ fn edit<R: CountedRead, W: CountedWrite, E: CountedWrite>(
     match asked_for(alloc, words) {
         Ok(Request::Work(work)) => Ok(propedit::run(alloc, &work, input, output, errors)),
         Ok(_) => Ok(FILES),
-        Err(error) => Ok(explain(alloc, &error, output, errors)),
+        Err(error) => Ok(explain(alloc, error, output, errors)),
     }
 }
 

@@ -1,13 +1,13 @@
-//! Reads, checks and edits the keys of a properties file.
+//! Reads, checks, edits and converts properties files.
 #![tactic(auto)]
 
 use counted_io::{Counted, CountedWrite};
-use propedit_arguments::{asked_for, explain};
+use propedit_arguments::{asked_for, explain, explain_not_utf_8};
 use properties_tools::arguments::words;
 use properties_tools::propedit::asked::{CheckedFiles, Command, Request, Source, Work};
 use properties_tools::propedit::error::Failure;
 use properties_tools::propedit::in_place::edit_file;
-use properties_tools::propedit::{exit_status, print_not_utf_8, print_out_of_memory, run};
+use properties_tools::propedit::{exit_status, print_out_of_memory, run};
 use std::alloc::Global;
 use std::env;
 use std::fs::File;
@@ -30,14 +30,14 @@ fn main(rt: HostRuntime) -> ExitCode {
 fn status<E: CountedWrite>(rt: &HostRuntime, errors: &mut E) -> io::Result<u8> {
     let alloc = rt.alloc();
     let Some(words) = words(alloc, env::args(rt))? else {
-        return Ok(print_not_utf_8(errors));
+        return Ok(explain_not_utf_8(rt, alloc, errors));
     };
     let mut output = Counted::new(BufWriter::with_capacity(alloc, BLOCK, rt.stdout())?);
     match asked_for(alloc, words.as_slice()) {
         Ok(Request::Work(work)) => Ok(do_work(rt, alloc, &work, &mut output, errors)),
         Ok(Request::CheckFiles(files)) => Ok(check_files(rt, alloc, files, &mut output, errors)),
         Ok(Request::EditFile(file)) => Ok(edit_file(rt, alloc, &file, errors)),
-        Err(error) => Ok(explain(alloc, &error, &mut output, errors)),
+        Err(error) => Ok(explain(alloc, error, &mut output, errors)),
     }
 }
 

@@ -1,4 +1,4 @@
-//! What the arguments of `propedit` ask for, parsed by `clap`.
+//! What the arguments of `propedit` ask for.
 //!
 //! [`asked_for`] makes a request of the words after the program's name, and [`explain`] prints why words ask for
 //! nothing:
@@ -6,15 +6,17 @@
 //! ```text
 //! match asked_for(alloc, &words) {
 //!     Ok(request) => answer(&request),
-//!     Err(error) => explain(alloc, &error, &mut output, &mut errors),
+//!     Err(error) => explain(alloc, error, &mut output, &mut errors),
 //! }
 //! ```
 #![tactic(auto)]
 
 mod command_line;
 mod edits;
-mod mistake;
+pub mod mistake;
+mod not_utf_8;
 mod options;
 pub mod request;
 
+pub use not_utf_8::explain_not_utf_8;
 pub use request::{asked_for, explain};

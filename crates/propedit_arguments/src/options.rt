@@ -1,112 +1,231 @@
 // The options before a command.
 
-use crate::mistake::Mistake;
-use clap::ArgMatches;
-use java_properties::Encoding;
+use crate::command_line::{CommandRow, OptionName, OptionRow, Usage, option_named, option_of};
+use crate::mistake::{Mistake, NoRequest};
+use java_properties::{Encoding, Spelling};
 use properties_tools::propedit::asked::{Command, Missing, Request, Source, TextEnd, Work};
 use std::alloc::Global;
 
-/// What the options choose for a command.
-#[derive(Clone, Copy)]
+/// The options that are given, each once.
+#[derive(Drop)]
 pub struct Options<'a> {
-    pub command: &'a str,
-    pub file: Option<&'a str>,
-    pub in_place: Option<&'a str>,
-    pub missing: Missing,
-    pub encoding: Encoding,
-    pub default: Option<&'a str>,
-    pub end: TextEnd,
-    pub ascii_only: bool,
+    given: Vec<Given<'a>>,
 }
 
-/// Returns the options before the command of this name.
+// An option, and its value, which is empty if it takes none.
+#[derive(Clone, Copy)]
+struct Given<'a> {
+    row: &'static OptionRow,
+    value: &'a str,
+}
+
+/// Returns the options that the words begin with, and the words after them.
+///
+/// An option that takes a value has what follows in its word, or else the whole next word, whatever that is.
 pub fn options_in<'a>(
-    command: &'a str,
-    matches: &ArgMatches<'a>,
-) -> Result<Options<'a>, Mistake<'a>> {
-    Ok(Options {
-        command,
-        file: matches.get_str("file"),
-        in_place: matches.get_str("in-place"),
-        missing: missing(matches),
-        encoding: encoding(matches)?,
-        default: matches.get_str("default"),
-        end: end(matches),
-        ascii_only: matches.get_flag("ascii"),
-    })
-}
-
-fn missing(matches: &ArgMatches<'_>) -> Missing {
-    if matches.get_flag("create") {
-        Missing::Create
-    } else {
-        Missing::Refuse
+    alloc: Global,
+    words: &'a [String],
+) -> Result<(Options<'a>, &'a [String]), NoRequest<'a>> {
+    let mut options = Options {
+        given: Vec::new(alloc),
+    };
+    let mut without_value = None;
+    for (at, word) in words.iter().enumerate() {
+        let word = word.as_str();
+        if let Some(row) = without_value {
+            options.add(row, word)?;
+            without_value = None;
+        } else if is_option(word) {
+            without_value = options.add_word(word)?;
+        } else {
+            return Ok((options, words.get(at..).unwrap_or(&[])));
+        }
+    }
+    match without_value {
+        Some(row) => Err(NoRequest::Wrong(Mistake::NoOptionValue(row))),
+        None => Ok((options, &[])),
     }
 }
 
-// Returns the encoding whose label is given, or UTF-8 if none is.
-fn encoding<'a>(matches: &ArgMatches<'a>) -> Result<Encoding, Mistake<'a>> {
-    match matches.get_str("encoding") {
-        Some(label) => match Encoding::for_label(label) {
-            Some(encoding) => Ok(encoding),
-            None => Err(Mistake::NoEncoding(label)),
-        },
-        None => Ok(Encoding::UTF_8),
-    }
-}
-
-fn end(matches: &ArgMatches<'_>) -> TextEnd {
-    if matches.get_flag("null") {
-        TextEnd::Zero
-    } else {
-        TextEnd::LineFeed
-    }
+/// Returns whether a word before the command is an option: it begins with a dash, and is neither `-` nor `--`.
+pub fn is_option(word: &str) -> bool {
+    word.starts_with('-') && word != "-" && word != "--"
 }
 
 impl<'a> Options<'a> {
-    /// Fails if a file to edit in place is given, for commands that don't edit.
-    pub fn refuse_in_place(&self) -> Result<(), Mistake<'a>> {
-        self.refuse(self.in_place.is_some(), "--in-place <FILE>")
+    // Adds the options of a word, and returns the last of them if its value is the next word.
+    fn add_word(&mut self, word: &'a str) -> Result<Option<&'static OptionRow>, NoRequest<'a>> {
+        match word.strip_prefix("--") {
+            Some(long) => self.add_long(long),
+            None => self.add_letters(word),
+        }
+    }
+
+    fn add_long(&mut self, long: &'a str) -> Result<Option<&'static OptionRow>, NoRequest<'a>> {
+        let (name, value) = match long.split_once('=') {
+            Some((name, value)) => (name, Some(value)),
+            None => (long, None),
+        };
+        let Some(row) = option_named(name) else {
+            return Err(NoRequest::Wrong(Mistake::UnknownOption(name)));
+        };
+        match value {
+            Some(value) if row.takes_value() => self.add(row, value)?,
+            Some(_) => return Err(NoRequest::Wrong(Mistake::OptionValue(row))),
+            None if row.takes_value() => return Ok(Some(row)),
+            None => self.add(row, "")?,
+        }
+        Ok(None)
+    }
+
+    fn add_letters(&mut self, word: &'a str) -> Result<Option<&'static OptionRow>, NoRequest<'a>> {
+        for (at, letter) in word.char_indices().skip(1) {
+            let Some(row) = option_of(letter) else {
+                return Err(NoRequest::Wrong(Mistake::UnknownLetter(word)));
+            };
+            if !row.takes_value() {
+                self.add(row, "")?;
+                continue;
+            }
+            let value = word.get(at.saturating_add(1)..).unwrap_or("");
+            if value.is_empty() {
+                return Ok(Some(row));
+            }
+            self.add(row, value.strip_prefix('=').unwrap_or(value))?;
+            return Ok(None);
+        }
+        Ok(None)
+    }
+
+    fn add(&mut self, row: &'static OptionRow, value: &'a str) -> Result<(), NoRequest<'a>> {
+        match row.option {
+            OptionName::Help => return Err(NoRequest::Help),
+            OptionName::Version => return Err(NoRequest::Version),
+            OptionName::File | OptionName::InPlace if value.is_empty() => {
+                return Err(NoRequest::Wrong(Mistake::NoOptionValue(row)));
+            }
+            _ => {}
+        }
+        if self.has(row.option) {
+            return Err(NoRequest::Wrong(Mistake::Twice(row)));
+        }
+        self.given.push(Given { row, value })?;
+        Ok(())
+    }
+
+    fn find(&self, option: OptionName) -> Option<Given<'a>> {
+        self.given
+            .iter()
+            .find(|given| given.row.option == option)
+            .copied()
+    }
+
+    fn has(&self, option: OptionName) -> bool {
+        self.find(option).is_some()
+    }
+
+    fn value(&self, option: OptionName) -> Option<&'a str> {
+        self.find(option).map(|given| given.value)
+    }
+
+    /// Fails if an option is given that the command has no use for, or two that can't be used together.
+    pub fn refuse_useless(&self, command: &'static CommandRow) -> Result<(), Mistake<'a>> {
+        for given in &self.given {
+            if !command.options.contains(&given.row.option) {
+                return Err(Mistake::NotWith(given.row, command));
+            }
+        }
+        if self.has(OptionName::File) && self.has(OptionName::InPlace) {
+            return Err(Mistake::TwoFiles("-i FILE", Usage::Of(command)));
+        }
+        if self.has(OptionName::Create) && !self.has(OptionName::InPlace) {
+            return Err(Mistake::NothingToCreate(command));
+        }
+        Ok(())
     }
 
     /// Fails if a file to read is given, for a check of files that are named after it.
-    pub fn refuse_file(&self) -> Result<(), Mistake<'a>> {
-        if self.file.is_some() {
-            return Err(Mistake::NotWith("--file <FILE>", "check <FILE>..."));
+    pub fn refuse_file(&self, command: &'static CommandRow) -> Result<(), Mistake<'a>> {
+        if self.has(OptionName::File) {
+            return Err(Mistake::TwoFiles("check FILE ..", Usage::Of(command)));
         }
         Ok(())
     }
 
-    /// Fails if a default is given, for commands that print no value.
-    pub fn refuse_default(&self) -> Result<(), Mistake<'a>> {
-        self.refuse(self.default.is_some(), "--default <VALUE>")
-    }
-
-    /// Fails if a zero byte is asked for after each text, for commands that print neither values nor keys.
-    pub fn refuse_zero(&self) -> Result<(), Mistake<'a>> {
-        self.refuse(self.end == TextEnd::Zero, "--null")
-    }
-
-    /// Fails if ASCII alone is asked for, for commands that put in no text.
-    pub fn refuse_ascii(&self) -> Result<(), Mistake<'a>> {
-        self.refuse(self.ascii_only, "--ascii")
-    }
-
-    fn refuse(&self, is_given: bool, option: &'static str) -> Result<(), Mistake<'a>> {
-        if is_given {
-            return Err(Mistake::NotWith(option, self.command));
+    /// Fails if ASCII-only text is asked for, for edits that put in none.
+    pub fn refuse_ascii(&self, command: &'static CommandRow) -> Result<(), Mistake<'a>> {
+        match self.find(OptionName::Ascii) {
+            Some(given) => Err(Mistake::NotWith(given.row, command)),
+            None => Ok(()),
         }
-        Ok(())
+    }
+
+    /// Returns the encoding whose label is given, or UTF-8 if none is.
+    pub fn encoding(&self, command: &'static CommandRow) -> Result<Encoding, Mistake<'a>> {
+        match self.value(OptionName::Encoding) {
+            Some(label) => match Encoding::for_label(label) {
+                Some(encoding) => Ok(encoding),
+                None => Err(Mistake::NoEncoding(label, command)),
+            },
+            None => Ok(Encoding::UTF_8),
+        }
+    }
+
+    /// Returns the FILE of `-i`, if it is given.
+    pub fn in_place(&self) -> Option<&'a str> {
+        self.value(OptionName::InPlace)
+    }
+
+    /// Returns what is done if that FILE is missing. With `--create` it is made.
+    pub fn missing(&self) -> Missing {
+        if self.has(OptionName::Create) {
+            Missing::Create
+        } else {
+            Missing::Refuse
+        }
+    }
+
+    /// Returns the VALUE of `-d`, if it is given.
+    pub fn default(&self) -> Option<&'a str> {
+        self.value(OptionName::Default)
+    }
+
+    /// Returns what ends each text that is printed. With `-z` it is a zero byte.
+    pub fn end(&self) -> TextEnd {
+        if self.has(OptionName::Null) {
+            TextEnd::Zero
+        } else {
+            TextEnd::LineFeed
+        }
+    }
+
+    /// Returns how a conversion spells characters. With `-r` it is readable.
+    pub fn spelling(&self) -> Spelling {
+        if self.has(OptionName::Readable) {
+            Spelling::Readable
+        } else {
+            Spelling::Kept
+        }
+    }
+
+    /// Returns whether `-a` is given: edits put in ASCII-only text.
+    pub fn ascii_only(&self) -> bool {
+        self.has(OptionName::Ascii)
     }
 
     /// Returns the request for a command over the source that the options name.
-    pub fn work(&self, alloc: Global, command: Command) -> Result<Request, Mistake<'a>> {
-        let source = match self.file {
+    pub fn work(
+        &self,
+        alloc: Global,
+        row: &'static CommandRow,
+        command: Command,
+    ) -> Result<Request, Mistake<'a>> {
+        let source = match self.value(OptionName::File) {
             Some(path) => Source::File(String::from_str(alloc, path)?),
             None => Source::StandardInput,
         };
         Ok(Request::Work(Work {
-            encoding: self.encoding,
+            encoding: self.encoding(row)?,
             source,
             command,
         }))

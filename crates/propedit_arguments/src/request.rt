@@ -1,16 +1,17 @@
 // What words ask for, and what is printed of words that ask for nothing.
 
+ghost use Rattle.std.specs.Prelude.{◌≡◌};
 ghost use Rattle.counted_io.specs.Streams.{IsSameSink};
 
-use crate::command_line::command_line;
+use crate::command_line::{CommandName, CommandRow, Help, Version, command_named, target_named};
 use crate::edits::edits_in;
-use crate::mistake::Mistake;
-use crate::options::{Options, options_in};
-use clap::error::ErrorKind;
-use clap::{ArgMatches, Error};
+use crate::mistake::{Mistake, NoRequest};
+use crate::options::{Options, is_option, options_in};
 use counted_io::CountedWrite;
 use java_properties::Edit;
-use properties_tools::propedit::asked::{CheckedFiles, Command, Edits, FileEdits, Request};
+use properties_tools::propedit::asked::{
+    Change, CheckedFiles, Command, Conversion, Edits, FileChange, Request,
+};
 use properties_tools::propedit::{print_out_of_memory, print_text, print_usage_error};
 use std::alloc::{AllocError, Global};
 
@@ -21,157 +22,191 @@ use std::alloc::{AllocError, Global};
 /// ```text
 /// match asked_for(alloc, &words) {
 ///     Ok(request) => answer(&request),
-///     Err(error) => explain(alloc, &error, &mut output, &mut errors),
+///     Err(error) => explain(alloc, error, &mut output, &mut errors),
 /// }
 /// ```
-pub fn asked_for(alloc: Global, words: &[String]) -> Result<Request, Error> {
-    let mut command = command_line(alloc)?;
-    let matches = command.try_get_matches_from_mut(words)?;
-    match requested(alloc, words, &matches) {
-        Ok(request) => Ok(request),
-        Err(mistake) => {
-            let text = format!(in alloc; "{mistake}")?;
-            Err(command.error(mistake.kind(), text.as_str())?)
+pub fn asked_for<'a>(alloc: Global, words: &'a [String]) -> Result<Request, NoRequest<'a>> {
+    let (options, words) = options_in(alloc, words)?;
+    let [name, rest @ ..] = words else {
+        return Err(NoRequest::Wrong(Mistake::NoCommand));
+    };
+    let Some(row) = command_named(name.as_str()) else {
+        return Err(NoRequest::Wrong(unknown(name.as_str(), rest)));
+    };
+    if row.takes_plain_words() && asks_for_help(rest) {
+        return Err(NoRequest::Help);
+    }
+    options.refuse_useless(row)?;
+    match row.command {
+        CommandName::Get => Ok(get(alloc, row, &options, rest)?),
+        CommandName::List => Ok(list(alloc, row, &options, rest)?),
+        CommandName::Check => Ok(check(alloc, row, &options, rest)?),
+        CommandName::Set | CommandName::Remove => {
+            Ok(edit(alloc, row, &options, edits_in(alloc, words)?)?)
         }
+        CommandName::Convert => Ok(convert(alloc, row, &options, rest)?),
     }
 }
 
-/// Prints what the parser of the arguments has to say, and returns the exit status: help and the version on `output`,
-/// and a mistake in the arguments on `errors`, with status 2. What can't be printed on `errors` is dropped.
+/// Prints why words ask for nothing, and returns the exit status: help and the version on `output`, and a mistake, with
+/// the usage, on `errors`, with status 2. What can't be printed on `errors` is dropped.
 ///
 /// ```text
 /// if let Err(error) = asked_for(alloc, &words) {
-///     return explain(alloc, &error, &mut output, &mut errors);
+///     return explain(alloc, error, &mut output, &mut errors);
 /// }
 /// ```
 pub fn explain<W: CountedWrite, E: CountedWrite>(
     alloc: Global,
-    error: &Error,
+    error: NoRequest<'_>,
     output: &mut W,
     errors: &mut E,
 ) -> u8
     ensures same_sink { IsSameSink W.CountedWrite output.old output.new }
     ensures same_error_sink { IsSameSink E.CountedWrite errors.old errors.new }
 {
-    if error.kind() == ErrorKind::OutOfMemory {
-        return print_out_of_memory(errors);
-    }
-    match format!(in alloc; "{error}") {
-        Ok(text) if error.use_stderr() => print_usage_error(errors, text.as_str()),
+    let text = match error {
+        NoRequest::Help => format!(in alloc; "{Help}"),
+        NoRequest::Version => format!(in alloc; "{Version}"),
+        NoRequest::Wrong(mistake) => return explain_mistake(alloc, mistake, errors),
+    };
+    match text {
         Ok(text) => print_text(alloc, text.as_str(), output, errors),
         Err(_) => print_out_of_memory(errors),
     }
 }
 
-// Returns what words ask for that the command line allows.
-fn requested<'a>(
-    alloc: Global,
-    words: &'a [String],
-    matches: &ArgMatches<'a>,
-) -> Result<Request, Mistake<'a>> {
-    let Some((command, rest)) = matches.subcommand() else {
-        return Err(Mistake::NoCommand);
-    };
-    let options = options_in(command, matches)?;
-    match command {
-        "get" => get(alloc, &options, rest),
-        "list" => list(alloc, &options, rest),
-        "check" => check(alloc, &options, rest),
-        _ => change(
-            alloc,
-            &options,
-            edits_in(alloc, words_of_edits(words, rest))?,
-        ),
+/// Prints on `errors` what is wrong with words, and the usage, and returns the status of wrong arguments, 2.
+pub fn explain_mistake<E: CountedWrite>(alloc: Global, mistake: Mistake<'_>, errors: &mut E) -> u8
+    ensures status { result ≡ 2 }
+    ensures same_error_sink { IsSameSink E.CountedWrite errors.old errors.new }
+{
+    if let Mistake::Memory = mistake {
+        return print_out_of_memory(errors);
+    }
+    let usage = mistake.usage();
+    match format!(in alloc;
+        "propedit: {mistake}\n\n{usage}For more information, try 'propedit --help'.\n"
+    ) {
+        Ok(text) => print_usage_error(errors, text.as_str()),
+        Err(_) => print_out_of_memory(errors),
     }
 }
 
-// Returns the words from the first edit on. The parser drops a `--` after the command, which here is a word like any
-// other.
-fn words_of_edits<'a>(words: &'a [String], edits: &ArgMatches<'a>) -> &'a [String] {
-    let others = match edits.get_strs("WORD") {
-        Some(others) => others.len(),
-        None => 0,
+// Returns what is wrong with a word in the place of a command, before these words.
+fn unknown<'a>(name: &'a str, rest: &'a [String]) -> Mistake<'a> {
+    let next = match rest {
+        [next, ..] => command_named(next.as_str()),
+        [] => None,
     };
-    let before = words
-        .get(..words.len().saturating_sub(others))
-        .unwrap_or(words);
-    let start = match before {
-        [first @ .., _, last] if last.as_str() == "--" => first.len(),
-        [first @ .., _] => first.len(),
-        [] => 0,
-    };
-    words.get(start..).unwrap_or(words)
+    Mistake::UnknownCommand(name, next)
+}
+
+fn asks_for_help(words: &[String]) -> bool {
+    words
+        .iter()
+        .take_while(|word| word.as_str() != "--")
+        .any(|word| word.as_str() == "--help" || word.as_str() == "-h")
 }
 
 fn get<'a>(
     alloc: Global,
+    row: &'static CommandRow,
     options: &Options<'a>,
-    words: &ArgMatches<'a>,
+    words: &'a [String],
 ) -> Result<Request, Mistake<'a>> {
-    options.refuse_in_place()?;
-    options.refuse_ascii()?;
-    let key = owned(alloc, words.get_str("KEY"))?;
-    let default = match options.default {
+    let Some(key) = only_word(row, words)? else {
+        return Err(Mistake::NoWord(row));
+    };
+    let key = String::from_str(alloc, key)?;
+    let default = match options.default() {
         Some(value) => Some(String::from_str(alloc, value)?),
         None => None,
     };
-    options.work(alloc, Command::Get(key, default, options.end))
+    options.work(alloc, row, Command::Get(key, default, options.end()))
 }
 
 fn list<'a>(
     alloc: Global,
+    row: &'static CommandRow,
     options: &Options<'a>,
-    words: &ArgMatches<'a>,
+    words: &'a [String],
 ) -> Result<Request, Mistake<'a>> {
-    options.refuse_in_place()?;
-    options.refuse_default()?;
-    options.refuse_ascii()?;
-    let prefix = owned(alloc, words.get_str("PREFIX"))?;
-    options.work(alloc, Command::List(prefix, options.end))
+    let prefix = String::from_str(alloc, only_word(row, words)?.unwrap_or(""))?;
+    options.work(alloc, row, Command::List(prefix, options.end()))
+}
+
+// Returns the word after a command that takes one at most. A first `--` is dropped.
+fn only_word<'a>(
+    row: &'static CommandRow,
+    words: &'a [String],
+) -> Result<Option<&'a str>, Mistake<'a>> {
+    let mut found = None;
+    let mut dashes = false;
+    for word in words {
+        let word = word.as_str();
+        if word == "--" && !dashes {
+            dashes = true;
+            continue;
+        }
+        let Some(first) = found else {
+            found = Some(word);
+            continue;
+        };
+        if is_option(first) {
+            return Err(Mistake::OptionAfter(first, row));
+        }
+        return Err(if is_option(word) {
+            Mistake::OptionAfter(word, row)
+        } else {
+            Mistake::Surplus(word, row)
+        });
+    }
+    Ok(found)
 }
 
 fn check<'a>(
     alloc: Global,
+    row: &'static CommandRow,
     options: &Options<'a>,
-    words: &ArgMatches<'a>,
+    words: &'a [String],
 ) -> Result<Request, Mistake<'a>> {
-    options.refuse_in_place()?;
-    options.refuse_default()?;
-    options.refuse_zero()?;
-    options.refuse_ascii()?;
-    let Some(names) = words.get_strs("FILE") else {
-        return options.work(alloc, Command::Check);
-    };
-    options.refuse_file()?;
+    let mut paths = Vec::new(alloc);
+    let mut dashes = false;
+    for word in words {
+        let word = word.as_str();
+        if !dashes && word == "--" {
+            dashes = true;
+        } else if !dashes && is_option(word) {
+            return Err(Mistake::OptionAfter(word, row));
+        } else {
+            paths.push(String::from_str(alloc, word)?)?;
+        }
+    }
+    if paths.is_empty() {
+        return options.work(alloc, row, Command::Check);
+    }
+    options.refuse_file(row)?;
     Ok(Request::CheckFiles(CheckedFiles {
-        encoding: options.encoding,
-        paths: paths(alloc, names)?,
+        encoding: options.encoding(row)?,
+        paths,
     }))
 }
 
-fn change<'a>(
+fn edit<'a>(
     alloc: Global,
+    row: &'static CommandRow,
     options: &Options<'a>,
     list: Vec<Edit>,
 ) -> Result<Request, Mistake<'a>> {
-    options.refuse_default()?;
-    options.refuse_zero()?;
     if !list.iter().any(sets_value) {
-        options.refuse_ascii()?;
+        options.refuse_ascii(row)?;
     }
     let edits = Edits {
         list,
-        ascii_only: options.ascii_only,
+        ascii_only: options.ascii_only(),
     };
-    let Some(path) = options.in_place else {
-        return options.work(alloc, Command::Change(edits));
-    };
-    Ok(Request::EditFile(FileEdits {
-        path: String::from_str(alloc, path)?,
-        encoding: options.encoding,
-        edits,
-        missing: options.missing,
-    }))
+    change(alloc, row, options, Change::Edits(edits))
 }
 
 fn sets_value(edit: &Edit) -> bool {
@@ -181,18 +216,42 @@ fn sets_value(edit: &Edit) -> bool {
     }
 }
 
-fn paths(alloc: Global, names: &[&str]) -> Result<Vec<String>, AllocError> {
-    let mut paths = Vec::new(alloc);
-    for name in names {
-        paths.push(String::from_str(alloc, name)?)?;
+fn convert<'a>(
+    alloc: Global,
+    row: &'static CommandRow,
+    options: &Options<'a>,
+    words: &'a [String],
+) -> Result<Request, Mistake<'a>> {
+    let Some(word) = only_word(row, words)? else {
+        return Err(Mistake::NoWord(row));
+    };
+    if is_option(word) {
+        return Err(Mistake::OptionAfter(word, row));
     }
-    Ok(paths)
+    let Some(target) = target_named(word) else {
+        return Err(Mistake::NoTarget(word, row));
+    };
+    let conversion = Conversion {
+        target,
+        spelling: options.spelling(),
+    };
+    change(alloc, row, options, Change::Conversion(conversion))
 }
 
-// Returns a copy of a word, or the empty text if there is none.
-fn owned(alloc: Global, word: Option<&str>) -> Result<String, AllocError> {
-    match word {
-        Some(word) => String::from_str(alloc, word),
-        None => Ok(String::new(alloc)),
-    }
+// Returns the request for a change of the source that the options name, or of the file to change in place.
+fn change<'a>(
+    alloc: Global,
+    row: &'static CommandRow,
+    options: &Options<'a>,
+    change: Change,
+) -> Result<Request, Mistake<'a>> {
+    let Some(path) = options.in_place() else {
+        return options.work(alloc, row, Command::Change(change));
+    };
+    Ok(Request::EditFile(FileChange {
+        path: String::from_str(alloc, path)?,
+        encoding: options.encoding(row)?,
+        change,
+        missing: options.missing(),
+    }))
 }

@@ -8,5 +8,6 @@ pub mod PackedFindings
 pub mod PackedLists
 pub mod Reading
 pub mod Editing
+pub mod Converting
 pub mod Writing
 pub mod Private

@@ -12,6 +12,7 @@
 //! What is in `out` past `length` stays as it was. A parameter of the type `Global` takes no place in a call from C.
 #![tactic(auto)]
 
+pub mod convert;
 mod crossing;
 pub mod edit;
 mod encoding;

@@ -132,7 +132,7 @@ comes-before key other n (Some x ∷ slots) i j is js p q low = elim (first-step
 ]
 
 -- What is in a place is within the places.
-some-inside : {X : Type 0} (xs : List (Option X)) (i : ℕ) (x : X) → get_or xs i None ≡ Some x → i < length xs
+pub some-inside : {X : Type 0} (xs : List (Option X)) (i : ℕ) (x : X) → get_or xs i None ≡ Some x → i < length xs
 some-inside [] i x h = absurd (cc)
 some-inside (o ∷ xs) zero x h = omega arith
 some-inside (o ∷ xs) (suc i) x h = let low = some-inside xs i x h in omega arith

@@ -99,6 +99,18 @@ pub part-at : (before : List (Option PairAt)) (p : PairAt) (after : List (Option
 part-at [] p after = refl
 part-at (o ∷ before) p after = part-at before p after
 
+-- The first pair with its key, among the places: it is in this one, and these are the other places of the key.
+pub record IsFirstPlaced (places : List ℕ → List ℕ) (spans : List (Option BodySpan)) (front : List PairAt) (p : PairAt) (back : List PairAt) (place : ℕ) (others : List ℕ) : Type 0 where
+  pub before : List (Option PairAt)
+  pub after : List (Option PairAt)
+  pub parts : spans ≡ map part_of (before ++ Some p ∷ after)
+  pub is_front : live before ≡ front
+  pub is_back : live after ≡ back
+  pub nothing : places_with p.key 0 before ≡ []
+  pub place_is : place ≡ 0 + length before
+  pub at : (k : List ℕ) → places k ≡ places_with k 0 before ++ place_if (bytes_eq p.key k) place (places_with k (suc place) after)
+  pub rest : others ≡ places_with p.key (suc place) after
+
 -- ---- changes
 
 module _ {ps : List PairAt} {places : List ℕ → List ℕ} {values : List ℕ → Option (List ℕ)} {spans : List (Option BodySpan)}
@@ -114,6 +126,32 @@ module _ {ps : List PairAt} {places : List ℕ → List ℕ} {values : List ℕ 
     are_places = λ k. is k ∙ h.are_places k;
     are_values = λ k. was k ∙ h.are_values k ∙ ap (last_value k) (sym pairs);
   }
+
+  pub listed-first : (front : List PairAt) (p : PairAt) (back : List PairAt) (place : ℕ) (others : List ℕ) → ps ≡ front ++ p ∷ back → NoneWith p.key front
+      → places p.key ≡ place ∷ others → IsFirstPlaced places spans front p back place others
+  listed-first front p back place others are none own =
+      let s = divided h.slots front p back (h.are_pairs ∙ are) in
+      let first = 0 + length s.before in
+      let at : (k : List ℕ) → places k ≡ places_with k 0 s.before ++ place_if (bytes_eq p.key k) first (places_with k (suc first) s.after) = λ k.
+      h.are_places k ∙ ap (places_with k 0) s.division ∙ places-append k 0 s.before (Some p ∷ s.after) in
+      let nothing : places_with p.key 0 s.before ≡ [] = none-places p.key 0 s.before (rw s.is_front none) in
+      let mine : place ∷ others ≡ first ∷ places_with p.key (suc first) s.after =
+      sym own ∙ at p.key
+      ∙ ap₂ (λ v b. v ++ place_if b first (places_with p.key (suc first) s.after)) nothing ((bytes_eq-Decides p.key p.key).1 refl) in
+      let place_is : place ≡ first = cc in
+      let others_are : others ≡ places_with p.key (suc first) s.after = cc in
+      record {
+        before = s.before;
+        after = s.after;
+        parts = h.are_spans ∙ ap (map part_of) s.division;
+        is_front = s.is_front;
+        is_back = s.is_back;
+        nothing = nothing;
+        place_is = place_is;
+        at = λ k. at k
+            ∙ ap (λ n. places_with k 0 s.before ++ place_if (bytes_eq p.key k) n (places_with k (suc n) s.after)) (sym place_is);
+        rest = others_are ∙ ap (λ n. places_with p.key (suc n) s.after) (sym place_is);
+      }
 
   -- There is a place more that is empty.
   pub listed-empty : IsListed ps places values (spans ++ None ∷ [])
@@ -274,45 +312,35 @@ module _ {ps : List PairAt} {places : List ℕ → List ℕ} {values : List ℕ 
       × IsListed (new_front ++ new_back) (changed_at places p.key others)
       (changed_at values p.key (last_value p.key (new_front ++ new_back))) (map (option_and_then f) spans)
   listed-cut front new_front p back new_back place others are none gone front_shift back_shift own =
-      let s = divided h.slots front p back (h.are_pairs ∙ are) in
+      let s = listed-first h front p back place others are none own in
       let m = shifted-slots f s.before new_front (ap (map (moved f)) s.is_front ∙ front_shift) in
       let n = shifted-slots f s.after new_back (ap (map (moved f)) s.is_back ∙ back_shift) in
       let c = map (option_and_then (moved f)) s.before in
       let d = map (option_and_then (moved f)) s.after in
-      let first = 0 + length s.before in
-      let parts : spans ≡ map part_of (s.before ++ Some p ∷ s.after) = h.are_spans ∙ ap (map part_of) s.division in
-      let at : (k : List ℕ) → places k ≡ places_with k 0 s.before ++ place_if (bytes_eq p.key k) first (places_with k (suc first) s.after) = λ k.
-      h.are_places k ∙ ap (places_with k 0) s.division ∙ places-append k 0 s.before (Some p ∷ s.after) in
-      let nothing : places_with p.key 0 s.before ≡ [] = none-places p.key 0 s.before (rw s.is_front none) in
-      let mine : place ∷ others ≡ first ∷ places_with p.key (suc first) s.after =
-      sym own ∙ at p.key
-      ∙ ap₂ (λ v b. v ++ place_if b first (places_with p.key (suc first) s.after)) nothing ((bytes_eq-Decides p.key p.key).1 refl) in
-      let size : first ≡ length s.before = omega arith in
-      let place_is : place ≡ length s.before = cc in
-      let all : (k : List ℕ) → places_with k 0 s.before ++ places_with k (suc first) s.after ≡ places_with k 0 (c ++ None ∷ d) = λ k.
-      ap₂ (λ v w. v ++ w) (m.places k 0)
-      (n.places k (suc first) ∙ ap (λ i. places_with k (suc (0 + i)) d) (sym (length-map s.before (option_and_then (moved f)))))
+      let size : length s.before ≡ place = let at = s.place_is in omega arith in
+      let place_is : place ≡ 0 + length c = s.place_is ∙ ap (λ i. 0 + i) (sym (length-map s.before (option_and_then (moved f)))) in
+      let all : (k : List ℕ) → places_with k 0 s.before ++ places_with k (suc place) s.after ≡ places_with k 0 (c ++ None ∷ d) = λ k.
+      ap₂ (λ v w. v ++ w) (m.places k 0) (n.places k (suc place) ∙ ap (λ i. places_with k (suc i) d) place_is)
       ∙ sym (places-append k 0 c (None ∷ d)) in (
-        ap₂ span_at parts place_is ∙ part-at s.before p s.after,
+        ap₂ span_at s.parts (sym size) ∙ part-at s.before p s.after,
         record {
           slots = c ++ None ∷ d;
           are_pairs = live-append c (None ∷ d) ∙ ap₂ (λ v w. v ++ w) m.are n.are;
-          are_spans = ap (map (option_and_then f)) (parts ∙ map-append part_of s.before (Some p ∷ s.after))
+          are_spans = ap (map (option_and_then f)) (s.parts ∙ map-append part_of s.before (Some p ∷ s.after))
               ∙ map-append (option_and_then f) (map part_of s.before) (map part_of (Some p ∷ s.after))
               ∙ ap₂ (λ v w. v ++ w) m.parts (ap₂ (λ v w. v ∷ w) gone n.parts)
               ∙ sym (map-append part_of c (None ∷ d));
           are_places = λ k. elim (cases_Bool (bytes_eq p.key k)) [
             | inl b ↦
-                let rest : others ≡ places_with p.key (suc first) s.after = cc in
                 cond-true (bytes_eq p.key k) others (places k) b
-                ∙ rest
-                ∙ ap (λ v. v ++ places_with p.key (suc first) s.after) (sym nothing)
+                ∙ s.rest
+                ∙ ap (λ v. v ++ places_with p.key (suc place) s.after) (sym s.nothing)
                 ∙ all p.key
                 ∙ ap (λ j. places_with j 0 (c ++ None ∷ d)) ((bytes_eq-Decides p.key k).0 b)
             | inr b ↦
                 cond-false (bytes_eq p.key k) others (places k) b
-                ∙ at k
-                ∙ ap (λ v. places_with k 0 s.before ++ place_if v first (places_with k (suc first) s.after)) b
+                ∙ s.at k
+                ∙ ap (λ v. places_with k 0 s.before ++ place_if v place (places_with k (suc place) s.after)) b
                 ∙ all k
           ];
           are_values = λ k. elim (cases_Bool (bytes_eq p.key k)) [

@@ -27,7 +27,7 @@ use Rattle.properties_format.proofs.InTurn.Merged.{AreInTurn, IsEndedGroup, afte
 use Rattle.properties_format.proofs.Edited.Parts.{empty_group, empty-lines, empty-whole}
 use Rattle.properties_format.proofs.InTurn.Unmerged.{AreUnmerged, merged-unmerged}
 use Rattle.properties_text.specs.Encoding.{encoding_of}
-use Rattle.properties_editing.specs.Private.BodyIndex.{CutsOut, GuardsFront, IsCutOut, IsInSource, IsIndex, IsKept, IsListed, KeepsNothing, ListsPairs, PutsFirst, all_shifted, ending_size, last_value, outcome, pairs_from, places_of, shifted, span_at, span_of, stored_at, stored_places, stored_value}
+use Rattle.properties_editing.specs.Private.BodyIndex.{GuardsFront, IsIndex, IsKept, IsListed, KeepsNothing, ListsPairs, PutsFirst, ending_size, last_value, outcome, pairs_from, places_of, shifted, span_at, span_of, stored_at, stored_places, stored_value}
 use Rattle.properties_items.specs.FoundItems.{outcome_pair}
 use Rattle.properties_editing.specs.Editing.{IsRemoved}
 use Rattle.properties_editing.specs.Private.BodyKeys.{closing_of}
@@ -44,7 +44,7 @@ use Rattle.properties_editing.proofs.BodyGroups.{front-of}
 use Rattle.properties_editing.proofs.BodyKeys.{some-groups, sound-append}
 use Rattle.properties_editing.proofs.Editing.{removed-bytes, removed-edits, removed-kept, unmarked}
 use Rattle.properties_editing.proofs.IndexChanged.{IsLastTold, final-behind, last-told, some-ending, turn-behind}
-use Rattle.properties_editing.proofs.IndexCut.{HaveBytes, cut-first}
+use Rattle.properties_editing.proofs.IndexCut.{HasCut, HaveBytes, all_cut, cut-first, cut_from}
 use Rattle.properties_editing.proofs.IndexFound.{said-of}
 use Rattle.properties_editing.proofs.IndexListed.{changed_at, listed-as, listed-shifted, none-value}
 use Rattle.properties_editing.proofs.IndexMerged.{empty-said, front-shift, held-merged, merged-pairs, merged-sound, pair-bytes}
@@ -172,7 +172,7 @@ ClosesAfter gs closing = closing ≡ closing_of (is_empty_line (final_group gs))
 
 -- From some of the groups the pairs with a key were cut out, and the others come after these as they were. These are the
 -- places of the pairs that are still there.
-pub record IsCutTo (e : Encoding) (key : List ℕ) (gs : List (List HeldLine)) (front source : List ℕ) (index : Index) (places : List ℕ) : Type 0 where
+pub record IsCutTo (e : Encoding) (key : List ℕ) (gs : List (List HeldLine)) (front source : List ℕ) (spans : List (Option BodySpan)) (index : Index) (places : List ℕ) : Type 0 where
   pub kept : List (List HeldLine)
   pub rest : List (List HeldLine)
   pub ended : AreEnded e kept
@@ -182,7 +182,7 @@ pub record IsCutTo (e : Encoding) (key : List ℕ) (gs : List (List HeldLine)) (
   pub left : without key gs ≡ without key (kept ++ rest)
   pub bytes : source ≡ front ++ groups_bytes (kept ++ rest)
   pub listed : IsListed (pairs_from 0 (kept ++ rest)) (changed_at (stored_places index.pairs.entries) key places)
-      (changed_at (stored_value index.pairs.entries) key (last_value key (pairs_from 0 (kept ++ rest)))) index.spans.items
+      (changed_at (stored_value index.pairs.entries) key (last_value key (pairs_from 0 (kept ++ rest)))) spans
   pub gone : stored_at index.pairs.entries key ≡ None
   pub closing : ClosesAfter (kept ++ rest) index.closing
   pub ordered : IsOrdered string_cmp index.pairs
@@ -227,26 +227,26 @@ drop-at n x y is = ap (λ m. drop m (x ++ y)) is ∙ drop-append_seam x y
 take-at : (n : ℕ) (x y : List ℕ) → n ≡ length x → take n (x ++ y) ≡ x
 take-at n x y is = ap (λ m. take m (x ++ y)) is ∙ front-of x y
 
-module _ {e : Encoding} {key : List ℕ} {gs : List (List HeldLine)} {front source : List ℕ} {index : Index} {place : ℕ}
-    {places : List ℕ} (start : ℕ) (start_is : start ≡ length front)
-    (h : IsCutTo e key gs front source index (place ∷ places)) (fits : length source < 2 ^ 64) where
+module _ {e : Encoding} {key : List ℕ} {gs : List (List HeldLine)} {front source : List ℕ} {spans : List (Option BodySpan)} {index : Index}
+    {place : ℕ} {places : List ℕ} (start : ℕ) (start_is : start ≡ length front)
+    (h : IsCutTo e key gs front source spans index (place ∷ places)) (fits : length source < 2 ^ 64) where
   own-places : changed_at (stored_places index.pairs.entries) key (place ∷ places) key ≡ place ∷ places
   own-places = update-same (stored_places index.pairs.entries) key (place ∷ places)
 
   -- One of the pairs is left.
-  some-first : HasFirst key h.rest
+  pub some-first : HasFirst key h.rest
   some-first = elim (first-with key h.rest) [
     | inl none ↦ let gone = sym own-places ∙ listed-none (h.kept ++ h.rest) key h.listed (none-append key h.kept h.rest h.none none) in absurd (cc)
     | inr f ↦ f
   ]
 
-  abbrev skip : List (List HeldLine)
+  abbrev pub skip : List (List HeldLine)
   skip = h.kept ++ some-first.skip
 
-  abbrev g : List HeldLine
+  abbrev pub g : List HeldLine
   g = some-first.group
 
-  abbrev after : List (List HeldLine)
+  abbrev pub after : List (List HeldLine)
   after = some-first.after
 
   all-groups : h.kept ++ h.rest ≡ skip ++ g ∷ after
@@ -264,19 +264,19 @@ module _ {e : Encoding} {key : List ℕ} {gs : List (List HeldLine)} {front sour
   skip-none : NoneHasKey key skip
   skip-none = none-append key h.kept some-first.skip h.none some-first.none
 
-  abbrev n : ℕ
+  abbrev pub n : ℕ
   n = length (groups_bytes skip)
 
-  abbrev end : ℕ
+  abbrev pub end : ℕ
   end = n + length (group_bytes g)
 
-  some-bytes : 0 < length (group_bytes g)
+  pub some-bytes : 0 < length (group_bytes g)
   some-bytes = let size = group-size g in let some = pair-bytes e key g after group-rest.0 some-first.has in omega arith
 
   whole : source ≡ front ++ groups_bytes (skip ++ g ∷ after)
   whole = h.bytes ∙ ap (λ v. front ++ groups_bytes v) all-groups
 
-  whole-size : length source ≡ start + length (groups_bytes (skip ++ g ∷ after))
+  pub whole-size : length source ≡ start + length (groups_bytes (skip ++ g ∷ after))
   whole-size =
       ap length whole ∙ length-append front (groups_bytes (skip ++ g ∷ after))
       ∙ ap (λ m. m + length (groups_bytes (skip ++ g ∷ after))) (sym start_is)
@@ -293,18 +293,19 @@ module _ {e : Encoding} {key : List ℕ} {gs : List (List HeldLine)} {front sour
 
   -- what is listed of the others
   abbrev IsListedOf : List (List HeldLine) → List (Option BodySpan) → Type 0
-  IsListedOf rest spans =
+  IsListedOf rest parts =
       IsListed (pairs_from 0 rest) (changed_at (stored_places index.pairs.entries) key places)
-      (changed_at (stored_value index.pairs.entries) key (last_value key (pairs_from 0 rest))) spans
+      (changed_at (stored_value index.pairs.entries) key (last_value key (pairs_from 0 rest))) parts
 
-  first : (span_at index.spans.items place ≡ Some (span_of n g)) × IsListedOf (skip ++ after) (all_shifted (shift.Cut n end) index.spans.items)
+  pub first : (span_at spans place ≡ Some (span_of n g)) × IsListedOf (skip ++ after) (all_cut n end spans)
+      × HasCut (cut_from n end) (length (group_bytes g)) place places spans
   first =
       let f = stored_places index.pairs.entries in
       let v = stored_value index.pairs.entries in
       let all = whole-size in
       let left = left-size in
       let listed =
-      subst (λ w. IsListed (pairs_from 0 w) (changed_at f key (place ∷ places)) (changed_at v key (last_value key (pairs_from 0 w))) index.spans.items) all-groups h.listed in
+      subst (λ w. IsListed (pairs_from 0 w) (changed_at f key (place ∷ places)) (changed_at v key (last_value key (pairs_from 0 w))) spans) all-groups h.listed in
       let cut = cut-first skip g after key said.0 place places (ended-bytes e skip skip-ended) some-bytes
       (omega arith) skip-none said.1 own-places listed in (
         cut.0,
@@ -312,14 +313,8 @@ module _ {e : Encoding} {key : List ℕ} {gs : List (List HeldLine)} {front sour
             (λ j. sym (put-after key (place ∷ places) places f (changed_at f key (place ∷ places)) (λ k. refl) j))
             (λ j. sym (put-after key (last_value key (pairs_from 0 (skip ++ g ∷ after))) (last_value key (pairs_from 0 (skip ++ after))) v
             (changed_at v key (last_value key (pairs_from 0 (skip ++ g ∷ after)))) (λ k. refl) j)),
+        cut.2,
       )
-
-  -- Its part is one of the source.
-  pub cut-inside : IsInSource start source (span_at index.spans.items place)
-  cut-inside =
-      let one = size-around skip g after in
-      let all = whole-size in
-      subst (IsInSource start source) (sym first.0) ((omega arith), (omega arith))
 
   -- the bytes behind it
   behind : drop (start + (n + length (unended_bytes g))) source ≡ ending_bytes (last_ending g) ++ groups_bytes after
@@ -342,14 +337,15 @@ module _ {e : Encoding} {key : List ℕ} {gs : List (List HeldLine)} {front sour
   own-size : ending_size (drop (start + (n + length (unended_bytes g))) source) ≡ length (ending_bytes (last_ending g))
   own-size = ap ending_size behind ∙ own-ending e g after group-rest
 
-  cut-end : n + length (unended_bytes g) + ending_size (drop (start + (n + length (unended_bytes g))) source) ≡ end
+  pub cut-end : n + length (unended_bytes g) + ending_size (drop (start + (n + length (unended_bytes g))) source) ≡ end
   cut-end = let size = group-size g in let own = own-size in omega arith
 
   -- the bytes without it
-  cut-made : (new : List ℕ) (is : Index) → CutsOut start (span_at index.spans.items place) source index new is
-      → new ≡ front ++ groups_bytes (skip ++ after)
-  cut-made new is cuts =
-      let k : IsCutOut start (span_of n g) source index new is = subst (λ o. CutsOut start o source index new is) first.0 cuts in
+  abbrev pub left_bytes : List ℕ
+  left_bytes = take (start + n) source ++ drop (start + end) source
+
+  cut-made : left_bytes ≡ front ++ groups_bytes (skip ++ after)
+  cut-made =
       let x = front ++ groups_bytes skip in
       let front_size : start + n ≡ length x = let a = length-append front (groups_bytes skip) in omega arith in
       let head : take (start + n) source ≡ x =
@@ -357,50 +353,42 @@ module _ {e : Encoding} {key : List ℕ} {gs : List (List HeldLine)} {front sour
       (whole ∙ ap (λ v. front ++ v) (groups_bytes-append skip (g ∷ after)) ∙ sym (append_assoc front (groups_bytes skip) (groups_bytes (g ∷ after))))
       ∙ take-at (start + n) x (groups_bytes (g ∷ after)) front_size in
       let text_end = start + (n + length (unended_bytes g)) in
-      let tail : drop (text_end + ending_size (drop text_end source)) source ≡ groups_bytes after =
-      sym (drop-drop (ending_size (drop text_end source)) text_end source)
+      let ended : start + end ≡ text_end + ending_size (drop text_end source) = let is = cut-end in omega arith in
+      let tail : drop (start + end) source ≡ groups_bytes after =
+      ap (λ m. drop m source) ended
+      ∙ sym (drop-drop (ending_size (drop text_end source)) text_end source)
       ∙ ap₂ drop own-size behind
       ∙ drop-at (length (ending_bytes (last_ending g))) (ending_bytes (last_ending g)) (groups_bytes after) refl in
-      k.bytes ∙ ap₂ (λ v w. v ++ w) head tail ∙ append_assoc front (groups_bytes skip) (groups_bytes after)
+      ap₂ (λ v w. v ++ w) head tail ∙ append_assoc front (groups_bytes skip) (groups_bytes after)
       ∙ ap (λ v. front ++ v) (sym (groups_bytes-append skip after))
 
-  -- They are fewer.
-  pub cut-shorter : (new : List ℕ) (is : Index) → CutsOut start (span_at index.spans.items place) source index new is → length new < length source
-  cut-shorter new is cuts =
-      let made : length new ≡ length front + length (groups_bytes (skip ++ after)) =
-      ap length (cut-made new is cuts) ∙ length-append front (groups_bytes (skip ++ after)) in
-      let all = whole-size in
-      let left = left-size in
-      let some = some-bytes in
-      omega arith
-
   -- Without the pair it is known of the source and of the index what was.
-  pub cut-step : (new : List ℕ) (is : Index) → CutsOut start (span_at index.spans.items place) source index new is
-      → IsCutTo e key gs front new is places
-  cut-step new is cuts =
-      let k : IsCutOut start (span_of n g) source index new is = subst (λ o. CutsOut start o source index new is) first.0 cuts in
-      let spans : is.spans.items ≡ all_shifted (shift.Cut n end) index.spans.items =
-      k.spans ∙ ap (λ m. all_shifted (shift.Cut n m) index.spans.items) cut-end in
+  pub cut-step : (is : Index) → is.pairs ≡ index.pairs
+      → is.closing ≡ (if start + (n + length (unended_bytes g)) == length source then Nothing else index.closing)
+      → (c : IsCutTo e key gs front left_bytes (all_cut n end spans) is places) × (c.kept ≡ skip)
+  cut-step is pairs closing =
       let text_end = start + (n + length (unended_bytes g)) in
       let all_turn = turn-join e skip g after skip-ended group-rest.0 in
       let told : IsLastTold (text_end == length source) after = last-told e skip g after text_end (length source) start all_turn refl whole-size in
-      let same = same-rest e key skip after in
-      record {
-        kept = skip;
-        rest = rest_of after;
-        ended = skip-ended;
-        none = skip-none;
-        turn = rest-behind e g after group-rest;
-        sound = same.sound (sound-cut skip g after (subst AreSound all-groups h.sound));
-        left = h.left ∙ ap (without key) all-groups ∙ without-cut key skip g after some-first.has ∙ sym same.left;
-        bytes = cut-made new is cuts ∙ ap (λ v. front ++ v) (sym same.bytes);
-        listed = listed-as first.1 same.pairs spans (λ j. ap (λ m. changed_at (stored_places m.entries) key places j) k.pairs)
-            (λ j. ap₂ (λ m ps. changed_at (stored_value m.entries) key (last_value key ps) j) k.pairs same.pairs);
-        gone = ap (λ m. stored_at m.entries key) k.pairs ∙ h.gone;
-        closing = closing-behind skip g after (text_end == length source) index.closing is.closing told
-            (subst (λ v. ClosesAfter v index.closing) all-groups h.closing) k.closing;
-        ordered = subst (IsOrdered string_cmp) (sym k.pairs) h.ordered;
-      }
+      let same = same-rest e key skip after in (
+        record {
+          kept = skip;
+          rest = rest_of after;
+          ended = skip-ended;
+          none = skip-none;
+          turn = rest-behind e g after group-rest;
+          sound = same.sound (sound-cut skip g after (subst AreSound all-groups h.sound));
+          left = h.left ∙ ap (without key) all-groups ∙ without-cut key skip g after some-first.has ∙ sym same.left;
+          bytes = cut-made ∙ ap (λ v. front ++ v) (sym same.bytes);
+          listed = listed-as first.1 same.pairs refl (λ j. ap (λ m. changed_at (stored_places m.entries) key places j) pairs)
+              (λ j. ap₂ (λ m ps. changed_at (stored_value m.entries) key (last_value key ps) j) pairs same.pairs);
+          gone = ap (λ m. stored_at m.entries key) pairs ∙ h.gone;
+          closing = closing-behind skip g after (text_end == length source) index.closing is.closing told
+              (subst (λ v. ClosesAfter v index.closing) all-groups h.closing) closing;
+          ordered = subst (IsOrdered string_cmp) (sym pairs) h.ordered;
+        },
+        refl,
+      )
 
 -- ---- before the first pair is cut out
 
@@ -420,27 +408,29 @@ pub cut-begin : (e : Encoding) (key : List ℕ) (start : ℕ) (source : List ℕ
     → stored_at old.pairs.entries key ≡ Some pair
     → ((j : List ℕ) → stored_at mid.pairs.entries j ≡ update bytes_eq (stored_at old.pairs.entries) key None j) → IsOrdered string_cmp mid.pairs
     → mid.spans ≡ old.spans → mid.closing ≡ old.closing
-    → IsCutTo e key (held_groups_of e (drop start source)) (take start source) source mid (places_of (Some pair))
+    → (c : IsCutTo e key (held_groups_of e (drop start source)) (take start source) source mid.spans.items mid (places_of (Some pair))) × (c.kept ≡ [])
 cut-begin e key start source old mid pair ok h sound stored updates ordered spans closing =
     let body = drop start source in
     let gs = held_groups_of e body in
-    let rest = held-rest e body ok in
-    record {
-      kept = [];
-      rest = gs;
-      ended = tt;
-      none = tt;
-      turn = rest.0;
-      sound = sound;
-      left = refl;
-      bytes = sym (take-append-drop start source) ∙ ap (λ v. take start source ++ v) (sym rest.1);
-      listed = listed-as h.listed refl (ap (λ v. v.items) spans)
-          (taken places_of (places_of (Some pair)) (ap places_of stored))
-          (taken (option_map (λ p. characters p.value)) (last_value key (pairs_from 0 gs)) (h.listed.are_values key));
-      gone = updates key ∙ update-same (stored_at old.pairs.entries) key None;
-      closing = closing ∙ elim h.closing [ inl none ↦ absurd (some-groups e body none) | inr is ↦ is ];
-      ordered = ordered;
-    }
+    let rest = held-rest e body ok in (
+      record {
+        kept = [];
+        rest = gs;
+        ended = tt;
+        none = tt;
+        turn = rest.0;
+        sound = sound;
+        left = refl;
+        bytes = sym (take-append-drop start source) ∙ ap (λ v. take start source ++ v) (sym rest.1);
+        listed = listed-as h.listed refl (ap (λ v. v.items) spans)
+            (taken places_of (places_of (Some pair)) (ap places_of stored))
+            (taken (option_map (λ p. characters p.value)) (last_value key (pairs_from 0 gs)) (h.listed.are_values key));
+        gone = updates key ∙ update-same (stored_at old.pairs.entries) key None;
+        closing = closing ∙ elim h.closing [ inl none ↦ absurd (some-groups e body none) | inr is ↦ is ];
+        ordered = ordered;
+      },
+      refl,
+    )
   where
     -- With what was taken out it is what it was.
     taken : {X : Type 0} (g : Option IndexedPair → X) (x : X) → g (stored_at old.pairs.entries key) ≡ x → (j : List ℕ)
@@ -473,7 +463,7 @@ turn-all e xs (g ∷ gs) h k = turn-join e xs g gs h k
 
 -- All pairs with the key were cut out.
 pub cut-whole : {e : Encoding} {key : List ℕ} {gs : List (List HeldLine)} {front source : List ℕ} {index : Index}
-    → IsCutTo e key gs front source index []
+    → IsCutTo e key gs front source index.spans.items index []
     → IsCutWhole e key gs front source index
 cut-whole {e} {key} {gs} {front} {source} {index} h =
     let groups = h.kept ++ h.rest in

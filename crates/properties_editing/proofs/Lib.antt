@@ -16,6 +16,7 @@ pub mod IndexCut
 pub mod IndexMerged
 pub mod IndexKeys
 pub mod IndexRemoved
+pub mod IndexSwept
 pub mod BodyDocuments
 pub mod IndexAppended
 pub mod IndexChanged

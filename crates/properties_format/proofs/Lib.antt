@@ -24,3 +24,5 @@ pub mod Changed
 pub mod Laws
 pub mod EditLaws
 pub mod Undecoded
+pub mod Alike
+pub mod Converting

@@ -21,3 +21,4 @@ pub mod Edits
 pub mod Parts
 pub mod Keys
 pub mod Undecoded
+pub mod Converting

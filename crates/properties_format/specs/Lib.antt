@@ -29,5 +29,6 @@ pub mod Changed
 pub mod Valued
 pub mod Edits
 pub mod Laws
+pub mod Converting
 pub mod EditLaws
 pub mod Computed

@@ -1,14 +1,14 @@
 -- What one read into a buffer does.
-use Rattle.std.proofs.Common.{◌≡◌, ◌<◌, ◌≤◌, ◌+◌, ◌-◌, ℕ, List, [], ◌++◌, take, drop, length, sym, ap, ap₂, ◌∙◌, arith}
-use Rattle.std.specs.Prelude.{Option, Some, None, Result, Ok, Err}
+use Rattle.std.proofs.Common.{refl, ◌≡◌, ◌<◌, ◌≤◌, ◌+◌, ◌-◌, ℕ, List, [], ◌++◌, take, drop, length, sym, ap, ap₂, ◌∙◌, arith}
+use Rattle.std.specs.Prelude.{true, ◌∷◌, Option, Some, None, Result, Ok, Err}
 use Rattle.std.specs.declared.io.Error.{Error}
 use Rattle.std.specs.Io.{ReadsAtMost}
-use Rattle.std.specs.Io.KnownBytes.{ReadConsumes, Consumes, Keeps}
+use Rattle.std.specs.Io.KnownBytes.{ReadConsumes, Consumes, Keeps, IsAtEnd}
 use Rattle.std.proofs.Math.Seq.{take-add, take-append_seam, drop-append_seam}
 use Rattle.std.proofs.lemmas.List.{take-append-le}
 use Rattle.std.proofs.lemmas.Grind.{common_steps}
 use Rattle.counted_io.specs.Faults.{CountsFault, ShowsEnd}
-use Rattle.counted_io.specs.Streams.{Reader}
+use Rattle.counted_io.specs.Streams.{Reader, is_spent, has_ended}
 use Rattle.properties_lines.specs.Private.InputBuffer.{ReadsAt}
 
 -- what stands before a place and the first bytes that were put there
@@ -34,6 +34,15 @@ keeps-consumes None b h = tt
 keeps-consumes (Some xs) None h = absurd h
 keeps-consumes (Some xs) (Some ys) h = sym h
 
+none-known : (known : Option (List ℕ)) → IsAtEnd known → is_spent known ≡ true
+none-known None h = refl
+none-known (Some []) h = refl
+none-known (Some (b ∷ bs)) h = absurd (cc h)
+
+-- A reader has ended if it says so and no known byte is left.
+pub ended-by : {R : Type 0} (reader : Reader R) (at : R) → reader.at_end at ≡ true → IsAtEnd (reader.remaining at) → has_ended reader at ≡ true
+ended-by reader at said none = rw said (none-known (reader.remaining at) none)
+
 -- one read into the room from a place on
 pub reads_at : {R : Type 0} (reader : Reader R) (place : ℕ) (buffer part tail : List ℕ) (old new : R) (result : Result ℕ Error)
     → place < length buffer → length part ≡ length buffer - place → ReadsAtMost result part
@@ -46,7 +55,10 @@ reads_at reader place buffer part tail old new (Ok count) h l most moved same en
   front = taken-front place count buffer part tail h most.0;
   counted = grind (arith, common_steps);
   within = omega arith;
-  ended = λ e. ended (none-taken count part most.0 e) (omega arith);
+  ended = λ e.
+      let none : count ≡ 0 = none-taken count part most.0 e in
+      let room : 0 < length part = omega arith in
+      ended-by reader new (ended none room) (moved.1 none room);
 }
 reads_at reader place buffer part tail old new (Err e) h l most moved same ended given =
     (front-kept place buffer part tail h, record { moved = keeps-consumes _ _ moved; risen = same; given = (old, given) })

@@ -2,7 +2,7 @@
 use Rattle.std.specs.Prelude.{◌≡◌, ◌⊎◌, ◌++◌, ◌&&◌, ℕ, Bool, true, false, List, [], ◌∷◌, Option, Some, None}
 use Rattle.std.specs.Str.{chars, IsAscii}
 use Rattle.std.specs.declared.io.Error.{Error}
-use Rattle.counted_io.specs.Streams.{Reader, HasRead, HasFailed}
+use Rattle.counted_io.specs.Streams.{Reader, HasRead, HasFailed, has_ended}
 use Rattle.properties_format.specs.Lines as format
 use Rattle.properties_format.specs.Lines.{end, fault, more}
 use Rattle.properties_format.specs.Groups.{is_open, joined, joined_after, AreOpen, EndsClosed, IsWhole, IsUnfinished}
@@ -112,7 +112,7 @@ pub record GoesOn {R : Type 0} (reader : Reader R) (old : ReaderState) (from : R
   pub is : text ≡ old_text ++ joined_after lines
   pub encoding : KeepsEncoding old new
   pub done : old.is_done ≡ true → new.is_done ≡ true
-  pub ended : new.is_done ≡ true → (old.is_done ≡ true) ⊎ (reader.at_end to ≡ true)
+  pub ended : new.is_done ≡ true → (old.is_done ≡ true) ⊎ (has_ended reader to ≡ true)
   pub idle : old.is_done ≡ true → (bytes ≡ []) × (to ≡ from)
   pub lazy : IsLazyJoin old from old_text bytes to
 
@@ -126,7 +126,7 @@ pub record JoinsAll {R : Type 0} (reader : Reader R) (old : ReaderState) (from :
   pub is : text ≡ old_text ++ joined_after lines
   pub encoding : KeepsEncoding old new
   pub done : old.is_done ≡ true → new.is_done ≡ true
-  pub ended : new.is_done ≡ true → (old.is_done ≡ true) ⊎ (reader.at_end to ≡ true)
+  pub ended : new.is_done ≡ true → (old.is_done ≡ true) ⊎ (has_ended reader to ≡ true)
   pub idle : old.is_done ≡ true → (bytes ≡ []) × (to ≡ from)
   pub lazy : IsLazyJoin old from old_text bytes to
 
@@ -190,7 +190,7 @@ pub record JoinsLine {R : Type 0} (reader : Reader R) (old : ReaderState) (from 
   pub comes : Comes old bytes line new
   pub group : JoinsGroup old bytes line new
   pub passes : new.is_done ≡ false → PassesSome old bytes new
-  pub ended : new.is_done ≡ true → reader.at_end to ≡ true
+  pub ended : new.is_done ≡ true → has_ended reader to ≡ true
   pub lazy : IsLazyItems old from bytes to
 
 -- A logical line was returned.

@@ -1,7 +1,7 @@
 -- The reader of natural lines as contracts see it, and the results and effects of its calls.
 use Rattle.std.specs.Prelude.{◌≡◌, ◌⊎◌, ◌+◌, ◌-◌, ◌^◌, ◌<◌, ◌≤◌, ◌++◌, length, ℕ, Bool, true, false, if◌then◌else◌, List, [], ◌∷◌, Option, Some, None}
 use Rattle.std.specs.declared.io.Error.{Error}
-use Rattle.counted_io.specs.Streams.{Reader, HasRead, HasFailed}
+use Rattle.counted_io.specs.Streams.{Reader, HasRead, HasFailed, has_ended}
 use Rattle.properties_format.specs.Lines as format
 use Rattle.properties_format.specs.Lines.{end, fault, more}
 use Rattle.properties_format.specs.Pieces.{characters}
@@ -63,7 +63,7 @@ pub record Along {R : Type 0} (reader : Reader R) (old : ReaderState) (from : R)
 
 -- The reader is at its end, and no line with a line ending is held.
 pub record IsAtEnd {R : Type 0} (reader : Reader R) (state : ReaderState) (at : R) : Type 0 where
-  pub ended : reader.at_end at ≡ true
+  pub ended : has_ended reader at ≡ true
   pub none : natural_to_come state [] more ≡ []
   pub live : state.is_done ≡ false
   pub numbered : state.passed + 1 < 2 ^ 64
@@ -103,7 +103,7 @@ IsReadError reader old from why.Memory to = to ≡ from
 -- The result of a read: some bytes, the end of the input, or an error.
 abbrev pub Reads : {R : Type 0} → Reader R → LineReading → R → Read → LineReading → R → Type 0
 Reads reader old from Bytes new to = (bytes : List ℕ) × (0 < length bytes) × ReadsBytes reader old from bytes new to
-Reads reader old from End new to = ReadsBytes reader old from [] new to × (reader.at_end to ≡ true)
+Reads reader old from End new to = ReadsBytes reader old from [] new to × (has_ended reader to ≡ true)
 Reads reader old from Failed new to = (e : LineError) × IsReadError reader old from e to × HasFailedFor old e new
 
 -- ---- finding lines
@@ -139,7 +139,7 @@ pub record FindsNext {R : Type 0} (reader : Reader R) (old : ReaderState) (from 
   pub counted : new.state.is_done ≡ false → new.state.passed ≡ number
   pub decided : new.state.is_decided ≡ true
   pub encoding : KeepsEncoding old new.state
-  pub ended : new.state.is_done ≡ true → reader.at_end to ≡ true
+  pub ended : new.state.is_done ≡ true → has_ended reader to ≡ true
   pub lazy : IsLazy old from bytes to
 
 -- A read failed in the line with this number, and nothing but this I/O error is left to come.

@@ -15,6 +15,21 @@ use std::test::Fail;
 
 const BYTES: [u8; 19] = *b"aaab==: \\\\\n\n\r\r\n#\xef\xbb\xbf";
 
+// Lines of few keys, and what ends them.
+const LINES: [&[u8]; 9] = [
+    b"a=1",
+    b"a 2",
+    b"a=x\\",
+    b"a",
+    b"b:3",
+    b"#",
+    b"",
+    b"\xef\xbb\xbf",
+    b"\xfe\xff",
+];
+
+const ENDS: [&[u8]; 3] = [b"\n", b"\r", b"\r\n"];
+
 const KEYS: [&str; 7] = ["a", "b", "", "aa", "ab", "\u{ef}\u{bb}\u{bf}", "ba"];
 
 const VALUES: [&str; 7] = ["", "a", "b c", " x ", "=", "\\", "\u{ef}"];
@@ -26,6 +41,17 @@ fn documents_and_lists_are_edited_as_single_calls_edit_sources(
     let mut numbers = Numbers { seed: 12345 };
     for _ in 0..1500 {
         let source = numbers.source(rt.alloc())?;
+        check_edits(&rt, rt.alloc(), &mut numbers, &source)?;
+    }
+    Ok(())
+}
+
+// 10,200 edits of sources with keys that many pairs have.
+#[test]
+fn repeated_keys_are_edited_as_by_single_calls(rt: HostRuntime) -> Result<(), Fail> {
+    let mut numbers = Numbers { seed: 54321 };
+    for _ in 0..1700 {
+        let source = numbers.lines(rt.alloc())?;
         check_edits(&rt, rt.alloc(), &mut numbers, &source)?;
     }
     Ok(())
@@ -172,6 +198,18 @@ impl Numbers {
         }
         for _ in 0..self.below(14) {
             source.push(BYTES[self.below(19)])?;
+        }
+        Ok(source)
+    }
+
+    // The first line isn't the last of `LINES`, which is the byte order mark of an encoding that isn't edited.
+    fn lines(&mut self, alloc: Global) -> Result<Vec<u8>, AllocError> {
+        let mut source = Vec::new(alloc);
+        source.extend_from_slice(LINES[self.below(8)])?;
+        source.extend_from_slice(ENDS[self.below(3)])?;
+        for _ in 0..self.below(14) {
+            source.extend_from_slice(LINES[self.below(9)])?;
+            source.extend_from_slice(ENDS[self.below(3)])?;
         }
         Ok(source)
     }

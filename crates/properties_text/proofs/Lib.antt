@@ -12,3 +12,4 @@ pub mod Latin1
 pub mod Spelt
 pub mod PrintedTexts
 pub mod UnitBlocks
+pub mod Converted

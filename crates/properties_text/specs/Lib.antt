@@ -6,3 +6,4 @@ pub mod Escaping
 pub mod Printing
 pub mod Spelt
 pub mod PrintedTexts
+pub mod Converted

@@ -8,6 +8,7 @@
 
 pub mod characters;
 mod classes;
+pub mod convert;
 pub mod encoding;
 pub mod escape;
 mod line_buffer;

@@ -26,10 +26,12 @@ use std::alloc::AllocError;
 use text::{first_character, print_bytes, put_literal, put_printed};
 
 mod bytes;
+mod convert;
 mod escapes;
 mod text;
 
 pub use crate::line_buffer::LineBuffer;
+pub use convert::convert_text;
 
 /// What a text outside keys and values is in its line, which determines what is escaped besides the characters that the
 /// repertoire lacks.
@@ -41,14 +43,15 @@ pub enum Place {
     Prefix,
 }
 
-/// Which characters are printed as they are. The others are printed as escapes.
-#[derive(Clone, Copy, PartialEq, Eq)]
+/// The characters that are written as they are, and the encoding of the bytes. All other characters are written as
+/// `\u` escapes.
+#[derive(Clone, Copy, Debug, PartialEq, Eq)]
 pub enum Repertoire {
-    /// Those of windows-1252, in that encoding.
+    /// The characters of windows-1252, one byte each.
     Windows1252,
-    /// All, in UTF-8.
+    /// All characters, in UTF-8.
     Utf8,
-    /// Those of ASCII.
+    /// The characters of ASCII. The bytes are the same in windows-1252, ISO 8859-1 and UTF-8.
     Ascii,
 }
 
@@ -478,7 +481,7 @@ fn print_after_backslash(line: &mut LineBuffer, byte: u8) -> Result<(), AllocErr
 }
 
 // Prints a character as `\u` and four digits, or as two such escapes: a high and a low surrogate.
-fn print_escape(line: &mut LineBuffer, character: char) -> Result<(), AllocError>
+pub(crate) fn print_escape(line: &mut LineBuffer, character: char) -> Result<(), AllocError>
     ensures { AppendsOnOk line.old (unicode_escape character) result line.new }
 {
     make_room(&mut line.bytes, line.filled, LONGEST)?;

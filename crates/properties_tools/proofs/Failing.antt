@@ -3,12 +3,12 @@ use Rattle.std.proofs.Common.{◌≡◌, ℕ, List, [], ◌∷◌, ◌++◌, ref
 use Rattle.std.specs.Prelude.{Option, Some, None, codes}
 use Rattle.std.specs.Fmt.{decimal}
 use Rattle.properties_format.specs.Text.{line_feed}
-use Rattle.properties_tools.specs.Messages.{printed_line}
+use Rattle.properties_tools.specs.Messages.{escaped, printed_line}
 use Rattle.properties_tools.specs.Propedit.Failures.{number_of, place_of, message, IsReasonOf, IsMessageLine}
 use Rattle.properties_tools.specs.declared.propedit.error.Failure.{Failure}
 
 -- a line without a number, as it is printed
-pub plain_line : (place reason line : List ℕ) → line ≡ codes "propedit: " ++ (place ++ (codes ": " ++ (reason ++ (line_feed ∷ []))))
+pub plain_line : (place reason line : List ℕ) → line ≡ codes "propedit: " ++ (escaped place ++ (codes ": " ++ (reason ++ (line_feed ∷ []))))
     → line ≡ printed_line (message place None reason)
 plain_line place reason line is = is ∙ simp append_assoc refl
 
@@ -22,9 +22,9 @@ module _ (name : List ℕ) (failure : Failure) {place : List ℕ} (reason line :
 
   -- a line with a number, as it is printed
   pub numbered-line : (number : ℕ) → Some number ≡ number_of failure
-      → line ≡ codes "propedit: " ++ (place ++ (codes ":" ++ (decimal number ++ (codes ": " ++ (reason ++ (line_feed ∷ [])))))) → IsMessageLine name failure line
+      → line ≡ codes "propedit: " ++ (escaped place ++ (codes ":" ++ (decimal number ++ (codes ": " ++ (reason ++ (line_feed ∷ [])))))) → IsMessageLine name failure line
   numbered-line number is_number is = message-line (Some number) is_number (is ∙ simp append_assoc refl)
 
   -- and without one
-  pub unnumbered-line : None ≡ number_of failure → line ≡ codes "propedit: " ++ (place ++ (codes ": " ++ (reason ++ (line_feed ∷ [])))) → IsMessageLine name failure line
+  pub unnumbered-line : None ≡ number_of failure → line ≡ codes "propedit: " ++ (escaped place ++ (codes ": " ++ (reason ++ (line_feed ∷ [])))) → IsMessageLine name failure line
   unnumbered-line is_number is = message-line None is_number (plain_line place reason line is)

@@ -3,9 +3,10 @@ pub mod Asking
 pub mod Failing
 pub mod FilterErrors
 pub mod Filtering
-pub mod IllFormed
+pub mod Flawed
 pub mod Borrowed
 pub mod Looked
+pub mod Paired
 pub mod Pairs
 pub mod Prefixes
 pub mod Settled

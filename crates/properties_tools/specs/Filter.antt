@@ -1,7 +1,7 @@
 -- What `filter` does: it reads the items of an input, and writes each pair as one line.
 use Rattle.std.specs.Prelude.{◌≡◌, ◌⊎◌, ◌+◌, ◌^◌, ◌==◌, ℕ, Bool, true, false, List, [], ◌∷◌, ◌++◌, length, Option, Some, None, Result, Ok, Err}
 use Rattle.std.specs.declared.io.Error.{Error}
-use Rattle.counted_io.specs.Streams.{Reader, HasRead, Sink, HasWritten, HasFaulted, HasFailedFlush, IsProperPrefix, CameFromWrite}
+use Rattle.counted_io.specs.Streams.{Reader, HasRead, Sink, HasWritten, HasFaulted, HasFailedFlush, IsProperPrefix, CameFromWrite, has_ended}
 use Rattle.properties_format.specs.Encoding.{Encoding, output_encoding}
 use Rattle.properties_format.specs.Entries.{pair, Entry, item, AreItems}
 use Rattle.properties_format.specs.Printing.{printed}
@@ -101,7 +101,7 @@ pub record StopsInWriting {R W : Type 0} (reader : Reader R) (sink : Sink W) (e 
   pub whole : AreItems items
   pub bytes : List ℕ
   pub read : HasRead reader input bytes input'
-  pub begins : BeginsItems e bytes (items ++ (item number (pair key value) ∷ [])) (reader.at_end input')
+  pub begins : BeginsItems e bytes (items ++ (item number (pair key value) ∷ [])) (has_ended reader input')
   pub fails : FailsInPair sink e only output items key value error output' ⊎ RefusesPair sink e only output items error output'
 
 -- The input was read to its end, these are its items, and their pairs were written, but the flush failed.

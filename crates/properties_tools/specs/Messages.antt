@@ -1,10 +1,27 @@
 -- What is printed on a stream of errors.
-use Rattle.std.specs.Prelude.{◌≡◌, ◌⊎◌, ℕ, List, [], ◌∷◌, ◌++◌, Option, Some, Result, Ok, Err}
+use Rattle.std.specs.Prelude.{◌≡◌, ◌⊎◌, ℕ, Bool, true, false, List, [], ◌∷◌, ◌++◌, Option, Some, Result, Ok, Err, codes}
+use Rattle.std.specs.Char.{is_control, encode_utf8}
+use Rattle.std.specs.Fmt.{digits}
+use Rattle.std.specs.Str.{chars}
 use Rattle.std.specs.declared.io.Error.{Error}
 use Rattle.counted_io.specs.Streams.{Sink, HasFlushed, HasFailedFlush, Sends}
 use Rattle.properties_format.specs.Text.{line_feed}
 use Rattle.java_properties.specs.DisplayTexts.{error_display}
 use Rattle.properties_items.specs.declared.error.PropertiesError.{PropertiesError}
+
+-- what is printed for a character: for a control character its number in hexadecimal digits, as in `\u{1b}`, and else itself
+abbrev pub shown_by : Bool → ℕ → List ℕ
+shown_by true c = codes "\\u{" ++ (digits 16 false c ++ codes "}")
+shown_by false c = encode_utf8 c
+
+-- what is printed for characters
+abbrev pub all_shown : List ℕ → List ℕ
+all_shown [] = []
+all_shown (c ∷ cs) = shown_by (is_control c) c ++ all_shown cs
+
+-- what is printed for a text in a message, such as the name of a file
+abbrev pub escaped : List ℕ → List ℕ
+escaped text = all_shown (chars text)
 
 -- the line of a text
 abbrev pub printed_line : List ℕ → List ℕ

@@ -1,1 +1,2 @@
-pub mod IllFormed
+pub mod Flawed
+pub mod InPlace

@@ -9,7 +9,8 @@ pub mod Lines
 pub mod Listing
 pub mod Sources
 pub mod Texts
-use Rattle.std.specs.Prelude.{◌≡◌, ◌≢◌, ◌⊎◌, ℕ, List, Option, Some, None, Result, Ok, Err, codes}
+pub mod Utf16
+use Rattle.std.specs.Prelude.{◌≡◌, ◌≢◌, ◌⊎◌, ℕ, List, Option, Some, None, Result, Ok, Err}
 use Rattle.std.specs.Global.{Vec}
 use Rattle.counted_io.specs.Streams.{Reader, Sink}
 use Rattle.properties_format.specs.Encoding.{Encoding}
@@ -20,16 +21,10 @@ use Rattle.properties_tools.specs.Propedit.Answers.{name_of, Answers as Gives}
 use Rattle.properties_tools.specs.Propedit.Change.{Changes}
 use Rattle.properties_tools.specs.Propedit.Failures.{standard_output, PrintsFailure}
 use Rattle.properties_tools.specs.declared.propedit.printed.Answer.{Answer}
-use Rattle.properties_tools.specs.declared.propedit.asked.Edits.{Edits}
+use Rattle.properties_tools.specs.declared.propedit.asked.Change.{Change as AskedChange}
 use Rattle.properties_tools.specs.declared.propedit.asked.Work.{Work}
 use Rattle.properties_tools.specs.declared.propedit.error.Failure.{Failure}
 use Rattle.properties_tools.specs.declared.propedit.error.Failure.TheVariants.{Input, Output}
-
--- ---- arguments
-
--- what it prints where an argument isn't UTF-8
-abbrev pub not_utf_8 : List ℕ
-not_utf_8 = codes "propedit: an argument is not UTF-8"
 
 -- ---- how it ends
 
@@ -55,7 +50,8 @@ pub record HasNoAnswer {R W : Type 0} (reader : Reader R) (work : Work) (input :
   pub fails : Gives work source (Err failure)
   pub unwritten : output' ≡ output
 
--- The source couldn't be read to its end, and nothing was printed.
+-- The source couldn't be read to its end, and nothing was printed. The error is that of a failed read, as reading a whole
+-- source gives it, or Memory where no read failed.
 pub record FailsInSource {R W : Type 0} (reader : Reader R) (work : Work) (input : R) (output : W) (failure : Failure) (input' : R) (output' : W) : Type 0 where
   pub error : PropertiesError
   pub fails : ReadsSource reader (encoding_of work.encoding) input (Err error) input'
@@ -99,8 +95,8 @@ pub record PrintsText {W E : Type 0} (sink : Sink W) (error_sink : Sink E) (text
 
 -- ---- in place
 
--- What replaces a source: the edited bytes, which aren't its own, or nothing where they are.
-abbrev pub Replaces : Encoding → List ℕ → Edits → Result (Option (Vec ℕ)) Failure → Type 0
-Replaces e source edits (Ok (Some bytes)) = Changes e source edits (Ok bytes) × (bytes.items ≢ source)
-Replaces e source edits (Ok None) = (bytes : Vec ℕ) × Changes e source edits (Ok bytes) × (bytes.items ≡ source)
-Replaces e source edits (Err failure) = Changes e source edits (Err failure)
+-- What replaces a source: its bytes after the change, which aren't its own, or nothing where they are.
+abbrev pub Replaces : Encoding → List ℕ → AskedChange → Result (Option (Vec ℕ)) Failure → Type 0
+Replaces e source change (Ok (Some bytes)) = Changes e source change (Ok bytes) × (bytes.items ≢ source)
+Replaces e source change (Ok None) = (bytes : Vec ℕ) × Changes e source change (Ok bytes) × (bytes.items ≡ source)
+Replaces e source change (Err failure) = Changes e source change (Err failure)

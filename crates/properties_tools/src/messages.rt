@@ -1,13 +1,14 @@
 // Prints lines on an error stream.
 
-ghost use Rattle.std.specs.Prelude.{IfSome};
+ghost use Rattle.std.specs.Prelude.{IfSome, Some};
 ghost use Rattle.counted_io.specs.Streams.{IsSameSink};
 ghost use Rattle.java_properties.specs.DisplayTexts.{error_display};
-ghost use Rattle.properties_tools.specs.Messages.{HasPrintedLine, PrintsLineIfMemory};
+ghost use Rattle.properties_tools.specs.Messages.{escaped, HasPrintedLine, PrintsLineIfMemory};
 
 use counted_io::{CountedWrite, send};
 use java_properties::PropertiesError;
 use std::alloc::Global;
+use std::fmt::{self, Write};
 
 /// Prints a line on `errors` and flushes it. What can't be printed is dropped, because there is nowhere left to print
 /// it.
@@ -38,5 +39,29 @@ pub fn print_error<E: CountedWrite>(alloc: Global, errors: &mut E, error: Proper
 {
     if let Ok(line) = format!(in alloc; "{error}\n") {
         print_line(errors, line.as_str());
+    }
+}
+
+/// A text in a message: its control characters are printed as escapes, as in `\u{1b}`, so that a name can neither
+/// reach the terminal's state nor begin a line.
+///
+/// ```text
+/// format!(in alloc; "{}", Escaped("a\nb"))?; // `a\u{a}b`
+/// ```
+#[derive(Clone, Copy, Debug)]
+pub struct Escaped<'a>(pub &'a str);
+
+impl fmt::Display for Escaped<'_> {
+    ghost output = { λ text. Some (escaped text.0.now) };
+
+    fn fmt<W: fmt::Write>(&self, f: &mut fmt::Formatter<W>) -> fmt::Result {
+        for character in self.0.chars() {
+            if character.is_control() {
+                write!(f, "\\u{{{:x}}}", character as u32)?;
+            } else {
+                f.write_char(character)?;
+            }
+        }
+        Ok(())
     }
 }

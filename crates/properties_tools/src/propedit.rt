@@ -16,19 +16,17 @@ ghost use Rattle.std.specs.Prelude.{◌≡◌};
 ghost use Rattle.counted_io.specs.Streams.{IsSameReader, IsSameSink};
 ghost use Rattle.properties_text.specs.Encoding.{encoding_of};
 ghost use Rattle.properties_tools.specs.Messages.{printed_line, HasPrintedLine};
-ghost use Rattle.properties_tools.specs.Propedit.{not_utf_8, Ends, Prints, Replaces, Runs, PrintsText};
+ghost use Rattle.properties_tools.specs.Propedit.{Ends, Prints, Replaces, Runs, PrintsText};
 ghost use Rattle.properties_tools.specs.Propedit.Failures.{memory_words};
 
 use crate::messages::print_line;
 use crate::propedit::answers::{answer_to, name};
-use crate::propedit::asked::{Edits, Work};
+use crate::propedit::asked::{Change, Work};
 use crate::propedit::change::change;
 use crate::propedit::error::{Failure, NO_MEMORY, STANDARD_OUTPUT, print_failure};
 use counted_io::{CountedRead, CountedWrite};
 use java_properties::{Encoding, read_source, write_source};
 use std::alloc::Global;
-
-const NOT_UTF_8: &str = "propedit: an argument is not UTF-8\n";
 
 // The exit status of wrong arguments and of failures.
 const FAILED: u8 = 2;
@@ -82,26 +80,26 @@ fn print_answer<R: CountedRead, W: CountedWrite>(
     }
 }
 
-/// Returns the bytes of a source after edits, or `None` if they are its own bytes.
+/// Returns the bytes of a source after a change, or `None` if they are its own bytes.
 ///
-/// For a file that is edited in place: if nothing changes, nothing has to be written.
+/// For a file that is changed in place: if nothing changes, nothing has to be written.
 ///
 /// ```text
-/// let edits = Edits {
+/// let edits = Change::Edits(Edits {
 ///     list: vec![in alloc; Edit::Remove(port)]?,
 ///     ascii_only: false,
-/// };
+/// });
 /// replacement(alloc, b"host = a\n", Encoding::UTF_8, &edits)?; // None
 /// ```
 pub fn replacement(
     alloc: Global,
     source: &[u8],
     encoding: Encoding,
-    edits: &Edits,
+    asked: &Change,
 ) -> Result<Option<Vec<u8>>, Failure>
-    ensures { Replaces (encoding_of encoding) source.now edits.now result }
+    ensures { Replaces (encoding_of encoding) source.now asked.now result }
 {
-    let bytes = change(alloc, source, encoding, edits)?;
+    let bytes = change(alloc, source, encoding, asked)?;
     if bytes.as_slice() == source {
         return Ok(None);
     }
@@ -137,7 +135,7 @@ pub fn exit_status<E: CountedWrite>(
 ///
 /// ```text
 /// let mut output = Counted::new(Vec::new(alloc));
-/// propedit::print_text(alloc, "propedit 1.6.0\n", &mut output, &mut errors); // 0, and the output holds the text
+/// propedit::print_text(alloc, "propedit 1.7.0\n", &mut output, &mut errors); // 0, and the output holds the text
 /// ```
 pub fn print_text<W: CountedWrite, E: CountedWrite>(
     alloc: Global,
@@ -162,7 +160,7 @@ pub fn print_text<W: CountedWrite, E: CountedWrite>(
 ///
 /// ```text
 /// let mut errors = Counted::new(Vec::new(alloc));
-/// propedit::print_usage_error(&mut errors, "error: unrecognized subcommand 'gett'\n"); // 2, and this is printed
+/// propedit::print_usage_error(&mut errors, "propedit: unknown command 'gett'\n"); // 2, and this is printed
 /// ```
 pub fn print_usage_error<E: CountedWrite>(errors: &mut E, text: &str) -> u8
     ensures status { result ≡ 2 }
@@ -170,23 +168,6 @@ pub fn print_usage_error<E: CountedWrite>(errors: &mut E, text: &str) -> u8
     ensures same_sink { IsSameSink E.CountedWrite errors.old errors.new }
 {
     print_line(errors, text);
-    FAILED
-}
-
-/// Prints on `errors` that an argument is not UTF-8, and returns the exit status of wrong arguments, 2.
-///
-/// For a `main` that can't have its arguments as texts. What can't be printed is dropped.
-///
-/// ```text
-/// let mut errors = Counted::new(Vec::new(alloc));
-/// propedit::print_not_utf_8(&mut errors); // 2, and one line is printed
-/// ```
-pub fn print_not_utf_8<E: CountedWrite>(errors: &mut E) -> u8
-    ensures status { result ≡ 2 }
-    ensures prints { HasPrintedLine E.CountedWrite errors.old (printed_line not_utf_8) errors.new }
-    ensures same_sink { IsSameSink E.CountedWrite errors.old errors.new }
-{
-    print_line(errors, NOT_UTF_8);
     FAILED
 }
 

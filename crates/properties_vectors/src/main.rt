@@ -19,6 +19,7 @@
 //! The expected values come from the rules of the format, and from the tests of the Rust crate that this is a port of.
 #![tactic(auto)]
 
+mod converting;
 mod copying;
 mod editing;
 mod items;

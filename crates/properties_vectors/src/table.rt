@@ -1,5 +1,6 @@
 // The lines of a table: headings, which say what the rows below them are of, and rows.
 
+use crate::converting::check_converting;
 use crate::copying::check_copying;
 use crate::editing::check_edit;
 use crate::items::Reading;
@@ -30,6 +31,7 @@ enum Kind {
     WritePrint,
     WriteMap,
     Edit,
+    Convert,
     Label,
 }
 
@@ -129,6 +131,7 @@ fn kind_of(word: &str) -> Option<Kind> {
         "write-print" => Some(Kind::WritePrint),
         "write-map" => Some(Kind::WriteMap),
         "edit" => Some(Kind::Edit),
+        "convert" => Some(Kind::Convert),
         "label" => Some(Kind::Label),
         _ => None,
     }
@@ -187,6 +190,7 @@ fn outcome_of(
         Kind::WritePrint => check_printing(alloc, encoding, clauses, &mut outcome)?,
         Kind::WriteMap => check_maps(alloc, encoding, clauses, &mut outcome)?,
         Kind::Edit => check_edit(alloc, encoding, clauses, &mut outcome)?,
+        Kind::Convert => check_converting(alloc, encoding, clauses, &mut outcome)?,
         Kind::Label => check_label(alloc, encoding, clauses, &mut outcome)?,
     }
     Ok(outcome)

@@ -10,7 +10,7 @@ use Rattle.std.proofs.Math.Seq.{take-append-add}
 use Rattle.std.proofs.lemmas.List.{take-append-le, length-take-le, drop-take}
 use Rattle.counted_io.specs.Faults.{CountsFault, ShowsEnd}
 use Rattle.counted_io.specs.Streams.{Reader}
-use Rattle.properties_lines.proofs.InputBuffer.{keeps-consumes}
+use Rattle.properties_lines.proofs.InputBuffer.{keeps-consumes, ended-by}
 use Rattle.single_lines.specs.Private.ReadAhead.{ReadsMore, count_of}
 
 -- what a buffer holds after a read into its end: the bytes before the place, and those that came
@@ -26,7 +26,7 @@ module _ {R : Type 0} (reader : Reader R) (old new : R) (buffer came rest : List
       → CountsFault (reader.faults old) (reader.faults new) r → ShowsEnd (reader.at_end new) r came → reader.read_gives old r new
       → ReadsMore reader old (take place buffer) r new (take (place + count_of r) (take place buffer ++ (came ++ rest)))
   reads-more (Ok n) most moved faults ended gives =
-      (take n came, read-into buffer came rest place n within most.0, most.1, record { moved = moved.0; faultless = faults }, λ none. ended none some)
+      (take n came, read-into buffer came rest place n within most.0, most.1, record { moved = moved.0; faultless = faults }, λ none. ended-by reader new (ended none some) (moved.1 none some))
   reads-more (Err e) most moved faults ended gives =
       let held = read-into buffer came rest place 0 within (omega arith) ∙ append-nil (take place buffer) in
       (held, record { moved = keeps-consumes (reader.remaining old) (reader.remaining new) moved; risen = faults; given = (old, gives) })

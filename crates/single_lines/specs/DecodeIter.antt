@@ -1,7 +1,7 @@
 -- What the iterator over characters is between two calls, and what a call of it does.
 use Rattle.std.specs.Prelude.{◌≡◌, ℕ, Bool, true, false, List, [], ◌∷◌, ◌++◌, Option, Some, None, Result, Ok, Err}
 use Rattle.std.specs.declared.io.Error.{Error}
-use Rattle.counted_io.specs.Streams.{Reader, HasRead, HasFailed}
+use Rattle.counted_io.specs.Streams.{Reader, HasRead, HasFailed, has_ended}
 use Rattle.properties_format.specs.Encoding.{Encoding}
 use Rattle.properties_format.specs.Computed.Encoding.{characters_from}
 use Rattle.properties_format.specs.Computed.Waiting.{awaits_more}
@@ -61,7 +61,7 @@ TakesCharacter old (Some c) new = GivesOn old (c ∷ []) new
 -- How an input went on by these bytes: more may come, or it ended, or a read failed. Where it was over, nothing was read.
 abbrev pub GoesOn : {R : Type 0} → Reader R → R → Ending → List ℕ → R → Ending → Type 0
 GoesOn reader old More read new More = HasRead reader old read new
-GoesOn reader old More read new End = HasRead reader old read new × (reader.at_end new ≡ true)
+GoesOn reader old More read new End = HasRead reader old read new × (has_ended reader new ≡ true)
 GoesOn reader old More read new (Fault e) = HasFailed reader old read e new
 GoesOn reader old End read new ending = (read ≡ []) × (new ≡ old) × (ending ≡ End)
 GoesOn reader old (Fault e) read new ending = (read ≡ []) × (new ≡ old) × (ending ≡ Fault e)

@@ -1,7 +1,7 @@
 -- What a contract sees of the iterator over natural lines.
 use Rattle.std.specs.Prelude.{◌≡◌, ℕ, true, false, List, [], ◌∷◌, Option, Some, None, Result, Ok, Err, string_bytes}
 use Rattle.std.specs.Str.{chars}
-use Rattle.counted_io.specs.Streams.{Reader, HasRead, IsSameReader}
+use Rattle.counted_io.specs.Streams.{Reader, HasRead, IsSameReader, has_ended}
 use Rattle.properties_format.specs.Lines as format
 use Rattle.properties_format.specs.ItemsToCome.{ReaderState}
 use Rattle.properties_lines.specs.LineReader.{Passes, IsLazy, FindsError}
@@ -22,7 +22,7 @@ pub record GivesLine {R : Type 0} (reader : Reader R) (old : ReaderState) (from 
   pub read : HasRead reader from bytes to
   pub live : old.is_done ≡ false
   pub passes : Passes old bytes (line ∷ []) new
-  pub ended : new.is_done ≡ true → reader.at_end to ≡ true
+  pub ended : new.is_done ≡ true → has_ended reader to ≡ true
   pub lazy : IsLazy old from bytes to
 
 abbrev pub GivesNatural : {R : Type 0} → Reader R → ReaderState → R → Option (Result NaturalLine LineError) → ReaderState → R → Type 0

@@ -2,7 +2,7 @@
 -- in terms of divisions.
 use Rattle.std.specs.Prelude.{◌≡◌, ◌⊎◌, ℕ, Bool, true, false, if◌then◌else◌, List, [], ◌∷◌, ◌++◌, Option, Some, None, Result, Ok, Err}
 use Rattle.std.specs.Str.{is_utf8}
-use Rattle.counted_io.specs.Streams.{Reader, HasRead}
+use Rattle.counted_io.specs.Streams.{Reader, HasRead, has_ended}
 use Rattle.properties_format.specs.Lines.{InputEnd, end}
 use Rattle.properties_format.specs.Entries.{Entry, malformed}
 use Rattle.properties_format.specs.Escapes.{Malformed}
@@ -47,7 +47,7 @@ pub record GivesEntry {R : Type 0} (reader : Reader R) (old : ReaderState) (from
   pub live : old.is_done ≡ false
   pub gives : Gives old bytes entry new
   pub passes : new.is_done ≡ false → PassesSome old bytes new
-  pub ended : new.is_done ≡ true → reader.at_end to ≡ true
+  pub ended : new.is_done ≡ true → has_ended reader to ≡ true
   pub lazy : IsLazyItems old from bytes to
 
 -- No more items come: the input ended, or the iterator was already at its end and reads nothing.
@@ -57,7 +57,7 @@ pub record GivesNone {R : Type 0} (reader : Reader R) (old : ReaderState) (from 
   pub items : items_to_come old bytes end ≡ []
   pub done : new.is_done ≡ true
   pub idle : old.is_done ≡ true → (new ≡ old) × (to ≡ from) × (bytes ≡ [])
-  pub ended : old.is_done ≡ false → reader.at_end to ≡ true
+  pub ended : old.is_done ≡ false → has_ended reader to ≡ true
 
 -- An escape was malformed in the logical line that begins in the line with this number.
 pub record GivesMalformed {R : Type 0} (reader : Reader R) (old : ReaderState) (from : R) (e : PropertiesError) (to : R) : Type 0 where
@@ -66,7 +66,7 @@ pub record GivesMalformed {R : Type 0} (reader : Reader R) (old : ReaderState) (
   pub kind : Malformed
   pub read : HasRead reader from bytes to
   pub is : IsMalformed kind number e
-  pub breaks : BreaksOff old bytes (malformed kind number) (reader.at_end to)
+  pub breaks : BreaksOff old bytes (malformed kind number) (has_ended reader to)
   pub lazy : IsLazyItems old from bytes to
 
 -- Why no line could be read: what the joiner of lines returned.

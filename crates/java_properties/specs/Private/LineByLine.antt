@@ -4,7 +4,7 @@ use Rattle.std.specs.Prelude.{◌≡◌, ◌⊎◌, ℕ, true, false, List, [], 
 use Rattle.std.specs.Option.{option_map, unwrap_or}
 use Rattle.std.specs.Map.{lookup, update}
 use Rattle.std.specs.declared.string.String.{String}
-use Rattle.counted_io.specs.Streams.{Reader, HasRead}
+use Rattle.counted_io.specs.Streams.{Reader, HasRead, has_ended}
 use Rattle.properties_format.specs.Encoding.{Encoding}
 use Rattle.properties_format.specs.Lines.{end, Line}
 use Rattle.properties_format.specs.Groups.{IsGroups, AreWhole, lines_in}
@@ -67,7 +67,7 @@ pub record Collected {R : Type 0} (reader : Reader R) (e : Encoding) (from : R) 
   pub passes : Passes (start e) bytes (lines_in groups) state
   pub whole : state.is_done ≡ false → AreWhole groups
   pub grouped : IsGroups (lines_in groups) end groups
-  pub ended : state.is_done ≡ true → reader.at_end to ≡ true
+  pub ended : state.is_done ≡ true → has_ended reader to ≡ true
 
 -- and these escapes were found in them
 pub record Found {R : Type 0} (reader : Reader R) (e : Encoding) (from : R) (found : List MalformedEscape) (state : ReaderState) (to : R) : Type 0 where

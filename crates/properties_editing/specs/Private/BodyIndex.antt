@@ -201,11 +201,10 @@ moved_span old new s = record { start = moved_to old new s.start; end = moved_to
 abbrev pub lengthened_span : ℕ → ℕ → BodySpan → BodySpan
 lengthened_span place more s = record { start = s.start; end = if s.end == place then min (place + more) (2 ^ 64 - 1) else s.end }
 
--- a part after a change, unless it is cut out
+-- a part after a change
 abbrev pub shifted : Shift → BodySpan → Option BodySpan
 shifted (shift.Moved old new) s = Some (moved_span old new s)
 shifted (shift.Lengthened place more) s = Some (lengthened_span place more s)
-shifted (shift.Cut start end) s = if s.start == start then None else Some (moved_span end start s)
 
 -- all parts after a change
 abbrev pub all_shifted : Shift → List (Option BodySpan) → List (Option BodySpan)
@@ -286,23 +285,6 @@ AddsKey opened key value old was result new is = PutsPair opened key value old w
 abbrev pub ending_size : List ℕ → ℕ
 ending_size [] = 0
 ending_size (b ∷ bs) = if b == carriage_return then (if begins_with_lf bs then 2 else 1) else (if b == line_feed then 1 else 0)
-
--- The part is one of the body that starts here.
-abbrev pub IsInSource : ℕ → List ℕ → Option BodySpan → Type 0
-IsInSource start source None = Unit {0}
-IsInSource start source (Some span) = (span.start ≤ span.end) × (start + span.end ≤ length source)
-
--- A part and the line ending after it were cut out.
-pub record IsCutOut (start : ℕ) (span : BodySpan) (old : List ℕ) (was : Index) (new : List ℕ) (is : Index) : Type 0 where
-  pub bytes : let end = start + span.end + ending_size (drop (start + span.end) old) in new ≡ take (start + span.start) old ++ drop end old
-  pub spans : is.spans.items ≡ all_shifted (shift.Cut span.start (span.end + ending_size (drop (start + span.end) old))) was.spans.items
-  pub pairs : is.pairs ≡ was.pairs
-  pub closing : is.closing ≡ (if start + span.end == length old then closing.Nothing else was.closing)
-
--- So it is, if there is a part.
-abbrev pub CutsOut : ℕ → Option BodySpan → List ℕ → Index → List ℕ → Index → Type 0
-CutsOut start None old was new is = (new ≡ old) × (is ≡ was)
-CutsOut start (Some span) old was new is = IsCutOut start span old was new is
 
 -- An LF was put before the source.
 pub record PutsFirst (old : List ℕ) (was : Index) (new : List ℕ) (is : Index) : Type 0 where

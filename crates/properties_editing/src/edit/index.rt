@@ -19,9 +19,11 @@ use properties_items::found::{find_item, item_pair};
 use properties_text::encoding::Encoding;
 use std::alloc::{AllocError, Global};
 use std::collections::BTreeMap;
+use std::collections::btree_map::Entry;
 
 pub mod changes;
 mod key_order;
+mod sweep;
 
 /// The pairs with a key.
 #[derive(Drop)]
@@ -53,8 +55,6 @@ pub enum Shift {
     Moved(usize, usize),
     /// What ended in this place is so much longer.
     Lengthened(usize, usize),
-    /// The part that starts in one place is cut out, up to another.
-    Cut(usize, usize),
 }
 
 impl Index {
@@ -112,16 +112,21 @@ impl Index {
     {
         let place = self.spans.len();
         self.spans.push(None)?;
-        let known = self.pairs.remove(key.as_str());
-        let earlier = all_places(alloc, known)?;
-        self.pairs.insert(
-            key,
-            IndexedPair {
-                place,
-                earlier,
-                value,
-            },
-        )?;
+        match self.pairs.entry(key)? {
+            Entry::Occupied(entry) => {
+                let pair = entry.into_mut();
+                pair.earlier.push(pair.place)?;
+                pair.place = place;
+                pair.value = value;
+            }
+            Entry::Vacant(entry) => {
+                entry.insert(IndexedPair {
+                    place,
+                    earlier: Vec::new(alloc),
+                    value,
+                });
+            }
+        }
         self.spans[place] = Some(span);
         Ok(())
     }
@@ -211,18 +216,6 @@ fn pair_of(
     }
 }
 
-// Returns the places of the pairs with a key, in order.
-fn all_places(alloc: Global, known: Option<IndexedPair>) -> Result<Vec<usize>, AllocError>
-    ensures { IfOk result (λ places. places.items ≡ places_of known) }
-{
-    let Some(pair) = known else {
-        return Ok(Vec::new(alloc));
-    };
-    let mut places = pair.earlier;
-    places.push(pair.place)?;
-    Ok(places)
-}
-
 // Makes the parts that end in this place so much longer. Where that is nothing, no part is looked at.
 fn lengthen_spans(spans: &mut Vec<Option<BodySpan>>, place: usize, more: usize)
     ensures { spans.new.items ≡ all_shifted (shift.Lengthened place more) spans.old.items }
@@ -241,7 +234,7 @@ fn shift_spans(spans: &mut Vec<Option<BodySpan>>, change: Shift)
     }
 }
 
-// Returns a part of a body after a change, unless it is cut out.
+// Returns a part of a body after a change.
 fn shifted(span: Option<BodySpan>, change: Shift) -> Option<BodySpan>
     ensures { result ≡ option_and_then (shifted change) span }
 {
@@ -249,13 +242,6 @@ fn shifted(span: Option<BodySpan>, change: Shift) -> Option<BodySpan>
     match change {
         Shift::Moved(old_end, new_end) => Some(moved(span, old_end, new_end)),
         Shift::Lengthened(place, more) => Some(lengthened(span, place, more)),
-        Shift::Cut(start, end) => {
-            if span.start == start {
-                None
-            } else {
-                Some(moved(span, end, start))
-            }
-        }
     }
 }
 

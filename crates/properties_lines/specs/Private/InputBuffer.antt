@@ -1,7 +1,7 @@
 -- The effect of a read into the buffer of undecoded bytes.
 use Rattle.std.specs.Prelude.{◌≡◌, ℕ, ◌+◌, ◌*◌, ◌<◌, ◌≤◌, true, List, [], ◌++◌, length, take, drop, Result, Ok, Err}
 use Rattle.std.specs.declared.io.Error.{Error}
-use Rattle.counted_io.specs.Streams.{Reader, HasRead, HasFailed}
+use Rattle.counted_io.specs.Streams.{Reader, HasRead, HasFailed, has_ended}
 
 -- the bytes that are held, and the size of the free space after them
 pub record Buffer : Type 0 where
@@ -30,7 +30,7 @@ pub record HasFilled {R : Type 0} (reader : Reader R) (held : List ℕ) (old : R
   pub read : HasRead reader old bytes new
   pub added : held' ≡ held ++ bytes
   pub counted : count ≡ length bytes
-  pub ended : bytes ≡ [] → reader.at_end new ≡ true
+  pub ended : bytes ≡ [] → has_ended reader new ≡ true
 
 -- One read: its bytes are held after those already held, or it failed.
 abbrev pub Fills : {R : Type 0} → Reader R → List ℕ → R → Result ℕ Error → List ℕ → R → Type 0
@@ -44,7 +44,7 @@ pub record HasReadAt {R : Type 0} (reader : Reader R) (place : ℕ) (buffer : Li
   pub front : take (place + count) buffer' ≡ take place buffer ++ bytes
   pub counted : count ≡ length bytes
   pub within : place + count ≤ length buffer
-  pub ended : bytes ≡ [] → reader.at_end new ≡ true
+  pub ended : bytes ≡ [] → has_ended reader new ≡ true
 
 -- one read into the space from a place in a buffer on
 abbrev pub ReadsAt : {R : Type 0} → Reader R → ℕ → List ℕ → R → Result ℕ Error → List ℕ → R → Type 0

@@ -11,9 +11,9 @@ use Rattle.properties_tools.specs.Propedit.Get.{Gets}
 use Rattle.properties_tools.specs.Propedit.Listing.{Lists}
 use Rattle.properties_tools.specs.declared.propedit.printed.Answer.{Answer}
 use Rattle.properties_tools.specs.declared.propedit.asked.Command.{Command}
-use Rattle.properties_tools.specs.declared.propedit.asked.Command.TheVariants.{Get, Check, Change}
+use Rattle.properties_tools.specs.declared.propedit.asked.Change.{Change}
+use Rattle.properties_tools.specs.declared.propedit.asked.Command.TheVariants.{Get, Check}
 use Rattle.properties_tools.specs.declared.propedit.asked.Command.TheVariants as command
-use Rattle.properties_tools.specs.declared.propedit.asked.Edits.{Edits}
 use Rattle.properties_tools.specs.declared.propedit.asked.Source.{Source}
 use Rattle.properties_tools.specs.declared.propedit.asked.Source.TheVariants.{StandardInput, File}
 use Rattle.properties_tools.specs.declared.propedit.asked.Work.{Work}
@@ -34,17 +34,17 @@ abbrev pub Checks : List ℕ → Encoding → List ℕ → Result Answer Failure
 Checks name e source (Ok answer) = IsReport name e source answer.text.items × (answer.status ≡ report_status answer.text.items)
 Checks name e source (Err failure) = LacksMemory failure
 
--- What edits give as an answer: the bytes after them, and the status 0.
-abbrev pub ChangesTo : Encoding → List ℕ → Edits → Result Answer Failure → Type 0
-ChangesTo e source edits (Ok answer) = Changes e source edits (Ok answer.text) × (answer.status ≡ 0)
-ChangesTo e source edits (Err failure) = Changes e source edits (Err failure)
+-- What a change gives as an answer: the bytes after it, and the status 0.
+abbrev pub ChangesTo : Encoding → List ℕ → Change → Result Answer Failure → Type 0
+ChangesTo e source change (Ok answer) = Changes e source change (Ok answer.text) × (answer.status ≡ 0)
+ChangesTo e source change (Err failure) = Changes e source change (Err failure)
 
 -- What a command gives for a source of this name in this encoding.
 abbrev pub AnswersCommand : List ℕ → Encoding → Command → List ℕ → Result Answer Failure → Type 0
 AnswersCommand name e (Get key default end) source result = Gets e source (characters key) (option_map characters default) end result
 AnswersCommand name e (command.List prefix end) source result = Lists e source (characters prefix) end result
 AnswersCommand name e Check source result = Checks name e source result
-AnswersCommand name e (Change edits) source result = ChangesTo e source edits result
+AnswersCommand name e (command.Change change) source result = ChangesTo e source change result
 
 -- What the command of some work gives for its source.
 abbrev pub Answers : Work → List ℕ → Result Answer Failure → Type 0

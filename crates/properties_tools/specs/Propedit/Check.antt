@@ -1,7 +1,8 @@
 -- What `check` reports of a source, one finding a line.
-use Rattle.std.specs.Prelude.{◌≡◌, ℕ, ◌==◌, ◌&&◌, not, Bool, if◌then◌else◌, length, List, [], ◌∷◌, ◌++◌, Result, Ok, Err, codes, map, string_bytes}
+use Rattle.std.specs.Prelude.{◌≡◌, ℕ, ◌==◌, ◌&&◌, not, Bool, if◌then◌else◌, length, List, [], ◌∷◌, ◌++◌, Option, Some, None, Result, Ok, Err, codes, map, string_bytes}
 use Rattle.std.specs.Fmt.{decimal}
 use Rattle.std.specs.List.{flat_map, list_any}
+use Rattle.std.specs.Option.{is_some}
 use Rattle.std.specs.List.Sorted.{IsNonDecreasingBy, IsStableByKey}
 use Rattle.std.specs.Ordering.{nat_cmp}
 use Rattle.std.specs.declared.string.String.{String}
@@ -15,37 +16,62 @@ use Rattle.java_properties.specs.MalformedEscapes.{escape_records}
 use Rattle.properties_items.specs.declared.error.ErrorKind.TheVariants as kind
 use Rattle.properties_items.specs.declared.error.PropertiesError.{PropertiesError}
 use Rattle.properties_items.specs.declared.findings.MalformedEscape.{MalformedEscape}
-use Rattle.properties_tools.specs.Propedit.Failures.{escape_reason}
-use Rattle.properties_tools.specs.Propedit.Lines.{AreIllFormedLines}
+use Rattle.properties_tools.specs.Messages.{escaped}
+use Rattle.properties_tools.specs.Propedit.Failures.{escape_reason, ill_formed_words, ill_formed_by_mark_words, not_utf_16_words, zero_words}
+use Rattle.properties_tools.specs.Propedit.Lines.{starts_with_mark, AreFlawedLines, IsFirstFlawed}
+use Rattle.properties_tools.specs.Propedit.Sources.{is_in_utf_16}
 use Rattle.properties_tools.specs.declared.propedit.check.Fault.{Fault}
-use Rattle.properties_tools.specs.declared.propedit.check.Fault.TheVariants.{NotUtf8, Escape, Repeats}
+use Rattle.properties_tools.specs.declared.propedit.check.Fault.TheVariants.{HoldsZero, IllFormedLine, Escape, Repeats}
 use Rattle.properties_tools.specs.declared.propedit.check.Finding.{Finding}
+use Rattle.properties_tools.specs.declared.propedit.check.Words.{Words}
+use Rattle.properties_tools.specs.declared.propedit.check.Words.TheVariants.{WithEncoding, WithMark, NotUtf8, NotUtf16}
+use Rattle.properties_tools.specs.declared.propedit.lines.Flaw.TheVariants.{IllFormed, Zero}
 
 -- ---- findings
 
--- of a line that is not UTF-8
-abbrev pub ill_formed_finding : ℕ → Finding
-ill_formed_finding number = record { line_number = number; fault = NotUtf8 }
+-- of the first line with U+0000, where there is one
+abbrev pub zero_findings : Option ℕ → List Finding
+zero_findings None = []
+zero_findings (Some number) = record { line_number = number; fault = HoldsZero } ∷ []
+
+-- what is said of the first ill-formed line of a source: what helps, if it is not UTF-8 and no line has U+0000
+abbrev pub first_words : Encoding → List ℕ → Bool → Words
+first_words e source has_zero =
+    if is_in_utf_16 e source then NotUtf16 else (if starts_with_mark source then WithMark else (if has_zero then NotUtf8 else WithEncoding))
+
+-- and of those after it, which don't say it again
+abbrev pub words_after : Words → Words
+words_after WithEncoding = NotUtf8
+words_after WithMark = NotUtf8
+words_after NotUtf8 = NotUtf8
+words_after NotUtf16 = NotUtf16
+
+-- of the ill-formed lines, where these words are said of the first
+abbrev pub ill_formed_findings : Words → List ℕ → List Finding
+ill_formed_findings words [] = []
+ill_formed_findings words (number ∷ numbers) = record { line_number = number; fault = IllFormedLine words } ∷ ill_formed_findings (words_after words) numbers
 
 -- of a malformed escape
 abbrev pub escape_finding : MalformedEscape → Finding
 escape_finding escape = record { line_number = escape.line_number; fault = Escape escape }
 
--- whether a text has U+FFFD, as which bytes are read that are not UTF-8
+-- whether a text has U+FFFD, as which ill-formed bytes are read
 abbrev pub has_replacement : List ℕ → Bool
 has_replacement text = list_any (λ c. c == 65533) text
 
--- Of a key: that a pair in an earlier line has it. Where a line is not UTF-8, a key with U+FFFD repeats no other.
+-- Of a key: that a pair in an earlier line has it. Where a line is ill-formed, a key with U+FFFD repeats no other.
 abbrev pub repeat_findings : Bool → KeyEntry → List Finding
 repeat_findings is_well_formed k =
     if k.first == k.number then [] else
     if not is_well_formed && has_replacement k.key then [] else
     record { line_number = k.number; fault = Repeats k.first } ∷ []
 
--- the findings of these ill-formed lines, escapes and keys, one kind after another
-abbrev pub all_findings : List ℕ → List MalformedEscape → List KeyEntry → List Finding
-all_findings numbers escapes keys =
-    map ill_formed_finding numbers ++ (map escape_finding escapes ++ flat_map (repeat_findings (length numbers == 0)) keys)
+-- the findings of this line with U+0000, these ill-formed lines, escapes and keys, one kind after another
+abbrev pub all_findings : Words → Option ℕ → List ℕ → List MalformedEscape → List KeyEntry → List Finding
+all_findings words zero numbers escapes keys =
+    zero_findings zero
+    ++ (ill_formed_findings words numbers
+    ++ (map escape_finding escapes ++ flat_map (repeat_findings (length numbers == 0)) keys))
 
 -- The findings are in the order of their lines, and those of one line in the order that they have in the others.
 pub record ArrangesByLine (findings arranged : List Finding) : Type 0 where
@@ -54,15 +80,23 @@ pub record ArrangesByLine (findings arranged : List Finding) : Type 0 where
 
 -- ---- lines
 
+-- of an ill-formed line
+abbrev pub ill_formed_text : Words → List ℕ
+ill_formed_text WithEncoding = ill_formed_words
+ill_formed_text WithMark = ill_formed_by_mark_words
+ill_formed_text NotUtf8 = codes "not UTF-8"
+ill_formed_text NotUtf16 = not_utf_16_words
+
 -- what is wrong, in words
 abbrev pub fault_words : Fault → List ℕ
-fault_words NotUtf8 = codes "not UTF-8"
+fault_words HoldsZero = zero_words
+fault_words (IllFormedLine words) = ill_formed_text words
 fault_words (Escape escape) = escape_reason escape
 fault_words (Repeats first) = codes "repeats the key of line " ++ decimal first
 
 -- the line `NAME:LINE: TEXT`
 abbrev pub finding_line : List ℕ → Finding → List ℕ
-finding_line name f = name ++ (codes ":" ++ (decimal f.line_number ++ (codes ": " ++ (fault_words f.fault ++ (line_feed ∷ [])))))
+finding_line name f = escaped name ++ (codes ":" ++ (decimal f.line_number ++ (codes ": " ++ (fault_words f.fault ++ (line_feed ∷ [])))))
 
 -- the lines of findings
 abbrev pub finding_lines : List ℕ → List Finding → List ℕ
@@ -71,16 +105,19 @@ finding_lines name (f ∷ fs) = finding_line name f ++ finding_lines name fs
 
 -- ---- the report
 
--- The text has the ill-formed lines of a source, its malformed escapes and its repeated keys, in the order of the lines.
+-- The text has the first line of a source with U+0000, its ill-formed lines, its malformed escapes and its repeated keys, in
+-- the order of the lines.
 pub record IsReport (name : List ℕ) (e : Encoding) (source text : List ℕ) : Type 0 where
+  pub zero : Option ℕ
+  pub is_zero : IsFirstFlawed Zero e source zero
   pub numbers : List ℕ
-  pub ill_formed : AreIllFormedLines e source numbers
+  pub ill_formed : AreFlawedLines IllFormed e source numbers
   pub escapes : List format.MalformedEscape
   pub malformed : AreMalformedEscapes e source escapes
   pub keys : List KeyEntry
   pub are_keys : AreKeyLines e source keys
   pub findings : List Finding
-  pub arranged : ArrangesByLine (all_findings numbers (escape_records escapes) keys) findings
+  pub arranged : ArrangesByLine (all_findings (first_words e source (is_some zero)) zero numbers (escape_records escapes) keys) findings
   pub is : text ≡ finding_lines name findings
 
 -- What reporting returns. It fails only if memory runs out.

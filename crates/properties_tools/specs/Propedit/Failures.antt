@@ -11,9 +11,9 @@ use Rattle.properties_items.specs.declared.error.ErrorKind.TheVariants as kind
 use Rattle.properties_items.specs.declared.error.PropertiesError.{PropertiesError}
 use Rattle.properties_items.specs.declared.error.Reason.{Reason}
 use Rattle.properties_items.specs.declared.findings.MalformedEscape.{MalformedEscape}
-use Rattle.properties_tools.specs.Messages.{printed_line, HasPrintedLine}
+use Rattle.properties_tools.specs.Messages.{escaped, printed_line, HasPrintedLine}
 use Rattle.properties_tools.specs.declared.propedit.error.Failure.{Failure}
-use Rattle.properties_tools.specs.declared.propedit.error.Failure.TheVariants.{NotUtf8, NotUtf8ByMark, Malformed, Input, Output}
+use Rattle.properties_tools.specs.declared.propedit.error.Failure.TheVariants.{HoldsZero, NotUtf8, NotUtf8ByMark, NotUtf16, Malformed, Input, Output}
 
 -- what is printed where memory runs out before a message, or for it
 abbrev pub memory_words : List ℕ
@@ -48,16 +48,33 @@ comment_words false = []
 abbrev pub escape_reason : MalformedEscape → List ℕ
 escape_reason escape = description escape.kind ++ comment_words escape.in_comment
 
+-- of U+0000 in a line
+abbrev pub zero_words : List ℕ
+zero_words = codes "U+0000; if this is UTF-16, -e utf-16le or -e utf-16be reads it"
+
+-- of a line that is not UTF-8, without a byte order mark or with one
+abbrev pub ill_formed_words : List ℕ
+ill_formed_words = codes "not UTF-8; -e windows-1252 reads it"
+
+abbrev pub ill_formed_by_mark_words : List ℕ
+ill_formed_by_mark_words = codes "not UTF-8, though a byte order mark says so"
+
+-- of a line that is not UTF-16
+abbrev pub not_utf_16_words : List ℕ
+not_utf_16_words = codes "not UTF-16"
+
 -- The words are the reason of an error, or say of UTF-16 what can be done, where a source in it was to be edited.
 abbrev pub IsInputReason : PropertiesError → List ℕ → Type 0
 IsInputReason error words =
-    ((kind_of error ≡ kind.Unsupported) × (words ≡ codes "UTF-16 can be read but not edited; convert it first"))
+    ((kind_of error ≡ kind.Unsupported) × (words ≡ codes "UTF-16 can be read but not edited; propedit convert utf-8 converts it"))
     ⊎ ((kind_of error ≢ kind.Unsupported) × IsErrorReason error words)
 
 -- The words are the reason of a failure.
 abbrev pub IsReasonOf : Failure → List ℕ → Type 0
-IsReasonOf (NotUtf8 number) words = words ≡ codes "not UTF-8; -e windows-1252 reads it"
-IsReasonOf (NotUtf8ByMark number) words = words ≡ codes "not UTF-8, though a byte order mark says so"
+IsReasonOf (HoldsZero number) words = words ≡ zero_words
+IsReasonOf (NotUtf8 number) words = words ≡ ill_formed_words
+IsReasonOf (NotUtf8ByMark number) words = words ≡ ill_formed_by_mark_words
+IsReasonOf (NotUtf16 number) words = words ≡ not_utf_16_words
 IsReasonOf (Malformed escape) words = words ≡ escape_reason escape
 IsReasonOf (Input error) words = IsInputReason error words
 IsReasonOf (Output error) words = IsInputReason error words
@@ -66,8 +83,10 @@ IsReasonOf (Output error) words = IsInputReason error words
 
 -- the number of its line, where it is of one
 abbrev pub number_of : Failure → Option ℕ
+number_of (HoldsZero number) = Some number
 number_of (NotUtf8 number) = Some number
 number_of (NotUtf8ByMark number) = Some number
+number_of (NotUtf16 number) = Some number
 number_of (Malformed escape) = Some escape.line_number
 number_of (Input error) = message_line error
 number_of (Output error) = message_line error
@@ -77,8 +96,10 @@ standard_output = codes "standard output"
 
 -- what it is a failure of: the source of this name, or the output
 abbrev pub place_of : List ℕ → Failure → List ℕ
+place_of name (HoldsZero number) = name
 place_of name (NotUtf8 number) = name
 place_of name (NotUtf8ByMark number) = name
+place_of name (NotUtf16 number) = name
 place_of name (Malformed escape) = name
 place_of name (Input error) = name
 place_of name (Output error) = standard_output
@@ -87,8 +108,8 @@ place_of name (Output error) = standard_output
 
 -- `PLACE:LINE`, or `PLACE` where there is no line
 abbrev pub numbered_place : List ℕ → Option ℕ → List ℕ
-numbered_place place None = place
-numbered_place place (Some number) = place ++ (codes ":" ++ decimal number)
+numbered_place place None = escaped place
+numbered_place place (Some number) = escaped place ++ (codes ":" ++ decimal number)
 
 -- `propedit: PLACE:LINE: REASON`, or `propedit: PLACE: REASON`
 abbrev pub message : List ℕ → Option ℕ → List ℕ → List ℕ

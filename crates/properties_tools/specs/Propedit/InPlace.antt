@@ -1,8 +1,8 @@
--- Why a file that is edited in place is not replaced, and what is printed of it.
+-- Why a file that is edited in place is not replaced, or what fails after that, and what is printed of it.
 use Rattle.std.specs.Prelude.{◌≡◌, ◌⊎◌, ℕ, Bool, true, false, List, [], ◌++◌, Option, None, Some, IfSome, codes, string_bytes}
 use Rattle.std.specs.Fmt.{◌++?◌}
 use Rattle.counted_io.specs.Streams.{Sink}
-use Rattle.properties_tools.specs.Messages.{printed_line, HasPrintedLine}
+use Rattle.properties_tools.specs.Messages.{escaped, printed_line, HasPrintedLine}
 use Rattle.properties_tools.specs.Propedit.Failures.{message, PrintsFailure, PrintsOutOfMemory}
 use Rattle.properties_tools.specs.declared.propedit.error.Failure.{Failure}
 use Rattle.properties_tools.specs.declared.propedit.in_place.Problem.{Problem}
@@ -13,7 +13,7 @@ use Rattle.properties_tools.specs.declared.propedit.in_place.ReplaceError.{Repla
 
 -- What failed, where the temporary file has this name. Nothing is specified about an error of the system.
 abbrev pub problem_display : List ℕ → Problem → Option (List ℕ)
-problem_display temporary problem.Held = Some (temporary ++ codes " exists: another run is at work, or was killed; if none is, remove it")
+problem_display temporary problem.Held = Some (escaped temporary ++ codes " exists: another run is at work, or was killed; if none is, remove it")
 problem_display temporary (problem.NotCreated error) = None
 problem_display temporary (problem.NotWritten error) = None
 problem_display temporary (problem.Owner error) = None
@@ -21,13 +21,18 @@ problem_display temporary (problem.Group error) = None
 problem_display temporary (problem.Mode error) = None
 problem_display temporary (problem.NotRead error) = None
 problem_display temporary problem.Changed = Some (codes "changed while it was edited")
-problem_display temporary problem.Taken = Some (temporary ++ codes " was removed or replaced")
+problem_display temporary problem.Taken = Some (escaped temporary ++ codes " was removed or replaced")
 problem_display temporary (problem.NotRenamed error) = None
+problem_display temporary (problem.NotLinked error) = None
+problem_display temporary problem.Appeared = Some (codes "was made by another program meanwhile")
+problem_display temporary problem.Made = Some (codes "is made")
+problem_display temporary (problem.ReplacedUnsynced error) = None
+problem_display temporary (problem.MadeUnsynced error) = None
 
 -- what is added where the temporary file is left
 abbrev pub left_display : List ℕ → Bool → List ℕ
 left_display temporary false = []
-left_display temporary true = codes "; " ++ (temporary ++ codes " is left")
+left_display temporary true = codes "; " ++ (escaped temporary ++ codes " is left")
 
 -- what failed, and the name of the temporary file where it is left
 abbrev pub replace_display : ReplaceError → Option (List ℕ)

@@ -1,46 +1,102 @@
--- The lines of a source that are not well-formed UTF-8.
-use Rattle.std.specs.Prelude.{◌≡◌, ◌⊎◌, ℕ, List, [], ◌∷◌, Result, Ok, Err}
+-- The lines of a source whose bytes are not those of a text: they are ill-formed in the encoding in force, or one of them
+-- is 0 in UTF-8.
+use Rattle.std.specs.Prelude.{◌≡◌, ◌⊎◌, ℕ, nat_eq, ◌==◌, ◌&&◌, not, Bool, true, false, List, [], ◌∷◌, Option, Some, None, Result, Ok, Err}
 use Rattle.std.specs.Global.{Vec}
+use Rattle.std.specs.List.{list_any, starts_with}
 use Rattle.properties_format.specs.Encoding.{Encoding, windows_1252, utf_8, utf_16le, utf_16be, byte_order_mark}
-use Rattle.properties_format.specs.Lines.{end, Line, Lines, IsLines, numbered_lines}
+use Rattle.properties_format.specs.Cut.{IsCut}
+use Rattle.properties_format.specs.Lines.{end, Line, Lines, numbered_lines}
 use Rattle.properties_format.specs.Utf8.{IsWellFormedText}
+use Rattle.properties_format.specs.Utf16.{low_first, high_first}
 use Rattle.java_properties.specs.Errors.{IsBareError}
 use Rattle.properties_items.specs.declared.error.ErrorKind.TheVariants as kind
 use Rattle.properties_items.specs.declared.error.PropertiesError.{PropertiesError}
+use Rattle.properties_tools.specs.Propedit.Utf16.{IsWellFormedUnits}
+use Rattle.properties_tools.specs.declared.propedit.lines.Flaw.{Flaw}
+use Rattle.properties_tools.specs.declared.propedit.lines.Flaw.TheVariants.{IllFormed, Zero}
 
--- These are the numbers of those of the lines whose bytes are not well-formed UTF-8, in order.
-abbrev pub AreIllFormed : List Line → List ℕ → Type 0
-AreIllFormed [] numbers = numbers ≡ []
-AreIllFormed (l ∷ ls) numbers =
-    (IsWellFormedText l.text × AreIllFormed ls numbers)
-    ⊎ (¬ IsWellFormedText l.text × ((rest : List ℕ) × (numbers ≡ l.number ∷ rest) × AreIllFormed ls rest))
+-- ---- of the bytes of a line
 
--- Bytes have natural lines, as a text of these numbers has, and these are the numbers of those that are not well-formed
--- UTF-8. A CR or an LF is no part of a longer sequence, so the lines are those of the text.
-pub record AreIllFormedIn (body : List ℕ) (numbers : List ℕ) : Type 0 where
+-- whether one of the bytes is 0, which is U+0000 in UTF-8
+abbrev pub holds_zero : List ℕ → Bool
+holds_zero bytes = list_any (λ b. b == 0) bytes
+
+-- The bytes are well-formed in this encoding. In windows-1252 every byte is a character.
+abbrev pub IsWellFormedIn : Encoding → List ℕ → Type 0
+IsWellFormedIn windows_1252 bytes = Unit {0}
+IsWellFormedIn utf_8 bytes = IsWellFormedText bytes
+IsWellFormedIn utf_16le bytes = IsWellFormedUnits low_first bytes
+IsWellFormedIn utf_16be bytes = IsWellFormedUnits high_first bytes
+
+-- The bytes have this flaw in this encoding.
+abbrev pub HasFlaw : Flaw → Encoding → List ℕ → Type 0
+HasFlaw IllFormed e bytes = ¬ IsWellFormedIn e bytes
+HasFlaw Zero e bytes = holds_zero bytes ≡ true
+
+-- The bytes don't have it.
+abbrev pub LacksFlaw : Flaw → Encoding → List ℕ → Type 0
+LacksFlaw IllFormed e bytes = IsWellFormedIn e bytes
+LacksFlaw Zero e bytes = holds_zero bytes ≡ false
+
+-- ---- of a body
+
+-- These are the numbers of those of the lines whose bytes have this flaw, in order.
+abbrev pub AreFlawed : Flaw → Encoding → List Line → List ℕ → Type 0
+AreFlawed flaw e [] numbers = numbers ≡ []
+AreFlawed flaw e (l ∷ ls) numbers =
+    (LacksFlaw flaw e l.text × AreFlawed flaw e ls numbers)
+    ⊎ (HasFlaw flaw e l.text × ((rest : List ℕ) × (numbers ≡ l.number ∷ rest) × AreFlawed flaw e ls rest))
+
+-- The bytes of a body are divided into natural lines before they are decoded, and these are the numbers of the lines with
+-- this flaw.
+pub record AreFlawedIn (flaw : Flaw) (e : Encoding) (body : List ℕ) (numbers : List ℕ) : Type 0 where
   pub lines : Lines
-  pub divided : IsLines body lines
-  pub are : AreIllFormed (numbered_lines lines end) numbers
+  pub divided : IsCut e body lines
+  pub are : AreFlawed flaw e (numbered_lines lines end) numbers
 
--- These are the numbers of the lines of a body in this encoding that are not well-formed UTF-8. Only a body in UTF-8 has such lines.
-abbrev pub AreIllFormedUnder : Encoding → List ℕ → List ℕ → Type 0
-AreIllFormedUnder windows_1252 body numbers = numbers ≡ []
-AreIllFormedUnder utf_8 body numbers = AreIllFormedIn body numbers
-AreIllFormedUnder utf_16le body numbers = numbers ≡ []
-AreIllFormedUnder utf_16be body numbers = numbers ≡ []
+-- ---- of a source
 
--- These are the numbers of the lines of a source that are not well-formed UTF-8, where that is in force.
-abbrev pub AreIllFormedLines : Encoding → List ℕ → List ℕ → Type 0
-AreIllFormedLines e source numbers = AreIllFormedUnder (byte_order_mark e source).encoding (byte_order_mark e source).body numbers
+-- whether a source begins with the byte order mark of UTF-8
+abbrev pub starts_with_mark : List ℕ → Bool
+starts_with_mark source = starts_with nat_eq source (239 ∷ 187 ∷ 191 ∷ [])
+
+-- whether an encoding is UTF-8, and whether it is one of the two of UTF-16
+abbrev pub is_utf_8 : Encoding → Bool
+is_utf_8 windows_1252 = false
+is_utf_8 utf_8 = true
+is_utf_8 utf_16le = false
+is_utf_8 utf_16be = false
+
+abbrev pub is_utf_16 : Encoding → Bool
+is_utf_16 windows_1252 = false
+is_utf_16 utf_8 = false
+is_utf_16 utf_16le = true
+is_utf_16 utf_16be = true
+
+-- Whether a flaw is sought. A byte order mark says that the source isn't UTF-16, so a byte 0 is no flaw after one.
+abbrev pub is_sought : Flaw → Encoding → List ℕ → Bool
+is_sought IllFormed e source = true
+is_sought Zero e source = is_utf_8 (byte_order_mark e source).encoding && not (starts_with_mark source)
+
+-- These are the numbers of the lines of a source that have this flaw, if it is sought.
+abbrev pub AreFlawedLines : Flaw → Encoding → List ℕ → List ℕ → Type 0
+AreFlawedLines flaw e source numbers =
+    ((is_sought flaw e source ≡ true) × AreFlawedIn flaw (byte_order_mark e source).encoding (byte_order_mark e source).body numbers)
+    ⊎ ((is_sought flaw e source ≡ false) × (numbers ≡ []))
+
+-- This is the number of the first line with this flaw, where there is one.
+abbrev pub IsFirstFlawed : Flaw → Encoding → List ℕ → Option ℕ → Type 0
+IsFirstFlawed flaw e source None = AreFlawedLines flaw e source []
+IsFirstFlawed flaw e source (Some number) = (others : List ℕ) × AreFlawedLines flaw e source (number ∷ others)
 
 -- ---- what finding them returns
 
 -- These numbers were found, and there are no others.
-pub record HasIllFormed (e : Encoding) (source : List ℕ) (numbers : List ℕ) : Type 0 where
-  pub are : AreIllFormedLines e source numbers
-  pub only : (others : List ℕ) → AreIllFormedLines e source others → others ≡ numbers
+pub record HasFlawed (flaw : Flaw) (e : Encoding) (source : List ℕ) (numbers : List ℕ) : Type 0 where
+  pub are : AreFlawedLines flaw e source numbers
+  pub only : (others : List ℕ) → AreFlawedLines flaw e source others → others ≡ numbers
 
--- What finding them returns. It fails only if memory runs out.
+-- What finding the ill-formed lines returns. It fails only if memory runs out.
 abbrev pub FindsIllFormed : Encoding → List ℕ → Result (Vec ℕ) PropertiesError → Type 0
-FindsIllFormed e source (Ok numbers) = HasIllFormed e source numbers.items
+FindsIllFormed e source (Ok numbers) = HasFlawed IllFormed e source numbers.items
 FindsIllFormed e source (Err error) = IsBareError kind.Memory error

@@ -1,8 +1,7 @@
 -- What is found in a source that is held whole, and when it is refused.
-use Rattle.std.specs.Prelude.{◌≡◌, ◌⊎◌, ℕ, nat_eq, Bool, true, false, List, [], ◌∷◌, Result, Ok, Err}
+use Rattle.std.specs.Prelude.{◌≡◌, ◌⊎◌, ℕ, Bool, true, false, List, [], ◌∷◌, Some, Result, Ok, Err}
 use Rattle.std.specs.Global.{Vec}
-use Rattle.std.specs.List.{starts_with}
-use Rattle.properties_format.specs.Encoding.{Encoding}
+use Rattle.properties_format.specs.Encoding.{Encoding, byte_order_mark}
 use Rattle.properties_format.specs.MalformedEscapes as format
 use Rattle.properties_format.specs.MalformedEscapes.{AreMalformedEscapes}
 use Rattle.java_properties.specs.Errors.{IsBareError}
@@ -12,9 +11,10 @@ use Rattle.properties_items.specs.declared.error.ErrorKind.TheVariants as kind
 use Rattle.properties_items.specs.declared.error.PropertiesError.{PropertiesError}
 use Rattle.properties_items.specs.declared.findings.KeyLine.{KeyLine}
 use Rattle.properties_items.specs.declared.findings.MalformedEscape.{MalformedEscape}
-use Rattle.properties_tools.specs.Propedit.Lines.{AreIllFormedLines}
+use Rattle.properties_tools.specs.Propedit.Lines.{is_utf_16, starts_with_mark, AreFlawedLines, IsFirstFlawed}
 use Rattle.properties_tools.specs.declared.propedit.error.Failure.{Failure}
-use Rattle.properties_tools.specs.declared.propedit.error.Failure.TheVariants.{NotUtf8, NotUtf8ByMark, Malformed, Input, Output}
+use Rattle.properties_tools.specs.declared.propedit.error.Failure.TheVariants.{HoldsZero, NotUtf8, NotUtf8ByMark, NotUtf16, Malformed, Input, Output}
+use Rattle.properties_tools.specs.declared.propedit.lines.Flaw.TheVariants.{IllFormed, Zero}
 
 -- These are the malformed escapes of a source, and the only ones.
 pub record HasMalformed (e : Encoding) (source : List ℕ) (found : List MalformedEscape) : Type 0 where
@@ -38,24 +38,17 @@ abbrev pub FindsKeysIn : Encoding → List ℕ → Result (Vec KeyLine) Properti
 FindsKeysIn e source (Ok found) = HasKeys e source found.items
 FindsKeysIn e source (Err error) = IsBareError kind.Memory error
 
--- ---- refusals
+-- ---- refusals for bytes
 
--- No line is ill-formed where UTF-8 is in force, and no escape is malformed.
-pub record IsSound (e : Encoding) (source : List ℕ) : Type 0 where
-  pub well_formed : AreIllFormedLines e source []
-  pub resolved : AreMalformedEscapes e source []
+-- No line has a byte 0, if UTF-8 is in force without a byte order mark, and none is ill-formed.
+pub record HasSoundBytes (e : Encoding) (source : List ℕ) : Type 0 where
+  pub without_zeros : AreFlawedLines Zero e source []
+  pub well_formed : AreFlawedLines IllFormed e source []
 
--- This is the first malformed escape, and no line is ill-formed where UTF-8 is in force.
-pub record IsFirstMalformed (e : Encoding) (source : List ℕ) (found : MalformedEscape) : Type 0 where
-  pub well_formed : AreIllFormedLines e source []
-  pub escape : format.MalformedEscape
-  pub others : List format.MalformedEscape
-  pub are : AreMalformedEscapes e source (escape ∷ others)
-  pub is : found ≡ escape_record escape
-
--- whether a source begins with the byte order mark of UTF-8
-abbrev pub starts_with_mark : List ℕ → Bool
-starts_with_mark source = starts_with nat_eq source (239 ∷ 187 ∷ 191 ∷ [])
+-- This is the first ill-formed line, and no line has such a byte 0.
+pub record IsFirstIllFormed (e : Encoding) (source : List ℕ) (number : ℕ) : Type 0 where
+  pub without_zeros : AreFlawedLines Zero e source []
+  pub first : IsFirstFlawed IllFormed e source (Some number)
 
 -- the failure of a line that is not UTF-8
 abbrev pub IsNotUtf8 : List ℕ → ℕ → Failure → Type 0
@@ -63,11 +56,53 @@ IsNotUtf8 source number failure =
     ((starts_with_mark source ≡ false) × (failure ≡ NotUtf8 number))
     ⊎ ((starts_with_mark source ≡ true) × (failure ≡ NotUtf8ByMark number))
 
--- Why a source is refused, or not even looked through: its first ill-formed line; where there is none, its first malformed
--- escape; or memory ran out.
+-- whether UTF-16 is in force
+abbrev pub is_in_utf_16 : Encoding → List ℕ → Bool
+is_in_utf_16 e source = is_utf_16 (byte_order_mark e source).encoding
+
+-- the failure of an ill-formed line
+abbrev pub IsIllFormedLine : Encoding → List ℕ → ℕ → Failure → Type 0
+IsIllFormedLine e source number failure =
+    ((is_in_utf_16 e source ≡ true) × (failure ≡ NotUtf16 number))
+    ⊎ ((is_in_utf_16 e source ≡ false) × IsNotUtf8 source number failure)
+
+-- Why a source is refused for its bytes: its first line with a byte 0, if no byte order mark says that it is UTF-8; where
+-- there is none, its first ill-formed line.
+abbrev pub HasUnsoundBytes : Encoding → List ℕ → Failure → Type 0
+HasUnsoundBytes e source (HoldsZero number) = IsFirstFlawed Zero e source (Some number)
+HasUnsoundBytes e source (NotUtf8 number) = IsFirstIllFormed e source number × (is_in_utf_16 e source ≡ false) × (starts_with_mark source ≡ false)
+HasUnsoundBytes e source (NotUtf8ByMark number) = IsFirstIllFormed e source number × (is_in_utf_16 e source ≡ false) × (starts_with_mark source ≡ true)
+HasUnsoundBytes e source (NotUtf16 number) = IsFirstIllFormed e source number × (is_in_utf_16 e source ≡ true)
+HasUnsoundBytes e source (Malformed escape) = ⊥
+HasUnsoundBytes e source (Input error) = ⊥
+HasUnsoundBytes e source (Output error) = ⊥
+
+abbrev pub RefusesBytes : Encoding → List ℕ → Result Unit Failure → Type 0
+RefusesBytes e source (Ok done) = HasSoundBytes e source
+RefusesBytes e source (Err failure) = HasUnsoundBytes e source failure
+
+-- ---- refusals
+
+-- Its bytes are sound, and no escape is malformed.
+pub record IsSound (e : Encoding) (source : List ℕ) : Type 0 where
+  pub bytes : HasSoundBytes e source
+  pub resolved : AreMalformedEscapes e source []
+
+-- This is the first malformed escape, and the bytes are sound.
+pub record IsFirstMalformed (e : Encoding) (source : List ℕ) (found : MalformedEscape) : Type 0 where
+  pub bytes : HasSoundBytes e source
+  pub escape : format.MalformedEscape
+  pub others : List format.MalformedEscape
+  pub are : AreMalformedEscapes e source (escape ∷ others)
+  pub is : found ≡ escape_record escape
+
+-- Why a source is refused, or not even looked through: its bytes; where these are sound, its first malformed escape; or
+-- memory ran out.
 abbrev pub IsUnsound : Encoding → List ℕ → Failure → Type 0
-IsUnsound e source (NotUtf8 number) = (others : List ℕ) × AreIllFormedLines e source (number ∷ others) × (starts_with_mark source ≡ false)
-IsUnsound e source (NotUtf8ByMark number) = (others : List ℕ) × AreIllFormedLines e source (number ∷ others) × (starts_with_mark source ≡ true)
+IsUnsound e source (HoldsZero number) = HasUnsoundBytes e source (HoldsZero number)
+IsUnsound e source (NotUtf8 number) = HasUnsoundBytes e source (NotUtf8 number)
+IsUnsound e source (NotUtf8ByMark number) = HasUnsoundBytes e source (NotUtf8ByMark number)
+IsUnsound e source (NotUtf16 number) = HasUnsoundBytes e source (NotUtf16 number)
 IsUnsound e source (Malformed escape) = IsFirstMalformed e source escape
 IsUnsound e source (Input error) = IsBareError kind.Memory error
 IsUnsound e source (Output error) = ⊥

@@ -4,7 +4,7 @@ ghost use Rattle.std.specs.Prelude.{◌≡◌};
 ghost use Rattle.properties_text.specs.Encoding.{encoding_of};
 ghost use Rattle.properties_tools.specs.Propedit.Answers.{Answers, Checks, ChangesTo, name_of};
 
-use crate::propedit::asked::{Command, Edits, Source, Work};
+use crate::propedit::asked::{Change, Command, Source, Work};
 use crate::propedit::change::change;
 use crate::propedit::check::report;
 use crate::propedit::error::Failure;
@@ -49,7 +49,7 @@ pub fn answer_to(alloc: Global, work: &Work, source: &[u8]) -> Result<Answer, Fa
         }
         Command::List(prefix, end) => list(alloc, source, work.encoding, prefix.as_str(), *end),
         Command::Check => check(alloc, name(&work.source), source, work.encoding),
-        Command::Change(edits) => changed(alloc, source, work.encoding, edits),
+        Command::Change(change) => changed(alloc, source, work.encoding, change),
     }
 }
 
@@ -62,15 +62,15 @@ fn check(alloc: Global, name: &str, source: &[u8], encoding: Encoding) -> Result
     Ok(Answer { text, status })
 }
 
-// Returns a source after edits.
+// Returns a source after a change.
 fn changed(
     alloc: Global,
     source: &[u8],
     encoding: Encoding,
-    edits: &Edits,
+    asked: &Change,
 ) -> Result<Answer, Failure>
-    ensures { ChangesTo (encoding_of encoding) source.now edits.now result }
+    ensures { ChangesTo (encoding_of encoding) source.now asked.now result }
 {
-    let text = change(alloc, source, encoding, edits)?;
+    let text = change(alloc, source, encoding, asked)?;
     Ok(Answer { text, status: 0 })
 }

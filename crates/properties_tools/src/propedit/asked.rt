@@ -1,6 +1,6 @@
 // What the arguments of `propedit` ask for.
 
-use java_properties::{Edit, Encoding};
+use java_properties::{Edit, Encoding, Repertoire, Spelling};
 
 /// What the arguments ask for.
 #[derive(Drop)]
@@ -9,8 +9,8 @@ pub enum Request {
     Work(Work),
     /// A check of each of these files.
     CheckFiles(CheckedFiles),
-    /// Edits of a file in place.
-    EditFile(FileEdits),
+    /// A change of a file in place.
+    EditFile(FileChange),
 }
 
 /// A command, and what it is done to.
@@ -31,15 +31,24 @@ pub struct CheckedFiles {
     pub paths: Vec<String>,
 }
 
-/// A file that is edited in place.
+/// A file that is changed in place.
 #[derive(Drop)]
-pub struct FileEdits {
+pub struct FileChange {
     pub path: String,
     /// The encoding of the file. A byte order mark overrules it.
     pub encoding: Encoding,
-    pub edits: Edits,
+    pub change: Change,
     /// What is done if there is no such file.
     pub missing: Missing,
+}
+
+/// A change of a source.
+#[derive(Drop)]
+pub enum Change {
+    /// Make these edits.
+    Edits(Edits),
+    /// Convert it.
+    Conversion(Conversion),
 }
 
 /// Edits, and how they are written.
@@ -47,11 +56,20 @@ pub struct FileEdits {
 pub struct Edits {
     /// They are made in order. There is one at least, and each sets a value or removes a key.
     pub list: Vec<Edit>,
-    /// Whether they are written in ASCII alone.
+    /// Whether what they put in is ASCII-only.
     pub ascii_only: bool,
 }
 
-/// What is done if a file that is to be edited is missing.
+/// A conversion, which keeps all but the encoding and the spelling of characters.
+#[derive(Clone, Copy, Debug, PartialEq, Eq)]
+pub struct Conversion {
+    /// The characters that are written as they are. All others are written as escapes.
+    pub target: Repertoire,
+    /// Whether those that are spelt as escapes become characters.
+    pub spelling: Spelling,
+}
+
+/// What is done if a file that is to be changed is missing.
 #[derive(Clone, Copy, Debug, PartialEq, Eq)]
 pub enum Missing {
     /// It is an error.
@@ -77,8 +95,8 @@ pub enum Command {
     List(String, TextEnd),
     /// Print what is wrong.
     Check,
-    /// Make these edits.
-    Change(Edits),
+    /// Print the source after this change.
+    Change(Change),
 }
 
 /// What ends a text that is printed.

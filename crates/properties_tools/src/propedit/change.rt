@@ -1,34 +1,57 @@
-// A source after edits.
+// A source after a change.
 
 ghost use Rattle.properties_text.specs.Encoding.{encoding_of};
-ghost use Rattle.properties_tools.specs.Propedit.Change.{Changes};
+ghost use Rattle.properties_tools.specs.Propedit.Change.{Changes, ChangesByEdits, Converts};
 
-use crate::propedit::asked::Edits;
+use crate::propedit::asked::{Change, Conversion, Edits};
 use crate::propedit::error::Failure;
-use crate::propedit::source::refuse_unsound;
-use java_properties::{Encoding, edit_all, edit_all_ascii};
+use crate::propedit::source::{refuse_bytes, refuse_unsound};
+use java_properties::{Encoding, convert, edit_all, edit_all_ascii};
 use std::alloc::Global;
 
-/// Returns the bytes of a source after edits, which are made in order.
+/// Returns the bytes of a source after a change.
 ///
-/// It refuses a source that is not UTF-8 though that is in force, or that has a malformed escape, and then one in
-/// UTF-16.
+/// It refuses a source for its bytes: lines that are ill-formed in the encoding in force, or U+0000 if UTF-8 is in force
+/// without a byte order mark. Edits refuse a malformed escape too, and then UTF-16. A conversion keeps what is
+/// malformed.
 ///
 /// ```text
-/// let edits = Edits {
+/// let edits = Change::Edits(Edits {
 ///     list: vec![in alloc; Edit::SetValue(port, value)]?,
 ///     ascii_only: false,
-/// };
+/// });
 /// let bytes = change(alloc, b"# the front door\nport = 80\n", Encoding::UTF_8, &edits)?;
 /// // If the value is `8080`: `# the front door`, a line feed, `port = 8080` and a line feed.
+///
+/// let to_ascii = Change::Conversion(Conversion {
+///     target: Repertoire::Ascii,
+///     spelling: Spelling::Kept,
+/// });
+/// let bytes = change(alloc, b"# caf\xe9\n", Encoding::WINDOWS_1252, &to_ascii)?;
+/// // `# caf\u00e9` and a line feed.
 /// ```
 pub fn change(
     alloc: Global,
     source: &[u8],
     encoding: Encoding,
+    change: &Change,
+) -> Result<Vec<u8>, Failure>
+    ensures { Changes (encoding_of encoding) source.now change.now result }
+{
+    match change {
+        Change::Edits(edits) => edited(alloc, source, encoding, edits),
+        Change::Conversion(conversion) => converted(alloc, source, encoding, *conversion),
+    }
+}
+
+// Returns the bytes of a source after edits.
+fn edited(
+    alloc: Global,
+    source: &[u8],
+    encoding: Encoding,
     edits: &Edits,
 ) -> Result<Vec<u8>, Failure>
-    ensures { Changes (encoding_of encoding) source.now edits.now result }
+    ensures { ChangesByEdits (encoding_of encoding) source.now edits.now result }
 {
     refuse_unsound(alloc, source, encoding)?;
     let bytes = if edits.ascii_only {
@@ -37,4 +60,23 @@ pub fn change(
         edit_all(alloc, source, encoding, &edits.list)?
     };
     Ok(bytes)
+}
+
+// Returns the bytes of a source after a conversion.
+fn converted(
+    alloc: Global,
+    source: &[u8],
+    encoding: Encoding,
+    conversion: Conversion,
+) -> Result<Vec<u8>, Failure>
+    ensures { Converts (encoding_of encoding) source.now conversion result }
+{
+    refuse_bytes(source, encoding)?;
+    Ok(convert(
+        alloc,
+        source,
+        encoding,
+        conversion.target,
+        conversion.spelling,
+    )?)
 }

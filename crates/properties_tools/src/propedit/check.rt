@@ -7,10 +7,12 @@ ghost use Rattle.std.specs.String.{string_bytes};
 ghost use Rattle.java_properties.specs.KeyLines.{key_line_entry, key_line_entries};
 ghost use Rattle.properties_text.specs.Encoding.{encoding_of};
 ghost use Rattle.properties_tools.specs.Propedit.Failures.{comment_words};
-ghost use Rattle.properties_tools.specs.Propedit.Check.{escape_finding, finding_line, finding_lines, has_replacement, ill_formed_finding, repeat_findings, ArrangesByLine, Reports};
+ghost use Rattle.properties_tools.specs.Propedit.Check.{escape_finding, finding_line, finding_lines, first_words, has_replacement, ill_formed_findings, ill_formed_text, repeat_findings, words_after, zero_findings, ArrangesByLine, Reports};
 
-use crate::propedit::lines::ill_formed_lines;
-use crate::propedit::source::{keys_in, malformed_in};
+use crate::messages::Escaped;
+use crate::propedit::error::{HOLDS_ZERO, NOT_UTF_8, NOT_UTF_8_BY_MARK, NOT_UTF_16};
+use crate::propedit::lines::{Flaw, first_flawed_line, has_mark, ill_formed_lines};
+use crate::propedit::source::{in_utf_16, keys_in, malformed_in};
 use java_properties::{Encoding, KeyLine, MalformedEscape, PropertiesError};
 use std::alloc::{AllocError, Global};
 use std::fmt;
@@ -24,22 +26,36 @@ struct Finding {
 
 #[derive(Clone, Copy)]
 enum Fault {
-    NotUtf8,
+    // U+0000, in the first line that has it.
+    HoldsZero,
+    IllFormedLine(Words),
     Escape(MalformedEscape),
     // The key of this earlier line.
     Repeats(usize),
 }
 
-/// Returns what is wrong in a source, a line for each finding, in the order of the source's lines: lines that are not
-/// UTF-8 though that is in force, malformed escapes, and pairs that repeat a key. The text is empty if nothing is
-/// wrong. Fails only if memory runs out.
+// What is said of an ill-formed line.
+#[derive(Clone, Copy)]
+enum Words {
+    // It is not UTF-8, and another encoding reads it.
+    WithEncoding,
+    // It is not UTF-8, though a byte order mark says so, and no option helps.
+    WithMark,
+    // It is not UTF-8. Another finding has said what helps.
+    NotUtf8,
+    NotUtf16,
+}
+
+/// Returns what is wrong in a source, a line for each finding, in the order of the source's lines: the first line with
+/// U+0000, if UTF-8 is in force without a byte order mark; the lines that are ill-formed in the encoding in force;
+/// malformed escapes; and pairs that repeat a key. The text is empty if nothing is wrong. Fails only if memory runs out.
 ///
-/// If a line is not UTF-8, a key with U+FFFD repeats no other, since that character may stand for any bytes.
+/// If a line is ill-formed, a key with U+FFFD repeats no other, since that character may stand for any bytes.
 ///
 /// ```text
 /// let text = report(alloc, "my.properties", b"# C:\\users\na=1\na=\xe9", Encoding::UTF_8)?;
 /// // my.properties:1: Malformed \uxxxx encoding: not hex. (in a comment)
-/// // my.properties:3: not UTF-8
+/// // my.properties:3: not UTF-8; -e windows-1252 reads it
 /// // my.properties:3: repeats the key of line 2
 /// ```
 pub fn report(
@@ -52,7 +68,10 @@ pub fn report(
 {
     let numbers = ill_formed_lines(alloc, source, encoding)?;
     let mut findings = Vec::new(alloc);
-    push_ill_formed(&mut findings, &numbers)?;
+    let zero = first_flawed_line(source, encoding, Flaw::Zero);
+    push_zero(&mut findings, zero)?;
+    let words = words_for(source, encoding, zero.is_some());
+    push_ill_formed(&mut findings, &numbers, words)?;
     push_malformed(&mut findings, &malformed_in(alloc, source, encoding)?)?;
     push_repeats(
         &mut findings,
@@ -65,14 +84,57 @@ pub fn report(
     Ok(text)
 }
 
-fn push_ill_formed(findings: &mut Vec<Finding>, numbers: &[usize]) -> Result<(), AllocError>
-    ensures { OnOk result (findings.new.items ≡ findings.old.items ++ map ill_formed_finding numbers.now) }
+fn push_zero(findings: &mut Vec<Finding>, number: Option<usize>) -> Result<(), AllocError>
+    ensures { OnOk result (findings.new.items ≡ findings.old.items ++ zero_findings number) }
 {
+    let Some(number) = number else {
+        return Ok(());
+    };
+    Ok(findings.push(Finding {
+        line_number: number,
+        fault: Fault::HoldsZero,
+    })?)
+}
+
+// Returns what is said of the first ill-formed line of a source. If it has U+0000, that line's words have said what helps.
+fn words_for(source: &[u8], encoding: Encoding, has_zero: bool) -> Words
+    ensures { result ≡ first_words (encoding_of encoding) source.now has_zero }
+{
+    if in_utf_16(source, encoding) {
+        Words::NotUtf16
+    } else if has_mark(source) {
+        Words::WithMark
+    } else if has_zero {
+        Words::NotUtf8
+    } else {
+        Words::WithEncoding
+    }
+}
+
+// Returns what is said of the ill-formed lines after one.
+fn words_after(words: Words) -> Words
+    ensures { result ≡ words_after words }
+{
+    match words {
+        Words::NotUtf16 => Words::NotUtf16,
+        _ => Words::NotUtf8,
+    }
+}
+
+fn push_ill_formed(
+    findings: &mut Vec<Finding>,
+    numbers: &[usize],
+    first: Words,
+) -> Result<(), AllocError>
+    ensures { OnOk result (findings.new.items ≡ findings.old.items ++ ill_formed_findings first numbers.now) }
+{
+    let mut words = first;
     for number in numbers {
         findings.push(Finding {
             line_number: *number,
-            fault: Fault::NotUtf8,
+            fault: Fault::IllFormedLine(words),
         })?;
+        words = words_after(words);
     }
     Ok(())
 }
@@ -157,6 +219,7 @@ fn push_lines(text: &mut String, name: &str, findings: &[Finding]) -> Result<(),
 fn push_line(text: &mut String, name: &str, finding: &Finding) -> Result<(), AllocError>
     ensures { OnOk result (string_bytes text.new ≡ string_bytes text.old ++ finding_line name.now finding.now) }
 {
+    let name = Escaped(name);
     write!(text, "{name}:{}: {}\n", finding.line_number, finding.fault)
 }
 
@@ -168,13 +231,25 @@ impl fmt::Display for Fault {
 
     fn fmt<W: fmt::Write>(&self, f: &mut fmt::Formatter<W>) -> fmt::Result {
         match self {
-            Fault::NotUtf8 => f.write_str("not UTF-8"),
+            Fault::HoldsZero => f.write_str(HOLDS_ZERO),
+            Fault::IllFormedLine(words) => f.write_str(ill_formed_words(*words)),
             Fault::Escape(escape) => {
                 let place = place_words(escape.in_comment);
                 write!(f, "{}{place}", escape.kind)
             }
             Fault::Repeats(first) => write!(f, "repeats the key of line {first}"),
         }
+    }
+}
+
+fn ill_formed_words(words: Words) -> &'static str
+    ensures { result.now ≡ ill_formed_text words }
+{
+    match words {
+        Words::WithEncoding => NOT_UTF_8,
+        Words::WithMark => NOT_UTF_8_BY_MARK,
+        Words::NotUtf8 => "not UTF-8",
+        Words::NotUtf16 => NOT_UTF_16,
     }
 }
 

@@ -4,7 +4,7 @@ ghost use Rattle.std.specs.Prelude.{◌≡◌, IfOk, string_bytes};
 ghost use Rattle.counted_io.specs.Streams.{IsSameSink};
 ghost use Rattle.properties_tools.specs.Propedit.Failures.{escape_reason, number_of, place_of, IsInputReason, IsIoFailure, IsMessageLine, IsReasonOf, LacksMemory, PrintsFailure};
 
-use crate::messages::print_line;
+use crate::messages::{Escaped, print_line};
 use counted_io::CountedWrite;
 use java_properties::{ErrorKind, MalformedEscape, PropertiesError};
 use std::alloc::{AllocError, Global};
@@ -16,19 +16,32 @@ pub const STANDARD_OUTPUT: &str = "standard output";
 /// What is printed if there is no memory for a message.
 pub(crate) const NO_MEMORY: &str = "propedit: Out of memory.\n";
 
-const NOT_UTF_8: &str = "not UTF-8; -e windows-1252 reads it";
+/// What is said of U+0000 in a source without a byte order mark.
+pub(crate) const HOLDS_ZERO: &str =
+    "U+0000; if this is UTF-16, -e utf-16le or -e utf-16be reads it";
 
-const NOT_UTF_8_BY_MARK: &str = "not UTF-8, though a byte order mark says so";
+/// What is said of a line that is not UTF-8, in a source without a byte order mark.
+pub(crate) const NOT_UTF_8: &str = "not UTF-8; -e windows-1252 reads it";
 
-const UTF_16: &str = "UTF-16 can be read but not edited; convert it first";
+/// What is said of it in a source with the byte order mark of UTF-8.
+pub(crate) const NOT_UTF_8_BY_MARK: &str = "not UTF-8, though a byte order mark says so";
+
+/// What is said of a line that is not UTF-16.
+pub(crate) const NOT_UTF_16: &str = "not UTF-16";
+
+const UTF_16: &str = "UTF-16 can be read but not edited; propedit convert utf-8 converts it";
 
 /// Why a command fails.
 #[derive(Debug, Drop)]
 pub enum Failure {
+    /// The line of this number has U+0000, though UTF-8 is in force without a byte order mark.
+    HoldsZero(usize),
     /// The line of this number is not UTF-8, which is in force without a byte order mark.
     NotUtf8(usize),
     /// The line of this number is not UTF-8, of which the source has the byte order mark.
     NotUtf8ByMark(usize),
+    /// The line of this number is not UTF-16, which is in force.
+    NotUtf16(usize),
     /// The source has this malformed escape.
     Malformed(MalformedEscape),
     /// The source can't be read or edited, or memory ran out.
@@ -82,7 +95,10 @@ impl Failure {
         ensures { result ≡ number_of self.now }
     {
         match self {
-            Failure::NotUtf8(number) | Failure::NotUtf8ByMark(number) => Some(*number),
+            Failure::HoldsZero(number)
+            | Failure::NotUtf8(number)
+            | Failure::NotUtf8ByMark(number)
+            | Failure::NotUtf16(number) => Some(*number),
             Failure::Malformed(escape) => Some(escape.line_number),
             Failure::Input(error) | Failure::Output(error) => error.at("").line_number(),
         }
@@ -92,8 +108,10 @@ impl Failure {
         ensures { IfOk result (λ text. IsReasonOf self.now (string_bytes text)) }
     {
         match self {
+            Failure::HoldsZero(_) => String::from_str(alloc, HOLDS_ZERO),
             Failure::NotUtf8(_) => String::from_str(alloc, NOT_UTF_8),
             Failure::NotUtf8ByMark(_) => String::from_str(alloc, NOT_UTF_8_BY_MARK),
+            Failure::NotUtf16(_) => String::from_str(alloc, NOT_UTF_16),
             Failure::Malformed(escape) => reason_of_escape(alloc, escape),
             Failure::Input(error) | Failure::Output(error) => reason_of_error(alloc, error),
         }
@@ -126,10 +144,11 @@ fn message(alloc: Global, name: &str, failure: &Failure) -> Result<String, Alloc
     ensures { IfOk result (λ line. IsMessageLine name.now failure.now (string_bytes line)) }
 {
     let place = failure.place(name);
+    let shown = Escaped(place);
     let reason = failure.reason(alloc)?;
     match failure.line_number() {
-        Some(number) => format!(in alloc; "propedit: {place}:{number}: {reason}\n"),
-        None => format!(in alloc; "propedit: {place}: {reason}\n"),
+        Some(number) => format!(in alloc; "propedit: {shown}:{number}: {reason}\n"),
+        None => format!(in alloc; "propedit: {shown}: {reason}\n"),
     }
 }
 

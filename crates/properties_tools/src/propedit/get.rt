@@ -17,7 +17,8 @@ use std::alloc::{AllocError, Global};
 /// Returns the last value of a key, or the default if no pair has the key, and the byte that ends it. If there is
 /// neither, the text is empty and the status is 1.
 ///
-/// It refuses a source that is not UTF-8 though that is in force, or that has a malformed escape.
+/// It refuses a source for its bytes: lines that are ill-formed in the encoding in force, or U+0000 if UTF-8 is in force
+/// without a byte order mark. It refuses a malformed escape too.
 ///
 /// ```text
 /// let answer = get(alloc, b"b = 1\nb = 2", Encoding::UTF_8, "b", None, TextEnd::LineFeed)?;

@@ -3,10 +3,12 @@
 ghost use Rattle.std.specs.Prelude.{◌≡◌, ◌⊎◌, ◌++◌, codes, string_bytes, if◌then◌else◌, IfOk};
 ghost use Rattle.std.specs.Option.{is_some};
 ghost use Rattle.counted_io.specs.Streams.{IsSameSink};
+ghost use Rattle.std.specs.Path.{path_bytes};
 ghost use Rattle.properties_tools.specs.Propedit.InPlace.{problem_display, replace_display, IsProblemLine, PrintsEditError, PrintsProblem};
+ghost use Rattle.properties_tools.specs.Private.InPlace.{folder_of, unsynced};
 
-use crate::messages::print_line;
-use crate::propedit::asked::{FileEdits, Missing};
+use crate::messages::{Escaped, print_line};
+use crate::propedit::asked::{FileChange, Missing};
 use crate::propedit::error::{Failure, NO_MEMORY};
 use crate::propedit::{exit_status, replacement};
 use counted_io::CountedWrite;
@@ -17,10 +19,14 @@ use std::fs::{self, File, Metadata, OpenOptions};
 use std::io::{self, ErrorKind, Read, Write};
 use std::os::unix::fs::{MetadataExt, OpenOptionsExt, fchown};
 use std::os::unix::io::AsFd;
+use std::path::Path;
 
-/// Edits a file in place, and returns the exit status: 0, or 2 after an error, which is printed on `errors` as a line.
+// How many bytes of a file are compared at once.
+const BLOCK: usize = 1 << 16;
+
+/// Changes a file in place, and returns the exit status: 0, or 2 after an error, which is printed on `errors` as a line.
 ///
-/// The file is replaced whole, or stays as it is. Nothing is written if the edits change nothing. A missing file that
+/// The file is replaced whole, or stays as it is. Nothing is written if no byte changes. A missing file that
 /// may be created counts as empty. What can't be printed is dropped.
 ///
 /// ```text
@@ -30,7 +36,7 @@ use std::os::unix::io::AsFd;
 pub fn edit_file<E: CountedWrite>(
     rt: &HostRuntime,
     alloc: Global,
-    file: &FileEdits,
+    file: &FileChange,
     errors: &mut E,
 ) -> u8
     ensures status { (result ≡ 0) ⊎ (result ≡ 2) }
@@ -53,13 +59,13 @@ enum EditError {
     NotReplaced(ReplaceError),
 }
 
-fn replace_edited(rt: &HostRuntime, alloc: Global, file: &FileEdits) -> Result<(), EditError> {
+fn replace_edited(rt: &HostRuntime, alloc: Global, file: &FileChange) -> Result<(), EditError> {
     let target = match Target::read(rt, alloc, file.path.as_str(), file.missing) {
         Ok(target) => target,
         Err(error) => return Err(EditError::NotEdited(Failure::from(error))),
     };
-    match replacement(alloc, target.bytes(), file.encoding, &file.edits) {
-        Ok(Some(bytes)) => match target.replace(rt, alloc, bytes.as_slice()) {
+    match replacement(alloc, target.bytes(), file.encoding, &file.change) {
+        Ok(Some(bytes)) => match target.replace(rt, bytes.as_slice()) {
             Ok(()) => Ok(()),
             Err(error) => Err(EditError::NotReplaced(error)),
         },
@@ -91,6 +97,7 @@ fn print_replace_error<E: CountedWrite>(
 fn problem_line(alloc: Global, path: &str, error: &ReplaceError) -> Result<String, AllocError>
     ensures { IfOk result (λ line. IsProblemLine path.now error.now (string_bytes line)) }
 {
+    let path = Escaped(path);
     let problem = format!(in alloc; "{error}")?;
     format!(in alloc; "propedit: {path}: {problem}\n")
 }
@@ -100,7 +107,7 @@ fn problem_line(alloc: Global, path: &str, error: &ReplaceError) -> Result<Strin
 /// ```text
 /// let target = Target::read(&rt, alloc, "app.properties", Missing::Refuse)?;
 /// let edited = set_key(alloc, target.bytes(), Encoding::UTF_8, "port", "8080")?;
-/// target.replace(&rt, alloc, edited.as_slice())?;
+/// target.replace(&rt, edited.as_slice())?;
 /// ```
 #[derive(Drop)]
 pub struct Target {
@@ -126,7 +133,8 @@ impl Target {
         path: &str,
         missing: Missing,
     ) -> io::Result<Target> {
-        if missing == Missing::Create && is_missing(rt, path)? {
+        // Nothing can be made at an empty path.
+        if missing == Missing::Create && !path.is_empty() && is_missing(rt, path)? {
             return Target::of(alloc, String::from_str(alloc, path)?, None);
         }
         let path = resolve(rt, alloc, path)?;
@@ -157,13 +165,10 @@ impl Target {
     /// Replaces the file by these bytes, whole or not at all. Its owner, its group and its mode stay.
     ///
     /// They go to a temporary file beside it, named as it is with `.propedit` after it, which then takes its name.
-    /// Whoever opens the file has the old bytes or the new ones, and never a part.
-    pub fn replace(
-        self,
-        rt: &HostRuntime,
-        alloc: Global,
-        bytes: &[u8],
-    ) -> Result<(), ReplaceError> {
+    /// Whoever opens the file has the old bytes or the new ones, and never a part. Where there was no file, a file that
+    /// came in between stays, and the call fails. After success the bytes and the name are on the disk, as far as the
+    /// file system can tell.
+    pub fn replace(self, rt: &HostRuntime, bytes: &[u8]) -> Result<(), ReplaceError> {
         let file = match create(rt, self.temporary.as_str(), self.creation_mode()) {
             Ok(file) => file,
             Err(error) if error.kind() == ErrorKind::AlreadyExists => {
@@ -179,13 +184,19 @@ impl Target {
                 return Err(self.into_error(Problem::NotCreated(error), is_left));
             }
         };
-        match self.put_in_place(rt, alloc, file, &created, bytes) {
+        if let Err(problem) = self.put_in_place(rt, file, &created, bytes) {
+            let is_left = self.leaves_temporary(rt, &created);
+            return Err(self.into_error(problem, is_left));
+        }
+        // A rename takes the temporary name away, and a hard link doesn't.
+        if self.snapshot.is_none() && self.leaves_temporary(rt, &created) {
+            return Err(self.into_error(Problem::Made, true));
+        }
+        match sync_folder(rt, self.path.as_str()) {
             Ok(()) => Ok(()),
-            Err(problem) => {
-                // Removes the temporary file, unless someone else has removed or replaced it.
-                let is_left = self.is_still_there(rt, &created)
-                    && fs::remove_file(rt, self.temporary.as_str()).is_err();
-                Err(self.into_error(problem, is_left))
+            Err(error) => {
+                let problem = self.unsynced(error);
+                Err(self.into_error(problem, false))
             }
         }
     }
@@ -193,19 +204,36 @@ impl Target {
     fn put_in_place(
         &self,
         rt: &HostRuntime,
-        alloc: Global,
         file: File,
         created: &Metadata,
         bytes: &[u8],
     ) -> Result<(), Problem> {
         self.fill(file, created, bytes)?;
-        self.check_unchanged(rt, alloc)?;
+        if let Some(snapshot) = &self.snapshot {
+            self.check_unchanged(rt, snapshot)?;
+        }
         if !self.is_still_there(rt, created) {
             return Err(Problem::Taken);
         }
+        match self.snapshot {
+            Some(_) => self.rename(rt),
+            None => self.link(rt),
+        }
+    }
+
+    fn rename(&self, rt: &HostRuntime) -> Result<(), Problem> {
         match fs::rename(rt, self.temporary.as_str(), self.path.as_str()) {
             Ok(()) => Ok(()),
             Err(error) => Err(Problem::NotRenamed(error)),
+        }
+    }
+
+    // Gives the temporary file its second name. Unlike a rename, it replaces no file that came in between.
+    fn link(&self, rt: &HostRuntime) -> Result<(), Problem> {
+        match fs::hard_link(rt, self.temporary.as_str(), self.path.as_str()) {
+            Ok(()) => Ok(()),
+            Err(error) if error.kind() == ErrorKind::AlreadyExists => Err(Problem::Appeared),
+            Err(error) => Err(Problem::NotLinked(error)),
         }
     }
 
@@ -234,22 +262,13 @@ impl Target {
         }
     }
 
-    // Fails unless the old file is still as it was read, or still missing.
-    fn check_unchanged(&self, rt: &HostRuntime, alloc: Global) -> Result<(), Problem> {
-        let is_same = match &self.snapshot {
-            Some(snapshot) => match take_snapshot(rt, alloc, self.path.as_str()) {
-                Ok(now) => is_unchanged(snapshot, &now),
-                Err(error) => return Err(Problem::NotRead(error)),
-            },
-            None => match is_missing(rt, self.path.as_str()) {
-                Ok(is_missing) => is_missing,
-                Err(error) => return Err(Problem::NotRead(error)),
-            },
-        };
-        if is_same {
-            return Ok(());
+    // Fails unless the old file is still as it was read.
+    fn check_unchanged(&self, rt: &HostRuntime, snapshot: &Snapshot) -> Result<(), Problem> {
+        match is_unchanged(rt, self.path.as_str(), snapshot) {
+            Ok(true) => Ok(()),
+            Ok(false) => Err(Problem::Changed),
+            Err(error) => Err(Problem::NotRead(error)),
         }
-        Err(Problem::Changed)
     }
 
     // Returns whether the temporary file is still the one that was created.
@@ -257,6 +276,20 @@ impl Target {
         match fs::symlink_metadata(rt, self.temporary.as_str()) {
             Ok(now) => is_same_file(&now, created),
             Err(_) => false,
+        }
+    }
+
+    // Removes the temporary file, unless someone else has removed or replaced it. Returns whether it is left.
+    fn leaves_temporary(&self, rt: &HostRuntime, created: &Metadata) -> bool {
+        self.is_still_there(rt, created) && fs::remove_file(rt, self.temporary.as_str()).is_err()
+    }
+
+    fn unsynced(&self, error: io::Error) -> Problem
+        ensures { result ≡ unsynced self.now.snapshot error }
+    {
+        match self.snapshot {
+            Some(_) => Problem::ReplacedUnsynced(error),
+            None => Problem::MadeUnsynced(error),
         }
     }
 
@@ -317,16 +350,21 @@ fn resolve(rt: &HostRuntime, alloc: Global, path: &str) -> io::Result<String> {
     Ok(String::from_str(alloc, path)?)
 }
 
-// Reads a regular file. Its metadata are those of the open file, so they belong to the bytes.
 fn take_snapshot(rt: &HostRuntime, alloc: Global, path: &str) -> io::Result<Snapshot> {
-    // Before it is opened too, since opening a pipe waits for a writer.
-    check_regular(&fs::metadata(rt, path)?)?;
-    let mut file = File::open(rt, path)?;
-    let metadata = file.metadata()?;
-    check_regular(&metadata)?;
+    let (mut file, metadata) = open_regular(rt, path)?;
     let mut bytes = Vec::new(alloc);
     file.read_to_end(&mut bytes)?;
     Ok(Snapshot { metadata, bytes })
+}
+
+// Opens a regular file. Its metadata are those of the open file, so they belong to the bytes that are read.
+fn open_regular(rt: &HostRuntime, path: &str) -> io::Result<(File, Metadata)> {
+    // Before it is opened too, since opening a pipe waits for a writer.
+    check_regular(&fs::metadata(rt, path)?)?;
+    let file = File::open(rt, path)?;
+    let metadata = file.metadata()?;
+    check_regular(&metadata)?;
+    Ok((file, metadata))
 }
 
 fn check_regular(metadata: &Metadata) -> io::Result<()> {
@@ -336,17 +374,65 @@ fn check_regular(metadata: &Metadata) -> io::Result<()> {
     Err(io::Error::new(ErrorKind::InvalidInput, "not a regular file"))
 }
 
-fn is_unchanged(before: &Snapshot, now: &Snapshot) -> bool {
-    let (old, new) = (&before.metadata, &now.metadata);
-    is_same_file(old, new)
+// Returns whether the file with this name is the one that was read, with the same bytes and attributes.
+fn is_unchanged(rt: &HostRuntime, path: &str, before: &Snapshot) -> io::Result<bool> {
+    let (mut file, new) = open_regular(rt, path)?;
+    let old = &before.metadata;
+    let has_same_attributes = is_same_file(old, &new)
         && old.uid() == new.uid()
         && old.gid() == new.gid()
-        && old.mode() == new.mode()
-        && before.bytes == now.bytes
+        && old.mode() == new.mode();
+    Ok(has_same_attributes && holds(&mut file, before.bytes.as_slice())?)
+}
+
+// Returns whether what is left of a file are these bytes. It compares a block at a time, so it takes no more memory for
+// a large file.
+fn holds(file: &mut File, bytes: &[u8]) -> io::Result<bool> {
+    let mut block = [0u8; BLOCK];
+    let mut rest = bytes;
+    while !rest.is_empty() {
+        let (expected, after) = rest.split_at(rest.len().min(BLOCK));
+        let read = &mut block[..expected.len()];
+        if !fills(file, read)? || *read != *expected {
+            return Ok(false);
+        }
+        rest = after;
+    }
+    Ok(!fills(file, &mut block[..1])?)
+}
+
+// Reads until the block is full. Returns whether there are as many bytes.
+fn fills(file: &mut File, block: &mut [u8]) -> io::Result<bool> {
+    match file.read_exact(block) {
+        Ok(()) => Ok(true),
+        Err(error) if error.kind() == ErrorKind::UnexpectedEof => Ok(false),
+        Err(error) => Err(error),
+    }
 }
 
 fn is_same_file(one: &Metadata, other: &Metadata) -> bool {
     one.dev() == other.dev() && one.ino() == other.ino()
+}
+
+// Writes to the disk which names the folder of a file has. Some file systems can't, which is no failure.
+fn sync_folder(rt: &HostRuntime, path: &str) -> io::Result<()> {
+    match File::open(rt, folder_of(path))?.sync_all() {
+        Ok(()) => Ok(()),
+        Err(error) => match error.kind() {
+            ErrorKind::InvalidInput | ErrorKind::Unsupported => Ok(()),
+            _ => Err(error),
+        },
+    }
+}
+
+// Returns the folder that has this name of a file.
+fn folder_of(path: &str) -> Path<'_>
+    ensures { path_bytes result ≡ folder_of path.now }
+{
+    match Path::new(path).parent() {
+        Some(folder) if !folder.as_str().is_empty() => folder,
+        _ => Path::new("."),
+    }
 }
 
 // Creates a file. Fails if anything has this name.
@@ -358,7 +444,7 @@ fn create(rt: &HostRuntime, path: &str, mode: u32) -> io::Result<File> {
         .open(rt, path)
 }
 
-/// Why a file was not replaced.
+/// Why a file was not replaced, or what failed after that.
 ///
 /// It prints what failed, the error of the system, and the name of the temporary file if it couldn't be removed.
 #[derive(Debug, Drop)]
@@ -381,6 +467,11 @@ enum Problem {
     Changed,
     Taken,
     NotRenamed(io::Error),
+    NotLinked(io::Error),
+    Appeared,
+    Made,
+    ReplacedUnsynced(io::Error),
+    MadeUnsynced(io::Error),
 }
 
 impl Error for ReplaceError {}
@@ -394,8 +485,9 @@ impl fmt::Display for ReplaceError {
             problem: &self.problem,
             temporary,
         };
+        let left = Escaped(temporary);
         if self.is_left {
-            return write!(f, "{failed}; {temporary} is left");
+            return write!(f, "{failed}; {left} is left");
         }
         write!(f, "{failed}")
     }
@@ -412,7 +504,7 @@ impl fmt::Display for Failed<'_> {
     ghost output = { λ failed. problem_display failed.temporary.now failed.problem.now };
 
     fn fmt<W: fmt::Write>(&self, f: &mut fmt::Formatter<W>) -> fmt::Result {
-        let temporary = self.temporary;
+        let temporary = Escaped(self.temporary);
         match self.problem {
             Problem::Held => {
                 write!(
@@ -429,6 +521,29 @@ impl fmt::Display for Failed<'_> {
             Problem::Changed => f.write_str("changed while it was edited"),
             Problem::Taken => write!(f, "{temporary} was removed or replaced"),
             Problem::NotRenamed(error) => write!(f, "cannot rename {temporary}: {}", Fault(error)),
+            Problem::NotLinked(error) => {
+                write!(
+                    f,
+                    "cannot make a hard link to {temporary}: {}",
+                    Fault(error)
+                )
+            }
+            Problem::Appeared => f.write_str("was made by another program meanwhile"),
+            Problem::Made => f.write_str("is made"),
+            Problem::ReplacedUnsynced(error) => {
+                write!(
+                    f,
+                    "is replaced, but its folder can't be synced: {}",
+                    Fault(error)
+                )
+            }
+            Problem::MadeUnsynced(error) => {
+                write!(
+                    f,
+                    "is made, but its folder can't be synced: {}",
+                    Fault(error)
+                )
+            }
         }
     }
 }

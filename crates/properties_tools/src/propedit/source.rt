@@ -1,24 +1,23 @@
 // What is in a source that is held whole.
 
+ghost use Rattle.std.specs.Prelude.{◌≡◌};
 ghost use Rattle.properties_text.specs.Encoding.{encoding_of};
-ghost use Rattle.properties_tools.specs.Propedit.Sources.{FindsKeysIn, FindsMalformedIn, IsNotUtf8, RefusesUnsound};
+ghost use Rattle.properties_tools.specs.Propedit.Sources.{is_in_utf_16, FindsKeysIn, FindsMalformedIn, IsIllFormedLine, IsNotUtf8, RefusesBytes, RefusesUnsound};
 
 use crate::propedit::error::Failure;
-use crate::propedit::lines::first_ill_formed_line;
+use crate::propedit::lines::{Flaw, first_flawed_line, has_mark};
 use java_properties::{
     Encoding, KeyLine, MalformedEscape, PropertiesError, first_malformed_escape, key_lines,
     malformed_escapes,
 };
+use properties_text::encoding::byte_order_mark::encoding_in_force;
 use std::alloc::Global;
 
-/// Refuses a source that has a line that is not UTF-8 though that is in force, or else a malformed escape. The failure
-/// has the first of them.
+/// Refuses a source for its bytes, or else one that has a malformed escape. The failure has the first of them.
 pub fn refuse_unsound(alloc: Global, source: &[u8], encoding: Encoding) -> Result<(), Failure>
     ensures { RefusesUnsound (encoding_of encoding) source.now result }
 {
-    if let Some(number) = first_ill_formed_line(source, encoding) {
-        return Err(not_utf_8(source, number));
-    }
+    refuse_bytes(source, encoding)?;
     let mut input = source;
     match first_malformed_escape(alloc, &mut input, encoding)? {
         Some(escape) => Err(Failure::Malformed(escape)),
@@ -26,11 +25,48 @@ pub fn refuse_unsound(alloc: Global, source: &[u8], encoding: Encoding) -> Resul
     }
 }
 
+/// Refuses a source for its bytes: UTF-8 is in force without a byte order mark, and it has U+0000; or else a line is
+/// ill-formed in the encoding in force. The failure has the first such line. A source with U+0000 may be in UTF-16. That
+/// comes first, since it is often not UTF-8 either, and no other encoding reads it right.
+pub fn refuse_bytes(source: &[u8], encoding: Encoding) -> Result<(), Failure>
+    ensures { RefusesBytes (encoding_of encoding) source.now result }
+{
+    if let Some(number) = first_flawed_line(source, encoding, Flaw::Zero) {
+        return Err(Failure::HoldsZero(number));
+    }
+    if let Some(number) = first_flawed_line(source, encoding, Flaw::IllFormed) {
+        return Err(ill_formed(source, encoding, number));
+    }
+    Ok(())
+}
+
+// Returns the failure of an ill-formed line.
+fn ill_formed(source: &[u8], encoding: Encoding, number: usize) -> Failure
+    ensures { IsIllFormedLine (encoding_of encoding) source.now number result }
+{
+    if in_utf_16(source, encoding) {
+        Failure::NotUtf16(number)
+    } else {
+        not_utf_8(source, number)
+    }
+}
+
+/// Returns whether UTF-16 is in force.
+pub(crate) fn in_utf_16(source: &[u8], encoding: Encoding) -> bool
+    ensures { result ≡ is_in_utf_16 (encoding_of encoding) source.now }
+{
+    let (in_force, _) = encoding_in_force(source, encoding);
+    match in_force {
+        Encoding::UTF_16LE | Encoding::UTF_16BE => true,
+        _ => false,
+    }
+}
+
 // Returns the failure of a line that is not UTF-8.
 fn not_utf_8(source: &[u8], number: usize) -> Failure
     ensures { IsNotUtf8 source.now number result }
 {
-    if source.starts_with(b"\xef\xbb\xbf") {
+    if has_mark(source) {
         Failure::NotUtf8ByMark(number)
     } else {
         Failure::NotUtf8(number)

@@ -14,15 +14,14 @@ ghost use Rattle.properties_format.specs.Edited.{is_editable};
 ghost use Rattle.properties_format.specs.Computed.Body.{held_groups_of};
 ghost use Rattle.properties_format.specs.Computed.Edited.{AreSound};
 ghost use Rattle.properties_text.specs.Encoding.{encoding_of};
-ghost use Rattle.properties_editing.specs.Private.BodyIndex.{CutsOut, IsCutOut, IsInSource, PutsPair, PutsValue, RemovesPairs, AddsKey, AddsValue, AppendsPair, FollowsPair, GuardsFront, IsIndex, PutsFirst, span_at, stored_at};
+ghost use Rattle.properties_editing.specs.Private.BodyIndex.{PutsPair, PutsValue, RemovesPairs, AddsKey, AddsValue, AppendsPair, FollowsPair, GuardsFront, IsIndex, PutsFirst, stored_at};
 ghost use Rattle.properties_editing.specs.Private.BodyKeys.{IsPlaceOf};
 
 use crate::edit::append::{layout_at, print_new_pair};
-use crate::edit::endings::{
-    ending_size, opened_size, push_closing, push_ending, safe_ending_after,
-};
-use crate::edit::find::{BodySpan, Closing};
-use crate::edit::index::{Index, Shift, closing_if, shift_spans, span_at};
+use crate::edit::endings::{opened_size, push_closing, push_ending, safe_ending_after};
+use crate::edit::find::BodySpan;
+use crate::edit::index::sweep::{Sweep, close_up, cut_out_pair};
+use crate::edit::index::{Index, Shift, shift_spans};
 use crate::edit::new_value::new_value;
 use crate::edit::replace::{concatenated, is_first, print_new, with_pair_replaced};
 use crate::edit::source::BodyStart;
@@ -86,41 +85,18 @@ pub fn remove_pairs(source: &mut Vec<u8>, opened: BodyStart, index: &mut Index, 
         return false;
     };
     let last = pair.place;
+    let mut sweep = Sweep {
+        write: opened.start,
+        read: opened.start,
+        place: 0,
+    };
     for place in &pair.earlier {
-        remove_pair_at(source, opened.start, index, *place);
+        sweep = cut_out_pair(source, opened.start, index, sweep, *place);
     }
-    remove_pair_at(source, opened.start, index, last);
+    let end = cut_out_pair(source, opened.start, index, sweep, last);
+    close_up(source, index, end);
     guard_front(source, opened.start, index);
     true
-}
-
-// Cuts the pair in this place, and its last line ending, out of a source.
-fn remove_pair_at(source: &mut Vec<u8>, start: usize, index: &mut Index, place: usize)
-    requires { IsInSource start source.old.items (span_at index.old.spans.items place) }
-    ensures cuts { CutsOut start (span_at index.old.spans.items place) source.old.items index.old source.new.items index.new }
-    ensures capacity { vec_capacity source.new ≡ vec_capacity source.old }
-{
-    if let Some(pair) = span_at(&index.spans, place) {
-        cut_out_span(source, start, index, pair);
-    }
-}
-
-// Cuts a part of the body, and the line ending after it, out of a source.
-fn cut_out_span(source: &mut Vec<u8>, start: usize, index: &mut Index, pair: BodySpan)
-    requires ordered { pair.start ≤ pair.end }
-    requires within { start + pair.end ≤ length source.old.items }
-    ensures cuts { IsCutOut start pair source.old.items index.old source.new.items index.new }
-    ensures capacity { vec_capacity source.new ≡ vec_capacity source.old }
-{
-    let size = source.len();
-    let front = start + pair.start;
-    let text_end = start + pair.end;
-    let ending = ending_size(&source[text_end..]);
-    let end = text_end + ending;
-    source.as_mut_slice().copy_within(end..size, front);
-    source.truncate(size - (end - front));
-    shift_spans(&mut index.spans, Shift::Cut(pair.start, pair.end + ending));
-    index.closing = closing_if(text_end == size, Closing::Nothing, index.closing);
 }
 
 // Puts an LF before a source that begins like a byte order mark, unless a mark comes before its body. A pair was cut out

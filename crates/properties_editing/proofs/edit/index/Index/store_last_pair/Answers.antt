@@ -1,4 +1,6 @@
-use Rattle.std.proofs.Common.{◌≡◌, ◌++◌, ◌∷◌, [], ℕ, List, length, refl, ap, ap₂, sym, inr, ◌∙◌}
+use Rattle.std.proofs.Common.{rules, ◌≡◌, ◌++◌, ◌∷◌, [], ℕ, List, length, refl, ap, ap₂, sym, subst, inr, ◌∙◌}
+use Rattle.std.specs.BTreeMap.{IsOrdered, Updates}
+use Rattle.std.specs.String.{string_cmp}
 use Rattle.std.specs.Prelude.{Option, Some, None, string_bytes}
 use Rattle.std.proofs.Math.ListN.{set}
 use Rattle.std.proofs.lemmas.Str.{IsUtf8-string_bytes}
@@ -9,7 +11,9 @@ use Rattle.properties_editing.specs.declared.edit.index.IndexedPair.{IndexedPair
 use Rattle.properties_editing.specs.declared.edit.find.BodySpan.{BodySpan}
 use Rattle.properties_editing.proofs.IndexStored.{none-removed, put-after}
 use Rattle.properties_items.proofs.TextMaps.Values.{at_chars-sorted, at_chars-updated}
+use Rattle.std.specs.BTreeMap.Entry.{entry_map_ref, entry_value}
 use Rattle.properties_editing.proofs.edit.index.Index.store_last_pair.Goals as goal
+use Rattle.properties_editing.proofs.edit.index.Index.store_last_pair.Goals.{in-Occupied+in_ok-push-in-Occupied, in-Vacant}
 
 set-end : (spans : List (Option BodySpan)) (n : ℕ) (s : Option BodySpan) → n ≡ length spans → set (spans ++ None ∷ []) n s ≡ spans ++ s ∷ []
 set-end spans n s is = ap (λ m. set (spans ++ None ∷ []) m s) is ∙ at-length spans
@@ -18,58 +22,51 @@ set-end spans n s is = ap (λ m. set (spans ++ None ∷ []) m s) is ∙ at-lengt
     at-length [] = refl
     at-length (x ∷ xs) = ap (λ v. x ∷ v) (at-length xs)
 
+pub returns-in_err-push-in-Occupied-clause-same : goal.returns-in_err-push-in-Occupied-clause-same
+returns-in_err-push-in-Occupied-clause-same c =
+    let old = c.args.self.now in
+    let key = c.args.key in
+    let found : stored_at old.pairs.entries (characters key) ≡ Some c.into_mut-pair.result.now =
+    at_chars-sorted old.pairs (string_bytes key) (IsUtf8-string_bytes key) ∙ sym c.in_ok-entry.ensures.value
+    ∙ ap entry_value c.in-Occupied.is ∙ c.into_mut-pair.ensures.value in
+    at-error c.from_residual-in_err-push-in-Occupied.result (λ none. let no = sym none ∙ found in absurd (cc))
+
 pub returns-clause-kept : goal.returns-clause-kept
 returns-clause-kept c =
     let old = c.args.self.now in
     let key = c.args.key in
     let bytes = string_bytes key in
     let utf8 = IsUtf8-string_bytes key in
-    let pair : IndexedPair = record { place = c.len-place.result; earlier = c.in_ok-earlier.earlier; value = c.args.value } in
     let size : c.len-place.result ≡ length old.spans.items = c.len-place.ensures ∙ old.spans.ok.0 in
-    let removed = rw c.as_str.ensures.value at c.remove-known.ensures.updates in
-    let found = rw c.as_str.ensures.value at c.remove-known.ensures.value in
-    record {
-      pair = pair;
-      has_value = refl;
-      stored = λ k.
-          at_chars-updated c.remove-known.new.self c.insert.new.self bytes utf8 (Some pair) c.in_ok-insert.ensures.updates k
-          ∙ put-after (characters key) None (Some pair) (stored_at old.pairs.entries) (stored_at c.remove-known.new.self.entries)
-          (at_chars-updated old.pairs c.remove-known.new.self bytes utf8 None removed) k;
-      places = ap₂ (λ v w. v ++ w ∷ [])
-          (c.in_ok-earlier.ensures ∙ ap places_of (found ∙ sym (at_chars-sorted old.pairs bytes utf8))) size;
-      spans = ap (λ v. set v c.len-place.result (Some c.args.span)) c.in_ok-push.ensures.items
-          ∙ set-end old.spans.items c.len-place.result (Some c.args.span) size;
-      ordered = c.insert.ensures.ordered;
-    }
-
-pub returns-in_err-earlier-clause-same : goal.returns-in_err-earlier-clause-same
-returns-in_err-earlier-clause-same c =
-    let old = c.args.self.now in
-    let key = c.args.key in
-    let bytes = string_bytes key in
-    let utf8 = IsUtf8-string_bytes key in
-    let removed = rw c.as_str.ensures.value at c.remove-known.ensures.updates in
-    at-error c.from_residual-in_err-earlier.result (λ none. record {
-      stored = none-removed (characters key) None (stored_at old.pairs.entries) (stored_at c.remove-known.new.self.entries)
-          (at_chars-updated old.pairs c.remove-known.new.self bytes utf8 None removed) none;
-      spans = inr c.in_ok-push.ensures.items;
-      closing = refl;
-      ordered = c.remove-known.ensures.ordered;
-    })
-
-pub returns-in_err-insert-clause-same : goal.returns-in_err-insert-clause-same
-returns-in_err-insert-clause-same c =
-    let old = c.args.self.now in
-    let key = c.args.key in
-    let bytes = string_bytes key in
-    let utf8 = IsUtf8-string_bytes key in
-    let removed = rw c.as_str.ensures.value at c.remove-known.ensures.updates in
-    let same : c.insert.new.self.entries ≡ c.remove-known.new.self.entries = c.in_err-insert.ensures.err in
-    at-error c.from_residual-in_err-insert.result (λ none. record {
-      stored = λ j. ap (λ es. stored_at es j) same
-          ∙ none-removed (characters key) None (stored_at old.pairs.entries) (stored_at c.remove-known.new.self.entries)
-          (at_chars-updated old.pairs c.remove-known.new.self bytes utf8 None removed) none j;
-      spans = inr c.in_ok-push.ensures.items;
-      closing = refl;
-      ordered = c.insert.ensures.ordered;
-    })
+    let spans = ap (λ v. set v c.len-place.result (Some c.args.span)) c.in_ok-push.ensures.items
+    ∙ set-end old.spans.items c.len-place.result (Some c.args.span) size in
+    let at = at_chars-sorted old.pairs bytes utf8 ∙ sym c.in_ok-entry.ensures.value in
+    elim c.match-branch-3.branch [
+      | in-Occupied+in_ok-push-in-Occupied w ↦
+          let next : IndexedPair = record { place = c.len-place.result; earlier = w.push-in-Occupied.new.self; value = c.args.value } in
+          let put = rw w.in-Occupied.is at c.in_ok-entry.ensures.update in
+          let made = w.self-in-Occupied-2-1.given.1 (sym (rw w.in-Occupied.is at c.in_ok-entry.ensures.same_map)) in
+          let found = at ∙ ap entry_value w.in-Occupied.is ∙ w.into_mut-pair.ensures.value in
+          rw w.self-is (record {
+            pair = next;
+            has_value = refl;
+            stored = at_chars-updated old.pairs w.self-in-Occupied-2-1.given.0 bytes utf8 (Some next) (subst (λ m. Updates string_cmp old.pairs m key (Some next)) (sym made) (put.0 next));
+            places = ap₂ (λ v n. v ++ n ∷ []) (w.in_ok-push-in-Occupied.ensures.items ∙ sym (ap places_of found)) size;
+            spans = spans;
+            ordered = subst (IsOrdered string_cmp) (sym made) (put.2 next);
+          })
+      | in-Vacant w ↦
+          let next : IndexedPair = w.insert.result.now in
+          let value = w.insert.ensures.value in
+          let put = rw w.in-Vacant.is at c.in_ok-entry.ensures.update in
+          let made = w.self-in-Vacant-2-1.given.1 (sym (rw w.in-Vacant.is at c.in_ok-entry.ensures.same_map)) in
+          let none = at_chars-sorted old.pairs bytes utf8 ∙ (rw w.in-Vacant.is at c.in_ok-entry.ensures.found) in
+          rw w.self-is (record {
+            pair = next;
+            has_value = ap (λ p. characters p.value) value;
+            stored = at_chars-updated old.pairs w.self-in-Vacant-2-1.given.0 bytes utf8 (Some next) (subst (λ m. Updates string_cmp old.pairs m key (Some next)) (sym made) (put.0 next));
+            places = ap (λ p. places_of (Some p)) value ∙ ap₂ (λ v n. v ++ n ∷ []) (w.new.ensures.items ∙ sym (ap places_of none)) size;
+            spans = spans;
+            ordered = subst (IsOrdered string_cmp) (sym made) (put.2 next);
+          })
+    ]

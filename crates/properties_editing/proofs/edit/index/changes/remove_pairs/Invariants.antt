@@ -2,11 +2,11 @@ use Rattle.std.proofs.Common.{◌++◌, ◌∷◌, [], drop, take}
 use Rattle.std.specs.Str.{chars}
 use Rattle.properties_format.specs.Computed.Body.{held_groups_of}
 use Rattle.properties_text.specs.Encoding.{encoding_of}
-use Rattle.properties_editing.proofs.IndexRemoved.{IsCutTo}
+use Rattle.properties_editing.proofs.IndexSwept.{IsSweptTo}
 use Rattle.properties_editing.proofs.edit.index.changes.remove_pairs.Given as goal
 
 abbrev pub invariant-loop-place : goal.invariant-loop-place
 invariant-loop-place l =
     let f = encoding_of l.fn.opened.encoding in
-    IsCutTo f (chars l.fn.key) (held_groups_of f (drop l.fn.opened.start l.fn.source.items)) (take l.fn.opened.start l.fn.source.items)
-    l.source.items l.index (drop l.place-index l.place-items ++ l.last ∷ [])
+    IsSweptTo f (chars l.fn.key) (held_groups_of f (drop l.fn.opened.start l.fn.source.items)) (take l.fn.opened.start l.fn.source.items)
+    l.sweep l.source.items l.index (drop l.place-index l.place-items ++ l.last ∷ [])

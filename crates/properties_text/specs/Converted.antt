@@ -1,0 +1,75 @@
+-- What the bytes of a text come to when they are converted.
+use Rattle.std.specs.Prelude.{◌≡◌, ◌≤◌, ◌<◌, ◌+◌, ◌⊎◌, ◌||◌, ◌==◌, ℕ, Bool, true, false, nat_le, List, [], ◌++◌, length, take, drop, get_or, Result, Ok, Err}
+use Rattle.std.specs.List.{All}
+use Rattle.properties_format.specs.Text.{backslash}
+use Rattle.properties_format.specs.Printing.{encoded_text, unicode_escape}
+use Rattle.properties_format.specs.Converting.{TextUnit, unit_text, IsUnit, converted_unit}
+use Rattle.properties_format.specs.Computed.Converting.{converted_of}
+use Rattle.properties_text.specs.Spelt.{text_in, IsWell}
+use Rattle.properties_text.specs.Decoding.{text_of}
+use Rattle.properties_text.specs.declared.encoding.Encoding.{Encoding}
+use Rattle.properties_text.specs.Printing.{encoding_in, only_in}
+use Rattle.properties_text.specs.declared.encoding.line.LineEncoding.{LineEncoding}
+use Rattle.properties_text.specs.declared.print.Repertoire.{Repertoire}
+use Rattle.properties_text.specs.declared.print.Repertoire.TheVariants as repertoire
+use Rattle.properties_text.specs.declared.convert.Spelling.{Spelling}
+use Rattle.properties_text.specs.declared.convert.Spelling.TheVariants.{Kept, Readable}
+
+-- whether a character that the result can have becomes itself
+abbrev pub is_readable : Spelling → Bool
+is_readable Kept = false
+is_readable Readable = true
+
+-- the bytes that a text comes to
+abbrev pub converted_in : Repertoire → Bool → LineEncoding → List ℕ → List ℕ
+converted_in t readable e bytes = encoded_text (encoding_in t) (converted_of (encoding_in t) (only_in t) readable (text_in e bytes))
+
+-- the bytes that a unit comes to
+abbrev pub unit_in : Repertoire → Bool → TextUnit → List ℕ
+unit_in t readable u = encoded_text (encoding_in t) (converted_unit (encoding_in t) (only_in t) readable u)
+
+-- whether a run stops at a byte
+abbrev pub is_stop : ℕ → Bool
+is_stop b = nat_le 0x80 b || b == backslash
+
+-- A front of a text was copied, in which no byte is a stop.
+pub record IsCopied (old : List ℕ) (at : ℕ) (text : List ℕ) (end : ℕ) (rest : List ℕ) (new : List ℕ) : Type 0 where
+  pub bytes : List ℕ
+  pub text_is : text ≡ bytes ++ rest
+  pub clear : All (λ b. is_stop b ≡ false) bytes
+  pub end_is : end ≡ at + length bytes
+  pub copied : take end new ≡ take at old ++ bytes
+
+-- A front of a text was converted: with what the rest comes to, it is what the text comes to.
+pub record IsConvertedFront (t : Repertoire) (readable : Bool) (e : LineEncoding) (old : List ℕ) (at : ℕ) (text : List ℕ) (end : ℕ) (rest : List ℕ) (new : List ℕ) : Type 0 where
+  pub well : IsWell e rest
+  pub left : length rest ≤ length text
+  pub converted : take at old ++ converted_in t readable e text ≡ take end new ++ converted_in t readable e rest
+
+-- The first unit of a text was converted.
+pub record IsUnitFront (t : Repertoire) (readable : Bool) (e : LineEncoding) (old : List ℕ) (at : ℕ) (text : List ℕ) (end : ℕ) (rest : List ℕ) (new : List ℕ) : Type 0 where
+  pub unit : TextUnit
+  pub begins : text_in e text ≡ unit_text unit ++ text_in e rest
+  pub is_unit : IsUnit unit (text_in e rest)
+  pub well : IsWell e rest
+  pub shorter : length rest < length text
+  pub put : take end new ≡ take at old ++ unit_in t readable unit
+
+-- The first character of bytes that begin like a byte order mark, and how many of them are it.
+abbrev pub mark_character : Repertoire → List ℕ → ℕ
+mark_character repertoire.Windows1252 bytes = get_or bytes 0 0
+mark_character repertoire.Utf8 bytes = 0xfeff
+mark_character repertoire.Ascii bytes = 0xfeff
+
+abbrev pub mark_size : Repertoire → ℕ
+mark_size repertoire.Windows1252 = 1
+mark_size repertoire.Utf8 = 3
+mark_size repertoire.Ascii = 3
+
+-- The bytes with that character escaped.
+abbrev pub escaped_front : Repertoire → List ℕ → List ℕ
+escaped_front t bytes = unicode_escape (mark_character t bytes) ++ drop (mark_size t) bytes
+
+-- The bytes that a body in this encoding comes to.
+abbrev pub body_bytes : Repertoire → Bool → Encoding → List ℕ → List ℕ
+body_bytes t readable e body = encoded_text (encoding_in t) (converted_of (encoding_in t) (only_in t) readable (text_of e body))

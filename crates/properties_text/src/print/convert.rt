@@ -1,0 +1,269 @@
+// Converts a text: writes each of its spellings in another encoding, or in another spelling.
+
+ghost use Rattle.std.specs.Prelude.{◌≡◌, ◌≤◌, ◌<◌, ◌+◌, ◌⊎◌, ◌++◌, ◌∷◌, true, false, [], length, take, drop, get_or, OnOk, OnErr, IfOk, not, ◌==◌};
+ghost use Rattle.properties_format.specs.Text.{backslash};
+ghost use Rattle.properties_format.specs.Escapes.{letter_u, NoSpelling};
+ghost use Rattle.properties_format.specs.Printing.{may_be_unescaped};
+ghost use Rattle.properties_text.specs.Spelt.{text_in, IsWell, IsRead};
+ghost use Rattle.properties_text.specs.Printing.{encoding_in, only_in, AppendsOnOk};
+ghost use Rattle.properties_text.specs.Converted.{converted_in, is_stop, IsCopied, IsConvertedFront, IsUnitFront};
+
+use super::Repertoire;
+use super::text::put_literal;
+use crate::encoding::{LineEncoding, Spelt, byte_of};
+use crate::escape::read_escape;
+use crate::line_buffer::{LineBuffer, make_room};
+use byte_blocks::{Byte, ByteClass, Either, PastAscii, find};
+use std::alloc::AllocError;
+
+// Where a run stops: at a backslash, and at a non-ASCII byte.
+type Stops = Either<PastAscii, Byte<b'\\'>>;
+
+// The room for a block, or for a unit.
+const ROOM: usize = 32;
+
+// The room for a unit.
+const LONGEST: usize = 16;
+
+// The index after what was put, and the text that is left.
+#[derive(Clone, Copy)]
+struct Front<'a> {
+    end: usize,
+    rest: &'a [u8],
+}
+
+/// Appends a text, each of whose spellings is converted: a character that the repertoire lacks is escaped, and if
+/// `readable`, the spelling of a non-ASCII character that it has becomes the character. Fails if memory runs out.
+pub fn convert_text(
+    line: &mut LineBuffer,
+    repertoire: Repertoire,
+    readable: bool,
+    encoding: LineEncoding,
+    text: &[u8],
+) -> Result<(), AllocError>
+    requires { IsWell encoding text.now }
+    ensures { AppendsOnOk line.old (converted_in repertoire readable encoding text.now) result line.new }
+{
+    let mut rest = text;
+    while !rest.is_empty() {
+        rest = convert_front(line, repertoire, readable, encoding, rest)?;
+    }
+    Ok(())
+}
+
+// Makes room, converts a front of the text, and returns the rest.
+#[inline(always)]
+fn convert_front<'a>(
+    line: &mut LineBuffer,
+    repertoire: Repertoire,
+    readable: bool,
+    encoding: LineEncoding,
+    text: &'a [u8],
+) -> Result<&'a [u8], AllocError>
+    requires well { IsWell encoding text.now }
+    requires some { 0 < length text.now }
+    ensures well { IfOk result (λ rest. IsWell encoding rest.now) }
+    ensures shorter { IfOk result (λ rest. length rest.now < length text.now) }
+    ensures converted { IfOk result (λ rest.
+        line.old ++ converted_in repertoire readable encoding text.now ≡ line.new ++ converted_in repertoire readable encoding rest.now) }
+{
+    make_room(
+        &mut line.bytes,
+        line.filled,
+        text.len().saturating_add(ROOM),
+    )?;
+    let front = put_front(
+        &mut line.bytes,
+        line.filled,
+        repertoire,
+        readable,
+        encoding,
+        text,
+    );
+    line.filled = front.end;
+    Ok(front.rest)
+}
+
+// Copies a run, and converts the units at which it stops.
+#[inline(always)]
+fn put_front<'a>(
+    out: &mut [u8],
+    at: usize,
+    repertoire: Repertoire,
+    readable: bool,
+    encoding: LineEncoding,
+    text: &'a [u8],
+) -> Front<'a>
+    requires well { IsWell encoding text.now }
+    requires some { 0 < length text.now }
+    requires room { at + (length text.now + 32) ≤ length out.old }
+    ensures same_room { length out.new ≡ length out.old }
+    ensures within { result.end ≤ length out.new }
+    ensures shorter { length result.rest.now < length text.now }
+    ensures converted { IsConvertedFront repertoire readable encoding out.old at text.now result.end result.rest.now out.new }
+{
+    let run = copy_run(out, at, text);
+    put_units(out, run.end, repertoire, readable, encoding, run.rest)
+}
+
+// Copies the text up to a stop.
+#[inline(always)]
+fn copy_run<'a>(out: &mut [u8], at: usize, text: &'a [u8]) -> Front<'a>
+    requires room { at + (length text.now + 16) ≤ length out.old }
+    ensures same_room { length out.new ≡ length out.old }
+    ensures copied { IsCopied out.old at text.now result.end result.rest.now out.new }
+    ensures stops { 0 < length result.rest.now → is_stop (get_or result.rest.now 0 0) ≡ true }
+{
+    let count = match find::<Stops>(text) {
+        Some(first) => first,
+        None => text.len(),
+    };
+    copy_front(out, at, text, count)
+}
+
+// Converts the units at which a run stops, as long as there is room.
+#[inline(always)]
+fn put_units<'a>(
+    out: &mut [u8],
+    at: usize,
+    repertoire: Repertoire,
+    readable: bool,
+    encoding: LineEncoding,
+    text: &'a [u8],
+) -> Front<'a>
+    requires well { IsWell encoding text.now }
+    requires room { at + 16 ≤ length out.old }
+    ensures same_room { length out.new ≡ length out.old }
+    ensures within { result.end ≤ length out.new }
+    ensures shorter { 0 < length text.now → is_stop (get_or text.now 0 0) ≡ true → length result.rest.now < length text.now }
+    ensures converted { IsConvertedFront repertoire readable encoding out.old at text.now result.end result.rest.now out.new }
+{
+    let mut front = Front {
+        end: at,
+        rest: text,
+    };
+    while !front.rest.is_empty()
+        && Stops::contains(front.rest[0])
+        && out.len() - front.end >= LONGEST
+    {
+        front = put_unit(out, front.end, repertoire, readable, encoding, front.rest);
+    }
+    front
+}
+
+// Converts the unit at the front of a text, which is a stop.
+#[inline(always)]
+fn put_unit<'a>(
+    out: &mut [u8],
+    at: usize,
+    repertoire: Repertoire,
+    readable: bool,
+    encoding: LineEncoding,
+    text: &'a [u8],
+) -> Front<'a>
+    requires well { IsWell encoding text.now }
+    requires some { 0 < length text.now }
+    requires stop { is_stop (get_or text.now 0 0) ≡ true }
+    requires room { at + 16 ≤ length out.old }
+    ensures same_room { length out.new ≡ length out.old }
+    ensures within { result.end ≤ length out.new }
+    ensures unit { IsUnitFront repertoire readable encoding out.old at text.now result.end result.rest.now out.new }
+{
+    if text[0] != b'\\' {
+        let first = encoding.first_character(text);
+        let end = put_literal(out, at, repertoire, first.character);
+        return after(end, text, first.length);
+    }
+    match read_escape(encoding, text) {
+        Ok(spelt) => put_spelling(out, at, repertoire, readable, encoding, text, spelt),
+        // No spelling begins here: the backslash and the `u` stay.
+        Err(_) => copy_front(out, at, text, 2),
+    }
+}
+
+// Converts the spelling at the front of a text, which begins with a backslash.
+#[inline(always)]
+fn put_spelling<'a>(
+    out: &mut [u8],
+    at: usize,
+    repertoire: Repertoire,
+    readable: bool,
+    encoding: LineEncoding,
+    text: &'a [u8],
+    spelt: Spelt,
+) -> Front<'a>
+    requires well { IsWell encoding text.now }
+    requires read { IsRead encoding text.now spelt }
+    requires escape { get_or text.now 0 0 ≡ backslash }
+    requires room { at + 16 ≤ length out.old }
+    ensures same_room { length out.new ≡ length out.old }
+    ensures within { result.end ≤ length out.new }
+    ensures unit { IsUnitFront repertoire readable encoding out.old at text.now result.end result.rest.now out.new }
+{
+    if spelt.character.is_ascii() {
+        return copy_front(out, at, text, spelt.length);
+    }
+    let is_held = has(repertoire, spelt.character);
+    if begins_unicode(text) {
+        if is_held && readable {
+            let end = put_literal(out, at, repertoire, spelt.character);
+            return after(end, text, spelt.length);
+        }
+        return copy_front(out, at, text, spelt.length);
+    }
+    if is_held && !readable {
+        out[at] = b'\\';
+        let end = put_literal(out, at + 1, repertoire, spelt.character);
+        return after(end, text, spelt.length);
+    }
+    let end = put_literal(out, at, repertoire, spelt.character);
+    after(end, text, spelt.length)
+}
+
+// Returns whether the second byte is a `u`.
+#[inline(always)]
+fn begins_unicode(text: &[u8]) -> bool
+    ensures yes { result ≡ true → (1 < length text.now) × (get_or text.now 1 0 ≡ letter_u) }
+    ensures no { result ≡ false → 1 < length text.now → (get_or text.now 1 0 == letter_u) ≡ false }
+{
+    text.len() > 1 && text[1] == b'u'
+}
+
+#[inline(always)]
+fn after<'a>(end: usize, text: &'a [u8], count: usize) -> Front<'a>
+    requires { count ≤ length text.now }
+    ensures end { result.end ≡ end }
+    ensures rest { result.rest.now ≡ drop count text.now }
+{
+    Front {
+        end,
+        rest: &text[count..],
+    }
+}
+
+// Copies this many bytes.
+#[inline(always)]
+fn copy_front<'a>(out: &mut [u8], at: usize, text: &'a [u8], count: usize) -> Front<'a>
+    requires within { count ≤ length text.now }
+    requires room { at + count ≤ length out.old }
+    ensures same_room { length out.new ≡ length out.old }
+    ensures end { result.end ≡ at + count }
+    ensures copied { take result.end out.new ≡ take at out.old ++ take count text.now }
+    ensures rest { result.rest.now ≡ drop count text.now }
+{
+    out[at..at + count].copy_from_slice(&text[..count]);
+    after(at + count, text, count)
+}
+
+// Returns whether the repertoire has a character, which is non-ASCII.
+#[inline(always)]
+fn has(repertoire: Repertoire, character: char) -> bool
+    requires { 0x80 ≤ character }
+    ensures { result ≡ may_be_unescaped (encoding_in repertoire) (only_in repertoire) character }
+{
+    match repertoire {
+        Repertoire::Utf8 => true,
+        Repertoire::Windows1252 => byte_of(character).is_some(),
+        Repertoire::Ascii => false,
+    }
+}

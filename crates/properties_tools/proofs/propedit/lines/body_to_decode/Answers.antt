@@ -1,0 +1,17 @@
+use Rattle.std.proofs.Common.{refl}
+use Rattle.std.proofs.lemmas.List.{take_rest}
+use Rattle.properties_format.specs.Encoding.{windows_1252}
+use Rattle.properties_text.specs.Encoding.{encoding_of}
+use Rattle.properties_tools.specs.declared.propedit.lines.Flaw.TheVariants.{IllFormed}
+use Rattle.properties_tools.proofs.Flawed.{lines-body, lines-flawless, none-ill_formed}
+use Rattle.properties_tools.proofs.propedit.lines.body_to_decode.Goals as goal
+
+pub returns-in-WINDOWS_1252 : goal.returns-in-WINDOWS_1252
+returns-in-WINDOWS_1252 c =
+    let in_force = rw c.in-WINDOWS_1252.is at c.encoding_in_force-in_force.ensures.in_force in
+    rw c.in-WINDOWS_1252.is (lines-flawless IllFormed (encoding_of c.args.encoding) c.args.source.now _ windows_1252 in_force refl (none-ill_formed _))
+
+pub returns-in_default : goal.returns-in_default
+returns-in_default c =
+    rw (take_rest c.args.source.now c.encoding_in_force-in_force.result.1)
+    (lines-body IllFormed (encoding_of c.args.encoding) c.args.source.now _ _ c.encoding_in_force-in_force.ensures.in_force refl)
