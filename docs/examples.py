@@ -21,12 +21,12 @@ use byte_blocks::{Byte, Either, LineEnds, find};
 use counted_io::{Counted, CountedRead, CountedWrite, ScriptedReader, ScriptedSink, SinkFault, Tail, send};
 use java_properties::{
     Call, Cause, ContentRef, Document, Edit, Encoding, LineContent, LineEnding, PropertiesError, PropertiesIter,
-    PropertiesWriter, Spelling, convert, edit_all, edit_all_ascii, first_malformed_escape, key_lines, laws, malformed_escapes, read, read_lines, read_sorted, read_source, remove_key, run_calls,
-    set_key, set_value, value_of, write, write_sorted, write_source,
+    PropertiesWriter, Spelling, convert, edit_all, edit_all_ascii, edit_pairs, first_malformed_escape, key_lines, laws, malformed_escapes, read, read_lines, read_sorted, read_source, remove_key, run_calls,
+    set_key, set_value, value_among_pairs, value_of, write, write_sorted, write_source,
 };
 use properties_text::encoding::TextBuffer;
 use properties_text::escape::unescape;
-use properties_text::print::{LineBuffer, Pair, Place, Repertoire, print_pair, print_text, print_texts, print_value};
+use properties_text::print::{LineBuffer, Pair, Place, Repertoire, print_pair, print_readable_pair, print_readable_texts, print_text, print_texts, print_value};
 use propedit_arguments::{asked_for, explain, explain_not_utf_8};
 use properties_tools::arguments::words;
 use properties_tools::filter::{filter, filter_ascii};
@@ -127,7 +127,7 @@ def main():
                 print("    let alloc = rt.alloc();")
                 for given, how in GIVEN.items():
                     if is_free(given, text):
-                        if given == "map" and "write_sorted" in text:
+                        if given == "map" and ("write_sorted" in text or "write_map" in text):
                             how = how.replace("HashMap", "BTreeMap")
                         if given == "file" and "edit_file" in text:
                             how = EDITED_FILE

@@ -94,9 +94,9 @@ is "$(awk 'length > 80' ../usage)" ''
 run -h
 gives 0 "$(cat ../usage)\n" ''
 run --version
-gives 0 'propedit 1.7.0\n' ''
+gives 0 'propedit 1.8.0\n' ''
 run -V
-gives 0 'propedit 1.7.0\n' ''
+gives 0 'propedit 1.8.0\n' ''
 run -f nowhere --help get
 gives 0 "$(cat ../usage)\n" ''
 for words in 'check --help' 'check a -h' 'convert --help' 'convert ascii -h'; do
@@ -209,7 +209,7 @@ run -f app.properties check
 gives 0 '' ''
 given 'a = 1\n# C:\\users\nb = \\u12\na = 2\nc = \xff\n\xfe = d\n\\u0061 = 3\n'
 run check
-gives 1 'standard input:2: Malformed \\uxxxx encoding: not hex. (in a comment)
+gives 1 'standard input:2: Malformed \\uxxxx encoding: not hex. (in a comment, which Java and propedit pass over)
 standard input:3: Malformed \\uxxxx encoding: not enough digits.
 standard input:4: repeats the key of line 1
 standard input:5: not UTF-8; -e windows-1252 reads it
@@ -217,7 +217,7 @@ standard input:6: not UTF-8
 standard input:7: repeats the key of line 1
 ' ''
 run -f app.properties -e windows-1252 check
-gives 1 'app.properties:2: Malformed \\uxxxx encoding: not hex. (in a comment)
+gives 1 'app.properties:2: Malformed \\uxxxx encoding: not hex. (in a comment, which Java and propedit pass over)
 app.properties:3: Malformed \\uxxxx encoding: not enough digits.
 app.properties:4: repeats the key of line 1
 app.properties:7: repeats the key of line 1
@@ -584,10 +584,21 @@ for line in 'get a' list 'set a 2' 'remove a'; do
     run $line
     gives 2 '' 'propedit: standard input:2: Malformed \\uxxxx encoding: not enough digits.\n'
 done
+given '# C:\\users\nport = 80\n! \\u12\n'
+run get port
+gives 0 '80\n' ''
+run list
+gives 0 'port\n' ''
+run set port 8080 remove none
+gives 0 '# C:\\users\nport = 8080\n! \\u12\n' ''
+run -i app.properties set port 8080
+gives 0 '' ''
+holds app.properties '# C:\\users\nport = 8080\n! \\u12\n'
+
 given 'a = 1\n\n# C:\\users\nb = \\uz\n'
 for line in 'get a' list 'set a 2' 'remove a'; do
     run -f app.properties $line
-    gives 2 '' 'propedit: app.properties:3: Malformed \\uxxxx encoding: not hex. (in a comment)\n'
+    gives 2 '' 'propedit: app.properties:4: Malformed \\uxxxx encoding: not enough digits.\n'
 done
 given 'a = \\ud800\n'
 run get a
@@ -816,10 +827,10 @@ before=$(stat -c '%i %y' app.properties)
 run -i app.properties set a 2
 gives 2 '' 'propedit: app.properties:2: not UTF-8; -e windows-1252 reads it\n'
 is "$(stat -c '%i %y' app.properties)" "$before"
-given 'a=1\n# \\user\n'
+given 'a=1\nb = \\user\n'
 run -i app.properties set a 2
-gives 2 '' 'propedit: app.properties:2: Malformed \\uxxxx encoding: not enough digits. (in a comment)\n'
-holds app.properties 'a=1\n# \\user\n'
+gives 2 '' 'propedit: app.properties:2: Malformed \\uxxxx encoding: not enough digits.\n'
+holds app.properties 'a=1\nb = \\user\n'
 given 'a\0=\0'
 run -e utf-16le -i app.properties set a 2
 gives 2 '' 'propedit: app.properties: UTF-16 can be read but not edited; propedit convert utf-8 converts it\n'

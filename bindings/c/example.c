@@ -96,7 +96,7 @@ static bool print_changed(char const *name, struct bytes const *file, char const
         if (!make_room(name, &changed, room)) {
             return false;
         }
-        status = properties_set_value(file->start, file->length, PROPERTIES_UTF_8, false, (uint8_t const *)key,
+        status = properties_set_value(file->start, file->length, PROPERTIES_UTF_8, 0, (uint8_t const *)key,
                                       strlen(key), (uint8_t const *)value, strlen(value), changed.start, room,
                                       &changed.length, &line);
         room = changed.length;

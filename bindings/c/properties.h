@@ -12,8 +12,8 @@
  *   the room that is needed, and `out` is as it was. With any other status but PROPERTIES_OK, *length is 0 and `out` is
  *   as it was; but at a malformed escape properties_items gives the items before it. Past *length, `out` always is as it
  *   was.
- * - If several errors could be reported, it is the first of these: the encoding or the target, a key or a value that
- *   isn't UTF-8, the packed list, from its front on, and then the rest.
+ * - If several errors could be reported, it is the first of these: the encoding, the target or the flags, a key or a
+ *   value that isn't UTF-8, the packed list, from its front on, and then the rest.
  *
  * How much room: try four times the length of the source for items, twice its length for a conversion, the length of
  * the list and some more for what is written, and once the length of the source and some more for everything else. If
@@ -46,7 +46,7 @@ extern "C" {
 #endif
 
 /* The interface that this header describes. properties_version returns that of the library. */
-#define PROPERTIES_VERSION 1
+#define PROPERTIES_VERSION 2
 
 /* What a call returns. */
 enum properties_status {
@@ -54,7 +54,7 @@ enum properties_status {
     PROPERTIES_NO_ROOM = 1,           /* *length bytes are needed in `out` */
     PROPERTIES_NO_KEY = 2,            /* properties_get: no pair has the key */
     PROPERTIES_NO_MEMORY = 3,         /* malloc or realloc returned null */
-    PROPERTIES_UNKNOWN_ENCODING = 4,  /* none of enum properties_encoding, or of enum properties_target */
+    PROPERTIES_UNKNOWN_ENCODING = 4,  /* no number of enum properties_encoding or properties_target, or no such flags */
     PROPERTIES_NOT_UTF_8 = 5,         /* a key, a value or a text of a packed list isn't UTF-8 */
     PROPERTIES_BAD_LIST = 6,          /* a packed list ends too early, or has a record that it may not have */
     PROPERTIES_NOT_ENOUGH_DIGITS = 7, /* fewer than four characters follow a \u in the line */
@@ -78,6 +78,18 @@ enum properties_target {
     PROPERTIES_TO_WINDOWS_1252 = 16,
     PROPERTIES_TO_UTF_8 = 17,
     PROPERTIES_TO_ASCII = 18 /* reads the same in ISO 8859-1, windows-1252 and UTF-8 */
+};
+
+/* What a call does otherwise than without flags: 0, one of these, or several, as in PROPERTIES_ASCII_ONLY |
+ * PROPERTIES_READABLE. A call that has no use for a flag refuses it, as it refuses flags that there are not. */
+enum properties_flag {
+    /* Each character past ASCII that is put in is an escape: properties_set_value, _set_key, _edit, _write. */
+    PROPERTIES_ASCII_ONLY = 1,
+    /* Values are written as people write them: properties_write. */
+    PROPERTIES_READABLE = 2,
+    /* A malformed escape in a comment is an error too: properties_get, _set_value, _set_key, _remove_key, _edit. Without
+     * this flag they pass over comments, as Java does, so a comment may be `# C:\users`. */
+    PROPERTIES_READ_COMMENTS = 4
 };
 
 /* What an item of a source is, and a line to write. */
@@ -110,6 +122,8 @@ enum properties_finding_kind {
  *     an item, an edit, a line to write: kind, line, length of the key, length of the value; key; value
  *     a finding:                         kind, line, first, length of the key;               key
  *
+ * A malformed escape has no key, and in the place of `first` it has 1 if it is in a comment, and 0 if it isn't.
+ *
  * Edits and lines to write may have any number as their `line`. So the list that properties_items gives can be passed
  * to properties_write as it is. properties_edit refuses a list of items, and properties_write a list of edits, unless
  * it is empty. The functions below walk these lists and make them. */
@@ -132,6 +146,7 @@ struct properties_finding {
     uint64_t kind; /* enum properties_finding_kind */
     uint64_t line;
     uint64_t first;
+    bool in_comment; /* whether a malformed escape is in a comment, which Java passes over */
     uint8_t const *key;
     size_t key_length;
 };
@@ -150,15 +165,16 @@ struct properties_list {
 };
 
 /* Sets *length to the length of the value of a key, and writes the value to `out` in UTF-8. If several pairs have the
- * key, it is the value of the last one. A malformed escape is an error wherever it is, even in a comment or after the
- * pair.
+ * key, it is the value of the last one. A malformed escape of any pair is an error, even after that pair, and with
+ * PROPERTIES_READ_COMMENTS one in a comment is too.
  *
  * Returns PROPERTIES_OK, _NO_ROOM, _NO_KEY, _NO_MEMORY, _UNKNOWN_ENCODING, _NOT_UTF_8 (of the key), _NOT_ENOUGH_DIGITS,
  * _NOT_HEX or _INVALID_CHARACTER. */
-int properties_get(uint8_t const *source, size_t source_length, uint32_t encoding, uint8_t const *key,
-                   size_t key_length, uint8_t *out, size_t room, size_t *length, size_t *line);
+int properties_get(uint8_t const *source, size_t source_length, uint32_t encoding, uint32_t flags,
+                   uint8_t const *key, size_t key_length, uint8_t *out, size_t room, size_t *length, size_t *line);
 
-/* Writes the packed list of all comments and pairs, in order, each with the number of the line that it begins in.
+/* Writes the packed list of all comments and pairs, in order, each with the number of the line that it begins in. Since
+ * it gives the texts of comments, a malformed escape in one is an error.
  *
  * At a malformed escape `out` gets the items before it, *length is how many bytes they take, and *line is the line with
  * the escape. (If the room is too small for these items, it returns _NO_ROOM instead.)
@@ -184,36 +200,40 @@ int properties_findings(uint8_t const *source, size_t source_length, uint32_t en
  * separator of the last pair and the last line ending of the source, but with no indent. Every other line stays as it
  * is, but for a line ending that a new pair needs before it.
  *
- * Where `ascii_only` is true, what is new is written in ASCII alone, with an escape for each other character. Otherwise
+ * With PROPERTIES_ASCII_ONLY, what is new is written in ASCII alone, with an escape for each other character. Without it,
  * a character past ASCII is an escape only if the encoding lacks it, or if it is the first one of a key at the front of
  * the source that would begin like a byte order mark.
  *
+ * A malformed escape of any pair is an error, and with PROPERTIES_READ_COMMENTS one in a comment is too.
+ *
  * Returns PROPERTIES_OK, _NO_ROOM, _NO_MEMORY, _UNKNOWN_ENCODING, _NOT_UTF_8 (of key or value), _NOT_ENOUGH_DIGITS,
- * _NOT_HEX, _INVALID_CHARACTER (of these the first in the source, wherever it is) or _UNSUPPORTED. */
-int properties_set_value(uint8_t const *source, size_t source_length, uint32_t encoding, bool ascii_only,
+ * _NOT_HEX, _INVALID_CHARACTER (of these the first in the source that counts) or _UNSUPPORTED. */
+int properties_set_value(uint8_t const *source, size_t source_length, uint32_t encoding, uint32_t flags,
                          uint8_t const *key, size_t key_length, uint8_t const *value, size_t value_length,
                          uint8_t *out, size_t room, size_t *length, size_t *line);
 
 /* The same, but the pair is printed anew as `key=value`, in the place of the last pair with the key or at the end.
  *
  * Returns what properties_set_value returns. */
-int properties_set_key(uint8_t const *source, size_t source_length, uint32_t encoding, bool ascii_only,
+int properties_set_key(uint8_t const *source, size_t source_length, uint32_t encoding, uint32_t flags,
                        uint8_t const *key, size_t key_length, uint8_t const *value, size_t value_length, uint8_t *out,
                        size_t room, size_t *length, size_t *line);
 
 /* Writes the source without the pairs that have the key, which may be none. Every other line stays as it is; but if
- * what is left would begin like a byte order mark, a line feed comes first.
+ * what is left would begin like a byte order mark, a line feed comes first. Of the flags it takes
+ * PROPERTIES_READ_COMMENTS alone, since it puts in no text.
  *
  * Returns what properties_set_value returns. */
-int properties_remove_key(uint8_t const *source, size_t source_length, uint32_t encoding, uint8_t const *key,
-                          size_t key_length, uint8_t *out, size_t room, size_t *length, size_t *line);
+int properties_remove_key(uint8_t const *source, size_t source_length, uint32_t encoding, uint32_t flags,
+                          uint8_t const *key, size_t key_length, uint8_t *out, size_t room, size_t *length,
+                          size_t *line);
 
 /* Writes the source after a packed list of edits, in order: each edit is made to what the one before it gave.
  * properties_append makes such a list.
  *
  * Returns what properties_set_value returns (_NOT_UTF_8 of a key or a value of the list), or PROPERTIES_BAD_LIST: a
  * record is cut short, has a kind that no edit has, such as that of an item, or removes a key and has a value. */
-int properties_edit(uint8_t const *source, size_t source_length, uint32_t encoding, bool ascii_only,
+int properties_edit(uint8_t const *source, size_t source_length, uint32_t encoding, uint32_t flags,
                     uint8_t const *edits, size_t edits_length, uint8_t *out, size_t room, size_t *length,
                     size_t *line);
 
@@ -233,12 +253,16 @@ int properties_convert(uint8_t const *source, size_t source_length, uint32_t enc
                        uint8_t *out, size_t room, size_t *length, size_t *line);
 
 /* Writes a packed list of comments and pairs as a file: a line each, comments after `# `, pairs with `=`, and line
- * feeds. It reads back as the same pairs, and as the same comments but for blanks at their ends. What `ascii_only` does
- * is what it does in properties_set_value.
+ * feeds. It reads back as the same pairs, and as the same comments but for blanks at their ends.
+ *
+ * With PROPERTIES_ASCII_ONLY, each character past ASCII is an escape; without it, it is one where it is in
+ * properties_set_value. Without PROPERTIES_READABLE, each space, `=`, `:`, `#` and `!` of a value gets a backslash. With
+ * it, values are written as properties_set_value writes them: a space at the front gets a backslash, one at the end is
+ * \u0020, and all others of these are as they are. Keys are written alike in both.
  *
  * Returns PROPERTIES_OK, _NO_ROOM, _NO_MEMORY, _UNKNOWN_ENCODING, _NOT_UTF_8, or PROPERTIES_BAD_LIST: a record is cut
  * short, has a kind that no item has, such as that of an edit, or is a comment and has a key. */
-int properties_write(uint8_t const *list, size_t list_length, uint32_t encoding, bool ascii_only, uint8_t *out,
+int properties_write(uint8_t const *list, size_t list_length, uint32_t encoding, uint32_t flags, uint8_t *out,
                      size_t room, size_t *length, size_t *line);
 
 /* Returns the version of the interface that the library has: PROPERTIES_VERSION, if the header fits. */
@@ -256,7 +280,7 @@ static inline char const *properties_status_text(int status) {
     case PROPERTIES_NO_MEMORY:
         return "Out of memory.";
     case PROPERTIES_UNKNOWN_ENCODING:
-        return "Unknown encoding.";
+        return "Unknown encoding or flags.";
     case PROPERTIES_NOT_UTF_8:
         return "A text isn't UTF-8.";
     case PROPERTIES_BAD_LIST:
@@ -328,6 +352,7 @@ static inline bool properties_next_item(struct properties_cursor *cursor, struct
 /* Goes to the next finding of a list, as properties_next_item goes to the next item. */
 static inline bool properties_next_finding(struct properties_cursor *cursor, struct properties_finding *finding) {
     uint64_t key_length, texts;
+    bool is_escape;
     if (cursor->left < PROPERTIES_RECORD_SIZE) {
         return false;
     }
@@ -339,6 +364,12 @@ static inline bool properties_next_finding(struct properties_cursor *cursor, str
     finding->kind = properties_number_at(cursor->next);
     finding->line = properties_number_at(cursor->next + 8);
     finding->first = properties_number_at(cursor->next + 16);
+    is_escape = finding->kind >= PROPERTIES_FOUND_NOT_ENOUGH_DIGITS &&
+                finding->kind <= PROPERTIES_FOUND_INVALID_CHARACTER;
+    finding->in_comment = is_escape && finding->first == 1;
+    if (is_escape) {
+        finding->first = 0;
+    }
     finding->key = cursor->next + PROPERTIES_RECORD_SIZE;
     finding->key_length = (size_t)key_length;
     cursor->next = finding->key + finding->key_length;

@@ -128,7 +128,7 @@ struct request {
     enum call call;
     struct text source;
     uint32_t encoding;
-    bool ascii_only;
+    uint32_t flags;
     struct text key;
     struct text value;
     struct text list;
@@ -141,7 +141,7 @@ static struct request request_of(enum call call, struct text source, uint32_t en
     request.call = call;
     request.source = source;
     request.encoding = encoding;
-    request.ascii_only = false;
+    request.flags = 0;
     request.key = T("k");
     request.value = T("v");
     request.list = T("");
@@ -153,29 +153,29 @@ static struct request request_of(enum call call, struct text source, uint32_t en
 static int make_call(struct request const *r, uint8_t *out, size_t room, size_t *length, size_t *line) {
     switch (r->call) {
     case GET:
-        return properties_get(r->source.bytes, r->source.length, r->encoding, r->key.bytes, r->key.length, out, room,
-                              length, line);
+        return properties_get(r->source.bytes, r->source.length, r->encoding, r->flags, r->key.bytes, r->key.length,
+                              out, room, length, line);
     case ITEMS:
         return properties_items(r->source.bytes, r->source.length, r->encoding, out, room, length, line);
     case FINDINGS:
         return properties_findings(r->source.bytes, r->source.length, r->encoding, out, room, length, line);
     case SET_VALUE:
-        return properties_set_value(r->source.bytes, r->source.length, r->encoding, r->ascii_only, r->key.bytes,
+        return properties_set_value(r->source.bytes, r->source.length, r->encoding, r->flags, r->key.bytes,
                                     r->key.length, r->value.bytes, r->value.length, out, room, length, line);
     case SET_KEY:
-        return properties_set_key(r->source.bytes, r->source.length, r->encoding, r->ascii_only, r->key.bytes,
+        return properties_set_key(r->source.bytes, r->source.length, r->encoding, r->flags, r->key.bytes,
                                   r->key.length, r->value.bytes, r->value.length, out, room, length, line);
     case REMOVE_KEY:
-        return properties_remove_key(r->source.bytes, r->source.length, r->encoding, r->key.bytes, r->key.length, out,
-                                     room, length, line);
+        return properties_remove_key(r->source.bytes, r->source.length, r->encoding, r->flags, r->key.bytes,
+                                     r->key.length, out, room, length, line);
     case EDIT:
-        return properties_edit(r->source.bytes, r->source.length, r->encoding, r->ascii_only, r->list.bytes,
+        return properties_edit(r->source.bytes, r->source.length, r->encoding, r->flags, r->list.bytes,
                                r->list.length, out, room, length, line);
     case CONVERT:
         return properties_convert(r->source.bytes, r->source.length, r->encoding, r->target, r->readable, out, room,
                                   length, line);
     default:
-        return properties_write(r->list.bytes, r->list.length, r->encoding, r->ascii_only, out, room, length, line);
+        return properties_write(r->list.bytes, r->list.length, r->encoding, r->flags, out, room, length, line);
     }
 }
 
@@ -346,7 +346,7 @@ static void try_findings(void) {
     check("findings of nothing", request_of(FINDINGS, T(""), PROPERTIES_UTF_8), PROPERTIES_OK, 0, T(""));
     check("no findings", request_of(FINDINGS, T("a=1\nb=1\n#a\n"), PROPERTIES_UTF_8), PROPERTIES_OK, 0, T(""));
     put_finding(&list, PROPERTIES_FOUND_NOT_ENOUGH_DIGITS, 4, 0, T(""));
-    put_finding(&list, PROPERTIES_FOUND_NOT_HEX, 5, 0, T(""));
+    put_finding(&list, PROPERTIES_FOUND_NOT_HEX, 5, 1, T(""));
     put_finding(&list, PROPERTIES_FOUND_INVALID_CHARACTER, 6, 0, T(""));
     put_finding(&list, PROPERTIES_FOUND_REPEATED_KEY, 3, 1, T("a"));
     put_finding(&list, PROPERTIES_FOUND_REPEATED_KEY, 7, 2, T("b"));
@@ -354,11 +354,15 @@ static void try_findings(void) {
     check("findings", request_of(FINDINGS, T(source), PROPERTIES_UTF_8), PROPERTIES_OK, 0, text_of_list(&list));
     cursor = properties_walk(list.bytes, list.length);
     count(properties_next_finding(&cursor, &finding) && finding.kind == PROPERTIES_FOUND_NOT_ENOUGH_DIGITS &&
-              finding.line == 4 && finding.first == 0 && finding.key_length == 0,
+              finding.line == 4 && finding.first == 0 && !finding.in_comment && finding.key_length == 0,
           "the escape", "a cursor", 0);
-    count(properties_next_finding(&cursor, &finding) && properties_next_finding(&cursor, &finding) &&
+    count(properties_next_finding(&cursor, &finding) && finding.kind == PROPERTIES_FOUND_NOT_HEX && finding.line == 5 &&
+              finding.first == 0 && finding.in_comment && finding.key_length == 0,
+          "the escape in a comment", "a cursor", 0);
+    count(properties_next_finding(&cursor, &finding) && !finding.in_comment &&
               properties_next_finding(&cursor, &finding) && finding.kind == PROPERTIES_FOUND_REPEATED_KEY &&
-              finding.line == 3 && finding.first == 1 && finding.key_length == 1 && *finding.key == 'a',
+              finding.line == 3 && finding.first == 1 && !finding.in_comment && finding.key_length == 1 &&
+              *finding.key == 'a',
           "the key", "a cursor", 0);
     cursor = properties_walk(list.bytes, list.length - 1);
     while (properties_next_finding(&cursor, &finding)) {
@@ -398,14 +402,14 @@ static void try_edits(void) {
     request.key = T("\xc3\xa9");
     request.value = T("\xc3\xa8\xe2\x82\xac\xe3\x81\x82");
     check("set_value, windows-1252", request, PROPERTIES_OK, 0, T("# \xe9\n\xe9 = \xe8\x80\\u3042\n"));
-    request.ascii_only = true;
+    request.flags = PROPERTIES_ASCII_ONLY;
     check("set_value, ASCII", request, PROPERTIES_OK, 0, T("# \xe9\n\xe9 = \\u00e8\\u20ac\\u3042\n"));
     request.call = SET_KEY;
     check("set_key, ASCII", request, PROPERTIES_OK, 0, T("# \xe9\n\\u00e9=\\u00e8\\u20ac\\u3042\n"));
     request.source = T("# \xc3\xa9\n");
     request.encoding = PROPERTIES_UTF_8;
     check("set_key, ASCII in UTF-8", request, PROPERTIES_OK, 0, T("# \xc3\xa9\n\\u00e9=\\u00e8\\u20ac\\u3042\n"));
-    request.ascii_only = false;
+    request.flags = 0;
     check("set_key, UTF-8", request, PROPERTIES_OK, 0, T("# \xc3\xa9\n\xc3\xa9=\xc3\xa8\xe2\x82\xac\xe3\x81\x82\n"));
     request.encoding = PROPERTIES_UTF_16LE;
     request.source = T("\xef\xbb\xbf");
@@ -429,7 +433,7 @@ static void try_edits(void) {
     put_item(&list, PROPERTIES_EDIT_SET_KEY, 0, T("c"), T("\xc3\xa9"));
     request.list = text_of_list(&list);
     check("edit", request, PROPERTIES_OK, 0, T("a : 3\nc=\xc3\xa9\n"));
-    request.ascii_only = true;
+    request.flags = PROPERTIES_ASCII_ONLY;
     check("edit, ASCII", request, PROPERTIES_OK, 0, T("a : 3\nc=\\u00e9\n"));
 }
 
@@ -448,8 +452,21 @@ static void try_write(void) {
     check("write, UTF-16BE", request, PROPERTIES_OK, 0, T("# c \xc3\xa9\na\\ b=\xe2\x82\xac\\n\n=\n"));
     request.encoding = PROPERTIES_WINDOWS_1252;
     check("write, windows-1252", request, PROPERTIES_OK, 0, T("# c \xe9\na\\ b=\x80\\n\n=\n"));
-    request.ascii_only = true;
+    request.flags = PROPERTIES_ASCII_ONLY;
     check("write, ASCII", request, PROPERTIES_OK, 0, T("# c \\u00e9\na\\ b=\\u20ac\\n\n=\n"));
+
+    /* Values as people write them, or not. */
+    list.length = 0;
+    put_item(&list, PROPERTIES_COMMENT, 0, T(""), T("a b"));
+    put_item(&list, PROPERTIES_PAIR, 0, T("a b"), T(" x: \xc3\xa9=#! "));
+    put_item(&list, PROPERTIES_PAIR, 0, T("c"), T("=\t"));
+    request.list = text_of_list(&list);
+    request.flags = 0;
+    check("write, escaped", request, PROPERTIES_OK, 0, T("# a b\na\\ b=\\ x\\:\\ \xe9\\=\\#\\!\\ \nc=\\=\\t\n"));
+    request.flags = PROPERTIES_READABLE;
+    check("write, readable", request, PROPERTIES_OK, 0, T("# a b\na\\ b=\\ x: \xe9=#!\\u0020\nc==\\t\n"));
+    request.flags = PROPERTIES_ASCII_ONLY | PROPERTIES_READABLE;
+    check("write, readable ASCII", request, PROPERTIES_OK, 0, T("# a b\na\\ b=\\ x: \\u00e9=#!\\u0020\nc==\\t\n"));
 }
 
 /* Converts to each target, with spellings kept and readable. In ASCII that is the same. */
@@ -538,7 +555,8 @@ static void try_round_trip(void) {
     count(properties_items((uint8_t const *)source, sizeof source - 1, PROPERTIES_UTF_8, list, sizeof list, &length,
                            &line) == PROPERTIES_OK,
           "read", "a round trip", 0);
-    count(properties_write(list, length, PROPERTIES_UTF_8, true, out, sizeof out, &written, &line) == PROPERTIES_OK,
+    count(properties_write(list, length, PROPERTIES_UTF_8, PROPERTIES_ASCII_ONLY, out, sizeof out, &written, &line) ==
+              PROPERTIES_OK,
           "written", "a round trip", 0);
     count(written == sizeof source - 1 && memcmp(out, source, written) == 0, "the same", "a round trip", 0);
 }
@@ -593,6 +611,87 @@ static void try_encodings(void) {
             refuses(names[call], request, PROPERTIES_UNKNOWN_ENCODING, 0);
         }
     }
+}
+
+/* Flags that there are not, and those that a call has no use for, before a key and a list that are no good. */
+static void try_flags(void) {
+    static enum call const calls[] = {GET, SET_VALUE, SET_KEY, REMOVE_KEY, EDIT, WRITE};
+    static uint32_t const taken[] = {4, 5, 5, 4, 5, 3};
+    static uint32_t const flags[] = {
+        0, 1, 2, 3, 4, 5, 6, 7, 8, 12, 16, 255, 256, 0x7fffffff, 0x80000000, 0x80000001, 0xffffffff,
+    };
+    size_t place, number;
+    for (number = 0; number < sizeof calls / sizeof *calls; number++) {
+        for (place = 0; place < sizeof flags / sizeof *flags; place++) {
+            struct request request = request_of(calls[number], T("k=1"), PROPERTIES_UTF_8);
+            bool is_list = calls[number] == EDIT || calls[number] == WRITE;
+            int status = is_list ? PROPERTIES_BAD_LIST : PROPERTIES_NOT_UTF_8;
+            request.flags = flags[place];
+            request.key = T("\xff");
+            request.list = T("x");
+            refuses(names[calls[number]], request,
+                    (flags[place] & ~taken[number]) == 0 ? status : PROPERTIES_UNKNOWN_ENCODING, 0);
+        }
+    }
+}
+
+/* Malformed escapes in comments: passed over, and errors where comments are read. */
+static void try_comments(void) {
+    static enum call const calls[] = {GET, SET_VALUE, SET_KEY, REMOVE_KEY, EDIT, EDIT, EDIT};
+    static size_t const lines[] = {1, 2, 3};
+    struct text sources[3], results[7][3];
+    struct packed lists[7];
+    size_t number, place, line;
+    uint32_t ascii;
+    memset(lists, 0, sizeof lists);
+    put_item(&lists[4], PROPERTIES_EDIT_SET_VALUE, 0, T("k"), T("v"));
+    put_item(&lists[5], PROPERTIES_EDIT_SET_VALUE, 0, T("k"), T("w"));
+    put_item(&lists[5], PROPERTIES_EDIT_SET_VALUE, 0, T("k"), T("v"));
+    sources[0] = T("# C:\\users\nk : 1\n");
+    sources[1] = T("k : 1\n!\\u12\nb=2\n");
+    sources[2] = T("\nk : 1\n  #\\ud83d\\u0041");
+    for (place = 0; place < 3; place++) {
+        results[GET][place] = T("1");
+    }
+    results[1][0] = T("# C:\\users\nk : v\n");
+    results[1][1] = T("k : v\n!\\u12\nb=2\n");
+    results[1][2] = T("\nk : v\n  #\\ud83d\\u0041");
+    results[2][0] = T("# C:\\users\nk=v\n");
+    results[2][1] = T("k=v\n!\\u12\nb=2\n");
+    results[2][2] = T("\nk=v\n  #\\ud83d\\u0041");
+    results[3][0] = T("# C:\\users\n");
+    results[3][1] = T("!\\u12\nb=2\n");
+    results[3][2] = T("\n  #\\ud83d\\u0041");
+    for (place = 0; place < 3; place++) {
+        results[4][place] = results[5][place] = results[1][place];
+        results[6][place] = sources[place];
+    }
+    for (number = 0; number < 7; number++) {
+        for (place = 0; place < 3; place++) {
+            static int const statuses[] = {
+                PROPERTIES_NOT_HEX, PROPERTIES_NOT_ENOUGH_DIGITS, PROPERTIES_INVALID_CHARACTER,
+            };
+            struct request request = request_of(calls[number], sources[place], PROPERTIES_UTF_8);
+            bool puts_text = calls[number] != GET && calls[number] != REMOVE_KEY;
+            request.list = text_of_list(&lists[number]);
+            for (ascii = 0; ascii <= (puts_text ? 1u : 0u); ascii++) {
+                request.flags = ascii;
+                check("comments passed over", request, PROPERTIES_OK, 0, results[number][place]);
+                request.flags |= PROPERTIES_READ_COMMENTS;
+                refuses("comments read", request, statuses[place], lines[place]);
+            }
+        }
+        /* A malformed escape of another pair, behind one in a comment, and no pair with the key. */
+        for (line = 0; line < 2; line++) {
+            struct request request = request_of(calls[number], T("# C:\\users\n\nb=\\u12"), PROPERTIES_UTF_8);
+            request.list = text_of_list(&lists[number]);
+            request.flags = line == 0 ? PROPERTIES_READ_COMMENTS : 0;
+            refuses("an escape of a pair", request, line == 0 ? PROPERTIES_NOT_HEX : PROPERTIES_NOT_ENOUGH_DIGITS,
+                    line == 0 ? 1 : 3);
+        }
+    }
+    refuses("items of a comment", request_of(ITEMS, T("# C:\\users"), PROPERTIES_UTF_8), PROPERTIES_NOT_HEX, 1);
+    refuses("get of none", request_of(GET, T("# C:\\users"), PROPERTIES_UTF_8), PROPERTIES_NO_KEY, 0);
 }
 
 static void try_texts(void) {
@@ -714,6 +813,7 @@ static void try_escapes(void) {
         for (place = 0; place < 5; place++) {
             struct request request = request_of(calls[place], sources[number], PROPERTIES_WINDOWS_1252);
             request.list = text_of_list(&edits);
+            request.flags = PROPERTIES_READ_COMMENTS;
             refuses(names[calls[place]], request, statuses[number], 4);
         }
     }
@@ -766,7 +866,8 @@ static void try_memory(void) {
     struct packed findings = {{0}, 0};
     struct packed before = {{0}, 0};
     struct text results[CALLS][2];
-    int call, ascii_only;
+    static uint32_t const all_flags[] = {4, 0, 0, 5, 5, 4, 5, 3, 0};
+    int call, flagged;
     put_item(&edits, PROPERTIES_EDIT_SET_KEY, 0, T("a"), T("\xc3\xa9"));
     put_item(&edits, PROPERTIES_EDIT_SET_VALUE, 0, T("k"), T("12"));
     put_item(&edits, PROPERTIES_EDIT_REMOVE_KEY, 0, T("a"), T(""));
@@ -790,13 +891,13 @@ static void try_memory(void) {
     results[WRITE][1] = T("# c\nk=\\u00e9\n");
     results[CONVERT][0] = results[CONVERT][1] = T("# c\nk : \\u0031\nk=2\n");
     for (call = 0; call < CALLS; call++) {
-        for (ascii_only = 0; ascii_only < 2; ascii_only++) {
+        for (flagged = 0; flagged < 2; flagged++) {
             struct packed list = call == WRITE ? lines : edits;
             struct request request = request_of((enum call)call, T("# c\nk : \\u0031\nk=2\n"), PROPERTIES_UTF_8);
-            request.ascii_only = ascii_only == 1;
+            request.flags = flagged == 1 ? all_flags[call] : 0;
             request.value = T("\xc3\xa9");
             request.list = text_of_list(&list);
-            refuse_each(names[call], request, PROPERTIES_OK, 0, results[call][ascii_only]);
+            refuse_each(names[call], request, PROPERTIES_OK, 0, results[call][flagged]);
 
             /* A malformed escape, before which there are items. */
             if (call != FINDINGS && call != WRITE && call != CONVERT) {
@@ -849,6 +950,8 @@ int main(void) {
     try_round_trip();
     try_append();
     try_encodings();
+    try_flags();
+    try_comments();
     try_texts();
     try_lists();
     try_escapes();

@@ -18,6 +18,9 @@ only if the encoding lacks it, or if it is the first one of a key at the front o
 order mark. iso-8859-1 is cp1252 there too: the euro sign is written as the byte 80, which Java's
 `Properties.load(InputStream)` reads as U+0080.
 
+Java passes over comments, and so do `get` and the functions that edit, so that a comment may be `# C:\\users`. With
+comments="read" a malformed escape in a comment is an error too. For `load` and `items` it always is: they read all.
+
 Any thread may call the functions at any time. They need Python 3.9 or later, and the shared object libproperties.so,
 beside this file or at the path that the environment variable PROPERTIES_LIBRARY has.
 """
@@ -57,7 +60,7 @@ __all__ = [
     "set_value",
 ]
 
-VERSION = 1
+VERSION = 2
 Bytes = Union[bytes, bytearray, memoryview]
 
 
@@ -79,7 +82,7 @@ class Status(enum.IntEnum):
 
 
 _REASONS = {
-    Status.UNKNOWN_ENCODING: "Unknown encoding.",
+    Status.UNKNOWN_ENCODING: "Unknown encoding or flags.",
     Status.NOT_UTF_8: "A text isn't UTF-8.",
     Status.BAD_LIST: "A packed list isn't well formed.",
     Status.NOT_ENOUGH_DIGITS: r"Malformed \uxxxx encoding: not enough digits.",
@@ -141,13 +144,15 @@ class FindingKind(enum.IntEnum):
 
 
 class Finding(NamedTuple):
-    """What is wrong in a line. Repeated keys alone have a `key`, and as `first` the line of the first pair with it. A
-    `kind` that is no FindingKind comes only from a library that is newer than this module."""
+    """What is wrong in a line. Repeated keys alone have a `key`, and as `first` the line of the first pair with it.
+    Malformed escapes alone may be in a comment. A `kind` that is no FindingKind comes only from a library that is newer
+    than this module."""
 
     line: int
     kind: Union[FindingKind, int]
     key: Optional[str] = None
     first: Optional[int] = None
+    in_comment: bool = False
 
     @property
     def reason(self) -> str:
@@ -160,7 +165,7 @@ class Finding(NamedTuple):
             return f"repeats the key of line {self.first}"
         if not isinstance(self.kind, FindingKind):
             return "Unknown kind of finding."
-        return _REASONS[Status[self.kind.name]]
+        return _REASONS[Status[self.kind.name]] + (" (in a comment)" if self.in_comment else "")
 
 
 class PropertiesError(ValueError):
@@ -185,8 +190,8 @@ class PropertiesError(ValueError):
 
 
 class MalformedEscape(PropertiesError):
-    r"""A backslash with a u isn't followed by four hexadecimal digits that make a character. A backslash begins an
-    escape in comments too.
+    r"""A backslash with a u isn't followed by four hexadecimal digits that make a character. For `load` and `items` a
+    backslash begins an escape in comments too.
 
     >>> load(b"# C:\\users")
     Traceback (most recent call last):
@@ -210,19 +215,21 @@ _ENCODINGS = {
     "utf-16-be": 3,
 }
 _TARGETS = {"cp1252": 16, "utf-8": 17, "ascii": 18}
+_ASCII_ONLY, _READABLE, _READ_COMMENTS = 1, 2, 4
+_COMMENTS = {"skip": 0, "read": _READ_COMMENTS}
 
 _IN = [ctypes.c_char_p, ctypes.c_size_t]
 _OUT = [ctypes.c_char_p, ctypes.c_size_t, ctypes.POINTER(ctypes.c_size_t), ctypes.POINTER(ctypes.c_size_t)]
 _ARGUMENTS = {
-    "properties_get": [*_IN, ctypes.c_uint32, *_IN, *_OUT],
+    "properties_get": [*_IN, ctypes.c_uint32, ctypes.c_uint32, *_IN, *_OUT],
     "properties_items": [*_IN, ctypes.c_uint32, *_OUT],
     "properties_findings": [*_IN, ctypes.c_uint32, *_OUT],
-    "properties_set_value": [*_IN, ctypes.c_uint32, ctypes.c_bool, *_IN, *_IN, *_OUT],
-    "properties_set_key": [*_IN, ctypes.c_uint32, ctypes.c_bool, *_IN, *_IN, *_OUT],
-    "properties_remove_key": [*_IN, ctypes.c_uint32, *_IN, *_OUT],
-    "properties_edit": [*_IN, ctypes.c_uint32, ctypes.c_bool, *_IN, *_OUT],
+    "properties_set_value": [*_IN, ctypes.c_uint32, ctypes.c_uint32, *_IN, *_IN, *_OUT],
+    "properties_set_key": [*_IN, ctypes.c_uint32, ctypes.c_uint32, *_IN, *_IN, *_OUT],
+    "properties_remove_key": [*_IN, ctypes.c_uint32, ctypes.c_uint32, *_IN, *_OUT],
+    "properties_edit": [*_IN, ctypes.c_uint32, ctypes.c_uint32, *_IN, *_OUT],
     "properties_convert": [*_IN, ctypes.c_uint32, ctypes.c_uint32, ctypes.c_bool, *_OUT],
-    "properties_write": [*_IN, ctypes.c_uint32, ctypes.c_bool, *_OUT],
+    "properties_write": [*_IN, ctypes.c_uint32, ctypes.c_uint32, *_OUT],
 }
 
 
@@ -309,6 +316,12 @@ def _number(encoding: str) -> int:
     return number
 
 
+def _flags(comments: str, ascii_only: bool = False) -> int:
+    if comments not in _COMMENTS:
+        raise ValueError(f"comments are to be 'skip' or 'read', not {comments!r}")
+    return bool(ascii_only) * _ASCII_ONLY + _COMMENTS[comments]
+
+
 def _record(kind: int, key: str, value: str) -> bytes:
     key_bytes, value_bytes = _utf_8(key), _utf_8(value)
     return struct.pack("<4Q", kind, 0, len(key_bytes), len(value_bytes)) + key_bytes + value_bytes
@@ -331,7 +344,7 @@ def _items(packed: bytes) -> List[Item]:
 def items(data: Bytes, encoding: str = "iso-8859-1") -> List[Item]:
     r"""Returns all comments and pairs in order, each with the number of its line.
 
-    Raises MalformedEscape, which has the items before it.
+    Raises MalformedEscape, which has the items before it, also for one in a comment.
 
     >>> items(b"# one\na = 1\nb = \\\n    2")
     [Comment(text='one', line=1), Pair(key='a', value='1', line=2), Pair(key='b', value='2', line=3)]
@@ -350,7 +363,7 @@ def items(data: Bytes, encoding: str = "iso-8859-1") -> List[Item]:
 def load(data: Bytes, encoding: str = "iso-8859-1") -> Dict[str, str]:
     r"""Returns the value of each key. If several pairs have a key, it is that of the last one.
 
-    Raises MalformedEscape.
+    Raises MalformedEscape, also for one in a comment.
 
     >>> load(b"# one\na = 1\nb : caf\\u00e9\na = 2")
     {'a': '2', 'b': 'café'}
@@ -359,19 +372,21 @@ def load(data: Bytes, encoding: str = "iso-8859-1") -> Dict[str, str]:
 
 
 def get(
-    data: Bytes, key: str, default: Optional[str] = None, *, encoding: str = "iso-8859-1"
+    data: Bytes, key: str, default: Optional[str] = None, *, encoding: str = "iso-8859-1", comments: str = "skip"
 ) -> Optional[str]:
     r"""Returns the value of a key, or the default if no pair has it. It makes no dict.
 
-    Raises MalformedEscape.
+    Raises MalformedEscape for one in a pair, and with comments="read" for one in a comment too.
 
     >>> get(b"port = 80\nhost = a", "port")
     '80'
     >>> get(b"port = 80", "host", "localhost")
     'localhost'
+    >>> get(b"# C:\\users\nport = 80", "port")
+    '80'
     """
-    source = _bytes(data)
-    status, value, line = _answer("properties_get", 4096, source, _number(encoding), _utf_8(key))
+    source, flags = _bytes(data), _flags(comments)
+    status, value, line = _answer("properties_get", 4096, source, _number(encoding), flags, _utf_8(key))
     if status == Status.NO_KEY:
         return default
     if status != Status.OK:
@@ -379,51 +394,75 @@ def get(
     return value.decode("utf-8")
 
 
-def set_value(data: Bytes, key: str, value: str, *, encoding: str = "iso-8859-1", ascii_only: bool = True) -> bytes:
+def set_value(
+    data: Bytes,
+    key: str,
+    value: str,
+    *,
+    encoding: str = "iso-8859-1",
+    ascii_only: bool = True,
+    comments: str = "skip",
+) -> bytes:
     r"""Returns the file with the value of a key set, and with the layout of its line. If no pair has the key, one is
     added at the end. Every other line stays as it is.
 
-    Raises MalformedEscape, and PropertiesError if the file is UTF-16.
+    Raises MalformedEscape for one in a pair, and with comments="read" for one in a comment too, and PropertiesError if
+    the file is UTF-16.
 
     >>> set_value(b"port    = 80\n", "port", "8080")
     b'port    = 8080\n'
     >>> set_value(b"drink : tea\n", "food", "crêpe")
     b'drink : tea\nfood : cr\\u00eape\n'
     """
-    return _set("properties_set_value", data, key, value, encoding, ascii_only)
+    return _set("properties_set_value", data, key, value, encoding, _flags(comments, ascii_only))
 
 
-def set_key(data: Bytes, key: str, value: str, *, encoding: str = "iso-8859-1", ascii_only: bool = True) -> bytes:
-    r"""Does what `set_value` does, but prints the pair anew, as `dumps` does.
+def set_key(
+    data: Bytes,
+    key: str,
+    value: str,
+    *,
+    encoding: str = "iso-8859-1",
+    ascii_only: bool = True,
+    comments: str = "skip",
+) -> bytes:
+    r"""Does what `set_value` does, but prints the pair anew, as `dumps` does with readable=False.
 
     >>> set_key(b"port    = 80\n", "port", "8080")
     b'port=8080\n'
     """
-    return _set("properties_set_key", data, key, value, encoding, ascii_only)
+    return _set("properties_set_key", data, key, value, encoding, _flags(comments, ascii_only))
 
 
-def _set(name: str, data: Bytes, key: str, value: str, encoding: str, ascii_only: bool) -> bytes:
+def _set(name: str, data: Bytes, key: str, value: str, encoding: str, flags: int) -> bytes:
     source, key_bytes, value_bytes = _bytes(data), _utf_8(key), _utf_8(value)
     room = len(source) + 2 * (len(key_bytes) + len(value_bytes)) + 16
-    return _result(name, room, source, _number(encoding), bool(ascii_only), key_bytes, value_bytes)
+    return _result(name, room, source, _number(encoding), flags, key_bytes, value_bytes)
 
 
-def remove_key(data: Bytes, key: str, *, encoding: str = "iso-8859-1") -> bytes:
+def remove_key(data: Bytes, key: str, *, encoding: str = "iso-8859-1", comments: str = "skip") -> bytes:
     r"""Returns the file without the pairs that have a key. Every other line stays as it is.
 
-    Raises MalformedEscape, and PropertiesError if the file is UTF-16.
+    Raises what `set_value` raises.
 
     >>> remove_key(b"# one\na = 1\nb = 2\n", "a")
     b'# one\nb = 2\n'
     """
-    source = _bytes(data)
-    return _result("properties_remove_key", len(source) + 16, source, _number(encoding), _utf_8(key))
+    source, flags = _bytes(data), _flags(comments)
+    return _result("properties_remove_key", len(source) + 16, source, _number(encoding), flags, _utf_8(key))
 
 
-def edit(data: Bytes, edits: Iterable[Edit], *, encoding: str = "iso-8859-1", ascii_only: bool = True) -> bytes:
+def edit(
+    data: Bytes,
+    edits: Iterable[Edit],
+    *,
+    encoding: str = "iso-8859-1",
+    ascii_only: bool = True,
+    comments: str = "skip",
+) -> bytes:
     r"""Returns the file after several edits, each made to what the one before it gave. It reads the file once.
 
-    Raises MalformedEscape, and PropertiesError if the file is UTF-16.
+    Raises what `set_value` raises.
 
     >>> edit(b"a = 1\nb = 2\n", [SetValue("a", "3"), RemoveKey("b"), SetKey("c", "4")])
     b'a = 3\nc=4\n'
@@ -431,7 +470,7 @@ def edit(data: Bytes, edits: Iterable[Edit], *, encoding: str = "iso-8859-1", as
     source = _bytes(data)
     packed = b"".join(_edit_record(each) for each in edits)
     room = len(source) + len(packed)
-    return _result("properties_edit", room, source, _number(encoding), bool(ascii_only), packed)
+    return _result("properties_edit", room, source, _number(encoding), _flags(comments, ascii_only), packed)
 
 
 def _edit_record(each: Edit) -> bytes:
@@ -474,18 +513,28 @@ def dumps(
     *,
     encoding: str = "iso-8859-1",
     ascii_only: bool = True,
+    readable: bool = True,
 ) -> bytes:
     r"""Returns a file with these lines: the entries of a mapping, or comments and pairs, as `items` returns them or as
     plain tuples of a key and a value. For utf-16 it is UTF-8.
+
+    Values are written as people write them, and as `set_value` writes them: a space at the front gets a backslash, one
+    at the end is \u0020, and other spaces, =, :, # and ! are as they are. With readable=False each of these gets a
+    backslash. It reads back the same.
 
     >>> dumps({"port": "80", "drink": "café"})
     b'port=80\ndrink=caf\\u00e9\n'
     >>> dumps([Comment("the web server"), ("port", "80")])
     b'# the web server\nport=80\n'
+    >>> dumps({"quote": "Hi you: a=b"})
+    b'quote=Hi you: a=b\n'
+    >>> dumps({"quote": "Hi you: a=b"}, readable=False)
+    b'quote=Hi\\ you\\:\\ a\\=b\n'
     """
     lines: Iterable[Union[Item, Tuple[str, str]]] = content.items() if isinstance(content, Mapping) else content
     packed = b"".join(_line_record(line) for line in lines)
-    return _result("properties_write", len(packed), packed, _number(encoding), bool(ascii_only))
+    flags = bool(ascii_only) * _ASCII_ONLY + bool(readable) * _READABLE
+    return _result("properties_write", len(packed), packed, _number(encoding), flags)
 
 
 def _line_record(line: Union[Item, Tuple[str, str]]) -> bytes:
@@ -498,7 +547,8 @@ def _line_record(line: Union[Item, Tuple[str, str]]) -> bytes:
 
 def findings(data: Bytes, encoding: str = "iso-8859-1") -> List[Finding]:
     r"""Returns what is wrong, in the order of the lines: the first malformed escape of each, and each pair whose key an
-    earlier pair has. Unlike the other functions it goes on after a malformed escape.
+    earlier pair has. Unlike the other functions it goes on after a malformed escape, and it tells whether the escape is
+    in a comment.
 
     Lines that aren't text of the encoding aren't reported. In them, what isn't text is read as U+FFFD, so keys that
     differ in their bytes may read as one key, which then counts as repeated. In iso-8859-1 and cp1252 all bytes are
@@ -518,7 +568,9 @@ def findings(data: Bytes, encoding: str = "iso-8859-1") -> List[Finding]:
         place += 32
         key = packed[place : place + key_length].decode("utf-8")
         place += key_length
-        is_repeated = kind == FindingKind.REPEATED_KEY
-        more = (key, first) if is_repeated else ()
-        found.append(Finding(line, _named(FindingKind, kind), *more))
+        named = _named(FindingKind, kind)
+        if named == FindingKind.REPEATED_KEY:
+            found.append(Finding(line, named, key, first))
+        else:
+            found.append(Finding(line, named, in_comment=isinstance(named, FindingKind) and first == 1))
     return sorted(found, key=lambda finding: finding.line)

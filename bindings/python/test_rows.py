@@ -146,7 +146,8 @@ def read_map(encoding, left, right):
     wanted = [error_of(part) or tuple(texts_of(part)) for part in split(right) if part != "nothing"]
     yield came, wanted
     if came == wanted and not any(pair[0] == "error" for pair in wanted):
-        yield [(key, properties.get(data, key, encoding=encoding)) for key, _ in wanted], wanted
+        for comments in ("skip", "read"):
+            yield [(key, properties.get(data, key, encoding=encoding, comments=comments)) for key, _ in wanted], wanted
 
 
 def read_print(encoding, left, right):
@@ -164,14 +165,22 @@ def read_print(encoding, left, right):
     yield came, wanted
 
 
+SETTINGS = {
+    "ascii-only": ("ascii_only", True),
+    "all-characters": ("ascii_only", False),
+    "readable": ("readable", True),
+    "escaped": ("readable", False),
+}
+
+
 def lines_of(calls):
-    """The lines that calls of a writer write, and whether in ASCII alone."""
-    lines, ascii_only = [], False
+    """The lines that calls of a writer write, and with which settings."""
+    lines, settings = [], {"ascii_only": False, "readable": False}
     for word, texts in calls:
-        if word in ("ascii-only", "all-characters"):
+        if word in SETTINGS:
             if lines:
                 raise LeftOut("settings that change between lines")
-            ascii_only = word == "ascii-only"
+            settings.update([SETTINGS[word]])
         elif word == "comment":
             lines.append(Comment(texts[0].decode()))
         elif word == "pair":
@@ -182,7 +191,7 @@ def lines_of(calls):
             raise LeftOut("prefixes, separators and line endings of a writer")
         elif word not in ("flush", "finish", "nothing"):
             raise ValueError(word)
-    return lines, ascii_only
+    return lines, settings
 
 
 def is_reading(word):
@@ -191,8 +200,8 @@ def is_reading(word):
 
 def write(encoding, left, right):
     calls = clauses(left)
-    lines, ascii_only = lines_of([call for call in calls if not is_reading(call[0])])
-    came = properties.dumps(lines, encoding=encoding, ascii_only=ascii_only)
+    lines, settings = lines_of([call for call in calls if not is_reading(call[0])])
+    came = properties.dumps(lines, encoding=encoding, **settings)
     parts = split(right)
     yield came, as_bytes(QUOTED.fullmatch(parts[0])[1])
     readings = [word.split()[1] for word, _ in calls if is_reading(word)]
@@ -200,8 +209,8 @@ def write(encoding, left, right):
 
 
 def write_map(encoding, left, right):
-    lines, _ = lines_of(clauses(left))
-    came = properties.dumps(dict(sorted(lines)), encoding=encoding, ascii_only=False)
+    lines, settings = lines_of(clauses(left))
+    came = properties.dumps(dict(sorted(lines)), encoding=encoding, **settings)
     yield came, as_bytes(QUOTED.fullmatch(right)[1])
     written = "utf-8" if encoding.startswith("utf-16") else encoding
     yield properties.load(came, written), dict(lines)
@@ -213,10 +222,10 @@ def copy(encoding, left, right):
     if sinks:
         raise LeftOut("sinks that fail or take little")
     (_, (data,)), (into, _), *calls = given
-    lines, ascii_only = lines_of(calls)
+    lines, settings = lines_of(calls)
     items = came_items(data, encoding)
     lines += [item for item in items if isinstance(item, Pair)]
-    came = [properties.dumps(lines, encoding=into.split()[1], ascii_only=ascii_only)]
+    came = [properties.dumps(lines, encoding=into.split()[1], **settings)]
     came += [item for item in items if not isinstance(item, (Comment, Pair))]
     bytes_part, *errors = split(right)
     wanted = [as_bytes(QUOTED.fullmatch(bytes_part)[1])]
@@ -246,11 +255,12 @@ def edit(encoding, left, right):
     if len(edits) == 1:
         yield by_single_call(source, encoding, *edits[0]), wanted
     if isinstance(wanted, tuple):
-        # A source that is refused is refused whatever is to be changed.
+        # A source that is refused where comments are read is refused whatever is to be changed.
         for single in [SetKey("a", "b"), SetValue("a", "b"), RemoveKey("a"), RemoveKey("none")]:
             for ascii_only in (False, True):
                 yield by_single_call(source, encoding, ascii_only, single), wanted
         return
+    yield changed(source, encoding, edits, "skip"), wanted
     seen = [properties.get(changed(source, encoding, edits[:count]), key, encoding=encoding) for count, key in asked]
     yield seen, [None if part == "none" else texts_of(part)[0] for part in parts[1 : 1 + len(asked)]]
     yield [item for name in readings for item in came_items(came, name)], wanted_items(parts[1 + len(asked) :])
@@ -268,12 +278,13 @@ def convert(encoding, left, right):
 EDITS = {"put": SetKey, "value": SetValue, "remove": RemoveKey}
 
 
-def changed(source, encoding, edits):
-    """The source after the edits, of which those that follow one another with the same setting are a list."""
+def changed(source, encoding, edits, comments="read"):
+    """The source after the edits, of which those that follow one another with the same setting are a list. In the tables
+    comments are read."""
     try:
         for ascii_only, run in itertools.groupby(edits or [(False, None)], lambda edit: edit[0]):
             run = [edit for _, edit in run if edit is not None]
-            source = properties.edit(source, run, encoding=encoding, ascii_only=ascii_only)
+            source = properties.edit(source, run, encoding=encoding, ascii_only=ascii_only, comments=comments)
         return source
     except PropertiesError as error:
         return came_error(error)
@@ -282,9 +293,9 @@ def changed(source, encoding, edits):
 def by_single_call(source, encoding, ascii_only, single):
     try:
         if isinstance(single, RemoveKey):
-            return properties.remove_key(source, single.key, encoding=encoding)
+            return properties.remove_key(source, single.key, encoding=encoding, comments="read")
         call = properties.set_key if isinstance(single, SetKey) else properties.set_value
-        return call(source, single.key, single.value, encoding=encoding, ascii_only=ascii_only)
+        return call(source, single.key, single.value, encoding=encoding, ascii_only=ascii_only, comments="read")
     except PropertiesError as error:
         return came_error(error)
 
@@ -431,8 +442,8 @@ def try_lists(count):
     """A list of items is no list of edits, nor the other way round."""
     item = properties._record(1, "a", "b")
     edits = [properties._edit_record(each) for each in (SetKey("a", "b"), SetValue("a", "b"), RemoveKey("a"))]
-    calls = [("properties_write", [0, False], packed) for packed in edits + [item + edits[0]]]
-    calls += [("properties_edit", [b"a=1", 0, False], packed) for packed in (item, edits[0] + item)]
+    calls = [("properties_write", [0, 0], packed) for packed in edits + [item + edits[0]]]
+    calls += [("properties_edit", [b"a=1", 0, 0], packed) for packed in (item, edits[0] + item)]
     for name, more, packed in calls:
         arguments = [packed, *more] if name == "properties_write" else [*more, packed]
         count.check(properties._answer(name, 100, *arguments) == (Status.BAD_LIST, b"", None), f"{name} of {packed!r}")
@@ -459,9 +470,9 @@ def try_newer(count):
         error = raised(properties.findings, b"")
         count.check((type(error), str(error)) == (PropertiesError, "line 3: Unknown status."), repr(error))
         count.check(error.status == 12 and str(pickle.loads(pickle.dumps(error))) == str(error), repr(error))
-        properties._LIBRARY = Newer(0, struct.pack("<4Q", 4, 3, 0, 1) + b"a")
+        properties._LIBRARY = Newer(0, struct.pack("<4Q", 4, 3, 1, 1) + b"a")
         found = properties.findings(b"")
-        count.check(found == [(3, 4, None, None)] and found[0].reason == "Unknown kind of finding.", repr(found))
+        count.check(found == [(3, 4, None, None, False)] and found[0].reason == "Unknown kind of finding.", repr(found))
     finally:
         properties._LIBRARY = library
 
@@ -489,11 +500,13 @@ def try_findings(count):
     wanted = [
         (2, "a", "repeats the key of line 1"),
         (3, None, malformed + "not enough digits."),
-        (4, None, malformed + "not hex."),
+        (4, None, malformed + "not hex. (in a comment)"),
         (5, None, malformed + "invalid character."),
         (7, "a", "repeats the key of line 1"),
     ]
     count.check(found == wanted, f"findings: {found}")
+    in_comments = [finding.line for finding in properties.findings(source) if finding.in_comment]
+    count.check(in_comments == [4], f"findings in comments: {in_comments}")
     count.check(properties.findings(b"") == [], "findings of nothing")
     mixed = b"\xe4=1\n\xf6=2\n"
     found = [(finding.line, finding.key, finding.first) for finding in properties.findings(mixed, "utf-8")]
@@ -502,14 +515,46 @@ def try_findings(count):
     count.check(len(properties.findings(many)) == 1900, "many findings")
 
 
+def try_comments(count):
+    """Comments are passed over, or read, by each call that doesn't read all."""
+    source = b"# C:\\users\nport = 80\nhost = a\n"
+    edits = [SetValue("port", "81"), RemoveKey("host")]
+    calls = [
+        (properties.get, ["port"], "80"),
+        (properties.set_value, ["port", "81"], b"# C:\\users\nport = 81\nhost = a\n"),
+        (properties.set_key, ["port", "81"], b"# C:\\users\nport=81\nhost = a\n"),
+        (properties.remove_key, ["host"], b"# C:\\users\nport = 80\n"),
+        (properties.edit, [edits], b"# C:\\users\nport = 81\n"),
+        (properties.edit, [edits[:1]], b"# C:\\users\nport = 81\nhost = a\n"),
+        (properties.edit, [[]], source),
+    ]
+    for call, more, wanted in calls:
+        for encoding in ("iso-8859-1", "utf-8", "utf-8-sig"):
+            for named in ({}, {"comments": "skip"}):
+                came = call(source, *more, encoding=encoding, **named)
+                count.check(came == wanted, f"{call.__name__}, past comments: {came}")
+            error = raised(call, source, *more, encoding=encoding, comments="read")
+            count.check(error and came_error(error) == ("error", "NotHex", 1), f"{call.__name__}, comments read: {error!r}")
+        for wrong in ("Skip", "", None, True, 4):
+            error = raised(call, source, *more, comments=wrong)
+            count.check(type(error) is ValueError, f"{call.__name__}, comments {wrong!r}: {error!r}")
+        error = raised(call, source + b"\\u12", *more)
+        count.check(error and came_error(error) == ("error", "NotEnoughDigits", 4), f"{call.__name__} of a pair: {error!r}")
+    for call in (properties.load, properties.items):
+        error = raised(call, source)
+        count.check(error and came_error(error) == ("error", "NotHex", 1), f"{call.__name__}: {error!r}")
+    count.check(properties.get("#\\u12\nk=v".encode("utf-16-le"), "k", encoding="utf-16-le") == "v", "get in UTF-16")
+
+
 def try_round_trips(count):
     pairs = [("", ""), (" a\t", "\\ \n\r\f"), ("#\0", "\U0001f41e\ufeff"), ("\u20ac" * 3000, "é" * 70000)]
     for encoding in ("iso-8859-1", "utf-8", "utf-16-le", "utf-16-be"):
-        for ascii_only in (False, True):
-            data = properties.dumps(pairs, encoding=encoding, ascii_only=ascii_only)
+        for ascii_only, readable in itertools.product((False, True), repeat=2):
+            named = {"encoding": encoding, "ascii_only": ascii_only, "readable": readable}
+            data = properties.dumps(pairs, **named)
             written = "utf-8" if encoding.startswith("utf-16") else encoding
             count.check(properties.load(data, written) == dict(pairs), f"a round trip in {encoding}")
-            count.check(properties.dumps(properties.items(data, written), encoding=encoding, ascii_only=ascii_only) == data, encoding)
+            count.check(properties.dumps(properties.items(data, written), **named) == data, encoding)
             count.check(not ascii_only or data.isascii(), "ASCII alone")
     blanks = b"a\n" * 5000
     count.check(len(properties.items(blanks)) == 5000, "items of short lines")
@@ -547,12 +592,18 @@ def try_random(count):
         named = {"encoding": encoding, "ascii_only": ascii_only}
         place = f"{source!r} in {encoding}, {key!r}, {value!r}, {ascii_only}"
         escapes = [found for found in properties.findings(source, encoding) if found.key is None]
+        in_pairs = [found for found in escapes if not found.in_comment]
+        for call, more in ((properties.get, [key]), (properties.set_value, [key, value]), (properties.remove_key, [key])):
+            other = raised(call, source, *more, encoding=encoding)
+            came = other and (other.line, other.status.name)
+            wanted = (in_pairs[0].line, in_pairs[0].kind.name) if in_pairs else None
+            count.check(came == wanted, f"{call.__name__} past comments of {place}")
         error = raised(properties.items, source, encoding)
         count.check((error is None) == (not escapes), f"findings of {place}")
         if error is not None:
             count.check(error.line == escapes[0].line and error.status.name == escapes[0].kind.name, f"the line in {place}")
-            for call, more in ((properties.set_value, [key, value]), (properties.remove_key, [key])):
-                other = raised(call, source, *more, encoding=encoding)
+            for call, more in ((properties.get, [key]), (properties.set_value, [key, value]), (properties.remove_key, [key])):
+                other = raised(call, source, *more, encoding=encoding, comments="read")
                 count.check(other is not None and came_error(other) == came_error(error), f"{call.__name__} of {place}")
             continue
         items = properties.items(source, encoding)
@@ -564,6 +615,7 @@ def try_random(count):
         for call, kind in ((properties.set_value, SetValue), (properties.set_key, SetKey)):
             edited = call(source, key, value, **named)
             count.check(edited == properties.edit(source, [kind(key, value)], **named), f"{call.__name__} of {place}")
+            count.check(edited == call(source, key, value, comments="read", **named), f"{call.__name__} of {place}")
             count.check(properties.get(edited, key, encoding=encoding) == value, f"{call.__name__} of {place}")
             left = [item[:2] for item in properties.items(edited, encoding) if isinstance(item, Pair) and item.key != key]
             count.check(left == others, f"{call.__name__} of {place}")
@@ -646,6 +698,9 @@ def try_header(count):
     for label, name in (("cp1252", "WINDOWS_1252"), ("utf-8", "UTF_8"), ("ascii", "ASCII")):
         count.check(numbers["TO_" + name] == properties._TARGETS[label], name)
     count.check(not set(properties._TARGETS.values()) & set(properties._ENCODINGS.values()), "numbers of targets of their own")
+    flags = {"ASCII_ONLY": properties._ASCII_ONLY, "READABLE": properties._READABLE, "READ_COMMENTS": properties._READ_COMMENTS}
+    for name, flag in flags.items():
+        count.check(numbers[name] == flag, name)
     for line, name in ((Comment(""), "COMMENT"), (Pair("", ""), "PAIR")):
         count.check(numbers[name] == properties._line_record(line)[0], name)
     for name in properties._ARGUMENTS:
@@ -673,7 +728,7 @@ def main():
     count = Count()
     run_tables(count)
     for test in (
-        try_arguments, try_errors, try_lists, try_newer, try_room, try_findings, try_round_trips, try_random, try_conversions,
+        try_arguments, try_errors, try_lists, try_newer, try_room, try_findings, try_comments, try_round_trips, try_random, try_conversions,
         try_threads, try_header, try_examples, try_page,
     ):
         try:

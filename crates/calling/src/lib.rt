@@ -18,6 +18,7 @@ pub mod ordered;
 pub mod pairs;
 pub mod replace;
 pub mod settings;
+pub mod translators;
 pub mod value;
 
 // How tests compare: a call of `same` is proved in no time, and an `assert_eq!` in the body of a test with all that the

@@ -22,6 +22,10 @@ call-eq (call.AsciiOnly true) (call.AsciiOnly true) = ((λ e. refl), (λ h. refl
 call-eq (call.AsciiOnly true) (call.AsciiOnly false) = ((λ e. absurd (cc)), (λ h. absurd (cc)))
 call-eq (call.AsciiOnly false) (call.AsciiOnly true) = ((λ e. absurd (cc)), (λ h. absurd (cc)))
 call-eq (call.AsciiOnly false) (call.AsciiOnly false) = ((λ e. refl), (λ h. refl))
+call-eq (call.Readable true) (call.Readable true) = ((λ e. refl), (λ h. refl))
+call-eq (call.Readable true) (call.Readable false) = ((λ e. absurd (cc)), (λ h. absurd (cc)))
+call-eq (call.Readable false) (call.Readable true) = ((λ e. absurd (cc)), (λ h. absurd (cc)))
+call-eq (call.Readable false) (call.Readable false) = ((λ e. refl), (λ h. refl))
 call-eq x y = ((λ e. absurd (cc)), (λ h. absurd h))
 
 -- a clone of a call
@@ -33,4 +37,5 @@ call-clone (call.Separator x) (call.Separator y) e = cc
 call-clone (call.Ending x) (call.Ending y) e = cc
 call-clone call.Flush call.Flush e = tt
 call-clone (call.AsciiOnly on) (call.AsciiOnly same) e = cc
+call-clone (call.Readable on) (call.Readable same) e = cc
 call-clone x y e = absurd e

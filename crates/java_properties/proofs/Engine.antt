@@ -3,10 +3,11 @@ use Rattle.std.proofs.Common.{◌≡◌, ◌<◌, ◌==◌, ◌++◌, ◌+◌, �
 use Rattle.std.specs.Prelude.{Some, Option, Result, Ok, Err}
 use Rattle.std.specs.declared.io.Error.{Error}
 use Rattle.counted_io.specs.Streams.{Sink, HasWritten, HasSentPart}
-use Rattle.properties_format.specs.Text.{line_ending_text}
+use Rattle.std.specs.Str.{chars}
+use Rattle.properties_format.specs.Text.{line_ending_text, is_blanks}
 use Rattle.properties_format.specs.Entries.{Content, comment, pair}
 use Rattle.properties_format.specs.Writing.{is_accepted}
-use Rattle.properties_format.specs.Printing.{encoded_text, printed_characters, printed_key, in_prefix, in_comment, in_key_or_value}
+use Rattle.properties_format.specs.Printing.{encoded_text, printed_characters, printed_key, printed_value, written_value, in_prefix, in_comment, in_key_or_value}
 use Rattle.properties_format.proofs.Printing.Characters.{AreAscii, encoded_text-ascii, printed-comment, printed-pair}
 use Rattle.properties_text.specs.Encoding.{line_of}
 use Rattle.properties_items.specs.Errors.{IsError, IsBareError, cause_of_write}
@@ -15,8 +16,8 @@ use Rattle.properties_items.specs.declared.error.ErrorKind.TheVariants.{Io}
 use Rattle.properties_items.specs.declared.error.PropertiesError.{PropertiesError}
 use Rattle.java_properties.specs.Private.Engine.{writing, NumbersLine, SendsLine, repertoire_in, repertoire_of, line_bytes, comment_bytes, BuildsPair}
 use Rattle.properties_format.specs.Encoding.{Encoding, utf_8}
-use Rattle.properties_format.proofs.AsciiOnly.{printed_characters-ascii, printed_characters-same, printed_key-ascii, printed_key-same}
-use Rattle.properties_text.specs.Printing.{text_bytes, key_bytes, puts_of, place_of, encoding_in, only_in}
+use Rattle.properties_format.proofs.AsciiOnly.{printed_characters-ascii, printed_characters-same, printed_key-ascii, printed_key-same, printed_value-ascii, printed_value-same}
+use Rattle.properties_text.specs.Printing.{text_bytes, key_bytes, puts_of, value_bytes, place_of, encoding_in, only_in}
 use Rattle.properties_text.specs.PrintedTexts.{PrintsPair}
 use Rattle.properties_text.specs.declared.encoding.line.LineEncoding.{LineEncoding}
 use Rattle.properties_text.specs.declared.encoding.line.LineEncoding.TheVariants as line
@@ -28,7 +29,7 @@ use Rattle.properties_text.specs.declared.print.Repertoire.{Repertoire}
 use Rattle.properties_text.specs.declared.print.Repertoire.TheVariants as repertoire
 use Rattle.properties_text.specs.declared.escape.UnescapeError.{UnescapeError}
 use Rattle.java_properties.specs.declared.writer.engine.Engine.{Engine}
-use Rattle.std.proofs.lemmas.Bool.{eq-eqb}
+use Rattle.std.proofs.lemmas.Bool.{eq-eqb, cond-true, cond-false}
 use Rattle.std.proofs.lemmas.Str.{chars-nil}
 use Rattle.std.proofs.lemmas.Result.{on_ok_weaker}
 use Rattle.properties_items.proofs.RawTexts.{line_ending-bytes, separator-bytes}
@@ -71,6 +72,33 @@ key-alike false line.Windows1252 first key = refl
 key-alike false line.Utf8 first key = refl
 key-alike true e first key = alike (line_of e) _ _ (printed_key-ascii utf_8 first key) (printed_key-ascii _ first key) (printed_key-same utf_8 (line_of e) first key)
 
+readable-alike : (only : Bool) (e : LineEncoding) (after_blanks : Bool) (text : List ℕ)
+    → value_bytes (repertoire_in only e) after_blanks text ≡ encoded_text (line_of e) (printed_value (line_of e) only after_blanks text)
+readable-alike false line.Windows1252 after_blanks text = refl
+readable-alike false line.Utf8 after_blanks text = refl
+readable-alike true e after_blanks text =
+    alike (line_of e) _ _ (printed_value-ascii utf_8 after_blanks text) (printed_value-ascii _ after_blanks text) (printed_value-same utf_8 (line_of e) after_blanks text)
+
+-- the value that is written, with readable output off
+plain-chosen : (w : Engine) (value : List ℕ) → w.settings.readable ≡ false
+    → puts_of (repertoire_of w) value ≡ encoded_text (line_of w.encoding) (written_value (line_of w.encoding) w.settings value)
+plain-chosen w value off =
+    let e = line_of w.encoding in
+    let s = w.settings in
+    let readable = printed_value e s.ascii_only (is_blanks s.kv_separator) value in
+    let plain = printed_characters e s.ascii_only in_key_or_value value in
+    value-alike s.ascii_only w.encoding value ∙ ap (encoded_text e) (sym (cond-false s.readable readable plain off))
+
+-- and on
+readable-chosen : (w : Engine) (value : List ℕ) → w.settings.readable ≡ true
+    → value_bytes (repertoire_of w) (is_blanks w.settings.kv_separator) value ≡ encoded_text (line_of w.encoding) (written_value (line_of w.encoding) w.settings value)
+readable-chosen w value on =
+    let e = line_of w.encoding in
+    let s = w.settings in
+    let readable = printed_value e s.ascii_only (is_blanks s.kv_separator) value in
+    let plain = printed_characters e s.ascii_only in_key_or_value value in
+    readable-alike s.ascii_only w.encoding (is_blanks s.kv_separator) value ∙ ap (encoded_text e) (sym (cond-true s.readable readable plain on))
+
 -- ---- what is built in an empty buffer
 
 -- a comment, and then its line ending
@@ -85,23 +113,52 @@ comment-built w text cleared printed all ending h k m n =
     rw (n, k, h, m, prefix, body, printed-comment e w.settings (w.lines == 0) text) (append_assoc front rest (ending_bytes w))
 
 -- a key, a separator, a value and a line ending
-pub pair-built : (w : Engine) (key value cleared separator ending all : List ℕ) → cleared ≡ []
+parts-built : (w : Engine) (key value cleared separator valued ending all : List ℕ) → cleared ≡ []
+    → separator ≡ encoded_text (line_of w.encoding) w.settings.kv_separator → ending ≡ ending_bytes w
+    → valued ≡ encoded_text (line_of w.encoding) (written_value (line_of w.encoding) w.settings value)
+    → all ≡ cleared ++ (key_bytes (repertoire_of w) (w.lines == 0) key ++ (separator ++ (valued ++ ending)))
+    → all ≡ line_bytes w (pair key value)
+parts-built w key value cleared separator valued ending all h s m v n =
+    let named = key-alike w.settings.ascii_only w.encoding (w.lines == 0) key in
+    rw (n, h, named, s, v, m) (sym (printed-pair (line_of w.encoding) w.settings (w.lines == 0) key value))
+
+-- with readable output off,
+pub pair-built : (w : Engine) (key value cleared separator ending all : List ℕ) → w.settings.readable ≡ false → cleared ≡ []
     → separator ≡ encoded_text (line_of w.encoding) w.settings.kv_separator → ending ≡ ending_bytes w
     → all ≡ cleared ++ (key_bytes (repertoire_of w) (w.lines == 0) key ++ (separator ++ (puts_of (repertoire_of w) value ++ ending)))
     → all ≡ line_bytes w (pair key value)
-pair-built w key value cleared separator ending all h s m n =
-    let named = key-alike w.settings.ascii_only w.encoding (w.lines == 0) key in
-    let valued = value-alike w.settings.ascii_only w.encoding value in
-    rw (n, h, named, s, valued, m) (sym (printed-pair (line_of w.encoding) w.settings (w.lines == 0) key value))
+pair-built w key value cleared separator ending all off h s m n =
+    parts-built w key value cleared separator (puts_of (repertoire_of w) value) ending all h s m (plain-chosen w value off) n
 
--- the pair that a spelling means
-pub spelt-built : (w : Engine) (p : Pair) (cleared separator ending new : List ℕ) → cleared ≡ []
+-- and on
+pub readable-built : (w : Engine) (key value cleared separator ending all : List ℕ) → w.settings.readable ≡ true → cleared ≡ []
+    → separator ≡ encoded_text (line_of w.encoding) w.settings.kv_separator → chars separator ≡ w.settings.kv_separator → ending ≡ ending_bytes w
+    → all ≡ cleared ++ (key_bytes (repertoire_of w) (w.lines == 0) key ++ (separator ++ (value_bytes (repertoire_of w) (is_blanks (chars separator)) value ++ ending)))
+    → all ≡ line_bytes w (pair key value)
+readable-built w key value cleared separator ending all on h s t m n =
+    let valued = ap (λ x. value_bytes (repertoire_of w) (is_blanks x) value) t ∙ readable-chosen w value on in
+    parts-built w key value cleared separator (value_bytes (repertoire_of w) (is_blanks (chars separator)) value) ending all h s m valued n
+
+-- the pair that a spelling means, with readable output off,
+pub spelt-built : (w : Engine) (p : Pair) (cleared separator ending new : List ℕ) → w.settings.readable ≡ false → cleared ≡ []
     → separator ≡ encoded_text (line_of w.encoding) w.settings.kv_separator → ending ≡ ending_bytes w
-    → (result : Result Unit UnescapeError) → PrintsPair (repertoire_of w) (w.lines == 0) cleared p separator ending result new → BuildsPair w p result new
-spelt-built w p cleared separator ending new c s e (Ok done) h =
-    (h.key, h.value, h.key_means, h.value_means, pair-built w h.key h.value cleared separator ending new c s e h.printed)
-spelt-built w p cleared separator ending new c s e (Err (error.Malformed malformed)) h = h
-spelt-built w p cleared separator ending new c s e (Err error.Memory) h = tt
+    → (result : Result Unit UnescapeError) → PrintsPair (repertoire_of w) (w.lines == 0) (puts_of (repertoire_of w)) cleared p separator ending result new
+    → BuildsPair w p result new
+spelt-built w p cleared separator ending new off c s e (Ok done) h =
+    (h.key, h.value, h.key_means, h.value_means, pair-built w h.key h.value cleared separator ending new off c s e h.printed)
+spelt-built w p cleared separator ending new off c s e (Err (error.Malformed malformed)) h = h
+spelt-built w p cleared separator ending new off c s e (Err error.Memory) h = tt
+
+-- and on
+pub readable_spelt-built : (w : Engine) (p : Pair) (cleared separator ending new : List ℕ) → w.settings.readable ≡ true → cleared ≡ []
+    → separator ≡ encoded_text (line_of w.encoding) w.settings.kv_separator → chars separator ≡ w.settings.kv_separator → ending ≡ ending_bytes w
+    → (result : Result Unit UnescapeError)
+    → PrintsPair (repertoire_of w) (w.lines == 0) (value_bytes (repertoire_of w) (is_blanks (chars separator))) cleared p separator ending result new
+    → BuildsPair w p result new
+readable_spelt-built w p cleared separator ending new on c s t e (Ok done) h =
+    (h.key, h.value, h.key_means, h.value_means, readable-built w h.key h.value cleared separator ending new on c s t e h.printed)
+readable_spelt-built w p cleared separator ending new on c s t e (Err (error.Malformed malformed)) h = h
+readable_spelt-built w p cleared separator ending new on c s t e (Err error.Memory) h = tt
 
 -- ---- the number of a line
 
@@ -145,6 +202,6 @@ pub ruleset repertoires = (repertoire-of)
 
 pub ruleset spans = (eq-eqb, chars-nil)
 
-pub ruleset building = (on_ok_weaker, comment-built, pair-built, line_ending-bytes, separator-bytes)
+pub ruleset building = (on_ok_weaker, comment-built, pair-built, readable-built, line_ending-bytes, separator-bytes)
 
-pub ruleset spelling = (spelt-built, line_ending-bytes, separator-bytes)
+pub ruleset spelling = (spelt-built, readable_spelt-built, line_ending-bytes, separator-bytes)

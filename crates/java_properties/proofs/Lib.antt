@@ -17,3 +17,4 @@ pub mod WholeSources
 pub mod FewLines
 pub mod SliceReads
 pub mod SoughtValues
+pub mod SoughtPairs

@@ -11,10 +11,15 @@ use Rattle.properties_format.specs.Computed.Encoding.{decoded_of}
 use Rattle.properties_format.specs.Computed.Lines.{lines_of}
 use Rattle.properties_format.specs.Groups.{IsGroups, AreWhole, IsWhole, IsUnfinished, is_comment_line, lines_in, joined, first_number}
 use Rattle.properties_format.specs.Computed.Groups.{groups_of}
-use Rattle.properties_format.specs.Escapes.{Malformed, not_enough_digits, not_hex, invalid_character}
+use Rattle.properties_format.specs.Escapes.{Malformed, means, not_enough_digits, not_hex, invalid_character}
+use Rattle.properties_format.specs.Split.{Logical, IsSplit}
+use Rattle.properties_format.specs.Computed.Escapes.{meaning_of}
+use Rattle.properties_format.specs.Computed.Split.{split_of}
+use Rattle.properties_format.proofs.Escapes.Laws.{meaning_of-plain}
+use Rattle.properties_format.proofs.Split.Unique.{split_of-meets}
 use Rattle.properties_format.specs.Items.{Outcome, ignored, given, broken}
 use Rattle.properties_format.specs.Entries.{Entry, read_fault}
-use Rattle.properties_format.specs.Computed.Items.{outcome_of, followed, entries_of}
+use Rattle.properties_format.specs.Computed.Items.{comment_outcome, outcome_of, pair_outcome, split_outcome, followed, entries_of}
 use Rattle.properties_format.specs.ItemsToCome.{ReaderState, start}
 use Rattle.properties_format.specs.Computed.ItemsToCome.{items_to_come, natural_to_come, last_to_come, text_to_come}
 use Rattle.properties_format.specs.MalformedEscapes as format
@@ -30,7 +35,8 @@ use Rattle.properties_lines.specs.LineReader.{Passes}
 use Rattle.properties_lines.specs.LineJoiner.{LineState, JoinsNext, JoinsError, JoinsFault}
 use Rattle.properties_lines.specs.declared.error.LineError.{LineError}
 use Rattle.properties_lines.proofs.LineJoiner.{passes-start, passes-on, some-come, all-on}
-use Rattle.properties_text.specs.Escaping.{malformed_in}
+use Rattle.properties_text.specs.Escaping.{holds_backslash, malformed_in}
+use Rattle.properties_text.proofs.Texts.Resolving.{holds-part, no_backslash}
 use Rattle.properties_text.specs.declared.escape.Malformed as escape
 use Rattle.properties_text.specs.declared.escape.UnescapeError.TheVariants as unescape
 use Rattle.properties_items.specs.Errors.{IsBareError, IsLineError, malformed_kind, malformed_cause}
@@ -178,6 +184,25 @@ line-one line number how h =
     ap (λ v. record { line_number = number; kind = v; in_comment = is_comment_line (chars line) } ∷ []) b.2
     ∙ sym (ap (λ v. escape_records (escapes_from number (chars line) v [])) b.1)
 
+-- Without a backslash it has none.
+pub plain-none : (number : ℕ) (x : List ℕ) → holds_backslash x ≡ false → escapes_from number x (outcome_of x) [] ≡ []
+plain-none number x none = by (split_of x) (split_of-meets x)
+  where
+    meant : (raw : List ℕ) → holds_backslash raw ≡ false → meaning_of raw ≡ means raw
+    meant raw h = meaning_of-plain raw (no_backslash raw h)
+
+    by : (l : Logical) → IsSplit x l → escapes_from number x (split_outcome l) [] ≡ []
+    by Logical.blank h = refl
+    by (Logical.comment raw) h =
+        let before = h.indent ++ (h.sign ∷ h.trimmed.before) in
+        let whole = h.whole ∙ ap (λ v. h.indent ++ (h.sign ∷ v)) h.trimmed.whole ∙ sym (append_assoc h.indent (h.sign ∷ h.trimmed.before) _) in
+        ap (λ m. escapes_from number x (comment_outcome m) []) (meant raw (holds-part before raw h.trimmed.after (rw whole at none)))
+    by (Logical.pair key value) h =
+        let before = h.indent ++ (key ++ h.between) in
+        let whole : x ≡ before ++ (value ++ []) = h.whole ∙ simp (append_assoc, append-nil) in
+        ap₂ (λ m n. escapes_from number x (pair_outcome m n) []) (meant key (holds-part h.indent key (h.between ++ value) (rw h.whole at none)))
+        (meant value (holds-part before value [] (rw whole at none)))
+
 -- ---- the reading
 
 module _ {R : Type 0} {reader : Reader R} where
@@ -219,7 +244,7 @@ module _ {R : Type 0} {reader : Reader R} where
   }
 
   -- others are to come: these groups come before theirs
-  collected-on : {e : Encoding} {from to : R} {gs : List (List Line)} {s : ReaderState} (h : Collected reader e from gs s to) → s.is_done ≡ false
+  pub collected-on : {e : Encoding} {from to : R} {gs : List (List Line)} {s : ReaderState} (h : Collected reader e from gs s to) → s.is_done ≡ false
       → (d : List ℕ) (ending : InputEnd)
       → IsGroups (numbered_lines (lines_of (decoded_of e (h.bytes ++ d))) ending) ending (gs ++ groups_of (natural_to_come s d ending) ending)
   collected-on {e} {gs = gs} {s = s} h live d ending =
@@ -233,7 +258,7 @@ module _ {R : Type 0} {reader : Reader R} where
       by-passes (Passes.at_last g gives) = absurd (cc)
 
   -- no more came: these are the groups of the bytes
-  collected-lines : {e : Encoding} {from to : R} {gs : List (List Line)} {s : ReaderState} (h : Collected reader e from gs s to) → s.is_done ≡ true
+  pub collected-lines : {e : Encoding} {from to : R} {gs : List (List Line)} {s : ReaderState} (h : Collected reader e from gs s to) → s.is_done ≡ true
       → IsGroups (numbered_lines (lines_of (decoded_of e h.bytes)) end) end gs
   collected-lines {e} {gs = gs} {s = s} h d = by-passes h.passes
     where

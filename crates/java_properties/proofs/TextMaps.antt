@@ -2,6 +2,7 @@
 use Rattle.properties_items.proofs.TextMaps.Values.{same-characters, value-inserted, value-inserted-sorted}
 pub use Rattle.properties_items.proofs.TextMaps.Values
 pub mod Reading
+pub mod Lines
 pub mod Writing
 pub mod ReadBack
 

@@ -13,7 +13,7 @@ use Rattle.properties_items.specs.declared.error.ErrorKind.{ErrorKind}
 use Rattle.properties_items.specs.declared.error.ErrorKind.TheVariants as kind
 use Rattle.properties_items.specs.declared.error.PropertiesError.{PropertiesError}
 use Rattle.java_properties.specs.declared.writer.calls.Call.{Call}
-use Rattle.java_properties.specs.declared.writer.calls.Call.TheVariants.{Comment, Pair, Prefix, Separator, Ending, Flush, AsciiOnly}
+use Rattle.java_properties.specs.declared.writer.calls.Call.TheVariants.{Comment, Pair, Prefix, Separator, Ending, Flush, AsciiOnly, Readable}
 
 abbrev pub call_in : Call → format.Call
 call_in (Comment text) = format.comment_call (chars (string_bytes text))
@@ -23,6 +23,7 @@ call_in (Separator separator) = format.separator_call (chars (string_bytes separ
 call_in (Ending line_ending) = format.ending_call (ending_of line_ending)
 call_in Flush = format.flush_call
 call_in (AsciiOnly on) = format.ascii_only_call on
+call_in (Readable on) = format.readable_call on
 
 abbrev pub calls_in : List Call → List format.Call
 calls_in calls = map call_in calls
@@ -36,6 +37,7 @@ IsSameCall (Separator x) (Separator y) = string_bytes x ≡ string_bytes y
 IsSameCall (Ending x) (Ending y) = x ≡ y
 IsSameCall Flush Flush = Unit {0}
 IsSameCall (AsciiOnly on) (AsciiOnly other) = on ≡ other
+IsSameCall (Readable on) (Readable other) = on ≡ other
 IsSameCall call other = ⊥
 
 -- ---- calls that were made
@@ -64,6 +66,7 @@ MayMake failed (format.separator_call separator) = Unit {0}
 MayMake failed (format.ending_call ending) = Unit {0}
 MayMake failed format.flush_call = failed ≡ false
 MayMake failed (format.ascii_only_call on) = Unit {0}
+MayMake failed (format.readable_call on) = Unit {0}
 
 abbrev pub MayMakeAll : Bool → List format.Call → Type 0
 MayMakeAll failed [] = Unit {0}
@@ -107,6 +110,7 @@ Fails sink old (format.separator_call separator) error new = Refuses kind.Memory
 Fails sink old (format.ending_call ending) error new = ⊥
 Fails sink old format.flush_call error new = Flushes sink old (Err error) new
 Fails sink old (format.ascii_only_call on) error new = ⊥
+Fails sink old (format.readable_call on) error new = ⊥
 
 -- The call failed with an error other than those that mean that it was not accepted.
 pub record FailsInCall {W : Type 0} (sink : Sink W) (old : Writing W) (call : format.Call) (error : PropertiesError) (new : Writing W) : Type 0 where

@@ -20,6 +20,7 @@ pub mod MalformedEscapes
 pub mod KeyLines
 pub mod ReadInto
 pub mod Maps
+pub mod MapLines
 pub mod WholeSources
 pub mod Values
 pub mod Private

@@ -8,7 +8,7 @@ use Rattle.properties_format.specs.Printing.{printed}
 use Rattle.properties_format.specs.Settings.{Settings, default_settings, IsGoodPrefix, IsGoodSeparator}
 use Rattle.properties_format.specs.Writing.{Call, comment_call, pair_call, is_accepted}
 use Rattle.properties_items.specs.Errors.{kind_of, cause_of_write, IsError, IsBareError, IsStreamError, Refuses}
-use Rattle.java_properties.specs.Settings.{with_prefix, with_separator, with_ending, with_ascii_only, SetsText}
+use Rattle.java_properties.specs.Settings.{with_prefix, with_separator, with_ending, with_ascii_only, with_readable, SetsText}
 use Rattle.properties_items.specs.declared.error.ErrorKind.{ErrorKind}
 use Rattle.properties_items.specs.declared.error.ErrorKind.TheVariants as kind
 use Rattle.properties_items.specs.declared.error.PropertiesError.{PropertiesError}
@@ -125,3 +125,6 @@ SetsEnding old ending new = new ≡ with_settings old (with_ending old.settings 
 
 abbrev pub SetsAsciiOnly : {W : Type 0} → Writing W → Bool → Writing W → Type 0
 SetsAsciiOnly old on new = new ≡ with_settings old (with_ascii_only old.settings on)
+
+abbrev pub SetsReadable : {W : Type 0} → Writing W → Bool → Writing W → Type 0
+SetsReadable old on new = new ≡ with_settings old (with_readable old.settings on)

@@ -24,7 +24,7 @@ separator_of None = default_settings.kv_separator
 separator_of (Some text) = chars (string_bytes text)
 
 abbrev pub settings_of : Inside → Settings
-settings_of s = record { comment_prefix = prefix_of s.comment_prefix; kv_separator = separator_of s.kv_separator; line_ending = ending_of s.line_ending; ascii_only = s.ascii_only }
+settings_of s = record { comment_prefix = prefix_of s.comment_prefix; kv_separator = separator_of s.kv_separator; line_ending = ending_of s.line_ending; ascii_only = s.ascii_only; readable = s.readable }
 
 -- The prefix and the separator are always good, and `separator_is_blank` says whether the separator consists only of
 -- blanks.
@@ -35,7 +35,7 @@ pub record AreGood (s : Inside) : Type 0 where
 
 -- ---- setters
 
--- the settings with another prefix, another separator, another line ending and another mode
+-- the settings with another prefix, another separator, another line ending and another mode of each kind
 abbrev pub with_prefix : Settings → List ℕ → Settings
 with_prefix s prefix = record s { comment_prefix = prefix }
 
@@ -47,6 +47,9 @@ with_ending s ending = record s { line_ending = ending_of ending }
 
 abbrev pub with_ascii_only : Settings → Bool → Settings
 with_ascii_only s on = record s { ascii_only = on }
+
+abbrev pub with_readable : Settings → Bool → Settings
+with_readable s on = record s { readable = on }
 
 -- The text is good and was set. Nothing else changed.
 pub record HasSet {S : Type 0} (IsGood : Type 0) (set new : S) : Type 0 where

@@ -1,6 +1,6 @@
 // Copies the pairs of a reader to a writer.
 
-ghost use Rattle.std.specs.Prelude.{◌≡◌, None, All};
+ghost use Rattle.std.specs.Prelude.{◌≡◌, true, None, All};
 ghost use Rattle.counted_io.specs.Streams.{IsSameReader, IsSameSink};
 ghost use Rattle.properties_format.specs.Text.{byte};
 ghost use Rattle.properties_text.specs.Spelt.{text_in, IsWell};
@@ -74,24 +74,46 @@ impl<W: CountedWrite> PropertiesWriter<W> {
         ensures same_reader { IsSameReader R.CountedRead items.old.reader items.new.reader }
         ensures same_sink { IsSameSink W.CountedWrite self.old.sink self.new.sink }
     {
-        copy_lines(
-            &mut items.items.lines,
-            &mut items.reader,
-            &mut self.engine,
-            &mut self.sink,
-        )
+        let lines = &mut items.items.lines;
+        let reader = &mut items.reader;
+        if self.engine.settings.readable() {
+            return copy_readable_lines(lines, reader, &mut self.engine, &mut self.sink);
+        }
+        copy_lines(lines, reader, &mut self.engine, &mut self.sink, false)
     }
 }
 
-// Copies the pairs of all lines that are to come.
+// Kept out of line so that other pairs take no longer.
+#[inline(never)]
+fn copy_readable_lines<R: CountedRead, W: CountedWrite>(
+    lines: &mut LineJoiner,
+    reader: &mut R,
+    engine: &mut Engine,
+    sink: &mut W,
+) -> Result<(), CopyError>
+    requires error { lines.old.error ≡ None }
+    requires readable { engine.old.settings.readable ≡ true }
+    ensures copies { let start = iteration lines.old.at reader.old in
+        Copies R.CountedRead W.CountedWrite start (writing engine.old sink.old) result
+        (iteration lines.new.at reader.new) (writing engine.new sink.new) }
+    ensures error { lines.new.error ≡ None }
+    ensures same_reader { IsSameReader R.CountedRead reader.old reader.new }
+    ensures same_sink { IsSameSink W.CountedWrite sink.old sink.new }
+{
+    copy_lines(lines, reader, engine, sink, true)
+}
+
+// Copies the pairs of all lines that are to come. `readable` is the setting, which is the same for all of them.
 #[inline(always)]
 fn copy_lines<R: CountedRead, W: CountedWrite>(
     lines: &mut LineJoiner,
     reader: &mut R,
     engine: &mut Engine,
     sink: &mut W,
+    readable: bool,
 ) -> Result<(), CopyError>
-    requires { lines.old.error ≡ None }
+    requires error { lines.old.error ≡ None }
+    requires readable { engine.old.settings.readable ≡ readable }
     ensures copies { let start = iteration lines.old.at reader.old in
         Copies R.CountedRead W.CountedWrite start (writing engine.old sink.old) result
         (iteration lines.new.at reader.new) (writing engine.new sink.new) }
@@ -100,7 +122,7 @@ fn copy_lines<R: CountedRead, W: CountedWrite>(
     ensures same_sink { IsSameSink W.CountedWrite sink.old sink.new }
 {
     while let Some(number) = lines.next_line(reader) {
-        match build_line(engine, lines) {
+        match build_line(engine, lines, readable) {
             Ok(Built::Nothing) => {}
             Ok(Built::Line(line)) => {
                 if let Err(fault) = engine.send_line(sink, line) {
@@ -134,10 +156,15 @@ enum Built {
     Refused(bool),
 }
 
-// Builds what is to be written for the logical line that was joined last.
+// Builds what is to be written for the logical line that was joined last. `readable` is the setting.
 #[inline(always)]
-fn build_line(engine: &mut Engine, lines: &LineJoiner) -> Result<Built, UnescapeError>
-    requires { IsWell lines.now.encoding lines.now.at.line }
+fn build_line(
+    engine: &mut Engine,
+    lines: &LineJoiner,
+    readable: bool,
+) -> Result<Built, UnescapeError>
+    requires well { IsWell lines.now.encoding lines.now.at.line }
+    requires readable { engine.old.settings.readable ≡ readable }
     ensures builds { BuildsLine (text_in lines.now.encoding lines.now.at.line) result engine.new }
     ensures same { engine.new ≡ record engine.old { line = engine.new.line } }
 {
@@ -156,7 +183,7 @@ fn build_line(engine: &mut Engine, lines: &LineJoiner) -> Result<Built, Unescape
             }
         }
         Some(ParsedSpans::KVPair(key, value)) => {
-            engine.build_pair(Pair::spelt(lines.encoding(), bytes, key, value))?;
+            engine.build_pair(Pair::spelt(lines.encoding(), bytes, key, value), readable)?;
             let accepted = engine.takes_span(key);
             match engine.next_number(accepted) {
                 Some(line) => Ok(Built::Line(line)),

@@ -21,7 +21,7 @@ mod read_into;
 use crate::iter::items::ItemReader;
 pub use all_lines::{Stopped, read_lines};
 use counted_io::CountedRead;
-pub use last_value::value_of;
+pub use last_value::{value_among_pairs, value_of};
 pub use malformed_lines::{first_malformed_escape, malformed_escapes};
 pub use numbered_keys::key_lines;
 use properties_items::borrowed::LineRef;

@@ -28,11 +28,11 @@ pub use converting::convert;
 pub use copy::CopyError;
 pub use iter::{
     PropertiesIter, Stopped, first_malformed_escape, key_lines, malformed_escapes, read_lines,
-    value_of,
+    value_among_pairs, value_of,
 };
 pub use maps::{read, read_sorted, write, write_sorted};
 pub use properties_editing::{
-    Document, Edit, edit_all, edit_all_ascii, remove_key, set_key, set_value,
+    Document, Edit, edit_all, edit_all_ascii, edit_pairs, remove_key, set_key, set_value,
 };
 pub use properties_items::borrowed::{ContentRef, LineRef};
 pub use properties_items::error::{At, Cause, ErrorKind, PropertiesError, Reason};

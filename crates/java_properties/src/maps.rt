@@ -9,8 +9,11 @@ ghost use Rattle.properties_format.specs.Encoding.{output_encoding, windows_1252
 ghost use Rattle.properties_text.specs.Encoding.{encoding_of, line_of};
 ghost use Rattle.properties_items.specs.Texts.{characters, Entries};
 ghost use Rattle.java_properties.specs.Maps.{texts_of, HasPut, ReadsEntries, ReadsMap, ReadsSorted, WritesPairs, WritesMap, MapReadsBack};
+ghost use Rattle.java_properties.specs.MapLines.{WritesMapLines, LinesReadBack, LinesReadBackAfter};
 
 use crate::iter::items::ItemReader;
+use crate::laws;
+use crate::writer::PropertiesWriter;
 use crate::writer::engine::{Content, Engine};
 use counted_io::{CountedRead, CountedWrite};
 use properties_items::error::PropertiesError;
@@ -204,4 +207,35 @@ fn write_pairs<W: CountedWrite>(
         engine.write_line(writer, Content::KVPair(key.as_str(), value.as_str()))?;
     }
     engine.flush(writer)
+}
+
+impl<W: CountedWrite> PropertiesWriter<W> {
+    /// Writes each entry of a map as one line, as [`write`](PropertiesWriter::write) writes a pair: with this writer's
+    /// encoding and settings. It doesn't flush the sink.
+    ///
+    /// The keys are in ascending order of their UTF-8 bytes. The call ends at the first entry that isn't written and
+    /// returns its error. The lines before it have been written. An empty key is the first one, so if it is refused,
+    /// nothing has been written.
+    ///
+    /// What is written reads back as the same map. If comments or pairs were written before, all lines read back.
+    ///
+    /// ```text
+    /// writer.set_readable(true);
+    /// writer.write_comment("for translators")?;
+    /// writer.write_map(&map)?;
+    /// writer.finish()?;
+    /// // The sink holds `# for translators` and `greeting=hello world`, each ended by a line feed.
+    /// ```
+    pub fn write_map(&mut self, map: &BTreeMap<String, String>) -> Result<(), PropertiesError>
+        ensures writes { WritesMapLines W.CountedWrite self.old map.now.entries result self.new }
+        ensures reads_back { LinesReadBack W.CountedWrite self.old map.now.entries result self.new }
+        ensures all_read_back { LinesReadBackAfter W.CountedWrite self.old map.now.entries result self.new }
+        ensures same_sink { IsSameSink W.CountedWrite self.old.sink self.new.sink }
+    {
+        laws::settings_are_good(self);
+        for (key, value) in map {
+            self.write(key.as_str(), value.as_str())?;
+        }
+        Ok(())
+    }
 }

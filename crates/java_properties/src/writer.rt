@@ -6,7 +6,7 @@ ghost use Rattle.counted_io.specs.Streams.{IsSameSink};
 ghost use Rattle.properties_format.specs.Encoding.{windows_1252, output_encoding};
 ghost use Rattle.properties_format.specs.Entries as entry;
 ghost use Rattle.properties_text.specs.Encoding.{encoding_of};
-ghost use Rattle.java_properties.specs.PropertiesWriter.{new_writer, WritesLine, Flushes, SetsPrefix, SetsSeparator, SetsEnding, SetsAsciiOnly};
+ghost use Rattle.java_properties.specs.PropertiesWriter.{new_writer, WritesLine, Flushes, SetsPrefix, SetsSeparator, SetsEnding, SetsAsciiOnly, SetsReadable};
 
 use counted_io::CountedWrite;
 use engine::{Content, Engine};
@@ -141,6 +141,23 @@ impl<W: CountedWrite> PropertiesWriter<W> {
         ensures { SetsAsciiOnly self.old on self.new }
     {
         self.engine.settings.set_ascii_only(on);
+    }
+
+    /// Sets whether values are written as people write them from now on. By default they aren't.
+    ///
+    /// A readable value has spaces, `=`, `:`, `#` and `!` as they are, except at its ends: a space at the front gets a
+    /// backslash, and so does a `=` or `:` at the front if the separator consists only of blanks; a space at the end is
+    /// `\u0020`. Everything else is written as in a key. [`set_value`](crate::set_value) writes values in the same way.
+    /// What is written reads back the same.
+    ///
+    /// ```text
+    /// writer.set_readable(true);
+    /// writer.write("quote", "\u{201c}Hi\u{201d} you: a=b")?; // The sink holds `quote=“Hi” you: a=b` and a line feed.
+    /// ```
+    pub fn set_readable(&mut self, on: bool)
+        ensures { SetsReadable self.old on self.new }
+    {
+        self.engine.settings.set_readable(on);
     }
 
     /// Flushes the sink.

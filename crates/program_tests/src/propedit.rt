@@ -134,7 +134,8 @@ const CHECK: &[Row] = &[
         &["check"],
         b"# C:\\users\na=\\u00e9\nb=\\u12",
         1,
-        b"standard input:1: Malformed \\uxxxx encoding: not hex. (in a comment)\n\
+        b"standard input:1: Malformed \\uxxxx encoding: not hex. \
+          (in a comment, which Java and propedit pass over)\n\
           standard input:3: Malformed \\uxxxx encoding: not enough digits.\n",
         "",
     ),
@@ -143,7 +144,8 @@ const CHECK: &[Row] = &[
         &["-f", "x", "check"],
         b"# C:\\users\na=1\na=\xe9\nb=\\u12\nc=2\na=4",
         1,
-        b"x:1: Malformed \\uxxxx encoding: not hex. (in a comment)\n\
+        b"x:1: Malformed \\uxxxx encoding: not hex. \
+          (in a comment, which Java and propedit pass over)\n\
           x:3: not UTF-8; -e windows-1252 reads it\n\
           x:3: repeats the key of line 2\n\
           x:4: Malformed \\uxxxx encoding: not enough digits.\n\
@@ -299,7 +301,76 @@ fn set_and_remove_print_the_edited_source(rt: HostRuntime) -> Result<(), Fail> {
     Ok(())
 }
 
+// Malformed escapes in comments: before pairs, between them and behind, and in comments that joining makes.
+const COMMENTS: &[Row] = &[
+    (
+        &["get", "port"],
+        b"# C:\\users\nport = 80\n",
+        0,
+        b"80\n",
+        "",
+    ),
+    (&["get", "a"], b"!\\ux\n#a=1\\u12", 1, b"", ""),
+    (&["get", "c"], b"\\\n#b\\u12\nc=1", 0, b"1\n", ""),
+    (&["get", "c"], b"\\\n#b\\u12\\\nc=1", 1, b"", ""),
+    (
+        &["-e", "utf-16be", "get", "a"],
+        b"\0#\0\\\0u\0\n\0a\0=\01",
+        0,
+        b"1\n",
+        "",
+    ),
+    (
+        &["list"],
+        b"#\\u12\na=1\n  ! \\uzzzz\nb=2\n#\\u",
+        0,
+        b"a\nb\n",
+        "",
+    ),
+    (
+        &["set", "port", "8080"],
+        b"# C:\\users\nport = 80\n",
+        0,
+        b"# C:\\users\nport = 8080\n",
+        "",
+    ),
+    (
+        &["set", "a", "3", "remove", "b", "set", "c", "4"],
+        b"#\\u12\r\na=1\r\n!\\ux\r\nb=2\r\n\\\r\n#\\u\r\n",
+        0,
+        b"#\\u12\r\na=3\r\n!\\ux\r\n\\\r\n#\\u\r\nc=4\r\n",
+        "",
+    ),
+    (
+        &["-e", "windows-1252", "-a", "set", "b", "\u{e9}"],
+        b"#\xe9\\u12\nb=1\n#\\ud800",
+        0,
+        b"#\xe9\\u12\nb=\\u00e9\n#\\ud800",
+        "",
+    ),
+    (
+        &["-f", "x", "remove", "c"],
+        b"\xef\xbb\xbf# C:\\users",
+        0,
+        b"\xef\xbb\xbf# C:\\users",
+        "",
+    ),
+];
+
+#[test]
+fn comments_are_passed_over(rt: HostRuntime) -> Result<(), Fail> {
+    check_runs(&rt, rt.alloc(), Program::Propedit, COMMENTS)?;
+    Ok(())
+}
+
 const REFUSED: &[Row] = &[
+    (
+        &["set", "k", "2"],
+        b"# C:\\users\nk=\\u12",
+        2,
+        b"",
+        "propedit: standard input:2: Malformed \\uxxxx encoding: not enough digits.\n",
+    ),
     (
         &["get", "b"],
         b"a=\xe9\nb=1",
@@ -362,18 +433,18 @@ const REFUSED: &[Row] = &[
     ),
     (
         &["-z", "list"],
-        b"a=1\n#\\u12",
+        b"#\\u12\na=1\nb\\u12=2",
         2,
         b"",
-        "propedit: standard input:2: Malformed \\uxxxx encoding: not enough digits. \
-         (in a comment)\n",
+        "propedit: standard input:3: Malformed \\uxxxx encoding: not enough digits.\n",
     ),
+    // What is malformed in a comment is passed over.
     (
         &["-e", "windows-1252", "get", "c"],
         b"# C:\\users\nb=\\u12\nc=\xe9\n\xe9",
         2,
         b"",
-        "propedit: standard input:1: Malformed \\uxxxx encoding: not hex. (in a comment)\n",
+        "propedit: standard input:2: Malformed \\uxxxx encoding: not enough digits.\n",
     ),
     // The message has the name of the file.
     (
@@ -385,10 +456,10 @@ const REFUSED: &[Row] = &[
     ),
     (
         &["-f", "x", "remove", "c"],
-        b"# C:\\users",
+        b"# C:\\users\nc=\\users",
         2,
         b"",
-        "propedit: x:1: Malformed \\uxxxx encoding: not hex. (in a comment)\n",
+        "propedit: x:2: Malformed \\uxxxx encoding: not hex.\n",
     ),
     (
         &["set", "a", "2"],
@@ -435,8 +506,8 @@ fn files_are_asked_for(rt: HostRuntime) -> Result<(), Fail> {
 }
 
 const THE_VERSION: &[Row] = &[
-    (&["--version"], b"", 0, b"propedit 1.7.0\n", ""),
-    (&["-i", "x", "-V"], b"", 0, b"propedit 1.7.0\n", ""),
+    (&["--version"], b"", 0, b"propedit 1.8.0\n", ""),
+    (&["-i", "x", "-V"], b"", 0, b"propedit 1.8.0\n", ""),
 ];
 
 #[test]

@@ -1,6 +1,6 @@
 -- What is found and read in a slice, which is read to its end and without a fault.
 use Rattle.std.proofs.Common.{◌≡◌, ℕ, ◌+◌, ◌^◌, ◌<◌, List, [], ◌∷◌, ◌++◌, length, ap, sym, ◌∙◌, subst, refl, inl, inr}
-use Rattle.std.specs.Prelude.{◌⊎◌, Result, Ok, Err}
+use Rattle.std.specs.Prelude.{◌⊎◌, Result, Ok, Err, if◌then◌else◌}
 use Rattle.std.specs.List.{flat_map}
 use Rattle.std.specs.Borrow.{Bor}
 use Rattle.std.specs.Global.{Vec}
@@ -55,16 +55,16 @@ slice-keys e from to (Ok found) small h =
     }
 slice-keys e from to (Err error) small h = slice-error e from to error small h
 
-found-same : (how : Malformed) (number : ℕ) → finding_bytes (kind_of_finding (malformed_kind how)) number 0 [] ≡ finding_bytes (escape_kind how) number 0 []
-found-same not_enough_digits number = refl
-found-same not_hex number = refl
-found-same invalid_character number = refl
+found-same : (how : Malformed) (number more : ℕ) → finding_bytes (kind_of_finding (malformed_kind how)) number more [] ≡ finding_bytes (escape_kind how) number more []
+found-same not_enough_digits number more = refl
+found-same not_hex number more = refl
+found-same invalid_character number more = refl
 
 -- The records of escapes have the bytes of the escapes.
 pub found_bytes-escapes : (escapes : List format.MalformedEscape) → flat_map found_bytes (escape_records escapes) ≡ flat_map escape_bytes escapes
 found_bytes-escapes [] = refl
 found_bytes-escapes (escape ∷ escapes) =
-    ap (λ v. v ++ flat_map found_bytes (escape_records escapes)) (found-same escape.kind escape.number)
+    ap (λ v. v ++ flat_map found_bytes (escape_records escapes)) (found-same escape.kind escape.number (if escape.in_comment then 1 else 0))
     ∙ ap (λ v. escape_bytes escape ++ v) (found_bytes-escapes escapes)
 
 pub ruleset finding = (found_bytes-escapes)

@@ -1,5 +1,5 @@
 -- Packed lists that are taken apart from their fronts.
-use Rattle.std.proofs.Common.{◌≡◌, ℕ, ◌<◌, Bool, List, [], ◌∷◌, ◌++◌, length, map, sym, ◌∙◌, arith, append_assoc, ◌≢◌}
+use Rattle.std.proofs.Common.{◌≡◌, ℕ, ◌<◌, List, [], ◌∷◌, ◌++◌, length, map, sym, ◌∙◌, arith, append_assoc, ◌≢◌}
 use Rattle.std.proofs.lemmas.List.{append-nil, map-append}
 use Rattle.std.proofs.lemmas.List.Concat.{flat_map-append}
 use Rattle.properties_format.specs.Entries.{Content}
@@ -12,6 +12,7 @@ use Rattle.properties_c.specs.PackedLists.{Meaning, edits, lines, AreMeant, Begi
 use Rattle.properties_c.specs.Records.{Record, IsSized}
 use Rattle.properties_c.specs.Writing.{calls_before}
 use Rattle.properties_c.specs.Private.Lists.{Splits, IsFirst, RefusesFirst, RefusesRecord, RefusesList}
+use Rattle.properties_c.specs.declared.encoding.Flags.{Flags}
 use Rattle.properties_c.specs.declared.status.Status.{Status}
 use Rattle.properties_c.specs.declared.status.Status.TheVariants.{NoMemory, NotUtf8, BadList}
 use Rattle.properties_c.proofs.Packing.{sizes}
@@ -68,14 +69,14 @@ pub ruleset taking = (first-refused, edits-more, IsFirst-shorter)
 -- ---- lines to write
 
 -- The list begins with lines, and these are the calls that write them.
-pub record HasCalls (list : List ℕ) (ascii_only : Bool) (found : List Call) (rest : List ℕ) : Type 0 where
+pub record HasCalls (list : List ℕ) (f : Flags) (found : List Call) (rest : List ℕ) : Type 0 where
   pub contents : List Content
   pub begins : Begins lines list contents rest
-  pub are : calls_in found ≡ calls_before ascii_only ++ map call_of contents
+  pub are : calls_in found ≡ calls_before f ++ map call_of contents
 
-pub HasCalls-more : {list rest after : List ℕ} {ascii_only : Bool} {found : List Call} {content : Content} (call : Call)
-    → HasCalls list ascii_only found rest → IsFirst lines rest content after → call_in call ≡ call_of content → HasCalls list ascii_only (found ++ call ∷ []) after
-HasCalls-more {list} {rest} {after} {ascii_only} {found} {content} call before next is = record {
+pub HasCalls-more : {list rest after : List ℕ} {f : Flags} {found : List Call} {content : Content} (call : Call)
+    → HasCalls list f found rest → IsFirst lines rest content after → call_in call ≡ call_of content → HasCalls list f (found ++ call ∷ []) after
+HasCalls-more {list} {rest} {after} {f} {found} {content} call before next is = record {
   contents = before.contents ++ content ∷ [];
   begins = Begins-more before.begins next;
   are = simp (map-append, before.are, is, append_assoc);

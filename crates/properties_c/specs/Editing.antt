@@ -2,43 +2,44 @@
 use Rattle.std.specs.Prelude.{◌⊎◌, ℕ, Bool, true, false, List, [], ◌∷◌, Result, IsErrAnd}
 use Rattle.std.specs.Global.{Vec}
 use Rattle.properties_format.specs.Encoding.{Encoding}
-use Rattle.properties_format.specs.Edits.{Edit, put, set_value}
-use Rattle.java_properties.specs.Editing.{SetsValue, SetsKey, RemovesKey, EditsAllAscii, MakesEdits}
+use Rattle.properties_format.specs.Edits.{Edit, put, remove, set_value}
+use Rattle.java_properties.specs.Editing.{EditsPairs, MakesEdits}
 use Rattle.java_properties.specs.Errors.{IsBareError}
 use Rattle.properties_items.specs.declared.error.ErrorKind.TheVariants as kind
 use Rattle.properties_items.specs.declared.error.PropertiesError.{PropertiesError}
 use Rattle.properties_c.specs.Crossing.{Crossing, Crosses}
-use Rattle.properties_c.specs.Inputs.{InEncoding, WithText}
+use Rattle.properties_c.specs.Inputs.{InEncoding, WithFlags, WithText, for_edits, for_keys}
 use Rattle.properties_c.specs.PackedLists.{edits, WithList}
+use Rattle.properties_c.specs.declared.encoding.Flags.{Flags}
 
--- The result of one edit in ASCII alone, for which the key and the value are copied first: memory may run out then.
-abbrev pub EditsOne : Encoding → List ℕ → Edit → Result (Vec ℕ) PropertiesError → Type 0
-EditsOne e source edit result = EditsAllAscii e source (edit ∷ []) result ⊎ IsErrAnd result (IsBareError kind.Memory)
+-- The result of edits, given whether comments are read, and whether what is put in is ASCII alone.
+abbrev pub EditsAs : Bool → Bool → Encoding → List ℕ → List Edit → Result (Vec ℕ) PropertiesError → Type 0
+EditsAs true only e source edits result = MakesEdits e only source edits result
+EditsAs false only e source edits result = EditsPairs e only source edits result
 
--- The result of setting a value or a key, in ASCII alone or not.
-abbrev pub SetsValueAs : Bool → Encoding → List ℕ → List ℕ → List ℕ → Result (Vec ℕ) PropertiesError → Type 0
-SetsValueAs true e source key value result = EditsOne e source (set_value key value) result
-SetsValueAs false e source key value result = SetsValue e source key value result
+abbrev pub MakesAll : Flags → Encoding → List ℕ → List Edit → Result (Vec ℕ) PropertiesError → Type 0
+MakesAll f e source edits result = EditsAs f.read_comments f.ascii_only e source edits result
 
-abbrev pub SetsKeyAs : Bool → Encoding → List ℕ → List ℕ → List ℕ → Result (Vec ℕ) PropertiesError → Type 0
-SetsKeyAs true e source key value result = EditsOne e source (put key value) result
-SetsKeyAs false e source key value result = SetsKey e source key value result
+-- The result of one edit, for which its texts are copied first: memory may run out then.
+abbrev pub MakesOne : Flags → Encoding → List ℕ → Edit → Result (Vec ℕ) PropertiesError → Type 0
+MakesOne f e source edit result = MakesAll f e source (edit ∷ []) result ⊎ IsErrAnd result (IsBareError kind.Memory)
 
 -- An edit returned a result for which this holds, and the result crosses.
 abbrev pub GivesEdited : (Result (Vec ℕ) PropertiesError → Type 0) → Crossing → Type 0
 GivesEdited IsMade x = (outcome : Result (Vec ℕ) PropertiesError) × IsMade outcome × Crosses outcome x
 
-abbrev pub SetsValueAcross : List ℕ → ℕ → Bool → List ℕ → List ℕ → Crossing → Type 0
-SetsValueAcross source encoding only key value x =
-    InEncoding encoding (λ e. WithText key (λ k. WithText value (λ v. GivesEdited (SetsValueAs only e source k v) x) x) x) x
+abbrev pub SetsValueAcross : List ℕ → ℕ → ℕ → List ℕ → List ℕ → Crossing → Type 0
+SetsValueAcross source encoding flags key value x =
+    InEncoding encoding (λ e. WithFlags for_edits flags (λ f. WithText key (λ k. WithText value (λ v. GivesEdited (MakesOne f e source (set_value k v)) x) x) x) x) x
 
-abbrev pub SetsKeyAcross : List ℕ → ℕ → Bool → List ℕ → List ℕ → Crossing → Type 0
-SetsKeyAcross source encoding only key value x =
-    InEncoding encoding (λ e. WithText key (λ k. WithText value (λ v. GivesEdited (SetsKeyAs only e source k v) x) x) x) x
+abbrev pub SetsKeyAcross : List ℕ → ℕ → ℕ → List ℕ → List ℕ → Crossing → Type 0
+SetsKeyAcross source encoding flags key value x =
+    InEncoding encoding (λ e. WithFlags for_edits flags (λ f. WithText key (λ k. WithText value (λ v. GivesEdited (MakesOne f e source (put k v)) x) x) x) x) x
 
-abbrev pub RemovesKeyAcross : List ℕ → ℕ → List ℕ → Crossing → Type 0
-RemovesKeyAcross source encoding key x = InEncoding encoding (λ e. WithText key (λ k. GivesEdited (RemovesKey e source k) x) x) x
+abbrev pub RemovesKeyAcross : List ℕ → ℕ → ℕ → List ℕ → Crossing → Type 0
+RemovesKeyAcross source encoding flags key x =
+    InEncoding encoding (λ e. WithFlags for_keys flags (λ f. WithText key (λ k. GivesEdited (MakesOne f e source (remove k)) x) x) x) x
 
-abbrev pub EditsAcross : List ℕ → ℕ → Bool → List ℕ → Crossing → Type 0
-EditsAcross source encoding only list x =
-    InEncoding encoding (λ e. WithList edits list (λ es. GivesEdited (MakesEdits e only source es) x) x) x
+abbrev pub EditsAcross : List ℕ → ℕ → ℕ → List ℕ → Crossing → Type 0
+EditsAcross source encoding flags list x =
+    InEncoding encoding (λ e. WithFlags for_edits flags (λ f. WithList edits list (λ es. GivesEdited (MakesAll f e source es) x) x) x) x

@@ -1,10 +1,11 @@
--- Encodings and targets by number and texts by their bytes, and when a call is refused because of them.
-use Rattle.std.specs.Prelude.{◌≡◌, ◌⊎◌, ◌==◌, ℕ, List, Option, Some, None, if◌then◌else◌}
+-- Encodings, targets and flags by number and texts by their bytes, and when a call is refused because of them.
+use Rattle.std.specs.Prelude.{◌≡◌, ◌⊎◌, ◌==◌, ◌/◌, ◌%◌, ◌&&◌, ◌||◌, not, nat_lt, ℕ, Bool, true, false, List, Option, Some, None, if◌then◌else◌}
 use Rattle.std.specs.Str.{IsUtf8, chars}
 use Rattle.properties_format.specs.Encoding.{Encoding, windows_1252, utf_8, utf_16le, utf_16be}
 use Rattle.properties_text.specs.declared.print.Repertoire.{Repertoire}
 use Rattle.properties_text.specs.declared.print.Repertoire.TheVariants.{Windows1252, Utf8, Ascii}
 use Rattle.properties_c.specs.Crossing.{Crossing, Refuses}
+use Rattle.properties_c.specs.declared.encoding.Flags.{Flags}
 use Rattle.properties_c.specs.declared.status.Status.TheVariants.{UnknownEncoding, NotUtf8}
 
 -- the encoding with this number, if there is one
@@ -23,6 +24,38 @@ target_at n = if n == 16 then Some Windows1252 else (if n == 17 then Some Utf8 e
 -- The number is that of a target, of which this holds; or no target has it, and the call was refused.
 abbrev pub ToTarget : ℕ → (Repertoire → Type 0) → Crossing → Type 0
 ToTarget n Holds x = ((t : Repertoire) × (target_at n ≡ Some t) × Holds t) ⊎ (target_at n ≡ None) × Refuses UnknownEncoding 0 x
+
+abbrev pub flagged : Bool → Bool → Bool → Flags
+flagged ascii_only readable read_comments = record { ascii_only = ascii_only; readable = readable; read_comments = read_comments }
+
+-- the flags that an edit takes, those of a call that puts in no text, and those of the call that writes lines
+abbrev pub for_edits : Flags
+for_edits = flagged true false true
+
+abbrev pub for_keys : Flags
+for_keys = flagged false false true
+
+abbrev pub for_lines : Flags
+for_lines = flagged true true false
+
+-- whether each of the flags is among those that are taken
+abbrev pub are_among : Flags → Flags → Bool
+are_among f taken =
+    (taken.ascii_only || not f.ascii_only) && ((taken.readable || not f.readable) && (taken.read_comments || not f.read_comments))
+
+-- what the flags of a number ask for: 1 is ASCII alone, 2 is readable values, 4 is comments that are read, and a sum is
+-- each of its parts
+abbrev pub flags_in : ℕ → Flags
+flags_in n = flagged (n % 2 == 1) (n / 2 % 2 == 1) (n / 4 == 1)
+
+-- what they ask for, if the call takes each of them
+abbrev pub flags_at : Flags → ℕ → Option Flags
+flags_at taken n = if nat_lt n 8 && are_among (flags_in n) taken then Some (flags_in n) else None
+
+-- The call takes each of the flags, and this holds of what they ask for; or it doesn't, and was refused.
+abbrev pub WithFlags : Flags → ℕ → (Flags → Type 0) → Crossing → Type 0
+WithFlags taken n Holds x =
+    ((f : Flags) × (flags_at taken n ≡ Some f) × Holds f) ⊎ (flags_at taken n ≡ None) × Refuses UnknownEncoding 0 x
 
 -- The bytes are UTF-8, and this holds of their characters; or they aren't, and the call was refused.
 abbrev pub WithText : List ℕ → (List ℕ → Type 0) → Crossing → Type 0

@@ -1,37 +1,43 @@
 -- What the exports that read give.
-use Rattle.std.specs.Prelude.{◌≡◌, ◌⊎◌, ℕ, List, Option, Some, None, encode_utf8_all}
+use Rattle.std.specs.Global.{Global}
+use Rattle.std.specs.Prelude.{◌≡◌, ◌⊎◌, ℕ, Bool, true, false, List, Option, Some, None, Result, Ok, Err, encode_utf8_all}
+use Rattle.std.specs.declared.string.String.{String}
 use Rattle.properties_format.specs.Encoding.{Encoding}
 use Rattle.properties_format.specs.Entries.{Entry}
 use Rattle.properties_format.specs.Lines.{end}
-use Rattle.properties_format.specs.Maps.{HasValue}
 use Rattle.properties_format.specs.MalformedEscapes.{MalformedEscape, AreMalformedEscapes}
-use Rattle.java_properties.specs.Errors.{IsBareError}
 use Rattle.java_properties.specs.KeyLines.{KeyEntry, AreKeyLines}
 use Rattle.java_properties.specs.ReadLines.{IsReading}
-use Rattle.java_properties.specs.Values.{IsFirstError}
+use Rattle.java_properties.specs.Values.{TellsPairValue, TellsValue}
+use Rattle.properties_items.specs.Texts.{characters}
 use Rattle.properties_items.specs.declared.error.PropertiesError.{PropertiesError}
-use Rattle.properties_items.specs.declared.error.ErrorKind.TheVariants as kind
 use Rattle.properties_c.specs.Crossing.{Crossing, Delivers, Fails, Refuses}
-use Rattle.properties_c.specs.Inputs.{InEncoding, WithText}
+use Rattle.properties_c.specs.Inputs.{InEncoding, WithFlags, WithText, for_keys}
 use Rattle.properties_c.specs.PackedItems.{packed_items, reading_status, reading_line}
 use Rattle.properties_c.specs.PackedFindings.{packed_findings}
 use Rattle.properties_c.specs.declared.status.Status.TheVariants.{Done, NoKey, NoMemory}
 
 -- ---- a value
 
--- The value is given in UTF-8, or the status says that no pair has the key.
-abbrev pub GivesValue : Option (List ℕ) → Crossing → Type 0
-GivesValue (Some value) x = Delivers (encode_utf8_all value) Done 0 x
-GivesValue None x = Refuses NoKey 0 x
+-- What a look-up returned crosses: the value in UTF-8, or that no pair has the key, or its error.
+abbrev pub ValueCrosses : Result (Option (String Global)) PropertiesError → Crossing → Type 0
+ValueCrosses (Ok (Some value)) x = Delivers (encode_utf8_all (characters value)) Done 0 x
+ValueCrosses (Ok None) x = Refuses NoKey 0 x
+ValueCrosses (Err error) x = Fails error x
 
--- The source has this value of the key, or none, and gives it; or it has a first malformed escape; or memory ran out.
-abbrev pub GivesValueOf : Encoding → List ℕ → List ℕ → Crossing → Type 0
-GivesValueOf e source key x =
-    ((value : Option (List ℕ)) × HasValue e source key value × GivesValue value x)
-    ⊎ ((error : PropertiesError) × (IsFirstError e source error ⊎ IsBareError kind.Memory error) × Fails error x)
+-- The result of a look-up, given whether comments are read.
+abbrev pub TellsAs : Bool → Encoding → List ℕ → List ℕ → Result (Option (String Global)) PropertiesError → Type 0
+TellsAs true e source key result = TellsValue e source key result
+TellsAs false e source key result = TellsPairValue e source key result
 
-abbrev pub GetsAcross : List ℕ → ℕ → List ℕ → Crossing → Type 0
-GetsAcross source encoding key x = InEncoding encoding (λ e. WithText key (λ k. GivesValueOf e source k x) x) x
+-- A look-up returned such a result, and the result crosses.
+abbrev pub GivesValueOf : Bool → Encoding → List ℕ → List ℕ → Crossing → Type 0
+GivesValueOf read e source key x =
+    (outcome : Result (Option (String Global)) PropertiesError) × TellsAs read e source key outcome × ValueCrosses outcome x
+
+abbrev pub GetsAcross : List ℕ → ℕ → ℕ → List ℕ → Crossing → Type 0
+GetsAcross source encoding flags key x =
+    InEncoding encoding (λ e. WithFlags for_keys flags (λ f. WithText key (λ k. GivesValueOf f.read_comments e source k x) x) x) x
 
 -- ---- items
 

@@ -1,18 +1,17 @@
 // The exports that edit.
 
 ghost use Rattle.std.specs.Str.{chars};
-ghost use Rattle.java_properties.specs.Editing.{edit_in, edits_in, MakesEdits};
+ghost use Rattle.java_properties.specs.Editing.{edit_in, edits_in};
+ghost use Rattle.properties_format.specs.Edits.{put, remove, set_value};
 ghost use Rattle.properties_text.specs.Encoding.{encoding_of};
 ghost use Rattle.properties_c.specs.Crossing.{crossing};
-ghost use Rattle.properties_c.specs.Editing.{EditsAcross, EditsOne, RemovesKeyAcross, SetsKeyAcross, SetsKeyAs, SetsValueAcross, SetsValueAs};
+ghost use Rattle.properties_c.specs.Editing.{EditsAcross, MakesAll, MakesOne, RemovesKeyAcross, SetsKeyAcross, SetsValueAcross};
 
 use crate::crossing::{deliver_result, refuse};
-use crate::encoding::{encoding_numbered, text_of};
+use crate::encoding::{FOR_EDITS, FOR_KEYS, Flags, encoding_numbered, flags_numbered, text_of};
 use crate::lists::edits_of;
 use crate::status::Status;
-use java_properties::{
-    Edit, Encoding, PropertiesError, edit_all, edit_all_ascii, remove_key, set_key, set_value,
-};
+use java_properties::{Edit, Encoding, PropertiesError, edit_all, edit_all_ascii, edit_pairs};
 use std::alloc::Global;
 
 /// Gives the source with the value of a key set, and the layout of its line kept.
@@ -21,7 +20,7 @@ pub extern "C" fn properties_set_value(
     alloc: Global,
     source: &[u8],
     encoding: u32,
-    ascii_only: bool,
+    flags: u32,
     key: &[u8],
     value: &[u8],
     out: &mut [u8],
@@ -29,9 +28,12 @@ pub extern "C" fn properties_set_value(
     line: &mut usize,
 ) -> i32
     ensures { let x = crossing out.old result length.new line.new out.new in
-        SetsValueAcross source.now encoding ascii_only key.now value.now x }
+        SetsValueAcross source.now encoding flags key.now value.now x }
 {
     let Some(encoding) = encoding_numbered(encoding) else {
+        return refuse(Status::UnknownEncoding, length, line);
+    };
+    let Some(flags) = flags_numbered(flags, FOR_EDITS) else {
         return refuse(Status::UnknownEncoding, length, line);
     };
     let Some(key) = text_of(key) else {
@@ -40,7 +42,7 @@ pub extern "C" fn properties_set_value(
     let Some(value) = text_of(value) else {
         return refuse(Status::NotUtf8, length, line);
     };
-    let edited = with_value(alloc, source, encoding, ascii_only, key, value);
+    let edited = with_value(alloc, source, encoding, flags, key, value);
     deliver_result(edited, out, length, line)
 }
 
@@ -50,7 +52,7 @@ pub extern "C" fn properties_set_key(
     alloc: Global,
     source: &[u8],
     encoding: u32,
-    ascii_only: bool,
+    flags: u32,
     key: &[u8],
     value: &[u8],
     out: &mut [u8],
@@ -58,9 +60,12 @@ pub extern "C" fn properties_set_key(
     line: &mut usize,
 ) -> i32
     ensures { let x = crossing out.old result length.new line.new out.new in
-        SetsKeyAcross source.now encoding ascii_only key.now value.now x }
+        SetsKeyAcross source.now encoding flags key.now value.now x }
 {
     let Some(encoding) = encoding_numbered(encoding) else {
+        return refuse(Status::UnknownEncoding, length, line);
+    };
+    let Some(flags) = flags_numbered(flags, FOR_EDITS) else {
         return refuse(Status::UnknownEncoding, length, line);
     };
     let Some(key) = text_of(key) else {
@@ -69,7 +74,7 @@ pub extern "C" fn properties_set_key(
     let Some(value) = text_of(value) else {
         return refuse(Status::NotUtf8, length, line);
     };
-    let edited = with_key(alloc, source, encoding, ascii_only, key, value);
+    let edited = with_key(alloc, source, encoding, flags, key, value);
     deliver_result(edited, out, length, line)
 }
 
@@ -79,21 +84,26 @@ pub extern "C" fn properties_remove_key(
     alloc: Global,
     source: &[u8],
     encoding: u32,
+    flags: u32,
     key: &[u8],
     out: &mut [u8],
     length: &mut usize,
     line: &mut usize,
 ) -> i32
     ensures { let x = crossing out.old result length.new line.new out.new in
-        RemovesKeyAcross source.now encoding key.now x }
+        RemovesKeyAcross source.now encoding flags key.now x }
 {
     let Some(encoding) = encoding_numbered(encoding) else {
+        return refuse(Status::UnknownEncoding, length, line);
+    };
+    let Some(flags) = flags_numbered(flags, FOR_KEYS) else {
         return refuse(Status::UnknownEncoding, length, line);
     };
     let Some(key) = text_of(key) else {
         return refuse(Status::NotUtf8, length, line);
     };
-    deliver_result(remove_key(alloc, source, encoding, key), out, length, line)
+    let edited = without_key(alloc, source, encoding, flags, key);
+    deliver_result(edited, out, length, line)
 }
 
 /// Gives the source after a packed list of edits, in order: each applies to the result of the one before it.
@@ -102,91 +112,106 @@ pub extern "C" fn properties_edit(
     alloc: Global,
     source: &[u8],
     encoding: u32,
-    ascii_only: bool,
+    flags: u32,
     edits: &[u8],
     out: &mut [u8],
     length: &mut usize,
     line: &mut usize,
 ) -> i32
     ensures { let x = crossing out.old result length.new line.new out.new in
-        EditsAcross source.now encoding ascii_only edits.now x }
+        EditsAcross source.now encoding flags edits.now x }
 {
     let Some(encoding) = encoding_numbered(encoding) else {
+        return refuse(Status::UnknownEncoding, length, line);
+    };
+    let Some(flags) = flags_numbered(flags, FOR_EDITS) else {
         return refuse(Status::UnknownEncoding, length, line);
     };
     let edits = match edits_of(alloc, edits) {
         Ok(edits) => edits,
         Err(status) => return refuse(status, length, line),
     };
-    let edited = with_edits(alloc, source, encoding, ascii_only, &edits);
+    let edited = with_edits(alloc, source, encoding, flags, &edits);
     deliver_result(edited, out, length, line)
 }
 
-// Returns the source with the value of a key set, in ASCII alone or not.
+// Returns the source with the value of a key set.
 fn with_value(
     alloc: Global,
     source: &[u8],
     encoding: Encoding,
-    ascii_only: bool,
+    flags: Flags,
     key: &str,
     value: &str,
 ) -> Result<Vec<u8>, PropertiesError>
-    ensures { SetsValueAs ascii_only (encoding_of encoding) source.now (chars key.now) (chars value.now) result }
+    ensures { MakesOne flags (encoding_of encoding) source.now (set_value (chars key.now) (chars value.now)) result }
 {
-    if !ascii_only {
-        return set_value(alloc, source, encoding, key, value);
-    }
     let key = String::from_str(alloc, key)?;
     let value = String::from_str(alloc, value)?;
-    edit_in_ascii(alloc, source, encoding, Edit::SetValue(key, value))
+    with_edit(alloc, source, encoding, flags, Edit::SetValue(key, value))
 }
 
-// Returns the source with a key set to a value, in ASCII alone or not.
+// Returns the source with a key set to a value.
 fn with_key(
     alloc: Global,
     source: &[u8],
     encoding: Encoding,
-    ascii_only: bool,
+    flags: Flags,
     key: &str,
     value: &str,
 ) -> Result<Vec<u8>, PropertiesError>
-    ensures { SetsKeyAs ascii_only (encoding_of encoding) source.now (chars key.now) (chars value.now) result }
+    ensures { MakesOne flags (encoding_of encoding) source.now (put (chars key.now) (chars value.now)) result }
 {
-    if !ascii_only {
-        return set_key(alloc, source, encoding, key, value);
-    }
     let key = String::from_str(alloc, key)?;
     let value = String::from_str(alloc, value)?;
-    edit_in_ascii(alloc, source, encoding, Edit::Put(key, value))
+    with_edit(alloc, source, encoding, flags, Edit::Put(key, value))
 }
 
-// Returns the source after edits, in ASCII alone or not.
+// Returns the source without the pairs that have a key.
+fn without_key(
+    alloc: Global,
+    source: &[u8],
+    encoding: Encoding,
+    flags: Flags,
+    key: &str,
+) -> Result<Vec<u8>, PropertiesError>
+    ensures { MakesOne flags (encoding_of encoding) source.now (remove (chars key.now)) result }
+{
+    let key = String::from_str(alloc, key)?;
+    with_edit(alloc, source, encoding, flags, Edit::Remove(key))
+}
+
+// Returns the source after one edit.
+fn with_edit(
+    alloc: Global,
+    source: &[u8],
+    encoding: Encoding,
+    flags: Flags,
+    edit: Edit,
+) -> Result<Vec<u8>, PropertiesError>
+    ensures { MakesOne flags (encoding_of encoding) source.now (edit_in edit) result }
+{
+    let mut edits = Vec::new(alloc);
+    edits.push(edit)?;
+    with_edits(alloc, source, encoding, flags, &edits)
+}
+
+// Returns the source after edits.
 fn with_edits(
     alloc: Global,
     source: &[u8],
     encoding: Encoding,
-    ascii_only: bool,
+    flags: Flags,
     edits: &[Edit],
 ) -> Result<Vec<u8>, PropertiesError>
-    ensures { MakesEdits (encoding_of encoding) ascii_only source.now (edits_in edits.now) result }
+    ensures { MakesAll flags (encoding_of encoding) source.now (edits_in edits.now) result }
 {
-    if ascii_only {
+    if !flags.read_comments {
+        return edit_pairs(alloc, source, encoding, flags.ascii_only, edits);
+    }
+    if flags.ascii_only {
         edit_all_ascii(alloc, source, encoding, edits)
     } else {
         edit_all(alloc, source, encoding, edits)
     }
-}
-
-// Returns the source after one edit, in ASCII alone.
-fn edit_in_ascii(
-    alloc: Global,
-    source: &[u8],
-    encoding: Encoding,
-    edit: Edit,
-) -> Result<Vec<u8>, PropertiesError>
-    ensures { EditsOne (encoding_of encoding) source.now (edit_in edit) result }
-{
-    let mut edits = Vec::new(alloc);
-    edits.push(edit)?;
-    edit_all_ascii(alloc, source, encoding, &edits)
 }

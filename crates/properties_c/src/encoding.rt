@@ -1,10 +1,10 @@
-// Encodings, targets and texts that come from C.
+// Encodings, targets, flags and texts that come from C.
 
 ghost use Rattle.std.specs.Prelude.{◌≡◌, MatchOption};
 ghost use Rattle.std.specs.Option.{option_map};
 ghost use Rattle.std.specs.Str.{IsUtf8};
 ghost use Rattle.properties_text.specs.Encoding.{encoding_of};
-ghost use Rattle.properties_c.specs.Inputs.{encoding_at, target_at};
+ghost use Rattle.properties_c.specs.Inputs.{encoding_at, target_at, flags_at, are_among as all_taken};
 
 use java_properties::{Encoding, Repertoire};
 
@@ -31,6 +31,62 @@ pub fn target_numbered(number: u32) -> Option<Repertoire>
         18 => Some(Repertoire::Ascii),
         _ => None,
     }
+}
+
+/// What a call is asked for, or what it takes.
+#[derive(Clone, Copy)]
+pub struct Flags {
+    /// Every character past U+007F is written as an escape.
+    pub ascii_only: bool,
+    /// Values are written as people write them.
+    pub readable: bool,
+    /// Comments are read, and not passed over.
+    pub read_comments: bool,
+}
+
+/// What an edit takes.
+pub const FOR_EDITS: Flags = Flags {
+    ascii_only: true,
+    readable: false,
+    read_comments: true,
+};
+
+/// What a call takes that puts in no text.
+pub const FOR_KEYS: Flags = Flags {
+    ascii_only: false,
+    readable: false,
+    read_comments: true,
+};
+
+/// What the call takes that writes lines.
+pub const FOR_LINES: Flags = Flags {
+    ascii_only: true,
+    readable: true,
+    read_comments: false,
+};
+
+/// Returns what the flags with this number ask for, if the call takes each of them.
+pub fn flags_numbered(number: u32, taken: Flags) -> Option<Flags>
+    ensures { result ≡ flags_at taken number }
+{
+    let flags = Flags {
+        ascii_only: number % 2 == 1,
+        readable: number / 2 % 2 == 1,
+        read_comments: number / 4 == 1,
+    };
+    if number < 8 && are_among(flags, taken) {
+        Some(flags)
+    } else {
+        None
+    }
+}
+
+fn are_among(flags: Flags, taken: Flags) -> bool
+    ensures { result ≡ all_taken flags taken }
+{
+    (taken.ascii_only || !flags.ascii_only)
+        && (taken.readable || !flags.readable)
+        && (taken.read_comments || !flags.read_comments)
 }
 
 /// Returns the text with these bytes, if they are UTF-8.

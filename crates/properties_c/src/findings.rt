@@ -1,5 +1,5 @@
-// What is wrong in a source, packed: a kind, a line, the line of the first pair with the key, the length of the key,
-// and then the key.
+// What is wrong in a source, packed: a kind, a line, a number that says of an escape whether it is in a comment and of a
+// key in which line it comes first, the length of the key, and then the key.
 
 ghost use Rattle.std.specs.Prelude.{◌≡◌, ◌++◌, OnOk};
 ghost use Rattle.std.specs.List.{flat_map};
@@ -61,7 +61,8 @@ fn push_escapes(bytes: &mut Vec<u8>, escapes: &[MalformedEscape]) -> Result<(), 
 {
     for escape in escapes {
         let kind = kind_number(escape.kind);
-        push_finding(bytes, kind, escape.line_number, 0, b"".as_slice())?;
+        let in_comment = if escape.in_comment { 1 } else { 0 };
+        push_finding(bytes, kind, escape.line_number, in_comment, b"".as_slice())?;
     }
     Ok(())
 }
@@ -99,14 +100,14 @@ fn push_finding(
     bytes: &mut Vec<u8>,
     kind: usize,
     line: usize,
-    first: usize,
+    more: usize,
     key: &[u8],
 ) -> Result<(), AllocError>
-    ensures { OnOk result (bytes.new.items ≡ bytes.old.items ++ finding_bytes kind line first key.now) }
+    ensures { OnOk result (bytes.new.items ≡ bytes.old.items ++ finding_bytes kind line more key.now) }
 {
     push_number(bytes, kind)?;
     push_number(bytes, line)?;
-    push_number(bytes, first)?;
+    push_number(bytes, more)?;
     push_number(bytes, key.len())?;
     bytes.extend_from_slice(key)?;
     Ok(())

@@ -9,7 +9,8 @@
 //!   error;
 //! - `line` is the line of the error, or 0.
 //!
-//! What is in `out` past `length` stays as it was. A parameter of the type `Global` takes no place in a call from C.
+//! A call with flags refuses those that it has no use for. What is in `out` past `length` stays as it was. A parameter
+//! of the type `Global` takes no place in a call from C.
 #![tactic(auto)]
 
 pub mod convert;

@@ -7,7 +7,7 @@ ghost use Rattle.properties_c.specs.Records.{record_in};
 ghost use Rattle.properties_c.specs.Private.Lists.{CopiesText, MakesCall, MakesEdit, ReadsCalls, ReadsEdits, ReadsFirstCall, ReadsFirstEdit};
 ghost use Rattle.properties_c.specs.declared.status.Status.TheVariants.{NoMemory};
 
-use crate::encoding::text_of;
+use crate::encoding::{Flags, text_of};
 use crate::items::{COMMENT, PAIR};
 use crate::records::{Record, split_record};
 use crate::status::Status;
@@ -59,12 +59,12 @@ pub fn edits_of(alloc: Global, list: &[u8]) -> Result<Vec<Edit>, Status>
     Ok(edits)
 }
 
-/// Returns the calls that write the lines of a packed list, or why it is refused. With `ascii_only`, a call comes
-/// before them that has every character past U+007F escaped.
-pub fn calls_of(alloc: Global, list: &[u8], ascii_only: bool) -> Result<Vec<Call>, Status>
-    ensures { ReadsCalls list.now ascii_only result }
+/// Returns the calls that write the lines of a packed list, or why it is refused. Calls that set the writer as the flags
+/// ask for come before them.
+pub fn calls_of(alloc: Global, list: &[u8], flags: Flags) -> Result<Vec<Call>, Status>
+    ensures { ReadsCalls list.now flags result }
 {
-    let mut calls = calls_before(alloc, ascii_only)?;
+    let mut calls = calls_before(alloc, flags)?;
     let mut rest = list;
     while !rest.is_empty() {
         match first_call(alloc, rest) {
@@ -79,12 +79,15 @@ pub fn calls_of(alloc: Global, list: &[u8], ascii_only: bool) -> Result<Vec<Call
 }
 
 // Returns the calls that come before the lines.
-fn calls_before(alloc: Global, ascii_only: bool) -> Result<Vec<Call>, AllocError>
-    ensures { IfOk result (λ calls. calls_in calls.items ≡ first_calls ascii_only) }
+fn calls_before(alloc: Global, flags: Flags) -> Result<Vec<Call>, AllocError>
+    ensures { IfOk result (λ calls. calls_in calls.items ≡ first_calls flags) }
 {
     let mut calls = Vec::new(alloc);
-    if ascii_only {
+    if flags.ascii_only {
         calls.push(Call::AsciiOnly(true))?;
+    }
+    if flags.readable {
+        calls.push(Call::Readable(true))?;
     }
     Ok(calls)
 }

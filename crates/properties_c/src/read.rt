@@ -1,14 +1,16 @@
 // The exports that read.
 
+ghost use Rattle.std.specs.Str.{chars};
+ghost use Rattle.properties_text.specs.Encoding.{encoding_of};
 ghost use Rattle.properties_c.specs.Crossing.{crossing};
-ghost use Rattle.properties_c.specs.Reading.{FindingsAcross, GetsAcross, ItemsAcross};
+ghost use Rattle.properties_c.specs.Reading.{FindingsAcross, GetsAcross, ItemsAcross, TellsAs};
 
 use crate::crossing::{deliver, deliver_result, fail, line_in, refuse};
-use crate::encoding::{encoding_numbered, text_of};
+use crate::encoding::{FOR_KEYS, encoding_numbered, flags_numbered, text_of};
 use crate::findings::findings_in;
 use crate::items::deliver_items;
 use crate::status::{Status, status_of};
-use java_properties::{read_lines, value_of};
+use java_properties::{Encoding, PropertiesError, read_lines, value_among_pairs, value_of};
 use std::alloc::Global;
 
 /// Gives the value of a key: that of the last pair with it.
@@ -17,21 +19,25 @@ pub extern "C" fn properties_get(
     alloc: Global,
     source: &[u8],
     encoding: u32,
+    flags: u32,
     key: &[u8],
     out: &mut [u8],
     length: &mut usize,
     line: &mut usize,
 ) -> i32
     ensures { let x = crossing out.old result length.new line.new out.new in
-        GetsAcross source.now encoding key.now x }
+        GetsAcross source.now encoding flags key.now x }
 {
     let Some(encoding) = encoding_numbered(encoding) else {
+        return refuse(Status::UnknownEncoding, length, line);
+    };
+    let Some(flags) = flags_numbered(flags, FOR_KEYS) else {
         return refuse(Status::UnknownEncoding, length, line);
     };
     let Some(key) = text_of(key) else {
         return refuse(Status::NotUtf8, length, line);
     };
-    match value_of(alloc, source, encoding, key) {
+    match sought_value(alloc, source, encoding, flags.read_comments, key) {
         Ok(Some(value)) => deliver(value.as_str().as_bytes(), out, length, line),
         Ok(None) => refuse(Status::NoKey, length, line),
         Err(error) => fail(&error, length, line),
@@ -84,4 +90,21 @@ pub extern "C" fn properties_findings(
         return refuse(Status::UnknownEncoding, length, line);
     };
     deliver_result(findings_in(alloc, source, encoding), out, length, line)
+}
+
+// Returns the value of a key, and reads comments or passes over them.
+fn sought_value(
+    alloc: Global,
+    source: &[u8],
+    encoding: Encoding,
+    read_comments: bool,
+    key: &str,
+) -> Result<Option<String>, PropertiesError>
+    ensures { TellsAs read_comments (encoding_of encoding) source.now (chars key.now) result }
+{
+    if read_comments {
+        value_of(alloc, source, encoding, key)
+    } else {
+        value_among_pairs(alloc, source, encoding, key)
+    }
 }

@@ -7,31 +7,34 @@ ghost use Rattle.properties_c.specs.Writing.{WritesAcross};
 ghost use Rattle.properties_c.specs.Private.Writes.{WritesCalls};
 
 use crate::crossing::{deliver, refuse};
-use crate::encoding::encoding_numbered;
+use crate::encoding::{FOR_LINES, encoding_numbered, flags_numbered};
 use crate::lists::calls_of;
 use crate::status::Status;
 use counted_io::Counted;
 use java_properties::{Call, Encoding, PropertiesError, PropertiesWriter, run_calls};
 use std::alloc::Global;
 
-/// Gives the bytes of a packed list of comments and pairs, as a new writer writes them.
+/// Gives the bytes of a packed list of comments and pairs, as a new writer writes them with what the flags ask for.
 #[unsafe(no_mangle)]
 pub extern "C" fn properties_write(
     alloc: Global,
     list: &[u8],
     encoding: u32,
-    ascii_only: bool,
+    flags: u32,
     out: &mut [u8],
     length: &mut usize,
     line: &mut usize,
 ) -> i32
     ensures { let x = crossing out.old result length.new line.new out.new in
-        WritesAcross list.now encoding ascii_only x }
+        WritesAcross list.now encoding flags x }
 {
     let Some(encoding) = encoding_numbered(encoding) else {
         return refuse(Status::UnknownEncoding, length, line);
     };
-    let calls = match calls_of(alloc, list, ascii_only) {
+    let Some(flags) = flags_numbered(flags, FOR_LINES) else {
+        return refuse(Status::UnknownEncoding, length, line);
+    };
+    let calls = match calls_of(alloc, list, flags) {
         Ok(calls) => calls,
         Err(status) => return refuse(status, length, line),
     };

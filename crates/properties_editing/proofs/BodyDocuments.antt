@@ -1,5 +1,5 @@
 -- What the calls of a document come to.
-use Rattle.std.proofs.Common.{◌≡◌, ℕ, ◌+◌, Bool, true, false, List, [], ◌∷◌, length, drop, refl, ap, sym, ◌∙◌, subst}
+use Rattle.std.proofs.Common.{◌≡◌, ℕ, ◌+◌, Bool, true, false, List, [], ◌∷◌, length, drop, All, refl, ap, sym, ◌∙◌, subst}
 use Rattle.std.specs.Prelude.{bytes_eq, if◌then◌else◌, Option, Some, None, Result, Ok, Err, IfOk, OnOk}
 use Rattle.std.specs.Borrow.{Bor}
 use Rattle.std.specs.Global.{Vec}
@@ -7,14 +7,19 @@ use Rattle.std.specs.List.{cons_option}
 use Rattle.std.specs.Option.{is_some, option_map}
 use Rattle.properties_format.specs.Encoding.{Encoding, InForce, windows_1252, utf_8, utf_16le, utf_16be}
 use Rattle.properties_format.specs.Lines.{end}
-use Rattle.properties_format.specs.Entries.{comment, pair, AreItems}
+use Rattle.properties_format.specs.Text.{scalar}
+use Rattle.properties_format.specs.Entries.{Content, comment, pair, AreItems}
 use Rattle.properties_format.specs.Items.{IsItems, Outcome, ignored, given, broken}
 use Rattle.properties_format.specs.Maps.{IsValue}
 use Rattle.properties_format.specs.Body.{HeldLine, group_bytes}
-use Rattle.properties_format.specs.Edited.{IsEditResult, edited, is_editable}
-use Rattle.properties_format.specs.Edits.{Edit, IsEdited}
+use Rattle.properties_format.specs.Edited.{IsKeySet, IsKeyRemoved, edited, is_editable}
+use Rattle.properties_format.specs.Edits.{Edit, AreEdited, IsEdited}
+use Rattle.properties_format.specs.Changed.{ReadsAfter}
+use Rattle.properties_format.specs.Valued.{IsValueSet}
 use Rattle.properties_format.specs.Computed.Body.{entries_in, held_groups_of}
-use Rattle.properties_format.specs.Computed.Edited.{IsSound, AreSound}
+use Rattle.properties_format.specs.Computed.Edited.{IsSound}
+use Rattle.properties_editing.specs.Private.Sound.{AreSoundFor, IsResult}
+use Rattle.properties_editing.specs.declared.edit.source.Comments.TheVariants.{Read}
 use Rattle.properties_format.specs.Computed.Items.{followed, items_of}
 use Rattle.properties_format.specs.Computed.Maps.{first_value, value_in}
 use Rattle.properties_format.specs.Computed.Parts.{outcome_key}
@@ -36,8 +41,9 @@ use Rattle.properties_editing.specs.declared.edit.document.Document.TheInside.{I
 use Rattle.properties_editing.specs.declared.edit.index.Index.{Index}
 use Rattle.properties_editing.specs.declared.edit.find.BodySpan.{BodySpan}
 use Rattle.properties_editing.specs.declared.edit.source.BodyStart.{BodyStart}
-use Rattle.properties_editing.proofs.Editing.{result-made}
-use Rattle.properties_editing.proofs.EditsInTurn.{made-edits}
+use Rattle.properties_editing.proofs.Editing.{made-result, removed-edits, set-edits}
+use Rattle.properties_editing.proofs.EditsInTurn.{result-made}
+use Rattle.properties_editing.proofs.SetValues.{value-edits}
 use Rattle.properties_editing.proofs.IndexParsed.{kept-index}
 
 -- ---- encodings
@@ -52,7 +58,7 @@ editable-unit utf_16be h = absurd (cc)
 -- ---- what a document tells
 
 -- The value of a key among the entries of groups is that among their pairs.
-value-entries : (n m : ℕ) (gs : List (List HeldLine)) (key : List ℕ) → AreSound gs → value_in (entries_in n gs) key ≡ last_value key (pairs_from m gs)
+value-entries : (n m : ℕ) (gs : List (List HeldLine)) (key : List ℕ) → AreSoundFor Read gs → value_in (entries_in n gs) key ≡ last_value key (pairs_from m gs)
 value-entries n m [] key s = refl
 value-entries n m (g ∷ gs) key s =
     let next = m + length (group_bytes g) in
@@ -66,7 +72,7 @@ value-entries n m (g ∷ gs) key s =
     by span ps (broken kind) s h = absurd s
 
 -- The entries of groups without malformed escapes are items.
-items-sound : (n : ℕ) (gs : List (List HeldLine)) → AreSound gs → AreItems (entries_in n gs)
+items-sound : (n : ℕ) (gs : List (List HeldLine)) → AreSoundFor Read gs → AreItems (entries_in n gs)
 items-sound n [] s = tt
 items-sound n (g ∷ gs) s = of-outcome (outcome g) s.0 (items-sound (n + length g) gs s.1)
   where
@@ -74,6 +80,16 @@ items-sound n (g ∷ gs) s = of-outcome (outcome g) s.0 (items-sound (n + length
     of-outcome ignored s h = h
     of-outcome (given content) s h = h
     of-outcome (broken kind) s h = absurd s
+
+-- Where they are items, nothing is malformed.
+sound-items : (n : ℕ) (gs : List (List HeldLine)) → AreItems (entries_in n gs) → AreSoundFor Read gs
+sound-items n [] h = tt
+sound-items n (g ∷ gs) h = let m = of-outcome (outcome g) h in (m.0, sound-items (n + length g) gs m.1)
+  where
+    of-outcome : (o : Outcome) → AreItems (followed n o (entries_in (n + length g) gs)) → IsSound o × AreItems (entries_in (n + length g) gs)
+    of-outcome ignored h = (tt, h)
+    of-outcome (given content) h = (tt, h)
+    of-outcome (broken kind) h = absurd h
 
 -- Its items are the entries of the groups of its body.
 own-items : (d : Inside) → IsDocument d
@@ -105,7 +121,7 @@ checks_has_key f d key None h = h
 checks_has_key f d key (Some x) h = (f x, h)
 
 -- The keys of groups are those of their entries.
-entries-keys : (n : ℕ) (gs : List (List HeldLine)) → AreSound gs → pair_keys (entries_in n gs) ≡ group_keys gs
+entries-keys : (n : ℕ) (gs : List (List HeldLine)) → AreSoundFor Read gs → pair_keys (entries_in n gs) ≡ group_keys gs
 entries-keys n [] s = refl
 entries-keys n (g ∷ gs) s = of-outcome (outcome g) s.0 (entries-keys (n + length g) gs s.1)
   where
@@ -143,8 +159,25 @@ module _ (d : Inside) (i : IsDocument d) (source : Vec ℕ) (index : Index) wher
   abbrev after : Inside
   after = record d { source = source; index = index }
 
-  document : {Meant : Type 0} → IsKept Meant (encoding_of d.encoding) d.opened source.items index → IsDocument after
-  document k = record { in_force = k.in_force; editable = i.editable; sound = k.sound; is_index = k.is_index }
+  -- It is one, if nothing in it is malformed.
+  document : {Meant : Type 0} → IsKept Meant (encoding_of d.encoding) d.opened source.items index → AreItems (items_of (encoding_of d.encoding) source.items end) → IsDocument after
+  document k items =
+      let f = encoding_of d.opened.encoding in
+      let gs = held_groups_of f (drop d.opened.start source.items) in
+      let own : items_of (encoding_of d.encoding) source.items end ≡ entries_in 1 gs =
+      items_of-groups (encoding_of d.encoding) source.items ∙ ap (λ v. let w : InForce = v in entries_in 1 (held_groups_of w.encoding w.body)) k.in_force.in_force in
+      record { in_force = k.in_force; editable = i.editable; sound = sound-items 1 gs (subst AreItems own items); is_index = k.is_index }
+
+  -- What an edit makes of it is the result of that edit.
+  meant-result : (Makes : List ℕ → Type 0) → Makes source.items → IsResult Read (encoding_of d.encoding) d.source.items Makes (edited source.items)
+  meant-result Makes m = made-result Read Makes source.items i.in_force i.editable i.sound m
+
+  -- What reads as it after an edit is sound.
+  read-sound : {IsEdit : List Content → List Content → Type 0} {change : (List ℕ → Option (List ℕ)) → List ℕ → Option (List ℕ)}
+      → ReadsAfter IsEdit change (encoding_of d.encoding) d.source.items source.items → AreItems (items_of (encoding_of d.encoding) source.items end)
+  read-sound r =
+      let e = encoding_of d.encoding in
+      (r (items_of e d.source.items end) (items_of e source.items end) (items_of-meets e d.source.items end) (items_of-meets e source.items end)).readable
 
   -- It is as it was.
   unchanged : (source.items ≡ d.source.items) × KeepsNothing d.index index → IsDocument after × (open_document after ≡ open_document d)
@@ -154,25 +187,31 @@ module _ (d : Inside) (i : IsDocument d) (source : Vec ℕ) (index : Index) wher
         record {
           in_force = subst (λ v. IsInForce v (encoding_of d.encoding) d.opened) back i.in_force;
           editable = i.editable;
-          sound = subst (λ v. AreSound (held_groups_of f (drop d.opened.start v))) back i.sound;
+          sound = subst (λ v. AreSoundFor Read (held_groups_of f (drop d.opened.start v))) back i.sound;
           is_index = subst (λ v. IsIndex (held_groups_of f (drop d.opened.start v)) index) back (kept-index _ d.index index i.is_index h.1);
         },
         ap (λ v. let w : OpenDocument = record (open_document d) { bytes = v } in w) h.0,
       )
 
   -- A key was set, or it is as it was,
-  pub put-ends : {E : Type 0} (key value : List ℕ) (result : Result Unit E)
+  pub put-ends : {E : Type 0} (key value : List ℕ) (result : Result Unit E) → All scalar key → All scalar value
       → PutsPair d.opened key value d.source.items d.index result source.items index
       → IsDocument after × PutsInto key value (open_document d) result (open_document after)
-  put-ends key value (Ok done) h = let k = h (encoding_of d.encoding) i.in_force in (document k, (refl, refl, k.meant))
-  put-ends key value (Err error) h = unchanged h
+  put-ends key value (Ok done) kc vc h =
+      let k = h (encoding_of d.encoding) i.in_force in
+      let set = set-edits kc vc (meant-result (IsKeySet (encoding_of d.encoding) d.opened.ascii_only d.source.items key value) k.meant) in
+      (document k (read-sound set.edit.reads), (refl, refl, set))
+  put-ends key value (Err error) kc vc h = unchanged h
 
   -- the value of a key was,
-  pub value-ends : {E : Type 0} (key value : List ℕ) (result : Result Unit E)
+  pub value-ends : {E : Type 0} (key value : List ℕ) (result : Result Unit E) → All scalar key → All scalar value
       → PutsValue d.opened key value d.source.items d.index result source.items index
       → IsDocument after × SetsValueIn key value (open_document d) result (open_document after)
-  value-ends key value (Ok done) h = let k = h (encoding_of d.encoding) i.in_force in (document k, (refl, refl, k.meant))
-  value-ends key value (Err error) h = unchanged h
+  value-ends key value (Ok done) kc vc h =
+      let k = h (encoding_of d.encoding) i.in_force in
+      let set = value-edits kc vc (meant-result (IsValueSet (encoding_of d.encoding) d.opened.ascii_only d.source.items key value) k.meant) in
+      (document k (read-sound set.edit.reads), (refl, refl, set))
+  value-ends key value (Err error) kc vc h = unchanged h
 
   -- or a key was removed.
   pub remove-ends : (key : List ℕ) (told : Bool) → told ≡ is_some (stored_at d.index.pairs.entries key)
@@ -183,7 +222,8 @@ module _ (d : Inside) (i : IsDocument d) (source : Vec ℕ) (index : Index) wher
       let stored = stored_at d.index.pairs.entries key in
       let checked =
       checks_has_key (λ p. characters p.value) (open_document d) key stored (has-value d i key (stored_value d.index.pairs.entries key) refl) in
-      (document k, record { encoding = refl; ascii_only = refl; removed = k.meant; checked = subst (ChecksHasKey (open_document d) key) (sym is) checked })
+      let removed = removed-edits (meant-result (IsKeyRemoved (encoding_of d.encoding) d.source.items key) k.meant) in
+      (document k (read-sound removed.edit.reads), record { encoding = refl; ascii_only = refl; removed = removed; checked = subst (ChecksHasKey (open_document d) key) (sym is) checked })
 
 -- ---- a document that is opened
 
@@ -197,19 +237,19 @@ own-opened : (d : Inside) → IsDocument d → d.opened.ascii_only ≡ false →
 own-opened d i off = record {
   document = i;
   same = ap (λ b. let w : OpenDocument = record { encoding = encoding_of d.encoding; bytes = d.source.items; ascii_only = b } in w) off;
-  made = made-edits [] tt (result-made d.source.items i.in_force i.editable i.sound);
+  made = result-made [] tt (made-result Read (AreEdited (encoding_of d.encoding) false d.source.items []) d.source.items i.in_force i.editable i.sound refl);
 }
 
 pub opens-document : (d : Inside) (source : List ℕ) → d.source.items ≡ source
     → IsInForce source (encoding_of d.encoding) d.opened → is_editable (encoding_of d.opened.encoding) ≡ true
-    → d.opened.ascii_only ≡ false → AreSound (held_groups_of (encoding_of d.opened.encoding) (drop d.opened.start source))
+    → d.opened.ascii_only ≡ false → AreSoundFor Read (held_groups_of (encoding_of d.opened.encoding) (drop d.opened.start source))
     → IsIndex (held_groups_of (encoding_of d.opened.encoding) (drop d.opened.start source)) d.index → IsOpened d source
 opens-document d source copy force ok off sound index =
     let f = encoding_of d.opened.encoding in
     subst (IsOpened d) copy (own-opened d (record {
       in_force = subst (λ v. IsInForce v (encoding_of d.encoding) d.opened) (sym copy) force;
       editable = ok;
-      sound = subst (λ v. AreSound (held_groups_of f (drop d.opened.start v))) (sym copy) sound;
+      sound = subst (λ v. AreSoundFor Read (held_groups_of f (drop d.opened.start v))) (sym copy) sound;
       is_index = subst (λ v. IsIndex (held_groups_of f (drop d.opened.start v)) d.index) (sym copy) index;
     }) off)
 
@@ -222,10 +262,8 @@ pub kept-as : {Meant Other : Type 0} {e : Encoding} {opened : BodyStart} {source
 kept-as f k = record { meant = f k.meant; in_force = k.in_force; sound = k.sound; is_index = k.is_index }
 
 -- So it is of what a call returns.
-pub edit-made : {E : Type 0} (opened : BodyStart) (edit : Edit) (Meant : Encoding → Type 0) (old new : List ℕ) (was is : Index)
-    (result : Result Unit E)
-    → ((e : Encoding) → Meant e → IsEditResult e old (IsEdited e opened.ascii_only old edit) (edited new))
-    → Changes Meant opened old was result new is
+pub edit-made : {E : Type 0} (opened : BodyStart) (edit : Edit) (old new : List ℕ) (was is : Index) (result : Result Unit E)
+    → Changes (λ e. IsEdited e opened.ascii_only old edit new) opened old was result new is
     → OnOk result (MakesEdit opened edit old new is)
-edit-made opened edit Meant old new was is (Ok done) f h = λ e force. kept-as (f e) (h e force)
-edit-made opened edit Meant old new was is (Err error) f h = tt
+edit-made opened edit old new was is (Ok done) h = h
+edit-made opened edit old new was is (Err error) h = tt

@@ -7,7 +7,7 @@ use Rattle.std.proofs.lemmas.List.{length-take-le, drop-drop, take-append-le}
 use Rattle.properties_format.specs.Text as text
 use Rattle.properties_format.specs.Encoding.{Encoding, windows_1252, utf_8, utf_16le, utf_16be}
 use Rattle.properties_format.specs.Lines.{Line}
-use Rattle.properties_format.specs.Writing.{is_empty}
+use Rattle.properties_format.specs.Text.{is_empty}
 use Rattle.std.proofs.lemmas.Bool.Decides.{nat_tests}
 use Rattle.properties_format.specs.Groups.{is_comment_line, is_open, joined, addition}
 use Rattle.properties_format.specs.Computed.Groups.{closes}

@@ -10,10 +10,13 @@ use Rattle.std.proofs.lemmas.Bool.{cases_Bool, cond-true, cond-false}
 use Rattle.std.proofs.lemmas.List.{drop-drop, take_more}
 use Rattle.std.proofs.Math.Seq.{drop-append_seam}
 use Rattle.properties_format.specs.Edited.{is_editable, unreadable, final_group, is_empty_line, is_left_open}
-use Rattle.properties_format.specs.Computed.Edited.{without, IsSound, AreSound, result_by}
+use Rattle.properties_format.specs.Computed.Edited.{without}
+use Rattle.properties_editing.specs.Private.Sound.{AreSound, AreSoundFor, IsSoundFor, passes_over, result_from}
+use Rattle.properties_editing.specs.declared.edit.source.Comments.{Comments}
+use Rattle.properties_editing.proofs.Comments.{from-after, from-fault, line-weaker, sound-join}
 use Rattle.properties_format.proofs.Body.Groups.{held-body, held_groups_of-meets, groups_bytes-append, groups-close, groups-leave}
-use Rattle.properties_format.proofs.Edited.Steps.{without-append, last_place-new, last_place-other, with_after, final_group-push, result-after}
-use Rattle.properties_editing.specs.Private.BodyKeys.{spans_bytes, AreWithin, AreOthersFound, IsErrorOfGroups, IsPlace, closing_of, closing_bytes, IsKeyFound, places_with, key_told}
+use Rattle.properties_format.proofs.Edited.Steps.{without-append, last_place-new, last_place-other, with_after, final_group-push}
+use Rattle.properties_editing.specs.Private.BodyKeys.{spans_bytes, AreWithin, AreOthersFound, IsErrorOfGroups, IsFault, IsPlace, closing_of, closing_bytes, IsKeyFound, places_with, key_told}
 use Rattle.properties_editing.specs.Private.BodyIndex.{is_pair}
 use Rattle.properties_editing.specs.Private.BodyValues.{IsLastPair, FindsLastPair}
 use Rattle.properties_editing.proofs.LastPairs.{last-after}
@@ -27,15 +30,14 @@ use Rattle.properties_format.specs.Computed.Cut.{cut_of}
 use Rattle.properties_format.specs.Body.{HeldLine, as_lines, held_in, group_bytes, groups_bytes}
 use Rattle.properties_format.specs.Valued.{separation_by}
 use Rattle.properties_format.specs.Items.{Outcome, ignored, given, broken}
-use Rattle.properties_format.specs.Computed.Items.{outcome_of, followed}
-use Rattle.properties_format.specs.Computed.Body.{is_pair_with, has_key, entries_in, held_of, held_lines_of, held_groups_after, held_groups_of}
+use Rattle.properties_format.specs.Computed.Items.{outcome_of}
+use Rattle.properties_format.specs.Computed.Body.{is_pair_with, has_key, held_of, held_lines_of, held_groups_after, held_groups_of}
 use Rattle.properties_format.specs.Computed.Parts.{unended_bytes}
 use Rattle.properties_format.proofs.Edited.Made.{has_key-true}
 use Rattle.properties_format.proofs.Valued.Lined.{held_in-append}
 use Rattle.properties_text.specs.Encoding.{encoding_of}
 use Rattle.properties_editing.proofs.BodyGroups.{front-of}
 use Rattle.properties_editing.specs.Private.BodyGroups.{IsWithin, groups_left, text_of, TakesGroup}
-use Rattle.properties_items.specs.FoundItems.{IsNoItem}
 use Rattle.properties_editing.specs.declared.edit.groups.Group.{Group}
 use Rattle.properties_editing.specs.declared.edit.groups.GroupReader.{GroupReader}
 use Rattle.properties_editing.specs.declared.edit.find.BodySpan.{BodySpan}
@@ -44,17 +46,17 @@ use Rattle.properties_items.specs.declared.error.PropertiesError.{PropertiesErro
 
 -- ---- the groups that were read
 
--- These groups of a body were read, in none of which anything is malformed.
-pub record HasRead (e : Encoding) (body : List ℕ) (groups : List (List HeldLine)) (s : GroupReader) : Type 0 where
+-- These groups of a body were read, in none of which anything is malformed that isn't passed over.
+pub record HasRead (comments : Comments) (e : Encoding) (body : List ℕ) (groups : List (List HeldLine)) (s : GroupReader) : Type 0 where
   pub all : held_groups_of e body ≡ groups ++ groups_left body s
-  pub sound : AreSound groups
+  pub sound : AreSoundFor comments groups
   pub counted : s.scanner.passed ≡ length (held_in groups)
   pub placed : s.scanner.at ≡ length (groups_bytes groups)
   pub within : IsWithin body s
   pub encoding : encoding_of s.scanner.encoding ≡ e
 
-pub read-none : (body : List ℕ) (s : GroupReader) → s.scanner.at ≡ 0 → s.scanner.passed ≡ 0 → s.scanner.is_done ≡ false → IsWithin body s → HasRead (encoding_of s.scanner.encoding) body [] s
-read-none body s at passed going w = record {
+pub read-none : (comments : Comments) (body : List ℕ) (s : GroupReader) → s.scanner.at ≡ 0 → s.scanner.passed ≡ 0 → s.scanner.is_done ≡ false → IsWithin body s → HasRead comments (encoding_of s.scanner.encoding) body [] s
+read-none comments body s at passed going w = record {
   all = rw (going, at) refl;
   sound = tt;
   counted = passed;
@@ -68,9 +70,9 @@ sound-append [] hs h k = k
 sound-append (g ∷ gs) hs h k = (h.0, sound-append gs hs h.1 k)
 
 -- the next group was read, and nothing in it is malformed
-pub read-more : {e : Encoding} {body : List ℕ} {groups : List (List HeldLine)} {s t : GroupReader} {group : Group} → HasRead e body groups s
-    → (k : TakesGroup body s group t) → IsSound (outcome_of (chars (text_of body t group))) → HasRead e body (groups ++ k.held ∷ []) t
-read-more {e} {body} {groups} {s} {t} {group} h k sound =
+pub read-more : {comments : Comments} {e : Encoding} {body : List ℕ} {groups : List (List HeldLine)} {s t : GroupReader} {group : Group} → HasRead comments e body groups s
+    → (k : TakesGroup body s group t) → IsSoundFor comments (chars (text_of body t group)) → HasRead comments e body (groups ++ k.held ∷ []) t
+read-more {comments} {e} {body} {groups} {s} {t} {group} h k sound =
     let one : groups_bytes (k.held ∷ []) ≡ group_bytes k.held = append-nil (group_bytes k.held) in
     let placed = h.placed in
     let counted = h.counted in
@@ -80,7 +82,7 @@ read-more {e} {body} {groups} {s} {t} {group} h k sound =
     ap length (held_in-append groups (k.held ∷ []) ∙ ap (λ v. held_in groups ++ v) (append-nil k.held)) ∙ length-append (held_in groups) k.held in
     record {
       all = h.all ∙ ap (λ v. groups ++ v) k.groups ∙ sym (append_assoc groups (k.held ∷ []) (groups_left body t));
-      sound = sound-append groups (k.held ∷ []) h.sound (subst (λ v. IsSound (outcome_of v)) k.text sound, tt);
+      sound = sound-join comments groups (k.held ∷ []) h.sound (subst (IsSoundFor comments) k.text sound, tt);
       counted = omega arith;
       placed = omega arith;
       within = k.within;
@@ -88,37 +90,37 @@ read-more {e} {body} {groups} {s} {t} {group} h k sound =
     }
 
 -- the last group was read
-pub read-all : {e : Encoding} {body : List ℕ} {groups : List (List HeldLine)} {s : GroupReader} → HasRead e body groups s → s.scanner.is_done ≡ true
+pub read-all : {comments : Comments} {e : Encoding} {body : List ℕ} {groups : List (List HeldLine)} {s : GroupReader} → HasRead comments e body groups s → s.scanner.is_done ≡ true
     → held_groups_of e body ≡ groups
-read-all {e} {body} {groups} {s} h done = h.all ∙ (rw done (append-nil groups))
+read-all {comments} {e} {body} {groups} {s} h done = h.all ∙ (rw done (append-nil groups))
 
 -- ---- the first fault
 
 -- The first fault of a body is that of the group that came.
-pub read-fault : {e : Encoding} {body : List ℕ} {groups : List (List HeldLine)} {s t : GroupReader} {group : Group} (error : PropertiesError)
-    → HasRead e body groups s → TakesGroup body s group t → IsNoItem group.number (chars (text_of body t group)) error
-    → IsErrorOfGroups (held_groups_of e body) error
-read-fault {e} {body} {groups} {s} {t} {group} error h k (inl (how, breaks, is)) =
+pub read-fault : {comments : Comments} {e : Encoding} {body : List ℕ} {groups : List (List HeldLine)} {s t : GroupReader} {group : Group} (error : PropertiesError)
+    → HasRead comments e body groups s → TakesGroup body s group t → IsFault comments group.number (chars (text_of body t group)) error
+    → IsErrorOfGroups comments (held_groups_of e body) error
+read-fault {comments} {e} {body} {groups} {s} {t} {group} error h k (passed, inl (how, breaks, is)) =
     let broke : outcome_of (joined (as_lines k.held)) ≡ broken how = ap outcome_of (sym k.text) ∙ breaks in
     let first : group.number ≡ 1 + length (held_in groups) = omega arith in
     inl (
       how,
       group.number,
       (λ made.
-          ap (λ v. result_by (entries_in 1 v) made) (h.all ∙ ap (λ v. groups ++ v) k.groups)
-          ∙ result-after 1 groups (k.held ∷ groups_left body t) made h.sound
-          ∙ ap (λ o. result_by (followed (1 + length (held_in groups)) o (entries_in (1 + length (held_in groups) + length k.held) (groups_left body t))) made) broke
+          ap (λ v. result_from comments 1 v made) (h.all ∙ ap (λ v. groups ++ v) k.groups)
+          ∙ from-after comments 1 groups (k.held ∷ groups_left body t) made h.sound
+          ∙ from-fault comments (1 + length (held_in groups)) k.held (groups_left body t) made how broke (ap (passes_over comments) (sym k.text) ∙ passed)
           ∙ ap (unreadable how) (sym first)),
       is,
     )
-read-fault error h k (inr is) = inr is
+read-fault error h k (passed, inr is) = inr is
 
 -- ---- where the key is
 
 -- After these groups it is known where the key is.
-pub record HasLooked (e : Encoding) (body key : List ℕ) (s : GroupReader) (found : PairPlaces) : Type 0 where
+pub record HasLooked (comments : Comments) (e : Encoding) (body key : List ℕ) (s : GroupReader) (found : PairPlaces) : Type 0 where
   pub groups : List (List HeldLine)
-  pub read : HasRead e body groups s
+  pub read : HasRead comments e body groups s
   pub pair : IsPlace key groups found.pair
   pub last : IsLastPair groups found.last
   pub closing : (groups ≡ []) ⊎ ((ending : List ℕ) → separation_by ending (final_group groups) ≡ closing_bytes ending found.closing)
@@ -167,16 +169,16 @@ told-pair key (given (content.pair k v)) = refl
 told-pair key (broken kind) = refl
 
 -- one more group was looked at
-pub looked-more : {e : Encoding} {body key : List ℕ} {s t : GroupReader} {found : PairPlaces} {group : Group} (told : Option Bool) → HasLooked e body key s found
-    → TakesGroup body s group t → IsSound (outcome_of (chars (text_of body t group))) → told ≡ key_told key (outcome_of (chars (text_of body t group)))
-    → HasLooked e body key t (places_with found group told)
-looked-more {e} {body} {key} {s} {t} {found} {group} told h k sound is = record {
+pub looked-more : {comments : Comments} {e : Encoding} {body key : List ℕ} {s t : GroupReader} {found : PairPlaces} {group : Group} (told : Option Bool) → HasLooked comments e body key s found
+    → TakesGroup body s group t → IsSoundFor comments (chars (text_of body t group)) → told ≡ key_told key (outcome_of (chars (text_of body t group)))
+    → HasLooked comments e body key t (places_with found group told)
+looked-more {comments} {e} {body} {key} {s} {t} {found} {group} told h k sound is = record {
   groups = h.groups ++ k.held ∷ [];
   read = read-more h.read k sound;
   pair = place-after key h.groups k.held group found.pair (unwrap_or told false) h.pair
       (ap (λ v. unwrap_or v false) is ∙ told-with key (outcome_of (chars (text_of body t group))) ∙ ap (λ v. is_pair_with key (outcome_of v)) k.text) (k.starts ∙ h.read.placed)
       k.span.unended;
-  last = last-after h.groups k.held (record { start = group.start; end = group.end }) (is_some told) found.last h.last (subst (λ v. IsSound (outcome_of v)) k.text sound)
+  last = last-after h.groups k.held (record { start = group.start; end = group.end }) (is_some told) found.last h.last (line-weaker comments (joined (as_lines k.held)) (subst (IsSoundFor comments) k.text sound))
       (ap is_some is ∙ told-pair key (outcome_of (chars (text_of body t group))) ∙ ap (λ v. is_pair (outcome_of v)) k.text) (k.starts ∙ h.read.placed) k.span.unended;
   closing = inr (λ ending. ap (separation_by ending) (final_group-push h.groups k.held)
       ∙ separated ending (is_empty_line k.held) (is_left_open k.held)
@@ -206,12 +208,12 @@ unfolding held_groups_of
 some-groups e body h = some-after [] (held_lines_of e body) (λ none. some-lines e (cut_of e body).ended (cut_of e body).last) h
 
 -- all groups were looked at
-pub looked-all : {e : Encoding} {body key : List ℕ} {s : GroupReader} {found : PairPlaces} → HasLooked e body key s found → s.scanner.is_done ≡ true
-    → IsKeyFound e body key found × FindsLastPair e body found.last
-looked-all {e} {body} {key} {s} {found} h done =
+pub looked-all : {comments : Comments} {e : Encoding} {body key : List ℕ} {s : GroupReader} {found : PairPlaces} → HasLooked comments e body key s found → s.scanner.is_done ≡ true
+    → AreSoundFor comments (held_groups_of e body) × IsKeyFound e body key found × FindsLastPair e body found.last
+looked-all {comments} {e} {body} {key} {s} {found} h done =
     let all = read-all h.read done in (
+      subst (AreSoundFor comments) (sym all) h.read.sound,
       record {
-        sound = subst AreSound (sym all) h.read.sound;
         pair = subst (λ v. IsPlace key v found.pair) (sym all) h.pair;
         closing = elim h.closing [
           | inl none ↦ absurd (some-groups e body (all ∙ none))
@@ -236,18 +238,18 @@ last-cr (c ∷ d ∷ ds) h =
 -- ---- what is left without a key
 
 -- After these groups these parts of the body are left, and the part from a place on.
-pub record HasKept (e : Encoding) (body key : List ℕ) (s : GroupReader) (others : List BodySpan) (start : ℕ) : Type 0 where
+pub record HasKept (comments : Comments) (e : Encoding) (body key : List ℕ) (s : GroupReader) (others : List BodySpan) (start : ℕ) : Type 0 where
   pub groups : List (List HeldLine)
-  pub read : HasRead e body groups s
+  pub read : HasRead comments e body groups s
   pub ordered : start ≤ s.scanner.at
   pub within : AreWithin body others
   pub bytes : spans_bytes body others ++ take (s.scanner.at - start) (drop start body) ≡ without key groups
 
-pub kept-none : (body key : List ℕ) (s : GroupReader) (others : List BodySpan) → s.scanner.at ≡ 0 → s.scanner.passed ≡ 0 → s.scanner.is_done ≡ false → IsWithin body s → others ≡ []
-    → HasKept (encoding_of s.scanner.encoding) body key s others 0
-kept-none body key s others at passed going w none = record {
+pub kept-none : (comments : Comments) (body key : List ℕ) (s : GroupReader) (others : List BodySpan) → s.scanner.at ≡ 0 → s.scanner.passed ≡ 0 → s.scanner.is_done ≡ false → IsWithin body s → others ≡ []
+    → HasKept comments (encoding_of s.scanner.encoding) body key s others 0
+kept-none comments body key s others at passed going w none = record {
   groups = [];
-  read = read-none body s at passed going w;
+  read = read-none comments body s at passed going w;
   ordered = omega arith;
   within = subst (AreWithin body) (sym none) tt;
   bytes = rw (none, at) refl;
@@ -282,10 +284,10 @@ editable-bytes utf_16le h = absurd (omega arith)
 editable-bytes utf_16be h = absurd (omega arith)
 
 -- a pair with the key is taken out
-pub kept-removed : {e : Encoding} {body key : List ℕ} {s t : GroupReader} {others : List BodySpan} {start : ℕ} {group : Group} (more : List BodySpan) → HasKept e body key s others start
-    → TakesGroup body s group t → IsSound (outcome_of (chars (text_of body t group))) → true ≡ is_pair_with key (outcome_of (chars (text_of body t group)))
-    → more ≡ others ++ record { start = start; end = group.start } ∷ [] → HasKept e body key t more t.scanner.at
-kept-removed {e} {body} {key} {s} {t} {others} {start} {group} more h k sound is pushed =
+pub kept-removed : {comments : Comments} {e : Encoding} {body key : List ℕ} {s t : GroupReader} {others : List BodySpan} {start : ℕ} {group : Group} (more : List BodySpan) → HasKept comments e body key s others start
+    → TakesGroup body s group t → IsSoundFor comments (chars (text_of body t group)) → true ≡ is_pair_with key (outcome_of (chars (text_of body t group)))
+    → more ≡ others ++ record { start = start; end = group.start } ∷ [] → HasKept comments e body key t more t.scanner.at
+kept-removed {comments} {e} {body} {key} {s} {t} {others} {start} {group} more h k sound is pushed =
     let has : has_key key k.held ≡ true = ap (λ v. is_pair_with key (outcome_of v)) (sym k.text) ∙ sym is in
     let starts = k.starts in
     let ordered = h.ordered in
@@ -304,18 +306,18 @@ kept-removed {e} {body} {key} {s} {t} {others} {start} {group} more h k sound is
     }
 
 -- the group that came is in the body after those that were read
-pub group-whole : {e : Encoding} {body : List ℕ} {groups : List (List HeldLine)} {s t : GroupReader} {group : Group} → is_editable e ≡ true
-    → HasRead e body groups s → (k : TakesGroup body s group t)
+pub group-whole : {comments : Comments} {e : Encoding} {body : List ℕ} {groups : List (List HeldLine)} {s t : GroupReader} {group : Group} → is_editable e ≡ true
+    → HasRead comments e body groups s → (k : TakesGroup body s group t)
     → body ≡ groups_bytes groups ++ (group_bytes k.held ++ groups_bytes (groups_left body t))
-group-whole {e} {body} {groups} {s} {t} {group} ok h k =
+group-whole {comments} {e} {body} {groups} {s} {t} {group} ok h k =
     sym (held-body e body (held_groups_of e body) ok (held_groups_of-meets e body))
     ∙ ap groups_bytes (h.all ∙ ap (λ v. groups ++ v) k.groups)
     ∙ groups_bytes-append groups (k.held ∷ groups_left body t)
 
 -- the bytes of the group that came
-group-part : {e : Encoding} {body : List ℕ} {groups : List (List HeldLine)} {s t : GroupReader} {group : Group} → is_editable e ≡ true → HasRead e body groups s
+group-part : {comments : Comments} {e : Encoding} {body : List ℕ} {groups : List (List HeldLine)} {s t : GroupReader} {group : Group} → is_editable e ≡ true → HasRead comments e body groups s
     → (k : TakesGroup body s group t) → (take (t.scanner.at - s.scanner.at) (drop s.scanner.at body) ≡ group_bytes k.held) × (s.scanner.at ≤ t.scanner.at)
-group-part {e} {body} {groups} {s} {t} {group} ok h k =
+group-part {comments} {e} {body} {groups} {s} {t} {group} ok h k =
     let front = groups_bytes groups in
     let g = group_bytes k.held in
     let rest = groups_bytes (groups_left body t) in
@@ -327,10 +329,10 @@ group-part {e} {body} {groups} {s} {t} {group} ok h k =
     )
 
 -- any other group is left
-pub kept-more : {e : Encoding} {body key : List ℕ} {s t : GroupReader} {others : List BodySpan} {start : ℕ} {group : Group} → is_editable e ≡ true → HasKept e body key s others start
-    → TakesGroup body s group t → IsSound (outcome_of (chars (text_of body t group))) → false ≡ is_pair_with key (outcome_of (chars (text_of body t group)))
-    → HasKept e body key t others start
-kept-more {e} {body} {key} {s} {t} {others} {start} {group} ok h k sound is =
+pub kept-more : {comments : Comments} {e : Encoding} {body key : List ℕ} {s t : GroupReader} {others : List BodySpan} {start : ℕ} {group : Group} → is_editable e ≡ true → HasKept comments e body key s others start
+    → TakesGroup body s group t → IsSoundFor comments (chars (text_of body t group)) → false ≡ is_pair_with key (outcome_of (chars (text_of body t group)))
+    → HasKept comments e body key t others start
+kept-more {comments} {e} {body} {key} {s} {t} {others} {start} {group} ok h k sound is =
     let has : has_key key k.held ≡ false = ap (λ v. is_pair_with key (outcome_of v)) (sym k.text) ∙ sym is in
     let part = group-part ok h.read k in
     let ordered = h.ordered in
@@ -353,17 +355,18 @@ kept-more {e} {body} {key} {s} {t} {others} {start} {group} ok h k sound is =
     }
 
 -- all groups were looked at
-pub kept-all : {e : Encoding} {body key : List ℕ} {s : GroupReader} {others : List BodySpan} {start : ℕ} (more : List BodySpan) → HasKept e body key s others start
-    → s.scanner.is_done ≡ true → more ≡ others ++ record { start = start; end = s.scanner.at } ∷ [] → AreOthersFound e body key more
-kept-all {e} {body} {key} {s} {others} {start} more h done pushed =
+pub kept-all : {comments : Comments} {e : Encoding} {body key : List ℕ} {s : GroupReader} {others : List BodySpan} {start : ℕ} (more : List BodySpan) → HasKept comments e body key s others start
+    → s.scanner.is_done ≡ true → more ≡ others ++ record { start = start; end = s.scanner.at } ∷ [] → AreSoundFor comments (held_groups_of e body) × AreOthersFound e body key more
+kept-all {comments} {e} {body} {key} {s} {others} {start} more h done pushed =
     let all = read-all h.read done in
     let place = h.read.within.within_body.fits.within in
-    let within = within-append body others (record { start = start; end = s.scanner.at } ∷ []) h.within (h.ordered, place, tt) in
-    record {
-      sound = subst AreSound (sym all) h.read.sound;
-      within = subst (AreWithin body) (sym pushed) within;
-      bytes = ap (spans_bytes body) pushed ∙ one-span body others start s.scanner.at ∙ h.bytes ∙ ap (without key) (sym all);
-    }
+    let within = within-append body others (record { start = start; end = s.scanner.at } ∷ []) h.within (h.ordered, place, tt) in (
+      subst (AreSoundFor comments) (sym all) h.read.sound,
+      record {
+        within = subst (AreWithin body) (sym pushed) within;
+        bytes = ap (spans_bytes body) pushed ∙ one-span body others start s.scanner.at ∙ h.bytes ∙ ap (without key) (sym all);
+      },
+    )
 
 -- ---- parts that are copied
 

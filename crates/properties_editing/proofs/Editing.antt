@@ -1,33 +1,34 @@
 -- What an edit of a source comes to.
 use Rattle.std.proofs.Common.{◌≡◌, ◌==◌, ℕ, ◌+◌, ◌-◌, ◌≤◌, List, [], ◌∷◌, ◌++◌, All, length, take, drop, refl, ap, ap₂, sym, ◌∙◌, subst, inl, inr, append-nil, append_assoc, length-append, length-drop, arith, lit<, take-add, ◌<◌, get_or}
-use Rattle.std.specs.Prelude.{Bool, true, false, if◌then◌else◌, Some, None, Result, Err, IsErrAnd, not, ◌&&◌, unwrap_or}
+use Rattle.std.specs.Prelude.{Bool, true, false, if◌then◌else◌, Some, None, Result, Ok, Err, IsErrAnd, not, ◌&&◌, unwrap_or}
+use Rattle.std.specs.Global.{Vec}
 use Rattle.std.proofs.Math.Seq.{drop-append_seam}
 use Rattle.std.proofs.lemmas.List.{length-take-le, drop-drop, take_rest, take_more, map-append}
 use Rattle.std.proofs.lemmas.Result.{err_from_is_err_and}
-use Rattle.std.proofs.lemmas.Bool.{cases_Bool, cond-true}
-use Rattle.properties_format.specs.Text.{LineEnding, lf, cr, crlf, line_ending_text, scalar, line_feed, equals_sign}
+use Rattle.std.proofs.lemmas.Bool.{cases_Bool}
+use Rattle.properties_format.specs.Text.{LineEnding, lf, cr, crlf, line_ending_text, scalar, line_feed, equals_sign, is_empty}
 use Rattle.properties_format.specs.Printing.{in_key_or_value, printed_key, printed_characters, encoded_text}
 use Rattle.properties_format.proofs.Printing.Characters.{encoded-ascii, encoded_text-append}
 use Rattle.properties_format.specs.Encoding.{Encoding, InForce, byte_order_mark, begins_with, begins_like_bom, utf_8_bom, utf_16be_bom, utf_16le_bom, output_encoding}
-use Rattle.properties_format.specs.Lines.{end}
-use Rattle.properties_format.specs.Writing.{is_empty}
 use Rattle.properties_format.specs.Body.{ending_bytes, groups_bytes, last_ending}
-use Rattle.properties_format.specs.Edited.{bom_of, pair_bytes, separation, added_ending, is_editable, edited, unsupported, IsEditResult, IsSetKeyResult, IsRemoveKeyResult}
-use Rattle.properties_format.specs.Computed.Items.{items_of}
-use Rattle.properties_format.specs.Computed.Body.{held_groups_of, entries_in}
-use Rattle.properties_format.specs.Computed.Edited.{AreSound, without, key_removed, key_removed_in, result_by, result_of, key_set, key_set_in, set_at, set_key_result, remove_key_result, last_place}
+use Rattle.properties_format.specs.Edited.{bom_of, pair_bytes, separation, added_ending, is_editable, edited, IsKeySet, IsKeyRemoved, IsSetKeyResult, IsRemoveKeyResult}
+use Rattle.properties_format.specs.Computed.Body.{held_groups_of}
+use Rattle.properties_format.specs.Computed.Edited.{without, key_removed, key_removed_in, key_set, key_set_in, set_at, last_place}
+use Rattle.properties_editing.specs.Private.Sound.{AreSound, AreSoundFor, IsResult, Returns, result_for, result_from}
+use Rattle.properties_editing.specs.declared.edit.source.Comments.{Comments}
+use Rattle.properties_editing.specs.declared.edit.source.Comments.TheVariants.{Read}
+use Rattle.properties_editing.proofs.Comments.{from-sound, result-groups, result_for-meets}
 use Rattle.properties_format.proofs.Body.Groups.{held_groups_of-meets, held-body}
-use Rattle.properties_format.proofs.Body.Numbers.{items_of-groups}
 use Rattle.properties_format.proofs.Edited.ByteOrderMarks.{key_removed-in_force, key_set-in_force, source-whole}
-use Rattle.properties_format.proofs.Edited.Results.{set_key_result-meets, set_key_result-only, remove_key_result-meets, remove_key_result-only}
-use Rattle.properties_format.proofs.Edited.Steps.{result-after}
+use Rattle.properties_format.proofs.Edited.Results.{set_key_result-only, remove_key_result-only}
+use Rattle.properties_format.proofs.Edited.Made.{key_set-meets, key_removed-meets}
 use Rattle.properties_format.proofs.Changed.Read.{set_key-reads, remove_key-reads}
 use Rattle.properties_format.proofs.Edits.InAscii.{set_key-in_ascii}
 use Rattle.properties_format.specs.Edits.{AreScalarEdits}
 use Rattle.properties_items.proofs.Scalars.{string-scalars}
 use Rattle.properties_editing.specs.declared.edit.Edit as edit
 use Rattle.properties_editing.specs.declared.edit.Edit.TheVariants as variant
-use Rattle.properties_editing.specs.Editing.{edit_in, edits_in, IsRefusal, IsSet, IsRemoved}
+use Rattle.properties_editing.specs.Editing.{edit_in, edits_in, IsRefusal, IsSet, IsRemoved, MakesSet, RemovesKey}
 use Rattle.properties_format.proofs.Changed.Occur.{key_set-keeps, key_removed-keeps}
 use Rattle.properties_format.proofs.Edited.Pair.{editable-own}
 use Rattle.properties_text.specs.Encoding.{encoding_of}
@@ -73,19 +74,20 @@ again {e} {old} {opened} new body h whole is =
       within = omega arith;
     }
 
--- what is read of a source is what its groups say
-groups-of : {source : List ℕ} {e : Encoding} {opened : BodyStart} (made : List ℕ) → IsInForce source e opened → is_editable (encoding_of opened.encoding) ≡ true
-    → result_of e source made ≡ result_by (entries_in 1 (held_groups_of (encoding_of opened.encoding) (drop opened.start source))) made
-groups-of {source} {e} {opened} made h ok =
-    cond-true (is_editable (byte_order_mark e source).encoding) (result_by (items_of e source end) made) unsupported (editable h ok)
-    ∙ ap (λ v. result_by v made) (items_of-groups e source ∙ ap (λ v. let w : InForce = v in entries_in 1 (held_groups_of w.encoding w.body)) h.in_force)
+-- what the result of a source is, is what its groups say
+groups-of : (comments : Comments) {source : List ℕ} {e : Encoding} {opened : BodyStart} (made : List ℕ) → IsInForce source e opened → is_editable (encoding_of opened.encoding) ≡ true
+    → result_for comments e source made ≡ result_from comments 1 (held_groups_of (encoding_of opened.encoding) (drop opened.start source)) made
+groups-of comments {source} {e} {opened} made h ok =
+    result-groups comments e source made (editable h ok)
+    ∙ ap (λ v. let w : InForce = v in result_from comments 1 (held_groups_of w.encoding w.body) made) h.in_force
 
--- where none of them is malformed it has the result that is made
-pub result-made : {source : List ℕ} {e : Encoding} {opened : BodyStart} (made : List ℕ) → IsInForce source e opened → is_editable (encoding_of opened.encoding) ≡ true
-    → AreSound (held_groups_of (encoding_of opened.encoding) (drop opened.start source)) → result_of e source made ≡ edited made
-result-made {source} {e} {opened} made h ok sound =
+-- Bytes that an edit makes are its result if the groups are sound.
+pub made-result : (comments : Comments) {source : List ℕ} {e : Encoding} {opened : BodyStart} (Makes : List ℕ → Type 0) (made : List ℕ) → IsInForce source e opened
+    → is_editable (encoding_of opened.encoding) ≡ true → AreSoundFor comments (held_groups_of (encoding_of opened.encoding) (drop opened.start source)) → Makes made
+    → IsResult comments e source Makes (edited made)
+made-result comments {source} {e} {opened} Makes made h ok sound makes =
     let gs = held_groups_of (encoding_of opened.encoding) (drop opened.start source) in
-    groups-of made h ok ∙ ap (λ v. result_by (entries_in 1 v) made) (sym (append-nil gs)) ∙ result-after 1 gs [] made sound
+    subst (IsResult comments e source Makes) (groups-of comments made h ok ∙ from-sound comments gs made sound) (result_for-meets comments e source made Makes makes)
 
 -- ---- refusals
 
@@ -94,42 +96,46 @@ not-unsupported : {e : Encoding} {source : List ℕ} {opened : BodyStart} → Is
 not-unsupported h ok none = let yes = editable h ok in absurd (cc)
 
 -- The first fault of the groups is the refusal of their source, and what a `?` returns.
-pub refusal : {A : Type 0} {source : List ℕ} {e : Encoding} {opened : BodyStart} {error : PropertiesError} (result : Result A PropertiesError) (Makes : List ℕ → Type 0) (made : List ℕ)
-    → IsInForce source e opened → is_editable (encoding_of opened.encoding) ≡ true → IsEditResult e source Makes (result_of e source made)
-    → IsErrorOfGroups (held_groups_of (encoding_of opened.encoding) (take (length source - opened.start) (drop opened.start source))) error
-    → IsErrAnd result (λ x. x ≡ error) → (x : PropertiesError) × (result ≡ Err x) × IsRefusal (IsEditResult e source Makes) x
-refusal {source = source} {e} {opened} result Makes made h ok meets fault returned =
+pub refusal : {A : Type 0} (comments : Comments) {source : List ℕ} {e : Encoding} {opened : BodyStart} {error : PropertiesError} (result : Result A PropertiesError) (Makes : List ℕ → Type 0) (made : List ℕ)
+    → IsInForce source e opened → is_editable (encoding_of opened.encoding) ≡ true → Makes made
+    → IsErrorOfGroups comments (held_groups_of (encoding_of opened.encoding) (take (length source - opened.start) (drop opened.start source))) error
+    → IsErrAnd result (λ x. x ≡ error) → (x : PropertiesError) × (result ≡ Err x) × IsRefusal (IsResult comments e source Makes) x
+refusal comments {source} {e} {opened} result Makes made h ok makes fault returned =
     let r = err_from_is_err_and result returned in
-    (r.0, r.1, subst (IsRefusal (IsEditResult e source Makes)) (sym r.2) (by (rw (take_rest source opened.start) at fault)))
+    (r.0, r.1, subst (IsRefusal (IsResult comments e source Makes)) (sym r.2) (by (rw (take_rest source opened.start) at fault)))
   where
-    by : {error : PropertiesError} → IsErrorOfGroups (held_groups_of (encoding_of opened.encoding) (drop opened.start source)) error → IsRefusal (IsEditResult e source Makes) error
-    by (inl (how, n, first, is)) = inr (inl (how, n, subst (IsEditResult e source Makes) (groups-of made h ok ∙ first made) meets, is))
+    by : {error : PropertiesError} → IsErrorOfGroups comments (held_groups_of (encoding_of opened.encoding) (drop opened.start source)) error → IsRefusal (IsResult comments e source Makes) error
+    by (inl (how, n, first, is)) =
+        inr (inl (how, n, subst (IsResult comments e source Makes) (groups-of comments made h ok ∙ first made) (result_for-meets comments e source made Makes makes), is))
     by (inr is) = inr (inr ((λ none. not-unsupported h ok none), is))
 
 -- ---- a key is set
 
-pub set-edits : {e : Encoding} {only : Bool} {source key value bytes : List ℕ} → All scalar key → All scalar value → set_key_result e only source key value ≡ edited bytes
+-- What the result is, how it reads, and what it keeps.
+pub set-edits : {e : Encoding} {only : Bool} {source key value bytes : List ℕ} → All scalar key → All scalar value → IsSetKeyResult e only source key value (edited bytes)
     → IsSet e only source key value bytes
-set-edits {e} {only} {source} {key} {value} {bytes} k v is =
-    let meets = subst (IsSetKeyResult e only source key value) is (set_key_result-meets e only source key value) in
-    record {
-      edit = record {
-        result = meets;
-        only = λ other h. set_key_result-only e only source key value other h ∙ is;
-        reads = set_key-reads e only source key value bytes k v meets;
-      };
-      keeps = key_set-keeps e only source key value bytes meets.2;
-      ascii = λ on. set_key-in_ascii e source key value bytes (subst (λ b. IsSetKeyResult e b source key value (edited bytes)) on meets);
-    }
+set-edits {e} {only} {source} {key} {value} {bytes} k v meets = record {
+  edit = record {
+    result = meets;
+    only = λ other h. set_key_result-only e only source key value other h ∙ sym (set_key_result-only e only source key value (edited bytes) meets);
+    reads = set_key-reads e only source key value bytes k v meets;
+  };
+  keeps = key_set-keeps e only source key value bytes meets.2;
+  ascii = λ on. set_key-in_ascii e source key value bytes (subst (λ b. IsSetKeyResult e b source key value (edited bytes)) on meets);
+}
+
+pub returns-set : (e : Encoding) (only : Bool) (source key value : List ℕ) → All scalar key → All scalar value → (result : Result (Vec ℕ) PropertiesError)
+    → Returns Read e source (IsKeySet e only source key value) result → MakesSet e only source key value result
+returns-set e only source key value k v (Ok bytes) h = set-edits k v h
+returns-set e only source key value k v (Err error) h = h
 
 -- So it is of the source and its index.
 pub set-kept : {e : Encoding} {opened : BodyStart} {old key value new : List ℕ} {index : Index} → IsInForce old e opened → is_editable (encoding_of opened.encoding) ≡ true
-    → IsSet e opened.ascii_only old key value new
+    → IsKeySet e opened.ascii_only old key value new
     → AreSound (held_groups_of (encoding_of opened.encoding) (drop opened.start new)) × IsIndex (held_groups_of (encoding_of opened.encoding) (drop opened.start new)) index
-    → IsKept (IsSet e opened.ascii_only old key value new) e opened new index
-set-kept {e} {opened} {old} {key} {value} {new} h ok s kept =
-    let k = s.edit.result.2 in
-    record { meant = s; in_force = again new k.body h k.whole (key_set-in_force e opened.ascii_only old key value new (editable h ok) k); sound = kept.0; is_index = kept.1 }
+    → IsKept (IsKeySet e opened.ascii_only old key value new) e opened new index
+set-kept {e} {opened} {old} {key} {value} {new} h ok k kept =
+    record { meant = k; in_force = again new k.body h k.whole (key_set-in_force e opened.ascii_only old key value new (editable h ok) k); sound = kept.0; is_index = kept.1 }
 
 -- ---- the printed pair
 
@@ -179,12 +185,12 @@ place-split e body key pair ok k = part-at e body k.place.before k.place.group k
 start-first : (body : List ℕ) (start : ℕ) → start ≤ length body → (start == 0) ≡ is_empty (take start body)
 start-first body start h = ap (λ n. n == 0) (sym (length-take-le start body h)) ∙ no-bytes (take start body)
 
--- The source with the pair replaced is its result.
+-- The source with the pair replaced has the key set.
 pub replaced-result : {source : List ℕ} {e : Encoding} {opened : BodyStart} {found : PairPlaces} (key value bytes : List ℕ) (pair : BodySpan) → IsInForce source e opened
     → is_editable (encoding_of opened.encoding) ≡ true → IsKeyFound (encoding_of opened.encoding) (drop opened.start source) key found → found.pair ≡ Some pair
     → bytes ≡ take (opened.start + pair.start) source
     ++ (pair_bytes (output_encoding (encoding_of opened.encoding)) opened.ascii_only (pair.start == 0) key value ++ drop (opened.start + pair.end) source)
-    → set_key_result e opened.ascii_only source key value ≡ edited bytes
+    → IsKeySet e opened.ascii_only source key value bytes
 replaced-result {source} {e} {opened} {found} key value bytes pair h ok k is made =
     let f = encoding_of opened.encoding in
     let body = drop opened.start source in
@@ -204,16 +210,16 @@ replaced-result {source} {e} {opened} {found} key value bytes pair h ok k is mad
     ∙ ap (λ v. bom_of source ++ set_at f opened.ascii_only source gs key value v) place.is
     ∙ sym (append_assoc (bom_of source) before (pair_bytes f opened.ascii_only (is_empty before) key value ++ (ending_bytes (last_ending place.place.group) ++ groups_bytes place.place.after)))
     ∙ sym (made ∙ ap₂ (λ v w. v ++ w) front (ap₂ (λ v w. v ++ w) printed back)) in
-    ap (result_of e source) set ∙ result-made bytes h ok k.sound
+    subst (IsKeySet e opened.ascii_only source key value) set (key_set-meets e opened.ascii_only source key value)
 
 -- ---- a pair is appended
 
--- The source with the pair at its end is its result.
+-- The source with the pair at its end has the key set.
 pub appended-result : {source : List ℕ} {e : Encoding} {opened : BodyStart} {found : PairPlaces} (key value bytes : List ℕ) → IsInForce source e opened
     → is_editable (encoding_of opened.encoding) ≡ true → IsKeyFound (encoding_of opened.encoding) (drop opened.start source) key found → found.pair ≡ None
     → let separation = closing_bytes (added_ending source) found.closing in
     bytes ≡ source ++ (separation ++ (pair_bytes (output_encoding (encoding_of opened.encoding)) opened.ascii_only (is_empty (drop opened.start source ++ separation)) key value ++ line_feed ∷ []))
-    → set_key_result e opened.ascii_only source key value ≡ edited bytes
+    → IsKeySet e opened.ascii_only source key value bytes
 appended-result {source} {e} {opened} {found} key value bytes h ok k none made =
     let f = encoding_of opened.encoding in
     let body = drop opened.start source in
@@ -232,7 +238,7 @@ appended-result {source} {e} {opened} {found} key value bytes h ok k none made =
     ∙ sym (append_assoc (bom_of source) body (by ++ pair))
     ∙ ap (λ v. v ++ (by ++ pair)) (sym whole)
     ∙ sym (made ∙ ap (λ v. source ++ (by ++ (pair_bytes v opened.ascii_only (is_empty (body ++ by)) key value ++ line_feed ∷ []))) (editable-own f ok)) in
-    ap (result_of e source) set ∙ result-made bytes h ok k.sound
+    subst (IsKeySet e opened.ascii_only source key value) set (key_set-meets e opened.ascii_only source key value)
 
 -- ---- the law of the source
 
@@ -266,45 +272,46 @@ unmarked {source} {e} {opened} h =
 
 -- ---- a key is removed
 
-pub removed-edits : {e : Encoding} {source key bytes : List ℕ} → remove_key_result e source key ≡ edited bytes → IsRemoved e source key bytes
-removed-edits {e} {source} {key} {bytes} is =
-    let meets = subst (IsRemoveKeyResult e source key) is (remove_key_result-meets e source key) in
-    record {
-      edit = record {
-        result = meets;
-        only = λ other h. remove_key_result-only e source key other h ∙ is;
-        reads = remove_key-reads e source key bytes meets;
-      };
-      keeps = key_removed-keeps e source key bytes meets.2;
-    }
+pub removed-edits : {e : Encoding} {source key bytes : List ℕ} → IsRemoveKeyResult e source key (edited bytes) → IsRemoved e source key bytes
+removed-edits {e} {source} {key} {bytes} meets = record {
+  edit = record {
+    result = meets;
+    only = λ other h. remove_key_result-only e source key other h ∙ sym (remove_key_result-only e source key (edited bytes) meets);
+    reads = remove_key-reads e source key bytes meets;
+  };
+  keeps = key_removed-keeps e source key bytes meets.2;
+}
+
+pub returns-removed : (e : Encoding) (source key : List ℕ) (result : Result (Vec ℕ) PropertiesError) → Returns Read e source (IsKeyRemoved e source key) result
+    → RemovesKey e source key result
+returns-removed e source key (Ok bytes) h = removed-edits h
+returns-removed e source key (Err error) h = h
 
 pub removed-kept : {e : Encoding} {opened : BodyStart} {old key new : List ℕ} {index : Index} → IsInForce old e opened → is_editable (encoding_of opened.encoding) ≡ true
-    → IsRemoved e old key new
+    → IsKeyRemoved e old key new
     → AreSound (held_groups_of (encoding_of opened.encoding) (drop opened.start new)) × IsIndex (held_groups_of (encoding_of opened.encoding) (drop opened.start new)) index
-    → IsKept (IsRemoved e old key new) e opened new index
-removed-kept {e} {opened} {old} {key} {new} h ok s kept =
-    let k = s.edit.result.2 in
-    record { meant = s; in_force = again new _ h k.whole (key_removed-in_force e old key new (editable h ok) k); sound = kept.0; is_index = kept.1 }
+    → IsKept (IsKeyRemoved e old key new) e opened new index
+removed-kept {e} {opened} {old} {key} {new} h ok k kept =
+    record { meant = k; in_force = again new _ h k.whole (key_removed-in_force e old key new (editable h ok) k); sound = kept.0; is_index = kept.1 }
 
--- The source with what is left of its body is its result.
+-- The source with what is left of its body has the key removed.
 pub removed-bytes : {source : List ℕ} {e : Encoding} {opened : BodyStart} (key bytes : List ℕ) → IsInForce source e opened
-    → is_editable (encoding_of opened.encoding) ≡ true → AreSound (held_groups_of (encoding_of opened.encoding) (drop opened.start source))
     → (let rest = without key (held_groups_of (encoding_of opened.encoding) (drop opened.start source)) in
     bytes ≡ take opened.start source ++ ((if opened.start == 0 && begins_like_bom rest then line_feed ∷ [] else []) ++ rest))
-    → remove_key_result e source key ≡ edited bytes
-removed-bytes {source} {e} {opened} key bytes h ok sound made =
+    → IsKeyRemoved e source key bytes
+removed-bytes {source} {e} {opened} key bytes h made =
     let rest = without key (held_groups_of (encoding_of opened.encoding) (drop opened.start source)) in
     let set : key_removed e source key ≡ bytes =
     ap (λ v. key_removed_in v source key) h.in_force
     ∙ sym (made ∙ ap₂ (λ v b. v ++ ((if b && begins_like_bom rest then line_feed ∷ [] else []) ++ rest)) (sym (bom-front h)) (unmarked h)) in
-    ap (result_of e source) set ∙ result-made bytes h ok sound
+    subst (IsKeyRemoved e source key) set (key_removed-meets e source key)
 
--- The source with the parts that are left is its result.
+-- The source with the parts that are left has the key removed.
 pub removed-result : {source : List ℕ} {e : Encoding} {opened : BodyStart} (key bytes : List ℕ) (others : List BodySpan) → IsInForce source e opened
-    → is_editable (encoding_of opened.encoding) ≡ true → AreOthersFound (encoding_of opened.encoding) (drop opened.start source) key others
-    → bytes ≡ left_bytes source opened.start others → remove_key_result e source key ≡ edited bytes
-removed-result {source} {e} {opened} key bytes others h ok k made =
-    removed-bytes key bytes h ok k.sound
+    → AreOthersFound (encoding_of opened.encoding) (drop opened.start source) key others
+    → bytes ≡ left_bytes source opened.start others → IsKeyRemoved e source key bytes
+removed-result {source} {e} {opened} key bytes others h k made =
+    removed-bytes key bytes h
     (made ∙ ap (λ v. take opened.start source ++ ((if opened.start == 0 && begins_like_bom v then line_feed ∷ [] else []) ++ v)) k.bytes)
 
 -- ---- edits in turn

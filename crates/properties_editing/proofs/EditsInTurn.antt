@@ -1,30 +1,33 @@
 -- Edits made one after another, each to the bytes that the one before it gave.
-use Rattle.std.proofs.Common.{◌≡◌, ℕ, Bool, List, [], ◌∷◌, ◌++◌, refl, sym, ◌∙◌, subst, inl, inr}
-use Rattle.std.specs.Prelude.{◌↔◌, Result, Ok, Err}
+use Rattle.std.proofs.Common.{◌≡◌, ℕ, Bool, List, [], ◌∷◌, ◌++◌, refl, sym, ◌∙◌, subst}
+use Rattle.std.specs.Prelude.{Result, Ok, Err}
 use Rattle.std.specs.Global.{Vec}
 use Rattle.properties_format.specs.Encoding.{Encoding}
-use Rattle.properties_format.specs.Edited.{EditResult, edited, unsupported, unreadable, IsEditResult}
-use Rattle.properties_format.specs.Edits.{Edit, put, remove, set_value, IsEdited, AreEdited, AreScalarEdits, IsEditAllResult}
-use Rattle.properties_format.specs.Computed.Edits.{edit_all_result}
-use Rattle.properties_format.proofs.Edits.Results.{edit_all_result-meets, edit_all_result-only}
+use Rattle.properties_format.specs.Edited.{edited}
+use Rattle.properties_format.specs.Edits.{Edit, IsEdited, AreEdited, AreScalarEdits, IsEditAllResult}
+use Rattle.properties_format.specs.EditedPairs.{IsEditPairsResult}
+use Rattle.properties_format.specs.LogicalLines.{AreLinesEditedInTurn}
+use Rattle.properties_format.proofs.Edits.Results.{edit_all_result-only}
 use Rattle.properties_format.proofs.Edits.Contents.{edit_all-reads}
-use Rattle.properties_format.proofs.Edits.InAscii.{edit_all-in_ascii}
-use Rattle.properties_format.proofs.Edits.Kept.{edit_all-kept}
-use Rattle.properties_format.proofs.EditLaws.{one_edit-call}
+use Rattle.properties_format.proofs.Edits.Escapes.{edits-in_comments}
+use Rattle.properties_format.proofs.Edits.InAscii.{edit_all-in_ascii, edit_pairs-in_ascii}
+use Rattle.properties_format.proofs.Edits.Kept.{edit_all-kept, edits-kept}
+use Rattle.properties_format.proofs.Edits.Lines.{edits-lines, logical_lines_of, logical_lines_of-only}
+use Rattle.properties_format.proofs.Edits.PairResults.{edit_pairs_result-only}
+use Rattle.properties_format.proofs.Edits.PairValues.{edit_pairs-reads, edit_pairs-map}
 use Rattle.properties_items.specs.declared.error.PropertiesError.{PropertiesError}
-use Rattle.properties_editing.specs.Editing.{AreMade, IsRefusal, MakesEdits, MakesSet, MakesValueSet, RemovesKey}
+use Rattle.properties_editing.specs.Editing.{AreMade, ArePairsMade, EditsPairs, MakesEdits}
+use Rattle.properties_editing.specs.Private.Sound.{Returns}
+use Rattle.properties_editing.specs.declared.edit.source.Comments.{Comments}
+use Rattle.properties_editing.specs.declared.edit.source.Comments.TheVariants.{Read, PassedOver}
 
 -- One more edit is made.
-edited-more : (e : Encoding) (only : Bool) (source : List ℕ) (edits : List Edit) (edit : Edit) (middle result : List ℕ) → AreEdited e only source edits middle → IsEdited e only middle edit result
+pub edited-more : (e : Encoding) (only : Bool) (source : List ℕ) (edits : List Edit) (edit : Edit) (middle result : List ℕ) → AreEdited e only source edits middle → IsEdited e only middle edit result
     → AreEdited e only source (edits ++ edit ∷ []) result
 edited-more e only source [] edit middle result h k = (result, subst (λ v. IsEdited e only v edit result) h k, refl)
 edited-more e only source (d ∷ edits) edit middle result (next, m, h) k = (next, m, edited-more e only next edits edit middle result h k)
 
--- So it is of results.
-pub result-more : {e : Encoding} (only : Bool) {source middle : List ℕ} (edits : List Edit) (edit : Edit) (result : List ℕ) → IsEditAllResult e only source edits (edited middle)
-    → IsEditResult e middle (IsEdited e only middle edit) (edited result)
-    → IsEditAllResult e only source (edits ++ edit ∷ []) (edited result)
-result-more {e} only {source} {middle} edits edit result h k = (h.0, h.1, edited-more e only source edits edit middle result h.2 k.2)
+-- ---- a list of edits
 
 -- The result is the only one, and it reads as the source after the edits.
 pub result-made : {e : Encoding} {only : Bool} {source bytes : List ℕ} (edits : List Edit) → AreScalarEdits edits → IsEditAllResult e only source edits (edited bytes) → AreMade e only source edits bytes
@@ -38,33 +41,37 @@ result-made {e} {only} {source} {bytes} edits scalar h = record {
   ascii = λ on. edit_all-in_ascii e source edits bytes (subst (λ b. IsEditAllResult e b source edits (edited bytes)) on h);
 }
 
--- So it is of what is computed.
-pub made-edits : {e : Encoding} {only : Bool} {source bytes : List ℕ} (edits : List Edit) → AreScalarEdits edits → edit_all_result e only source edits ≡ edited bytes
-    → AreMade e only source edits bytes
-made-edits {e} {only} {source} edits scalar is = result-made edits scalar (subst (IsEditAllResult e only source edits) is (edit_all_result-meets e only source edits))
+pub returns-all : (e : Encoding) (only : Bool) (source : List ℕ) (edits : List Edit) → AreScalarEdits edits
+    → (result : Result (Vec ℕ) PropertiesError) → Returns Read e source (AreEdited e only source edits) result → MakesEdits e only source edits result
+returns-all e only source edits scalar (Ok bytes) h = result-made edits scalar h
+returns-all e only source edits scalar (Err error) h = h
+
+-- The same of edits that ask nothing of comments.
+pairs-made : {e : Encoding} {only : Bool} {source bytes : List ℕ} (edits : List Edit) → AreScalarEdits edits → IsEditPairsResult e only source edits (edited bytes)
+    → ArePairsMade e only source edits bytes
+pairs-made {e} {only} {source} {bytes} edits scalar h = record {
+  result = h;
+  only_one = λ other k. edit_pairs_result-only e only source edits other k ∙ sym (edit_pairs_result-only e only source edits (edited bytes) h);
+  reads = edit_pairs-reads e only source edits bytes scalar h;
+  lines = λ old new o n.
+      subst (λ v. AreLinesEditedInTurn edits v new) (sym (logical_lines_of-only e source old o))
+      (subst (AreLinesEditedInTurn edits (logical_lines_of e source)) (sym (logical_lines_of-only e bytes new n))
+      (edits-lines e only source edits bytes h.0 scalar h.2));
+  mapped = edit_pairs-map e only source edits bytes scalar h;
+  in_comments = edits-in_comments e only source edits bytes scalar h;
+  keeps = edits-kept e only source edits bytes h.0 h.2;
+  ascii = λ on. edit_pairs-in_ascii e source edits bytes (subst (λ b. IsEditPairsResult e b source edits (edited bytes)) on h);
+}
+
+pub returns-pairs : (e : Encoding) (only : Bool) (source : List ℕ) (edits : List Edit) → AreScalarEdits edits
+    → (result : Result (Vec ℕ) PropertiesError) → Returns PassedOver e source (AreEdited e only source edits) result → EditsPairs e only source edits result
+returns-pairs e only source edits scalar (Ok bytes) h = pairs-made edits scalar h
+returns-pairs e only source edits scalar (Err error) h = h
 
 -- ---- one edit
 
--- What is refused is refused by any definition that has the same results.
-refusal-same : {Is Other : EditResult → Type 0} → ((result : EditResult) → Is result ↔ Other result) → (error : PropertiesError) → IsRefusal Other error → IsRefusal Is error
-refusal-same same error (inl u) = inl ((same unsupported).1 u.0, u.1)
-refusal-same same error (inr (inl w)) = inr (inl (w.0, w.1, (same (unreadable w.0 w.1)).1 w.2, w.3))
-refusal-same same error (inr (inr m)) = inr (inr ((λ h. m.0 ((same unsupported).0 h)), m.1))
-
 -- What a call for one edit returns is what a list of that edit does.
-pub set-once : (e : Encoding) (only : Bool) (source key value : List ℕ) → AreScalarEdits (put key value ∷ [])
-    → (result : Result (Vec ℕ) PropertiesError) → MakesSet e only source key value result → MakesEdits e only source (put key value ∷ []) result
-set-once e only source key value scalar (Ok bytes) h =
-    result-made (put key value ∷ []) scalar ((one_edit-call e only source (put key value) (edited bytes.items)).1 h.edit.result)
-set-once e only source key value scalar (Err error) h = refusal-same (one_edit-call e only source (put key value)) error h
-
-pub value-once : (e : Encoding) (only : Bool) (source key value : List ℕ) → AreScalarEdits (set_value key value ∷ [])
-    → (result : Result (Vec ℕ) PropertiesError) → MakesValueSet e only source key value result → MakesEdits e only source (set_value key value ∷ []) result
-value-once e only source key value scalar (Ok bytes) h =
-    result-made (set_value key value ∷ []) scalar ((one_edit-call e only source (set_value key value) (edited bytes.items)).1 h.edit.result)
-value-once e only source key value scalar (Err error) h = refusal-same (one_edit-call e only source (set_value key value)) error h
-
-pub removed-once : (e : Encoding) (only : Bool) (source key : List ℕ) (result : Result (Vec ℕ) PropertiesError) → RemovesKey e source key result
-    → MakesEdits e only source (remove key ∷ []) result
-removed-once e only source key (Ok bytes) h = result-made (remove key ∷ []) (tt, tt) ((one_edit-call e only source (remove key) (edited bytes.items)).1 h.edit.result)
-removed-once e only source key (Err error) h = refusal-same (one_edit-call e only source (remove key)) error h
+pub returns-once : (comments : Comments) (e : Encoding) (only : Bool) (source : List ℕ) (edit : Edit) (result : Result (Vec ℕ) PropertiesError)
+    → Returns comments e source (IsEdited e only source edit) result → Returns comments e source (AreEdited e only source (edit ∷ [])) result
+returns-once comments e only source edit (Ok bytes) h = (h.0, h.1, (bytes.items, h.2, refl))
+returns-once comments e only source edit (Err error) h = h

@@ -1,7 +1,7 @@
 -- The index of a body to which a pair with a new key was added.
 use Rattle.std.proofs.Common.{◌≡◌, ◌≢◌, ◌<◌, ◌≤◌, ℕ, ◌+◌, Bool, true, false, List, [], ◌∷◌, ◌++◌, None, All, take, drop, ◌-◌, ◌^◌, length, length-drop, refl, ap, ap₂, sym, ◌∙◌, inl, inr, append_assoc, length-append, subst, arith}
 use Rattle.std.specs.Prelude.{Result, Ok, Err, if◌then◌else◌}
-use Rattle.properties_format.specs.Text.{LineEnding, lf, cr, scalar, line_ending_text}
+use Rattle.properties_format.specs.Text.{LineEnding, lf, cr, scalar, line_ending_text, is_empty}
 use Rattle.properties_format.specs.Encoding.{Encoding, output_encoding}
 use Rattle.properties_format.specs.Lines.{HoldsNoLineEnd}
 use Rattle.properties_format.specs.Computed.Lines.{ends_in_cr}
@@ -10,16 +10,16 @@ use Rattle.properties_format.specs.Groups.{IsWhole, joined}
 use Rattle.properties_format.specs.Entries.{pair}
 use Rattle.properties_format.specs.Items.{given}
 use Rattle.properties_format.specs.Body.{groups_bytes}
-use Rattle.properties_format.specs.Edited.{is_editable, final_group, is_empty_line, is_left_open, pair_bytes}
-use Rattle.properties_format.specs.Valued.{separation_by}
+use Rattle.properties_format.specs.Edited.{is_editable, final_group, is_empty_line, is_left_open, IsKeySet, pair_bytes}
+use Rattle.properties_format.specs.Valued.{IsValueSet, separation_by}
 use Rattle.properties_format.specs.Computed.Items.{outcome_of}
 use Rattle.properties_format.specs.Computed.Body.{held_groups_of}
-use Rattle.properties_format.specs.Computed.Edited.{AreSound}
+use Rattle.properties_editing.specs.Private.Sound.{AreSound}
 use Rattle.properties_format.specs.Computed.Valued.{last_between, separator_by}
 use Rattle.properties_format.proofs.Body.Groups.{held-body, held_groups_of-meets}
 use Rattle.properties_format.proofs.Edited.AppendedPair.{appended_groups, appended-held}
 use Rattle.properties_format.proofs.Edited.Closed.{IsSeam, closed-by, opened_by, put-seam, value-seam}
-use Rattle.properties_format.proofs.Edited.Contents.{ends-right}
+use Rattle.properties_format.proofs.Edited.LogicalLines.{ends-right}
 use Rattle.properties_format.proofs.Edited.Pair.{pair_text, pair-decoded, pair-whole, pair-outcome, pair-plain, editable-own}
 use Rattle.properties_format.proofs.Edited.Steps.{final_group-push}
 use Rattle.properties_format.proofs.Items.Unique.{outcome_of-only}
@@ -29,7 +29,6 @@ use Rattle.properties_format.proofs.Valued.Made.{new_separator-meets}
 use Rattle.properties_format.proofs.Valued.Separators.{new_separator-fit, added-pair, added_bytes}
 use Rattle.std.proofs.Math.Seq.{drop-append_seam}
 use Rattle.std.proofs.lemmas.List.{length-take-le, take-append-drop}
-use Rattle.properties_format.specs.Writing.{is_empty}
 use Rattle.properties_text.specs.Encoding.{encoding_of}
 use Rattle.properties_editing.specs.Private.BodyIndex.{AppendsPair, Changes, GrowsIndex, IsIndex, IsKept, IsPairAppended, last_span, opened_bytes, stored_at}
 use Rattle.properties_editing.specs.Private.BodyKeys.{IsKeyFound, IsPlace, closing_bytes, closing_of}
@@ -39,10 +38,9 @@ use Rattle.properties_items.specs.LineEndings.{ending_of}
 use Rattle.properties_editing.specs.declared.edit.append.Layout.{Layout}
 use Rattle.properties_editing.specs.declared.edit.source.BodyStart.{BodyStart}
 use Rattle.std.proofs.lemmas.Bool.{cond-true}
-use Rattle.properties_editing.specs.Editing.{HasValueSet, IsSet}
 use Rattle.properties_editing.specs.Private.Sources.{IsInForce}
-use Rattle.properties_editing.proofs.Editing.{appended-result, set-edits, set-kept}
-use Rattle.properties_editing.proofs.SetValues.{new_pair-result, value-edits, value-kept}
+use Rattle.properties_editing.proofs.Editing.{appended-result, set-kept}
+use Rattle.properties_editing.proofs.SetValues.{new_pair-result, value-kept}
 use Rattle.properties_editing.specs.declared.edit.index.Index.{Index}
 use Rattle.properties_editing.specs.declared.edit.find.Closing.{Closing}
 use Rattle.properties_editing.specs.declared.edit.find.Closing.TheVariants as closing
@@ -161,12 +159,11 @@ drop-front n x y h =
     ∙ drop-append_seam (take n x) (drop n x ++ y)
 
 -- What the index says of a key that isn't stored.
-pub found-none : (e : Encoding) (body key : List ℕ) (index : Index) → AreSound (held_groups_of e body) → IsIndex (held_groups_of e body) index
+pub found-none : (e : Encoding) (body key : List ℕ) (index : Index) → IsIndex (held_groups_of e body) index
     → stored_at index.pairs.entries key ≡ None → IsKeyFound e body key (record { pair = None; last = None; closing = index.closing })
-found-none e body key index sound h none =
+found-none e body key index h none =
     let gs = held_groups_of e body in
     record {
-      sound = sound;
       pair = subst (IsPlace key gs) (ap (last_span index.spans.items) none) (found-place h key);
       closing = λ ending. elim h.closing [
         | inl empty ↦ absurd (some-groups e body empty)
@@ -203,7 +200,7 @@ module _ (opened : BodyStart) (old new key value line : List ℕ) (was is : Inde
       → line ≡ unended_pair (output_encoding (encoding_of opened.encoding)) opened.ascii_only
       (is_empty (drop opened.start old ++ closing_bytes (line_ending_text (ending_of layout.ending)) was.closing)) key (characters layout.separator) value
       → IsPairAppended opened key value (line_ending_text (ending_of layout.ending)) line (line_ending_text (ending_of layout.ending)) old was new is
-      → (e : Encoding) → IsInForce old e opened → IsKept (HasValueSet e opened.ascii_only old key value new) e opened new is
+      → (e : Encoding) → IsInForce old e opened → IsKept (IsValueSet e opened.ascii_only old key value new) e opened new is
   pair-added layout l printed made e force =
       let gs = held_groups_of f body in
       let by = ending_of layout.ending in
@@ -213,8 +210,8 @@ module _ (opened : BodyStart) (old new key value line : List ℕ) (was is : Inde
       let line_is = printed ∙ ap₂ (λ o s. added_bytes o opened.ascii_only first key s value) (editable-own f ok) l.separates in
       let p = subst (IsPairLine f key value) (sym line_is) (value-line f opened.ascii_only first body key value by ok k v) in
       let seam = value-seam f gs (groups-lined f body gs ok (held_groups_of-meets f body)) by (l.ends f gs ok (held_groups_of-meets f body)) in
-      let set = value-edits k v
-      (new_pair-result key value new layout force ok (found-none f body key was sound h none) refl l
+      let set =
+      (new_pair-result key value new layout force ok (found-none f body key was h none) refl l
       (made.bytes ∙ ap (λ w. old ++ (separation ++ (w ++ ending))) printed
       ∙ ap (λ c. old
       ++ (closing_bytes ending c
@@ -225,7 +222,7 @@ module _ (opened : BodyStart) (old new key value line : List ℕ) (was is : Inde
   pub key-added : (by : LineEnding) → by ≡ (if ends_in_cr old then cr else lf)
       → line ≡ pair_bytes (output_encoding (encoding_of opened.encoding)) opened.ascii_only (is_empty (drop opened.start old ++ closing_bytes (line_ending_text by) was.closing)) key value
       → IsPairAppended opened key value (line_ending_text by) line (line_ending_text lf) old was new is
-      → (e : Encoding) → IsInForce old e opened → IsKept (IsSet e opened.ascii_only old key value new) e opened new is
+      → (e : Encoding) → IsInForce old e opened → IsKept (IsKeySet e opened.ascii_only old key value new) e opened new is
   key-added by ends printed made e force =
       let gs = held_groups_of f body in
       let ending = line_ending_text by in
@@ -238,8 +235,8 @@ module _ (opened : BodyStart) (old new key value line : List ℕ) (was is : Inde
       let whole : ends_in_cr old ≡ true =
       ap ends_in_cr (sym (take-append-drop opened.start old)) ∙ ends-right (take opened.start old) body (ap ends_in_cr (sym all) ∙ q) in
       ends ∙ cond-true (ends_in_cr old) cr lf whole) in
-      let set = set-edits k v
-      (appended-result key value new force ok (found-none f body key was sound h none) refl
+      let set =
+      (appended-result key value new force ok (found-none f body key was h none) refl
       (made.bytes ∙ ap (λ w. old ++ (separation ++ (w ++ line_ending_text lf))) printed
       ∙ ap (λ b. let s : List ℕ = closing_bytes (line_ending_text b) was.closing in
       old ++ (s ++ (pair_bytes (output_encoding f) opened.ascii_only (is_empty (body ++ s)) key value ++ line_ending_text lf))) ends)) in

@@ -13,10 +13,11 @@ use Rattle.properties_format.specs.Computed.Cut.{decoded_line}
 use Rattle.properties_format.specs.Groups.{IsWhole, joined}
 use Rattle.properties_format.specs.Entries.{pair}
 use Rattle.properties_format.specs.Items.{ignored, given}
-use Rattle.properties_format.specs.Body.{HeldLine, group_bytes, groups_bytes, ending_bytes}
+use Rattle.properties_format.specs.Body.{HeldLine, as_lines, group_bytes, groups_bytes, ending_bytes}
 use Rattle.properties_format.specs.Edited.{final_group, is_editable, is_empty_line, is_left_open}
 use Rattle.properties_format.specs.Computed.Items.{outcome_of}
-use Rattle.properties_format.specs.Computed.Edited.{IsSound, AreSound}
+use Rattle.properties_format.specs.Computed.Edited.{IsSound}
+use Rattle.properties_editing.specs.Private.Sound.{AreSound, IsSoundLine}
 use Rattle.properties_format.specs.Computed.Parts.{unended_bytes}
 use Rattle.properties_format.proofs.Edited.AppendedPair as appended
 use Rattle.properties_format.proofs.Edited.Closed.{AreClosedBy, IsLeft, opened_by}
@@ -102,7 +103,7 @@ module _ (e : Encoding) (by : LineEnding) (gs : List (List HeldLine)) (k : AreCl
             ap Some (span-is n _ n (n + length (unended_bytes is.group)) refl
             (end-moved (n + length (unended_bytes k.final)) place more (n + length (unended_bytes is.group)) (omega arith) (omega arith) fits)) in
             shift-option f (outcome_pair (outcome k.final)) (span_of n k.final) (span_of n is.group) [] [] own refl
-            ∙ ap (map Some) (sym (ap (pairs_from n) is.is ∙ pairs-first n is.group [] (outcome_pair (outcome k.final)) (ap outcome_pair is.outcome)))
+            ∙ ap (map Some) (sym (ap (pairs_from n) is.is ∙ pairs-first n is.group [] (outcome_pair (outcome k.final)) (ap outcome_pair (ap outcome_of is.line))))
       ]
 
 -- ---- closed groups are sound
@@ -115,9 +116,9 @@ sound-second : (xs ys : List (List HeldLine)) → AreSound (xs ++ ys) → AreSou
 sound-second [] ys h = h
 sound-second (x ∷ xs) ys h = sound-second xs ys h.1
 
-left-sound : (by : LineEnding) (g : List HeldLine) (left : List (List HeldLine)) → IsSound (outcome g) → IsLeft by g left → AreSound left
+left-sound : (by : LineEnding) (g : List HeldLine) (left : List (List HeldLine)) → IsSoundLine (joined (as_lines g)) → IsLeft by g left → AreSound left
 left-sound by g left s (inl gone) = subst AreSound (sym gone.0) tt
-left-sound by g left s (inr is) = subst AreSound (sym is.is) (subst IsSound (sym is.outcome) s, tt)
+left-sound by g left s (inr is) = subst AreSound (sym is.is) (subst IsSoundLine (sym is.line) s, tt)
 
 closed-sound : (e : Encoding) (by : LineEnding) (gs : List (List HeldLine)) (k : AreClosedBy e by gs) → AreSound gs → AreSound (k.before ++ k.left)
 closed-sound e by gs k sounds =
@@ -152,7 +153,7 @@ module _ (e : Encoding) (by second : LineEnding) (gs : List (List HeldLine)) (ke
   pub appended-sound : AreSound gs → AreSound groups
   appended-sound sounds =
       sound-append closed ((line ∷ []) ∷ last ∷ []) (closed-sound e by gs k sounds)
-      (subst IsSound (sym said) tt, (subst IsSound (sym empty-said) tt, tt))
+      (inl (subst IsSound (sym said) tt), (inl (subst IsSound (sym empty-said) tt), tt))
 
   -- The index with the pair is that of the groups with it.
   pub appended-index : (start more : ℕ) (old new : Index) → IsIndex gs old → more ≡ length (opened_by (line_ending_text by) k.final)

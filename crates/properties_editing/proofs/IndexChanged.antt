@@ -5,12 +5,13 @@ use Rattle.std.proofs.lemmas.Bool.{cond-true, cond-false}
 use Rattle.std.proofs.lemmas.Bool.Decides.{nat_tests}
 use Rattle.properties_format.specs.Text.{LineEnding, lf, cr, crlf, line_ending_text}
 use Rattle.properties_format.specs.Encoding.{Encoding}
-use Rattle.properties_format.specs.Groups.{EndsClosed, IsWhole}
+use Rattle.properties_format.specs.Groups.{EndsClosed, IsWhole, joined}
 use Rattle.properties_format.specs.Entries.{pair}
 use Rattle.properties_format.specs.Items.{given}
 use Rattle.properties_format.specs.Body.{HeldLine, NoneHasKey, as_lines, ending_bytes, group_bytes, groups_bytes, last_ending}
 use Rattle.properties_format.specs.Edited.{final_group, is_empty_line, is_last_open, is_left_open}
-use Rattle.properties_format.specs.Computed.Edited.{IsSound, AreSound}
+use Rattle.properties_format.specs.Computed.Edited.{IsSound}
+use Rattle.properties_editing.specs.Private.Sound.{AreSound, IsSoundLine}
 use Rattle.properties_format.specs.Computed.Parts.{unended_bytes}
 use Rattle.properties_format.proofs.InTurn.Lines.{ending-of}
 use Rattle.properties_format.proofs.InTurn.Merged.{AreInTurn}
@@ -80,7 +81,7 @@ last-told e before g (h ∷ after) m n start turn m_is n_is =
 
 -- ---- groups that say the same
 
-sound-changed : (before : List (List HeldLine)) (g h : List HeldLine) (after : List (List HeldLine)) → IsSound (outcome h)
+sound-changed : (before : List (List HeldLine)) (g h : List HeldLine) (after : List (List HeldLine)) → IsSoundLine (joined (as_lines h))
     → AreSound (before ++ g ∷ after)
     → AreSound (before ++ h ∷ after)
 sound-changed [] g h after s k = (s, k.1)
@@ -100,7 +101,7 @@ module _ (before : List (List HeldLine)) (g h : List HeldLine) (after : List (Li
     (new_is : new_end ≡ length (groups_bytes before) + length (unended_bytes h)) (fits : length (groups_bytes (before ++ h ∷ after)) < 2 ^ 64)
     (full : is_empty_line h ≡ false) (closed : is_left_open h ≡ false) where
   pub changed-sound : AreSound (before ++ g ∷ after) → AreSound (before ++ h ∷ after)
-  changed-sound k = sound-changed before g h after (subst IsSound (sym h_is) tt) k
+  changed-sound k = sound-changed before g h after (inl (subst IsSound (sym h_is) tt)) k
 
   closes : (rest : List (List HeldLine)) (b : Bool) (old new : Closing) → IsLastTold b rest → new ≡ (if b then OneEnding else old)
       → (before ++ g ∷ rest ≡ [])

@@ -10,21 +10,22 @@ use Rattle.properties_format.specs.Groups.{IsWhole, joined}
 use Rattle.properties_format.specs.Entries as content
 use Rattle.properties_format.specs.Items.{given}
 use Rattle.properties_format.specs.Body.{HeldLine, as_lines, groups_bytes, ending_bytes, last_ending}
-use Rattle.properties_format.specs.Edited.{bom_of, is_editable, is_empty_line, is_left_open, final_group, edited, pair_bytes}
-use Rattle.properties_format.specs.Valued.{HasPair}
+use Rattle.properties_format.specs.Edited.{bom_of, is_editable, is_empty_line, is_left_open, final_group, IsKeySet, pair_bytes}
+use Rattle.properties_format.specs.Valued.{HasPair, IsValueSet}
 use Rattle.properties_format.specs.Computed.Body.{held_groups_of}
-use Rattle.properties_format.specs.Computed.Edited.{AreSound, key_set, key_set_in, set_at}
+use Rattle.properties_format.specs.Computed.Edited.{key_set, key_set_in, set_at}
+use Rattle.properties_editing.specs.Private.Sound.{AreSound}
 use Rattle.properties_format.specs.Computed.Parts.{unended_bytes}
 use Rattle.properties_format.specs.Computed.Valued.{has_value, revalued_at, valued_at, value_set, value_set_in}
 use Rattle.properties_format.proofs.Body.Groups.{held_groups_of-meets, held-body}
 use Rattle.properties_format.proofs.Edited.Made as made
-use Rattle.properties_format.proofs.Edited.Made.{last_place-meets}
+use Rattle.properties_format.proofs.Edited.Made.{key_set-only, last_place-meets}
+use Rattle.properties_format.proofs.Valued.Made.{value_set-only}
 use Rattle.properties_format.proofs.Edited.Replaced.{reput-of}
 use Rattle.properties_format.proofs.Items.Unique.{outcome_of-only}
 use Rattle.properties_format.proofs.InTurn.Merged.{AreInTurn, in-turn}
 use Rattle.properties_text.specs.Encoding.{encoding_of}
 use Rattle.properties_editing.specs.Private.BodyIndex.{FollowsPair, IsIndex, IsKept, KeepsNothing}
-use Rattle.properties_editing.specs.Editing.{HasValueSet, IsSet}
 use Rattle.properties_editing.specs.Private.BodyKeys.{IsPlaceOf, IsKeyFound, closing_of}
 use Rattle.properties_editing.specs.Private.BodyValues.{IsPairAlone, revalued_in}
 use Rattle.properties_editing.specs.Private.Sources.{IsInForce}
@@ -33,8 +34,8 @@ use Rattle.properties_editing.specs.declared.edit.find.BodySpan.{BodySpan}
 use Rattle.properties_editing.specs.declared.edit.find.PairPlaces.{PairPlaces}
 use Rattle.properties_editing.specs.declared.edit.source.BodyStart.{BodyStart}
 use Rattle.properties_editing.proofs.BodyKeys.{separated}
-use Rattle.properties_editing.proofs.Editing.{bom-front, place-split, replaced-result, result-made, set-edits, set-kept}
-use Rattle.properties_editing.proofs.SetValues.{alone-value, value-edits, value-kept, revalued-result, found-alone}
+use Rattle.properties_editing.proofs.Editing.{bom-front, editable, place-split, replaced-result, set-kept}
+use Rattle.properties_editing.proofs.SetValues.{alone-value, value-kept, revalued-result, found-alone}
 use Rattle.properties_editing.proofs.IndexChanged.{IsLastTold, changed-index, changed-sound, last-told, whole-closed}
 use Rattle.properties_editing.proofs.IndexFound.{said-of}
 use Rattle.properties_editing.proofs.IndexRevalued.{regrouped}
@@ -46,10 +47,9 @@ use Rattle.properties_editing.proofs.IndexSpans.{size-around}
 abbrev pub found_at : List (List HeldLine) → BodySpan → PairPlaces
 found_at gs pair = record { pair = Some pair; last = None; closing = closing_of (is_empty_line (final_group gs)) (is_left_open (final_group gs)) }
 
-pub found-at : (e : Encoding) (body key : List ℕ) (pair : BodySpan) → AreSound (held_groups_of e body) → IsPlaceOf key (held_groups_of e body) pair
+pub found-at : (e : Encoding) (body key : List ℕ) (pair : BodySpan) → IsPlaceOf key (held_groups_of e body) pair
     → IsKeyFound e body key (found_at (held_groups_of e body) pair)
-found-at e body key pair sound at = record {
-  sound = sound;
+found-at e body key pair at = record {
   pair = at;
   closing = λ ending. separated ending (is_empty_line (final_group (held_groups_of e body))) (is_left_open (final_group (held_groups_of e body)));
 }
@@ -63,11 +63,10 @@ module _ (opened : BodyStart) (old : List ℕ) (ok : is_editable (encoding_of op
       let size : length (drop opened.start old) ≡ length old - opened.start = length-drop opened.start old in
       (split.ordered, omega arith)
 
-  pub pair-alone : AreSound (held_groups_of (encoding_of opened.encoding) (drop opened.start old))
-      → IsPairAlone (encoding_of opened.encoding) (take ((opened.start + pair.end) - (opened.start + pair.start)) (drop (opened.start + pair.start) old))
-  pair-alone sound =
+  pub pair-alone : IsPairAlone (encoding_of opened.encoding) (take ((opened.start + pair.end) - (opened.start + pair.start)) (drop (opened.start + pair.start) old))
+  pair-alone =
       let size : (opened.start + pair.end) - (opened.start + pair.start) ≡ pair.end - pair.start = omega arith in
-      rw size (found-alone old key opened pair ok (found-at (encoding_of opened.encoding) (drop opened.start old) key pair sound at) refl)
+      rw size (found-alone old key opened pair ok (found-at (encoding_of opened.encoding) (drop opened.start old) key pair at) refl)
 
 -- Where nothing is done, nothing changes.
 pub keeps-nothing : (groups : List (List HeldLine)) (index : Index) → IsIndex groups index → KeepsNothing index index
@@ -136,17 +135,15 @@ module _ (e : Encoding) (opened : BodyStart) (old new key value : List ℕ) (pai
       × (has_value value group ≡ false)
       × (new ≡ revalued_in (encoding_of opened.encoding) opened.ascii_only old (opened.start + pair.start) (opened.start + pair.end) value group))
       → FollowsPair key value pair.end (pair.end + length new - length old) (opened.start + pair.end == length old) was is
-      → IsKept (HasValueSet e opened.ascii_only old key value new) e opened new is
+      → IsKept (IsValueSet e opened.ascii_only old key value new) e opened new is
   revalued-index k revalues follows =
       let f = encoding_of opened.encoding in
       let body = drop opened.start old in
       let gs = held_groups_of f body in
       let p = at.place in
       let m = subst (made.IsPlace key gs) at.is (last_place-meets key gs) in
-      let result = revalued-result key value new pair h ok (found-at f body key pair sound at) refl (revalues.0, revalues.1, revalues.3) in
-      let set = value_set e opened.ascii_only old key value in
-      let same : edited set ≡ edited new = sym (result-made set h ok sound) ∙ result in
-      let set_is : set ≡ new = cc in
+      let result = revalued-result key value new pair h ok (found-at f body key pair at) refl (revalues.0, revalues.1, revalues.3) in
+      let set_is : value_set e opened.ascii_only old key value ≡ new = sym (value_set-only e opened.ascii_only old key value new (editable h ok) result) in
       let other : has_value value p.group ≡ false = sym (alone-value old key value opened pair ok at revalues.0 revalues.1) ∙ revalues.2 in
       let edited_body = revalued_at f opened.ascii_only value p in
       let whole : new ≡ bom_of old ++ edited_body =
@@ -156,7 +153,7 @@ module _ (e : Encoding) (opened : BodyStart) (old new key value : List ℕ) (pai
       ∙ ap (λ w. bom_of old ++ w) (cond-false (has_value value p.group) (groups_bytes gs) edited_body other) in
       let r = regrouped f opened.ascii_only body key value p ok v m in
       let kept = followed-index r.group edited_body whole r.is_groups r.has_pair r.ending r.full r.whole follows in
-      value-kept h ok (value-edits k v result) kept
+      value-kept h ok result kept
 
   -- The printed pair is in its place.
   pub reput-index : All scalar key
@@ -164,34 +161,32 @@ module _ (e : Encoding) (opened : BodyStart) (old new key value : List ℕ) (pai
       ++ (pair_bytes (output_encoding (encoding_of opened.encoding)) opened.ascii_only (pair.start == 0) key value
       ++ drop (opened.start + pair.end) old)
       → FollowsPair key value pair.end (pair.end + length new - length old) (opened.start + pair.end == length old) was is
-      → IsKept (IsSet e opened.ascii_only old key value new) e opened new is
+      → IsKept (IsKeySet e opened.ascii_only old key value new) e opened new is
   reput-index k bytes follows =
       let f = encoding_of opened.encoding in
       let body = drop opened.start old in
       let gs = held_groups_of f body in
       let p = at.place in
       let m = subst (made.IsPlace key gs) at.is (last_place-meets key gs) in
-      let result = replaced-result key value new pair h ok (found-at f body key pair sound at) refl bytes in
-      let set = key_set e opened.ascii_only old key value in
-      let same : edited set ≡ edited new = sym (result-made set h ok sound) ∙ result in
-      let set_is : set ≡ new = cc in
+      let result = replaced-result key value new pair h ok (found-at f body key pair at) refl bytes in
+      let set_is : key_set e opened.ascii_only old key value ≡ new = sym (key_set-only e opened.ascii_only old key value new result) in
       let edited_body = set_at f opened.ascii_only old gs key value (Some p) in
       let whole : new ≡ bom_of old ++ edited_body =
       sym set_is ∙ ap (λ w. key_set_in w opened.ascii_only old key value) h.in_force
       ∙ ap (λ w. bom_of old ++ set_at f opened.ascii_only old gs key value w) at.is in
       let r = reput-of f opened.ascii_only old body key value p.before p.group p.after ok k v m.has m.division in
       let kept = followed-index r.group edited_body whole r.is_groups r.has_pair r.ending r.full r.whole follows in
-      set-kept h ok (set-edits k v result) kept
+      set-kept h ok result kept
 
   -- The pair has the value.
   pub same-value : All scalar key
       → ((group : List HeldLine)
       × (held_groups_of (encoding_of opened.encoding) (take ((opened.start + pair.end) - (opened.start + pair.start)) (drop (opened.start + pair.start) old)) ≡ group ∷ [])
       × (has_value value group ≡ true))
-      → IsKept (HasValueSet e opened.ascii_only old key value old) e opened old was
+      → IsKept (IsValueSet e opened.ascii_only old key value old) e opened old was
   same-value k there =
       let f = encoding_of opened.encoding in
       let bytes : old ≡ revalued_in f opened.ascii_only old (opened.start + pair.start) (opened.start + pair.end) value there.0 =
       sym (cond-true (has_value value there.0) old _ there.2) in
-      let result = revalued-result key value old pair h ok (found-at f (drop opened.start old) key pair sound at) refl (there.0, there.1, bytes) in
-      value-kept h ok (value-edits k v result) (sound, index)
+      let result = revalued-result key value old pair h ok (found-at f (drop opened.start old) key pair at) refl (there.0, there.1, bytes) in
+      value-kept h ok result (sound, index)

@@ -7,7 +7,8 @@ use Rattle.properties_format.specs.Groups.{joined}
 use Rattle.properties_format.specs.Body.{HeldLine, HasKey, NoneHasKey, as_lines, groups_bytes, group_bytes}
 use Rattle.properties_format.specs.Entries as content
 use Rattle.properties_format.specs.Items.{given}
-use Rattle.properties_format.specs.Computed.Edited.{AreSound, KeyPlace, last_place}
+use Rattle.properties_format.specs.Computed.Edited.{KeyPlace, last_place}
+use Rattle.properties_editing.specs.Private.Sound.{AreSound}
 use Rattle.properties_format.proofs.Edited.Made as made
 use Rattle.properties_format.proofs.Edited.Made.{last_place-meets}
 use Rattle.properties_format.proofs.Items.Unique.{outcome_of-only}

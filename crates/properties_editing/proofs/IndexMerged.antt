@@ -13,12 +13,12 @@ use Rattle.properties_format.specs.Body.{HeldLine, group_bytes, groups_bytes}
 use Rattle.properties_format.specs.Edited.{is_editable}
 use Rattle.properties_format.specs.Computed.Body.{has_key, held_groups_of, is_pair_with}
 use Rattle.properties_format.specs.Computed.Cut.{decoded_line}
-use Rattle.properties_format.specs.Computed.Edited.{IsSound, AreSound}
+use Rattle.properties_editing.specs.Private.Sound.{AreSound, IsSoundLine}
 use Rattle.properties_format.specs.Computed.Items.{outcome_of}
 use Rattle.properties_format.specs.Computed.Parts.{unended_bytes, are_one_ending}
 use Rattle.properties_format.proofs.Body.Decoded.{decoded-nil}
 use Rattle.properties_format.proofs.Body.Groups.{held_groups_of-only}
-use Rattle.properties_format.proofs.Edited.Outcomes.{outcome-empty}
+use Rattle.properties_format.proofs.Edited.Fronts.{outcome-empty}
 use Rattle.properties_format.proofs.InTurn.Lines.{AreLinesBy, unended-some, with_ending, texts-with, unended-with}
 use Rattle.properties_format.proofs.InTurn.Merged.{AreInTurn, after-lf, merged, merged-groups, merged-one, merged-two, one-bytes, one-ending}
 use Rattle.properties_items.specs.FoundItems.{outcome_pair}
@@ -91,7 +91,7 @@ module _ (e : Encoding) where
     | inl k ↦
         let m = one-ending g h k in
         subst AreSound (sym (merged-one g h gs k))
-        (subst IsSound (sym (with-said (Some crlf) g)) s.0, merged-sound gs (after-lf e h gs r m.by_lf) s.1.1)
+        (subst IsSoundLine (sym (ap joined (texts-with (Some crlf) g))) s.0, merged-sound gs (after-lf e h gs r m.by_lf) s.1.1)
     | inr k ↦ subst AreSound (sym (merged-two g h gs k)) (s.0, merged-sound (h ∷ gs) r s.1)
   ]
 

@@ -11,7 +11,8 @@ use Rattle.std.specs.String.{string_cmp}
 use Rattle.properties_format.specs.Encoding.{Encoding}
 use Rattle.properties_format.specs.Body.{HeldLine, groups_bytes}
 use Rattle.properties_format.specs.Edited.{final_group, is_empty_line, is_left_open}
-use Rattle.properties_format.specs.Computed.Edited.{IsSound}
+use Rattle.properties_editing.specs.Private.Sound.{IsSoundFor}
+use Rattle.properties_editing.specs.declared.edit.source.Comments.{Comments}
 use Rattle.properties_format.specs.Computed.Items.{outcome_of}
 use Rattle.properties_format.specs.Computed.Parts.{unended_bytes}
 use Rattle.properties_format.proofs.Edited.Steps.{final_group-push}
@@ -62,17 +63,17 @@ kept-index groups old new h k =
 -- ---- the groups of a body
 
 -- These groups of a body were read, and the index is theirs.
-pub record HasIndexed (e : Encoding) (body : List ℕ) (reader : GroupReader) (index : Index) : Type 0 where
+pub record HasIndexed (comments : Comments) (e : Encoding) (body : List ℕ) (reader : GroupReader) (index : Index) : Type 0 where
   pub groups : List (List HeldLine)
-  pub read : HasRead e body groups reader
+  pub read : HasRead comments e body groups reader
   pub is_index : IsIndex groups index
 
-pub indexed-none : (body : List ℕ) (s : GroupReader) (index : Index) → s.scanner.at ≡ 0 → s.scanner.passed ≡ 0
+pub indexed-none : (comments : Comments) (body : List ℕ) (s : GroupReader) (index : Index) → s.scanner.at ≡ 0 → s.scanner.passed ≡ 0
     → s.scanner.is_done ≡ false → IsWithin body s
-    → index.pairs.entries ≡ [] → IsOrdered string_cmp index.pairs → index.spans.items ≡ [] → HasIndexed (encoding_of s.scanner.encoding) body s index
-indexed-none body s index at passed going w empty ordered none = record {
+    → index.pairs.entries ≡ [] → IsOrdered string_cmp index.pairs → index.spans.items ≡ [] → HasIndexed comments (encoding_of s.scanner.encoding) body s index
+indexed-none comments body s index at passed going w empty ordered none = record {
   groups = [];
-  read = read-none body s at passed going w;
+  read = read-none comments body s at passed going w;
   is_index =
       record {
         listed = record { slots = []; are_pairs = refl; are_spans = none; are_places = λ k. rw empty refl; are_values = λ k. rw empty refl };
@@ -119,12 +120,12 @@ index-more groups g span old new told h said k at closing =
       k.ordered,
     )
 
-pub indexed-more : {e : Encoding} {body : List ℕ} {s t : GroupReader} {group : Group} (old new : Index)
-    (told : Option (List ℕ × List ℕ)) → HasIndexed e body s old
-    → TakesGroup body s group t → IsSound (outcome_of (chars (text_of body t group)))
+pub indexed-more : {comments : Comments} {e : Encoding} {body : List ℕ} {s t : GroupReader} {group : Group} (old new : Index)
+    (told : Option (List ℕ × List ℕ)) → HasIndexed comments e body s old
+    → TakesGroup body s group t → IsSoundFor comments (chars (text_of body t group))
     → told ≡ outcome_pair (outcome_of (chars (text_of body t group)))
-    → AddsGroup group told old new → HasIndexed e body t new
-indexed-more {e} {body} {s} {t} {group} old new told h k sound is adds =
+    → AddsGroup group told old new → HasIndexed comments e body t new
+indexed-more {comments} {e} {body} {s} {t} {group} old new told h k sound is adds =
     record {
       groups = h.groups ++ k.held ∷ [];
       read = read-more h.read k sound;

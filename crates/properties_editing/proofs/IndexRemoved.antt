@@ -14,9 +14,10 @@ use Rattle.properties_format.specs.Encoding.{Encoding, begins_like_bom}
 use Rattle.properties_format.specs.Entries as content
 use Rattle.properties_format.specs.Items.{given, ignored}
 use Rattle.properties_format.specs.Body.{HeldLine, NoneHasKey, HasKey, ending_bytes, group_bytes, groups_bytes, last_ending}
-use Rattle.properties_format.specs.Edited.{final_group, is_editable, is_empty_line, is_left_open}
+use Rattle.properties_format.specs.Edited.{final_group, is_editable, is_empty_line, is_left_open, IsKeyRemoved}
 use Rattle.properties_format.specs.Computed.Body.{has_key, held_groups_of, is_pair_with}
-use Rattle.properties_format.specs.Computed.Edited.{IsSound, AreSound, without}
+use Rattle.properties_format.specs.Computed.Edited.{IsSound, without}
+use Rattle.properties_editing.specs.Private.Sound.{AreSound}
 use Rattle.properties_format.specs.Computed.Lines.{begins_with_lf}
 use Rattle.properties_format.specs.Computed.Parts.{unended_bytes}
 use Rattle.properties_format.proofs.Body.Groups.{groups_bytes-append, held_groups_of-meets, held-body}
@@ -29,7 +30,6 @@ use Rattle.properties_format.proofs.InTurn.Unmerged.{AreUnmerged, merged-unmerge
 use Rattle.properties_text.specs.Encoding.{encoding_of}
 use Rattle.properties_editing.specs.Private.BodyIndex.{GuardsFront, IsIndex, IsKept, IsListed, KeepsNothing, ListsPairs, PutsFirst, ending_size, last_value, outcome, pairs_from, places_of, shifted, span_at, span_of, stored_at, stored_places, stored_value}
 use Rattle.properties_items.specs.FoundItems.{outcome_pair}
-use Rattle.properties_editing.specs.Editing.{IsRemoved}
 use Rattle.properties_editing.specs.Private.BodyKeys.{closing_of}
 use Rattle.properties_items.specs.Texts.{characters}
 use Rattle.properties_editing.specs.Private.Sources.{IsInForce}
@@ -42,7 +42,7 @@ use Rattle.properties_editing.specs.declared.edit.find.Closing.{Closing}
 use Rattle.properties_editing.specs.declared.edit.find.Closing.TheVariants.{Nothing}
 use Rattle.properties_editing.proofs.BodyGroups.{front-of}
 use Rattle.properties_editing.proofs.BodyKeys.{some-groups, sound-append}
-use Rattle.properties_editing.proofs.Editing.{removed-bytes, removed-edits, removed-kept, unmarked}
+use Rattle.properties_editing.proofs.Editing.{removed-bytes, removed-kept, unmarked}
 use Rattle.properties_editing.proofs.IndexChanged.{IsLastTold, final-behind, last-told, some-ending, turn-behind}
 use Rattle.properties_editing.proofs.IndexCut.{HasCut, HaveBytes, all_cut, cut-first, cut_from}
 use Rattle.properties_editing.proofs.IndexFound.{said-of}
@@ -212,7 +212,7 @@ same-rest e key xs [] =
     let last = empty_group None in
     let said : outcome last ≡ ignored = empty-said e None last (empty-lines e None) refl in
     record {
-      sound = λ h. sound-append xs (last ∷ []) (subst AreSound (append-nil xs) h) (subst IsSound (sym said) tt, tt);
+      sound = λ h. sound-append xs (last ∷ []) (subst AreSound (append-nil xs) h) (inl (subst IsSound (sym said) tt), tt);
       left = without-append key xs (last ∷ [])
           ∙ ap (λ v. without key xs ++ v) (cond-false (has_key key last) [] (group_bytes last ++ []) (ap (is_pair_with key) said))
           ∙ sym (without-append key xs []);
@@ -513,7 +513,7 @@ front-turn e (g ∷ gs) mid new old is h k fits =
     let moved = listed-shifted (shifted (shift.Moved 0 1)) h.listed (pairs_from 0 (first ∷ g ∷ gs)) (front-shift first (g ∷ gs) said refl fits) in
     record {
       turn = ((lf, empty-lines e (Some lf), empty-whole (Some lf)), h.turn);
-      sound = (subst IsSound (sym said) tt, h.sound);
+      sound = (inl (subst IsSound (sym said) tt), h.sound);
       listed = listed-as moved refl k.spans (λ j. ap (λ m. stored_places m.entries j) k.pairs) (λ j. ap (λ m. stored_value m.entries j) k.pairs);
       closing = k.closing ∙ h.closing;
       ordered = subst (IsOrdered string_cmp) (sym k.pairs) h.ordered;
@@ -545,15 +545,15 @@ module _ (e : Encoding) (opened : BodyStart) (old key : List ℕ) (force : IsInF
 
   removed-by : (new : List ℕ) (is : Index) (gs : List (List HeldLine)) → IsTurnOf f gs is
       → new ≡ front ++ ((if is_guarded then line_feed ∷ [] else []) ++ rest)
-      → drop opened.start new ≡ groups_bytes gs → IsKept (IsRemoved e old key new) e opened new is
+      → drop opened.start new ≡ groups_bytes gs → IsKept (IsKeyRemoved e old key new) e opened new is
   removed-by new is gs turn bytes back =
       let kept = turn-index f gs is ok turn in
-      removed-kept force ok (removed-edits (removed-bytes key new force ok sound bytes))
+      removed-kept force ok (removed-bytes key new force bytes)
       (subst (λ v. AreSound (held_groups_of f v) × IsIndex (held_groups_of f v) is) (sym back) kept)
 
   -- What is left is guarded if it begins like a mark.
   pub removal-ends : (mid new : List ℕ) (cut is : Index) → IsCutWhole f key (held_groups_of f body) front mid cut → length new < 2 ^ 64
-      → GuardsFront (opened.start == 0 && begins_like_bom mid) mid cut new is → IsKept (IsRemoved e old key new) e opened new is
+      → GuardsFront (opened.start == 0 && begins_like_bom mid) mid cut new is → IsKept (IsKeyRemoved e old key new) e opened new is
   removal-ends mid new cut is w fits guards = elim (cases_Bool is_guarded) [
     | inl told ↦
         let both = both-true (opened.start == 0) (begins_like_bom rest) told in
@@ -589,7 +589,7 @@ module _ (e : Encoding) (opened : BodyStart) (old key : List ℕ) (force : IsInF
 
   -- No pair has the key.
   pub removed-none : (was is : Index) → IsIndex (held_groups_of f body) was → stored_at was.pairs.entries key ≡ None
-      → KeepsNothing was is → IsKept (IsRemoved e old key old) e opened old is
+      → KeepsNothing was is → IsKept (IsKeyRemoved e old key old) e opened old is
   removed-none was is index stored kept =
       let gs = held_groups_of f body in
       let none : NoneHasKey key gs = none-listed gs key index.listed (ap places_of stored) in
@@ -607,7 +607,7 @@ module _ (e : Encoding) (opened : BodyStart) (old key : List ℕ) (force : IsInF
       sym (take-append-drop opened.start old)
       ∙ ap (λ v. front ++ v) (sym rest_is)
       ∙ ap (λ v. front ++ (v ++ rest)) (sym (cond-false (opened.start == 0 && begins_like_bom rest) (line_feed ∷ []) [] unguarded)) in
-      removed-kept force ok (removed-edits (removed-bytes key old force ok sound bytes)) (sound, kept-index gs was is index kept)
+      removed-kept force ok (removed-bytes key old force bytes) (sound, kept-index gs was is index kept)
     where
       not-true : (b : Bool) → not b ≡ true → b ≡ false
       not-true true h = absurd (cc)

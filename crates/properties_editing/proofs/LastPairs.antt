@@ -1,5 +1,5 @@
 -- The last pair of a body, whatever its key, and its last line ending.
-use Rattle.std.proofs.Common.{◌≡◌, ◌<◌, ◌≤◌, ℕ, ◌+◌, ◌-◌, Bool, true, false, List, [], ◌∷◌, ◌++◌, length, take, drop, get_or, refl, ap, ap₂, sym, ◌∙◌, subst, arith, append_assoc, length-append}
+use Rattle.std.proofs.Common.{inl, inr, ◌≡◌, ◌<◌, ◌≤◌, ℕ, ◌+◌, ◌-◌, Bool, true, false, List, [], ◌∷◌, ◌++◌, length, take, drop, get_or, refl, ap, ap₂, sym, ◌∙◌, subst, arith, append_assoc, length-append}
 use Rattle.std.specs.Prelude.{Option, Some, None, if◌then◌else◌, unwrap_or}
 use Rattle.std.specs.Option.{option_map}
 use Rattle.std.proofs.lemmas.List.{drop_more, take-append-drop}
@@ -38,7 +38,10 @@ use Rattle.properties_format.specs.Groups.{joined}
 use Rattle.properties_format.specs.Computed.Split.{split_of}
 use Rattle.properties_format.specs.Computed.Body.{held_groups_of}
 use Rattle.properties_format.specs.Computed.Parts.{unended_bytes}
-use Rattle.properties_format.specs.Split.{Logical}
+use Rattle.properties_format.specs.Split.{Logical, IsSplit}
+use Rattle.properties_format.proofs.Split.Unique.{split_of-meets}
+use Rattle.properties_format.proofs.Valued.Parts.{comment_line-no_pair}
+use Rattle.properties_editing.specs.Private.Sound.{IsSoundLine}
 use Rattle.properties_format.specs.Escapes.{Meaning, means, breaks}
 use Rattle.properties_format.specs.Computed.Escapes.{meaning_of}
 use Rattle.properties_format.specs.Computed.Items.{comment_outcome, pair_outcome, split_outcome}
@@ -67,10 +70,20 @@ between-some (Logical.comment raw) x some = of-comment (meaning_of raw) some
     of-comment (breaks kind) n = absurd (cc)
 between-some (Logical.pair raw_key raw_value) x some = (between_in x, refl)
 
+-- a line that is no pair
+between-unpaired : (x : List ℕ) → IsSoundLine x → is_pair (split_outcome (split_of x)) ≡ false → between_if_pair (split_of x) x ≡ None
+between-unpaired x (inl s) n = between-none (split_of x) x s n
+between-unpaired x (inr c) n = of-split (split_of x) (split_of-meets x)
+  where
+    of-split : (l : Logical) → IsSplit x l → between_if_pair l x ≡ None
+    of-split Logical.blank h = refl
+    of-split (Logical.comment raw) h = refl
+    of-split (Logical.pair key value) h = absurd (comment_line-no_pair x key value c h)
+
 -- ---- the last pair
 
 -- the last pair with one more group after it, which is a pair or not
-pub last-after : (groups : List (List HeldLine)) (g : List HeldLine) (span : BodySpan) (told : Bool) (last : Option BodySpan) → IsLastPair groups last → IsSound (outcome g)
+pub last-after : (groups : List (List HeldLine)) (g : List HeldLine) (span : BodySpan) (told : Bool) (last : Option BodySpan) → IsLastPair groups last → IsSoundLine (joined (as_lines g))
     → told ≡ is_pair (outcome g) → span.start ≡ length (groups_bytes groups) → span.end ≡ span.start + length (unended_bytes g)
     → IsLastPair (groups ++ g ∷ []) (if told then Some span else last)
 last-after groups g span true last h sound is starts ends =
@@ -88,7 +101,7 @@ last-after groups g span true last h sound is starts ends =
       ends = ends;
     }
 last-after groups g span false None h sound is starts ends =
-    last_between-push groups g ∙ ap₂ or_else (between-none (split_of (joined (as_lines g))) (joined (as_lines g)) sound (sym is)) h
+    last_between-push groups g ∙ ap₂ or_else (between-unpaired (joined (as_lines g)) sound (sym is)) h
 last-after groups g span false (Some earlier) h sound is starts ends = record {
   before = h.before;
   group = h.group;
@@ -97,7 +110,7 @@ last-after groups g span false (Some earlier) h sound is starts ends = record {
   between = h.between;
   of_pair = h.of_pair;
   last = last_between-push groups g
-      ∙ ap₂ or_else (between-none (split_of (joined (as_lines g))) (joined (as_lines g)) sound (sym is)) h.last;
+      ∙ ap₂ or_else (between-unpaired (joined (as_lines g)) sound (sym is)) h.last;
   starts = h.starts;
   ends = h.ends;
 }

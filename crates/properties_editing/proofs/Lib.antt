@@ -1,3 +1,4 @@
+pub mod Comments
 pub mod BodyGroups
 pub mod BodyKeys
 pub mod BodyValues

@@ -1,14 +1,15 @@
 -- The bytes of a value that is set, and of a new pair that looks like the last one.
-use Rattle.std.proofs.Common.{◌≡◌, ◌≢◌, ℕ, Bool, true, false, List, [], ◌∷◌, ◌++◌, length, refl, inl, inr, ap, ap₂, sym, ◌∙◌, append-nil, append_assoc, lit<}
+use Rattle.std.proofs.Common.{◌≡◌, ◌≢◌, ℕ, Bool, true, false, List, [], ◌∷◌, ◌++◌, length, refl, inl, inr, ap, sym, ◌∙◌, append-nil, append_assoc, arith, lit<}
 use Rattle.std.specs.Prelude.{◌&&◌, ◌==◌, if◌then◌else◌, unwrap_or}
 use Rattle.std.specs.Str.{chars, IsUtf8}
 use Rattle.std.proofs.lemmas.Bool.{cases_Bool, cond-true, cond-false}
-use Rattle.properties_format.specs.Text.{LineEnding, line_ending_text, is_blank, is_blanks, equals_sign}
+use Rattle.std.proofs.lemmas.Bool.Decides.{nat_tests}
+use Rattle.std.proofs.lemmas.Str.{chars-nil}
+use Rattle.properties_format.specs.Text.{LineEnding, line_ending_text, is_blank, is_blanks, equals_sign, is_empty}
 use Rattle.properties_format.specs.Encoding.{Encoding, windows_1252}
-use Rattle.properties_format.specs.Printing.{encoded_text}
-use Rattle.properties_format.specs.Writing.{is_empty}
-use Rattle.properties_format.specs.Valued.{value_text, printed_value, separator_after, shortened_after}
-use Rattle.properties_format.proofs.Printing.Characters.{encoded-ascii, encoded_text-append, encoded_text-ascii, line_end-ascii}
+use Rattle.properties_format.specs.Printing.{encoded_text, printed_value}
+use Rattle.properties_format.specs.Valued.{value_text, separator_after, shortened_after}
+use Rattle.properties_format.proofs.Printing.Characters.{encoded-ascii, encoded_text-ascii, line_end-ascii}
 use Rattle.std.specs.Char.{IsScalar, encode_utf8}
 use Rattle.properties_text.proofs.TextFronts.{chars-more}
 use Rattle.properties_text.proofs.Texts.Characters.{is_empty-chars}
@@ -30,7 +31,12 @@ pub value-separated : (e : Encoding) (only : Bool) (separator value : List ℕ) 
 value-separated e only [] value some = absurd (some refl)
 value-separated e only (c ∷ cs) value some = refl
 
--- a text with bytes has characters
+-- a text without bytes has no characters,
+pub none-left : (x : List ℕ) → (length x == 0) ≡ true → chars x ≡ []
+none-left [] h = chars-nil
+none-left (b ∷ x) h = absurd (grind (arith, nat_tests))
+
+-- and one with bytes has some
 pub text-some : (x : List ℕ) → IsUtf8 x → false ≡ (length x == 0) → chars x ≢ []
 text-some x u h none = let q : true ≡ false = sym (ap is_empty none) ∙ is_empty-chars x u ∙ sym h in absurd (cc)
 
@@ -63,19 +69,6 @@ shortened-more was text short next c h is rest =
 -- the bytes of a line ending are its characters
 pub ending-bytes : (bs : List ℕ) (by : LineEnding) → IsUtf8 bs → chars bs ≡ line_ending_text by → bs ≡ line_ending_text by
 ending-bytes bs by u h = line_ending-bytes windows_1252 bs by u h ∙ encoded_text-ascii windows_1252 (line_ending_text by) (line_end-ascii by)
-
--- A key and a separator, and a value after them.
-pub new_pair-unended : (e : Encoding) (only : Bool) (start fronted valued separator separator_bytes key value : List ℕ) (after_blanks : Bool)
-    → fronted ≡ start ++ (encoded_text e key ++ separator_bytes) → separator_bytes ≡ encoded_text e separator
-    → valued ≡ fronted ++ encoded_text e (printed_value e only after_blanks value) → after_blanks ≡ is_blanks separator
-    → valued ≡ start ++ encoded_text e (key ++ (separator ++ printed_value e only (is_blanks separator) value))
-new_pair-unended e only start fronted valued separator separator_bytes key value after_blanks h i j k =
-    let back = printed_value e only (is_blanks separator) value in
-    let parts : encoded_text e (key ++ (separator ++ back)) ≡ encoded_text e key ++ (encoded_text e separator ++ encoded_text e back) =
-    encoded_text-append e key (separator ++ back) ∙ ap (λ v. encoded_text e key ++ v) (encoded_text-append e separator back) in
-    j ∙ ap₂ (λ v b. v ++ encoded_text e (printed_value e only b value)) (h ∙ ap (λ v. start ++ (encoded_text e key ++ v)) i) k
-    ∙ append_assoc start (encoded_text e key ++ encoded_text e separator) (encoded_text e back)
-    ∙ ap (λ v. start ++ v) (append_assoc (encoded_text e key) (encoded_text e separator) (encoded_text e back) ∙ sym parts)
 
 -- ---- the separator of a new pair
 

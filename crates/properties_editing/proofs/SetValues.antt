@@ -1,6 +1,7 @@
 -- The source with the value of a key set.
 use Rattle.std.proofs.Common.{◌≡◌, ℕ, ◌+◌, ◌-◌, Bool, true, List, [], ◌∷◌, ◌++◌, All, take, drop, inl, inr, ap, ap₂, sym, ◌∙◌, subst, arith, append_assoc, take-add}
-use Rattle.std.specs.Prelude.{Some, None, if◌then◌else◌}
+use Rattle.std.specs.Prelude.{Some, None, Result, Ok, Err, if◌then◌else◌}
+use Rattle.std.specs.Global.{Vec}
 use Rattle.std.proofs.lemmas.Bool.{cases_Bool, cond-true, cond-false}
 use Rattle.std.proofs.lemmas.List.{drop-drop}
 use Rattle.properties_format.specs.Text.{scalar, line_ending_text}
@@ -8,17 +9,20 @@ use Rattle.properties_format.specs.Encoding.{Encoding, InForce, output_encoding}
 use Rattle.properties_format.specs.Printing.{encoded_text}
 use Rattle.properties_format.specs.Body.{HeldLine, HasKey, ending_bytes, groups_bytes, last_ending}
 use Rattle.properties_format.specs.Edited.{bom_of, is_editable, final_group, edited}
-use Rattle.properties_format.specs.Valued.{value_text, separation_by, ending_in, new_pair_bytes, IsSetValueResult}
+use Rattle.properties_format.specs.Valued.{value_text, separation_by, ending_in, new_pair_bytes, IsSetValueResult, IsValueSet}
 use Rattle.properties_format.specs.Computed.Items.{outcome_of}
 use Rattle.properties_format.specs.Computed.Body.{held_groups_of}
-use Rattle.properties_format.specs.Computed.Edited.{AreSound, result_of, last_place}
-use Rattle.properties_format.specs.Computed.Valued.{front_of, between_of, has_value, last_between, separator_by, revalued_at, valued_at, value_set, value_set_in, set_value_result}
+use Rattle.properties_format.specs.Computed.Edited.{last_place}
+use Rattle.properties_editing.specs.Private.Sound.{AreSound, Returns}
+use Rattle.properties_editing.specs.declared.edit.source.Comments.TheVariants.{Read}
+use Rattle.properties_items.specs.declared.error.PropertiesError.{PropertiesError}
+use Rattle.properties_format.specs.Computed.Valued.{front_of, between_of, has_value, last_between, separator_by, revalued_at, valued_at, value_set, value_set_in}
 use Rattle.properties_format.proofs.Body.Groups.{held_groups_of-meets, held-body}
 use Rattle.properties_format.proofs.Edited.ByteOrderMarks.{source-whole}
-use Rattle.properties_format.proofs.Edited.Contents.{key-outcome}
+use Rattle.properties_format.proofs.Edited.LogicalLines.{key-outcome}
 use Rattle.properties_format.proofs.Edited.Made as made
 use Rattle.properties_format.proofs.Edited.Made.{last_place-meets}
-use Rattle.properties_format.proofs.Valued.Made.{group-decoded, set_value_result-meets, set_value_result-only, raw-pair}
+use Rattle.properties_format.proofs.Valued.Made.{group-decoded, set_value_result-only, raw-pair, value_set-meets}
 use Rattle.properties_format.proofs.Edits.InAscii.{set_value-in_ascii}
 use Rattle.properties_format.proofs.Valued.Marks.{value_set-in_force}
 use Rattle.properties_format.proofs.Valued.Read.{set_value-reads, value_set-keeps, value_set-keeps_front}
@@ -29,7 +33,7 @@ use Rattle.properties_editing.specs.Private.BodyIndex.{IsIndex, IsKept}
 use Rattle.properties_editing.specs.declared.edit.index.Index.{Index}
 use Rattle.properties_editing.specs.Private.BodyKeys.{IsPlaceOf, IsPlace, IsKeyFound, closing_bytes}
 use Rattle.properties_editing.specs.Private.BodyValues.{IsPairAlone, IsLayoutAfter, revalued_in}
-use Rattle.properties_editing.specs.Editing.{HasValueSet}
+use Rattle.properties_editing.specs.Editing.{HasValueSet, MakesValueSet}
 use Rattle.properties_items.specs.Texts.{characters}
 use Rattle.properties_items.specs.LineEndings.{ending_of}
 use Rattle.properties_editing.specs.Private.Sources.{IsInForce}
@@ -37,7 +41,7 @@ use Rattle.properties_editing.specs.declared.edit.append.Layout.{Layout}
 use Rattle.properties_editing.specs.declared.edit.find.BodySpan.{BodySpan}
 use Rattle.properties_editing.specs.declared.edit.find.PairPlaces.{PairPlaces}
 use Rattle.properties_editing.specs.declared.edit.source.BodyStart.{BodyStart}
-use Rattle.properties_editing.proofs.Editing.{again, bom-front, editable, place-split, result-made}
+use Rattle.properties_editing.proofs.Editing.{again, bom-front, editable, place-split}
 use Rattle.properties_editing.proofs.LastPairs.{part-group}
 
 -- ---- a value is set
@@ -85,13 +89,13 @@ pub alone-value : (source key value : List ℕ) (opened : BodyStart) (pair : Bod
 alone-value source key value opened pair ok at group alone =
     ap (has_value value) (alone-group source key opened pair ok at group alone) ∙ unended-value value at.place.group
 
--- The source with the value of the pair is its result.
+-- The source with the value of the pair has the value set.
 pub revalued-result : {source : List ℕ} {e : Encoding} {opened : BodyStart} {found : PairPlaces} (key value bytes : List ℕ) (pair : BodySpan) → IsInForce source e opened
     → is_editable (encoding_of opened.encoding) ≡ true → IsKeyFound (encoding_of opened.encoding) (drop opened.start source) key found → found.pair ≡ Some pair
     → ((group : List HeldLine)
     × (held_groups_of (encoding_of opened.encoding) (take ((opened.start + pair.end) - (opened.start + pair.start)) (drop (opened.start + pair.start) source)) ≡ group ∷ [])
     × (bytes ≡ revalued_in (encoding_of opened.encoding) opened.ascii_only source (opened.start + pair.start) (opened.start + pair.end) value group))
-    → set_value_result e opened.ascii_only source key value ≡ edited bytes
+    → IsValueSet e opened.ascii_only source key value bytes
 revalued-result {source} {e} {opened} {found} key value bytes pair h ok k is (group, alone, made) =
     let f = encoding_of opened.encoding in
     let body = drop opened.start source in
@@ -132,16 +136,16 @@ revalued-result {source} {e} {opened} {found} key value bytes pair h ok k is (gr
           ∙ ap₂ (λ v w. v ++ w) front
           (ap₂ (λ v w. v ++ w) front_is (ap₂ (λ v w. v ++ w) (ap (λ b. encoded_text f (value_text f opened.ascii_only b value)) between_is) back)))
     ] in
-    ap (result_of e source) is_made ∙ result-made bytes h ok k.sound
+    subst (IsValueSet e opened.ascii_only source key value) is_made (value_set-meets e opened.ascii_only source key value (editable h ok))
 
--- The source with a new pair at its end is its result.
+-- The source with a new pair at its end has the value set.
 pub new_pair-result : {source : List ℕ} {e : Encoding} {opened : BodyStart} {found : PairPlaces} (key value bytes : List ℕ) (layout : Layout) → IsInForce source e opened
     → is_editable (encoding_of opened.encoding) ≡ true → IsKeyFound (encoding_of opened.encoding) (drop opened.start source) key found → found.pair ≡ None
     → IsLayoutAfter (encoding_of opened.encoding) (drop opened.start source) found.closing key layout
     → let ending = line_ending_text (ending_of layout.ending) in
     let separation = closing_bytes ending layout.closing in
     bytes ≡ source ++ (separation ++ new_pair_bytes (output_encoding (encoding_of opened.encoding)) opened.ascii_only (drop opened.start source ++ separation) key (characters layout.separator) value ending)
-    → set_value_result e opened.ascii_only source key value ≡ edited bytes
+    → IsValueSet e opened.ascii_only source key value bytes
 new_pair-result {source} {e} {opened} {found} key value bytes layout h ok k none l made =
     let f = encoding_of opened.encoding in
     let body = drop opened.start source in
@@ -165,32 +169,34 @@ new_pair-result {source} {e} {opened} {found} key value bytes layout h ok k none
     ∙ sym (append_assoc (bom_of source) body (by ++ pair))
     ∙ ap (λ v. v ++ (by ++ pair)) (sym whole)
     ∙ sym (made ∙ ap (λ v. source ++ (by ++ new_pair_bytes v opened.ascii_only (body ++ by) key (characters layout.separator) value ending)) (editable-own f ok)) in
-    ap (result_of e source) set ∙ result-made bytes h ok k.sound
+    subst (IsValueSet e opened.ascii_only source key value) set (value_set-meets e opened.ascii_only source key value (editable h ok))
 
 -- What the result is, how it reads, and what it keeps.
-pub value-edits : {e : Encoding} {only : Bool} {source key value bytes : List ℕ} → All scalar key → All scalar value → set_value_result e only source key value ≡ edited bytes
+pub value-edits : {e : Encoding} {only : Bool} {source key value bytes : List ℕ} → All scalar key → All scalar value → IsSetValueResult e only source key value (edited bytes)
     → HasValueSet e only source key value bytes
-value-edits {e} {only} {source} {key} {value} {bytes} k v is =
-    let meets = subst (IsSetValueResult e only source key value) is (set_value_result-meets e only source key value) in
-    record {
-      edit = record {
-        result = meets;
-        only = λ other h. set_value_result-only e only source key value other h ∙ is;
-        reads = set_value-reads e only source key value bytes k v meets;
-      };
-      keeps = value_set-keeps e only source key value bytes meets.2;
-      keeps_front = value_set-keeps_front e only source key value bytes meets.0 meets.2;
-      ascii = λ on. set_value-in_ascii e source key value bytes (subst (λ b. IsSetValueResult e b source key value (edited bytes)) on meets);
-    }
+value-edits {e} {only} {source} {key} {value} {bytes} k v meets = record {
+  edit = record {
+    result = meets;
+    only = λ other h. set_value_result-only e only source key value other h ∙ sym (set_value_result-only e only source key value (edited bytes) meets);
+    reads = set_value-reads e only source key value bytes k v meets;
+  };
+  keeps = value_set-keeps e only source key value bytes meets.2;
+  keeps_front = value_set-keeps_front e only source key value bytes meets.0 meets.2;
+  ascii = λ on. set_value-in_ascii e source key value bytes (subst (λ b. IsSetValueResult e b source key value (edited bytes)) on meets);
+}
+
+pub returns-value : (e : Encoding) (only : Bool) (source key value : List ℕ) → All scalar key → All scalar value → (result : Result (Vec ℕ) PropertiesError)
+    → Returns Read e source (IsValueSet e only source key value) result → MakesValueSet e only source key value result
+returns-value e only source key value k v (Ok bytes) h = value-edits k v h
+returns-value e only source key value k v (Err error) h = h
 
 -- So it is of the source and its index.
 pub value-kept : {e : Encoding} {opened : BodyStart} {old key value new : List ℕ} {index : Index} → IsInForce old e opened → is_editable (encoding_of opened.encoding) ≡ true
-    → HasValueSet e opened.ascii_only old key value new
+    → IsValueSet e opened.ascii_only old key value new
     → AreSound (held_groups_of (encoding_of opened.encoding) (drop opened.start new)) × IsIndex (held_groups_of (encoding_of opened.encoding) (drop opened.start new)) index
-    → IsKept (HasValueSet e opened.ascii_only old key value new) e opened new index
-value-kept {e} {opened} {old} {key} {value} {new} h ok s kept =
-    let k = s.edit.result.2 in
-    record { meant = s; in_force = again new k.body h k.whole (value_set-in_force e opened.ascii_only old key value new (editable h ok) k); sound = kept.0; is_index = kept.1 }
+    → IsKept (IsValueSet e opened.ascii_only old key value new) e opened new index
+value-kept {e} {opened} {old} {key} {value} {new} h ok k kept =
+    record { meant = k; in_force = again new k.body h k.whole (value_set-in_force e opened.ascii_only old key value new (editable h ok) k); sound = kept.0; is_index = kept.1 }
 
 -- The pair that was found in a source is a pair by itself.
 pub found-alone : (source key : List ℕ) (opened : BodyStart) {found : PairPlaces} (pair : BodySpan) → is_editable (encoding_of opened.encoding) ≡ true

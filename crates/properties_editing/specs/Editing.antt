@@ -1,14 +1,18 @@
 -- The results of edits.
-use Rattle.std.specs.Prelude.{◌≡◌, ◌⊎◌, ℕ, Bool, true, false, List, Result, Ok, Err, map, string_bytes}
+use Rattle.std.specs.Prelude.{◌≡◌, ◌⊎◌, ℕ, Bool, true, false, List, Option, Result, Ok, Err, map, string_bytes}
 use Rattle.std.specs.Str.{chars}
 use Rattle.std.specs.Global.{Vec}
 use Rattle.properties_format.specs.Encoding.{Encoding}
 use Rattle.properties_format.specs.Escapes.{Malformed}
+use Rattle.properties_format.specs.Entries.{Entry}
+use Rattle.properties_format.specs.Maps.{IsMap}
 use Rattle.properties_format.specs.Edited.{EditResult, edited, unsupported, unreadable, IsSetKeyResult, IsRemoveKeyResult}
 use Rattle.properties_format.specs.Edits.{put, remove, set_value, IsEditAllResult}
 use Rattle.properties_format.specs.Edits as format
 use Rattle.properties_format.specs.Valued.{IsSetValueResult, KeepsFront}
-use Rattle.properties_format.specs.Changed.{IsSetIn, IsRemovedIn, AreEditedIn, map_edited, map_after, AreOthersThanLast, AreOthers, ReadsAfter, KeepsOthers, AreKept}
+use Rattle.properties_format.specs.LogicalLines.{AreLinesEditedInTurn, AreLogicalLines}
+use Rattle.properties_format.specs.EditedPairs.{AreInComments, ArePairs, EscapesAre, IsEditPairsResult}
+use Rattle.properties_format.specs.Changed.{contents, IsSetIn, IsRemovedIn, AreEditedIn, map_edited, map_after, AreOthersThanLast, AreOthers, ReadsAfter, KeepsOthers, AreKept}
 use Rattle.properties_format.specs.AsciiOnly.{IsInAscii}
 use Rattle.properties_items.specs.Errors.{IsBareError, IsMalformed}
 use Rattle.properties_editing.specs.declared.edit.Edit.{Edit}
@@ -96,6 +100,24 @@ EditsAll e source edits result = MakesEdits e false source edits result
 
 abbrev pub EditsAllAscii : Encoding → List ℕ → List format.Edit → Result (Vec ℕ) PropertiesError → Type 0
 EditsAllAscii e source edits result = MakesEdits e true source edits result
+
+-- The source after edits that ask nothing of comments: its result and that there is no other, that its pairs, their map
+-- and its logical lines are those of the source after the same edits, that its malformed escapes are in comments as
+-- well, that each edit keeps the rest of what the one before it gave, and that in ASCII alone only ASCII is put in.
+pub record ArePairsMade (e : Encoding) (only : Bool) (source : List ℕ) (edits : List format.Edit) (bytes : List ℕ) : Type 0 where
+  pub result : IsEditPairsResult e only source edits (edited bytes)
+  pub only_one : (other : EditResult) → IsEditPairsResult e only source edits other → other ≡ edited bytes
+  pub reads : (old new : List Entry) → ArePairs e source old → ArePairs e bytes new → AreEditedIn edits (contents old) (contents new)
+  pub lines : (old new : List (List ℕ)) → AreLogicalLines e source old → AreLogicalLines e bytes new → AreLinesEditedInTurn edits old new
+  pub mapped : (old new : List Entry) → ArePairs e source old → ArePairs e bytes new
+      → (value_at : List ℕ → Option (List ℕ)) → IsMap old value_at → IsMap new (map_after edits value_at)
+  pub in_comments : EscapesAre e bytes AreInComments
+  pub keeps : AreKept e only source edits bytes
+  pub ascii : only ≡ true → IsInAscii source bytes
+
+abbrev pub EditsPairs : Encoding → Bool → List ℕ → List format.Edit → Result (Vec ℕ) PropertiesError → Type 0
+EditsPairs e only source edits (Ok bytes) = ArePairsMade e only source edits bytes.items
+EditsPairs e only source edits (Err error) = IsRefusal (IsEditPairsResult e only source edits) error
 
 -- Both are the same edit, with the same texts.
 abbrev pub IsSameEdit : Edit → Edit → Type 0

@@ -5,3 +5,4 @@ pub mod BodyIndex
 pub mod BodySweep
 pub mod BodyDocuments
 pub mod Sources
+pub mod Sound

@@ -4,11 +4,13 @@ ghost use Rattle.std.specs.Prelude.{◌≡◌, ◌≤◌, true, drop, length, On
 ghost use Rattle.std.specs.Str.{chars};
 ghost use Rattle.properties_format.specs.Laws.{SplittingCommutes};
 ghost use Rattle.properties_text.specs.Encoding.{encoding_of};
-ghost use Rattle.properties_format.specs.Edited.{is_editable};
+ghost use Rattle.properties_format.specs.Edited.{is_editable, IsKeyRemoved, IsKeySet};
+ghost use Rattle.properties_format.specs.Edits.{AreEdited};
+ghost use Rattle.properties_format.specs.Valued.{IsValueSet};
 ghost use Rattle.properties_format.specs.Computed.Body.{held_groups_of};
-ghost use Rattle.properties_format.specs.Computed.Edited.{AreSound};
+ghost use Rattle.properties_editing.specs.Private.Sound.{AreSound, Returns};
 ghost use Rattle.properties_editing.specs.Private.BodyIndex.{IsIndex, MakesEdit};
-ghost use Rattle.properties_editing.specs.Editing.{EditsAll, EditsAllAscii, MakesEdits, MakesSet, MakesValueSet, RemovesKey, SetsKey, SetsValue, edit_in, edits_in};
+ghost use Rattle.properties_editing.specs.Editing.{EditsAll, EditsAllAscii, EditsPairs, RemovesKey, SetsKey, SetsValue, edit_in, edits_in};
 
 mod append;
 mod document;
@@ -30,7 +32,7 @@ use crate::edit::index::changes::{put_pair, put_value, remove_pairs};
 use crate::edit::new_value::with_value;
 use crate::edit::remove::spans_without_key;
 use crate::edit::replace::{with_pair_appended, with_pair_replaced, with_spans_kept};
-use crate::edit::source::BodyStart;
+use crate::edit::source::{BodyStart, Comments};
 use properties_items::error::PropertiesError;
 use properties_text::encoding::Encoding;
 use std::alloc::{AllocError, Global};
@@ -63,7 +65,7 @@ pub fn set_key(
     ensures sets { SetsKey (encoding_of encoding) source.now (chars key.now) (chars value.now) result }
     ensures splitting { SplittingCommutes (encoding_of encoding) source.now }
 {
-    set_key_with(alloc, source, encoding, false, key, value)
+    set_key_with(alloc, source, encoding, false, Comments::Read, key, value)
 }
 
 // Returns the source with a key set to a value, which are written in ASCII alone or not.
@@ -72,14 +74,21 @@ fn set_key_with(
     source: &[u8],
     encoding: Encoding,
     ascii_only: bool,
+    comments: Comments,
     key: &str,
     value: &str,
 ) -> Result<Vec<u8>, PropertiesError>
-    ensures { MakesSet (encoding_of encoding) ascii_only source.now (chars key.now) (chars value.now) result }
+    ensures { Returns comments (encoding_of encoding) source.now (IsKeySet (encoding_of encoding) ascii_only source.now (chars key.now) (chars value.now)) result }
 {
     // UTF-16 is refused before any line is read.
     let opened = BodyStart::open(source, encoding, ascii_only)?;
-    let place = find_key(alloc, opened.encoding, &source[opened.start..], key)?;
+    let place = find_key(
+        alloc,
+        opened.encoding,
+        comments,
+        &source[opened.start..],
+        key,
+    )?;
     let bytes = match place.pair {
         Some(pair) => with_pair_replaced(alloc, source, opened, pair, key, value)?,
         None => with_pair_appended(alloc, source, opened, place.closing, key, value)?,
@@ -125,7 +134,7 @@ pub fn set_value(
     ensures sets { SetsValue (encoding_of encoding) source.now (chars key.now) (chars value.now) result }
     ensures splitting { SplittingCommutes (encoding_of encoding) source.now }
 {
-    set_value_with(alloc, source, encoding, false, key, value)
+    set_value_with(alloc, source, encoding, false, Comments::Read, key, value)
 }
 
 // Returns the source with the value of a key set, which is written in ASCII alone or not.
@@ -134,14 +143,15 @@ fn set_value_with(
     source: &[u8],
     encoding: Encoding,
     ascii_only: bool,
+    comments: Comments,
     key: &str,
     value: &str,
 ) -> Result<Vec<u8>, PropertiesError>
-    ensures { MakesValueSet (encoding_of encoding) ascii_only source.now (chars key.now) (chars value.now) result }
+    ensures { Returns comments (encoding_of encoding) source.now (IsValueSet (encoding_of encoding) ascii_only source.now (chars key.now) (chars value.now)) result }
 {
     let opened = BodyStart::open(source, encoding, ascii_only)?;
     let body = &source[opened.start..];
-    let place = find_key(alloc, opened.encoding, body, key)?;
+    let place = find_key(alloc, opened.encoding, comments, body, key)?;
     let bytes = match place.pair {
         Some(pair) => with_value(alloc, source, opened, pair, value)?,
         None => {
@@ -175,8 +185,27 @@ pub fn remove_key(
     ensures removes { RemovesKey (encoding_of encoding) source.now (chars key.now) result }
     ensures splitting { SplittingCommutes (encoding_of encoding) source.now }
 {
+    remove_key_with(alloc, source, encoding, Comments::Read, key)
+}
+
+// Returns the source without the pairs that have a key.
+fn remove_key_with(
+    alloc: Global,
+    source: &[u8],
+    encoding: Encoding,
+    comments: Comments,
+    key: &str,
+) -> Result<Vec<u8>, PropertiesError>
+    ensures { Returns comments (encoding_of encoding) source.now (IsKeyRemoved (encoding_of encoding) source.now (chars key.now)) result }
+{
     let opened = BodyStart::open(source, encoding, false)?;
-    let others = spans_without_key(alloc, opened.encoding, &source[opened.start..], key)?;
+    let others = spans_without_key(
+        alloc,
+        opened.encoding,
+        comments,
+        &source[opened.start..],
+        key,
+    )?;
     let bytes = with_spans_kept(alloc, source, opened, &others)?;
     Ok(bytes)
 }
@@ -215,7 +244,7 @@ pub fn edit_all(
     ensures edits { EditsAll (encoding_of encoding) source.now (edits_in edits.now) result }
     ensures splitting { SplittingCommutes (encoding_of encoding) source.now }
 {
-    edit_all_with(alloc, source, encoding, false, edits)
+    edit_all_with(alloc, source, encoding, false, Comments::Read, edits)
 }
 
 /// Returns the source after these edits, as [`edit_all`] does, and writes ASCII alone: in a key or a value that an edit
@@ -239,7 +268,35 @@ pub fn edit_all_ascii(
     ensures edits { EditsAllAscii (encoding_of encoding) source.now (edits_in edits.now) result }
     ensures splitting { SplittingCommutes (encoding_of encoding) source.now }
 {
-    edit_all_with(alloc, source, encoding, true, edits)
+    edit_all_with(alloc, source, encoding, true, Comments::Read, edits)
+}
+
+/// Returns the source after these edits, as [`edit_all`] does, or as [`edit_all_ascii`] does if `ascii_only` is set, and
+/// passes over comments, as Java does: only a malformed escape in a pair is an error. Comments stay as they are.
+///
+/// ```text
+/// let edits = vec![in alloc; Edit::Put(port, value)]?;
+/// let edited = edit_pairs(alloc, b"# C:\\users\nport = 80\n", Encoding::UTF_8, false, &edits)?;
+/// // If the value is `8080`: `# C:\users`, a line feed, `port=8080` and a line feed.
+/// ```
+pub fn edit_pairs(
+    alloc: Global,
+    source: &[u8],
+    encoding: Encoding,
+    ascii_only: bool,
+    edits: &[Edit],
+) -> Result<Vec<u8>, PropertiesError>
+    ensures edits { EditsPairs (encoding_of encoding) ascii_only source.now (edits_in edits.now) result }
+    ensures splitting { SplittingCommutes (encoding_of encoding) source.now }
+{
+    edit_all_with(
+        alloc,
+        source,
+        encoding,
+        ascii_only,
+        Comments::PassedOver,
+        edits,
+    )
 }
 
 // Returns the source after these edits, which are written in ASCII alone or not.
@@ -248,14 +305,15 @@ fn edit_all_with(
     source: &[u8],
     encoding: Encoding,
     ascii_only: bool,
+    comments: Comments,
     edits: &[Edit],
 ) -> Result<Vec<u8>, PropertiesError>
-    ensures { MakesEdits (encoding_of encoding) ascii_only source.now (edits_in edits.now) result }
+    ensures { Returns comments (encoding_of encoding) source.now (AreEdited (encoding_of encoding) ascii_only source.now (edits_in edits.now)) result }
 {
     match edits {
         // One edit needs no index, which takes eight times the memory of a source, and more if its pairs are short.
-        [edit] => edit_once(alloc, source, encoding, ascii_only, edit),
-        _ => edit_in_turn(alloc, source, encoding, ascii_only, edits),
+        [edit] => edit_once(alloc, source, encoding, ascii_only, comments, edit),
+        _ => edit_in_turn(alloc, source, encoding, ascii_only, comments, edits),
     }
 }
 
@@ -265,15 +323,18 @@ fn edit_once(
     source: &[u8],
     encoding: Encoding,
     ascii_only: bool,
+    comments: Comments,
     edit: &Edit,
 ) -> Result<Vec<u8>, PropertiesError>
-    ensures { MakesEdits (encoding_of encoding) ascii_only source.now (edit_in edit.now ∷ []) result }
+    ensures { Returns comments (encoding_of encoding) source.now (AreEdited (encoding_of encoding) ascii_only source.now (edit_in edit.now ∷ [])) result }
 {
     match edit {
-        Edit::Put(key, value) => set_key_with(alloc, source, encoding, ascii_only, key, value),
-        Edit::Remove(key) => remove_key(alloc, source, encoding, key),
+        Edit::Put(key, value) => set_key_with(
+            alloc, source, encoding, ascii_only, comments, key, value,
+        ),
+        Edit::Remove(key) => remove_key_with(alloc, source, encoding, comments, key),
         Edit::SetValue(key, value) => {
-            set_value_with(alloc, source, encoding, ascii_only, key, value)
+            set_value_with(alloc, source, encoding, ascii_only, comments, key, value)
         }
     }
 }
@@ -284,12 +345,13 @@ fn edit_in_turn(
     source: &[u8],
     encoding: Encoding,
     ascii_only: bool,
+    comments: Comments,
     edits: &[Edit],
 ) -> Result<Vec<u8>, PropertiesError>
-    ensures { MakesEdits (encoding_of encoding) ascii_only source.now (edits_in edits.now) result }
+    ensures { Returns comments (encoding_of encoding) source.now (AreEdited (encoding_of encoding) ascii_only source.now (edits_in edits.now)) result }
 {
     let opened = BodyStart::open(source, encoding, ascii_only)?;
-    let mut index = Index::parse(alloc, opened.encoding, &source[opened.start..])?;
+    let mut index = Index::parse(alloc, opened.encoding, comments, &source[opened.start..])?;
     let mut bytes = source.to_vec(alloc)?;
     for edit in edits {
         make_edit(alloc, &mut bytes, opened, &mut index, edit)?;

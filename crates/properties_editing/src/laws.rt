@@ -2,14 +2,17 @@
 //!
 //! The functions do nothing: each states laws as its contract.
 
-ghost use Rattle.std.specs.Prelude.{ℕ, Bool, List};
+ghost use Rattle.std.specs.Prelude.{ℕ, Bool, List, Option};
 ghost use Rattle.properties_format.specs.Encoding.{Encoding};
+ghost use Rattle.properties_format.specs.Settings.{Settings};
+ghost use Rattle.properties_format.specs.Writing.{Call};
 ghost use Rattle.properties_format.specs.Edits.{Edit};
 ghost use Rattle.properties_format.specs.EditLaws.{RemovingNoPairChangesNothing, SettingTwiceIsSettingOnce};
 ghost use Rattle.properties_format.specs.EditLaws.{SettingGivesTheValue, RemovingTakesTheValue};
 ghost use Rattle.properties_format.specs.EditLaws.{SettingItsOwnValueChangesNothing, SettingAValueTwiceIsSettingItOnce};
-ghost use Rattle.properties_format.specs.EditLaws.{SettingAValueAgainChangesNothing, SettingAValueGivesIt};
+ghost use Rattle.properties_format.specs.EditLaws.{SettingAValueAgainChangesNothing, SettingAValueGivesIt, SettingAValueIsWritingAnew};
 ghost use Rattle.properties_format.specs.EditLaws.{NoEditsChangeNothing, OneEditIsItsCall, ListsOfEditsFollow};
+ghost use Rattle.properties_format.specs.EditLaws.{PassingOverIsReading, ValueIsAmongPairs};
 
 /// The effects of edits, for every source, in ASCII alone or not. Removing a key that no pair has changes no byte.
 /// Setting a key twice is the same as setting it once, to the later value. After a key is set, the map has its value;
@@ -17,7 +20,8 @@ ghost use Rattle.properties_format.specs.EditLaws.{NoEditsChangeNothing, OneEdit
 ///
 /// A value that is set with its layout kept is in the map as well. Setting the value that a key has changes no byte,
 /// nor does setting a value again. Setting a value twice is the same as setting it once, to the later value, if the
-/// source doesn't have the later value already.
+/// source doesn't have the later value already. Setting the value of a pair in what a writer wrote, with readable output
+/// on, gives what the writer writes with that value.
 ///
 /// An empty list of edits returns the source. A list of one edit is the same as the call for that edit. Two lists of
 /// edits, concatenated, give what the second list makes of the first list's result.
@@ -35,7 +39,10 @@ pub fn editing()
     ensures value_twice { (e : Encoding) (only : Bool) (source key v w : List ℕ) → SettingAValueTwiceIsSettingItOnce e only source key v w }
     ensures value_again { (e : Encoding) (only : Bool) (source key value : List ℕ) → SettingAValueAgainChangesNothing e only source key value }
     ensures value { (e : Encoding) (only : Bool) (source key value : List ℕ) → SettingAValueGivesIt e only source key value }
+    ensures value_anew { (e : Encoding) (s : Settings) (before : List Call) (key old : List ℕ) (after : List Call) (value : List ℕ) → SettingAValueIsWritingAnew e s before key old after value }
     ensures none { (e : Encoding) (only : Bool) (source : List ℕ) → NoEditsChangeNothing e only source }
     ensures one { (e : Encoding) (only : Bool) (source : List ℕ) (edit : Edit) → OneEditIsItsCall e only source edit }
     ensures lists { (e : Encoding) (only : Bool) (source : List ℕ) (xs ys : List Edit) → ListsOfEditsFollow e only source xs ys }
+    ensures passed_over { (e : Encoding) (only : Bool) (source : List ℕ) (edits : List Edit) → PassingOverIsReading e only source edits }
+    ensures among_pairs { (e : Encoding) (source key : List ℕ) (value : Option (List ℕ)) → ValueIsAmongPairs e source key value }
 {}

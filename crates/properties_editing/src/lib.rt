@@ -7,4 +7,6 @@
 mod edit;
 pub mod laws;
 
-pub use edit::{Document, Edit, edit_all, edit_all_ascii, remove_key, set_key, set_value};
+pub use edit::{
+    Document, Edit, edit_all, edit_all_ascii, edit_pairs, remove_key, set_key, set_value,
+};

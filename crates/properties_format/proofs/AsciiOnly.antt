@@ -1,21 +1,21 @@
 -- If ASCII-only output is on, every byte that is written is ASCII, and the bytes read back the same in windows-1252 and
 -- in UTF-8.
-use Rattle.std.proofs.Common.{◌≡◌, ℕ, ◌<◌, ◌==◌, ◌||◌, Bool, true, false, cond, List, [], ◌∷◌, ◌++◌, refl, ap, sym, ◌∙◌, inl, inr, ap₂, subst, ltb-true}
-use Rattle.std.specs.Prelude.{Option, Some, None, is_some, nat_lt}
+use Rattle.std.proofs.Common.{◌≡◌, ℕ, ◌<◌, ◌==◌, ◌||◌, Bool, true, false, cond, List, [], ◌∷◌, ◌++◌, refl, ap, sym, ◌∙◌, inl, inr, ap₂, subst, ltb-true, lit<}
+use Rattle.std.specs.Prelude.{Option, Some, None, is_some, nat_lt, if◌then◌else◌, ◌&&◌}
 use Rattle.std.specs.List.{AllByRecursion}
 use Rattle.std.proofs.lemmas.List.Elements.{All-from_recursion, recursion_from_All}
 use Rattle.std.proofs.lemmas.Bool.{cases_Bool, and_left, cond_both}
-use Rattle.properties_format.specs.Text.{line_ending_text, backslash}
+use Rattle.properties_format.specs.Text.{line_ending_text, space, backslash, is_blanks, is_empty, is_separator}
 use Rattle.properties_format.specs.Encoding.{Encoding, windows_1252, utf_8, encoded, begins_like_bom}
 use Rattle.properties_format.specs.Lines.{end}
 use Rattle.properties_format.specs.Entries.{Content, comment, pair}
 use Rattle.properties_format.specs.Items.{IsItems}
 use Rattle.properties_format.specs.Settings.{Settings, IsGoodSeparator}
 use Rattle.properties_format.specs.Computed.Settings.{is_good_prefix, is_good_separator}
-use Rattle.properties_format.specs.Printing.{Place, in_key_or_value, in_comment, in_prefix, unicode_escape, may_be_unescaped, literal, letter_escape, printed_character, printed_characters, encoded_text, is_bom_like, with_first_escaped, printed_key, printed_text, printed}
+use Rattle.properties_format.specs.Printing.{Place, in_key_or_value, in_comment, in_prefix, unicode_escape, may_be_unescaped, literal, letter_escape, printed_character, printed_characters, encoded_text, is_bom_like, with_first_escaped, printed_key, unit_escape, is_free, printed_inside, printed_first, printed_last, printed_rest, printed_value, printed_text, printed}
 use Rattle.properties_format.specs.Writing.{Call, prefix_call, separator_call, ascii_only_call, settings_after_call, settings_after, written_line, lines_with, line_bytes, wrote, items_read_back, ArePrefixesClean, AreOfScalars, AreGoodSettings}
 use Rattle.properties_format.specs.AsciiOnly.{KeepsAsciiOnly, AllKeepAsciiOnly, AreAsciiOnly, AreAsciiBytes, AreItemsInBoth}
-use Rattle.properties_format.proofs.Printing.Characters.{AreAscii, AreAscii-append, encoded_text-ascii, line_end-ascii, good_separator-ascii, may_be_unescaped-ascii, printed-either}
+use Rattle.properties_format.proofs.Printing.Characters.{AreAscii, AreAscii-append, encoded_text-ascii, line_end-ascii, good_separator-ascii, may_be_unescaped-ascii, printed-either, unicode_escape-ascii, special-ascii, free-plain, first-special}
 use Rattle.properties_format.proofs.Settings.Tests.{IsGoodSeparator-from_test}
 use Rattle.properties_format.proofs.ReadBack.Unmarked.{front-unmarked}
 use Rattle.properties_format.proofs.ReadBack.Law.{IsItems-wrote}
@@ -59,6 +59,54 @@ pub printed_characters-ascii : (e : Encoding) (place : Place) (x : List ℕ) →
 printed_characters-ascii e place [] = tt
 printed_characters-ascii e place (c ∷ x) = AreAscii-append (printed_character e true place c) (printed_characters e true place x) (printed-ascii e place c) (printed_characters-ascii e place x)
 
+-- ---- values
+
+-- A character inside a value is printed in ASCII.
+inside-ascii : (e : Encoding) (c : ℕ) → AreAscii (printed_inside e true c)
+inside-ascii e c =
+    cond_both (is_free c) (c ∷ []) (printed_character e true in_key_or_value c) AreAscii (λ k. ((free-plain c k).2, tt)) (λ k. printed-ascii e in_key_or_value c)
+
+-- So is the first character,
+first-ascii : (e : Encoding) (after_blanks : Bool) (c : ℕ) → AreAscii (printed_first e true after_blanks c)
+first-ascii e after_blanks c =
+    cond_both (c == space || (after_blanks && is_separator c)) (backslash ∷ c ∷ []) (printed_inside e true c) AreAscii
+    (λ k. (lit< tt, (special-ascii c (first-special after_blanks c k), tt))) (λ k. inside-ascii e c)
+
+-- the last one,
+last-ascii : (e : Encoding) (c : ℕ) → AreAscii (printed_last e true c)
+last-ascii e c = cond_both (c == space) (unit_escape space) (printed_inside e true c) AreAscii (λ k. unicode_escape-ascii space) (λ k. inside-ascii e c)
+
+-- those after the first,
+rest-ascii : (e : Encoding) (cs : List ℕ) → AreAscii (printed_rest e true cs)
+rest-ascii e [] = tt
+rest-ascii e (c ∷ []) = last-ascii e c
+rest-ascii e (c ∷ d ∷ cs) = AreAscii-append (printed_inside e true c) (printed_rest e true (d ∷ cs)) (inside-ascii e c) (rest-ascii e (d ∷ cs))
+
+-- and the whole value.
+pub printed_value-ascii : (e : Encoding) (after_blanks : Bool) (value : List ℕ) → AreAscii (printed_value e true after_blanks value)
+printed_value-ascii e after_blanks [] = tt
+printed_value-ascii e after_blanks (c ∷ cs) =
+    cond_both (is_empty cs && c == space) (unit_escape space) (printed_first e true after_blanks c ++ printed_rest e true cs) AreAscii
+    (λ k. unicode_escape-ascii space)
+    (λ k. AreAscii-append (printed_first e true after_blanks c) (printed_rest e true cs) (first-ascii e after_blanks c) (rest-ascii e cs))
+
+-- A character inside a value,
+inside-same : (e f : Encoding) (c : ℕ) → printed_inside e true c ≡ printed_inside f true c
+inside-same e f c = ap (λ x. cond (is_free c) (c ∷ []) x) (printed-same e f in_key_or_value c)
+
+-- those after the first,
+rest-same : (e f : Encoding) (cs : List ℕ) → printed_rest e true cs ≡ printed_rest f true cs
+rest-same e f [] = refl
+rest-same e f (c ∷ []) = ap (λ x. cond (c == space) (unit_escape space) x) (inside-same e f c)
+rest-same e f (c ∷ d ∷ cs) = ap₂ (λ v w. v ++ w) (inside-same e f c) (rest-same e f (d ∷ cs))
+
+-- and the whole value.
+pub printed_value-same : (e f : Encoding) (after_blanks : Bool) (value : List ℕ) → printed_value e true after_blanks value ≡ printed_value f true after_blanks value
+printed_value-same e f after_blanks [] = refl
+printed_value-same e f after_blanks (c ∷ cs) = cc (inside-same e f c, rest-same e f cs)
+
+-- ---- keys
+
 -- The bytes of an ASCII text don't begin like a byte order mark.
 pub ascii-unmarked : (e : Encoding) (x : List ℕ) → AreAscii x → begins_like_bom (encoded_text e x) ≡ false
 ascii-unmarked e [] h = refl
@@ -83,10 +131,23 @@ printed_key-ascii e first key = subst AreAscii (sym (printed_key-on e first key)
 
 -- ---- lines
 
+-- a value, with ASCII-only output on or off
+abbrev value_part : Encoding → Bool → Settings → List ℕ → List ℕ
+value_part e only s value = if s.readable then printed_value e only (is_blanks s.kv_separator) value else printed_characters e only in_key_or_value value
+
+value_part-same : (e f : Encoding) (s : Settings) (value : List ℕ) → value_part e true s value ≡ value_part f true s value
+value_part-same e f s value =
+    ap₂ (λ v w. cond s.readable v w) (printed_value-same e f (is_blanks s.kv_separator) value) (printed_characters-same e f in_key_or_value value)
+
+value_part-ascii : (e : Encoding) (s : Settings) (value : List ℕ) → AreAscii (value_part e true s value)
+value_part-ascii e s value =
+    cond_both s.readable (printed_value e true (is_blanks s.kv_separator) value) (printed_characters e true in_key_or_value value) AreAscii
+    (λ _. printed_value-ascii e (is_blanks s.kv_separator) value) (λ _. printed_characters-ascii e in_key_or_value value)
+
 -- the parts of a line, with ASCII-only output on or off
 abbrev parts : Encoding → Bool → Settings → Bool → Content → List ℕ
 parts e only s first (comment text) = printed_characters e only in_prefix s.comment_prefix ++ (printed_characters e only in_comment text ++ line_ending_text s.line_ending)
-parts e only s first (pair key value) = printed_key e only first key ++ (s.kv_separator ++ (printed_characters e only in_key_or_value value ++ line_ending_text s.line_ending))
+parts e only s first (pair key value) = printed_key e only first key ++ (s.kv_separator ++ (value_part e only s value ++ line_ending_text s.line_ending))
 
 -- If it is on, a line is printed from these parts.
 printed-parts : (e : Encoding) (s : Settings) (first : Bool) (line : Content) → s.ascii_only ≡ true → printed_text e s first line ≡ parts e true s first line
@@ -98,7 +159,7 @@ parts-same : (e f : Encoding) (s : Settings) (first : Bool) (line : Content) →
 parts-same e f s first (comment text) =
     ap₂ (λ v w. v ++ (w ++ line_ending_text s.line_ending)) (printed_characters-same e f in_prefix s.comment_prefix) (printed_characters-same e f in_comment text)
 parts-same e f s first (pair key value) =
-    ap₂ (λ v w. v ++ (s.kv_separator ++ (w ++ line_ending_text s.line_ending))) (printed_key-same e f first key) (printed_characters-same e f in_key_or_value value)
+    ap₂ (λ v w. v ++ (s.kv_separator ++ (w ++ line_ending_text s.line_ending))) (printed_key-same e f first key) (value_part-same e f s value)
 
 -- The parts are ASCII if the separator is good.
 parts-ascii : (e : Encoding) (s : Settings) (first : Bool) (line : Content) → IsGoodSeparator s.kv_separator → AreAscii (parts e true s first line)
@@ -107,9 +168,9 @@ parts-ascii e s first (comment text) g =
     (printed_characters-ascii e in_prefix s.comment_prefix)
     (AreAscii-append (printed_characters e true in_comment text) (line_ending_text s.line_ending) (printed_characters-ascii e in_comment text) (line_end-ascii s.line_ending))
 parts-ascii e s first (pair key value) g =
-    AreAscii-append (printed_key e true first key) (s.kv_separator ++ (printed_characters e true in_key_or_value value ++ line_ending_text s.line_ending)) (printed_key-ascii e first key)
-    (AreAscii-append s.kv_separator (printed_characters e true in_key_or_value value ++ line_ending_text s.line_ending) (good_separator-ascii s.kv_separator g)
-    (AreAscii-append (printed_characters e true in_key_or_value value) (line_ending_text s.line_ending) (printed_characters-ascii e in_key_or_value value) (line_end-ascii s.line_ending)))
+    AreAscii-append (printed_key e true first key) (s.kv_separator ++ (value_part e true s value ++ line_ending_text s.line_ending)) (printed_key-ascii e first key)
+    (AreAscii-append s.kv_separator (value_part e true s value ++ line_ending_text s.line_ending) (good_separator-ascii s.kv_separator g)
+    (AreAscii-append (value_part e true s value) (line_ending_text s.line_ending) (value_part-ascii e s value) (line_end-ascii s.line_ending)))
 
 -- The bytes are shared: they are ASCII, and the same in the other encoding.
 record AreShared (f : Encoding) (x y : List ℕ) : Type 0 where

@@ -1,3 +1,4 @@
+pub mod Contents
 pub mod Items
 pub mod Laws
 pub mod Maps

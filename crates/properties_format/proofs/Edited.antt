@@ -1,9 +1,9 @@
-pub mod Outcomes
+pub mod Fronts
 pub mod Made
 pub mod Results
 pub mod ByteOrderMarks
 pub mod Pair
-pub mod Contents
+pub mod LogicalLines
 pub mod Steps
 pub mod Parts
 pub mod Replaced

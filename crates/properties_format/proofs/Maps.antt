@@ -85,7 +85,7 @@ first-none None = refl
 first-none (Some v) = refl
 
 -- In two lists of entries, the value is that in the second, or else that in the first.
-value_in-append : (xs ys : List Entry) (key : List ℕ) → value_in (xs ++ ys) key ≡ first_value (value_in ys key) (value_in xs key)
+pub value_in-append : (xs ys : List Entry) (key : List ℕ) → value_in (xs ++ ys) key ≡ first_value (value_in ys key) (value_in xs key)
 value_in-append [] ys key = sym (first-none (value_in ys key))
 value_in-append (x ∷ xs) ys key = simp (first-assoc, value_in-append xs ys key)
 

@@ -1,6 +1,7 @@
 -- What is written is read back.
 pub mod Spellings
 pub mod Texts
+pub mod Values
 pub mod Pairs
 pub mod Comments
 pub mod Lines

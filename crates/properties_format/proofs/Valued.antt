@@ -2,7 +2,6 @@ pub mod Parts
 pub mod Heads
 pub mod Fronts
 pub mod Made
-pub mod Texts
 pub mod Lined
 pub mod Revalued
 pub mod Pair
@@ -17,3 +16,4 @@ pub mod Sizes
 pub mod Steps
 pub mod Walks
 pub mod InAscii
+pub mod Anew

@@ -6,7 +6,7 @@ use Rattle.properties_format.specs.Encoding.{windows_1252, utf_8}
 use Rattle.properties_format.specs.Lines.{end}
 use Rattle.properties_format.specs.Entries.{Entry}
 use Rattle.properties_format.specs.Items.{IsItems}
-use Rattle.properties_format.specs.Writing.{Call, comment_call, pair_call, prefix_call, separator_call, ending_call, flush_call, ascii_only_call}
+use Rattle.properties_format.specs.Writing.{Call, comment_call, pair_call, prefix_call, separator_call, ending_call, flush_call, ascii_only_call, readable_call}
 
 -- The call doesn't turn ASCII-only output off.
 abbrev pub KeepsAsciiOnly : Call → Type 0
@@ -17,6 +17,7 @@ KeepsAsciiOnly (separator_call separator) = Unit {0}
 KeepsAsciiOnly (ending_call line_ending) = Unit {0}
 KeepsAsciiOnly flush_call = Unit {0}
 KeepsAsciiOnly (ascii_only_call on) = on ≡ true
+KeepsAsciiOnly (readable_call on) = Unit {0}
 
 -- None of the calls turns ASCII-only output off.
 abbrev pub AllKeepAsciiOnly : List Call → Type 0

@@ -22,3 +22,4 @@ pub mod Parts
 pub mod Keys
 pub mod Undecoded
 pub mod Converting
+pub mod EditedPairs

@@ -1,16 +1,20 @@
 -- The laws of edits that callers rely on. They hold with ASCII-only output on and off, as the flag after the encoding
 -- says.
 -- Source: java.util.Properties of Java SE 7, setProperty and load (a later pair takes the place of an earlier one).
-use Rattle.std.specs.Prelude.{◌≡◌, ◌≢◌, ◌↔◌, All, ℕ, List, [], ◌∷◌, ◌++◌, Option, Some, None, Bool}
+use Rattle.std.specs.Prelude.{◌≡◌, ◌≢◌, ◌↔◌, All, ℕ, ◌+◌, true, List, [], ◌∷◌, ◌++◌, Option, Some, None, Bool}
 use Rattle.properties_format.specs.Text.{scalar}
 use Rattle.properties_format.specs.Encoding.{Encoding}
 use Rattle.properties_format.specs.Lines.{end}
 use Rattle.properties_format.specs.Entries.{Entry}
 use Rattle.properties_format.specs.Items.{IsItems}
 use Rattle.properties_format.specs.Maps.{HasNoPair, IsMap, HasValue}
+use Rattle.properties_format.specs.Settings.{Settings}
+use Rattle.properties_format.specs.Writing.{Call, pair_call, is_accepted, settings_after, line_count_after, wrote, items_read_back}
 use Rattle.properties_format.specs.Edited.{EditResult, edited, ItemsAre, IsSetKeyResult, IsRemoveKeyResult}
 use Rattle.properties_format.specs.Edits.{Edit, put, remove, set_value, AreScalarEdits, IsEditAllResult}
+use Rattle.properties_format.specs.EditedPairs.{AreInPairs, EscapesAre, HasPairValue, IsEditPairsResult}
 use Rattle.properties_format.specs.Valued.{IsSetValueResult}
+use Rattle.properties_format.specs.Laws.{AreReadBack}
 
 -- ---- One key.
 
@@ -73,6 +77,16 @@ SettingAValueGivesIt e only source key value =
     All scalar key → All scalar value → (result : List ℕ) → IsSetValueResult e only source key value (edited result)
     → (old new : List ℕ → Option (List ℕ)) → HasMap e source old → HasMap e result new → DiffersAt key (Some value) old new
 
+-- A pair's value is set in what calls wrote: the result is what they write with that value. Readable output was on for
+-- the pair, ASCII-only output is on for the edit if it was for the pair, and no later pair has the key.
+abbrev pub SettingAValueIsWritingAnew : Encoding → Settings → List Call → List ℕ → List ℕ → List Call → List ℕ → Type 0
+SettingAValueIsWritingAnew e s before key old after value =
+    let at = settings_after s before in
+    let file : List ℕ → List ℕ = λ v. wrote e s 0 (before ++ pair_call key v ∷ after) in
+    AreReadBack e s (before ++ pair_call key old ∷ after) → is_accepted at (pair_call key old) ≡ true → at.readable ≡ true
+    → HasNoPair key (items_read_back at (line_count_after s 0 before + 1) after)
+    → (result : List ℕ) → IsSetValueResult e at.ascii_only (file old) key value (edited result) → result ≡ file value
+
 -- ---- Lists of edits.
 
 -- An empty list of edits changes no byte.
@@ -92,3 +106,15 @@ abbrev pub ListsOfEditsFollow : Encoding → Bool → List ℕ → List Edit →
 ListsOfEditsFollow e only source first second =
     AreScalarEdits first → (between : List ℕ) → IsEditAllResult e only source first (edited between)
     → (result : EditResult) → IsEditAllResult e only source (first ++ second) result ↔ IsEditAllResult e only between second result
+
+-- ---- Comments that are passed over.
+
+-- Where no malformed escape is in a comment, edits that pass over comments have the same results as edits that read
+-- them.
+abbrev pub PassingOverIsReading : Encoding → Bool → List ℕ → List Edit → Type 0
+PassingOverIsReading e only source edits =
+    EscapesAre e source AreInPairs → (result : EditResult) → IsEditPairsResult e only source edits result ↔ IsEditAllResult e only source edits result
+
+-- If no escape is malformed, the value of a key is its value where comments are passed over.
+abbrev pub ValueIsAmongPairs : Encoding → List ℕ → List ℕ → Option (List ℕ) → Type 0
+ValueIsAmongPairs e source key value = HasValue e source key value → HasPairValue e source key value

@@ -28,6 +28,8 @@ pub mod Edited
 pub mod Changed
 pub mod Valued
 pub mod Edits
+pub mod LogicalLines
+pub mod EditedPairs
 pub mod Laws
 pub mod Converting
 pub mod EditLaws

@@ -3,7 +3,7 @@
 -- by `\u` and four hexadecimal digits for each of its UTF-16 units (The Unicode Standard, section 3.9, D91).
 use Rattle.std.specs.Prelude.{ℕ, ◌+◌, ◌-◌, ◌/◌, ◌%◌, ◌==◌, ◌&&◌, ◌||◌, not, nat_lt, Bool, if◌then◌else◌, List, [], ◌∷◌, ◌++◌, is_some, unwrap_or}
 use Rattle.std.specs.Char.{digit_char}
-use Rattle.properties_format.specs.Text.{line_ending_text, tab, line_feed, form_feed, carriage_return, space, backslash, is_comment_sign, is_separator}
+use Rattle.properties_format.specs.Text.{line_ending_text, tab, line_feed, form_feed, carriage_return, space, backslash, is_empty, is_blanks, is_comment_sign, is_separator}
 use Rattle.properties_format.specs.Encoding.{Encoding, encoded, begins_like_bom}
 use Rattle.properties_format.specs.Entries.{Content, comment, pair}
 use Rattle.properties_format.specs.Settings.{Settings}
@@ -64,6 +64,38 @@ abbrev pub printed_characters : Encoding → Bool → Place → List ℕ → Lis
 printed_characters e only place [] = []
 printed_characters e only place (c ∷ cs) = printed_character e only place c ++ printed_characters e only place cs
 
+-- ---- A value as people write it.
+
+-- whether a value may have this character unescaped, except at its ends: a space, a separator or a comment sign
+abbrev pub is_free : ℕ → Bool
+is_free c = c == space || (is_separator c || is_comment_sign c)
+
+-- a character inside a value: unescaped if it is one of these, otherwise as a writer prints it, with ASCII-only output
+-- on or off as the flag says
+abbrev pub printed_inside : Encoding → Bool → ℕ → List ℕ
+printed_inside e only c = if is_free c then c ∷ [] else printed_character e only in_key_or_value c
+
+-- the first character: a space is escaped by a backslash, and after blanks only, so is a separator
+abbrev pub printed_first : Encoding → Bool → Bool → ℕ → List ℕ
+printed_first e only after_blanks c = if c == space || (after_blanks && is_separator c) then backslash ∷ c ∷ [] else printed_inside e only c
+
+-- the last character: a space is `\u0020`, which survives editors that trim lines
+abbrev pub printed_last : Encoding → Bool → ℕ → List ℕ
+printed_last e only c = if c == space then unit_escape space else printed_inside e only c
+
+-- the characters after the first; the last of them is printed as the last character
+abbrev pub printed_rest : Encoding → Bool → List ℕ → List ℕ
+printed_rest e only [] = []
+printed_rest e only (c ∷ []) = printed_last e only c
+printed_rest e only (c ∷ d ∷ cs) = printed_inside e only c ++ printed_rest e only (d ∷ cs)
+
+-- a value, after blanks only or after a separator
+abbrev pub printed_value : Encoding → Bool → Bool → List ℕ → List ℕ
+printed_value e only after_blanks [] = []
+printed_value e only after_blanks (c ∷ cs) = if is_empty cs && c == space then unit_escape space else printed_first e only after_blanks c ++ printed_rest e only cs
+
+-- ---- A line.
+
 -- the bytes of a text whose characters the encoding has
 abbrev pub encoded_text : Encoding → List ℕ → List ℕ
 encoded_text e [] = []
@@ -83,10 +115,15 @@ with_first_escaped e only (c ∷ cs) = unicode_escape c ++ printed_characters e 
 abbrev pub printed_key : Encoding → Bool → Bool → List ℕ → List ℕ
 printed_key e only first key = if first && is_bom_like e only key then with_first_escaped e only key else printed_characters e only in_key_or_value key
 
+-- the value of a pair under these settings: if readable output is on, as people write it, given whether the separator is
+-- blanks only; otherwise character by character
+abbrev pub written_value : Encoding → Settings → List ℕ → List ℕ
+written_value e s value = if s.readable then printed_value e s.ascii_only (is_blanks s.kv_separator) value else printed_characters e s.ascii_only in_key_or_value value
+
 -- the characters of a printed line: prefix, text and line end; or key, separator, value and line end
 abbrev pub printed_text : Encoding → Settings → Bool → Content → List ℕ
 printed_text e s first (comment text) = printed_characters e s.ascii_only in_prefix s.comment_prefix ++ (printed_characters e s.ascii_only in_comment text ++ line_ending_text s.line_ending)
-printed_text e s first (pair key value) = printed_key e s.ascii_only first key ++ (s.kv_separator ++ (printed_characters e s.ascii_only in_key_or_value value ++ line_ending_text s.line_ending))
+printed_text e s first (pair key value) = printed_key e s.ascii_only first key ++ (s.kv_separator ++ (written_value e s value ++ line_ending_text s.line_ending))
 
 -- the bytes of a printed line
 abbrev pub printed : Encoding → Settings → Bool → Content → List ℕ

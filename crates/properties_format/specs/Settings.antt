@@ -6,17 +6,20 @@ use Rattle.properties_format.specs.Lines.{HoldsNoLineEnd}
 use Rattle.properties_format.specs.Split.{AreBlanks}
 use Rattle.properties_format.specs.Text.{LineEnding, lf, space, number_sign, equals_sign, is_comment_sign, is_separator}
 
--- what comes before a comment's text, what separates a key from its value, what ends a line, and whether ASCII-only
--- output is on, which escapes every character above U+007F
+-- what comes before a comment's text, what separates a key from its value, what ends a line, whether ASCII-only output
+-- is on, which escapes every character above U+007F, and whether readable output is on, which escapes no more of a value
+-- than it must
 pub record Settings : Type 0 where
   pub comment_prefix : List ℕ
   pub kv_separator : List ℕ
   pub line_ending : LineEnding
   pub ascii_only : Bool
+  pub readable : Bool
 
--- the settings of a new writer: a number sign and a space, an equals sign, LF, and ASCII-only output off
+-- the settings of a new writer: a number sign and a space, an equals sign, LF, and ASCII-only and
+-- readable output off
 abbrev pub default_settings : Settings
-default_settings = record { comment_prefix = number_sign ∷ space ∷ []; kv_separator = equals_sign ∷ []; line_ending = lf; ascii_only = false }
+default_settings = record { comment_prefix = number_sign ∷ space ∷ []; kv_separator = equals_sign ∷ []; line_ending = lf; ascii_only = false; readable = false }
 
 -- A good comment prefix: any number of blanks, a comment sign, and any text without a line end.
 pub record IsGoodPrefix (prefix : List ℕ) : Type 0 where

@@ -1,7 +1,7 @@
 -- Bytes, characters, and the kinds of characters that the format distinguishes. A text is the list of its characters,
 -- and a character is its code point.
 -- Source: java.util.Properties of Java SE 7, load; The Unicode Standard, section 3.9, D76 (scalar values).
-use Rattle.std.specs.Prelude.{ℕ, ◌<◌, ◌≤◌, ◌==◌, ◌&&◌, ◌||◌, ◌⊎◌, Bool, true, List, [], ◌∷◌, if◌then◌else◌}
+use Rattle.std.specs.Prelude.{ℕ, ◌<◌, ◌≤◌, ◌==◌, ◌&&◌, ◌||◌, ◌⊎◌, Bool, true, false, List, [], ◌∷◌, if◌then◌else◌}
 
 -- a byte
 abbrev pub byte : ℕ → Type 0
@@ -50,6 +50,11 @@ replacement = 0xfffd
 -- whether a character is a blank: a space, a tab or a form feed, and no other white space
 abbrev pub is_blank : ℕ → Bool
 is_blank c = c == space || (c == tab || c == form_feed)
+
+-- whether the text is empty
+abbrev pub is_empty : List ℕ → Bool
+is_empty [] = true
+is_empty (c ∷ cs) = false
 
 -- whether all characters of the text are blanks
 abbrev pub is_blanks : List ℕ → Bool

@@ -2,48 +2,19 @@
 -- line ending.
 -- Source: java.util.Properties of Java SE 7, setProperty and load (a later pair takes the place of an earlier one; how
 -- a key, its separator and its value are distinguished).
-use Rattle.std.specs.Prelude.{◌≡◌, ◌⊎◌, ℕ, ◌==◌, ◌&&◌, ◌||◌, Bool, true, false, if◌then◌else◌, List, [], ◌∷◌, ◌++◌, None, unwrap_or}
-use Rattle.properties_format.specs.Text.{LineEnding, lf, line_ending_text, space, backslash, equals_sign, is_blank, is_blanks, is_separator, is_comment_sign}
+use Rattle.std.specs.Prelude.{◌≡◌, ◌⊎◌, ℕ, ◌&&◌, Bool, true, false, if◌then◌else◌, List, [], ◌∷◌, ◌++◌, None, unwrap_or}
+use Rattle.properties_format.specs.Text.{LineEnding, lf, line_ending_text, equals_sign, is_blank, is_blanks, is_empty}
 use Rattle.properties_format.specs.Encoding.{Encoding, byte_order_mark}
 use Rattle.properties_format.specs.Cut.{IsDecodedLine}
 use Rattle.properties_format.specs.Groups.{is_open, joined}
 use Rattle.properties_format.specs.Split.{AreBlanks, IsPair}
 use Rattle.properties_format.specs.Entries.{pair}
 use Rattle.properties_format.specs.Items.{given, IsOutcome}
-use Rattle.properties_format.specs.Printing.{in_key_or_value, unit_escape, printed_character, printed_key, encoded_text}
-use Rattle.properties_format.specs.Writing.{is_empty}
+use Rattle.properties_format.specs.Printing.{printed_key, printed_value, encoded_text}
 use Rattle.properties_format.specs.Body.{HeldLine, AreGroupsOf, HasKey, NoneHasKey, as_lines, held_in, group_bytes, groups_bytes, ending_bytes, last_ending}
 use Rattle.properties_format.specs.Edited.{bom_of, final_group, is_empty_line, is_left_open, EditResult, IsEditResult}
 
 -- ---- How a value is spelt.
-
--- whether a value may have this character unescaped, except at its ends: a space, a separator or a comment sign
-abbrev pub is_free : ℕ → Bool
-is_free c = c == space || (is_separator c || is_comment_sign c)
-
--- a character inside a value: unescaped if it is one of these, otherwise as a writer prints it, with ASCII-only output
--- on or off as the flag says
-abbrev pub printed_inside : Encoding → Bool → ℕ → List ℕ
-printed_inside e only c = if is_free c then c ∷ [] else printed_character e only in_key_or_value c
-
--- the first character: a space is escaped by a backslash, and after blanks only, so is a separator
-abbrev pub printed_first : Encoding → Bool → Bool → ℕ → List ℕ
-printed_first e only after_blanks c = if c == space || (after_blanks && is_separator c) then backslash ∷ c ∷ [] else printed_inside e only c
-
--- the last character: a space is `\u0020`, which survives editors that trim lines
-abbrev pub printed_last : Encoding → Bool → ℕ → List ℕ
-printed_last e only c = if c == space then unit_escape space else printed_inside e only c
-
--- the characters after the first; the last of them is printed as the last character
-abbrev pub printed_rest : Encoding → Bool → List ℕ → List ℕ
-printed_rest e only [] = []
-printed_rest e only (c ∷ []) = printed_last e only c
-printed_rest e only (c ∷ d ∷ cs) = printed_inside e only c ++ printed_rest e only (d ∷ cs)
-
--- a value, after blanks only or after a separator
-abbrev pub printed_value : Encoding → Bool → Bool → List ℕ → List ℕ
-printed_value e only after_blanks [] = []
-printed_value e only after_blanks (c ∷ cs) = if is_empty cs && c == space then unit_escape space else printed_first e only after_blanks c ++ printed_rest e only cs
 
 -- what follows the front of a pair: the value, preceded by an equals sign if nothing separated the key from its value
 abbrev pub value_text : Encoding → Bool → List ℕ → List ℕ → List ℕ

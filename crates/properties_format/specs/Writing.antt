@@ -1,7 +1,7 @@
 -- What a list of calls to a writer writes, and what is read back.
 -- Source: java.util.Properties of Java SE 7, store, which writes one comment or one pair a line.
 use Rattle.std.specs.Prelude.{◌≡◌, All, ℕ, ◌+◌, ◌==◌, ◌&&◌, not, Bool, true, false, if◌then◌else◌, List, [], ◌∷◌, ◌++◌, Option, Some, None}
-use Rattle.properties_format.specs.Text.{scalar, LineEnding, backslash, is_blanks, is_comment_sign}
+use Rattle.properties_format.specs.Text.{scalar, LineEnding, backslash, is_blanks, is_comment_sign, is_empty}
 use Rattle.properties_format.specs.Encoding.{Encoding}
 use Rattle.properties_format.specs.Computed.Split.{trimmed}
 use Rattle.properties_format.specs.Entries.{Content, comment, pair, Entry, item}
@@ -9,7 +9,7 @@ use Rattle.properties_format.specs.Settings.{Settings, IsGoodPrefix, IsGoodSepar
 use Rattle.properties_format.specs.Computed.Settings.{is_good_prefix, is_good_separator}
 use Rattle.properties_format.specs.Printing.{printed}
 
--- a call: writes a comment or a pair, changes a setting, flushes, or turns ASCII-only output on or off
+-- a call: writes a comment or a pair, changes a setting, flushes, or turns ASCII-only or readable output on or off
 pub data Call : Type 0 where
   comment_call : List ℕ → Call
   pair_call : List ℕ → List ℕ → Call
@@ -18,11 +18,7 @@ pub data Call : Type 0 where
   ending_call : LineEnding → Call
   flush_call : Call
   ascii_only_call : Bool → Call
-
--- whether the list is empty
-abbrev pub is_empty : List ℕ → Bool
-is_empty [] = true
-is_empty (c ∷ cs) = false
+  readable_call : Bool → Call
 
 -- whether a writer accepts a call: only good prefixes and separators; every pair, except one with an empty key under a
 -- separator of blanks only; and every other call
@@ -34,6 +30,7 @@ is_accepted s (separator_call separator) = is_good_separator separator
 is_accepted s (ending_call line_ending) = true
 is_accepted s flush_call = true
 is_accepted s (ascii_only_call on) = true
+is_accepted s (readable_call on) = true
 
 -- the settings after one call, and after a list of calls
 abbrev pub settings_after_call : Settings → Call → Settings
@@ -44,6 +41,7 @@ settings_after_call s (separator_call separator) = if is_good_separator separato
 settings_after_call s (ending_call line_ending) = record s { line_ending = line_ending }
 settings_after_call s flush_call = s
 settings_after_call s (ascii_only_call on) = record s { ascii_only = on }
+settings_after_call s (readable_call on) = record s { readable = on }
 
 abbrev pub settings_after : Settings → List Call → Settings
 settings_after s [] = s
@@ -63,6 +61,7 @@ written_line s (separator_call separator) = None
 written_line s (ending_call line_ending) = None
 written_line s flush_call = None
 written_line s (ascii_only_call on) = None
+written_line s (readable_call on) = None
 
 -- the number of lines after a line, if there is one
 abbrev pub lines_with : ℕ → Option Content → ℕ
@@ -124,6 +123,7 @@ ArePrefixesClean s (separator_call separator ∷ calls) = ArePrefixesClean (sett
 ArePrefixesClean s (ending_call line_ending ∷ calls) = ArePrefixesClean (settings_after_call s (ending_call line_ending)) calls
 ArePrefixesClean s (flush_call ∷ calls) = ArePrefixesClean s calls
 ArePrefixesClean s (ascii_only_call on ∷ calls) = ArePrefixesClean (settings_after_call s (ascii_only_call on)) calls
+ArePrefixesClean s (readable_call on ∷ calls) = ArePrefixesClean (settings_after_call s (readable_call on)) calls
 
 -- Each text of the call consists of scalar values.
 abbrev pub IsOfScalars : Call → Type 0
@@ -134,6 +134,7 @@ IsOfScalars (separator_call separator) = All scalar separator
 IsOfScalars (ending_call line_ending) = Unit {0}
 IsOfScalars flush_call = Unit {0}
 IsOfScalars (ascii_only_call on) = Unit {0}
+IsOfScalars (readable_call on) = Unit {0}
 
 -- Each text of these calls consists of scalar values.
 abbrev pub AreOfScalars : List Call → Type 0

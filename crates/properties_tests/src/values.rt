@@ -28,6 +28,8 @@ fn calls_are_compared_copied_and_debugged(rt: HostRuntime) -> Result<(), Fail> {
         (Call::Flush, "Flush"),
         (Call::AsciiOnly(true), "AsciiOnly(true)"),
         (Call::AsciiOnly(false), "AsciiOnly(false)"),
+        (Call::Readable(true), "Readable(true)"),
+        (Call::Readable(false), "Readable(false)"),
     ];
     check_values(rt, alloc, rows.as_slice())
 }

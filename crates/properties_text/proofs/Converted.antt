@@ -1,43 +1,43 @@
 -- What converting a front of some bytes comes to, in either encoding.
-use Rattle.std.proofs.Common.{◌≡◌, ℕ, ◌+◌, ◌-◌, ◌<◌, ◌≤◌, ◌==◌, Bool, true, false, List, [], ◌∷◌, ◌++◌, length, map, take, drop, get_or, refl, sym, ap, ap₂, ◌∙◌, subst, inl, inr, append_assoc, append-nil, arith, lit<, lt-ltb, ltb-true, ltb-false, ne_eqb, eqb-true}
-use Rattle.std.specs.Prelude.{nat_lt, nat_le, ◌||◌, ◌&&◌, ◌⊎◌}
+use Rattle.std.proofs.Common.{◌≡◌, ℕ, Fits, w8, suc, ◌+◌, ◌-◌, ◌<◌, ◌≤◌, ◌==◌, Bool, true, false, List, [], ◌∷◌, ◌++◌, length, take, drop, get_or, refl, sym, ap, ap₂, ◌∙◌, subst, inl, inr, append_assoc, arith, lit<, lt-ltb, ne_eqb, eqb-true}
+use Rattle.std.specs.Prelude.{nat_le, ◌&&◌, ◌⊎◌}
 use Rattle.std.specs.List.{All}
-use lib.Utf8.{encodes}
-use Rattle.std.proofs.lemmas.Bool.{cases_Bool, cases_lt}
+use lib.Utf8.{encodes, scalars, scalar as is_scalar}
+use Rattle.std.proofs.lemmas.Bool.{cases_Bool, cases_lt, and_from}
 use Rattle.std.proofs.lemmas.Bool.Decides.{nat_tests}
-use Rattle.std.proofs.lemmas.List.{length-map, length-append, length-drop, length-take, length-take-le, get_or-take, take-append-drop}
-use Rattle.std.proofs.lemmas.List.Elements.{All-head, All-tail, All-from_get_or, recursion_from_All}
-use Rattle.std.proofs.lemmas.Str.{encodes-chars, chars-nil}
-use Rattle.std.proofs.Math.Seq.{take-append_seam, drop-append_seam}
+use Rattle.std.proofs.lemmas.List.{take_rest, length-map, length-append, length-drop, length-take, length-take-le, get_or-drop, get_or-take, take-append-drop}
+use Rattle.std.proofs.lemmas.List.Elements.{All-head, All-tail, All-drop, All-from_get_or, recursion_from_All}
+use Rattle.std.proofs.lemmas.Str.{encodes-chars, chars-nil, chars-encodes}
+use Rattle.std.proofs.Math.Seq.{take-append_seam}
 use Rattle.std.specs.List.{AllByRecursion}
-use Rattle.std.specs.Prelude.{Option, Some, None, is_some, unwrap_or, encode_utf8, ◌/◌}
-use Rattle.std.specs.Str.{chars}
+use Rattle.std.specs.Prelude.{encode_utf8}
+use Rattle.std.specs.Str.{IsUtf8, chars}
 use Rattle.properties_format.specs.Text.{backslash, byte, scalar}
-use Rattle.properties_format.specs.Encoding.{Encoding, InForce, windows_1252, utf_8, one_byte, begins_like_bom}
+use Rattle.properties_format.specs.Encoding.{Encoding, InForce, windows_1252, utf_8, begins_like_bom}
 use Rattle.properties_format.specs.Pieces.{characters}
 use Rattle.properties_format.specs.Computed.Encoding.{pieces_of, decoded_of}
 use Rattle.properties_format.proofs.Encodings.Pieces.{decoded_of-meets}
-use Rattle.properties_format.proofs.Encodings.Windows1252.{windows_1252_character-byte}
-use Rattle.properties_format.proofs.Encodings.Utf8Characters.{next, encode-one, encode-two, encode-three, encode-four}
-use Rattle.properties_format.proofs.ReadBack.Bytes.{AreWritable}
-use Rattle.properties_format.specs.Windows1252.{windows_1252_character, windows_1252_byte}
-use Rattle.properties_format.specs.Computed.Undecoded.{characters_of}
+use Rattle.properties_format.proofs.Encodings.WellFormed.{char-from_scalar}
+use Rattle.properties_format.proofs.ReadBack.Bytes.{AreWritable, text-decoded}
+use Rattle.properties_format.specs.Windows1252.{windows_1252_character}
 use Rattle.properties_format.specs.Printing.{may_be_unescaped, literal, encoded_text, unicode_escape}
 use Rattle.properties_format.specs.Escapes.{letter_u, escaped_character, Spelling, itself, escaped, unicode, surrogates, last, spelling_text, spelling_character, IsSpelling, NoSpelling, four_text}
-use Rattle.properties_format.proofs.Printing.Characters.{AreAscii, encoded_text-append, encoded_text-ascii, unicode_escape-ascii, below-scalar}
-use Rattle.properties_format.specs.Converting.{TextUnit, spelt, stray, unit_text, IsUnit, is_unicode, respelt, converted_unit, converted_units, first_escaped, at_front, IsConverted}
+use Rattle.properties_format.proofs.Printing.Characters.{AreAscii, encoded_text-append, encoded_text-ascii, unicode_escape-ascii}
+use Rattle.properties_format.specs.Converting.{TextUnit, spelt, unit_text, IsUnit, is_unicode, respelt, converted_unit, first_escaped, at_front, IsConverted}
 use Rattle.properties_format.specs.Computed.Converting.{units_of, converted_of}
 use Rattle.properties_format.proofs.Alike.Parts.{escaped-beyond}
 use Rattle.properties_format.proofs.Converting.Units.{below-ascii, unicode-ascii, whole-past, units-writable}
 use Rattle.properties_format.proofs.Converting.Laws.{text-scalars}
 use Rattle.properties_format.proofs.Converting.Again.{below-stays, respelt-itself, respelt-unicode, respelt-held, respelt-kept, respelt-lacked}
+use Rattle.properties_format.proofs.Converting.Itself.{IsClosed, IsApart, run-stays, utf_8-stays, windows-stays, windows-bytes}
 use Rattle.properties_format.proofs.Converting.Chunks.{converted_of-unit, converted_of-empty, converted_of-is, units_of-meets}
-use Rattle.properties_text.specs.Spelt.{text_in, IsWell, IsFirst, IsRead, BeginsUnit}
+use Rattle.properties_text.specs.Spelt.{text_in, IsWell, IsFirst, IsRead}
 use Rattle.properties_text.specs.Encoding.{encoding_of}
 use Rattle.properties_text.specs.Decoding.{IsBody, text_of}
 use Rattle.properties_text.specs.declared.encoding.Encoding as named
 use Rattle.properties_text.specs.Printing.{encoding_in, only_in}
-use Rattle.properties_text.specs.Converted.{converted_in, unit_in, is_stop, IsCopied, IsConvertedFront, IsUnitFront, mark_character, mark_size, escaped_front, body_bytes}
+use Rattle.properties_text.specs.PrintedTexts.{is_copied}
+use Rattle.properties_text.specs.Converted.{converted_in, unit_in, is_stop, StaysUpTo, IsConvertedFront, IsUnitFront, line_in, body_bytes}
 use Rattle.properties_text.specs.declared.encoding.line.LineEncoding.{LineEncoding}
 use Rattle.properties_text.specs.declared.encoding.line.LineEncoding.TheVariants.{Windows1252, Utf8}
 use Rattle.properties_text.specs.declared.encoding.line.Spelt.{Spelt}
@@ -100,18 +100,25 @@ run-step t readable e (b ∷ xs) rest h w =
     let own : unit_in t readable (spelt (itself b)) ≡ b ∷ [] = ap (encoded_text (encoding_in t)) (below-stays (encoding_in t) (only_in t) readable (itself b) (lt-ltb b 0x80 k)) ∙ encoded_text-ascii (encoding_in t) (b ∷ []) (k, tt) in
     (more.0, unit-step t readable e (spelt (itself b)) (b ∷ xs ++ rest) (xs ++ rest) a.characters n ∙ ap₂ (λ x y. x ++ y) own more.1)
 
+-- What holds of the bytes before a place.
+clear-front : (P : ℕ → Type 0) (text : List ℕ) (n : ℕ) → ((k : ℕ) → k < n → P (get_or text k 0)) → All P (take n text)
+clear-front P text n h =
+    All-from_get_or P (take n text) 0 (λ k inside.
+    let small : k < n = omega (arith, inside, length-take n text) in
+    subst P (sym (get_or-take n text k 0 small)) (h k small))
+
 -- ---- what was put
 
--- A copied run was converted.
-pub run-front : {t : Repertoire} {readable : Bool} {e : LineEncoding} {old text new : List ℕ} {at : ℕ} {end : ℕ} {rest : List ℕ} → IsWell e text → IsCopied old at text end rest new
-    → IsConvertedFront t readable e old at text end rest new
-run-front {t} {readable} {e} {old} {text} {new} {at} {end} {rest} w c =
-    let k = run-step t readable e c.bytes rest c.clear (subst (IsWell e) c.text_is w) in
+-- A run that stays was copied.
+pub run-front : {t : Repertoire} {readable : Bool} {e : LineEncoding} {old text new : List ℕ} {at end : ℕ} {rest : List ℕ} (n : ℕ) → IsWell e text → StaysUpTo readable text n
+    → rest ≡ drop n text → take end new ≡ take at old ++ take n text → IsConvertedFront t readable e old at text end rest new
+run-front {t} {readable} {e} {old} {text} {new} {at} {end} {rest} n w h r put =
+    let k = h t e w in
     record {
-      well = k.0;
-      left = omega (arith, ap length c.text_is, length-append c.bytes rest);
-      converted = ap (λ v. take at old ++ converted_in t readable e v) c.text_is ∙ ap (λ v. take at old ++ v) k.1
-          ∙ sym (append_assoc (take at old) c.bytes (converted_in t readable e rest)) ∙ ap (λ v. v ++ converted_in t readable e rest) (sym c.copied);
+      well = subst (IsWell e) (sym r) k.0;
+      left = omega (arith, ap length r, length-drop n text);
+      converted = ap (λ v. take at old ++ v) k.1 ∙ sym (append_assoc (take at old) (take n text) (converted_in t readable e (drop n text)))
+          ∙ ap₂ (λ x y. x ++ converted_in t readable e y) (sym put) (sym r);
     }
 
 -- A unit was converted.
@@ -325,141 +332,132 @@ backslash-put t readable e text it m w h b k f on off u =
 
 -- ---- a run
 
--- No byte before the first stop is one.
-clear-front : (text : List ℕ) (n : ℕ) → ((k : ℕ) → k < n → is_stop (get_or text k 0) ≡ true → ⊥) → All (λ b. is_stop b ≡ false) (take n text)
-clear-front text n h =
-    All-from_get_or (λ b. is_stop b ≡ false) (take n text) 0 (λ k inside.
-    let small : k < n = omega (arith, inside, length-take n text) in
-    ap is_stop (get_or-take n text k 0 small) ∙ not-true-false (is_stop (get_or text k 0)) (h k small))
-  where
-    not-true-false : (b : Bool) → (b ≡ true → ⊥) → b ≡ false
-    not-true-false true h = absurd (h refl)
-    not-true-false false h = refl
+-- The bytes before a stop stay.
+pub stops-stay : (readable : Bool) (text : List ℕ) (n : ℕ) → ((k : ℕ) → k < n → is_stop (get_or text k 0) ≡ false) → StaysUpTo readable text n
+stops-stay readable text n h t e w =
+    let whole = sym (take-append-drop n text) in
+    let k = run-step t readable e (take n text) (drop n text) (clear-front (λ b. is_stop b ≡ false) text n h) (subst (IsWell e) whole w) in
+    (k.0, ap (converted_in t readable e) whole ∙ k.1)
 
--- The bytes before the first stop, or all, were copied.
-pub run-copied : {old text new rest : List ℕ} {at end n : ℕ} → n ≤ length text → ((k : ℕ) → k < n → is_stop (get_or text k 0) ≡ true → ⊥) → rest ≡ drop n text → end ≡ at + n
-    → take end new ≡ take at old ++ take n text → IsCopied old at text end rest new
-run-copied {old} {text} {new} {rest} {at} {end} {n} h f r e put = record {
-  bytes = take n text;
-  text_is = sym (take-append-drop n text) ∙ ap (λ v. take n text ++ v) (sym r);
-  clear = clear-front text n f;
-  end_is = omega (arith, e, length-take-le n text h);
-  copied = put;
-}
+-- If spellings are kept, ASCII bytes stay that don't end in a backslash, before bytes in which no escape goes on.
+apart-text : (e : LineEncoding) (bytes : List ℕ) → IsWell e bytes → IsApart bytes → IsApart (text_in e bytes)
+apart-text e bytes w a c z s = elim (cases_lt c 0x80) [
+  | inr l ↦ inl l
+  | inl l ↦
+      let k = ascii-back e bytes c z w s l in
+      elim (a c k.0 k.1) [
+        | inl m ↦ absurd (omega (arith, l, m))
+        | inr m ↦ inr (m.0, λ u. m.1 (next k.0 z k.2 k.3 u))
+      ]
+]
+  where
+    next : (x z : List ℕ) → IsWell e x → text_in e x ≡ z → get_or z 0 0 ≡ letter_u → get_or x 0 0 ≡ letter_u
+    next x [] w s u = absurd (omega arith)
+    next x (d ∷ z) w s u = ap (λ v. get_or v 0 0) (ascii-back e x d z w s (omega (arith, u))).1 ∙ u
+
+ascii-run : (e : LineEncoding) (x rest : List ℕ) → AreAscii x → IsWell e (x ++ rest) → IsWell e rest × (text_in e (x ++ rest) ≡ x ++ text_in e rest)
+ascii-run e [] rest h w = (w, refl)
+ascii-run e (b ∷ x) rest h w =
+    let a = ascii-first e b (x ++ rest) h.0 w in
+    let more = ascii-run e x rest h.1 a.well in
+    (more.0, a.characters ∙ ap (λ v. b ∷ v) more.1)
+
+pub kept-stays : (text : List ℕ) (n : ℕ) → ((k : ℕ) → k < n → get_or text k 0 < 0x80) → IsClosed (take n text) → IsApart (drop n text) → StaysUpTo false text n
+kept-stays text n h k a t e w =
+    let x = take n text in
+    let y = drop n text in
+    let whole = sym (take-append-drop n text) in
+    let ascii : AreAscii x = recursion_from_All (λ b. b < 0x80) x (clear-front (λ b. b < 0x80) text n h) in
+    let r = ascii-run e x y ascii (subst (IsWell e) whole w) in (
+      r.0,
+      ap (λ v. encoded_text (encoding_in t) (converted_of (encoding_in t) (only_in t) false v)) (ap (text_in e) whole ∙ r.1)
+          ∙ ap (encoded_text (encoding_in t)) (run-stays (encoding_in t) (only_in t) x (text_in e y) ascii k (apart-text e y r.0 a))
+          ∙ encoded_text-append (encoding_in t) x (converted_of (encoding_in t) (only_in t) false (text_in e y))
+          ∙ ap (λ v. v ++ converted_in t false e y) (encoded_text-ascii (encoding_in t) x ascii),
+    )
+
+-- The bytes before the first non-ASCII byte stay, and so do those before the backslashes at their end.
+pub trimmed-stay : (text : List ℕ) (n past : ℕ) → n ≤ past → past ≤ length text → ((k : ℕ) → k < past → nat_le 0x80 (get_or text k 0) ≡ false)
+    → (past < length text → nat_le 0x80 (get_or text past 0) ≡ true) → ((k : ℕ) → n ≤ k → k < past → get_or text k 0 ≡ backslash)
+    → (get_or text (n - 1) 0 ≡ backslash → ⊥) → StaysUpTo false text n
+trimmed-stay text n past w l before at back not = kept-stays text n (λ k s. let b = before k (omega (arith, s, w)) in grind (arith, nat_tests)) closed apart
+  where
+    closed : IsClosed (take n text)
+    closed m s b =
+        let small : m < n = omega (arith, s, length-take n text) in
+        let is : m ≡ n - 1 = omega (arith, s, length-take-le n text (omega (arith, w, l))) in
+        not (ap (λ v. get_or text v 0) (sym is) ∙ sym (get_or-take n text m 0 small) ∙ b)
+
+    apart : IsApart (drop n text)
+    apart c z s =
+        let size : length text - n ≡ suc (length z) = sym (length-drop n text) ∙ ap length s in
+        let here : get_or text (n + 0) 0 ≡ c = sym (get_or-drop n text 0 0) ∙ ap (λ v. get_or v 0 0) s in
+        elim (cases_lt n past) [
+          | inl f ↦ inr (sym here ∙ back (n + 0) (omega arith) (omega (arith, f)), second z s f)
+          | inr f ↦ let high = at (omega (arith, w, f, size)) in inl (grind (arith, nat_tests))
+        ]
+      where
+        second : (z : List ℕ) → drop n text ≡ c ∷ z → n < past → get_or z 0 0 ≡ letter_u → ⊥
+        second [] s f u = omega (arith, u)
+        second (d ∷ z) s f u =
+            let next : get_or text (n + 1) 0 ≡ letter_u = sym (get_or-drop n text 1 0) ∙ ap (λ v. get_or v 1 0) s ∙ u in
+            elim (cases_lt (n + 1) past) [
+              | inl g ↦ omega (arith, next, back (n + 1) (omega arith) g)
+              | inr g ↦
+                  let same : n + 1 ≡ past = omega (arith, f, g) in
+                  let is : get_or text past 0 ≡ letter_u = ap (λ k. get_or text k 0) (sym same) ∙ next in
+                  let high = at (omega (arith, same, length-drop n text, ap length s)) in
+                  absurd (grind (arith, nat_tests))
+            ]
+
+-- ---- the bytes of a text
+
+utf_8-encoded : (x : List ℕ) → encoded_text utf_8 x ≡ encodes x
+utf_8-encoded [] = refl
+utf_8-encoded (c ∷ x) = ap (λ v. encode_utf8 c ++ v) (utf_8-encoded x)
+
+-- Those of the characters of bytes.
+same-bytes : (t : Repertoire) (bytes : List ℕ) → IsWell (line_in t) bytes → All byte bytes → encoded_text (encoding_in t) (text_in (line_in t) bytes) ≡ bytes
+same-bytes repertoire.Windows1252 bytes w b = windows-bytes bytes b
+same-bytes repertoire.Utf8 bytes w b = utf_8-encoded (chars bytes) ∙ encodes-chars bytes w
+same-bytes repertoire.Ascii bytes w b = utf_8-encoded (chars bytes) ∙ encodes-chars bytes w
+
+-- They are well-formed, and their characters are the text.
+utf_8-written : (x : List ℕ) → AllByRecursion scalar x → IsUtf8 (encoded_text utf_8 x) × (chars (encoded_text utf_8 x) ≡ x)
+utf_8-written x h = ((x, (all x h, sym (utf_8-encoded x))), ap chars (utf_8-encoded x) ∙ chars-encodes x (all x h))
+  where
+    all : (x : List ℕ) → AllByRecursion scalar x → scalars x ≡ true
+    all [] h = refl
+    all (c ∷ x) h = and_from (is_scalar c) (scalars x) (char-from_scalar c h.0) (all x h.1)
+
+written-text : (t : Repertoire) (x : List ℕ) → AreWritable (encoding_in t) x → IsWell (line_in t) (encoded_text (encoding_in t) x) × (text_in (line_in t) (encoded_text (encoding_in t) x) ≡ x)
+written-text repertoire.Windows1252 x w = (tt, sym (decodes (encoded_text windows_1252 x)) ∙ text-decoded windows_1252 x w.scalars w.encodable)
+written-text repertoire.Utf8 x w = utf_8-written x w.scalars
+written-text repertoire.Ascii x w = utf_8-written x w.scalars
+
+-- A text whose characters the result has stays.
+pub utf_8-copied : (text : List ℕ) → IsUtf8 text → converted_in repertoire.Utf8 false Utf8 text ≡ text
+utf_8-copied text w = ap (encoded_text utf_8) (utf_8-stays (chars text)) ∙ utf_8-encoded (chars text) ∙ encodes-chars text w
+
+pub copied-stays : (t : Repertoire) (e : LineEncoding) (text : List ℕ) → is_copied e t ≡ true → IsWell e text → All byte text → converted_in t false e text ≡ text
+copied-stays repertoire.Windows1252 Windows1252 text h w b = ap (encoded_text windows_1252) (windows-stays text b) ∙ windows-bytes text b
+copied-stays repertoire.Utf8 Utf8 text h w b = utf_8-copied text w
+copied-stays repertoire.Utf8 Windows1252 text h w b = absurd (cc)
+copied-stays repertoire.Windows1252 Utf8 text h w b = absurd (cc)
+copied-stays repertoire.Ascii Windows1252 text h w b = absurd (cc)
+copied-stays repertoire.Ascii Utf8 text h w b = absurd (cc)
+
+-- The bytes with the first character escaped.
+pub front_bytes : (t : Repertoire) (bytes : List ℕ) (it : Spelt) (e : LineEncoding) → ((i : ℕ) → Fits w8 (get_or bytes i 0)) → e ≡ line_in t → IsFirst e bytes it
+    → ([] ++ unicode_escape it.character) ++ take (length bytes - it.length) (drop it.length bytes) ≡ encoded_text (encoding_in t) (first_escaped (text_in (line_in t) bytes))
+front_bytes t bytes it e b s f =
+    let h : IsFirst (line_in t) bytes it = subst (λ e. IsFirst e bytes it) s f in
+    let rest = drop it.length bytes in
+    let all = All-drop byte it.length bytes (All-from_get_or byte bytes 0 (λ i inside. omega (arith, b i))) in
+    ap₂ (λ x y. x ++ y) (sym (encoded_text-ascii (encoding_in t) (unicode_escape it.character) (unicode_escape-ascii it.character))) (take_rest bytes it.length ∙ sym (same-bytes t rest h.well all))
+    ∙ sym (encoded_text-append (encoding_in t) (unicode_escape it.character) (text_in (line_in t) rest)) ∙ ap (λ v. encoded_text (encoding_in t) (first_escaped v)) (sym h.characters)
 
 -- ---- a source
-
--- What was written, if it begins like a byte order mark: its first character, and the others.
-record BeginsMarked (t : Repertoire) (x : List ℕ) : Type 0 where
-  first : ℕ
-  others : List ℕ
-  whole : x ≡ first ∷ others
-  is : first ≡ mark_character t (encoded_text (encoding_in t) x)
-  rest : encoded_text (encoding_in t) others ≡ drop (mark_size t) (encoded_text (encoding_in t) x)
-
--- Its first byte is one of three.
-first-mark : (b : ℕ) (rest : List ℕ) → begins_like_bom (b ∷ rest) ≡ true → (b ≡ 0xef) ⊎ ((b ≡ 0xfe) ⊎ (b ≡ 0xff))
-first-mark b rest h = elim (cases_Bool (0xef == b)) [
-  | inl e ↦ inl (sym (eqb-true 0xef b e))
-  | inr e ↦ elim (cases_Bool (0xfe == b)) [
-    | inl f ↦ inr (inl (sym (eqb-true 0xfe b f)))
-    | inr f ↦ elim (cases_Bool (0xff == b)) [
-      | inl g ↦ inr (inr (sym (eqb-true 0xff b g)))
-      | inr g ↦ let k : false ≡ true = rw (e, f, g) at h in absurd (cc)
-    ]
-  ]
-]
-
-windows-marked : (b : ℕ) (rest : List ℕ) → begins_like_bom (b ∷ rest) ≡ true → windows_1252_character b ≡ b
-windows-marked b rest h = elim (first-mark b rest h) [
-  | inl e ↦ rw e refl
-  | inr k ↦ elim k [ inl e ↦ rw e refl | inr e ↦ rw e refl ]
-]
-
--- the three bytes of the mark of UTF-8
-three-marked : (b c : ℕ) (rest : List ℕ) → begins_like_bom (0xef ∷ b ∷ c ∷ rest) ≡ true → (b ≡ 0xbb) × (c ≡ 0xbf)
-three-marked b c rest h = elim (cases_Bool (0xbb == b)) [
-  | inl e ↦ elim (cases_Bool (0xbf == c)) [
-    | inl f ↦ (sym (eqb-true 0xbb b e), sym (eqb-true 0xbf c f))
-    | inr f ↦ let k : false ≡ true = rw (e, f) at h in absurd (cc)
-  ]
-  | inr e ↦ let k : false ≡ true = rw e at h in absurd (cc)
-]
-
-windows-begins : (c : ℕ) (cs : List ℕ) (o : Option ℕ) → windows_1252_byte c ≡ o → is_some o ≡ true → begins_like_bom (encoded_text windows_1252 (c ∷ cs)) ≡ true → BeginsMarked repertoire.Windows1252 (c ∷ cs)
-windows-begins c cs None e s h = absurd (cc)
-windows-begins c cs (Some b) e s h =
-    let bytes : encoded_text windows_1252 (c ∷ cs) ≡ b ∷ encoded_text windows_1252 cs = ap (λ v. unwrap_or (one_byte v) [] ++ encoded_text windows_1252 cs) e in
-    let m = windows-marked b (encoded_text windows_1252 cs) (ap begins_like_bom (sym bytes) ∙ h) in
-    record {
-      first = c;
-      others = cs;
-      whole = refl;
-      is = sym (windows_1252_character-byte c b e).0 ∙ m ∙ ap (λ v. get_or v 0 0) (sym bytes);
-      rest = ap (drop 1) (sym bytes);
-    }
-
--- In UTF-8, only U+FEFF begins so.
-utf_8-marked : (c : ℕ) (rest : List ℕ) → c < 0x11_0000 → begins_like_bom (encode_utf8 c ++ rest) ≡ true → (c ≡ 0xfeff) × (length (encode_utf8 c) ≡ 3)
-utf_8-marked c rest s h = elim (cases_lt c 0x80) [
-  | inl l ↦
-      let f : begins_like_bom (c ∷ rest) ≡ true = subst (λ v. begins_like_bom (v ++ rest) ≡ true) (encode-one c l) h in
-      absurd (elim (first-mark c rest f) [ inl e ↦ omega arith | inr k ↦ elim k [ inl e ↦ omega arith | inr e ↦ omega arith ] ])
-  | inr l ↦ elim (cases_lt c 0x800) [
-    | inl m ↦
-        let f : begins_like_bom ((192 + c / 64) ∷ next c ∷ rest) ≡ true = subst (λ v. begins_like_bom (v ++ rest) ≡ true) (encode-two c l m) h in
-        absurd (elim (first-mark (192 + c / 64) (next c ∷ rest) f) [ inl e ↦ omega arith | inr k ↦ elim k [ inl e ↦ omega arith | inr e ↦ omega arith ] ])
-    | inr m ↦ elim (cases_lt c 0x1_0000) [
-      | inl n ↦
-          let f : begins_like_bom ((224 + c / 4096) ∷ next (c / 64) ∷ next c ∷ rest) ≡ true = subst (λ v. begins_like_bom (v ++ rest) ≡ true) (encode-three c m n) h in (
-            elim (first-mark (224 + c / 4096) (next (c / 64) ∷ next c ∷ rest) f) [
-              | inl e ↦
-                  let g = three-marked (next (c / 64)) (next c) rest (subst (λ v. begins_like_bom (v ∷ next (c / 64) ∷ next c ∷ rest) ≡ true) e f) in
-                  omega (arith, e, g.0, g.1)
-              | inr k ↦ elim k [ inl e ↦ absurd (omega arith) | inr e ↦ absurd (omega arith) ]
-            ],
-            ap length (encode-three c m n),
-          )
-      | inr n ↦
-          let f : begins_like_bom ((240 + c / 262144) ∷ next (c / 4096) ∷ next (c / 64) ∷ next c ∷ rest) ≡ true = subst (λ v. begins_like_bom (v ++ rest) ≡ true) (encode-four c n) h in
-          absurd (elim (first-mark (240 + c / 262144) (next (c / 4096) ∷ next (c / 64) ∷ next c ∷ rest) f) [ inl e ↦ omega arith | inr k ↦ elim k [ inl e ↦ omega arith | inr e ↦ omega arith ] ])
-    ]
-  ]
-]
-
-utf_8-begins : (t : Repertoire) (c : ℕ) (cs : List ℕ) → encoding_in t ≡ utf_8 → mark_size t ≡ 3 → ((bytes : List ℕ) → mark_character t bytes ≡ 0xfeff) → c < 0x11_0000
-    → begins_like_bom (encoded_text (encoding_in t) (c ∷ cs)) ≡ true → BeginsMarked t (c ∷ cs)
-utf_8-begins t c cs e m f s h =
-    let bytes : encoded_text (encoding_in t) (c ∷ cs) ≡ encode_utf8 c ++ encoded_text (encoding_in t) cs = ap (λ v. encoded_text v (c ∷ cs)) e ∙ ap (λ v. encode_utf8 c ++ encoded_text v cs) (sym e) in
-    let k = utf_8-marked c (encoded_text (encoding_in t) cs) s (ap begins_like_bom (sym bytes) ∙ h) in
-    record {
-      first = c;
-      others = cs;
-      whole = refl;
-      is = k.0 ∙ sym (f (encoded_text (encoding_in t) (c ∷ cs)));
-      rest = sym (ap₂ drop (m ∙ sym k.1) bytes ∙ drop-append_seam (encode_utf8 c) (encoded_text (encoding_in t) cs));
-    }
-
-marked-begins : (t : Repertoire) (x : List ℕ) → AreWritable (encoding_in t) x → begins_like_bom (encoded_text (encoding_in t) x) ≡ true → BeginsMarked t x
-marked-begins t [] w h = absurd (let f : begins_like_bom [] ≡ false = refl in cc)
-marked-begins repertoire.Windows1252 (c ∷ cs) w h = windows-begins c cs (windows_1252_byte c) refl (some-byte (windows_1252_byte c) w.encodable.0) h
-  where
-    some-byte : (o : Option ℕ) → is_some (one_byte o) ≡ true → is_some o ≡ true
-    some-byte None e = e
-    some-byte (Some b) e = refl
-marked-begins repertoire.Utf8 (c ∷ cs) w h = utf_8-begins repertoire.Utf8 c cs refl refl (λ b. refl) (below-scalar c w.scalars.0) h
-marked-begins repertoire.Ascii (c ∷ cs) w h = utf_8-begins repertoire.Ascii c cs refl refl (λ b. refl) (below-scalar c w.scalars.0) h
-
--- The bytes with the first character escaped are those of the text with it escaped.
-pub front-bytes : (t : Repertoire) (x : List ℕ) → AreWritable (encoding_in t) x → begins_like_bom (encoded_text (encoding_in t) x) ≡ true
-    → escaped_front t (encoded_text (encoding_in t) x) ≡ encoded_text (encoding_in t) (first_escaped x)
-front-bytes t x w h =
-    let k = marked-begins t x w h in
-    let e = encoding_in t in
-    ap₂ (λ c v. unicode_escape c ++ v) (sym k.is) (sym k.rest)
-    ∙ ap (λ v. v ++ encoded_text e k.others) (sym (encoded_text-ascii e (unicode_escape k.first) (unicode_escape-ascii k.first)))
-    ∙ sym (encoded_text-append e (unicode_escape k.first) k.others)
-    ∙ ap (λ v. encoded_text e (first_escaped v)) (sym k.whole)
 
 -- the bytes that were written, and what they are to be
 pub converted-source : (t : Repertoire) (readable : Bool) (e : Encoding) (source bytes : List ℕ) → All byte source
@@ -476,13 +474,18 @@ converted-source t readable e source bytes k h =
       bytes = h ∙ ap (λ v. encoded_text (encoding_in t) (at_front (encoding_in t) v)) (converted_of-is (encoding_in t) (only_in t) readable (decoded_of e source));
     }
 
-pub source-writable : (t : Repertoire) (readable : Bool) (e : Encoding) (source : List ℕ) → All byte source → AreWritable (encoding_in t) (converted_of (encoding_in t) (only_in t) readable (decoded_of e source))
-source-writable t readable e source k =
+-- the bytes and the text that a source comes to
+pub source-written : (t : Repertoire) (readable : Bool) (e : Encoding) (source bytes : List ℕ) → All byte source
+    → bytes ≡ encoded_text (encoding_in t) (converted_of (encoding_in t) (only_in t) readable (decoded_of e source))
+    → IsWell (line_in t) bytes × (text_in (line_in t) bytes ≡ converted_of (encoding_in t) (only_in t) readable (decoded_of e source))
+source-written t readable e source bytes k h =
     let x = decoded_of e source in
     let u = units_of-meets x in
     let s : AllByRecursion scalar x = recursion_from_All scalar x (text-scalars e source k) in
-    subst (AreWritable (encoding_in t)) (sym (converted_of-is (encoding_in t) (only_in t) readable x))
-    (units-writable (encoding_in t) (only_in t) readable (units_of x) u.1 (subst (AllByRecursion scalar) u.0 s))
+    let w = subst (AreWritable (encoding_in t)) (sym (converted_of-is (encoding_in t) (only_in t) readable x))
+    (units-writable (encoding_in t) (only_in t) readable (units_of x) u.1 (subst (AllByRecursion scalar) u.0 s)) in
+    let r = written-text t (converted_of (encoding_in t) (only_in t) readable x) w in
+    (subst (IsWell (line_in t)) (sym h) r.0, ap (text_in (line_in t)) h ∙ r.1)
 
 -- Bytes that don't begin like a mark, and those that do.
 pub plain-source : (t : Repertoire) (readable : Bool) (e : Encoding) (source bytes : List ℕ) → All byte source
@@ -497,20 +500,19 @@ plain-source t readable e source bytes k h f =
 
 pub marked-source : (t : Repertoire) (readable : Bool) (e : Encoding) (source bytes result : List ℕ) → All byte source
     → bytes ≡ encoded_text (encoding_in t) (converted_of (encoding_in t) (only_in t) readable (decoded_of e source)) → begins_like_bom bytes ≡ true
-    → result ≡ escaped_front t bytes → IsConverted e (encoding_in t) (only_in t) readable source result
+    → result ≡ encoded_text (encoding_in t) (first_escaped (text_in (line_in t) bytes)) → IsConverted e (encoding_in t) (only_in t) readable source result
 marked-source t readable e source bytes result k h f g =
     let x = converted_of (encoding_in t) (only_in t) readable (decoded_of e source) in
-    let m : begins_like_bom (encoded_text (encoding_in t) x) ≡ true = ap begins_like_bom (sym h) ∙ f in
     converted-source t readable e source result k
-    (g ∙ ap (escaped_front t) h ∙ front-bytes t x (source-writable t readable e source k) m ∙ ap (encoded_text (encoding_in t)) (sym (marked x m)))
+    (g ∙ ap (λ v. encoded_text (encoding_in t) (first_escaped v)) (source-written t readable e source bytes k h).1 ∙ ap (encoded_text (encoding_in t)) (sym (marked x (ap begins_like_bom (sym h) ∙ f))))
   where
     marked : (x : List ℕ) → begins_like_bom (encoded_text (encoding_in t) x) ≡ true → at_front (encoding_in t) x ≡ first_escaped x
     marked x f = rw f refl
 
 -- The bytes of a body, whose characters are in a text already.
-pub body-text : (t : Repertoire) (readable : Bool) (e : LineEncoding) (encoding : named.Encoding) (body text old new : List ℕ) → text_in e text ≡ text_of encoding body
-    → new ≡ old ++ converted_in t readable e text → new ≡ old ++ body_bytes t readable encoding body
-body-text t readable e encoding body text old new s h = h ∙ ap (λ v. old ++ encoded_text (encoding_in t) (converted_of (encoding_in t) (only_in t) readable v)) s
+pub body-text : (t : Repertoire) (readable : Bool) (e : LineEncoding) (encoding : named.Encoding) (body text new : List ℕ) → text_in e text ≡ text_of encoding body
+    → new ≡ converted_in t readable e text → new ≡ body_bytes t readable encoding body
+body-text t readable e encoding body text new s h = h ∙ ap (λ v. encoded_text (encoding_in t) (converted_of (encoding_in t) (only_in t) readable v)) s
 
 -- In windows-1252 its bytes are.
 pub windows-text : (body : List ℕ) → text_in Windows1252 body ≡ text_of named.TheVariants.WINDOWS_1252 body
@@ -522,7 +524,7 @@ decoded-text encoding body text h = h ∙ ap (λ v. v ++ text_of encoding body) 
 
 -- The bytes of a source.
 pub source-bytes : (t : Repertoire) (readable : Bool) (requested in_force : named.Encoding) (source body bytes : List ℕ) (start : ℕ) → IsBody (encoding_of requested) source (encoding_of in_force) start
-    → body ≡ drop start source → bytes ≡ [] ++ body_bytes t readable in_force body
+    → body ≡ drop start source → bytes ≡ body_bytes t readable in_force body
     → bytes ≡ encoded_text (encoding_in t) (converted_of (encoding_in t) (only_in t) readable (decoded_of (encoding_of requested) source))
 source-bytes t readable requested in_force source body bytes start b s h =
     h ∙ ap (λ v. encoded_text (encoding_in t) (converted_of (encoding_in t) (only_in t) readable v))

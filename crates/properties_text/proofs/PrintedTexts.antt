@@ -1,3 +1,5 @@
 pub mod Steps
 pub mod Runs
 pub mod Keys
+pub mod Values
+pub mod Readable

@@ -1,8 +1,7 @@
 -- What the bytes of a text come to when they are converted.
-use Rattle.std.specs.Prelude.{◌≡◌, ◌≤◌, ◌<◌, ◌+◌, ◌⊎◌, ◌||◌, ◌==◌, ℕ, Bool, true, false, nat_le, List, [], ◌++◌, length, take, drop, get_or, Result, Ok, Err}
-use Rattle.std.specs.List.{All}
+use Rattle.std.specs.Prelude.{◌≡◌, ◌≤◌, ◌<◌, ◌||◌, ◌==◌, ℕ, Bool, true, false, nat_le, List, ◌++◌, length, take, drop}
 use Rattle.properties_format.specs.Text.{backslash}
-use Rattle.properties_format.specs.Printing.{encoded_text, unicode_escape}
+use Rattle.properties_format.specs.Printing.{encoded_text}
 use Rattle.properties_format.specs.Converting.{TextUnit, unit_text, IsUnit, converted_unit}
 use Rattle.properties_format.specs.Computed.Converting.{converted_of}
 use Rattle.properties_text.specs.Spelt.{text_in, IsWell}
@@ -10,6 +9,7 @@ use Rattle.properties_text.specs.Decoding.{text_of}
 use Rattle.properties_text.specs.declared.encoding.Encoding.{Encoding}
 use Rattle.properties_text.specs.Printing.{encoding_in, only_in}
 use Rattle.properties_text.specs.declared.encoding.line.LineEncoding.{LineEncoding}
+use Rattle.properties_text.specs.declared.encoding.line.LineEncoding.TheVariants.{Windows1252, Utf8}
 use Rattle.properties_text.specs.declared.print.Repertoire.{Repertoire}
 use Rattle.properties_text.specs.declared.print.Repertoire.TheVariants as repertoire
 use Rattle.properties_text.specs.declared.convert.Spelling.{Spelling}
@@ -32,13 +32,9 @@ unit_in t readable u = encoded_text (encoding_in t) (converted_unit (encoding_in
 abbrev pub is_stop : ℕ → Bool
 is_stop b = nat_le 0x80 b || b == backslash
 
--- A front of a text was copied, in which no byte is a stop.
-pub record IsCopied (old : List ℕ) (at : ℕ) (text : List ℕ) (end : ℕ) (rest : List ℕ) (new : List ℕ) : Type 0 where
-  pub bytes : List ℕ
-  pub text_is : text ≡ bytes ++ rest
-  pub clear : All (λ b. is_stop b ≡ false) bytes
-  pub end_is : end ≡ at + length bytes
-  pub copied : take end new ≡ take at old ++ bytes
+-- So many bytes at the front of a text stay.
+abbrev pub StaysUpTo : Bool → List ℕ → ℕ → Type 0
+StaysUpTo readable text n = (t : Repertoire) (e : LineEncoding) → IsWell e text → IsWell e (drop n text) × (converted_in t readable e text ≡ take n text ++ converted_in t readable e (drop n text))
 
 -- A front of a text was converted: with what the rest comes to, it is what the text comes to.
 pub record IsConvertedFront (t : Repertoire) (readable : Bool) (e : LineEncoding) (old : List ℕ) (at : ℕ) (text : List ℕ) (end : ℕ) (rest : List ℕ) (new : List ℕ) : Type 0 where
@@ -55,20 +51,11 @@ pub record IsUnitFront (t : Repertoire) (readable : Bool) (e : LineEncoding) (ol
   pub shorter : length rest < length text
   pub put : take end new ≡ take at old ++ unit_in t readable unit
 
--- The first character of bytes that begin like a byte order mark, and how many of them are it.
-abbrev pub mark_character : Repertoire → List ℕ → ℕ
-mark_character repertoire.Windows1252 bytes = get_or bytes 0 0
-mark_character repertoire.Utf8 bytes = 0xfeff
-mark_character repertoire.Ascii bytes = 0xfeff
-
-abbrev pub mark_size : Repertoire → ℕ
-mark_size repertoire.Windows1252 = 1
-mark_size repertoire.Utf8 = 3
-mark_size repertoire.Ascii = 3
-
--- The bytes with that character escaped.
-abbrev pub escaped_front : Repertoire → List ℕ → List ℕ
-escaped_front t bytes = unicode_escape (mark_character t bytes) ++ drop (mark_size t) bytes
+-- the encoding of a result
+abbrev pub line_in : Repertoire → LineEncoding
+line_in repertoire.Windows1252 = Windows1252
+line_in repertoire.Utf8 = Utf8
+line_in repertoire.Ascii = Utf8
 
 -- The bytes that a body in this encoding comes to.
 abbrev pub body_bytes : Repertoire → Bool → Encoding → List ℕ → List ℕ

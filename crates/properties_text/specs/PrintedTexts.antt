@@ -175,20 +175,28 @@ pub record IsPair (p : Pair) : Type 0 where
   pub key : IsWell p.encoding (bytes_of p.key)
   pub value : IsWell p.encoding (bytes_of p.value)
 
--- The pair means a key and a value, and these were appended.
-pub record IsPairPrinted (r : Repertoire) (first : Bool) (old : List ℕ) (p : Pair) (separator ending new : List ℕ) : Type 0 where
+-- The pair means a key and a value, and these were appended, the value as these bytes.
+pub record IsPairPrinted (r : Repertoire) (first : Bool) (puts : List ℕ → List ℕ) (old : List ℕ) (p : Pair) (separator ending new : List ℕ) : Type 0 where
   pub key : List ℕ
   pub value : List ℕ
   pub key_means : key_of p ≡ means key
   pub value_means : value_of p ≡ means value
-  pub printed : new ≡ old ++ (key_bytes r first key ++ (separator ++ (puts_of r value ++ ending)))
+  pub printed : new ≡ old ++ (key_bytes r first key ++ (separator ++ (puts value ++ ending)))
 
 -- The key is malformed; or the value is, and the key isn't.
 abbrev pub BreaksPair : Pair → format_escapes.Malformed → Type 0
 BreaksPair p kind = (key_of p ≡ breaks kind) ⊎ ((key : List ℕ) × (key_of p ≡ means key) × (value_of p ≡ breaks kind))
 
 -- The result of printing a pair, and the line after it.
-abbrev pub PrintsPair : Repertoire → Bool → List ℕ → Pair → List ℕ → List ℕ → Result Unit UnescapeError → List ℕ → Type 0
-PrintsPair r first old p separator ending (Ok done) new = IsPairPrinted r first old p separator ending new
-PrintsPair r first old p separator ending (Err (error.Malformed malformed)) new = BreaksPair p (malformed_in malformed)
-PrintsPair r first old p separator ending (Err error.Memory) new = Unit {0}
+abbrev pub PrintsPair : Repertoire → Bool → (List ℕ → List ℕ) → List ℕ → Pair → List ℕ → List ℕ → Result Unit UnescapeError → List ℕ → Type 0
+PrintsPair r first puts old p separator ending (Ok done) new = IsPairPrinted r first puts old p separator ending new
+PrintsPair r first puts old p separator ending (Err (error.Malformed malformed)) new = BreaksPair p (malformed_in malformed)
+PrintsPair r first puts old p separator ending (Err error.Memory) new = Unit {0}
+
+-- ---- a value that is resolved first
+
+-- The meaning is a text, and its bytes were appended; or it is malformed, and the error says how; or memory ran out.
+abbrev pub PrintsMeant : Meaning → (List ℕ → List ℕ) → List ℕ → Result Unit UnescapeError → List ℕ → Type 0
+PrintsMeant m puts old (Ok done) new = (meant : List ℕ) × (m ≡ means meant) × (new ≡ old ++ puts meant)
+PrintsMeant m puts old (Err (error.Malformed malformed)) new = m ≡ breaks (malformed_in malformed)
+PrintsMeant m puts old (Err error.Memory) new = Unit {0}

@@ -41,6 +41,19 @@ put_of r c = format.encoded_text (encoding_in r) (format.printed_character (enco
 abbrev pub puts_of : Repertoire → List ℕ → List ℕ
 puts_of r text = format.encoded_text (encoding_in r) (format.printed_characters (encoding_in r) (only_in r) format.in_key_or_value text)
 
+-- the bytes of a value as people write it, after blanks only or after a separator
+abbrev pub value_bytes : Repertoire → Bool → List ℕ → List ℕ
+value_bytes r after_blanks value = format.encoded_text (encoding_in r) (format.printed_value (encoding_in r) (only_in r) after_blanks value)
+
+-- the bytes of what comes after its first character, and of one such character
+abbrev pub rest_bytes : Repertoire → List ℕ → List ℕ
+rest_bytes r rest = format.encoded_text (encoding_in r) (format.printed_rest (encoding_in r) (only_in r) rest)
+
+abbrev pub inside_bytes : Repertoire → Bool → ℕ → List ℕ
+inside_bytes r is_last c =
+    let e = encoding_in r in
+    format.encoded_text e (if is_last then format.printed_last e (only_in r) c else format.printed_inside e (only_in r) c)
+
 abbrev pub key_bytes : Repertoire → Bool → List ℕ → List ℕ
 key_bytes r first key = format.encoded_text (encoding_in r) (format.printed_key (encoding_in r) (only_in r) first key)
 

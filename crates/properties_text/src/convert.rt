@@ -1,11 +1,12 @@
 //! Converting a source: to another encoding, or to readable or escaped characters.
 
 ghost use Rattle.std.specs.Prelude.{◌≡◌, ◌<◌, IfOk, true, length};
-ghost use Rattle.properties_format.specs.Encoding.{begins_like_bom};
-ghost use Rattle.properties_format.specs.Converting.{IsConverted};
+ghost use Rattle.properties_format.specs.Converting.{IsConverted, first_escaped};
+ghost use Rattle.properties_format.specs.Printing.{encoded_text};
 ghost use Rattle.properties_text.specs.Encoding.{encoding_of};
-ghost use Rattle.properties_text.specs.Printing.{encoding_in, only_in, AppendsOnOk};
-ghost use Rattle.properties_text.specs.Converted.{is_readable, body_bytes, escaped_front, mark_size, mark_character};
+ghost use Rattle.properties_text.specs.Spelt.{IsWell, text_in};
+ghost use Rattle.properties_text.specs.Printing.{encoding_in, only_in};
+ghost use Rattle.properties_text.specs.Converted.{is_readable, body_bytes, line_in};
 
 use crate::encoding::byte_order_mark::{begins_like_mark, encoding_in_force};
 use crate::encoding::{Encoding, LineEncoding, TextBuffer, as_text};
@@ -39,19 +40,11 @@ pub fn convert(
 {
     let (in_force, start) = encoding_in_force(source, encoding);
     let readable = is_readable(spelling);
-    let mut bytes = LineBuffer::new(alloc);
-    convert_body(
-        alloc,
-        &mut bytes,
-        in_force,
-        repertoire,
-        readable,
-        &source[start..],
-    )?;
-    if begins_like_mark(bytes.as_slice()) {
-        return escape_first(alloc, repertoire, bytes.as_slice());
+    let line = convert_body(alloc, in_force, repertoire, readable, &source[start..])?;
+    if begins_like_mark(line.as_slice()) {
+        return escape_first(alloc, repertoire, line.as_slice());
     }
-    Ok(bytes.into_bytes())
+    Ok(line.into_bytes())
 }
 
 fn is_readable(spelling: Spelling) -> bool
@@ -66,45 +59,34 @@ fn is_readable(spelling: Spelling) -> bool
 // Converts a body in this encoding.
 fn convert_body(
     alloc: Global,
-    line: &mut LineBuffer,
     encoding: Encoding,
     repertoire: Repertoire,
     readable: bool,
     body: &[u8],
-) -> Result<(), AllocError>
-    ensures { AppendsOnOk line.old (body_bytes repertoire readable encoding body.now) result line.new }
+) -> Result<LineBuffer, AllocError>
+    ensures { IfOk result (λ line. line ≡ body_bytes repertoire readable encoding body.now) }
 {
-    if let Encoding::WINDOWS_1252 = encoding {
-        return convert_text(line, repertoire, readable, LineEncoding::Windows1252, body);
+    // UTF-8 has every character.
+    let kept = !readable && matches!(repertoire, Repertoire::Utf8);
+    if let (Encoding::WINDOWS_1252, false) = (encoding, kept) {
+        return convert_text(alloc, repertoire, readable, LineEncoding::Windows1252, body);
     }
     if let Some(text) = as_text(encoding, body) {
         return convert_text(
-            line,
+            alloc,
             repertoire,
             readable,
             LineEncoding::Utf8,
             text.as_bytes(),
         );
     }
-    convert_decoded(alloc, line, encoding, repertoire, readable, body)
-}
-
-// Converts a body that has to be decoded.
-#[inline(never)]
-fn convert_decoded(
-    alloc: Global,
-    line: &mut LineBuffer,
-    encoding: Encoding,
-    repertoire: Repertoire,
-    readable: bool,
-    body: &[u8],
-) -> Result<(), AllocError>
-    ensures { AppendsOnOk line.old (body_bytes repertoire readable encoding body.now) result line.new }
-{
     let mut text = TextBuffer::new(alloc);
     text.push_decoded(encoding, body)?;
+    if kept {
+        return Ok(text.into_line());
+    }
     convert_text(
-        line,
+        alloc,
         repertoire,
         readable,
         LineEncoding::Utf8,
@@ -112,38 +94,27 @@ fn convert_decoded(
     )
 }
 
-// Escapes the first character of bytes that begin like a byte order mark.
+// Escapes the first character of some bytes.
 #[inline(never)]
+#[tactic(auto, using(crate::proofs::Converted::front_bytes))]
 fn escape_first(alloc: Global, repertoire: Repertoire, bytes: &[u8]) -> Result<Vec<u8>, AllocError>
-    requires { begins_like_bom bytes.now ≡ true }
-    ensures { IfOk result (λ escaped. escaped.items ≡ escaped_front repertoire bytes.now) }
+    requires some { 0 < length bytes.now }
+    requires well { IsWell (line_in repertoire) bytes.now }
+    ensures { IfOk result (λ escaped. escaped.items ≡ encoded_text (encoding_in repertoire) (first_escaped (text_in (line_in repertoire) bytes.now))) }
 {
-    let size = mark_size(repertoire);
-    if bytes.len() < size {
-        // No bytes that begin like a mark are fewer.
-        return Err(AllocError);
-    }
+    let first = line_in(repertoire).first_character(bytes);
     let mut escaped = LineBuffer::new(alloc);
-    print_escape(&mut escaped, mark_character(repertoire, bytes))?;
-    escaped.extend(&bytes[size..])?;
+    print_escape(&mut escaped, first.character)?;
+    escaped.extend(&bytes[first.length..])?;
     Ok(escaped.into_bytes())
 }
 
-fn mark_size(repertoire: Repertoire) -> usize
-    ensures { result ≡ mark_size repertoire }
+// The encoding of a result.
+fn line_in(repertoire: Repertoire) -> LineEncoding
+    ensures { result ≡ line_in repertoire }
 {
     match repertoire {
-        Repertoire::Windows1252 => 1,
-        Repertoire::Utf8 | Repertoire::Ascii => 3,
-    }
-}
-
-fn mark_character(repertoire: Repertoire, bytes: &[u8]) -> char
-    requires { 0 < length bytes.now }
-    ensures { result ≡ mark_character repertoire bytes.now }
-{
-    match repertoire {
-        Repertoire::Windows1252 => char::from(bytes[0]),
-        Repertoire::Utf8 | Repertoire::Ascii => '\u{feff}',
+        Repertoire::Windows1252 => LineEncoding::Windows1252,
+        Repertoire::Utf8 | Repertoire::Ascii => LineEncoding::Utf8,
     }
 }

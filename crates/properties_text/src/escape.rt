@@ -141,6 +141,8 @@ fn starts_with_backslash(text: &str) -> bool
 }
 
 /// Returns whether the escapes of a well-formed text can be resolved, or else why the first malformed one can't.
+// Inlined even where two loops call it, as those that copy pairs do.
+#[inline(always)]
 pub fn check_escapes(encoding: LineEncoding, text: &[u8]) -> Result<(), Malformed>
     requires { IsWell encoding text.now }
     ensures { Checks encoding text.now result }

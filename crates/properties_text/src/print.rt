@@ -2,22 +2,22 @@
 
 ghost use Rattle.std.specs.Prelude.{◌≡◌, ◌≤◌, ◌<◌, ◌++◌, ◌∷◌, true, false, [], ℕ, length, take, get_or, OnErr};
 ghost use Rattle.std.specs.Str.{chars};
+ghost use Rattle.memchr.specs.Find.{IsFirstByte};
 ghost use Rattle.properties_format.specs.Text.{backslash};
 ghost use Rattle.properties_format.specs.Encoding.{begins_like_bom};
 ghost use Rattle.properties_format.specs.Escapes.{means};
 ghost use Rattle.properties_format.specs.Computed.Escapes.{meaning_of};
 ghost use Rattle.properties_format.specs.Printing.{unicode_escape, literal, encoded_text};
-ghost use Rattle.properties_format.specs.Valued.{printed_rest, printed_value};
 ghost use Rattle.properties_text.specs.Encoding.{line_of};
 ghost use Rattle.properties_text.specs.Parsing.{IsSpan, bytes_in};
 ghost use Rattle.properties_text.specs.Spelt.{text_in, IsWell};
-ghost use Rattle.properties_text.specs.Printing.{encoding_in, only_in, AppendsOnOk, character_bytes, text_bytes, put_of, puts_of, key_bytes, escaped_key, is_first_escaped, last_run};
-ghost use Rattle.properties_text.specs.PrintedTexts.{is_copied, StopsIn, meaning_in, Prints, bytes_of, key_of, value_of, IsPair, PrintsPair};
+ghost use Rattle.properties_text.specs.Printing.{encoding_in, only_in, AppendsOnOk, character_bytes, text_bytes, put_of, puts_of, value_bytes, rest_bytes, inside_bytes, key_bytes, escaped_key, is_first_escaped, last_run};
+ghost use Rattle.properties_text.specs.PrintedTexts.{is_copied, StopsIn, meaning_in, Prints, bytes_of, key_of, value_of, IsPair, PrintsPair, ReadsBy, PrintsMeant};
 
-use crate::characters::is_separator;
-use crate::encoding::LineEncoding;
+use crate::characters::{is_comment_sign, is_separator};
 use crate::encoding::byte_order_mark::begins_like_mark;
-use crate::escape::UnescapeError;
+use crate::encoding::{LineEncoding, Spelt};
+use crate::escape::{Malformed, UnescapeError};
 use crate::line_buffer::{make_room, put_raw};
 use crate::parse::Span;
 use byte_blocks::{Byte, ByteClass, Controls, Either, PastAscii, find};
@@ -28,10 +28,12 @@ use text::{first_character, print_bytes, put_literal, put_printed};
 mod bytes;
 mod convert;
 mod escapes;
+mod readable;
 mod text;
 
 pub use crate::line_buffer::LineBuffer;
 pub use convert::convert_text;
+pub use readable::{print_readable_pair, print_readable_texts};
 
 /// What a text outside keys and values is in its line, which determines what is escaped besides the characters that the
 /// repertoire lacks.
@@ -183,7 +185,7 @@ pub fn print_pair(
     ending: &str,
 ) -> Result<(), UnescapeError>
     requires { IsPair pair }
-    ensures printed { PrintsPair repertoire first line.old pair.entry separator.now ending.now result line.new }
+    ensures printed { PrintsPair repertoire first (puts_of repertoire) line.old pair.entry separator.now ending.now result line.new }
     ensures unchanged { OnErr result (line.new ≡ line.old) }
 {
     match (pair.escaped, is_copied(pair.encoding, repertoire)) {
@@ -213,7 +215,7 @@ fn print_parts<Stops: ByteClass>(
     requires well { IsPair pair }
     requires stops { StopsIn Stops.holds pair.encoding repertoire }
     requires escaped { Stops.holds backslash ≡ pair.escaped }
-    ensures printed { PrintsPair repertoire first line.old pair.entry separator.now ending.now result line.new }
+    ensures printed { PrintsPair repertoire first (puts_of repertoire) line.old pair.entry separator.now ending.now result line.new }
     ensures unchanged { OnErr result (line.new ≡ line.old) }
 {
     let Pair {
@@ -355,20 +357,61 @@ pub fn print_value(
     after_blanks: bool,
     text: &str,
 ) -> Result<(), AllocError>
-    ensures { let e = encoding_in repertoire in
-        let value = printed_value e (only_in repertoire) after_blanks (chars text.now) in
-        AppendsOnOk line.old (encoded_text e value) result line.new }
+    ensures { AppendsOnOk line.old (value_bytes repertoire after_blanks (chars text.now)) result line.new }
 {
-    let mut characters = text.chars();
-    let Some(first) = characters.next() else {
-        return Ok(());
-    };
-    let rest = characters.as_str();
-    if !is_first_escaped(after_blanks, first, rest.is_empty()) {
-        return print_rest_of_value(line, repertoire, text);
+    let bytes = text.as_bytes();
+    match print_value_in(
+        line,
+        repertoire,
+        after_blanks,
+        LineEncoding::Utf8,
+        false,
+        bytes,
+    ) {
+        Ok(()) => Ok(()),
+        // No escape is malformed, since a backslash begins none.
+        Err(_) => Err(AllocError),
     }
-    print_in_key_or_value(line, repertoire, first)?;
-    print_rest_of_value(line, repertoire, rest)
+}
+
+// Prints the value that bytes mean, in which a backslash begins an escape if `escaped`.
+fn print_value_in(
+    line: &mut LineBuffer,
+    repertoire: Repertoire,
+    after_blanks: bool,
+    encoding: LineEncoding,
+    escaped: bool,
+    bytes: &[u8],
+) -> Result<(), UnescapeError>
+    requires { IsWell encoding bytes.now }
+    ensures { PrintsMeant (meaning_in encoding escaped bytes.now) (value_bytes repertoire after_blanks) line.old result line.new }
+{
+    if bytes.is_empty() {
+        return Ok(());
+    }
+    let first = match read_first(encoding, escaped, bytes) {
+        Ok(first) => first,
+        Err(malformed) => return Err(UnescapeError::Malformed(malformed)),
+    };
+    let rest = &bytes[first.length..];
+    if !is_first_escaped(after_blanks, first.character, rest.is_empty()) {
+        return print_rest_of_value(line, repertoire, encoding, escaped, bytes);
+    }
+    print_in_key_or_value(line, repertoire, first.character)?;
+    print_rest_of_value(line, repertoire, encoding, escaped, rest)
+}
+
+// Returns the first character that bytes mean.
+#[inline(always)]
+fn read_first(encoding: LineEncoding, escaped: bool, bytes: &[u8]) -> Result<Spelt, Malformed>
+    requires some { 0 < length bytes.now }
+    requires well { IsWell encoding bytes.now }
+    ensures { ReadsBy escaped encoding bytes.now result }
+{
+    if escaped {
+        return first_character::<Escaped>(encoding, bytes);
+    }
+    first_character::<Literal>(encoding, bytes)
 }
 
 // Returns whether the first character of a value gets a backslash. A space that is the last one too gets none.
@@ -383,25 +426,61 @@ fn is_first_escaped(after_blanks: bool, first: char, is_last: bool) -> bool
 }
 
 // Prints the characters from one on that needs no backslash at the front: runs of ASCII as they are, and by turns a
-// character that may need an escape.
+// character that may need an escape, or was spelt as one.
 fn print_rest_of_value(
     line: &mut LineBuffer,
     repertoire: Repertoire,
-    text: &str,
-) -> Result<(), AllocError>
-    ensures { let e = encoding_in repertoire in
-        let printed = printed_rest e (only_in repertoire) (chars text.now) in
-        AppendsOnOk line.old (encoded_text e printed) result line.new }
+    encoding: LineEncoding,
+    escaped: bool,
+    bytes: &[u8],
+) -> Result<(), UnescapeError>
+    requires { IsWell encoding bytes.now }
+    ensures { PrintsMeant (meaning_in encoding escaped bytes.now) (rest_bytes repertoire) line.old result line.new }
 {
-    let mut rest = text.as_bytes();
-    while let Some(plain) = find::<EscapedAscii>(rest) {
+    let mut rest = bytes;
+    while let Some(plain) = find_stop::<EscapedAscii>(rest) {
         let (run, others) = rest.split_at(plain);
         line.extend(run)?;
-        let stop = LineEncoding::Utf8.first_character(others);
-        print_in_key_or_value(line, repertoire, stop.character)?;
+        let stop = match read_first(encoding, escaped, others) {
+            Ok(stop) => stop,
+            Err(malformed) => return Err(UnescapeError::Malformed(malformed)),
+        };
         rest = &others[stop.length..];
+        print_inside_value(line, repertoire, stop.character, rest.is_empty())?;
     }
-    print_last_run(line, rest)
+    print_last_run(line, rest)?;
+    Ok(())
+}
+
+// The index of the first byte that isn't printed as it is. Between adjacent escapes no search is needed.
+#[inline(always)]
+fn find_stop<Stops: ByteClass>(bytes: &[u8]) -> Option<usize>
+    requires { Stops.holds backslash ≡ true }
+    ensures { IsFirstByte Stops.holds bytes.now result }
+{
+    match bytes {
+        [b'\\', ..] => Some(0),
+        _ => find::<Stops>(bytes),
+    }
+}
+
+// Prints a character after the first, which may be the last one.
+#[inline(always)]
+fn print_inside_value(
+    line: &mut LineBuffer,
+    repertoire: Repertoire,
+    character: char,
+    is_last: bool,
+) -> Result<(), AllocError>
+    ensures { AppendsOnOk line.old (inside_bytes repertoire is_last character) result line.new }
+{
+    if is_last && character == ' ' {
+        return print_escape(line, ' ');
+    }
+    if character == ' ' || is_separator(character) || is_comment_sign(character) {
+        return print_literal(line, repertoire, character);
+    }
+    print_in_key_or_value(line, repertoire, character)
 }
 
 // Prints ASCII as it is, but for a space at the end, which is printed as an escape.
@@ -431,6 +510,7 @@ fn print_character(
     }
 }
 
+#[inline(always)]
 fn print_in_key_or_value(
     line: &mut LineBuffer,
     repertoire: Repertoire,

@@ -11,6 +11,5 @@ pub mod Pairs
 pub mod Prefixes
 pub mod Settled
 pub mod Slices
-pub mod Sound
 pub mod Taking
 pub mod Unsound

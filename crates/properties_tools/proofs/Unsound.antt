@@ -1,33 +1,60 @@
 -- Why a source is refused.
-use Rattle.std.proofs.Common.{List, ℕ, [], sym, subst, inl, inr}
-use Rattle.std.specs.Prelude.{◌⊎◌}
-use Rattle.std.specs.Borrow.{Bor}
+use Rattle.std.proofs.Common.{◌≡◌, List, ℕ, true, false, [], ◌∷◌, ◌++◌, refl, sym, ap, ◌∙◌, inl, inr}
+use Rattle.std.specs.Prelude.{Option, Some, None}
+use Rattle.std.proofs.lemmas.Bool.{cases_Bool, cond-true, cond-false}
+use Rattle.properties_format.specs.EditedPairs.{AreInComments}
 use Rattle.properties_format.specs.Encoding.{Encoding}
 use Rattle.properties_format.specs.MalformedEscapes as format
 use Rattle.properties_format.specs.MalformedEscapes.{AreMalformedEscapes}
-use Rattle.java_properties.specs.MalformedEscapes.{BeginsEscapes, FindsAll, FindsFirst}
-use Rattle.java_properties.proofs.MalformedEscapes.{records-none}
-use Rattle.java_properties.proofs.SliceReads.{slice_reader, slice-read, slice-whole}
+use Rattle.java_properties.specs.MalformedEscapes.{escape_record, escape_records}
 use Rattle.properties_items.specs.declared.findings.MalformedEscape.{MalformedEscape}
-use Rattle.properties_tools.specs.Propedit.Sources.{HasSoundBytes, IsFirstMalformed, IsSound}
+use Rattle.properties_tools.specs.Propedit.Sources.{first_in_pair, HasMalformed, HasSoundBytes, IsFirstMalformed, IsSound}
 
--- The bytes are sound, and this escape was found first.
-pub first-malformed : {e : Encoding} (from to : Bor (List ℕ)) (escape : MalformedEscape) → HasSoundBytes e from.now
-    → FindsFirst slice_reader e from escape to → IsFirstMalformed e from.now escape
-first-malformed {e} from to escape bytes h = record { bytes = bytes; escape = h.escape; others = first.others; are = first.are; is = h.is }
-  where
-    P : List ℕ → Type 0
-    P = λ v. BeginsEscapes e v h.escape
+-- what is said of the first escape of a pair
+record Begins (escapes : List format.MalformedEscape) (found : MalformedEscape) : Type 0 where
+  pub before : List format.MalformedEscape
+  pub escape : format.MalformedEscape
+  pub after : List format.MalformedEscape
+  pub division : escapes ≡ before ++ escape ∷ after
+  pub passed : AreInComments before
+  pub in_pair : escape.in_comment ≡ false
+  pub is : found ≡ escape_record escape
 
-    first : BeginsEscapes e from.now h.escape
-    first = elim h.begins [
-      | inl always ↦ subst P (sym (slice-read h.read)) (always to.now)
-      | inr last ↦ subst P (slice-whole h.read last.0) last.1
-    ]
+none-first : (escapes : List format.MalformedEscape) → None ≡ first_in_pair (escape_records escapes) → AreInComments escapes
+none-first [] h = tt
+none-first (m ∷ ms) h = elim (cases_Bool m.in_comment) [
+  | inl c ↦ (c, none-first ms (h ∙ cond-true m.in_comment _ _ c))
+  | inr c ↦ let k : None ≡ Some (escape_record m) = h ∙ cond-false m.in_comment _ _ c in absurd (cc)
+]
 
--- The bytes are sound, and no escape was found.
-pub none-malformed : {e : Encoding} (from to : Bor (List ℕ)) → HasSoundBytes e from.now → FindsAll slice_reader e from [] to → IsSound e from.now
-none-malformed {e} from to bytes h = record {
-  bytes = bytes;
-  resolved = subst (λ v. AreMalformedEscapes e v []) (slice-whole h.read h.ended) (subst (AreMalformedEscapes e h.bytes) (records-none h.escapes h.is) h.are);
-}
+one-first : (escapes : List format.MalformedEscape) (found : MalformedEscape) → Some found ≡ first_in_pair (escape_records escapes) → Begins escapes found
+one-first [] found h = absurd (cc)
+one-first (m ∷ ms) found h = elim (cases_Bool m.in_comment) [
+  | inl c ↦
+      let k = one-first ms found (h ∙ cond-true m.in_comment _ _ c) in
+      record { before = m ∷ k.before; escape = k.escape; after = k.after; division = ap (λ v. m ∷ v) k.division; passed = (c, k.passed); in_pair = k.in_pair; is = k.is }
+  | inr c ↦
+      let k : Some found ≡ Some (escape_record m) = h ∙ cond-false m.in_comment _ _ c in
+      record { before = []; escape = m; after = ms; division = refl; passed = tt; in_pair = c; is = cc }
+]
+
+-- The bytes are sound, and this is the first escape of a pair among those that are malformed.
+pub first-malformed : {e : Encoding} {source : List ℕ} {found : List MalformedEscape} (escape : MalformedEscape) → HasSoundBytes e source → HasMalformed e source found
+    → Some escape ≡ first_in_pair found → IsFirstMalformed e source escape
+first-malformed {e} {source} escape bytes h is =
+    let k = one-first h.escapes escape (is ∙ ap first_in_pair h.is) in
+    record {
+      bytes = bytes;
+      before = k.before;
+      escape = k.escape;
+      after = k.after;
+      are = rw (sym k.division) h.are;
+      passed = k.passed;
+      in_pair = k.in_pair;
+      is = k.is;
+    }
+
+-- The bytes are sound, and no escape of a pair is malformed.
+pub none-malformed : {e : Encoding} {source : List ℕ} {found : List MalformedEscape} → HasSoundBytes e source → HasMalformed e source found
+    → None ≡ first_in_pair found → IsSound e source
+none-malformed bytes h is = record { bytes = bytes; in_comments = (h.escapes, h.are, none-first h.escapes (is ∙ ap first_in_pair h.is)) }

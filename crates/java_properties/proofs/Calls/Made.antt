@@ -132,22 +132,22 @@ module _ {W : Type 0} {sink : Sink W} where
   stops {middle = middle} {before = before} {call = call} others division made fails =
       record { before = before; call = call; others = others; division = division; middle = middle; made = made; fails = fails }
 
--- a list of calls as they are seen, cut at one of them
-pub calls-cut : {X : Type 0} (f : X → Call) (xs : List X) (i : ℕ) (d : X) → i < length xs
+-- a list as it is seen, cut at one of its elements
+pub calls-cut : {X Y : Type 0} (f : X → Y) (xs : List X) (i : ℕ) (d : X) → i < length xs
     → map f xs ≡ take i (map f xs) ++ (f (get_or xs i d) ∷ drop (i + 1) (map f xs))
 calls-cut f [] i d h = absurd (omega arith)
 calls-cut f (x ∷ xs) zero d h = refl
 calls-cut f (x ∷ xs) (suc i) d h = rw add-one (ap (λ v. f x ∷ v) (calls-cut f xs i d (omega arith) ∙ rw add-one refl))
 
 -- and as far as that one
-pub calls-take : {X : Type 0} (f : X → Call) (xs : List X) (i : ℕ) (d : X) → i < length xs
+pub calls-take : {X Y : Type 0} (f : X → Y) (xs : List X) (i : ℕ) (d : X) → i < length xs
     → take (i + 1) (map f xs) ≡ take i (map f xs) ++ (f (get_or xs i d) ∷ [])
 calls-take f [] i d h = absurd (omega arith)
 calls-take f (x ∷ xs) zero d h = refl
 calls-take f (x ∷ xs) (suc i) d h = rw (add-one (suc i)) (ap (λ v. f x ∷ v) (rw (add-one i) at (calls-take f xs i d (omega arith))))
 
 -- and all of them
-pub calls-all : {X : Type 0} (f : X → Call) (xs : List X) (i : ℕ) → length xs ≤ i → take i (map f xs) ≡ map f xs
+pub calls-all : {X Y : Type 0} (f : X → Y) (xs : List X) (i : ℕ) → length xs ≤ i → take i (map f xs) ≡ map f xs
 calls-all f xs i h = take_all i (map f xs) (omega (arith, length-map xs f))
 
 -- ---- what a call that sets a text does, by what the setter did

@@ -2,10 +2,10 @@
 use Rattle.std.proofs.Common.{◌≡◌, List, [], ◌∷◌, ◌++◌, refl, ◌∙◌, inl, inr, subst}
 use Rattle.std.specs.Prelude.{Bool, Result, Ok, Err}
 use Rattle.std.specs.Global.{Vec}
-use Rattle.counted_io.specs.Streams.{Sink}
+use Rattle.counted_io.specs.Streams.{Sink, HasWritten}
 use Rattle.properties_format.specs.Encoding.{output_encoding}
 use Rattle.properties_format.specs.Settings.{Settings}
-use Rattle.properties_format.specs.Writing.{Call, comment_call, settings_after_call, wrote, ArePrefixesClean, AreOfScalars}
+use Rattle.properties_format.specs.Writing.{Call, comment_call, settings_after_call, settings_after, wrote, ArePrefixesClean, AreOfScalars}
 use Rattle.properties_format.specs.Pairs.{Pair, calls_of, ArePairsOfScalars}
 use Rattle.properties_format.specs.Laws.{wrote_pairs, ArePairsReadBack}
 use Rattle.properties_format.proofs.Items.Unique.{items_of-only}
@@ -24,6 +24,16 @@ pub line_of-own : (e : LineEncoding) → output_encoding (line_of e) ≡ line_of
 line_of-own Windows1252 = refl
 line_of-own Utf8 = refl
 
+-- what holds of two lists of calls holds of both together
+pub scalars-append : (xs ys : List Call) → AreOfScalars xs → AreOfScalars ys → AreOfScalars (xs ++ ys)
+scalars-append [] ys h k = k
+scalars-append (x ∷ xs) ys h k = (h.0, scalars-append xs ys h.1 k)
+
+pub clean-append : (s : Settings) (xs ys : List Call) → ArePrefixesClean s xs → ArePrefixesClean (settings_after s xs) ys → ArePrefixesClean s (xs ++ ys)
+clean-append s [] ys h k = k
+clean-append s (comment_call text ∷ xs) ys h k = (h.0, clean-append s xs ys h.1 k)
+clean-append s (call ∷ xs) ys h k = clean-append (settings_after_call s call) xs ys h k
+
 -- what holds of all calls holds of the first of them
 scalars-before : (xs ys : List Call) → AreOfScalars (xs ++ ys) → AreOfScalars xs
 scalars-before [] ys h = tt
@@ -35,18 +45,22 @@ clean-before s (comment_call text ∷ xs) ys h = (h.0, clean-before s xs ys h.1)
 clean-before s (call ∷ xs) ys h = clean-before (settings_after_call s call) xs ys h
 
 module _ {W : Type 0} {sink : Sink W} where
-  -- calls that were made, and wrote cleanly, are read back
-  pub made-read_back : {old new : Writing W} {calls : List Call} → IsGoodWriter old → AreOfScalars calls → HasMade sink old calls new → IsCleanWriting old calls
-      → IsReadBack sink old calls new
-  made-read_back {old = old} {new = new} {calls = calls} good scalars made clean =
+  -- what calls wrote cleanly is read back
+  pub written-read_back : {old new : Writing W} {calls : List Call} → IsGoodWriter old → AreOfScalars calls
+      → HasWritten sink old.sink (wrote old.encoding old.settings old.lines calls) new.sink → IsCleanWriting old calls → IsReadBack sink old calls new
+  written-read_back {old = old} {new = new} {calls = calls} good scalars written clean =
       record {
         bytes = wrote old.encoding old.settings 0 calls;
-        written = rw clean.first at made.written;
+        written = rw clean.first at written;
         items = IsItems-wrote old.encoding old.settings calls good.encoding good.settings clean.prefixes scalars;
         only = λ others h.
             items_of-only old.encoding _ _ others h
             ∙ items_of-wrote old.encoding old.settings calls good.encoding good.settings clean.prefixes scalars;
       }
+
+  pub made-read_back : {old new : Writing W} {calls : List Call} → IsGoodWriter old → AreOfScalars calls → HasMade sink old calls new → IsCleanWriting old calls
+      → IsReadBack sink old calls new
+  made-read_back good scalars made clean = written-read_back good scalars made.written clean
 
   -- and so are those before one that failed
   pub stops-read_back : {old new : Writing W} {calls : List Call} {error : PropertiesError} → IsGoodWriter old → AreOfScalars calls

@@ -5,8 +5,7 @@ use Rattle.std.specs.Prelude.{encode_utf8}
 use Rattle.std.specs.Str.{IsUtf8, chars}
 use Rattle.std.proofs.lemmas.Str.{chars_past_char}
 use Rattle.std.proofs.StrCases.{chars_of_empty}
-use Rattle.properties_format.specs.Writing.{is_empty}
-use Rattle.properties_format.specs.Text.{is_blank, is_blanks, is_separator}
+use Rattle.properties_format.specs.Text.{is_blank, is_blanks, is_separator, is_empty}
 use Rattle.properties_format.specs.Computed.Settings.{holds_no_line_end, is_good_prefix, is_signed_separator}
 use Rattle.properties_format.proofs.Split.Unique.{separator-full}
 use Rattle.properties_text.proofs.Texts.Characters.{is_empty-chars}

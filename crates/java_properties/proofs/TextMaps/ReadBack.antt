@@ -4,7 +4,7 @@ use Rattle.std.proofs.lemmas.Map.Text.{is_eq-slice_cmp}
 use Rattle.std.specs.declared.cmp.Ordering.TheVariants.{Less}
 use Rattle.std.specs.Cmp.Lexicographic.{slice_cmp}
 use Rattle.std.specs.Ordering.{nat_cmp, is_eq}
-use Rattle.std.proofs.Common.{◌≡◌, ◌≢◌, ℕ, Bool, true, false, List, [], ◌∷◌, ◌++◌, refl, ap, sym, ◌∙◌, inl, inr, subst, append_assoc}
+use Rattle.std.proofs.Common.{◌≡◌, ◌≢◌, ℕ, Bool, true, false, List, [], ◌∷◌, ◌++◌, refl, ap, sym, ◌∙◌, inl, inr, subst, append_assoc, append-nil}
 use Rattle.std.specs.Prelude.{All, map, Option, Some, None, Result, Ok, Err, bytes_eq}
 use Rattle.std.specs.Option.{option_map}
 use Rattle.std.specs.Str.{chars, IsUtf8}
@@ -23,8 +23,8 @@ use Rattle.properties_format.specs.Lines.{end}
 use Rattle.properties_format.specs.Items.{IsItems}
 use Rattle.properties_format.specs.Maps.{IsValue}
 use Rattle.properties_format.specs.Computed.Maps.{value_in}
-use Rattle.properties_format.specs.Settings.{default_settings}
-use Rattle.properties_format.specs.Writing.{pair_call, flush_call, wrote, ArePrefixesClean, AreOfScalars}
+use Rattle.properties_format.specs.Settings.{Settings, default_settings}
+use Rattle.properties_format.specs.Writing.{Call, pair_call, flush_call, settings_after, wrote, ArePrefixesClean, AreOfScalars, AreGoodSettings}
 use Rattle.properties_format.specs.Pairs.{Pair, calls_of, items_after, AreAccepted, ArePairsOfScalars}
 use Rattle.properties_format.specs.Laws.{HasPair, HasNoKey, AreDistinct}
 use Rattle.properties_format.proofs.Items.Unique.{items_of-meets, items_of-only}
@@ -32,11 +32,17 @@ use Rattle.properties_format.proofs.Maps.{value_in-meets, value_in-only}
 use Rattle.properties_format.proofs.Laws.{no-pair, value-among}
 use Rattle.properties_format.proofs.ReadBack.Law.{default_settings-good}
 use Rattle.properties_format.proofs.ReadBack.Lists.{items_of-pairs}
-use Rattle.java_properties.specs.Maps.{Texts, entry_texts, calls_for, character_pair, items_for, AreInOrder, WritesPairs, WritesMap, MapReadsBack}
+use Rattle.properties_format.proofs.Writing.{wrote-append}
+use Rattle.counted_io.proofs.Streams.{written-more}
+use Rattle.java_properties.specs.PropertiesWriter.{Writing}
+use Rattle.java_properties.specs.Calls.{HasMade}
+use Rattle.java_properties.specs.ReadBack.{IsGoodWriter, IsReadBack}
+use Rattle.java_properties.specs.MapLines.{WritesMapLines, LinesReadBack, IsWrittenCleanly, LinesReadBackAfter}
+use Rattle.java_properties.specs.Maps.{Texts, entry_texts, calls_for, character_pair, items_for, AreInOrder, IsMapReadBack, WritesPairs, WritesMap, MapReadsBack}
 use Rattle.properties_items.specs.Texts.{Entries, characters, value_at}
 use Rattle.properties_items.specs.declared.error.PropertiesError.{PropertiesError}
 use Rattle.properties_items.proofs.Scalars.{string-scalars}
-use Rattle.java_properties.proofs.ReadBack.Written.{stops-read_back}
+use Rattle.java_properties.proofs.ReadBack.Written.{scalars-append, clean-append, written-read_back, stops-read_back}
 use Rattle.java_properties.proofs.TextMaps.Writing.{accepted}
 
 -- ---- keys that ascend strictly by their bytes are distinct as characters too
@@ -160,14 +166,84 @@ map-texts entries pairs in_order =
     let xs = map entry_texts entries in
     recursion_from_All AreTexts pairs (All-permutation AreTexts xs pairs in_order.entries (All-from_recursion AreTexts xs (entries-texts entries)))
 
--- the calls that write them, and then a flush, are of scalar values, and write under no prefix
-and-flush-scalars : (pairs : List Texts) → AllByRecursion AreTexts pairs → AreOfScalars (calls_for pairs ++ (flush_call ∷ []))
-and-flush-scalars [] h = (tt, tt)
-and-flush-scalars (texts ∷ pairs) h = ((h.0.1, h.0.2), and-flush-scalars pairs h.1)
+-- the calls that write them are of scalar values, and write under no prefix
+pairs-scalars : (pairs : List Texts) → AllByRecursion AreTexts pairs → AreOfScalars (calls_for pairs)
+pairs-scalars [] h = tt
+pairs-scalars (texts ∷ pairs) h = ((h.0.1, h.0.2), pairs-scalars pairs h.1)
 
-and-flush-clean : (pairs : List Texts) → ArePrefixesClean default_settings (calls_for pairs ++ (flush_call ∷ []))
-and-flush-clean [] = tt
-and-flush-clean (texts ∷ pairs) = and-flush-clean pairs
+pairs-clean : (s : Settings) (pairs : List Texts) (others : List Call) → ArePrefixesClean s others → ArePrefixesClean s (calls_for pairs ++ others)
+pairs-clean s [] others h = h
+pairs-clean s (texts ∷ pairs) others h = pairs-clean s pairs others h
+
+-- ---- a map whose lines were written
+
+-- what was written reads back as the map, under any settings
+written-map : {W Y Z : Type 0} (sink : Sink W) (a : Encoding) (s : Settings) (entries : Entries Y Z) (pairs : List Texts) (old new : W)
+    → output_encoding a ≡ a → AreGoodSettings s → AreInOrder entries pairs → AreAccepted s (map character_pair pairs)
+    → HasWritten sink old (wrote a s 0 (calls_for pairs)) new → IsMapReadBack sink a entries old new
+written-map sink a s entries pairs old new own good in_order accepted written =
+    let xs = map entry_texts entries in
+    let ps = map character_pair pairs in
+    let bytes = wrote a s 0 (calls_of ps) in
+    let texts = map-texts entries pairs in_order in
+    let distinct = ascending-distinct pairs texts in_order.ascend in
+    let moved = IsPermutation-map character_pair xs pairs in_order.entries in
+    let told = items_of-pairs a s own good ps accepted (texts-scalars pairs texts) in
+    record {
+      bytes = bytes;
+      written = subst (λ v. HasWritten sink old (wrote a s 0 v) new) (calls-are pairs) written;
+      pairs = pairs;
+      in_order = in_order;
+      items = subst (IsItems a bytes end) told (items_of-meets a bytes end);
+      only = λ others is. items_of-only a bytes end others is ∙ told;
+      is_map = λ key.
+          let same = among-value_in ps key (value_at entries key) distinct (moved-among (map character_pair xs) ps key (value_at entries key) moved (entries-say key entries)) in
+          subst (IsValue (items_for pairs) key) (sym same) (value_in-meets (items_for pairs) key);
+    }
+
+-- What the lines of a map say of reading them.
+pub lines-read_back : {W Y Z : Type 0} (sink : Sink W) (entries : Entries Y Z) (old new : Writing W) (result : Result Unit PropertiesError)
+    → IsGoodWriter old → WritesMapLines sink old entries result new → LinesReadBack sink old entries result new
+lines-read_back sink entries old new (Err error) good h = tt
+lines-read_back sink entries old new (Ok done) good h = λ first.
+    let written = rw first at h.writes.made.written in
+    written-map sink old.encoding old.settings entries h.pairs old.sink new.sink good.encoding good.settings h.in_order h.writes.accepted written
+
+-- what calls wrote, and pairs after them, reads back
+pairs-after : {W : Type 0} {sink : Sink W} (first old new : Writing W) (calls : List Call) (pairs : List Texts) → IsWrittenCleanly sink first calls old
+    → AllByRecursion AreTexts pairs → HasMade sink old (calls_for pairs) new → IsReadBack sink first (calls ++ calls_for pairs) new
+pairs-after {sink = sink} first old new calls pairs h texts made =
+    let scalars = scalars-append calls (calls_for pairs) h.scalars (pairs-scalars pairs texts) in
+    let clean = clean-append first.settings calls (calls_for pairs) h.clean.prefixes (rw append-nil at (pairs-clean (settings_after first.settings calls) pairs [] tt)) in
+    let more = rw h.made.after at made.written in
+    written-read_back h.good scalars (rw wrote-append (written-more h.made.written more)) (record { first = h.clean.first; prefixes = clean })
+
+-- the first pairs of a map are texts of the program
+texts-before : (xs ys : List Texts) → AllByRecursion AreTexts (xs ++ ys) → AllByRecursion AreTexts xs
+texts-before [] ys h = tt
+texts-before (x ∷ xs) ys h = (h.0, texts-before xs ys h.1)
+
+-- What the lines of a map say of reading them and what was written before.
+pub lines-read_back_after : {W Y Z : Type 0} (sink : Sink W) (entries : Entries Y Z) (old new : Writing W) (result : Result Unit PropertiesError)
+    → WritesMapLines sink old entries result new → LinesReadBackAfter sink old entries result new
+lines-read_back_after sink entries old new (Ok done) h = λ first calls clean. record {
+  pairs = h.pairs;
+  in_order = h.in_order;
+  read_back = pairs-after first old new calls h.pairs clean (map-texts entries h.pairs h.in_order) h.writes.made;
+}
+lines-read_back_after sink entries old new (Err error) h = λ first calls clean.
+    let k = h.writes in
+    let others = k.texts ∷ k.others in
+    let texts = map-texts entries h.pairs h.in_order in
+    record {
+      before = k.before;
+      texts = k.texts;
+      others = k.others;
+      in_order = rw k.division at h.in_order;
+      middle = k.middle;
+      read_back = pairs-after first old k.middle calls k.before clean (texts-before k.before others (rw k.division at texts)) k.written.made;
+      fails = k.fails;
+    }
 
 -- The pairs of a map that were written in order are the map that was written.
 pub writes-map : {W Y Z : Type 0} (sink : Sink W) (a : Encoding) (entries : Entries Y Z) (pairs : List Texts) (old new : W) (result : Result Unit PropertiesError)
@@ -186,27 +262,10 @@ writes-read_back sink a entries old new (Err error) own (inr h) =
       writer = h.stops.writer;
       stops = stops-read_back
           (record { encoding = own; settings = default_settings-good })
-          (and-flush-scalars h.pairs (map-texts entries h.pairs h.in_order))
+          (scalars-append (calls_for h.pairs) (flush_call ∷ []) (pairs-scalars h.pairs (map-texts entries h.pairs h.in_order)) (tt, tt))
           h.stops.stops
-          (record { first = refl; prefixes = and-flush-clean h.pairs });
+          (record { first = refl; prefixes = pairs-clean default_settings h.pairs (flush_call ∷ []) tt });
       sink_after = h.stops.sink_after;
     })
 writes-read_back sink a entries old new (Ok done) own h =
-    let xs = map entry_texts entries in
-    let ps = map character_pair h.pairs in
-    let bytes = wrote a default_settings 0 (calls_of ps) in
-    let texts = map-texts entries h.pairs h.in_order in
-    let distinct = ascending-distinct h.pairs texts h.in_order.ascend in
-    let moved = IsPermutation-map character_pair xs h.pairs h.in_order.entries in
-    let told = items_of-pairs a default_settings own default_settings-good ps (pairs-accepted ps) (texts-scalars h.pairs texts) in
-    record {
-      bytes = bytes;
-      written = subst (λ v. HasWritten sink old (wrote a default_settings 0 v) new) (calls-are h.pairs) h.writes.written;
-      pairs = h.pairs;
-      in_order = h.in_order;
-      items = subst (IsItems a bytes end) told (items_of-meets a bytes end);
-      only = λ others is. items_of-only a bytes end others is ∙ told;
-      is_map = λ key.
-          let same = among-value_in ps key (value_at entries key) distinct (moved-among (map character_pair xs) ps key (value_at entries key) moved (entries-say key entries)) in
-          subst (IsValue (items_for h.pairs) key) (sym same) (value_in-meets (items_for h.pairs) key);
-    }
+    written-map sink a default_settings entries h.pairs old new own default_settings-good h.in_order (pairs-accepted (map character_pair h.pairs)) h.writes.written

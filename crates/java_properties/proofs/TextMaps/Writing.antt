@@ -1,17 +1,17 @@
 -- A map that is written, pair after pair.
-use Rattle.std.proofs.Common.{◌≡◌, ℕ, ◌+◌, ◌<◌, ◌≤◌, true, false, zero, suc, List, [], ◌∷◌, ◌++◌, length, get_or, take, drop, refl, ap, ◌∙◌, inl, inr, append_assoc, arith, sym, subst}
+use Rattle.std.proofs.Common.{◌≡◌, ℕ, ◌+◌, ◌<◌, ◌≤◌, true, false, List, [], ◌∷◌, ◌++◌, length, get_or, take, drop, refl, ap, ◌∙◌, inl, inr, append_assoc, arith, sym, subst}
 use Rattle.std.specs.Prelude.{map, Result, Ok, Err, string_bytes, bytes_eq}
 use Rattle.std.specs.Borrow.{Bor}
 use Rattle.std.specs.Str.{chars}
 use Rattle.std.specs.declared.string.String.{String}
-use Rattle.std.proofs.lemmas.List.{length-map, take_all, get_or-map}
+use Rattle.std.proofs.lemmas.List.{length-map, get_or-map, map-append}
 use Rattle.std.proofs.lemmas.Simd.{map-map}
 use Rattle.counted_io.specs.Streams.{Sink}
 use Rattle.counted_io.proofs.Streams.{written-flushed}
 use Rattle.properties_format.specs.Encoding.{Encoding}
 use Rattle.properties_format.specs.Entries.{pair}
 use Rattle.properties_format.specs.Settings.{default_settings}
-use Rattle.properties_format.specs.Writing.{Call, pair_call, flush_call, is_accepted, settings_after}
+use Rattle.properties_format.specs.Writing.{pair_call, flush_call, is_accepted}
 use Rattle.properties_text.specs.Encoding.{line_of}
 use Rattle.java_properties.specs.Private.Engine.{writing}
 use Rattle.properties_items.specs.Errors.{kind_of}
@@ -22,7 +22,9 @@ use Rattle.properties_items.specs.declared.error.ErrorKind.{ErrorKind}
 use Rattle.properties_items.specs.declared.error.ErrorKind.TheVariants as kind
 use Rattle.properties_items.specs.declared.error.PropertiesError.{PropertiesError}
 use Rattle.java_properties.specs.declared.writer.engine.Engine.{Engine}
-use Rattle.java_properties.proofs.Calls.Made.{made-none, made-more, pair-made, calls-cut, calls-take}
+use Rattle.java_properties.specs.MapLines.{HasWrittenLines}
+use Rattle.java_properties.proofs.Calls.Made.{calls-cut, calls-take, calls-all}
+use Rattle.java_properties.proofs.TextMaps.Lines.{lines-none, lines-more}
 use Rattle.std.specs.Cmp.Lexicographic.{slice_cmp, nat_list_cmp_total}
 use Rattle.std.specs.HashMap.{HashMap, IsUnique}
 use Rattle.std.specs.List.{IsDistinct, AllByRecursion}
@@ -50,12 +52,6 @@ pub accepted : (key value : List ℕ) → is_accepted default_settings (pair_cal
 accepted [] value = refl
 accepted (c ∷ key) value = refl
 
--- pairs change no setting
-settings-kept : (i : ℕ) (pairs : List Texts) → settings_after default_settings (take i (calls_for pairs)) ≡ default_settings
-settings-kept zero pairs = refl
-settings-kept (suc i) [] = refl
-settings-kept (suc i) (p ∷ pairs) = settings-kept i pairs
-
 -- no error says that a pair was not accepted
 refused-final : {W : Type 0} (w : Writing W) (key value : List ℕ) (k : ErrorKind) → w.settings ≡ default_settings → IsRefusedBy k w (pair key value)
     → is_not_accepted k ≡ false
@@ -67,75 +63,63 @@ refused-final w key value other same reason = absurd reason
 
 -- ---- a list of pairs, cut at one of them
 
-abbrev borrowed_call : {Y Z : Type 0} → Bor (String Y) × Bor (String Z) → Call
-borrowed_call entry = call_for (borrowed_texts entry)
-
--- the calls of the first pairs
-abbrev first_calls : {Y Z : Type 0} → ℕ → List (Bor (String Y) × Bor (String Z)) → List Call
-first_calls i entries = take i (calls_for (texts_of entries))
-
-calls-are : {Y Z : Type 0} (entries : List (Bor (String Y) × Bor (String Z))) → calls_for (texts_of entries) ≡ map borrowed_call entries
-calls-are entries = map-map call_for borrowed_texts entries
+-- the first pairs
+abbrev first_texts : {Y Z : Type 0} → ℕ → List (Bor (String Y) × Bor (String Z)) → List Texts
+first_texts i entries = take i (texts_of entries)
 
 module _ {Y Z : Type 0} (entries : List (Bor (String Y) × Bor (String Z))) (i : ℕ) (entry : Bor (String Y) × Bor (String Z)) (below : i < length entries) (is : entry ≡ get_or entries i entry) where
-  cut-at : calls_for (texts_of entries) ≡ first_calls i entries ++ (borrowed_call entry ∷ drop (i + 1) (calls_for (texts_of entries)))
-  cut-at = rw (calls-are entries) (rw (← is) at (calls-cut borrowed_call entries i entry below))
+  cut-at : texts_of entries ≡ first_texts i entries ++ (borrowed_texts entry ∷ drop (i + 1) (texts_of entries))
+  cut-at = rw (← is) at (calls-cut borrowed_texts entries i entry below)
 
-  take-at : first_calls (i + 1) entries ≡ first_calls i entries ++ (borrowed_call entry ∷ [])
-  take-at = rw (calls-are entries) (rw (← is) at (calls-take borrowed_call entries i entry below))
+  take-at : first_texts (i + 1) entries ≡ first_texts i entries ++ (borrowed_texts entry ∷ [])
+  take-at = rw (← is) at (calls-take borrowed_texts entries i entry below)
 
 -- ---- pairs that are written
 
--- a new writer wrote the first pairs
-abbrev pub HasMadeFirst : {W Y Z : Type 0} → Sink W → Encoding → W → List (Bor (String Y) × Bor (String Z)) → ℕ → Writing W → Type 0
-HasMadeFirst sink a old entries i w = HasMade sink (new_writer a old) (first_calls i entries) w
+-- a new writer wrote the lines of the first pairs
+abbrev pub HasWrittenFirst : {W Y Z : Type 0} → Sink W → Encoding → W → List (Bor (String Y) × Bor (String Z)) → ℕ → Writing W → Type 0
+HasWrittenFirst sink a old entries i w = HasWrittenLines sink (new_writer a old) (first_texts i entries) w
 
 module _ {W Y Z : Type 0} (sink : Sink W) (a : Encoding) (old : W) (entries : List (Bor (String Y) × Bor (String Z))) where
   -- before the first pair
-  pub first-none : HasMadeFirst sink a old entries 0 (new_writer a old)
-  first-none = made-none (new_writer a old)
+  pub first-none : HasWrittenFirst sink a old entries 0 (new_writer a old)
+  first-none = lines-none (new_writer a old)
 
   -- after the last one
-  pub first-all : (i : ℕ) (w : Writing W) → length entries ≤ i → HasMadeFirst sink a old entries i w
+  pub first-all : (i : ℕ) (w : Writing W) → length entries ≤ i → HasWrittenFirst sink a old entries i w
       → HasMade sink (new_writer a old) (calls_for (texts_of entries)) w
-  first-all i w above h =
-      let one = length-map (texts_of entries) call_for in
-      let two = length-map entries borrowed_texts in
-      let all : length (calls_for (texts_of entries)) ≤ i = omega (arith, above, one, two) in
-      rw (take_all i (calls_for (texts_of entries)) all) at h
+  first-all i w above h = rw (calls-all borrowed_texts entries i above) at h.made
 
-  settings-first : (i : ℕ) (w : Writing W) → HasMadeFirst sink a old entries i w → w.settings ≡ default_settings
-  settings-first i w h = ap (λ (v : Writing W). v.settings) h.after ∙ settings-kept i (texts_of entries)
-
-  pair-final : (i : ℕ) (key value : List ℕ) (w new : Writing W) (error : PropertiesError) → HasMadeFirst sink a old entries i w
+  pair-final : (i : ℕ) (key value : List ℕ) (w new : Writing W) (error : PropertiesError) → HasWrittenFirst sink a old entries i w
       → WritesLine sink w (pair key value) (Err error) new → is_not_accepted (kind_of error) ≡ false
-  pair-final i key value w new error h (inl k) = refused-final w key value (kind_of error) (settings-first i w h) k.reason
+  pair-final i key value w new error h (inl k) = refused-final w key value (kind_of error) (ap (λ (v : Writing W). v.settings) h.after) k.reason
   pair-final i key value w new error h (inr k) = ap is_not_accepted k.is.its_kind
 
   module _ (i : ℕ) (entry : Bor (String Y) × Bor (String Z)) (key value : List ℕ) (w new : Writing W) (below : i < length entries) (is : entry ≡ get_or entries i entry)
-      (key_is : key ≡ string_bytes entry.0.now) (value_is : value ≡ string_bytes entry.1.now) (h : HasMadeFirst sink a old entries i w) where
+      (key_is : key ≡ string_bytes entry.0.now) (value_is : value ≡ string_bytes entry.1.now) (h : HasWrittenFirst sink a old entries i w) where
     -- one pair more
-    pub first-more : HasWrittenLine sink w (pair (chars key) (chars value)) new → HasMadeFirst sink a old entries (i + 1) new
-    first-more line =
-        let made = pair-made (chars (string_bytes entry.0.now)) (chars (string_bytes entry.1.now)) (rw (key_is, value_is) at line) in
-        rw (take-at entries i entry below is) (made-more h made)
+    pub first-more : HasWrittenLine sink w (pair (chars key) (chars value)) new → HasWrittenFirst sink a old entries (i + 1) new
+    first-more line = rw (take-at entries i entry below is) (lines-more (borrowed_texts entry) h (rw (key_is, value_is) at line))
 
     -- a pair was not written
     pub stops-in-pair : (error : PropertiesError) → WritesLine sink w (pair (chars key) (chars value)) (Err error) new
         → StopsInPairs sink a (texts_of entries) old error new.sink
     stops-in-pair error fails =
-        let others = drop (i + 1) (calls_for (texts_of entries)) in
+        let first = first_texts i entries in
+        let others = drop (i + 1) (texts_of entries) in
+        let flush = flush_call ∷ [] in
         record {
           writer = new;
           stops = record {
-            before = first_calls i entries;
-            call = borrowed_call entry;
-            others = others ++ (flush_call ∷ []);
+            before = calls_for first;
+            call = call_for (borrowed_texts entry);
+            others = calls_for others ++ flush;
             division =
-                ap (λ v. v ++ (flush_call ∷ [])) (cut-at entries i entry below is)
-                ∙ append_assoc (first_calls i entries) (borrowed_call entry ∷ others) (flush_call ∷ []);
+                ap (λ v. calls_for v ++ flush) (cut-at entries i entry below is)
+                ∙ ap (λ v. v ++ flush) (map-append call_for first (borrowed_texts entry ∷ others))
+                ∙ append_assoc (calls_for first) (calls_for (borrowed_texts entry ∷ others)) flush;
             middle = w;
-            made = h;
+            made = h.made;
             fails = record { fails = rw (key_is, value_is) at fails; final = pair-final i (chars key) (chars value) w new error h fails };
           };
           sink_after = refl;
@@ -245,8 +229,12 @@ ascend-bytes [] up = tt
 ascend-bytes (e ∷ entries) up = (all-keys (λ k. slice_cmp nat_cmp (string_bytes e.0) k ≡ Less) entries up.0, ascend-bytes entries up.1)
 
 -- they are in order
+pub entries-in-order : {Y Z : Type 0} (entries : Entries Y Z) → IsStrictlySortedBy string_cmp (keys_of entries) → AreInOrder entries (map entry_texts entries)
+entries-in-order entries up = record { entries = IsPermutation-refl (map entry_texts entries); ascend = ascend-bytes entries up }
+
+-- and so they are as they are borrowed
 pub sorted-in-order : {Y Z : Type 0} (entries : Entries Y Z) (xs : List (Bor (String Y) × Bor (String Z))) → map deref_pair xs ≡ entries
     → IsStrictlySortedBy string_cmp (keys_of entries) → AreInOrder entries (texts_of xs)
 sorted-in-order entries xs all up =
     let P : List (List ℕ × List ℕ) → Type 0 = AreInOrder entries in
-    subst P (sym (borrowed entries xs all)) (record { entries = IsPermutation-refl (map entry_texts entries); ascend = ascend-bytes entries up })
+    subst P (sym (borrowed entries xs all)) (entries-in-order entries up)

@@ -7,13 +7,16 @@ ghost use Rattle.std.specs.Str.{chars};
 ghost use Rattle.properties_text.specs.Encoding.{encoding_of};
 ghost use Rattle.properties_items.specs.BorrowedItems.{borrowed_content};
 ghost use Rattle.properties_items.specs.Texts.{characters};
-ghost use Rattle.java_properties.specs.Values.{TellsValue};
-ghost use Rattle.java_properties.specs.Private.SoughtValues.{SeeksValue, value_after};
+ghost use Rattle.java_properties.specs.Values.{TellsPairValue, TellsValue};
+ghost use Rattle.java_properties.specs.Private.SoughtValues.{SeeksPairValue, SeeksValue, TellsLineValue, value_after};
 
 use crate::iter::items::ItemReader;
 use counted_io::CountedRead;
 use properties_items::borrowed::{ContentRef, LineRef};
 use properties_items::error::PropertiesError;
+use properties_items::found::{cut_item, find_item};
+use properties_lines::join::is_comment;
+use properties_lines::joiner::LineJoiner;
 use properties_text::encoding::Encoding;
 use std::alloc::{AllocError, Global};
 use std::borrow::CowStr;
@@ -39,6 +42,66 @@ pub fn value_of(
 {
     let mut input = source;
     last_value(alloc, &mut input, encoding, key)
+}
+
+/// Returns the value of a key, as [`value_of`] does, and passes over comments, as Java does: only a malformed escape in
+/// a pair is an error.
+///
+/// ```text
+/// let source = b"# C:\\users\nport = 80";
+/// let port = value_among_pairs(alloc, source, Encoding::UTF_8, "port")?;
+/// assert_eq!(rt; port.as_deref(), Some("80"));
+/// ```
+pub fn value_among_pairs(
+    alloc: Global,
+    source: &[u8],
+    encoding: Encoding,
+    key: &str,
+) -> Result<Option<String>, PropertiesError>
+    ensures { TellsPairValue (encoding_of encoding) source.now (chars key.now) result }
+{
+    let mut input = source;
+    last_pair_value(alloc, &mut input, encoding, key)
+}
+
+// Reads an input to its end, passes over comments, and returns the value of the last pair with a key.
+fn last_pair_value<R: CountedRead>(
+    alloc: Global,
+    input: &mut R,
+    encoding: Encoding,
+    key: &str,
+) -> Result<Option<String>, PropertiesError>
+    ensures { SeeksPairValue R.CountedRead (encoding_of encoding) (chars key.now) input.old result input.new }
+{
+    let mut lines = LineJoiner::new(alloc, encoding);
+    let mut value = None;
+    while let Some(number) = lines.next_text(input) {
+        value = value_after_line(alloc, value, number, lines.line(), key)?;
+    }
+    match lines.take_error() {
+        Some(error) => Err(PropertiesError::from(error)),
+        None => Ok(value),
+    }
+}
+
+// Returns the value of a logical line if it is a pair with this key, and otherwise the value of the lines before it.
+#[inline(always)]
+fn value_after_line(
+    alloc: Global,
+    earlier: Option<String>,
+    line_number: usize,
+    line: &str,
+    key: &str,
+) -> Result<Option<String>, PropertiesError>
+    ensures { TellsLineValue (chars key.now) line_number (chars line.now) earlier result }
+{
+    if is_comment(line.as_bytes()) {
+        return Ok(earlier);
+    }
+    match find_item(alloc, line_number, line)? {
+        Some(found) => Ok(later_value(alloc, earlier, cut_item(found, line), key)?),
+        None => Ok(earlier),
+    }
 }
 
 // Reads an input to its end and returns the value of the last pair with a key.

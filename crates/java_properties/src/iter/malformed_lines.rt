@@ -84,6 +84,10 @@ fn next_malformed<R: CountedRead>(
     ensures same_reader { IsSameReader R.CountedRead input.old input.new }
 {
     while let Some(number) = lines.next_text(input) {
+        // A line without a backslash has no escape.
+        if !lines.has_backslash() {
+            continue;
+        }
         if let Some(escape) = malformed_in(alloc, number, lines.line())? {
             return Ok(Some(escape));
         }

@@ -29,6 +29,8 @@ pub enum Call {
     Flush,
     /// Sets whether every character past U+007F is escaped.
     AsciiOnly(bool),
+    /// Sets whether values are written as people write them.
+    Readable(bool),
 }
 
 /// Makes the calls in order, and returns for each whether it was accepted.
@@ -89,6 +91,10 @@ fn run_call<W: CountedWrite>(
         Call::Flush => was_accepted(writer.flush()),
         Call::AsciiOnly(on) => {
             writer.set_ascii_only(*on);
+            Ok(true)
+        }
+        Call::Readable(on) => {
+            writer.set_readable(*on);
             Ok(true)
         }
     }

@@ -1,7 +1,8 @@
 // A writer without its sink.
 
-ghost use Rattle.std.specs.Prelude.{◌≡◌, ◌<◌, ◌^◌, false, None, Ok, Err, OnOk, IfSome};
+ghost use Rattle.std.specs.Prelude.{◌≡◌, ◌<◌, ◌^◌, true, false, None, Ok, Err, OnOk, IfSome};
 ghost use Rattle.std.specs.Str.{chars};
+ghost use Rattle.properties_format.specs.Entries as format;
 ghost use Rattle.properties_format.specs.Settings.{default_settings};
 ghost use Rattle.properties_format.specs.Writing.{is_accepted};
 ghost use Rattle.counted_io.specs.Streams.{IsSameSink};
@@ -18,7 +19,8 @@ use properties_text::encoding::LineEncoding;
 use properties_text::escape::UnescapeError;
 use properties_text::parse::Span;
 use properties_text::print::{
-    LineBuffer, Pair, Place, Repertoire, print_pair, print_text, print_texts,
+    LineBuffer, Pair, Place, Repertoire, print_pair, print_readable_pair, print_readable_texts,
+    print_text, print_texts,
 };
 use std::alloc::{AllocError, Global};
 use std::io;
@@ -168,24 +170,25 @@ impl Engine {
         key.start != key.end || self.settings.takes_key("")
     }
 
-    /// Builds the line of a pair. Fails with the first malformed escape, or if memory runs out.
+    /// Builds the line of a pair. `readable` is the setting, which a caller that knows it needn't test for each pair.
+    /// Fails with the first malformed escape, or if memory runs out.
     #[inline(always)]
     #[tactic(auto, using(crate::proofs::Engine::spelling))]
-    pub fn build_pair(&mut self, pair: Pair<'_>) -> Result<(), UnescapeError>
-        requires { IsPair pair }
+    pub fn build_pair(&mut self, pair: Pair<'_>, readable: bool) -> Result<(), UnescapeError>
+        requires pair { IsPair pair }
+        requires readable { self.old.settings.readable ≡ readable }
         ensures printed { BuildsPair self.old pair.entry result self.new.line }
         ensures same { self.new ≡ record self.old { line = self.new.line } }
     {
         let repertoire = self.repertoire();
         self.line.clear();
-        print_pair(
-            &mut self.line,
-            repertoire,
-            self.lines == 0,
-            pair,
-            self.settings.kv_separator(),
-            ending_text(self.settings.line_ending()),
-        )
+        let first = self.lines == 0;
+        let separator = self.settings.kv_separator();
+        let ending = ending_text(self.settings.line_ending());
+        if readable {
+            return print_readable_pair(&mut self.line, repertoire, first, pair, separator, ending);
+        }
+        print_pair(&mut self.line, repertoire, first, pair, separator, ending)
     }
 
     // Builds the bytes of the line.
@@ -204,16 +207,43 @@ impl Engine {
                 self.line
                     .extend(ending_text(self.settings.line_ending()).as_bytes())
             }
-            Content::KVPair(key, value) => print_texts(
-                &mut self.line,
-                repertoire,
-                self.lines == 0,
-                key,
-                value,
-                self.settings.kv_separator(),
-                ending_text(self.settings.line_ending()),
-            ),
+            Content::KVPair(key, value) => {
+                if self.settings.readable() {
+                    return self.build_readable(key, value);
+                }
+                print_texts(
+                    &mut self.line,
+                    repertoire,
+                    self.lines == 0,
+                    key,
+                    value,
+                    self.settings.kv_separator(),
+                    ending_text(self.settings.line_ending()),
+                )
+            }
         }
+    }
+
+    // Kept out of line so that other pairs take no longer.
+    #[inline(never)]
+    #[tactic(auto, using(crate::proofs::Engine::building))]
+    fn build_readable(&mut self, key: &str, value: &str) -> Result<(), AllocError>
+        requires { self.old.settings.readable ≡ true }
+        ensures printed { let bytes = line_bytes self.old (format.pair (chars key.now) (chars value.now)) in
+            OnOk result (self.new.line ≡ bytes) }
+        ensures same { self.new ≡ record self.old { line = self.new.line } }
+    {
+        let repertoire = self.repertoire();
+        self.line.clear();
+        print_readable_texts(
+            &mut self.line,
+            repertoire,
+            self.lines == 0,
+            key,
+            value,
+            self.settings.kv_separator(),
+            ending_text(self.settings.line_ending()),
+        )
     }
 
     fn print_comment(&mut self, text: &str) -> Result<(), AllocError>

@@ -2,11 +2,11 @@
 
 ghost use Rattle.std.specs.Prelude.{◌≡◌, ◌&&◌, not, true};
 ghost use Rattle.std.specs.Str.{chars};
-ghost use Rattle.properties_format.specs.Text.{is_blanks};
+ghost use Rattle.properties_format.specs.Text.{is_blanks, is_empty};
 ghost use Rattle.properties_format.specs.Settings.{default_settings};
 ghost use Rattle.properties_format.specs.Computed.Settings.{is_good_prefix, is_good_separator};
-ghost use Rattle.properties_format.specs.Writing.{is_empty, AreGoodSettings};
-ghost use Rattle.java_properties.specs.Settings.{with_ending, with_ascii_only, TakesPrefix, TakesSeparator};
+ghost use Rattle.properties_format.specs.Writing.{AreGoodSettings};
+ghost use Rattle.java_properties.specs.Settings.{with_ending, with_ascii_only, with_readable, TakesPrefix, TakesSeparator};
 ghost use Rattle.properties_items.specs.LineEndings.{ending_of};
 
 use properties_items::error::{PropertiesError, make};
@@ -16,8 +16,8 @@ use properties_text::parse::are_blanks;
 use std::alloc::Global;
 use std::marker::Model;
 
-/// The comment prefix, the separator between keys and values, the line ending, and whether every character past U+007F
-/// is escaped. A text that is `None` has the default of a new writer.
+/// The comment prefix, the separator between keys and values, the line ending, whether every character past U+007F is
+/// escaped, and whether values are written as people write them. A text that is `None` has the default of a new writer.
 #[derive(Drop)]
 pub(crate) struct Settings {
     comment_prefix: Option<String>,
@@ -26,6 +26,7 @@ pub(crate) struct Settings {
     separator_is_blank: bool,
     line_ending: LineEnding,
     ascii_only: bool,
+    readable: bool,
     alloc: Global,
 }
 
@@ -52,6 +53,7 @@ impl Settings {
             separator_is_blank: false,
             line_ending: LineEnding::LF,
             ascii_only: false,
+            readable: false,
             alloc,
         }
     }
@@ -149,6 +151,21 @@ impl Settings {
         ensures { self.new ≡ with_ascii_only self.old on }
     {
         self.ascii_only = on;
+    }
+
+    /// Returns whether values are written as people write them.
+    #[inline(always)]
+    pub fn readable(&self) -> bool
+        ensures { result ≡ self.now.readable }
+    {
+        self.readable
+    }
+
+    /// Sets whether values are written as people write them.
+    pub fn set_readable(&mut self, on: bool)
+        ensures { self.new ≡ with_readable self.old on }
+    {
+        self.readable = on;
     }
 }
 

@@ -1,5 +1,5 @@
 -- What is found in a source that is held whole, and its bytes.
-use Rattle.std.specs.Prelude.{◌≡◌, ℕ, List, [], Result, Ok, Err}
+use Rattle.std.specs.Prelude.{◌≡◌, ℕ, List, [], Result, Ok, Err, if◌then◌else◌}
 use Rattle.std.specs.Global.{Vec}
 use Rattle.properties_format.specs.Encoding.{Encoding}
 use Rattle.properties_format.specs.MalformedEscapes as format
@@ -21,7 +21,7 @@ kind_of_finding kind.NotHex = 2
 kind_of_finding other = 3
 
 abbrev pub found_bytes : MalformedEscape → List ℕ
-found_bytes escape = finding_bytes (kind_of_finding escape.kind) escape.line_number 0 []
+found_bytes escape = finding_bytes (kind_of_finding escape.kind) escape.line_number (if escape.in_comment then 1 else 0) []
 
 -- These are the malformed escapes of a source, and the only ones.
 pub record HasMalformed (e : Encoding) (source : List ℕ) (found : List MalformedEscape) : Type 0 where

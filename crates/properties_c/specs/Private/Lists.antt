@@ -1,5 +1,5 @@
 -- What taking a packed list apart returns.
-use Rattle.std.specs.Prelude.{◌≡◌, ℕ, ◌++◌, Bool, List, map, Option, Some, None, Result, Ok, Err}
+use Rattle.std.specs.Prelude.{◌≡◌, ℕ, ◌++◌, List, map, Option, Some, None, Result, Ok, Err}
 use Rattle.std.specs.Borrow.{Bor}
 use Rattle.std.specs.Global.{Vec}
 use Rattle.std.specs.Str.{IsUtf8}
@@ -15,6 +15,7 @@ use Rattle.properties_c.specs.PackedLists.{IsText, Meaning, edits, lines, IsPack
 use Rattle.properties_c.specs.Records.{Record, packed, record_in, IsSized}
 use Rattle.properties_c.specs.Writing.{calls_before}
 use Rattle.properties_c.specs.declared.records.Record as code
+use Rattle.properties_c.specs.declared.encoding.Flags.{Flags}
 use Rattle.properties_c.specs.declared.status.Status.{Status}
 use Rattle.properties_c.specs.declared.status.Status.TheVariants.{NoMemory, NotUtf8, BadList}
 
@@ -92,7 +93,7 @@ abbrev pub ReadsFirstCall : List ℕ → Result (Call × Bor (List ℕ)) Status 
 ReadsFirstCall list (Ok (call, rest)) = (content : Content) × IsFirst lines list content rest.now × (call_in call ≡ call_of content)
 ReadsFirstCall list (Err status) = RefusesFirst lines list status
 
-abbrev pub ReadsCalls : List ℕ → Bool → Result (Vec Call) Status → Type 0
-ReadsCalls list ascii_only (Ok found) =
-    (contents : List Content) × IsPackedList lines list contents × (calls_in found.items ≡ calls_before ascii_only ++ map call_of contents)
-ReadsCalls list ascii_only (Err status) = RefusesList lines list status
+abbrev pub ReadsCalls : List ℕ → Flags → Result (Vec Call) Status → Type 0
+ReadsCalls list f (Ok found) =
+    (contents : List Content) × IsPackedList lines list contents × (calls_in found.items ≡ calls_before f ++ map call_of contents)
+ReadsCalls list f (Err status) = RefusesList lines list status

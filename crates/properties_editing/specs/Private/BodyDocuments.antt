@@ -2,7 +2,8 @@
 use Rattle.std.specs.Prelude.{◌≡◌, true, drop}
 use Rattle.properties_format.specs.Edited.{is_editable}
 use Rattle.properties_format.specs.Computed.Body.{held_groups_of}
-use Rattle.properties_format.specs.Computed.Edited.{AreSound}
+use Rattle.properties_editing.specs.Private.Sound.{AreSoundFor}
+use Rattle.properties_editing.specs.declared.edit.source.Comments.TheVariants.{Read}
 use Rattle.properties_text.specs.Encoding.{encoding_of}
 use Rattle.properties_editing.specs.Private.BodyIndex.{IsIndex}
 use Rattle.properties_editing.specs.Documents.{OpenDocument}
@@ -16,5 +17,5 @@ open_document d = record { encoding = encoding_of d.encoding; bytes = d.source.i
 pub record IsDocument (d : Inside) : Type 0 where
   pub in_force : IsInForce d.source.items (encoding_of d.encoding) d.opened
   pub editable : is_editable (encoding_of d.opened.encoding) ≡ true
-  pub sound : AreSound (held_groups_of (encoding_of d.opened.encoding) (drop d.opened.start d.source.items))
+  pub sound : AreSoundFor Read (held_groups_of (encoding_of d.opened.encoding) (drop d.opened.start d.source.items))
   pub is_index : IsIndex (held_groups_of (encoding_of d.opened.encoding) (drop d.opened.start d.source.items)) d.index

@@ -13,20 +13,21 @@ use Rattle.properties_format.specs.Groups.{joined}
 use Rattle.properties_format.specs.Entries.{comment, pair}
 use Rattle.properties_format.specs.Items.{Outcome, ignored, given, broken}
 use Rattle.properties_format.specs.Body.{HeldLine, as_lines, group_bytes}
-use Rattle.properties_format.specs.Edited.{final_group, edited, is_empty_line, is_left_open, IsEditResult}
-use Rattle.properties_format.specs.Edits.{Edit, IsEdited, IsEditAllResult}
+use Rattle.properties_format.specs.Edited.{final_group, is_empty_line, is_left_open, IsKeySet, IsKeyRemoved}
+use Rattle.properties_format.specs.Edits.{Edit, IsEdited, AreEdited}
+use Rattle.properties_format.specs.Valued.{IsValueSet}
 use Rattle.properties_format.specs.Computed.Body.{held_groups_of, is_pair_with}
-use Rattle.properties_format.specs.Computed.Edited.{IsSound, AreSound}
+use Rattle.properties_editing.specs.Private.Sound.{AreSound, AreSoundFor, IsSoundFor}
 use Rattle.properties_format.specs.Computed.Items.{outcome_of}
 use Rattle.properties_format.specs.Computed.Lines.{begins_with_lf}
 use Rattle.properties_format.specs.Computed.Maps.{first_value}
 use Rattle.properties_format.specs.Computed.Parts.{unended_bytes}
 use Rattle.properties_text.specs.Encoding.{encoding_of}
-use Rattle.properties_editing.specs.Private.BodyKeys.{IsErrorOfGroups, closing_bytes, closing_of}
-use Rattle.properties_editing.specs.Editing.{HasValueSet, IsRemoved, IsSet}
-use Rattle.properties_items.specs.FoundItems.{IsNoItem, outcome_pair, pair_characters}
+use Rattle.properties_editing.specs.Private.BodyKeys.{IsErrorOfGroups, IsFault, closing_bytes, closing_of}
+use Rattle.properties_items.specs.FoundItems.{outcome_pair, pair_characters}
 use Rattle.properties_items.specs.Texts.{characters}
 use Rattle.properties_editing.specs.Private.Sources.{IsInForce}
+use Rattle.properties_editing.specs.declared.edit.source.Comments.{Comments}
 use Rattle.properties_editing.specs.declared.edit.groups.Group.{Group}
 use Rattle.properties_editing.specs.declared.edit.index.Index.{Index}
 use Rattle.properties_editing.specs.declared.edit.index.IndexedPair.{IndexedPair}
@@ -39,9 +40,9 @@ use Rattle.properties_editing.specs.declared.edit.source.BodyStart.{BodyStart}
 use Rattle.properties_items.specs.declared.error.PropertiesError.{PropertiesError}
 
 -- The pair that a logical line is, if it is one, was returned; or an error in the line with this number.
-abbrev pub FindsPairOfLine : {Y Z : Type 0} → List ℕ → ℕ → Result (Option (String Y × String Z)) PropertiesError → Type 0
-FindsPairOfLine line number (Ok answer) = IsSound (outcome_of line) × (option_map pair_characters answer ≡ outcome_pair (outcome_of line))
-FindsPairOfLine line number (Err e) = IsNoItem number line e
+abbrev pub FindsPairOfLine : {Y Z : Type 0} → Comments → List ℕ → ℕ → Result (Option (String Y × String Z)) PropertiesError → Type 0
+FindsPairOfLine comments line number (Ok answer) = IsSoundFor comments line × (option_map pair_characters answer ≡ outcome_pair (outcome_of line))
+FindsPairOfLine comments line number (Err e) = IsFault comments number line e
 
 -- ---- the pairs of groups
 
@@ -182,11 +183,11 @@ pub record IsIndex (groups : List (List HeldLine)) (index : Index) : Type 0 wher
   pub closing : (groups ≡ []) ⊎ (index.closing ≡ closing_of (is_empty_line (final_group groups)) (is_left_open (final_group groups)))
   pub ordered : IsOrdered string_cmp index.pairs
 
--- A body without malformed escapes was read, and the index is that of its groups; or its first malformed escape was
--- found, or memory ran out.
-abbrev pub ParsesIndex : Encoding → List ℕ → Result Index PropertiesError → Type 0
-ParsesIndex e body (Ok index) = AreSound (held_groups_of e body) × IsIndex (held_groups_of e body) index
-ParsesIndex e body (Err error) = IsErrorOfGroups (held_groups_of e body) error
+-- A body without malformed escapes was read, but for those that are passed over, and the index is that of its groups;
+-- or its first malformed escape was found, or memory ran out.
+abbrev pub ParsesIndex : Comments → Encoding → List ℕ → Result Index PropertiesError → Type 0
+ParsesIndex comments e body (Ok index) = AreSoundFor comments (held_groups_of e body) × IsIndex (held_groups_of e body) index
+ParsesIndex comments e body (Err error) = IsErrorOfGroups comments (held_groups_of e body) error
 
 -- ---- parts that change
 
@@ -253,7 +254,8 @@ AppendsPair opened key value by line ending old was (Err error) new is = (new �
 
 -- ---- a source and its index after an edit
 
--- The source is what is meant, its body starts where it did, nothing in it is malformed, and the index is that of its groups.
+-- The source is what is meant, its body starts where it did, nothing in it is malformed but in comments, and the index
+-- is that of its groups.
 pub record IsKept (Meant : Type 0) (e : Encoding) (opened : BodyStart) (source : List ℕ) (index : Index) : Type 0 where
   pub meant : Meant
   pub in_force : IsInForce source e opened
@@ -267,14 +269,14 @@ Changes Meant opened old was (Err error) new is = (new ≡ old) × KeepsNothing 
 
 -- The value of a key was set, whether a pair has the key or none,
 abbrev pub PutsValue : {E : Type 0} → BodyStart → List ℕ → List ℕ → List ℕ → Index → Result Unit E → List ℕ → Index → Type 0
-PutsValue opened key value old was result new is = Changes (λ e. HasValueSet e opened.ascii_only old key value new) opened old was result new is
+PutsValue opened key value old was result new is = Changes (λ e. IsValueSet e opened.ascii_only old key value new) opened old was result new is
 
 abbrev pub AddsValue : {E : Type 0} → BodyStart → List ℕ → List ℕ → List ℕ → Index → Result Unit E → List ℕ → Index → Type 0
 AddsValue opened key value old was result new is = PutsValue opened key value old was result new is
 
 -- or a printed pair was put in for it.
 abbrev pub PutsPair : {E : Type 0} → BodyStart → List ℕ → List ℕ → List ℕ → Index → Result Unit E → List ℕ → Index → Type 0
-PutsPair opened key value old was result new is = Changes (λ e. IsSet e opened.ascii_only old key value new) opened old was result new is
+PutsPair opened key value old was result new is = Changes (λ e. IsKeySet e opened.ascii_only old key value new) opened old was result new is
 
 abbrev pub AddsKey : {E : Type 0} → BodyStart → List ℕ → List ℕ → List ℕ → Index → Result Unit E → List ℕ → Index → Type 0
 AddsKey opened key value old was result new is = PutsPair opened key value old was result new is
@@ -300,7 +302,7 @@ GuardsFront false old was new is = (new ≡ old) × (is ≡ was)
 
 -- The key was removed.
 abbrev pub RemovesPairs : BodyStart → List ℕ → List ℕ → List ℕ → Index → Type 0
-RemovesPairs opened key old new is = (e : Encoding) → IsInForce old e opened → IsKept (IsRemoved e old key new) e opened new is
+RemovesPairs opened key old new is = (e : Encoding) → IsInForce old e opened → IsKept (IsKeyRemoved e old key new) e opened new is
 
 -- ---- an edit
 
@@ -308,9 +310,9 @@ RemovesPairs opened key old new is = (e : Encoding) → IsInForce old e opened �
 abbrev pub MakesEdit : BodyStart → Edit → List ℕ → List ℕ → Index → Type 0
 MakesEdit opened edit old new is =
     (e : Encoding) → IsInForce old e opened
-    → IsKept (IsEditResult e old (IsEdited e opened.ascii_only old edit) (edited new)) e opened new is
+    → IsKept (IsEdited e opened.ascii_only old edit new) e opened new is
 
 -- or edits in turn.
 abbrev pub AreEditsMade : Encoding → BodyStart → List ℕ → List Edit → List ℕ → Index → Type 0
 AreEditsMade e opened source edits bytes index =
-    IsKept (IsEditAllResult e opened.ascii_only source edits (edited bytes)) e opened bytes index
+    IsKept (AreEdited e opened.ascii_only source edits bytes) e opened bytes index

@@ -10,12 +10,14 @@ use Rattle.properties_format.specs.Edited.{unreadable, final_group}
 use Rattle.properties_format.specs.Items.{Outcome}
 use Rattle.properties_format.specs.Valued.{separation_by}
 use Rattle.properties_format.specs.Computed.Items.{outcome_of}
-use Rattle.properties_format.specs.Computed.Body.{entries_in, held_groups_of}
+use Rattle.properties_format.specs.Computed.Body.{held_groups_of}
 use Rattle.properties_format.specs.Computed.Parts.{outcome_key, unended_bytes}
-use Rattle.properties_format.specs.Computed.Edited.{KeyPlace, last_place, without, IsSound, AreSound, result_by}
+use Rattle.properties_format.specs.Computed.Edited.{KeyPlace, last_place, without}
+use Rattle.properties_editing.specs.Private.Sound.{AreSoundFor, IsSoundFor, passes_over, result_from}
 use Rattle.properties_items.specs.FoundItems.{IsNoItem}
 use Rattle.properties_items.specs.Errors.{IsBareError, IsMalformed}
 use Rattle.properties_editing.specs.Private.BodyValues.{FindsLastPair}
+use Rattle.properties_editing.specs.declared.edit.source.Comments.{Comments}
 use Rattle.properties_editing.specs.declared.edit.groups.Group.{Group}
 use Rattle.properties_editing.specs.declared.edit.find.Closing.{Closing}
 use Rattle.properties_editing.specs.declared.edit.find.Closing.TheVariants as closing
@@ -28,18 +30,22 @@ use Rattle.properties_items.specs.declared.error.PropertiesError.{PropertiesErro
 abbrev pub key_told : List ℕ → Outcome → Option Bool
 key_told key outcome = option_map (λ k. bytes_eq k key) (outcome_key outcome)
 
+-- A logical line, which has this number and isn't passed over, has no item for this reason.
+abbrev pub IsFault : Comments → ℕ → List ℕ → PropertiesError → Type 0
+IsFault comments number line e = (passes_over comments line ≡ false) × IsNoItem number line e
+
 -- The result says whether the pair that is a logical line has this key; or there is an error in the line with this number.
-abbrev pub ChecksKeyOfLine : List ℕ → List ℕ → ℕ → Result (Option Bool) PropertiesError → Type 0
-ChecksKeyOfLine line key number (Ok answer) = IsSound (outcome_of line) × (answer ≡ key_told key (outcome_of line))
-ChecksKeyOfLine line key number (Err e) = IsNoItem number line e
+abbrev pub ChecksKeyOfLine : Comments → List ℕ → List ℕ → ℕ → Result (Option Bool) PropertiesError → Type 0
+ChecksKeyOfLine comments line key number (Ok answer) = IsSoundFor comments line × (answer ≡ key_told key (outcome_of line))
+ChecksKeyOfLine comments line key number (Err e) = IsFault comments number line e
 
 -- ---- the first malformed escape of a body
 
--- The first malformed escape of these groups is malformed in some way, and the error reports how and in which line; or
--- memory ran out.
-abbrev pub IsErrorOfGroups : List (List HeldLine) → PropertiesError → Type 0
-IsErrorOfGroups groups e =
-    ((how : Malformed) × (n : ℕ) × ((made : List ℕ) → result_by (entries_in 1 groups) made ≡ unreadable how n) × IsMalformed how n e)
+-- The first malformed escape of these groups that isn't passed over is malformed in some way, and the error reports how
+-- and in which line; or memory ran out.
+abbrev pub IsErrorOfGroups : Comments → List (List HeldLine) → PropertiesError → Type 0
+IsErrorOfGroups comments groups e =
+    ((how : Malformed) × (n : ℕ) × ((made : List ℕ) → result_from comments 1 groups made ≡ unreadable how n) × IsMalformed how n e)
     ⊎ IsBareError kind.Memory e
 
 -- ---- where a key is
@@ -76,16 +82,15 @@ places_with found group told =
       closing = closing_of group.is_empty group.is_open;
     }
 
--- A body without malformed escapes was read, and the place of the key was found.
+-- The place of the key was found.
 pub record IsKeyFound (e : Encoding) (body key : List ℕ) (found : PairPlaces) : Type 0 where
-  pub sound : AreSound (held_groups_of e body)
   pub pair : IsPlace key (held_groups_of e body) found.pair
   pub closing : (ending : List ℕ) → separation_by ending (final_group (held_groups_of e body)) ≡ closing_bytes ending found.closing
 
 -- the result of searching for a key, and for the last pair
-abbrev pub FindsKey : Encoding → List ℕ → List ℕ → Result PairPlaces PropertiesError → Type 0
-FindsKey e body key (Ok found) = IsKeyFound e body key found × FindsLastPair e body found.last
-FindsKey e body key (Err error) = IsErrorOfGroups (held_groups_of e body) error
+abbrev pub FindsKey : Comments → Encoding → List ℕ → List ℕ → Result PairPlaces PropertiesError → Type 0
+FindsKey comments e body key (Ok found) = AreSoundFor comments (held_groups_of e body) × IsKeyFound e body key found × FindsLastPair e body found.last
+FindsKey comments e body key (Err error) = IsErrorOfGroups comments (held_groups_of e body) error
 
 -- ---- what is left without a key
 
@@ -106,13 +111,12 @@ left_bytes source start others =
     let rest = spans_bytes (drop start source) others in
     take start source ++ ((if start == 0 && begins_like_bom rest then line_feed ∷ [] else []) ++ rest)
 
--- A body without malformed escapes was read, and these parts of it are left without the key.
+-- These parts of a body are left without the key.
 pub record AreOthersFound (e : Encoding) (body key : List ℕ) (others : List BodySpan) : Type 0 where
-  pub sound : AreSound (held_groups_of e body)
   pub within : AreWithin body others
   pub bytes : spans_bytes body others ≡ without key (held_groups_of e body)
 
 -- the result of searching for the parts that are left
-abbrev pub FindsOthers : {Z : Type 0} → Encoding → List ℕ → List ℕ → Result (Vec BodySpan Z) PropertiesError → Type 0
-FindsOthers e body key (Ok others) = AreOthersFound e body key others.items
-FindsOthers e body key (Err error) = IsErrorOfGroups (held_groups_of e body) error
+abbrev pub FindsOthers : {Z : Type 0} → Comments → Encoding → List ℕ → List ℕ → Result (Vec BodySpan Z) PropertiesError → Type 0
+FindsOthers comments e body key (Ok others) = AreSoundFor comments (held_groups_of e body) × AreOthersFound e body key others.items
+FindsOthers comments e body key (Err error) = IsErrorOfGroups comments (held_groups_of e body) error

@@ -11,10 +11,10 @@ use Rattle.properties_format.specs.Entries.{pair}
 use Rattle.properties_format.specs.Items.{given}
 use Rattle.properties_format.specs.Computed.Items.{outcome_of}
 use Rattle.properties_format.specs.Text.{is_blanks}
-use Rattle.properties_format.specs.Printing.{encoded_text, printed_key}
+use Rattle.properties_format.specs.Printing.{encoded_text, printed_key, printed_value}
 use Rattle.properties_format.specs.Body.{HeldLine, as_lines, groups_bytes, held_in, AreGroupsOf}
 use Rattle.properties_format.specs.Edited.{is_editable}
-use Rattle.properties_format.specs.Valued.{value_text, printed_value, ending_among}
+use Rattle.properties_format.specs.Valued.{value_text, ending_among}
 use Rattle.properties_format.specs.Computed.Body.{held_groups_of}
 use Rattle.properties_format.specs.Computed.Settings.{is_good_separator}
 use Rattle.properties_format.specs.Computed.Parts.{unended_bytes}

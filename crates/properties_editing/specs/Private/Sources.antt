@@ -1,8 +1,7 @@
 -- The part of a source that is edited.
 use Rattle.std.specs.Prelude.{◌≡◌, ℕ, ◌≤◌, Bool, true, false, List, drop, length, Result, Ok, Err}
 use Rattle.properties_format.specs.Encoding as format
-use Rattle.properties_format.specs.Printing.{in_key_or_value, printed_key, printed_characters, encoded_text}
-use Rattle.properties_format.specs.Valued.{printed_value}
+use Rattle.properties_format.specs.Printing.{in_key_or_value, printed_key, printed_characters, encoded_text, printed_value}
 use Rattle.properties_format.specs.Edited.{is_editable}
 use Rattle.properties_text.specs.Encoding.{encoding_of}
 use Rattle.properties_text.specs.Printing.{encoding_in, only_in, key_bytes, puts_of}

@@ -3,9 +3,8 @@
 ghost use Rattle.std.specs.Prelude.{◌≡◌, ◌++◌, ◌≤◌, ◌&&◌, [], ◌∷◌, drop, length, if◌then◌else◌, IfOk, OnOk, false, true};
 ghost use Rattle.std.specs.Option.{option_map};
 ghost use Rattle.std.specs.Str.{chars};
-ghost use Rattle.properties_format.specs.Text.{is_blank, is_blanks, line_ending_text};
+ghost use Rattle.properties_format.specs.Text.{is_blank, is_blanks, line_ending_text, is_empty};
 ghost use Rattle.properties_format.specs.Encoding.{output_encoding};
-ghost use Rattle.properties_format.specs.Writing.{is_empty};
 ghost use Rattle.properties_format.specs.Valued.{new_pair_bytes, separator_after, shortened_after};
 ghost use Rattle.properties_format.specs.Computed.Body.{held_groups_of};
 ghost use Rattle.properties_format.specs.Computed.Settings.{is_good_separator};
@@ -28,7 +27,7 @@ use properties_items::line::LineEnding;
 use properties_text::characters::is_blank;
 use properties_text::encoding::Encoding;
 use properties_text::parse::are_blanks;
-use properties_text::print::{LineBuffer, print_texts, print_value};
+use properties_text::print::{LineBuffer, print_readable_texts};
 use std::alloc::{AllocError, Global};
 
 /// How a new pair is laid out.
@@ -194,6 +193,5 @@ pub fn print_new_pair(
         AppendsOnOk line.old (unended_pair e opened.ascii_only first (chars key.now) (chars separator.now) (chars value.now)) result line.new }
 {
     let repertoire = repertoire_of(opened);
-    print_texts(line, repertoire, first, key, "", separator, "")?;
-    print_value(line, repertoire, are_blanks(separator), value)
+    print_readable_texts(line, repertoire, first, key, value, separator, "")
 }

@@ -9,7 +9,7 @@ ghost use Rattle.properties_editing.specs.Documents.{HasKeysInOrder, HasValueAt,
 
 use crate::edit::index::Index;
 use crate::edit::index::changes::{put_pair, put_value, remove_pairs};
-use crate::edit::source::BodyStart;
+use crate::edit::source::{BodyStart, Comments};
 use properties_items::error::PropertiesError;
 use properties_text::encoding::Encoding;
 use std::alloc::{AllocError, Global};
@@ -68,7 +68,12 @@ impl Document {
         ensures splitting { SplittingCommutes (encoding_of encoding) source.now }
     {
         let opened = BodyStart::open(source, encoding, false)?;
-        let index = Index::parse(alloc, opened.encoding, &source[opened.start..])?;
+        let index = Index::parse(
+            alloc,
+            opened.encoding,
+            Comments::Read,
+            &source[opened.start..],
+        )?;
         Ok(Document {
             alloc,
             source: source.to_vec(alloc)?,

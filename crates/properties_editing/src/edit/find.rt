@@ -7,6 +7,7 @@ ghost use Rattle.properties_lines.specs.LineSearch.{unit_size};
 ghost use Rattle.properties_editing.specs.Private.BodyKeys.{ChecksKeyOfLine, FindsKey, closing_of, places_with};
 
 use crate::edit::groups::{Group, GroupReader};
+use crate::edit::source::Comments;
 use properties_items::error::PropertiesError;
 use properties_items::found::{find_item, item_has_key};
 use properties_text::encoding::Encoding;
@@ -46,11 +47,12 @@ pub enum Closing {
 pub fn find_key(
     alloc: Global,
     encoding: Encoding,
+    comments: Comments,
     body: &[u8],
     key: &str,
 ) -> Result<PairPlaces, PropertiesError>
     requires { unit_size (encoding_of encoding) ≡ 1 }
-    ensures { FindsKey (encoding_of encoding) body.now (chars key.now) result }
+    ensures { FindsKey comments (encoding_of encoding) body.now (chars key.now) result }
 {
     let mut groups = GroupReader::new(alloc, encoding);
     let mut places = PairPlaces {
@@ -60,7 +62,7 @@ pub fn find_key(
     };
     while let Some(group) = groups.next(body)? {
         let number = group.number;
-        let has_key = has_key(alloc, number, groups.line(body, group), key)?;
+        let has_key = has_key(alloc, comments, number, groups.line(body, group), key)?;
         places = places.with_group(group, has_key);
     }
     Ok(places)
@@ -71,12 +73,16 @@ pub fn find_key(
 #[inline(always)]
 pub fn has_key(
     alloc: Global,
+    comments: Comments,
     number: usize,
     line: &str,
     key: &str,
 ) -> Result<Option<bool>, PropertiesError>
-    ensures { ChecksKeyOfLine (chars line.now) (chars key.now) number result }
+    ensures { ChecksKeyOfLine comments (chars line.now) (chars key.now) number result }
 {
+    if comments.are_passed_over(line) {
+        return Ok(None);
+    }
     match find_item(alloc, number, line)? {
         Some(found) => Ok(item_has_key(&found, line, key)),
         None => Ok(None),

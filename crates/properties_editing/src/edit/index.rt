@@ -14,6 +14,7 @@ ghost use Rattle.properties_items.specs.FoundItems.{pair_characters};
 
 use crate::edit::find::{BodySpan, Closing, closing_after};
 use crate::edit::groups::{Group, GroupReader};
+use crate::edit::source::Comments;
 use properties_items::error::PropertiesError;
 use properties_items::found::{find_item, item_pair};
 use properties_text::encoding::Encoding;
@@ -59,9 +60,14 @@ pub enum Shift {
 
 impl Index {
     /// Reads a body. The encoding's units are one byte long.
-    pub fn parse(alloc: Global, encoding: Encoding, body: &[u8]) -> Result<Index, PropertiesError>
+    pub fn parse(
+        alloc: Global,
+        encoding: Encoding,
+        comments: Comments,
+        body: &[u8],
+    ) -> Result<Index, PropertiesError>
         requires { unit_size (encoding_of encoding) ≡ 1 }
-        ensures { ParsesIndex (encoding_of encoding) body.now result }
+        ensures { ParsesIndex comments (encoding_of encoding) body.now result }
     {
         let mut groups = GroupReader::new(alloc, encoding);
         let mut index = Index {
@@ -70,7 +76,7 @@ impl Index {
             closing: Closing::Nothing,
         };
         while let Some(group) = groups.next(body)? {
-            let pair = pair_of(alloc, group.number, groups.line(body, group))?;
+            let pair = pair_of(alloc, comments, group.number, groups.line(body, group))?;
             index.add_group(alloc, group, pair)?;
         }
         Ok(index)
@@ -205,11 +211,15 @@ fn closing_if(is_changed: bool, new: Closing, old: Closing) -> Closing
 // this number, is malformed, or if memory runs out.
 fn pair_of(
     alloc: Global,
+    comments: Comments,
     number: usize,
     line: &str,
 ) -> Result<Option<(String, String)>, PropertiesError>
-    ensures { FindsPairOfLine (chars line.now) number result }
+    ensures { FindsPairOfLine comments (chars line.now) number result }
 {
+    if comments.are_passed_over(line) {
+        return Ok(None);
+    }
     match find_item(alloc, number, line)? {
         Some(found) => Ok(item_pair(alloc, &found, line)?),
         None => Ok(None),

@@ -8,6 +8,7 @@ ghost use Rattle.properties_editing.specs.Private.BodyKeys.{FindsOthers};
 
 use crate::edit::find::{BodySpan, has_key};
 use crate::edit::groups::GroupReader;
+use crate::edit::source::Comments;
 use properties_items::error::PropertiesError;
 use properties_text::encoding::Encoding;
 use std::alloc::Global;
@@ -17,18 +18,19 @@ use std::alloc::Global;
 pub fn spans_without_key(
     alloc: Global,
     encoding: Encoding,
+    comments: Comments,
     body: &[u8],
     key: &str,
 ) -> Result<Vec<BodySpan>, PropertiesError>
     requires { unit_size (encoding_of encoding) ≡ 1 }
-    ensures { FindsOthers (encoding_of encoding) body.now (chars key.now) result }
+    ensures { FindsOthers comments (encoding_of encoding) body.now (chars key.now) result }
 {
     let mut groups = GroupReader::new(alloc, encoding);
     let mut others = Vec::new(alloc);
     let mut start = 0;
     while let Some(group) = groups.next(body)? {
         let number = group.number;
-        if has_key(alloc, number, groups.line(body, group), key)?.unwrap_or(false) {
+        if has_key(alloc, comments, number, groups.line(body, group), key)?.unwrap_or(false) {
             let end = group.start;
             others.push(BodySpan { start, end })?;
             start = groups.place();

@@ -3,8 +3,7 @@
 ghost use Rattle.std.specs.Prelude.{◌≡◌, ◌==◌, ◌≤◌, ◌+◌, ◌-◌, ◌++◌, [], ◌∷◌, take, drop, length, IfOk, OnOk};
 ghost use Rattle.std.specs.Str.{chars};
 ghost use Rattle.properties_format.specs.Text as text;
-ghost use Rattle.properties_format.specs.Text.{line_ending_text, line_feed};
-ghost use Rattle.properties_format.specs.Writing.{is_empty};
+ghost use Rattle.properties_format.specs.Text.{line_ending_text, line_feed, is_empty};
 ghost use Rattle.properties_format.specs.Edited.{added_ending, pair_bytes};
 ghost use Rattle.properties_editing.specs.Private.BodyKeys.{AreWithin, left_bytes, closing_bytes, spans_bytes};
 ghost use Rattle.properties_format.specs.Encoding.{output_encoding};

@@ -1,11 +1,37 @@
 // The part of a source that is edited: the body after the byte order mark, in the encoding in force.
 
+ghost use Rattle.std.specs.Prelude.{◌≡◌};
+ghost use Rattle.std.specs.Str.{chars};
 ghost use Rattle.properties_text.specs.Encoding.{encoding_of};
+ghost use Rattle.properties_editing.specs.Private.Sound.{passes_over};
 ghost use Rattle.properties_editing.specs.Private.Sources.{OpensSource};
 
 use properties_items::error::{PropertiesError, make};
+use properties_lines::join::is_comment;
 use properties_text::encoding::Encoding;
 use properties_text::encoding::byte_order_mark::encoding_in_force;
+
+/// What is asked of the comments of a source.
+#[derive(Clone, Copy)]
+pub enum Comments {
+    /// They are read: a malformed escape in one refuses the source.
+    Read,
+    /// They are passed over, whatever they are.
+    PassedOver,
+}
+
+impl Comments {
+    /// Returns whether this logical line is a comment that is passed over.
+    #[inline(always)]
+    pub fn are_passed_over(self, line: &str) -> bool
+        ensures { result ≡ passes_over self (chars line.now) }
+    {
+        match self {
+            Comments::Read => false,
+            Comments::PassedOver => is_comment(line.as_bytes()),
+        }
+    }
+}
 
 /// What is known about a source before it is edited, and how new texts are written.
 #[derive(Clone, Copy)]

@@ -22,7 +22,7 @@ use Rattle.properties_format.proofs.Cut.Meets.{cut_of-meets}
 use Rattle.properties_format.proofs.Cut.Only.{cut_of-only}
 use Rattle.properties_format.proofs.Cut.Byline.{decoded_line-meets, decoded_line-only}
 use Rattle.properties_format.proofs.Body.Decoded.{IsCut-lines}
-use Rattle.properties_format.proofs.Edited.Outcomes.{ended_lines, line_texts_in, line_texts, IsFront}
+use Rattle.properties_format.proofs.Edited.Fronts.{ended_lines, line_texts_in, line_texts, IsFront}
 
 -- ---- the lines of a body
 

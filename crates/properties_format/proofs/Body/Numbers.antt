@@ -3,12 +3,14 @@ use Rattle.std.proofs.Common.{◌≡◌, ℕ, ◌+◌, List, [], ◌∷◌, ◌+
 use Rattle.std.proofs.lemmas.Bool.{cases_Bool}
 use Rattle.std.proofs.lemmas.List.{length_push}
 use Rattle.properties_format.specs.Encoding.{Encoding, byte_order_mark}
-use Rattle.properties_format.specs.Lines.{Ended, end, Line, numbered, line_ends}
-use Rattle.properties_format.specs.Computed.Cut.{cut_of, decoded_line, decoded_ended, decoded_lines}
+use Rattle.properties_format.specs.Lines.{Ended, end, Line, Lines, numbered, numbered_lines, line_ends}
+use Rattle.properties_format.specs.Computed.Encoding.{decoded_of}
+use Rattle.properties_format.specs.Computed.Lines.{lines_of}
+use Rattle.properties_format.specs.Computed.Cut.{cut_of, decoded_line, decoded_ended}
 use Rattle.properties_format.specs.Groups.{joined_after, joined, first_number}
 use Rattle.properties_format.specs.Computed.Groups.{closes, groups_after, groups_of}
 use Rattle.properties_format.specs.Entries.{Entry}
-use Rattle.properties_format.specs.Computed.Items.{outcome_of, followed, entries_of, items_of_lines, items_of}
+use Rattle.properties_format.specs.Computed.Items.{outcome_of, followed, entries_of, items_of}
 use Rattle.properties_format.specs.Body.{HeldLine, as_lines}
 use Rattle.properties_format.specs.Computed.Body.{held_of, held_lines_of, held_groups_after, held_groups_of, entries_in}
 use Rattle.properties_format.proofs.Lines.Plain.{one-more}
@@ -54,45 +56,81 @@ first-numbered : (n : ℕ) (p : List HeldLine) (h : HeldLine) → first_number (
 first-numbered n [] h = refl
 first-numbered n (g ∷ p) h = refl
 
--- A group before others.
-entries-group : (m n : ℕ) (g : List HeldLine) (gs : List (List Line)) (rest : List Entry) → first_number (numbered_from n g) ≡ n → entries_of m end gs ≡ rest
-    → entries_of m end (numbered_from n g ∷ gs) ≡ followed n (outcome_of (joined (as_lines g))) rest
-entries-group m n g gs rest h k = simp (h, joined-numbered, k)
+-- ---- folding the groups
 
--- Lines after those of a group that is still open.
-entries-after : (m n k : ℕ) (p hs : List HeldLine) → k ≡ n + length p
-    → entries_of m end (groups_after (numbered_from n p) (numbered_from k hs) end) ≡ entries_in n (held_groups_after p hs)
-entries-after m n k [] [] s = refl
-entries-after m n k (h ∷ p) [] s = entries-group m n (h ∷ p) [] [] refl refl
-entries-after m n k p (h ∷ hs) s =
-    let l : Line = record { number = k; text = h.text } in
-    let push : numbered_from n p ++ l ∷ [] ≡ numbered_from n (p ++ h ∷ []) =
-    ap (λ v. numbered_from n p ++ record { number = v; text = h.text } ∷ []) s ∙ sym (numbered-push n p h) in
-    let size = length_push p h in
-    let next : k + 1 ≡ n + length (p ++ h ∷ []) = omega arith in
-    elim (cases_Bool (closes (as_lines p) (record { number = 0; text = h.text }))) [
-      | inl c ↦
-          ap (entries_of m end) (groups_after-close (numbered_from n p) l (numbered_from (k + 1) hs) end (closes-numbered n k p h ∙ c))
-          ∙ ap (λ v. entries_of m end (v ∷ groups_of (numbered_from (k + 1) hs) end)) push
-          ∙ entries-group m n (p ++ h ∷ []) (groups_of (numbered_from (k + 1) hs) end) (entries_in (k + 1) (held_groups_after [] hs)) (first-numbered n p h)
-          (entries-after m (k + 1) (k + 1) [] hs (omega arith))
-          ∙ ap (λ v. followed n (outcome_of (joined (as_lines (p ++ h ∷ [])))) (entries_in v (held_groups_after [] hs))) next
-          ∙ ap (entries_in n) (sym (groups-close p h hs c))
-      | inr c ↦
-          ap (entries_of m end) (groups_after-leave (numbered_from n p) l (numbered_from (k + 1) hs) end (closes-numbered n k p h ∙ c))
-          ∙ ap (λ v. entries_of m end (groups_after v (numbered_from (k + 1) hs) end)) push
-          ∙ entries-after m n (k + 1) (p ++ h ∷ []) hs next
-          ∙ ap (entries_in n) (sym (groups-leave p h hs c))
-    ]
+-- what a function makes of groups, from the last one to the first: of a number, a logical line, and what it made so far
+abbrev pub folded : {A : Type 0} → (ℕ → List ℕ → A → A) → A → List (List Line) → A
+folded f z [] = z
+folded f z (g ∷ gs) = f (first_number g) (joined g) (folded f z gs)
+
+-- the same of a body's groups, numbered from this number on
+abbrev pub folded_from : {A : Type 0} → (ℕ → List ℕ → A → A) → A → ℕ → List (List HeldLine) → A
+folded_from f z n [] = z
+folded_from f z n (g ∷ gs) = f n (joined (as_lines g)) (folded_from f z (n + length g) gs)
+
+module _ {A : Type 0} (f : ℕ → List ℕ → A → A) (z : A) where
+  -- A group before others.
+  folded-group : (n : ℕ) (g : List HeldLine) (gs : List (List Line)) (rest : A) → first_number (numbered_from n g) ≡ n → folded f z gs ≡ rest
+      → folded f z (numbered_from n g ∷ gs) ≡ f n (joined (as_lines g)) rest
+  folded-group n g gs rest h k = simp (h, joined-numbered, k)
+
+  -- Lines after those of a group that is still open.
+  folded-after : (n k : ℕ) (p hs : List HeldLine) → k ≡ n + length p
+      → folded f z (groups_after (numbered_from n p) (numbered_from k hs) end) ≡ folded_from f z n (held_groups_after p hs)
+  folded-after n k [] [] s = refl
+  folded-after n k (h ∷ p) [] s = folded-group n (h ∷ p) [] z refl refl
+  folded-after n k p (h ∷ hs) s =
+      let l : Line = record { number = k; text = h.text } in
+      let push : numbered_from n p ++ l ∷ [] ≡ numbered_from n (p ++ h ∷ []) =
+      ap (λ v. numbered_from n p ++ record { number = v; text = h.text } ∷ []) s ∙ sym (numbered-push n p h) in
+      let size = length_push p h in
+      let next : k + 1 ≡ n + length (p ++ h ∷ []) = omega arith in
+      elim (cases_Bool (closes (as_lines p) (record { number = 0; text = h.text }))) [
+        | inl c ↦
+            ap (folded f z) (groups_after-close (numbered_from n p) l (numbered_from (k + 1) hs) end (closes-numbered n k p h ∙ c))
+            ∙ ap (λ v. folded f z (v ∷ groups_of (numbered_from (k + 1) hs) end)) push
+            ∙ folded-group n (p ++ h ∷ []) (groups_of (numbered_from (k + 1) hs) end) (folded_from f z (k + 1) (held_groups_after [] hs)) (first-numbered n p h)
+            (folded-after (k + 1) (k + 1) [] hs (omega arith))
+            ∙ ap (λ v. f n (joined (as_lines (p ++ h ∷ []))) (folded_from f z v (held_groups_after [] hs))) next
+            ∙ ap (folded_from f z n) (sym (groups-close p h hs c))
+        | inr c ↦
+            ap (folded f z) (groups_after-leave (numbered_from n p) l (numbered_from (k + 1) hs) end (closes-numbered n k p h ∙ c))
+            ∙ ap (λ v. folded f z (groups_after v (numbered_from (k + 1) hs) end)) push
+            ∙ folded-after n (k + 1) (p ++ h ∷ []) hs next
+            ∙ ap (folded_from f z n) (sym (groups-leave p h hs c))
+      ]
+
+  -- What is made of the groups of a source's text is made of its body's groups.
+  pub folded-source : (e : Encoding) (source : List ℕ)
+      → folded f z (groups_of (numbered_lines (lines_of (decoded_of e source)) end) end)
+      ≡ folded_from f z 1 (held_groups_of (byte_order_mark e source).encoding (byte_order_mark e source).body)
+  unfolding held_groups_of
+  folded-source e source =
+      let i = byte_order_mark e source in
+      let c = cut_of i.encoding i.body in
+      ap (λ v. let w : Lines = v in folded f z (groups_of (numbered_lines w end) end)) (sym (decoded_lines-cut i.encoding i.body))
+      ∙ ap (λ v. folded f z (groups_of v end)) (numbered-held i.encoding 0 c.ended c.last)
+      ∙ folded-after 1 1 [] (held_lines_of i.encoding i.body) refl
+
+-- ---- items
+
+-- an entry before those of the lines after it
+abbrev entry_before : ℕ → List ℕ → List Entry → List Entry
+entry_before n x rest = followed n (outcome_of x) rest
+
+entries-folded : (m : ℕ) (gs : List (List Line)) → entries_of m end gs ≡ folded entry_before [] gs
+entries-folded m [] = refl
+entries-folded m (g ∷ gs) = ap (followed (first_number g) (outcome_of (joined g))) (entries-folded m gs)
+
+entries-held : (n : ℕ) (gs : List (List HeldLine)) → folded_from entry_before [] n gs ≡ entries_in n gs
+entries-held n [] = refl
+entries-held n (g ∷ gs) = ap (followed n (outcome_of (joined (as_lines g)))) (entries-held (n + length g) gs)
 
 -- The items of a source are the contents of its body's groups.
 pub items_of-groups : (e : Encoding) (source : List ℕ)
     → items_of e source end ≡ entries_in 1 (held_groups_of (byte_order_mark e source).encoding (byte_order_mark e source).body)
-unfolding items_of held_groups_of
+unfolding items_of
 items_of-groups e source =
     let f = byte_order_mark e source in
-    let c = cut_of f.encoding f.body in
-    let m = line_ends (decoded_lines f.encoding c) in
-    ap (λ v. items_of_lines v end) (sym (decoded_lines-cut f.encoding f.body))
-    ∙ ap (λ v. entries_of m end (groups_of v end)) (numbered-held f.encoding 0 c.ended c.last)
-    ∙ entries-after m 1 1 [] (held_lines_of f.encoding f.body) refl
+    let lines = lines_of (decoded_of e source) in
+    entries-folded (line_ends lines) (groups_of (numbered_lines lines end) end) ∙ folded-source entry_before [] e source ∙ entries-held 1 (held_groups_of f.encoding f.body)

@@ -1,14 +1,15 @@
--- Sources that are their own results.
-use Rattle.std.proofs.Common.{◌≡◌, ℕ, ◌≤◌, Bool, true, false, List, [], ◌∷◌, ◌++◌, refl, ap, ap₂, subst, sym, ◌∙◌, inl, inr, ltb-false, arith}
-use Rattle.std.specs.Prelude.{All, is_some, nat_lt, ◌&&◌}
+-- Sources that are their own results, and texts that stay.
+use Rattle.std.proofs.Common.{◌≡◌, ℕ, suc, ◌+◌, ◌<◌, ◌≤◌, Bool, true, false, List, [], ◌∷◌, ◌++◌, length, get_or, refl, ap, ap₂, subst, sym, ◌∙◌, inl, inr, append_assoc, ltb-false, lit<, arith}
+use Rattle.std.specs.Prelude.{All, is_some, unwrap_or, nat_lt, ◌&&◌, ◌⊎◌}
 use Rattle.std.specs.List.{AllByRecursion}
 use Rattle.std.proofs.lemmas.Bool.{cases_Bool}
+use Rattle.std.proofs.lemmas.List.{length-append, get_or-append-add}
 use Rattle.std.proofs.lemmas.List.Elements.{recursion_from_All}
-use Rattle.properties_format.specs.Text.{byte}
+use Rattle.properties_format.specs.Text.{backslash, byte}
 use Rattle.properties_format.specs.Pieces.{characters}
 use Rattle.properties_format.specs.Encoding.{Encoding, windows_1252, utf_8, utf_16le, utf_16be, output_encoding, one_byte, begins_like_bom}
 use Rattle.properties_format.specs.Printing.{may_be_unescaped, encoded_text}
-use Rattle.properties_format.specs.Escapes.{escaped_character, Spelling, itself, escaped, unicode, surrogates, last, spelling_text, spelling_character}
+use Rattle.properties_format.specs.Escapes.{letter_u, is_hexadecimal, Four, four_text, are_hexadecimal, escaped_character, Spelling, itself, escaped, unicode, surrogates, last, spelling_text, spelling_character, NoSpelling}
 use Rattle.properties_format.specs.Computed.Encoding.{pieces_of, decoded_of}
 use Rattle.properties_format.specs.Computed.Undecoded.{characters_of}
 use Rattle.properties_format.proofs.AsciiOnly.{ascii-unmarked, ascii-of}
@@ -18,10 +19,13 @@ use Rattle.properties_format.proofs.Encodings.Windows1252.{windows_1252_byte-cha
 use Rattle.properties_format.proofs.Printing.Characters.{AreAscii, AreEncodable-ascii, encoded_text-ascii, may_be_unescaped-ascii}
 use Rattle.properties_format.proofs.ReadBack.Bytes.{text-decoded, ascii-scalars}
 use Rattle.properties_format.proofs.Undecoded.{decodes}
-use Rattle.properties_format.specs.Converting.{TextUnit, spelt, stray, unit_text, units_before, respelt, converted_units, at_front, IsConverted, KeptIsItself, AsciiIsItself}
+use Rattle.properties_format.specs.Converting.{TextUnit, spelt, stray, unit_text, units_before, IsUnit, AreUnits, respelt, converted_unit, converted_units, at_front, IsConverted, KeptIsItself, AsciiIsItself}
+use Rattle.properties_format.specs.Computed.Converting.{units_of, converted_of}
+use Rattle.properties_format.proofs.Alike.Divided.{digits}
 use Rattle.properties_format.proofs.Alike.Parts.{escaped-beyond}
 use Rattle.properties_format.proofs.Converting.Again.{below-stays, respelt-unicode, respelt-kept}
 use Rattle.properties_format.proofs.Converting.One.{units-found}
+use Rattle.properties_format.proofs.Converting.Chunks.{units_of-meets, converted_of-unit, converted_of-is}
 
 -- The output has each of these characters.
 abbrev AllMay : Encoding → Bool → List ℕ → Type 0
@@ -111,3 +115,106 @@ ascii-is-itself e to only source h own =
     ∙ ap (λ v. characters (pieces_of e v)) (sym (encoded_text-ascii e source a))
     ∙ subst (λ v. characters (pieces_of v (encoded_text e source)) ≡ source) own (text-decoded e source (ascii-scalars source a) (AreEncodable-ascii e source a)) in
     itself-converted e to only source (subst (AllMay to only) (sym d) (ascii-may to only source a)) (sym (ap (encoded_text to) d ∙ encoded_text-ascii to source a)) f
+
+-- ---- texts
+
+-- A text stays, if the output has its characters.
+text-stays : (e : Encoding) (only : Bool) (x : List ℕ) → AllMay e only x → converted_of e only false x ≡ x
+text-stays e only x h =
+    let k = units_of-meets x in
+    converted_of-is e only false x ∙ units-stay e only (units_of x) (subst (AllMay e only) k.0 h) ∙ sym k.0
+
+pub utf_8-stays : (x : List ℕ) → converted_of utf_8 false false x ≡ x
+utf_8-stays x = text-stays utf_8 false x (utf_8-has x)
+
+pub windows-stays : (d : List ℕ) → All byte d → converted_of windows_1252 false false (characters_of d) ≡ characters_of d
+windows-stays d h = text-stays windows_1252 false (characters_of d) (windows-has d (recursion_from_All byte d h))
+
+-- The bytes of the characters of bytes.
+pub windows-bytes : (d : List ℕ) → All byte d → encoded_text windows_1252 (characters_of d) ≡ d
+windows-bytes d h = bytes d (recursion_from_All byte d h)
+  where
+    bytes : (d : List ℕ) → AllByRecursion byte d → encoded_text windows_1252 (characters_of d) ≡ d
+    bytes [] h = refl
+    bytes (b ∷ d) h = ap₂ (λ o x. unwrap_or (one_byte o) [] ++ x) (windows_1252_byte-character b h.0) (bytes d h.1)
+
+-- ---- a run of ASCII characters at the front of a text
+
+-- It doesn't end in a backslash.
+abbrev pub IsClosed : List ℕ → Type 0
+IsClosed x = (n : ℕ) → length x ≡ suc n → get_or x n 0 ≡ backslash → ⊥
+
+-- No `\u` escape goes on in this text: it begins with a non-ASCII character, or with a backslash and no `u`.
+abbrev pub IsApart : List ℕ → Type 0
+IsApart y = (c : ℕ) (z : List ℕ) → y ≡ c ∷ z → (0x80 ≤ c) ⊎ ((c ≡ backslash) × (get_or z 0 0 ≡ letter_u → ⊥))
+
+closed-rest : (t x : List ℕ) → IsClosed (t ++ x) → IsClosed x
+closed-rest t x k n l b = k (length t + n) (omega (arith, length-append t x, l)) (get_or-append-add t x n 0 ∙ b)
+
+-- the text of digits, or of digits and another escape
+abbrev IsTail : List ℕ → Type 0
+IsTail [] = Unit {0}
+IsTail (c ∷ t) = (c < 0x80) × (c ≡ backslash → get_or t 0 0 ≡ letter_u) × IsTail t
+
+four-tail : (d : Four) (t : List ℕ) → are_hexadecimal d ≡ true → IsTail t → IsTail (four_text d ++ t)
+four-tail d t h k =
+    let g = digits d h in
+    digit d.first (d.second ∷ d.third ∷ d.fourth ∷ t) g.0 (digit d.second (d.third ∷ d.fourth ∷ t) g.1 (digit d.third (d.fourth ∷ t) g.2 (digit d.fourth t g.3 k)))
+  where
+    digit : (c : ℕ) (t : List ℕ) → is_hexadecimal c ≡ true → IsTail t → IsTail (c ∷ t)
+    digit c t h k = (grind (arith), (λ e. absurd (grind (arith))), k)
+
+-- Such a text, at the front of a run and more, is at the front of the run.
+record Front (t rest : List ℕ) : Type 0 where
+  after : List ℕ
+  whole : rest ≡ t ++ after
+
+front-of : (t z rest y : List ℕ) → IsTail t → IsApart y → rest ++ y ≡ t ++ z → Front t rest
+front-of [] z rest y h a e = record { after = rest; whole = refl }
+front-of (c ∷ t) z [] y h a e = elim (a c (t ++ z) e) [ inl l ↦ absurd (omega (arith, h.0, l)) | inr m ↦ absurd (m.1 (first t (h.1 m.0))) ]
+  where
+    first : (t : List ℕ) → get_or t 0 0 ≡ letter_u → get_or (t ++ z) 0 0 ≡ letter_u
+    first [] e = absurd (omega arith)
+    first (d ∷ t) e = e
+front-of (c ∷ t) z (b ∷ rest) y h a e =
+    let r = front-of t z rest y h.2 a (cc) in
+    let f : b ≡ c = cc in
+    record { after = r.after; whole = ap₂ (λ m n. m ∷ n) f r.whole }
+
+-- No escape begins in a run and more, if none begins in the run.
+none-more : (rest y : List ℕ) → IsApart y → NoSpelling (backslash ∷ letter_u ∷ rest) → NoSpelling (backslash ∷ letter_u ∷ rest ++ y)
+none-more rest y a n (itself c) z e h = let f : backslash ≡ c = cc in absurd (grind (arith))
+none-more rest y a n (escaped c) z e h = let f : letter_u ≡ c = cc in absurd (grind (arith))
+none-more rest y a n (unicode d) z e h =
+    let f = front-of (four_text d) z rest y (four-tail d [] h.0 tt) a (cc) in
+    n (unicode d) f.after (ap (λ v. backslash ∷ letter_u ∷ v) f.whole) h
+none-more rest y a n (surrogates high low) z e h =
+    let k = four-tail high (backslash ∷ letter_u ∷ four_text low) h.0 (lit< tt, (λ q. refl), (lit< tt, (λ q. absurd (omega (arith, q))), four-tail low [] h.2 tt)) in
+    let f = front-of (four_text high ++ backslash ∷ letter_u ∷ four_text low) z rest y k a (cc) in
+    n (surrogates high low) f.after (ap (λ v. backslash ∷ letter_u ∷ v) f.whole) h
+none-more rest y a n last z e h = let f : z ≡ [] = h in absurd (cc)
+
+unit-more : (u : TextUnit) (rest y : List ℕ) → IsClosed (unit_text u ++ rest) → IsApart y → IsUnit u rest → IsUnit u (rest ++ y)
+unit-more (spelt (itself c)) rest y k a h = h
+unit-more (spelt (escaped c)) rest y k a h = h
+unit-more (spelt (unicode d)) rest y k a h = h
+unit-more (spelt (surrogates high low)) rest y k a h = h
+unit-more (spelt last) rest y k a h = absurd (k 0 (ap (λ v. length (backslash ∷ v)) h) refl)
+unit-more stray rest y k a h = none-more rest y a h
+
+-- The units of a run, and of what comes after it.
+run-units : (e : Encoding) (only : Bool) (us : List TextUnit) (y : List ℕ) → IsClosed (units_before us []) → IsApart y → AreUnits us []
+    → converted_of e only false (units_before us [] ++ y) ≡ converted_units e only false us ++ converted_of e only false y
+run-units e only [] y k a h = refl
+run-units e only (u ∷ us) y k a h =
+    let x = units_before us [] in
+    ap (converted_of e only false) (append_assoc (unit_text u) x y) ∙ converted_of-unit e only false u (x ++ y) (unit-more u x y k a h.0)
+    ∙ ap (λ v. converted_unit e only false u ++ v) (run-units e only us y (closed-rest (unit_text u) x k) a h.1)
+    ∙ sym (append_assoc (converted_unit e only false u) (converted_units e only false us) (converted_of e only false y))
+
+-- The run stays.
+pub run-stays : (e : Encoding) (only : Bool) (x y : List ℕ) → AreAscii x → IsClosed x → IsApart y → converted_of e only false (x ++ y) ≡ x ++ converted_of e only false y
+run-stays e only x y h k a =
+    let u = units_of-meets x in
+    ap (λ v. converted_of e only false (v ++ y)) u.0 ∙ run-units e only (units_of x) y (subst IsClosed u.0 k) a u.1
+    ∙ ap (λ v. v ++ converted_of e only false y) (sym (converted_of-is e only false x) ∙ text-stays e only x (ascii-may e only x h))

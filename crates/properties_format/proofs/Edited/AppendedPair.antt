@@ -5,38 +5,37 @@ use Rattle.properties_format.specs.Encoding.{Encoding}
 use Rattle.properties_format.specs.Lines.{Ended, HoldsNoLineEnd}
 use Rattle.properties_format.specs.Computed.Cut.{decoded_line}
 use Rattle.properties_format.specs.Groups.{IsWhole, joined}
-use Rattle.properties_format.specs.Entries.{Content, pair}
-use Rattle.properties_format.specs.Items.{given}
+use Rattle.properties_format.specs.Entries.{pair}
+use Rattle.properties_format.specs.Items.{given, IsOutcome}
 use Rattle.properties_format.specs.Body.{HeldLine, AreGroupsOf, HasKey, as_groups, as_lines, groups_bytes}
-use Rattle.properties_format.specs.Valued.{separation_by}
+use Rattle.properties_format.specs.Valued.{HasPair, separation_by}
+use Rattle.properties_format.specs.LogicalLines.{line_before, AreLinesSet, NoneIsPair}
 use Rattle.properties_format.specs.Edited.{is_editable}
 use Rattle.properties_format.specs.Computed.Items.{outcome_of}
 use Rattle.properties_format.specs.Computed.Body.{held_groups_of, is_pair_with}
 use Rattle.properties_format.proofs.Body.Decoded.{decoded-nil}
 use Rattle.properties_format.proofs.Body.Groups.{groups_bytes-append, held_groups_of-only}
 use Rattle.properties_format.proofs.Edited.Closed.{AreClosedBy, IsLeft}
-use Rattle.properties_format.proofs.Edited.Contents.{givens-append, outcomes_of-append}
 use Rattle.properties_format.proofs.Edited.Made.{has_key-false}
-use Rattle.properties_format.proofs.Edited.Outcomes.{outcome_before, outcomes_of, givens}
+use Rattle.properties_format.proofs.Edited.Fronts.{logical_lines}
+use Rattle.properties_format.proofs.Edited.LogicalLines.{lines-append, lines-pair}
+use Rattle.properties_format.proofs.Items.Unique.{outcome_of-meets}
 use Rattle.properties_format.proofs.Valued.Added.{empty_line, outcomes-empty}
 use Rattle.properties_format.proofs.Valued.Lined.{AreLined, lined-groups, lines-join, held_of-append, held_in-append, fit-join}
 
 -- ---- closed groups
 
--- What is left of the last group has its outcome.
-left-outcome : (by : LineEnding) (g : List HeldLine) (left : List (List HeldLine)) → IsLeft by g left
-    → outcomes_of (as_groups left) ≡ outcomes_of (as_groups (g ∷ []))
-left-outcome by g left (inl m) = ap (λ v. outcomes_of (as_groups v)) m.0 ∙ ap (λ o. outcome_before o []) (sym m.1)
-left-outcome by g left (inr m) = ap (λ v. outcomes_of (as_groups v)) m.is ∙ ap (λ o. outcome_before o []) m.outcome
+-- The logical lines of closed groups are the same.
+left-lines : (by : LineEnding) (g : List HeldLine) (left : List (List HeldLine)) → IsLeft by g left → logical_lines (as_groups left) ≡ logical_lines (as_groups (g ∷ []))
+left-lines by g left (inl m) = ap (λ v. logical_lines (as_groups v)) m.0 ∙ ap (λ o. line_before o (joined (as_lines g)) []) (sym m.1)
+left-lines by g left (inr m) = ap (λ v. logical_lines (as_groups v)) m.is ∙ ap (λ x. line_before (outcome_of x) x []) m.line
 
--- The outcomes of closed groups are the same.
-closed-outcomes : (e : Encoding) (by : LineEnding) (gs : List (List HeldLine)) (k : AreClosedBy e by gs)
-    → outcomes_of (as_groups (k.before ++ k.left)) ≡ outcomes_of (as_groups gs)
-closed-outcomes e by gs k =
-    outcomes_of-append k.before k.left
-    ∙ ap (λ v. outcomes_of (as_groups k.before) ++ v) (left-outcome by k.final k.left k.is_left)
-    ∙ sym (outcomes_of-append k.before (k.final ∷ []))
-    ∙ ap (λ v. outcomes_of (as_groups v)) (sym k.division)
+closed-lines : (e : Encoding) (by : LineEnding) (gs : List (List HeldLine)) (k : AreClosedBy e by gs) → logical_lines (as_groups (k.before ++ k.left)) ≡ logical_lines (as_groups gs)
+closed-lines e by gs k =
+    lines-append k.before k.left
+    ∙ ap (λ v. logical_lines (as_groups k.before) ++ v) (left-lines by k.final k.left k.is_left)
+    ∙ sym (lines-append k.before (k.final ∷ []))
+    ∙ ap (λ v. logical_lines (as_groups v)) (sym k.division)
 
 -- An empty last line isn't a pair.
 pub empty-other : (e : Encoding) (key : List ℕ) → ¬ (HasKey key (empty_line e None ∷ []))
@@ -81,11 +80,17 @@ module _ (e : Encoding) (by second : LineEnding) (gs : List (List HeldLine)) (ke
       → appended_groups ≡ held_groups_of e body
   appended-held body is = held_groups_of-only e body appended_groups (subst (λ w. AreGroupsOf e w appended_groups) (appended-bytes ∙ sym is) (lined-groups e appended_groups ok next))
 
-  -- Their outcomes are those of the groups followed by the pair.
-  pub appended-outcomes : (old : List Content) → outcomes_of (as_groups gs) ≡ givens old
-      → outcomes_of (as_groups appended_groups) ≡ givens (old ++ pair key value ∷ [])
-  appended-outcomes old told =
-      outcomes_of-append closed ((line ∷ []) ∷ last ∷ [])
-      ∙ ap₂ (λ v w. v ++ w) (closed-outcomes e by gs k ∙ told)
-      (ap₂ (λ o p. outcome_before o (outcome_before p [])) said (outcomes-empty e None))
-      ∙ sym (givens-append old (pair key value ∷ []))
+  -- Their logical lines are those of the groups, and the pair's.
+  pub appended-lines : NoneIsPair key (logical_lines (as_groups gs)) → AreLinesSet key value (logical_lines (as_groups gs)) (logical_lines (as_groups appended_groups))
+  appended-lines none =
+      let own : HasPair key value (line ∷ []) = subst (IsOutcome (joined (as_lines (line ∷ [])))) said (outcome_of-meets (joined (as_lines (line ∷ [])))) in
+      inr (record {
+        none = none;
+        line = joined (as_lines (line ∷ []));
+        now =
+            lines-append closed ((line ∷ []) ∷ last ∷ [])
+            ∙ ap₂ (λ v w. v ++ w) (closed-lines e by gs k)
+            (lines-pair key (line ∷ []) (logical_lines (as_groups (last ∷ []))) (value, own)
+            ∙ ap (λ o. joined (as_lines (line ∷ [])) ∷ line_before o (joined (as_lines last)) []) (outcomes-empty e None));
+        has_value = own;
+      })

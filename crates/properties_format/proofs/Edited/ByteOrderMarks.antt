@@ -3,12 +3,11 @@ use Rattle.std.proofs.Common.{◌≡◌, ◌⊎◌, ℕ, ◌==◌, Bool, true, f
 use Rattle.std.proofs.Common.{inr, append_assoc, append-nil, lit<}
 use Rattle.std.specs.Prelude.{unwrap_or, None}
 use Rattle.std.proofs.lemmas.Bool.{cases_Bool, and_parts}
-use Rattle.properties_format.specs.Text.{line_feed, carriage_return, equals_sign, LineEnding, lf, cr, crlf, line_ending_text}
+use Rattle.properties_format.specs.Text.{line_feed, carriage_return, equals_sign, LineEnding, lf, cr, crlf, line_ending_text, is_empty}
 use Rattle.properties_format.specs.Encoding.{Encoding, utf_8, utf_16le, utf_16be, InForce, byte_order_mark, begins_with, begins_like_bom, utf_8_bom}
 use Rattle.properties_format.specs.Encoding.{utf_16be_bom, utf_16le_bom}
 use Rattle.properties_format.specs.Computed.Lines.{ends_in_cr}
 use Rattle.properties_format.specs.Printing.{in_key_or_value, printed_characters, encoded_text, printed_key}
-use Rattle.properties_format.specs.Writing.{is_empty}
 use Rattle.properties_format.specs.Body.{HeldLine, AreGroupsOf, ending_bytes, group_bytes, groups_bytes, last_ending}
 use Rattle.properties_format.specs.Valued.{separation_by}
 use Rattle.properties_format.specs.Edited.{pair_bytes, IsReplaced}

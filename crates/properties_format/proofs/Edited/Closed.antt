@@ -18,7 +18,7 @@ use Rattle.properties_format.specs.Valued.{ending_among, separation_by}
 use Rattle.properties_format.proofs.Body.Decoded.{decoded-nil}
 use Rattle.properties_format.proofs.Lines.Plain.{plain-last}
 use Rattle.properties_format.proofs.Body.Groups.{IsLastFit, AreFit, as_lines-append, held_ended, held-last, cut-off, groups-bytes, lines-front, group_bytes-append, groups_bytes-append}
-use Rattle.properties_format.proofs.Edited.Contents.{ends-right, fit-closed, fit-open, closed-by_empty}
+use Rattle.properties_format.proofs.Edited.LogicalLines.{ends-right, fit-closed, fit-open, closed-by_empty}
 use Rattle.properties_format.proofs.InTurn.Lines.{bytes-unended, texts-with, unended-with, with_ending}
 use Rattle.properties_format.proofs.Edited.Parts.{unended-kept}
 use Rattle.properties_format.proofs.Valued.Added.{empty_line, ending-held, fit-lines, outcomes-empty}
@@ -77,7 +77,7 @@ opened_by ending g = if is_empty_line g then [] else (if is_left_open g then end
 pub record IsEnded (by : LineEnding) (g : List HeldLine) (left : List (List HeldLine)) : Type 0 where
   pub group : List HeldLine
   pub is : left ≡ group ∷ []
-  pub outcome : outcome_of (joined (as_lines group)) ≡ outcome_of (joined (as_lines g))
+  pub line : joined (as_lines group) ≡ joined (as_lines g)
   pub bytes : unended_bytes group ≡ unended_bytes g ++ opened_by (line_ending_text by) g
 
 -- It is an empty line and left out; or it is still there.
@@ -190,7 +190,7 @@ closed-by e by (g1 ∷ gs1) h good = of-parts (last-group g1 gs1)
             let is : IsEnded by g (g_ended ∷ []) = record {
               group = g_ended;
               is = refl;
-              outcome = ap (λ v. outcome_of (joined v)) (texts-with (Some by) g);
+              line = ap joined (texts-with (Some by) g);
               bytes = unended-with (Some by) g ∙ sym (append-nil (unended_bytes g)) ∙ ap (λ v. unended_bytes g ++ v) (sym more);
             } in
             with-left (g_ended ∷ []) (back ++ n ∷ []) ending (inr is) (append-nil g_ended ∙ ap (with_ending (Some by)) b ∙ ended-held e by back h.last)
@@ -219,7 +219,7 @@ closed-by e by (g1 ∷ gs1) h good = of-parts (last-group g1 gs1)
             let is : IsEnded by g (x ∷ []) = record {
               group = x;
               is = refl;
-              outcome = ap outcome_of (ap joined texts ∙ c.1);
+              line = ap joined texts ∙ c.1;
               bytes = unended-kept g_ended (empty_line e (Some by)) ∙ append-nil (group_bytes g_ended) ∙ ended ∙ ap₂ (λ v y. v ++ y) own (sym more);
             } in
             with-left (x ∷ []) (back ++ n ∷ z ∷ []) (ending ++ ending) (inr is) (append-nil x ∙ t)

@@ -1,31 +1,30 @@
 -- The groups of a body in which a key was set, and what they say.
-use Rattle.std.proofs.Common.{◌≡◌, ℕ, true, List, [], ◌∷◌, ◌++◌, All, Option, Some, None, refl, ap, sym, ◌∙◌, inr, subst, Bool}
+use Rattle.std.proofs.Common.{◌≡◌, ℕ, true, List, [], ◌∷◌, ◌++◌, All, Option, Some, None, refl, ap, sym, ◌∙◌, subst, Bool}
 use Rattle.std.specs.Prelude.{if◌then◌else◌}
 use Rattle.std.proofs.lemmas.Bool.{cond-true}
-use Rattle.properties_format.specs.Text.{scalar, LineEnding, lf, cr, line_ending_text}
+use Rattle.properties_format.specs.Text.{scalar, LineEnding, lf, cr, line_ending_text, is_empty}
 use Rattle.properties_format.specs.Encoding.{Encoding, byte_order_mark}
 use Rattle.properties_format.specs.Computed.Lines.{ends_in_cr}
 use Rattle.properties_format.specs.Computed.Cut.{decoded_line}
 use Rattle.properties_format.specs.Groups.{IsWhole, joined}
-use Rattle.properties_format.specs.Entries.{Content, pair}
+use Rattle.properties_format.specs.Entries.{pair}
 use Rattle.properties_format.specs.Items.{given, IsOutcome}
-use Rattle.properties_format.specs.Writing.{is_empty}
 use Rattle.properties_format.specs.Body.{HeldLine, as_groups, as_lines, groups_bytes, last_ending}
 use Rattle.properties_format.specs.Edited.{bom_of, final_group, is_editable, pair_bytes, separation}
-use Rattle.properties_format.specs.Changed.{IsSetIn}
 use Rattle.properties_format.specs.Valued.{HasPair}
+use Rattle.properties_format.specs.LogicalLines.{AreLinesSet, NoneIsPair}
 use Rattle.properties_format.specs.Computed.Body.{held_groups_of}
 use Rattle.properties_format.specs.Computed.Edited.{KeyPlace, key_set, last_place, set_at}
 use Rattle.properties_format.specs.Computed.Items.{outcome_of}
 use Rattle.properties_format.proofs.Items.Unique.{outcome_of-meets}
 use Rattle.properties_format.proofs.Body.Groups.{held_groups_of-meets, held-body}
-use Rattle.properties_format.proofs.Edited.AppendedPair.{appended-held, appended-outcomes, line}
+use Rattle.properties_format.proofs.Edited.AppendedPair.{appended-held, appended-lines, line}
 use Rattle.properties_format.proofs.Edited.ByteOrderMarks.{key_set-in_force, source-whole}
 use Rattle.properties_format.proofs.Edited.Closed.{closed-by, put-seam}
-use Rattle.properties_format.proofs.Edited.Contents.{ends-right, none-hold, HaveContents, pair-outcomes}
+use Rattle.properties_format.proofs.Edited.Fronts.{logical_lines}
+use Rattle.properties_format.proofs.Edited.LogicalLines.{ends-right, pair-lines, none-lines}
 use Rattle.properties_format.proofs.Edited.Made as made
 use Rattle.properties_format.proofs.Edited.Made.{key_set-body, key_set-meets}
-use Rattle.properties_format.proofs.Edited.Outcomes.{outcomes_of, givens}
 use Rattle.properties_format.proofs.Edited.Pair.{pair_text, pair-decoded, pair-whole, pair-outcome, pair-plain}
 use Rattle.properties_format.proofs.Edited.Parts.{pair-some}
 use Rattle.properties_format.proofs.Edited.Replaced.{reput-of}
@@ -41,8 +40,8 @@ pub record IsPutLast (e : Encoding) (only : Bool) (source key value : List ℕ) 
   pub has_pair : HasPair key value group
   pub ending : last_ending group ≡ Some lf
   pub bytes : groups_bytes closed ≡ groups_bytes gs ++ separation source (final_group gs)
-  pub told : (old : List Content) → outcomes_of (as_groups gs) ≡ givens old
-      → outcomes_of (as_groups (held_groups_of e (set_at e only source gs key value None))) ≡ givens (old ++ pair key value ∷ [])
+  pub lines_set : NoneIsPair key (logical_lines (as_groups gs))
+      → AreLinesSet key value (logical_lines (as_groups gs)) (logical_lines (as_groups (held_groups_of e (set_at e only source gs key value None))))
 
 module _ (e : Encoding) (only : Bool) (source key value body : List ℕ) (ok : is_editable e ≡ true) (k : All scalar key)
     (v : All scalar value) (ends : ends_in_cr body ≡ true → ends_in_cr source ≡ true) where
@@ -77,21 +76,20 @@ module _ (e : Encoding) (only : Bool) (source key value body : List ℕ) (ok : i
         has_pair = subst (IsOutcome (joined (as_lines own))) said (outcome_of-meets (joined (as_lines own)));
         ending = refl;
         bytes = c.bytes ∙ ap (λ g. groups_bytes all ++ separation source g) (sym final);
-        told = λ old t.
-            ap (λ w. outcomes_of (as_groups w)) (sym groups)
-            ∙ appended-outcomes e by lf all key value pb ok c plain some whole said old t;
+        lines_set = λ n.
+            subst (λ w. AreLinesSet key value (logical_lines (as_groups all)) (logical_lines (as_groups w))) groups
+            (appended-lines e by lf all key value pb ok c plain some whole said n);
       }
 
-  -- The contents are those of the body with the key set.
-  pub put-contents : (p : Option KeyPlace) → made.IsPlace key (held_groups_of e body) p → (old : List Content)
-      → outcomes_of (as_groups (held_groups_of e body)) ≡ givens old
-      → HaveContents (held_groups_of e (set_at e only source (held_groups_of e body) key value p)) (IsSetIn key value old)
-  put-contents (Some p) m old t =
+  -- The other logical lines are unchanged.
+  pub put-lines : (p : Option KeyPlace) → made.IsPlace key (held_groups_of e body) p
+      → AreLinesSet key value (logical_lines (as_groups (held_groups_of e body))) (logical_lines (as_groups (held_groups_of e (set_at e only source (held_groups_of e body) key value p))))
+  put-lines (Some p) m =
       let r = reput-of e only source body key value p.before p.group p.after ok k v m.has m.division in
-      subst (λ w. HaveContents w (IsSetIn key value old)) r.is_groups
-      (pair-outcomes p.before p.group r.group p.after key value old m.has m.no_later r.has_pair
-      (ap (λ w. outcomes_of (as_groups w)) (sym m.division) ∙ t))
-  put-contents None m old t = (old ++ pair key value ∷ [], inr (none-hold key (held_groups_of e body) old m t, refl), put-last.told old t)
+      subst (λ w. AreLinesSet key value (logical_lines (as_groups (held_groups_of e body))) (logical_lines (as_groups w))) r.is_groups
+      (subst (λ w. AreLinesSet key value (logical_lines (as_groups w)) (logical_lines (as_groups (p.before ++ r.group ∷ p.after)))) (sym m.division)
+      (pair-lines p.before p.group r.group p.after key value m.has m.no_later r.has_pair))
+  put-lines None m = put-last.lines_set (none-lines key (held_groups_of e body) m)
 
 -- A CR at the end of the body is at the end of the source.
 pub ends-alike : (e : Encoding) (source : List ℕ) → ends_in_cr (byte_order_mark e source).body ≡ true → ends_in_cr source ≡ true

@@ -1,14 +1,13 @@
 -- A body in which the last pair with a key is replaced by a printed pair: its groups are those of the body with one replaced.
 use Rattle.std.proofs.Common.{◌≡◌, ◌≢◌, ℕ, Bool, true, false, List, [], ◌∷◌, ◌++◌, Some, refl, ap, sym, ◌∙◌, append_assoc, append-nil, subst}
 use Rattle.std.specs.Prelude.{All}
-use Rattle.properties_format.specs.Text.{scalar}
+use Rattle.properties_format.specs.Text.{scalar, is_empty}
 use Rattle.properties_format.specs.Encoding.{Encoding}
 use Rattle.properties_format.specs.Groups.{IsWhole, joined}
 use Rattle.properties_format.specs.Entries.{pair}
 use Rattle.properties_format.specs.Items.{given, IsOutcome}
 use Rattle.properties_format.specs.Computed.Items.{outcome_of}
 use Rattle.properties_format.specs.Computed.Cut.{decoded_line}
-use Rattle.properties_format.specs.Writing.{is_empty}
 use Rattle.properties_format.specs.Body.{HeldLine, as_lines, HasKey, AreGroupsOf, groups_bytes, ending_bytes, last_ending}
 use Rattle.properties_format.specs.Edited.{is_editable, is_empty_line, pair_bytes}
 use Rattle.properties_format.specs.Valued.{HasPair}

@@ -1,10 +1,9 @@
 -- A key that is set twice is set once, to the later value.
 use Rattle.std.proofs.Common.{◌≡◌, ℕ, true, List, [], ◌∷◌, ◌++◌, All, Option, Some, None, ap, ap₂, sym, ◌∙◌, Bool}
 use Rattle.std.proofs.lemmas.List.{append_cancel_right}
-use Rattle.properties_format.specs.Text.{scalar}
+use Rattle.properties_format.specs.Text.{scalar, is_empty}
 use Rattle.properties_format.specs.Encoding.{Encoding, InForce, byte_order_mark}
 use Rattle.properties_format.specs.Computed.Lines.{ends_in_cr}
-use Rattle.properties_format.specs.Writing.{is_empty}
 use Rattle.properties_format.specs.Body.{HeldLine, ending_bytes, groups_bytes}
 use Rattle.properties_format.specs.Edited.{bom_of, is_editable, pair_bytes}
 use Rattle.properties_format.specs.Computed.Body.{held_groups_of}

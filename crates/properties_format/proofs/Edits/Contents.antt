@@ -2,19 +2,11 @@
 use Rattle.std.proofs.Common.{ℕ, List, [], ◌∷◌, ap, sym, subst, Bool}
 use Rattle.properties_format.specs.Encoding.{Encoding}
 use Rattle.properties_format.specs.Edited.{edited}
-use Rattle.properties_format.specs.Edits.{Edit, put, remove, set_value, IsEdited, AreEdited, IsScalarEdit, AreScalarEdits, IsEditAllResult}
-use Rattle.properties_format.specs.Changed.{IsEditedIn, AreEditedIn, map_after, ReadsAfter}
-use Rattle.properties_format.proofs.Changed.Laws.{IsReadable, source_contents, IsReadTo, key_set-contents, key_removed-contents}
+use Rattle.properties_format.specs.Edits.{Edit, AreEdited, AreScalarEdits, IsEditAllResult}
+use Rattle.properties_format.specs.Changed.{AreEditedIn, map_after, ReadsAfter}
+use Rattle.properties_format.proofs.Changed.Laws.{IsReadable, source_contents, IsReadTo, edit-contents}
 use Rattle.properties_format.proofs.Changed.Maps.{map-after}
 use Rattle.properties_format.proofs.Changed.Read.{readable, reads-after}
-use Rattle.properties_format.proofs.Valued.Read.{value_set-contents}
-
--- the same of each edit
-pub edit-contents : (e : Encoding) (only : Bool) (source : List ℕ) (edit : Edit) (result : List ℕ) → IsReadable e source → IsScalarEdit edit → IsEdited e only source edit result
-    → IsReadTo e result (IsEditedIn edit (source_contents e source))
-edit-contents e only source (put key value) result r k h = key_set-contents e only source key value result r k.0 k.1 h
-edit-contents e only source (remove key) result r k h = key_removed-contents e source key result r h
-edit-contents e only source (set_value key value) result r k h = value_set-contents e only source key value result r k.0 k.1 h
 
 -- After edits in turn the source says what it said after the same edits.
 pub edits-contents : (e : Encoding) (only : Bool) (source : List ℕ) (edits : List Edit) (result : List ℕ) → IsReadable e source → AreScalarEdits edits

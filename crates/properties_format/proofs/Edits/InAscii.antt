@@ -2,7 +2,7 @@
 use Rattle.std.proofs.Common.{◌≡◌, ℕ, true, cond, List, [], ◌∷◌, ◌++◌, refl, ap, sym, ◌∙◌, inl, inr, append_assoc, append-nil, not, ◌&&◌, if◌then◌else◌, lit<, lt-ltb, ltb-true, subst}
 use Rattle.std.specs.Prelude.{nat_lt, Option, Some, None}
 use Rattle.std.proofs.lemmas.Bool.{cases_Bool, cond_both}
-use Rattle.properties_format.specs.Text.{LineEnding, lf, cr, line_feed}
+use Rattle.properties_format.specs.Text.{LineEnding, lf, cr, line_feed, is_empty}
 use Rattle.properties_format.specs.Encoding.{Encoding, windows_1252, utf_8, byte_order_mark, begins_like_bom, characters}
 use Rattle.properties_format.specs.Lines.{end, ends_in_cr}
 use Rattle.properties_format.specs.Computed.Lines.{lines_of}
@@ -10,11 +10,11 @@ use Rattle.properties_format.specs.Items.{IsItems}
 use Rattle.properties_format.specs.Computed.Encoding.{pieces_of, decoded_of}
 use Rattle.properties_format.specs.Computed.Items.{items_of, items_of_lines}
 use Rattle.properties_format.specs.Printing.{encoded_text}
-use Rattle.properties_format.specs.Writing.{is_empty}
 use Rattle.properties_format.specs.Body.{HeldLine, AreGroupsOf, held_in, ending_bytes, group_bytes, groups_bytes, last_ending}
 use Rattle.properties_format.specs.Edited.{pair_bytes, final_group, is_empty_line, is_left_open, added_ending, separation, bom_of, IsReplaced, IsAppended, IsKeySet, IsWithout, guarding_lf, IsKeyRemoved, is_editable, edited, IsSetKeyResult, IsRemoveKeyResult}
 use Rattle.properties_format.specs.Valued.{value_text, IsRevalued, ending_among, ending_in, separation_by, new_pair_bytes, IsAdded, IsBodyValued, IsValueSet, IsSetValueResult}
 use Rattle.properties_format.specs.Edits.{Edit, put, remove, set_value, IsEdited, AreEdited, IsEditAllResult}
+use Rattle.properties_format.specs.EditedPairs.{IsEditPairsResult}
 use Rattle.properties_format.specs.AsciiOnly.{AreAsciiBytes, AreItemsInBoth, beyond_ascii, IsSubsequence, PutsInAscii, IsInAscii}
 use Rattle.properties_format.proofs.Encodings.ByteOrderMarks.{decoded_of-unmarked}
 use Rattle.properties_format.proofs.Printing.Characters.{AreAscii, AreAscii-append, AreEncodable-ascii, encoded_text-ascii, line_end-ascii}
@@ -293,6 +293,10 @@ remove_key-in_ascii e source key result h = puts-in_ascii source result (key_rem
 pub set_value-in_ascii : (e : Encoding) (source key value result : List ℕ) → IsSetValueResult e true source key value (edited result) → IsInAscii source result
 set_value-in_ascii e source key value result h = puts-in_ascii source result (value_set-puts e source key value result h.0 h.2)
 
--- and of a list of edits.
+-- of a list of edits,
 pub edit_all-in_ascii : (e : Encoding) (source : List ℕ) (edits : List Edit) (result : List ℕ) → IsEditAllResult e true source edits (edited result) → IsInAscii source result
 edit_all-in_ascii e source edits result h = puts-in_ascii source result (edits-puts e source edits result h.0 h.2)
+
+-- and of such a list that passes over comments.
+pub edit_pairs-in_ascii : (e : Encoding) (source : List ℕ) (edits : List Edit) (result : List ℕ) → IsEditPairsResult e true source edits (edited result) → IsInAscii source result
+edit_pairs-in_ascii e source edits result h = puts-in_ascii source result (edits-puts e source edits result h.0 h.2)

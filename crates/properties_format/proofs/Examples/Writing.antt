@@ -11,7 +11,7 @@ use Rattle.properties_format.specs.Computed.Escapes.{meaning_of}
 use Rattle.properties_format.specs.Items.{Content, Entry, comment, pair, item}
 use Rattle.properties_format.specs.Computed.Items.{items_of}
 use Rattle.properties_format.specs.Settings.{default_settings}
-use Rattle.properties_format.specs.Writing.{Call, comment_call, pair_call, prefix_call, separator_call, ending_call, flush_call, ascii_only_call, answers, wrote, items_read_back}
+use Rattle.properties_format.specs.Writing.{Call, comment_call, pair_call, prefix_call, separator_call, ending_call, flush_call, ascii_only_call, readable_call, answers, wrote, items_read_back}
 
 -- items of these contents, on lines 1, 2 and so on
 abbrev from_line : ℕ → List Content → List Entry
@@ -142,6 +142,26 @@ rows =
     ∷ (output_encoding utf_16le, ascii_only_call true ∷ pair_call (codes "a") (codes "é") ∷ [], codes "a=\\u00e9\n", pair (codes "a") (codes "é") ∷ [])
     -- a character below U+10000 is one escape
     ∷ (utf_8, ascii_only_call true ∷ pair_call (codes "k") (codes "日") ∷ [], codes "k=\\u65e5\n", pair (codes "k") (codes "日") ∷ [])
+    -- readable output escapes no space, separator or comment sign inside a value
+    ∷ (windows_1252, readable_call true ∷ pair_call (codes "a b") (codes "«Hi» you: a=b #1!") ∷ [], codes "a\\ b=«Hi» you: a=b #1!\n", pair (codes "a b") (codes "«Hi» you: a=b #1!") ∷ [])
+    -- the first space of a value gets a backslash, and the last one is `\u0020`
+    ∷ (utf_8, readable_call true ∷ pair_call (codes "k") (codes "  a  ") ∷ [], codes "k=\\  a \\u0020\n", pair (codes "k") (codes "  a  ") ∷ [])
+    -- after a sign, a separator at the front isn't escaped; after blanks only, it is
+    ∷ (
+      windows_1252,
+      readable_call true ∷ pair_call [] (codes "=x") ∷ separator_call (codes " ") ∷ pair_call (codes "k") (codes "==x") ∷ pair_call (codes "k") (codes " ") ∷ [],
+      codes "==x\nk \\==x\nk \\u0020\n",
+      pair [] (codes "=x") ∷ pair (codes "k") (codes "==x") ∷ pair (codes "k") (codes " ") ∷ [],
+    )
+    -- tabs, line endings, backslashes and what the encoding lacks are escaped as ever, and keys as in other output
+    ∷ (windows_1252, readable_call true ∷ pair_call (codes "#a#") (codes "\t\\日\n") ∷ [], codes "\\#a\\#=\\t\\\\\\u65e5\\n\n", pair (codes "#a#") (codes "\t\\日\n") ∷ [])
+    -- with ASCII-only output on, every byte is ASCII; once it is off, all is as before
+    ∷ (
+      utf_8,
+      readable_call true ∷ ascii_only_call true ∷ pair_call (codes "é") (codes "é a") ∷ readable_call false ∷ pair_call (codes "k") (codes "a b") ∷ [],
+      codes "\\u00e9=\\u00e9 a\nk=a\\ b\n",
+      pair (codes "é") (codes "é a") ∷ pair (codes "k") (codes "a b") ∷ [],
+    )
     ∷ []
 
 -- The calls of each row write its bytes.

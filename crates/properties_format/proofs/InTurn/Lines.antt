@@ -12,7 +12,7 @@ use Rattle.properties_format.specs.Computed.Parts.{unended_bytes}
 use Rattle.properties_format.proofs.Lines.Steps.{lines_of-line}
 use Rattle.properties_format.proofs.Lines.Only.{lines_of-plain}
 use Rattle.properties_format.proofs.Body.Decoded.{cut_of-lines}
-use Rattle.properties_format.proofs.Edited.Contents.{ends-right}
+use Rattle.properties_format.proofs.Edited.LogicalLines.{ends-right}
 
 -- ---- the lines of a group
 

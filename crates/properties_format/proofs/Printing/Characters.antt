@@ -4,12 +4,12 @@ use Rattle.std.specs.Prelude.{Some, is_some, unwrap_or, nat_lt}
 use Rattle.std.specs.Char.{digit_char}
 use Rattle.std.proofs.lemmas.Bool.{cond_both, and_from, and_parts}
 use Rattle.std.proofs.lemmas.Str.{encode_ascii}
-use Rattle.properties_format.specs.Text.{scalar, line_ending_text, LineEnding, is_blank, space, backslash}
+use Rattle.properties_format.specs.Text.{scalar, line_ending_text, LineEnding, is_blank, is_blanks, is_empty, is_separator, is_line_end, space, backslash}
 use Rattle.properties_format.specs.Encoding.{Encoding, encoded}
 use Rattle.properties_format.specs.Entries.{Content, comment, pair}
 use Rattle.properties_format.specs.Split.{AreBlanks}
 use Rattle.properties_format.specs.Settings.{Settings, IsGoodSeparator}
-use Rattle.properties_format.specs.Printing.{Place, in_key_or_value, in_comment, in_prefix, unit_escape, high_surrogate, low_surrogate, unicode_escape, may_be_unescaped, literal, is_special, letter_escape, has_letter, printed_character, printed_characters, encoded_text, is_bom_like, with_first_escaped, printed_key, printed_text, printed}
+use Rattle.properties_format.specs.Printing.{Place, in_key_or_value, in_comment, in_prefix, unit_escape, high_surrogate, low_surrogate, unicode_escape, may_be_unescaped, literal, is_special, letter_escape, has_letter, printed_character, printed_characters, encoded_text, is_bom_like, with_first_escaped, printed_key, is_free, printed_inside, printed_first, printed_rest, printed_value, written_value, printed_text, printed}
 use Rattle.properties_format.proofs.Encodings.Windows1252.{windows_1252_byte-ascii}
 
 -- ---- two texts, one after another
@@ -41,7 +41,7 @@ printed-comment e s first text = three-parts e (printed_characters e s.ascii_onl
 pub printed-pair : (e : Encoding) (s : Settings) (first : Bool) (key value : List ℕ)
     → printed e s first (pair key value)
     ≡ encoded_text e (printed_key e s.ascii_only first key)
-    ++ (encoded_text e s.kv_separator ++ (encoded_text e (printed_characters e s.ascii_only in_key_or_value value) ++ encoded_text e (line_ending_text s.line_ending)))
+    ++ (encoded_text e s.kv_separator ++ (encoded_text e (written_value e s value) ++ encoded_text e (line_ending_text s.line_ending)))
 printed-pair e s first key value = simp encoded_text-append
 
 -- ---- characters that can be encoded
@@ -175,6 +175,50 @@ printed_key-encodable e only first key =
     cond_both (first && is_bom_like e only key) (with_first_escaped e only key) (printed_characters e only in_key_or_value key) (AreEncodable e)
     (λ k. with_first_escaped-encodable e only key) (λ k. printed_characters-encodable e only in_key_or_value key)
 
+-- ---- values as people write them
+
+-- A character that a value may have unescaped isn't a backslash or a line end, and is ASCII.
+pub free-plain : (c : ℕ) → is_free c ≡ true → ((c == backslash) ≡ false) × (is_line_end c ≡ false) × (c < 0x80)
+free-plain c h = (grind (arith), grind (arith), grind (arith))
+
+-- A space and a separator are special.
+pub first-special : (after_blanks : Bool) (c : ℕ) → (c == space || (after_blanks && is_separator c)) ≡ true → is_special c ≡ true
+first-special after_blanks c h = grind (arith)
+
+-- A character inside a value can be encoded,
+pub inside-encodable : (e : Encoding) (only : Bool) (c : ℕ) → AreEncodable e (printed_inside e only c)
+inside-encodable e only c =
+    cond_both (is_free c) (c ∷ []) (printed_character e only in_key_or_value c) (AreEncodable e)
+    (λ k. AreEncodable-ascii e (c ∷ []) ((free-plain c k).2, tt)) (λ k. printed-encodable e only in_key_or_value c)
+
+-- and so can the first one,
+first-encodable : (e : Encoding) (only : Bool) (after_blanks : Bool) (c : ℕ) → AreEncodable e (printed_first e only after_blanks c)
+first-encodable e only after_blanks c =
+    cond_both (c == space || (after_blanks && is_separator c)) (backslash ∷ c ∷ []) (printed_inside e only c) (AreEncodable e)
+    (λ k. AreEncodable-ascii e (backslash ∷ c ∷ []) (lit< tt, (special-ascii c (first-special after_blanks c k), tt))) (λ k. inside-encodable e only c)
+
+-- those after the first,
+rest-encodable : (e : Encoding) (only : Bool) (cs : List ℕ) → AreEncodable e (printed_rest e only cs)
+rest-encodable e only [] = tt
+rest-encodable e only (c ∷ []) =
+    cond_both (c == space) (unit_escape space) (printed_inside e only c) (AreEncodable e)
+    (λ k. AreEncodable-ascii e (unit_escape space) (unicode_escape-ascii space)) (λ k. inside-encodable e only c)
+rest-encodable e only (c ∷ d ∷ cs) = AreEncodable-append e (printed_inside e only c) (printed_rest e only (d ∷ cs)) (inside-encodable e only c) (rest-encodable e only (d ∷ cs))
+
+-- and the whole value.
+pub printed_value-encodable : (e : Encoding) (only : Bool) (after_blanks : Bool) (value : List ℕ) → AreEncodable e (printed_value e only after_blanks value)
+printed_value-encodable e only after_blanks [] = tt
+printed_value-encodable e only after_blanks (c ∷ cs) =
+    cond_both (is_empty cs && c == space) (unit_escape space) (printed_first e only after_blanks c ++ printed_rest e only cs) (AreEncodable e)
+    (λ k. AreEncodable-ascii e (unit_escape space) (unicode_escape-ascii space))
+    (λ k. AreEncodable-append e (printed_first e only after_blanks c) (printed_rest e only cs) (first-encodable e only after_blanks c) (rest-encodable e only cs))
+
+-- A value can be encoded, readable or not.
+pub written_value-encodable : (e : Encoding) (s : Settings) (value : List ℕ) → AreEncodable e (written_value e s value)
+written_value-encodable e s value =
+    cond_both s.readable (printed_value e s.ascii_only (is_blanks s.kv_separator) value) (printed_characters e s.ascii_only in_key_or_value value) (AreEncodable e)
+    (λ k. printed_value-encodable e s.ascii_only (is_blanks s.kv_separator) value) (λ k. printed_characters-encodable e s.ascii_only in_key_or_value value)
+
 -- ---- whole lines
 
 -- a blank is an ASCII character
@@ -196,8 +240,8 @@ printed_text-encodable e s first (comment text) g =
     grind (arith, AreEncodable-append, printed_characters-encodable)
 printed_text-encodable e s first (pair key value) g =
     AreEncodable-append e (printed_key e s.ascii_only first key)
-    (s.kv_separator ++ (printed_characters e s.ascii_only in_key_or_value value ++ line_ending_text s.line_ending)) (printed_key-encodable e s.ascii_only first key)
-    (AreEncodable-append e s.kv_separator (printed_characters e s.ascii_only in_key_or_value value ++ line_ending_text s.line_ending)
+    (s.kv_separator ++ (written_value e s value ++ line_ending_text s.line_ending)) (printed_key-encodable e s.ascii_only first key)
+    (AreEncodable-append e s.kv_separator (written_value e s value ++ line_ending_text s.line_ending)
     (AreEncodable-ascii e s.kv_separator (good_separator-ascii s.kv_separator g))
-    (AreEncodable-append e (printed_characters e s.ascii_only in_key_or_value value) (line_ending_text s.line_ending)
-    (printed_characters-encodable e s.ascii_only in_key_or_value value) (AreEncodable-ascii e (line_ending_text s.line_ending) (line_end-ascii s.line_ending))))
+    (AreEncodable-append e (written_value e s value) (line_ending_text s.line_ending)
+    (written_value-encodable e s value) (AreEncodable-ascii e (line_ending_text s.line_ending) (line_end-ascii s.line_ending))))

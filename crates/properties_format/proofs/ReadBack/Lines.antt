@@ -2,8 +2,8 @@
 use Rattle.std.proofs.Common.{◌≡◌, ◌≢◌, ℕ, ◌+◌, ◌==◌, ◌&&◌, not, Bool, true, false, if◌then◌else◌, List, [], ◌∷◌, ◌++◌, refl, ap, sym, ◌∙◌, inl, inr, append_assoc, ap₂, subst}
 use Rattle.std.specs.Prelude.{All, Option, Some, None}
 use Rattle.std.proofs.lemmas.List.Elements.{recursion_from_All}
-use Rattle.std.proofs.lemmas.Bool.{not-true}
-use Rattle.properties_format.specs.Text.{scalar, LineEnding, line_ending_text, is_blanks}
+use Rattle.std.proofs.lemmas.Bool.{not-true, cond_both}
+use Rattle.properties_format.specs.Text.{scalar, LineEnding, line_ending_text, is_blanks, is_empty}
 use Rattle.properties_format.specs.Encoding.{Encoding}
 use Rattle.properties_format.specs.Lines.{HoldsNoLineEnd, Line, end}
 use Rattle.properties_format.specs.Computed.Lines.{begins_with_lf, lines_to_come}
@@ -13,8 +13,8 @@ use Rattle.properties_format.specs.Entries.{Content, comment, pair, Entry, item}
 use Rattle.properties_format.specs.Computed.Items.{split_outcome, outcome_of, followed, entries_of}
 use Rattle.properties_format.specs.Settings.{Settings}
 use Rattle.properties_format.specs.Computed.Settings.{is_good_prefix, is_good_separator}
-use Rattle.properties_format.specs.Printing.{in_key_or_value, in_comment, in_prefix, printed_characters, printed_key, encoded_text, printed_text}
-use Rattle.properties_format.specs.Writing.{Call, comment_call, pair_call, prefix_call, separator_call, ending_call, flush_call, ascii_only_call, is_empty, settings_after_call, written_line, lines_with, line_bytes, wrote, content_read_back, item_read_back, items_read_back, HoldsNoBackslash, ArePrefixesClean, IsOfScalars, AreOfScalars, AreGoodSettings}
+use Rattle.properties_format.specs.Printing.{in_key_or_value, in_comment, in_prefix, printed_characters, printed_key, printed_value, written_value, encoded_text, printed_text}
+use Rattle.properties_format.specs.Writing.{Call, comment_call, pair_call, prefix_call, separator_call, ending_call, flush_call, ascii_only_call, readable_call, settings_after_call, written_line, lines_with, line_bytes, wrote, content_read_back, item_read_back, items_read_back, HoldsNoBackslash, ArePrefixesClean, IsOfScalars, AreOfScalars, AreGoodSettings}
 use Rattle.properties_format.proofs.Lines.Plain.{plain-no_lf}
 use Rattle.properties_format.proofs.Lines.Steps.{lines_to_come-end}
 use Rattle.properties_format.proofs.Groups.Joined.{joined-comment_line, joined-closed}
@@ -23,7 +23,8 @@ use Rattle.properties_format.proofs.Split.Unique.{split_of-blank}
 use Rattle.properties_format.proofs.Settings.Tests.{IsGoodPrefix-from_test, IsGoodSeparator-from_test}
 use Rattle.properties_format.proofs.Printing.Characters.{encoded_text-append}
 use Rattle.properties_format.proofs.ReadBack.Texts.{texts-printed}
-use Rattle.properties_format.proofs.ReadBack.Pairs.{IsReadAs, key-printed, pair-read}
+use Rattle.properties_format.proofs.ReadBack.Values.{value-loose, value-begins}
+use Rattle.properties_format.proofs.ReadBack.Pairs.{IsReadAs, key-printed, pair-read, pair-read_loosely}
 use Rattle.properties_format.proofs.ReadBack.Comments.{comment-read}
 
 -- ---- the characters that are written
@@ -68,17 +69,30 @@ comment-line e s first text g b h =
       read = comment-read e s.ascii_only s.comment_prefix text g.prefix b (recursion_from_All scalar s.comment_prefix g.scalars) (recursion_from_All scalar text h);
     }
 
+-- A key and a value, readable or not.
+pair-written : (e : Encoding) (s : Settings) (first : Bool) (key value : List ℕ) → AreGoodSettings s → (key ≡ [] → is_blanks s.kv_separator ≡ false) → All scalar key → All scalar value
+    → IsReadAs (printed_key e s.ascii_only first key ++ (s.kv_separator ++ written_value e s value)) (pair key value)
+pair-written e s first key value g some h k =
+    let front = printed_key e s.ascii_only first key in
+    let keyed = key-printed e s.ascii_only first key (recursion_from_All scalar key h) in
+    let all = recursion_from_All scalar value k in
+    let blank = is_blanks s.kv_separator in
+    cond_both s.readable (printed_value e s.ascii_only blank value) (printed_characters e s.ascii_only in_key_or_value value)
+    (λ v. IsReadAs (front ++ (s.kv_separator ++ v)) (pair key value))
+    (λ _. pair-read_loosely front (printed_value e s.ascii_only blank value) s.kv_separator key value keyed (value-loose e s.ascii_only blank value all)
+    (value-begins e s.ascii_only blank value all) g.separator some)
+    (λ _. pair-read front (printed_characters e s.ascii_only in_key_or_value value) s.kv_separator key value keyed (texts-printed e s.ascii_only value all) g.separator some)
+
 -- A pair, under good settings; if the key is empty, the separator isn't blanks only.
 pub pair-line : (e : Encoding) (s : Settings) (first : Bool) (key value : List ℕ) → AreGoodSettings s → (key ≡ [] → is_blanks s.kv_separator ≡ false) → All scalar key → All scalar value
     → IsLineReadAs s.line_ending (printed_text e s first (pair key value)) (pair key value)
 pair-line e s first key value g some h k =
     let front = printed_key e s.ascii_only first key in
-    let back = printed_characters e s.ascii_only in_key_or_value value in
+    let back = written_value e s value in
     record {
       text = front ++ (s.kv_separator ++ back);
       whole = ap (λ v. front ++ v) (sym (append_assoc s.kv_separator back (line_ending_text s.line_ending))) ∙ sym (append_assoc front (s.kv_separator ++ back) (line_ending_text s.line_ending));
-      read = pair-read front back s.kv_separator key value (key-printed e s.ascii_only first key (recursion_from_All scalar key h))
-          (texts-printed e s.ascii_only value (recursion_from_All scalar value k)) g.separator some;
+      read = pair-written e s first key value g some h k;
     }
 
 -- ---- all lines
@@ -142,6 +156,7 @@ settings_after_call-good s (prefix_call prefix) g h = prefix-good s prefix (is_g
 settings_after_call-good s (separator_call separator) g h = separator-good s separator (is_good_separator separator) refl g
 settings_after_call-good s (ending_call line_ending) g h = record { prefix = g.prefix; scalars = g.scalars; separator = g.separator }
 settings_after_call-good s (ascii_only_call on) g h = record { prefix = g.prefix; scalars = g.scalars; separator = g.separator }
+settings_after_call-good s (readable_call on) g h = record { prefix = g.prefix; scalars = g.scalars; separator = g.separator }
 settings_after_call-good s call g h = g
 
 -- ---- calls
@@ -175,3 +190,5 @@ text-read e m s n (ending_call line_ending ∷ calls) g c h =
 text-read e m s n (flush_call ∷ calls) g c h = text-read e m s n calls g c h.1
 text-read e m s n (ascii_only_call on ∷ calls) g c h =
     text-read e m (settings_after_call s (ascii_only_call on)) n calls (settings_after_call-good s (ascii_only_call on) g h.0) c h.1
+text-read e m s n (readable_call on ∷ calls) g c h =
+    text-read e m (settings_after_call s (readable_call on)) n calls (settings_after_call-good s (readable_call on) g h.0) c h.1

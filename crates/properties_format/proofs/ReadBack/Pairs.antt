@@ -24,6 +24,7 @@ use Rattle.properties_format.proofs.Settings.Tests.{is_blanks-from}
 use Rattle.properties_format.proofs.ReadBack.Spellings.{unicode-printed}
 use Rattle.properties_format.proofs.ReadBack.Texts.{AreSafe, AreSafelyPrinted, printed-cons, texts-printed, printed-means, printed-plain, printed-closed, are_safe-key, BeginsFull, safe-begins}
 use Rattle.properties_format.proofs.ReadBack.Texts.{are_safe-begin}
+use Rattle.properties_format.proofs.ReadBack.Values.{AreLooselyPrinted, loose-means, loosely-plain, loosely-closed, BeginsAfter}
 
 -- What a line's text is read as, if it is a line of its own.
 pub record IsReadAs (text : List ℕ) (content : Content) : Type 0 where
@@ -138,4 +139,43 @@ pair-read k v sep key value ks vs g some =
           ∙ split-pair ks.spellings vs.spellings sep ks.safe vs.safe g (λ e. some (sym ks.characters ∙ ap (λ x. map spelling_character x) e))
           ∙ ap₂ (λ x y. Logical.pair x y) (sym ks.text) (sym vs.text))
           ∙ ap₂ pair_outcome (printed-means k key ks) (printed-means v value vs);
+    }
+
+-- ---- a value as people write it
+
+-- A good separator may separate a key from a value that begins in this way.
+pub good-between : (sep value : List ℕ) → IsGoodSeparator sep → BeginsAfter (is_blanks sep) value → IsBetween sep value
+good-between sep value (inl g) b = separator g.before g.sign g.after g.division g.blank_before g.signed g.blank_after b.no_blank
+good-between sep value (inr g) b = blanks g.some g.blank b.no_blank (b.no_separator (is_blanks-from sep g.blank))
+
+-- A key of safe spellings and a value that may follow the separator, around a good separator, which isn't blanks only if
+-- the key is empty.
+split-loosely : (ks : List Spelling) (sep v : List ℕ) → AreSafe ks → BeginsAfter (is_blanks sep) v → IsGoodSeparator sep → (ks ≡ [] → is_blanks sep ≡ false)
+    → split_of (spellings_before ks [] ++ (sep ++ v)) ≡ Logical.pair (spellings_before ks []) v
+split-loosely [] sep v k b (inl g) some =
+    ap (λ x. split_of (x ++ v)) g.division
+    ∙ ap split_of (append_assoc g.before (g.sign ∷ g.after) v)
+    ∙ split_of-empty_key g.before g.sign g.after v g.blank_before g.signed g.blank_after b.no_blank
+split-loosely [] sep v k b (inr g) some = let a = some refl in let m = is_blanks-from sep g.blank in absurd (cc)
+split-loosely (p ∷ ps) sep v k b g some =
+    let f = some-after p ps (sep ++ v) k in
+    split_of-pair [] (spellings_before (p ∷ ps) []) sep v tt (append-some (spellings_before (p ∷ ps) []) sep v (separator-some sep g))
+    f.no_blank f.no_sign (are_safe-key (p ∷ ps) (sep ++ v) k) (good-between sep v g b)
+
+-- A key that is safely spelt and a value that is loosely spelt, around a good separator that it may follow, and which
+-- isn't blanks only if the key is empty.
+pub pair-read_loosely : (k v sep key value : List ℕ) → AreSafelyPrinted k key → AreLooselyPrinted v value → BeginsAfter (is_blanks sep) v
+    → IsGoodSeparator sep → (key ≡ [] → is_blanks sep ≡ false) → IsReadAs (k ++ (sep ++ v)) (pair key value)
+pair-read_loosely k v sep key value ks vs b g some =
+    let q = separator-quiet sep g in
+    record {
+      some = append-some k sep v (separator-some sep g);
+      plain = plain-append k (sep ++ v) (printed-plain k key ks) (plain-append sep v q.plain (loosely-plain v value vs));
+      alone = inr (closed-after k sep v q.slashes (separator-some sep g) (loosely-closed [] v value vs refl));
+      outcome =
+          ap split_outcome
+          (ap (λ x. split_of (x ++ (sep ++ v))) ks.text
+          ∙ split-loosely ks.spellings sep v ks.safe b g (λ e. some (sym ks.characters ∙ ap (λ x. map spelling_character x) e))
+          ∙ ap (λ x. Logical.pair x v) (sym ks.text))
+          ∙ ap₂ pair_outcome (printed-means k key ks) (loose-means v value vs);
     }

@@ -2,13 +2,13 @@
 use Rattle.std.proofs.Common.{◌≡◌, ℕ, ◌<◌, ◌&&◌, not, Bool, true, false, if◌then◌else◌, List, [], ◌∷◌, ◌++◌, refl, ap, ◌∙◌, append_assoc, arith, lit<}
 use Rattle.std.specs.Prelude.{nat_lt, Some, None}
 use Rattle.std.proofs.lemmas.Bool.{cond_both}
-use Rattle.properties_format.specs.Text.{backslash, is_blanks, is_comment_sign}
+use Rattle.properties_format.specs.Text.{backslash, is_blanks, is_comment_sign, is_empty}
 use Rattle.properties_format.specs.Encoding.{Encoding, begins_like_bom}
 use Rattle.properties_format.specs.Split.{AreBlanks}
 use Rattle.properties_format.specs.Entries.{Content, comment, pair}
 use Rattle.properties_format.specs.Settings.{Settings, IsGoodPrefix, IsGoodSeparator}
 use Rattle.properties_format.specs.Printing.{in_key_or_value, in_prefix, unit_escape, unicode_escape, printed_characters, encoded_text, is_bom_like, with_first_escaped, printed_key, printed_text}
-use Rattle.properties_format.specs.Writing.{Call, comment_call, pair_call, prefix_call, separator_call, ending_call, flush_call, ascii_only_call, is_empty, settings_after_call, lines_with, AreOfScalars, AreGoodSettings}
+use Rattle.properties_format.specs.Writing.{Call, comment_call, pair_call, prefix_call, separator_call, ending_call, flush_call, ascii_only_call, readable_call, settings_after_call, lines_with, AreOfScalars, AreGoodSettings}
 use Rattle.properties_format.proofs.Printing.Characters.{encoded-ascii, encoded_text-append, blank-ascii, good_separator-ascii}
 use Rattle.properties_format.proofs.ReadBack.Pairs.{separator-some}
 use Rattle.properties_format.proofs.ReadBack.Comments.{prefix-printed, sign-ascii}
@@ -107,3 +107,5 @@ wrote_text-unmarked e s (ending_call line_ending ∷ calls) g h =
 wrote_text-unmarked e s (flush_call ∷ calls) g h = wrote_text-unmarked e s calls g h.1
 wrote_text-unmarked e s (ascii_only_call on ∷ calls) g h =
     wrote_text-unmarked e (settings_after_call s (ascii_only_call on)) calls (settings_after_call-good s (ascii_only_call on) g h.0) h.1
+wrote_text-unmarked e s (readable_call on ∷ calls) g h =
+    wrote_text-unmarked e (settings_after_call s (readable_call on)) calls (settings_after_call-good s (readable_call on) g h.0) h.1

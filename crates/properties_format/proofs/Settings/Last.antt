@@ -4,7 +4,7 @@ use Rattle.std.specs.Prelude.{Option, Some, None, unwrap_or, if◌then◌else◌
 use Rattle.properties_format.specs.Text.{LineEnding}
 use Rattle.properties_format.specs.Settings.{Settings}
 use Rattle.properties_format.specs.Computed.Settings.{is_good_prefix, is_good_separator}
-use Rattle.properties_format.specs.Writing.{Call, prefix_call, separator_call, ending_call, ascii_only_call, settings_after_call, settings_after}
+use Rattle.properties_format.specs.Writing.{Call, prefix_call, separator_call, ending_call, ascii_only_call, readable_call, settings_after_call, settings_after}
 
 -- the second value if there is one, otherwise the first
 abbrev pub later : {A : Type 0} → Option A → Option A → Option A
@@ -16,7 +16,7 @@ abbrev pub last_given : {A : Type 0} → (Call → Option A) → List Call → O
 last_given given [] = None
 last_given given (call ∷ calls) = later (given call) (last_given given calls)
 
--- the prefix, the separator, the line ending and the ASCII-only mode that a call sets, if it is accepted
+-- the prefix, the separator, the line ending and the ASCII-only and readable modes that a call sets, if it is accepted
 abbrev pub prefix_of : Call → Option (List ℕ)
 prefix_of (prefix_call prefix) = if is_good_prefix prefix then Some prefix else None
 prefix_of call = None
@@ -33,23 +33,27 @@ abbrev pub ascii_only_of : Call → Option Bool
 ascii_only_of (ascii_only_call on) = Some on
 ascii_only_of call = None
 
+abbrev pub readable_of : Call → Option Bool
+readable_of (readable_call on) = Some on
+readable_of call = None
+
 -- ---- after one call
 
 -- A prefix is set if it is accepted, and every other setting is unchanged.
 after-prefix : (s : Settings) (prefix : List ℕ) (b : Bool)
     → let t : Settings = if b then record s { comment_prefix = prefix } else s in
     (t.comment_prefix ≡ unwrap_or (if b then Some prefix else None) s.comment_prefix) × (t.kv_separator ≡ s.kv_separator)
-    × (t.line_ending ≡ s.line_ending) × (t.ascii_only ≡ s.ascii_only)
-after-prefix s prefix true = (refl, refl, refl, refl)
-after-prefix s prefix false = (refl, refl, refl, refl)
+    × (t.line_ending ≡ s.line_ending) × (t.ascii_only ≡ s.ascii_only) × (t.readable ≡ s.readable)
+after-prefix s prefix true = (refl, refl, refl, refl, refl)
+after-prefix s prefix false = (refl, refl, refl, refl, refl)
 
 -- A separator is set if it is accepted, and every other setting is unchanged.
 after-separator : (s : Settings) (separator : List ℕ) (b : Bool)
     → let t : Settings = if b then record s { kv_separator = separator } else s in
     (t.kv_separator ≡ unwrap_or (if b then Some separator else None) s.kv_separator) × (t.comment_prefix ≡ s.comment_prefix)
-    × (t.line_ending ≡ s.line_ending) × (t.ascii_only ≡ s.ascii_only)
-after-separator s separator true = (refl, refl, refl, refl)
-after-separator s separator false = (refl, refl, refl, refl)
+    × (t.line_ending ≡ s.line_ending) × (t.ascii_only ≡ s.ascii_only) × (t.readable ≡ s.readable)
+after-separator s separator true = (refl, refl, refl, refl, refl)
+after-separator s separator false = (refl, refl, refl, refl, refl)
 
 -- The prefix after a call is the one that it sets, or else the one before it.
 prefix-after_call : (s : Settings) (call : Call) → (settings_after_call s call).comment_prefix ≡ unwrap_or (prefix_of call) s.comment_prefix
@@ -74,6 +78,12 @@ ascii_only-after_call : (s : Settings) (call : Call) → (settings_after_call s 
 ascii_only-after_call s (prefix_call prefix) = (after-prefix s prefix (is_good_prefix prefix)).3
 ascii_only-after_call s (separator_call separator) = (after-separator s separator (is_good_separator separator)).3
 ascii_only-after_call s call = refl
+
+-- The readable mode after a call is the one that it sets, or else the one before it.
+readable-after_call : (s : Settings) (call : Call) → (settings_after_call s call).readable ≡ unwrap_or (readable_of call) s.readable
+readable-after_call s (prefix_call prefix) = (after-prefix s prefix (is_good_prefix prefix)).4
+readable-after_call s (separator_call separator) = (after-separator s separator (is_good_separator separator)).4
+readable-after_call s call = refl
 
 -- ---- after a list of calls
 
@@ -105,3 +115,7 @@ ending-after = after-calls (λ s. s.line_ending) ending_of ending-after_call
 -- The ASCII-only mode is the last one that was set, or else the initial one.
 pub ascii_only-after : (s : Settings) (calls : List Call) → (settings_after s calls).ascii_only ≡ unwrap_or (last_given ascii_only_of calls) s.ascii_only
 ascii_only-after = after-calls (λ s. s.ascii_only) ascii_only_of ascii_only-after_call
+
+-- The readable mode is the last one that was set, or else the initial one.
+pub readable-after : (s : Settings) (calls : List Call) → (settings_after s calls).readable ≡ unwrap_or (last_given readable_of calls) s.readable
+readable-after = after-calls (λ s. s.readable) readable_of readable-after_call

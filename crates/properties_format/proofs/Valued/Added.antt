@@ -13,7 +13,7 @@ use Rattle.properties_format.specs.Computed.Body.{held_of}
 use Rattle.properties_format.specs.Valued.{ending_among}
 use Rattle.properties_format.proofs.Body.Decoded.{decoded-nil}
 use Rattle.properties_format.proofs.Body.Groups.{IsLastFit}
-use Rattle.properties_format.proofs.Edited.Outcomes.{outcome-empty}
+use Rattle.properties_format.proofs.Edited.Fronts.{outcome-empty}
 use Rattle.properties_format.proofs.Valued.Lined.{last_by}
 
 -- a line without bytes, with this line ending

@@ -3,25 +3,23 @@
 use Rattle.std.proofs.Common.{◌≡◌, ◌≢◌, ℕ, true, false, List, [], ◌∷◌, ◌++◌, Option, Some, None, refl, ap, ap₂, sym, ◌∙◌, inl, inr, append_assoc, append-nil, subst, Bool}
 use Rattle.std.specs.Prelude.{All}
 use Rattle.std.proofs.lemmas.Bool.{cases_Bool, cond-true, cond-false}
-use Rattle.properties_format.specs.Text.{scalar, LineEnding, lf, line_ending_text, is_blanks}
+use Rattle.properties_format.specs.Text.{scalar, LineEnding, lf, line_ending_text, is_blanks, is_empty}
 use Rattle.properties_format.specs.Encoding.{Encoding}
 use Rattle.properties_format.specs.Groups.{joined}
-use Rattle.properties_format.specs.Entries.{Content, pair}
+use Rattle.properties_format.specs.Entries.{pair}
 use Rattle.properties_format.specs.Items.{given}
-use Rattle.properties_format.specs.Printing.{encoded_text, printed_key}
-use Rattle.properties_format.specs.Writing.{is_empty}
+use Rattle.properties_format.specs.Printing.{encoded_text, printed_key, printed_value}
 use Rattle.properties_format.specs.Body.{HeldLine, as_lines, as_groups, held_in, AreGroupsOf, group_bytes, groups_bytes, ending_bytes, last_ending, NoneHasKey}
 use Rattle.properties_format.specs.Edited.{final_group, is_editable}
-use Rattle.properties_format.specs.Changed.{IsSetIn}
-use Rattle.properties_format.specs.Valued.{printed_value, value_text, HasPair, IsThere, IsRevalued, ending_among, ending_in, separation_by, IsBodyValued}
+use Rattle.properties_format.specs.Valued.{value_text, HasPair, IsThere, IsRevalued, ending_among, ending_in, separation_by, IsBodyValued}
 use Rattle.properties_format.specs.Computed.Body.{held_groups_of}
 use Rattle.properties_format.specs.Computed.Edited.{KeyPlace, last_place}
 use Rattle.properties_format.specs.Computed.Valued.{last_between, separator_by, has_value, revalued_at, added_at, valued_at}
 use Rattle.properties_format.proofs.Items.Unique.{outcome_of-only}
 use Rattle.properties_format.proofs.Printing.Characters.{encoded_text-append}
 use Rattle.properties_format.proofs.Body.Groups.{IsLastFit, AreFit, group_bytes-append, groups_bytes-append, held-body, held_groups_of-meets}
-use Rattle.properties_format.proofs.Edited.Outcomes.{outcomes_of, givens}
-use Rattle.properties_format.proofs.Edited.Contents.{none-hold, HaveContents, pair-outcomes}
+use Rattle.properties_format.proofs.Edited.Fronts.{logical_lines}
+use Rattle.properties_format.proofs.Edited.LogicalLines.{pair-lines, none-lines}
 use Rattle.properties_format.proofs.Edited.Made.{last_place-none, last_place-some}
 use Rattle.properties_format.proofs.Valued.Fronts.{front_of-only}
 use Rattle.properties_format.proofs.Valued.Made.{group-decoded, has_value-true, new_separator-meets, valued-only}
@@ -30,8 +28,9 @@ use Rattle.properties_format.proofs.Valued.Lined.{fit-parts, fit-first, changed-
 use Rattle.properties_format.proofs.Valued.Revalued.{between_after, value_after, missing}
 use Rattle.properties_format.proofs.Valued.Pair.{after-bytes, new_bytes, new_line, changed-pair}
 use Rattle.properties_format.proofs.Valued.Separators.{added_bytes, added_line, added-pair, new_separator-fit}
-use Rattle.properties_format.proofs.Edited.AppendedPair.{appended_groups, appended-held, appended-outcomes, empty-other}
+use Rattle.properties_format.proofs.Edited.AppendedPair.{appended_groups, appended-held, appended-lines, empty-other}
 use Rattle.properties_format.proofs.Edited.Closed.{closed-by, value-seam}
+use Rattle.properties_format.specs.LogicalLines.{AreLinesSet}
 use Rattle.properties_format.proofs.Edited.Steps.{final_group-push, last_ending-push}
 use Rattle.properties_format.proofs.Valued.Added.{empty_line}
 
@@ -42,12 +41,12 @@ abbrev pub IsNotAt : List ℕ → Option KeyPlace → Type 0
 IsNotAt value None = Unit {0}
 IsNotAt value (Some p) = has_value value p.group ≡ false
 
--- What holds for a body with a value set: its groups, their outcomes, the place of the pair, and the result of setting
--- another value.
+-- What holds for a body with a value set: its groups, their logical lines, the place of the pair, and the result of
+-- setting another value.
 pub record IsValued (e : Encoding) (only : Bool) (gs : List (List HeldLine)) (key value body : List ℕ) : Type 0 where
   pub groups : List (List HeldLine)
   pub held : AreGroupsOf e body groups
-  pub contents_set : (old : List Content) → outcomes_of (as_groups gs) ≡ givens old → HaveContents groups (IsSetIn key value old)
+  pub lines_set : AreLinesSet key value (logical_lines (as_groups gs)) (logical_lines (as_groups groups))
   pub again : (second : List ℕ) → IsNotAt second (last_place key gs) → valued_at e only groups key second (last_place key groups) ≡ valued_at e only gs key second (last_place key gs)
 
 -- A group that is a pair has exactly one value.
@@ -78,9 +77,8 @@ there-valued : (e : Encoding) (only : Bool) (gs : List (List HeldLine)) (key val
 there-valued e only gs key value body ok l h = record {
   groups = gs;
   held = subst (λ v. AreGroupsOf e v gs) (sym h.bytes) (lined-groups e gs ok l);
-  contents_set = λ old t.
-      subst (λ v. HaveContents v (IsSetIn key value old)) (sym h.division)
-      (pair-outcomes h.before h.group h.group h.after key value old (value, h.has_pair) h.no_later h.has_pair (ap (λ v. outcomes_of (as_groups v)) (sym h.division) ∙ t));
+  lines_set = subst (λ v. AreLinesSet key value (logical_lines (as_groups v)) (logical_lines (as_groups v))) (sym h.division)
+      (pair-lines h.before h.group h.group h.after key value (value, h.has_pair) h.no_later h.has_pair);
   again = λ second k. refl;
 }
 
@@ -125,7 +123,8 @@ revalued-valued e only source_body gs key value body ok v held r =
     record {
       groups = groups;
       held = next_held;
-      contents_set = λ old t. pair-outcomes r.before r.group g r.after key value old r.has_key r.no_later c.has_pair (ap (λ w. outcomes_of (as_groups w)) (sym r.division) ∙ t);
+      lines_set = subst (λ w. AreLinesSet key value (logical_lines (as_groups w)) (logical_lines (as_groups groups))) (sym r.division)
+          (pair-lines r.before r.group g r.after key value r.has_key r.no_later c.has_pair);
       again = λ second k.
           let place : last_place key gs ≡ Some (record { before = r.before; group = r.group; after = r.after }) =
           ap (last_place key) r.division ∙ last_place-some key r.before r.group r.after r.has_key r.no_later in
@@ -146,7 +145,7 @@ revalued-valued e only source_body gs key value body ok v held r =
 -- ---- a new pair
 
 -- A new pair after a front, with the same text between key and value.
-added-text : (e : Encoding) (only : Bool) (between sep value : List ℕ) → between ≢ [] → is_blanks between ≡ is_blanks sep → value_text e only between value ≡ printed_value e only (is_blanks sep) value
+pub added-text : (e : Encoding) (only : Bool) (between sep value : List ℕ) → between ≢ [] → is_blanks between ≡ is_blanks sep → value_text e only between value ≡ printed_value e only (is_blanks sep) value
 added-text e only [] sep value some same = absurd (some refl)
 added-text e only (c ∷ cs) sep value some same = ap (λ b. printed_value e only b value) same
 
@@ -178,11 +177,7 @@ added-valued e only source_body gs key value body ok k v held none s =
     record {
       groups = groups;
       held = next_held;
-      contents_set = λ old t. (
-        old ++ pair key value ∷ [],
-        inr (none-hold key gs old none t, refl),
-        appended-outcomes e by by gs key value pb ok c p.plain p.some p.whole said old t,
-      );
+      lines_set = appended-lines e by by gs key value pb ok c p.plain p.some p.whole said (none-lines key gs none);
       again = λ second no.
           again-at e only groups (c.before ++ c.left) g ((empty_line e None ∷ []) ∷ []) key value second body refl p.has_pair (empty-other e key, tt) bytes made s
           (ap₂ (λ x b. groups_bytes (c.before ++ c.left) ++ (x ++ (encoded_text e (value_text e only b second) ++ (line_ending_text by ++ [])))) (sym new_front.1) (sym new_front.0)

@@ -24,12 +24,12 @@ use Rattle.properties_format.proofs.Body.Groups.{held_groups_of-meets, held-body
 use Rattle.properties_format.proofs.Body.Numbers.{items_of-groups}
 use Rattle.properties_format.proofs.Edited.Made.{IsPlace, last_place-meets}
 use Rattle.properties_format.proofs.Edited.ByteOrderMarks.{source-whole}
-use Rattle.properties_format.proofs.Changed.Laws.{IsReadable}
+use Rattle.properties_format.proofs.Changed.Laws.{IsReadable, value_set-contents}
 use Rattle.properties_format.proofs.Changed.Read.{readable}
 use Rattle.properties_format.proofs.EditLaws.{result-made, same-results, maps-differ, set-differs}
 use Rattle.properties_format.proofs.Valued.Made.{HasPair-test, value_set-only, set_value_result-meets, set_value_result-only}
 use Rattle.properties_format.proofs.Valued.Groups.{IsNotAt, one-value}
-use Rattle.properties_format.proofs.Valued.Read.{value_set-contents, set_value-reads, value_set-again}
+use Rattle.properties_format.proofs.Valued.Read.{set_value-reads, value_set-again}
 
 -- ---- the value of a key in a source
 

@@ -3,10 +3,10 @@
 use Rattle.std.proofs.Common.{◌≡◌, ◌<◌, ℕ, true, false, List, [], ◌∷◌, ◌++◌, ap, sym, ◌∙◌, inl, inr, append_assoc, append-nil, Bool, arith}
 use Rattle.properties_format.specs.Text.{LineEnding, lf, line_ending_text, is_blanks}
 use Rattle.properties_format.specs.Encoding.{Encoding, byte_order_mark, begins_like_bom}
-use Rattle.properties_format.specs.Printing.{encoded_text, printed_key}
+use Rattle.properties_format.specs.Printing.{encoded_text, printed_key, printed_value}
 use Rattle.properties_format.specs.Body.{HeldLine, held_in, ending_bytes, group_bytes, groups_bytes, last_ending}
 use Rattle.properties_format.specs.Edited.{is_editable}
-use Rattle.properties_format.specs.Valued.{new_pair_bytes, printed_value, value_text, IsFrontOf, IsRevalued, ending_among, IsNewSeparator, IsValueSet}
+use Rattle.properties_format.specs.Valued.{new_pair_bytes, value_text, IsFrontOf, IsRevalued, ending_among, IsNewSeparator, IsValueSet}
 use Rattle.properties_format.proofs.Cut.Byline.{decoded_line-only}
 use Rattle.properties_format.proofs.Printing.Characters.{encoded-ascii}
 use Rattle.properties_format.proofs.ReadBack.Unmarked.{pair-unmarked}

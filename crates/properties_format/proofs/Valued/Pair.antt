@@ -22,12 +22,12 @@ use Rattle.properties_format.proofs.Split.Laws.{split-unique}
 use Rattle.properties_format.proofs.Cut.Byline.{decoded_line-meets, decoded_line-only}
 use Rattle.properties_format.proofs.Escapes.Unique.{meaning_of-meets}
 use Rattle.properties_format.proofs.Printing.Characters.{encoded-ascii, encoded_text-append}
-use Rattle.properties_format.proofs.ReadBack.Bytes.{AreWritable}
+use Rattle.properties_format.proofs.ReadBack.Bytes.{AreWritable, value-writable}
 use Rattle.properties_format.proofs.Body.Decoded.{decoded-nil, plain-bytes}
 use Rattle.properties_format.proofs.Body.Groups.{IsLastFit}
 use Rattle.properties_format.proofs.Valued.Heads.{ascii-among}
 use Rattle.properties_format.proofs.Valued.Fronts.{open-past, open-indent, joined_by, is_first_after, front-unmarked, front-text}
-use Rattle.properties_format.proofs.Valued.Texts.{value-loose, loose-means, loosely-plain, loosely-closed, value-begins, value-writable}
+use Rattle.properties_format.proofs.ReadBack.Values.{value-loose, loose-means, loosely-plain, loosely-closed, value-begins}
 use Rattle.properties_format.proofs.Valued.Revalued.{open-closed, added-closed, between_after, value_after, missing, value_text-parts}
 use Rattle.properties_format.proofs.Valued.Revalued.{between_after-parts, pair-anew, longer-joined, longer-whole, text-own, after-front}
 use Rattle.properties_format.proofs.Encodings.PieceEnds.{no-front}

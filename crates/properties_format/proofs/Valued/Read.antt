@@ -14,9 +14,8 @@ use Rattle.properties_format.specs.Computed.Edited.{last_place}
 use Rattle.properties_format.specs.Computed.Parts.{unended_bytes}
 use Rattle.properties_format.specs.Computed.Valued.{front_of, between_of, valued_at, value_set}
 use Rattle.properties_format.proofs.Body.Groups.{held_groups_of-only, held-body, groups_bytes-append}
-use Rattle.properties_format.proofs.Edited.Contents.{groups-come}
 use Rattle.properties_format.proofs.Edited.ByteOrderMarks.{source-whole}
-use Rattle.properties_format.proofs.Changed.Laws.{IsReadable, source_contents, IsReadTo, read-to, groups-contents}
+use Rattle.properties_format.proofs.Changed.Laws.{value_set-contents}
 use Rattle.properties_format.proofs.Changed.Read.{readable, reads-after}
 use Rattle.properties_format.proofs.Changed.Maps.{map-edited}
 use Rattle.properties_format.proofs.Changed.Occur.{all-kept, occur-after, occur-alone, others-kept}
@@ -35,19 +34,6 @@ valued-body : (e : Encoding) (only : Bool) (source key value result : List ℕ) 
     → IsValued (byte_order_mark e source).encoding only h.groups key value h.body
 valued-body e only source key value result ok k v h =
     let f = byte_order_mark e source in body-valued f.encoding only f.body h.groups key value h.body ok k v h.held h.edited
-
--- After a value is set, the last pair with the key has it, or there is a new last pair if none has the key. All other
--- contents are unchanged.
-pub value_set-contents : (e : Encoding) (only : Bool) (source key value result : List ℕ) → IsReadable e source → All scalar key → All scalar value
-    → IsValueSet e only source key value result
-    → IsReadTo e result (IsSetIn key value (source_contents e source))
-value_set-contents e only source key value result r k v h =
-    let f = byte_order_mark e source in
-    let m = valued-body e only source key value result r.editable k v h in
-    let t = m.contents_set (source_contents e source) (groups-contents e source h.groups r h.held) in
-    read-to e result (record { encoding = f.encoding; body = h.body }) (IsSetIn key value (source_contents e source)) r.editable
-    (value_set-in_force e only source key value result r.editable h)
-    (groups-come f.encoding h.body (IsSetIn key value (source_contents e source)) m.groups r.editable m.held t)
 
 -- The result of setting a value reads as the source with that value.
 pub set_value-reads : (e : Encoding) (only : Bool) (source key value result : List ℕ) → All scalar key → All scalar value → IsSetValueResult e only source key value (edited result)

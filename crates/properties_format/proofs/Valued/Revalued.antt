@@ -9,10 +9,11 @@ use Rattle.properties_format.specs.Computed.Cut.{decoded_line}
 use Rattle.properties_format.specs.Groups.{is_open, is_comment_line, EndsClosed, AreOpen, IsWhole, joined}
 use Rattle.properties_format.specs.Split.{AreBlanks, begins, ends, KeyUnit, plain, escaped, last, units_before, AreUnits, IsKey, IsBetween, nothing, blanks, separator, IsPair}
 use Rattle.properties_format.specs.Computed.Split.{ends_key}
-use Rattle.properties_format.specs.Printing.{encoded_text}
+use Rattle.properties_format.specs.Printing.{encoded_text, printed_value}
 use Rattle.properties_format.specs.Body.{HeldLine, as_lines}
 use Rattle.properties_format.specs.Edited.{is_editable}
-use Rattle.properties_format.specs.Valued.{printed_value, value_text, IsFrontOf}
+use Rattle.properties_format.proofs.ReadBack.Values.{BeginsAfter}
+use Rattle.properties_format.specs.Valued.{value_text, IsFrontOf}
 use Rattle.properties_format.specs.Computed.Valued.{without_indent, added_by}
 use Rattle.properties_format.proofs.Groups.Open.{is_open-backslash, is_open-other, is_open-after, without_open_backslash-closed}
 use Rattle.properties_format.proofs.Groups.Joined.{joined-closed}
@@ -26,7 +27,6 @@ use Rattle.properties_format.proofs.Edited.Pair.{alone-whole, editable-own}
 use Rattle.properties_format.proofs.Valued.Heads.{ascii-end, ascii-among}
 use Rattle.properties_format.proofs.Valued.Fronts.{indented, open-indent, indent-head, shut-closed, joined_by, joined-by, is_first_after, joined_by-append}
 use Rattle.properties_format.proofs.Valued.Fronts.{right-some, ends-last, ends-right, ends_key-ascii, between-end, front-text, pair-some}
-use Rattle.properties_format.proofs.Valued.Texts.{BeginsAfter}
 use Rattle.properties_format.proofs.Encodings.PieceEnds.{no-front, none-right}
 
 -- ---- whether two texts together are open

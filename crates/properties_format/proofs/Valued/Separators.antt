@@ -3,7 +3,7 @@ use Rattle.std.proofs.Common.{◌≡◌, ◌≢◌, ℕ, ◌&&◌, Bool, true, f
 use Rattle.std.specs.Prelude.{All}
 use Rattle.std.proofs.lemmas.Bool.{cases_Bool, cond_both}
 use Rattle.std.proofs.lemmas.List.Elements.{recursion_from_All}
-use Rattle.properties_format.specs.Text.{scalar, equals_sign, LineEnding, is_blank, is_blanks, is_separator}
+use Rattle.properties_format.specs.Text.{scalar, equals_sign, LineEnding, is_blank, is_blanks, is_separator, is_empty}
 use Rattle.properties_format.specs.Encoding.{Encoding}
 use Rattle.properties_format.specs.Lines.{HoldsNoLineEnd}
 use Rattle.properties_format.specs.Cut.{IsDecodedLine}
@@ -12,11 +12,11 @@ use Rattle.properties_format.specs.Groups.{is_open, IsWhole, joined}
 use Rattle.properties_format.specs.Split.{AreBlanks, IsBetween, nothing, blanks, separator, IsPair}
 use Rattle.properties_format.specs.Escapes.{Spelling, spelling_text, spelling_character, spellings_before}
 use Rattle.properties_format.specs.Settings.{IsGoodSeparator}
-use Rattle.properties_format.specs.Printing.{printed_key, encoded_text}
-use Rattle.properties_format.specs.Writing.{is_empty}
+use Rattle.properties_format.specs.Printing.{printed_key, encoded_text, printed_value}
+use Rattle.properties_format.proofs.ReadBack.Values.{BeginsAfter, value-loose, loose-means, loosely-plain, loosely-closed, value-begins}
 use Rattle.properties_format.specs.Body.{HeldLine, as_lines}
 use Rattle.properties_format.specs.Edited.{is_editable}
-use Rattle.properties_format.specs.Valued.{printed_value, shortened_after, separator_after, IsNewSeparator, IsFrontOf, HasPair}
+use Rattle.properties_format.specs.Valued.{shortened_after, separator_after, IsNewSeparator, IsFrontOf, HasPair}
 use Rattle.properties_format.proofs.Lines.Plain.{plain-append}
 use Rattle.properties_format.proofs.Groups.Joined.{joined-closed}
 use Rattle.properties_format.proofs.Split.Unique.{separator-full}
@@ -26,12 +26,11 @@ use Rattle.properties_format.proofs.Escapes.Unique.{meaning_of-meets}
 use Rattle.properties_format.proofs.Cut.Byline.{decoded_line-meets}
 use Rattle.properties_format.proofs.Printing.Characters.{encoded_text-append, good_separator-ascii, printed_key-encodable}
 use Rattle.properties_format.proofs.ReadBack.Texts.{AreSafe, AreSafelyPrinted, printed-means, printed-plain, are_safe-key, BeginsFull, safe-begins}
-use Rattle.properties_format.proofs.ReadBack.Pairs.{key-printed, separator-some, separator-quiet, closed-after}
-use Rattle.properties_format.proofs.ReadBack.Bytes.{AreWritable, writable-append, key-scalars}
+use Rattle.properties_format.proofs.ReadBack.Pairs.{key-printed, separator-some, separator-quiet, closed-after, good-between}
+use Rattle.properties_format.proofs.ReadBack.Bytes.{AreWritable, writable-append, key-scalars, ascii-writable, value-writable}
 use Rattle.properties_format.proofs.Body.Decoded.{decoded-nil, plain-bytes}
 use Rattle.properties_format.proofs.Edited.Pair.{alone-whole}
 use Rattle.properties_format.proofs.Valued.Fronts.{pair-some}
-use Rattle.properties_format.proofs.Valued.Texts.{BeginsAfter, value-loose, loose-means, loosely-plain, loosely-closed, value-begins, ascii-writable, value-writable}
 use Rattle.properties_format.proofs.Valued.Revalued.{pair-moved, text-own}
 use Rattle.properties_format.proofs.Encodings.PieceEnds.{no-front, none-right}
 
@@ -98,11 +97,6 @@ new_separator-fit groups key sep (inl h) = subst (IsFitSeparator key) (sym h.sep
 new_separator-fit groups key sep (inr h) = subst (IsFitSeparator key) (sym h.1) (record { good = equals-good; signed = λ q. refl })
 
 -- ---- the line of a new pair
-
--- A good separator may separate a key from a value that begins in this way.
-good-between : (sep value : List ℕ) → IsGoodSeparator sep → BeginsAfter (is_blanks sep) value → IsBetween sep value
-good-between sep value (inl g) b = separator g.before g.sign g.after g.division g.blank_before g.signed g.blank_after b.no_blank
-good-between sep value (inr g) b = blanks g.some g.blank b.no_blank (b.no_separator (is_blanks-from sep g.blank))
 
 -- The line is the pair of this key and value, as they are written. Everything before the value is the key followed by
 -- the separator.
@@ -189,7 +183,7 @@ pub record IsAddedPair (e : Encoding) (only : Bool) (first : Bool) (key sep valu
   pub blanks : is_blanks between ≡ is_blanks sep
 
 -- A text that isn't empty has bytes.
-text-some : (e : Encoding) (x : List ℕ) → is_editable e ≡ true → AreWritable e x → x ≢ [] → encoded_text e x ≢ []
+pub text-some : (e : Encoding) (x : List ℕ) → is_editable e ≡ true → AreWritable e x → x ≢ [] → encoded_text e x ≢ []
 text-some e x ok w h q = h (sym (text-own e x ok w) ∙ ap (decoded_line e) q ∙ decoded-nil e)
 
 -- The group of a new pair has these properties.

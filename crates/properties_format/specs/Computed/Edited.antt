@@ -1,14 +1,13 @@
 -- The edited source, computed group by group. What is put in is printed with ASCII-only output on or off, as the flag
 -- after the encoding says.
 use Rattle.std.specs.Prelude.{ℕ, if◌then◌else◌, List, [], ◌∷◌, ◌++◌, Option, Some, None, Bool}
-use Rattle.properties_format.specs.Text.{line_feed}
+use Rattle.properties_format.specs.Text.{line_feed, is_empty}
 use Rattle.properties_format.specs.Encoding.{Encoding, InForce, byte_order_mark}
 use Rattle.properties_format.specs.Lines.{end}
 use Rattle.properties_format.specs.Entries.{Entry, item, malformed, read_fault}
 use Rattle.properties_format.specs.Groups.{joined}
 use Rattle.properties_format.specs.Items.{Outcome, ignored, given, broken}
 use Rattle.properties_format.specs.Computed.Items.{outcome_of, items_of}
-use Rattle.properties_format.specs.Writing.{is_empty}
 use Rattle.properties_format.specs.Body.{HeldLine, as_lines, ending_bytes, group_bytes, groups_bytes, last_ending}
 use Rattle.properties_format.specs.Edited.{pair_bytes, final_group, separation, bom_of, guarding_lf, EditResult, edited, unsupported, unreadable, is_editable}
 use Rattle.properties_format.specs.Computed.Body.{has_key, held_groups_of}

@@ -1,8 +1,7 @@
 -- The parts of a group, its bytes up to the last line ending and that ending, and what an editor asks of them.
 use Rattle.std.specs.Prelude.{ℕ, ◌&&◌, Bool, true, false, if◌then◌else◌, List, [], ◌∷◌, ◌++◌, Option, Some, None}
-use Rattle.properties_format.specs.Text.{LineEnding, lf, cr, crlf}
+use Rattle.properties_format.specs.Text.{LineEnding, lf, cr, crlf, is_empty}
 use Rattle.properties_format.specs.Computed.Lines.{ends_in_cr}
-use Rattle.properties_format.specs.Writing.{is_empty}
 use Rattle.properties_format.specs.Entries.{comment, pair}
 use Rattle.properties_format.specs.Items.{Outcome, ignored, given, broken}
 use Rattle.properties_format.specs.Body.{HeldLine, ending_bytes, last_ending}

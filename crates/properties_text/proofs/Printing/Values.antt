@@ -1,28 +1,26 @@
 -- What is printed for a value that is set in place: runs of characters that need no escape, and by turns one that may.
-use Rattle.std.proofs.Common.{◌≡◌, ◌≢◌, ℕ, suc, ◌+◌, ◌-◌, ◌<◌, ◌≤◌, ◌==◌, ◌&&◌, ◌||◌, Bool, true, false, not, nat_lt, List, [], ◌∷◌, ◌++◌, length, take, drop, get_or, refl, ap, sym, ◌∙◌, subst, inl, inr}
+use Rattle.std.proofs.Common.{◌≡◌, ◌≢◌, ℕ, suc, ◌-◌, ◌<◌, ◌≤◌, ◌==◌, ◌&&◌, ◌||◌, Bool, true, false, not, nat_lt, if◌then◌else◌, List, [], ◌∷◌, ◌++◌, length, take, get_or, refl, ap, sym, ◌∙◌, subst, inl, inr}
 use Rattle.std.proofs.Common.{append_assoc, append-nil, arith, le-ltb, eqb-true, ne_eqb}
 use Rattle.std.specs.Prelude.{Some, None}
 use Rattle.std.specs.List.{All}
-use Rattle.std.specs.Str.{IsUtf8, chars}
+use Rattle.std.specs.Str.{chars}
 use Rattle.std.proofs.lemmas.Str.{chars-nil}
 use Rattle.std.proofs.lemmas.Bool.{cases_Bool, cond-true, cond-false, and_right, and_parts, and_from, or_parts, or_left, or_right, false_from_ne_true}
 use Rattle.std.proofs.lemmas.Bool.Decides.{nat_tests}
-use Rattle.std.proofs.lemmas.List.{get_or-take, get_or-drop, length-take, take-append-drop}
+use Rattle.std.proofs.lemmas.List.{get_or-take, length-take}
 use Rattle.std.proofs.lemmas.List.Elements.{All-head, All-tail, All-nil, All-cons, All-from_get_or}
 use Rattle.memchr.specs.Find.{IsFirstByte}
 use Rattle.byte_blocks.specs.Classes.{is_control, is_past_ascii}
-use Rattle.properties_format.specs.Text.{space, backslash, is_separator, is_comment_sign}
+use Rattle.properties_format.specs.Text.{space, backslash, is_separator, is_comment_sign, is_empty}
 use Rattle.properties_format.specs.Encoding.{Encoding}
-use Rattle.properties_format.specs.Printing.{in_key_or_value, is_special, has_letter, unicode_escape, printed_character, encoded_text}
-use Rattle.properties_format.specs.Writing.{is_empty}
-use Rattle.properties_format.specs.Valued.{is_free, printed_inside, printed_first, printed_rest, printed_value}
+use Rattle.properties_format.specs.Printing.{in_key_or_value, is_special, has_letter, unicode_escape, printed_character, encoded_text, is_free, printed_inside, printed_first, printed_last, printed_rest, printed_value}
+use Rattle.properties_format.specs.Writing.{HoldsNoBackslash}
 use Rattle.properties_format.proofs.Printing.Characters.{encoded_text-append, encoded_text-ascii, unicode_escape-ascii}
 use Rattle.properties_text.specs.Printing.{is_first_escaped, last_run}
-use Rattle.properties_text.specs.Spelt.{IsFirst}
-use Rattle.properties_text.specs.declared.encoding.line.LineEncoding.TheVariants.{Utf8}
-use Rattle.properties_text.specs.declared.encoding.line.Spelt.{Spelt}
+use Rattle.properties_text.specs.Spelt.{text_in, IsWell}
+use Rattle.properties_text.specs.declared.encoding.line.LineEncoding.{LineEncoding}
 use Rattle.properties_text.proofs.Printing.Bytes.{ascii-printed}
-use Rattle.properties_text.proofs.Spelt.First.{ascii-first, ascii-back}
+use Rattle.properties_text.proofs.Spelt.First.{ascii-first}
 
 -- A text without bytes has no characters.
 pub none-left : (x : List ℕ) → (length x == 0) ≡ true → chars x ≡ []
@@ -45,10 +43,6 @@ plain b h =
     let p = or_parts (is_past_ascii b) (is_control b || b == 0x5c) h in
     let q = or_parts (is_control b) (b == 0x5c) p.1 in
     record { ascii = grind (arith, nat_tests, p.0); printable = grind (arith, nat_tests, q.0); other = q.1 }
-
--- What may be unescaped stops no run.
-free-plain : (c : ℕ) → is_free c ≡ true → stops c ≡ false
-free-plain c h = grind (arith, nat_tests)
 
 append-some : (xs cs : List ℕ) → cs ≢ [] → xs ++ cs ≢ []
 append-some [] cs some = some
@@ -80,7 +74,7 @@ module _ (e : Encoding) (only : Bool) where
   more-after c (d ∷ cs) some = refl
 
   -- A run before other characters is printed as it is.
-  run-before : (xs cs : List ℕ) → All (λ b. stops b ≡ false) xs → cs ≢ []
+  pub run-before : (xs cs : List ℕ) → All (λ b. stops b ≡ false) xs → cs ≢ []
       → encoded_text e (printed_rest e only (xs ++ cs)) ≡ xs ++ encoded_text e (printed_rest e only cs)
   run-before [] cs all some = refl
   run-before (x ∷ xs) cs all some =
@@ -89,19 +83,14 @@ module _ (e : Encoding) (only : Bool) where
       ∙ ap (λ v. v ++ encoded_text e (printed_rest e only (xs ++ cs))) (plain-inside x (plain x (All-head (λ b. stops b ≡ false) x xs all)))
       ∙ ap (λ v. x ∷ v) (run-before xs cs (All-tail (λ b. stops b ≡ false) x xs all) some)
 
-  -- A character that isn't free is printed as a writer prints it, at the end too.
-  stop-before : (c : ℕ) (cs : List ℕ) → is_free c ≡ false
-      → encoded_text e (printed_rest e only (c ∷ cs)) ≡ encoded_text e (printed_character e only in_key_or_value c) ++ encoded_text e (printed_rest e only cs)
-  stop-before c [] f =
-      let no_space = (or_parts (c == space) (is_separator c || is_comment_sign c) f).0 in
-      ap (encoded_text e) (cond-false (c == space) _ _ no_space ∙ cond-false (is_free c) (c ∷ []) _ f)
-      ∙ sym (append-nil (encoded_text e (printed_character e only in_key_or_value c)))
-  stop-before c (d ∷ cs) f =
-      ap (λ v. encoded_text e (v ++ printed_rest e only (d ∷ cs))) (cond-false (is_free c) (c ∷ []) (printed_character e only in_key_or_value c) f)
-      ∙ encoded_text-append e (printed_character e only in_key_or_value c) (printed_rest e only (d ∷ cs))
+  -- A character is printed as inside a value, or as at its end.
+  pub one-before : (c : ℕ) (cs : List ℕ) → encoded_text e (printed_rest e only (c ∷ cs))
+      ≡ encoded_text e (if is_empty cs then printed_last e only c else printed_inside e only c) ++ encoded_text e (printed_rest e only cs)
+  one-before c [] = sym (append-nil (encoded_text e (printed_last e only c)))
+  one-before c (d ∷ cs) = encoded_text-append e (printed_inside e only c) (printed_rest e only (d ∷ cs))
 
   -- A run at the end.
-  run-last : (bs : List ℕ) → All (λ b. stops b ≡ false) bs → encoded_text e (printed_rest e only bs) ≡ last_run bs
+  pub run-last : (bs : List ℕ) → All (λ b. stops b ≡ false) bs → encoded_text e (printed_rest e only bs) ≡ last_run bs
   run-last [] all = refl
   run-last (b ∷ []) all = elim (cases_Bool (b == space)) [
     | inl s ↦ rw s (encoded_text-ascii e (unicode_escape space) (unicode_escape-ascii space))
@@ -169,81 +158,28 @@ module _ (e : Encoding) (only : Bool) where
       ∙ append_assoc before character (encoded_text e (printed_rest e only cs))
       ∙ ap (λ v. before ++ v) (sym (first-escaped after_blanks c cs h))
 
--- ---- up to the rest
-
--- Up to the rest of its bytes, a text was printed.
-pub record IsPrintedTo (e : Encoding) (only : Bool) (before text rest line : List ℕ) : Type 0 where
-  pub utf8 : IsUtf8 rest
-  pub printed : before ++ encoded_text e (printed_rest e only text) ≡ line ++ encoded_text e (printed_rest e only (chars rest))
+-- ---- a run
 
 -- A run, and what comes after it.
-ascii-run : (xs ys : List ℕ) → All (λ b. stops b ≡ false) xs → IsUtf8 (xs ++ ys) → (chars (xs ++ ys) ≡ xs ++ chars ys) × IsUtf8 ys
-ascii-run [] ys all w = (refl, w)
-ascii-run (x ∷ xs) ys all w =
-    let first = ascii-first Utf8 x (xs ++ ys) (plain x (All-head (λ b. stops b ≡ false) x xs all)).ascii w in
-    let more = ascii-run xs ys (All-tail (λ b. stops b ≡ false) x xs all) first.well in
+pub ascii-run : (e : LineEncoding) (xs ys : List ℕ) → All (λ b. stops b ≡ false) xs → IsWell e (xs ++ ys) → (text_in e (xs ++ ys) ≡ xs ++ text_in e ys) × IsWell e ys
+ascii-run e [] ys all w = (refl, w)
+ascii-run e (x ∷ xs) ys all w =
+    let first = ascii-first e x (xs ++ ys) (plain x (All-head (λ b. stops b ≡ false) x xs all)).ascii w in
+    let more = ascii-run e xs ys (All-tail (λ b. stops b ≡ false) x xs all) first.well in
     (first.characters ∙ ap (λ v. x ∷ v) more.0, more.1)
 
--- A search found where a run stops.
-module _ (rest : List ℕ) (n : ℕ) (w : IsUtf8 rest) (found : IsFirstByte stops rest (Some n)) where
-  clear : All (λ b. stops b ≡ false) (take n rest)
-  clear = All-from_get_or (λ b. stops b ≡ false) (take n rest) 0 (λ i inside.
-      let before : i < n = omega (arith, inside, length-take n rest) in
-      subst (λ v. stops v ≡ false) (sym (get_or-take n rest i 0 before)) (false_from_ne_true (stops (get_or rest i 0)) (found.0.before i (omega arith) before)))
+-- It has no backslash.
+pub run-no_backslash : (xs : List ℕ) → All (λ b. stops b ≡ false) xs → HoldsNoBackslash xs
+run-no_backslash [] all = tt
+run-no_backslash (x ∷ xs) all =
+    ((plain x (All-head (λ b. stops b ≡ false) x xs all)).other, run-no_backslash xs (All-tail (λ b. stops b ≡ false) x xs all))
 
-  after-run : (chars rest ≡ take n rest ++ chars (drop n rest)) × IsUtf8 (drop n rest)
-  after-run =
-      let whole = take-append-drop n rest in
-      let run = ascii-run (take n rest) (drop n rest) clear (subst IsUtf8 (sym whole) w) in
-      (ap chars (sym whole) ∙ run.0, run.1)
+-- A search found where a run stops,
+pub clear-before : (rest : List ℕ) (n : ℕ) → IsFirstByte stops rest (Some n) → All (λ b. stops b ≡ false) (take n rest)
+clear-before rest n found = All-from_get_or (λ b. stops b ≡ false) (take n rest) 0 (λ i inside.
+    let before : i < n = omega (arith, inside, length-take n rest) in
+    subst (λ v. stops v ≡ false) (sym (get_or-take n rest i 0 before)) (false_from_ne_true (stops (get_or rest i 0)) (found.0.before i (omega arith) before)))
 
-  pub others-well : (others : List ℕ) → others ≡ drop n rest → IsUtf8 others
-  others-well others is = subst IsUtf8 (sym is) after-run.1
-
-  -- What stops it isn't free.
-  stop-other : (spelt : Spelt) → IsFirst Utf8 (drop n rest) spelt → is_free spelt.character ≡ false
-  stop-other spelt h = false_from_ne_true (is_free spelt.character) (λ free.
-      let clear = free-plain spelt.character free in
-      let back = ascii-back Utf8 (drop n rest) spelt.character _ after-run.1 h.characters (plain spelt.character clear).ascii in
-      let at : n ≡ n + 0 = omega arith in
-      let own : get_or rest n 0 ≡ spelt.character = ap (λ k. get_or rest k 0) at ∙ sym (get_or-drop n rest 0 0) ∙ ap (λ v. get_or v 0 0) back.1 in
-      let both : true ≡ false = sym found.1 ∙ ap stops own ∙ clear in
-      cc both)
-
-  -- A run and the character after it are printed.
-  pub run-and-stop : (e : Encoding) (only : Bool) (before text line more run others new : List ℕ) (spelt : Spelt) → IsPrintedTo e only before text rest line
-      → run ≡ take n rest → others ≡ drop n rest → more ≡ line ++ run → IsFirst Utf8 others spelt
-      → new ≡ more ++ encoded_text e (printed_character e only in_key_or_value spelt.character)
-      → IsPrintedTo e only before text (drop spelt.length others) new
-  run-and-stop e only before text line more run others new spelt held run_is others_is extended first put =
-      let stop = subst (λ v. IsFirst Utf8 v spelt) others_is first in
-      let c = spelt.character in
-      let cs = chars (drop spelt.length (drop n rest)) in
-      let character = encoded_text e (printed_character e only in_key_or_value c) in
-      let after = encoded_text e (printed_rest e only cs) in
-      record {
-        utf8 = first.well;
-        printed =
-            held.printed
-            ∙ ap (λ v. line ++ encoded_text e (printed_rest e only v)) (after-run.0 ∙ ap (λ v. take n rest ++ v) stop.characters)
-            ∙ ap (λ v. line ++ v) (run-before e only (take n rest) (c ∷ cs) clear (λ none. cc none))
-            ∙ ap (λ v. line ++ (take n rest ++ v)) (stop-before e only c cs (stop-other spelt stop))
-            ∙ sym (append_assoc line (take n rest) (character ++ after))
-            ∙ sym (append_assoc (line ++ take n rest) character after)
-            ∙ ap (λ v. (v ++ character) ++ after) (ap (λ v. line ++ v) (sym run_is) ∙ sym extended)
-            ∙ ap (λ v. v ++ after) (sym put)
-            ∙ ap (λ v. new ++ encoded_text e (printed_rest e only (chars (drop spelt.length v)))) (sym others_is);
-      }
-
--- What is left is the last run.
-pub all-printed : (e : Encoding) (only : Bool) (before text rest line new : List ℕ) → IsPrintedTo e only before text rest line → IsFirstByte stops rest None
-    → new ≡ line ++ last_run rest → new ≡ before ++ encoded_text e (printed_rest e only text)
-all-printed e only before text rest line new held none put =
-    let clear : All (λ b. stops b ≡ false) rest = All-from_get_or (λ b. stops b ≡ false) rest 0 (λ i inside.
-    false_from_ne_true (stops (get_or rest i 0)) (none i (omega arith) inside)) in
-    let run = ascii-run rest [] clear (subst IsUtf8 (sym (append-nil rest)) held.utf8) in
-    let own = ap chars (sym (append-nil rest)) ∙ run.0 ∙ ap (λ v. rest ++ v) chars-nil ∙ append-nil rest in
-    put
-    ∙ ap (λ v. line ++ v) (sym (run-last e only rest clear))
-    ∙ ap (λ v. line ++ encoded_text e (printed_rest e only v)) (sym own)
-    ∙ sym held.printed
+-- or that none does.
+pub clear-all : (rest : List ℕ) → IsFirstByte stops rest None → All (λ b. stops b ≡ false) rest
+clear-all rest none = All-from_get_or (λ b. stops b ≡ false) rest 0 (λ i inside. false_from_ne_true (stops (get_or rest i 0)) (none i (omega arith) inside))

@@ -5,9 +5,8 @@ use Rattle.std.specs.Str.{IsUtf8, chars}
 use Rattle.std.proofs.lemmas.Str.{chars-encodes, chars_past_char, encodes-chars, length-le-encodes, IsUtf8-past_char}
 use Rattle.std.proofs.lemmas.Bool.Decides.{nat_tests}
 use Rattle.std.proofs.lemmas.Bool.{cases_lt, and_parts, and_from, ne_eqb}
-use Rattle.properties_format.specs.Text.{backslash, is_blank, is_separator, is_comment_sign}
+use Rattle.properties_format.specs.Text.{backslash, is_blank, is_separator, is_comment_sign, is_empty}
 use Rattle.properties_format.specs.Computed.Split.{ends_key}
-use Rattle.properties_format.specs.Writing.{is_empty}
 use Rattle.properties_format.proofs.Encodings.Utf8Characters.{encode-one, encode-two, encode-three, encode-four}
 
 -- ---- bytes that are not ASCII

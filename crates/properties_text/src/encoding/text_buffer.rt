@@ -68,6 +68,13 @@ impl TextBuffer {
         &self.line
     }
 
+    // Takes the bytes of the text out of the buffer.
+    pub(crate) fn into_line(self) -> LineBuffer
+        ensures { result ≡ self }
+    {
+        self.line
+    }
+
     /// Keeps the first `length` bytes of the text. They must end at the end of a character.
     pub fn truncate(&mut self, length: usize)
         requires { IsCharBoundary self.old length }

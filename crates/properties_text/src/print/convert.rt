@@ -1,22 +1,22 @@
 // Converts a text: writes each of its spellings in another encoding, or in another spelling.
 
-ghost use Rattle.std.specs.Prelude.{◌≡◌, ◌≤◌, ◌<◌, ◌+◌, ◌⊎◌, ◌++◌, ◌∷◌, true, false, [], length, take, drop, get_or, OnOk, OnErr, IfOk, not, ◌==◌};
+ghost use Rattle.std.specs.Prelude.{◌≡◌, ◌≤◌, ◌<◌, ◌+◌, ◌⊎◌, ◌++◌, ◌∷◌, ℕ, true, false, [], length, take, drop, get_or, OnOk, OnErr, IfOk, not, ◌==◌};
 ghost use Rattle.properties_format.specs.Text.{backslash};
 ghost use Rattle.properties_format.specs.Escapes.{letter_u, NoSpelling};
 ghost use Rattle.properties_format.specs.Printing.{may_be_unescaped};
 ghost use Rattle.properties_text.specs.Spelt.{text_in, IsWell, IsRead};
-ghost use Rattle.properties_text.specs.Printing.{encoding_in, only_in, AppendsOnOk};
-ghost use Rattle.properties_text.specs.Converted.{converted_in, is_stop, IsCopied, IsConvertedFront, IsUnitFront};
+ghost use Rattle.properties_text.specs.Printing.{encoding_in, only_in};
+ghost use Rattle.properties_text.specs.Converted.{converted_in, is_stop, StaysUpTo, IsConvertedFront, IsUnitFront};
 
-use super::Repertoire;
 use super::text::put_literal;
+use super::{Repertoire, is_copied};
 use crate::encoding::{LineEncoding, Spelt, byte_of};
 use crate::escape::read_escape;
 use crate::line_buffer::{LineBuffer, make_room};
 use byte_blocks::{Byte, ByteClass, Either, PastAscii, find};
-use std::alloc::AllocError;
+use std::alloc::{AllocError, Global};
 
-// Where a run stops: at a backslash, and at a non-ASCII byte.
+// Where a run stops if spellings change: at a backslash, and at a non-ASCII byte.
 type Stops = Either<PastAscii, Byte<b'\\'>>;
 
 // The room for a block, or for a unit.
@@ -32,23 +32,27 @@ struct Front<'a> {
     rest: &'a [u8],
 }
 
-/// Appends a text, each of whose spellings is converted: a character that the repertoire lacks is escaped, and if
+/// Returns a text, each of whose spellings is converted: a character that the repertoire lacks is escaped, and if
 /// `readable`, the spelling of a non-ASCII character that it has becomes the character. Fails if memory runs out.
 pub fn convert_text(
-    line: &mut LineBuffer,
+    alloc: Global,
     repertoire: Repertoire,
     readable: bool,
     encoding: LineEncoding,
     text: &[u8],
-) -> Result<(), AllocError>
+) -> Result<LineBuffer, AllocError>
     requires { IsWell encoding text.now }
-    ensures { AppendsOnOk line.old (converted_in repertoire readable encoding text.now) result line.new }
+    ensures { IfOk result (λ line. line ≡ converted_in repertoire readable encoding text.now) }
 {
+    if !readable && is_copied(encoding, repertoire) {
+        return LineBuffer::from_slice(alloc, text);
+    }
+    let mut line = LineBuffer::new(alloc);
     let mut rest = text;
     while !rest.is_empty() {
-        rest = convert_front(line, repertoire, readable, encoding, rest)?;
+        rest = convert_front(&mut line, repertoire, readable, encoding, rest)?;
     }
-    Ok(())
+    Ok(line)
 }
 
 // Makes room, converts a front of the text, and returns the rest.
@@ -102,23 +106,40 @@ fn put_front<'a>(
     ensures shorter { length result.rest.now < length text.now }
     ensures converted { IsConvertedFront repertoire readable encoding out.old at text.now result.end result.rest.now out.new }
 {
-    let run = copy_run(out, at, text);
+    let run = copy_front(out, at, text, run_length(readable, text));
     put_units(out, run.end, repertoire, readable, encoding, run.rest)
 }
 
-// Copies the text up to a stop.
+// The length of the run at the front, which stays as it is: up to a stop; or if spellings are kept, up to a non-ASCII byte
+// and the backslashes before it.
 #[inline(always)]
-fn copy_run<'a>(out: &mut [u8], at: usize, text: &'a [u8]) -> Front<'a>
-    requires room { at + (length text.now + 16) ≤ length out.old }
-    ensures same_room { length out.new ≡ length out.old }
-    ensures copied { IsCopied out.old at text.now result.end result.rest.now out.new }
-    ensures stops { 0 < length result.rest.now → is_stop (get_or result.rest.now 0 0) ≡ true }
+fn run_length(readable: bool, text: &[u8]) -> usize
+    ensures within { result ≤ length text.now }
+    ensures stays { StaysUpTo readable text.now result }
+    ensures stops { result < length text.now → is_stop (get_or text.now result 0) ≡ true }
 {
-    let count = match find::<Stops>(text) {
+    if readable {
+        return first_of::<Stops>(text);
+    }
+    let past = first_of::<PastAscii>(text);
+    let mut count = past;
+    while count > 0 && text[count - 1] == b'\\' {
+        count -= 1;
+    }
+    count
+}
+
+// The index of the first byte of a class, or the length if there is none.
+#[inline(always)]
+fn first_of<C: ByteClass>(text: &[u8]) -> usize
+    ensures within { result ≤ length text.now }
+    ensures before { (k : ℕ) → k < result → C.holds (get_or text.now k 0) ≡ false }
+    ensures at { result < length text.now → C.holds (get_or text.now result 0) ≡ true }
+{
+    match find::<C>(text) {
         Some(first) => first,
         None => text.len(),
-    };
-    copy_front(out, at, text, count)
+    }
 }
 
 // Converts the units at which a run stops, as long as there is room.

@@ -2,11 +2,11 @@
 use Rattle.std.specs.Prelude.{◌≡◌, ◌⊎◌, ℕ, List, Result, Ok, Err}
 use Rattle.std.specs.Global.{Vec}
 use Rattle.properties_format.specs.Converting.{IsConverted}
-use Rattle.properties_format.specs.Edits.{IsEditAllResult}
+use Rattle.properties_format.specs.EditedPairs.{IsEditPairsResult}
 use Rattle.properties_format.specs.Encoding.{Encoding}
 use Rattle.properties_text.specs.Converted.{is_readable}
 use Rattle.properties_text.specs.Printing.{encoding_in, only_in}
-use Rattle.java_properties.specs.Editing.{AreMade, IsRefusal, edits_in}
+use Rattle.java_properties.specs.Editing.{ArePairsMade, IsRefusal, edits_in}
 use Rattle.properties_items.specs.declared.error.PropertiesError.{PropertiesError}
 use Rattle.properties_tools.specs.Propedit.Failures.{LacksMemory}
 use Rattle.properties_tools.specs.Propedit.Sources.{HasSoundBytes, HasUnsoundBytes, IsSound, IsUnsound}
@@ -22,13 +22,13 @@ use Rattle.properties_tools.specs.declared.propedit.error.Failure.TheVariants.{I
 -- The source is sound, and these are its bytes after the edits.
 pub record MakesEdits (e : Encoding) (source : List ℕ) (edits : Edits) (bytes : List ℕ) : Type 0 where
   pub sound : IsSound e source
-  pub made : AreMade e edits.ascii_only source (edits_in edits.list.items) bytes
+  pub made : ArePairsMade e edits.ascii_only source (edits_in edits.list.items) bytes
 
 -- The source is sound, but the edits aren't made: its encoding is not one that is edited, or memory ran out.
 pub record RefusesEdits (e : Encoding) (source : List ℕ) (edits : Edits) (failure : Failure) : Type 0 where
   pub sound : IsSound e source
   pub error : PropertiesError
-  pub refused : IsRefusal (IsEditAllResult e edits.ascii_only source (edits_in edits.list.items)) error
+  pub refused : IsRefusal (IsEditPairsResult e edits.ascii_only source (edits_in edits.list.items)) error
   pub is : failure ≡ Input error
 
 -- What making edits returns.

@@ -1,5 +1,5 @@
 -- What `check` reports of a source, one finding a line.
-use Rattle.std.specs.Prelude.{◌≡◌, ℕ, ◌==◌, ◌&&◌, not, Bool, if◌then◌else◌, length, List, [], ◌∷◌, ◌++◌, Option, Some, None, Result, Ok, Err, codes, map, string_bytes}
+use Rattle.std.specs.Prelude.{◌≡◌, ℕ, ◌==◌, ◌&&◌, not, Bool, true, false, if◌then◌else◌, length, List, [], ◌∷◌, ◌++◌, Option, Some, None, Result, Ok, Err, codes, map, string_bytes}
 use Rattle.std.specs.Fmt.{decimal}
 use Rattle.std.specs.List.{flat_map, list_any}
 use Rattle.std.specs.Option.{is_some}
@@ -10,6 +10,7 @@ use Rattle.properties_format.specs.Encoding.{Encoding}
 use Rattle.properties_format.specs.MalformedEscapes as format
 use Rattle.properties_format.specs.MalformedEscapes.{AreMalformedEscapes}
 use Rattle.properties_format.specs.Text.{line_feed}
+use Rattle.java_properties.specs.DisplayTexts.{description}
 use Rattle.java_properties.specs.Errors.{IsBareError}
 use Rattle.java_properties.specs.KeyLines.{AreKeyLines, KeyEntry}
 use Rattle.java_properties.specs.MalformedEscapes.{escape_records}
@@ -17,7 +18,7 @@ use Rattle.properties_items.specs.declared.error.ErrorKind.TheVariants as kind
 use Rattle.properties_items.specs.declared.error.PropertiesError.{PropertiesError}
 use Rattle.properties_items.specs.declared.findings.MalformedEscape.{MalformedEscape}
 use Rattle.properties_tools.specs.Messages.{escaped}
-use Rattle.properties_tools.specs.Propedit.Failures.{escape_reason, ill_formed_words, ill_formed_by_mark_words, not_utf_16_words, zero_words}
+use Rattle.properties_tools.specs.Propedit.Failures.{ill_formed_words, ill_formed_by_mark_words, not_utf_16_words, zero_words}
 use Rattle.properties_tools.specs.Propedit.Lines.{starts_with_mark, AreFlawedLines, IsFirstFlawed}
 use Rattle.properties_tools.specs.Propedit.Sources.{is_in_utf_16}
 use Rattle.properties_tools.specs.declared.propedit.check.Fault.{Fault}
@@ -87,11 +88,16 @@ ill_formed_text WithMark = ill_formed_by_mark_words
 ill_formed_text NotUtf8 = codes "not UTF-8"
 ill_formed_text NotUtf16 = not_utf_16_words
 
+-- what is added where an escape is in a comment
+abbrev pub comment_words : Bool → List ℕ
+comment_words true = codes " (in a comment, which Java and propedit pass over)"
+comment_words false = []
+
 -- what is wrong, in words
 abbrev pub fault_words : Fault → List ℕ
 fault_words HoldsZero = zero_words
 fault_words (IllFormedLine words) = ill_formed_text words
-fault_words (Escape escape) = escape_reason escape
+fault_words (Escape escape) = description escape.kind ++ comment_words escape.in_comment
 fault_words (Repeats first) = codes "repeats the key of line " ++ decimal first
 
 -- the line `NAME:LINE: TEXT`

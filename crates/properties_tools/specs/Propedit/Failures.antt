@@ -39,15 +39,6 @@ pub record IsErrorReason (error : PropertiesError) (words : List ℕ) : Type 0 w
   pub is : IsReason error reason
   pub printed : IfSome (reason_display reason) (λ known. words ≡ known)
 
--- what is added where an escape is in a comment
-abbrev pub comment_words : Bool → List ℕ
-comment_words true = codes " (in a comment)"
-comment_words false = []
-
--- how an escape is malformed, in words
-abbrev pub escape_reason : MalformedEscape → List ℕ
-escape_reason escape = description escape.kind ++ comment_words escape.in_comment
-
 -- of U+0000 in a line
 abbrev pub zero_words : List ℕ
 zero_words = codes "U+0000; if this is UTF-16, -e utf-16le or -e utf-16be reads it"
@@ -75,7 +66,7 @@ IsReasonOf (HoldsZero number) words = words ≡ zero_words
 IsReasonOf (NotUtf8 number) words = words ≡ ill_formed_words
 IsReasonOf (NotUtf8ByMark number) words = words ≡ ill_formed_by_mark_words
 IsReasonOf (NotUtf16 number) words = words ≡ not_utf_16_words
-IsReasonOf (Malformed escape) words = words ≡ escape_reason escape
+IsReasonOf (Malformed escape) words = words ≡ description escape.kind
 IsReasonOf (Input error) words = IsInputReason error words
 IsReasonOf (Output error) words = IsInputReason error words
 

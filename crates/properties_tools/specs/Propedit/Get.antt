@@ -2,8 +2,8 @@
 use Rattle.std.specs.Prelude.{◌≡◌, ℕ, List, [], Option, Some, None, Result, Ok, Err}
 use Rattle.std.specs.Option.{option_map}
 use Rattle.std.specs.declared.string.String.{String}
+use Rattle.properties_format.specs.EditedPairs.{HasPairValue}
 use Rattle.properties_format.specs.Encoding.{Encoding}
-use Rattle.properties_format.specs.Maps.{HasValue}
 use Rattle.java_properties.specs.Errors.{IsBareError}
 use Rattle.java_properties.specs.Maps.{characters}
 use Rattle.properties_items.specs.declared.error.ErrorKind.TheVariants as kind
@@ -28,7 +28,7 @@ Prints end None answer = (answer.text.items ≡ []) × (answer.status ≡ 1)
 pub record GetsValue (e : Encoding) (source key : List ℕ) (default : Option (List ℕ)) (end : TextEnd) (answer : Answer) : Type 0 where
   pub sound : IsSound e source
   pub value : Option (List ℕ)
-  pub has_value : HasValue e source key value
+  pub has_value : HasPairValue e source key value
   pub prints : Prints end (value_or value default) answer
 
 -- What getting a key returns.
@@ -38,5 +38,5 @@ Gets e source key default end (Err failure) = IsUnsound e source failure
 
 -- What looking up a key returns. In a sound source it fails only if memory runs out.
 abbrev pub LooksUp : {Z : Type 0} → Encoding → List ℕ → List ℕ → Result (Option (String Z)) PropertiesError → Type 0
-LooksUp e source key (Ok found) = HasValue e source key (option_map characters found)
+LooksUp e source key (Ok found) = HasPairValue e source key (option_map characters found)
 LooksUp e source key (Err error) = IsSound e source → IsBareError kind.Memory error

@@ -1,6 +1,7 @@
 -- What is found in a source that is held whole, and when it is refused.
-use Rattle.std.specs.Prelude.{◌≡◌, ◌⊎◌, ℕ, Bool, true, false, List, [], ◌∷◌, Some, Result, Ok, Err}
+use Rattle.std.specs.Prelude.{◌≡◌, ◌⊎◌, ℕ, Bool, true, false, if◌then◌else◌, List, [], ◌∷◌, ◌++◌, Option, Some, None, Result, Ok, Err}
 use Rattle.std.specs.Global.{Vec}
+use Rattle.properties_format.specs.EditedPairs.{AreInComments, EscapesAre}
 use Rattle.properties_format.specs.Encoding.{Encoding, byte_order_mark}
 use Rattle.properties_format.specs.MalformedEscapes as format
 use Rattle.properties_format.specs.MalformedEscapes.{AreMalformedEscapes}
@@ -83,21 +84,29 @@ RefusesBytes e source (Err failure) = HasUnsoundBytes e source failure
 
 -- ---- refusals
 
--- Its bytes are sound, and no escape is malformed.
+-- the first of these escapes that isn't in a comment
+abbrev pub first_in_pair : List MalformedEscape → Option MalformedEscape
+first_in_pair [] = None
+first_in_pair (escape ∷ escapes) = if escape.in_comment then first_in_pair escapes else Some escape
+
+-- Its bytes are sound, and each malformed escape is in a comment.
 pub record IsSound (e : Encoding) (source : List ℕ) : Type 0 where
   pub bytes : HasSoundBytes e source
-  pub resolved : AreMalformedEscapes e source []
+  pub in_comments : EscapesAre e source AreInComments
 
--- This is the first malformed escape, and the bytes are sound.
+-- This is the first malformed escape of a pair, and the bytes are sound.
 pub record IsFirstMalformed (e : Encoding) (source : List ℕ) (found : MalformedEscape) : Type 0 where
   pub bytes : HasSoundBytes e source
+  pub before : List format.MalformedEscape
   pub escape : format.MalformedEscape
-  pub others : List format.MalformedEscape
-  pub are : AreMalformedEscapes e source (escape ∷ others)
+  pub after : List format.MalformedEscape
+  pub are : AreMalformedEscapes e source (before ++ escape ∷ after)
+  pub passed : AreInComments before
+  pub in_pair : escape.in_comment ≡ false
   pub is : found ≡ escape_record escape
 
--- Why a source is refused, or not even looked through: its bytes; where these are sound, its first malformed escape; or
--- memory ran out.
+-- Why a source is refused, or not even looked through: its bytes; where these are sound, the first malformed escape of a
+-- pair; or memory ran out.
 abbrev pub IsUnsound : Encoding → List ℕ → Failure → Type 0
 IsUnsound e source (HoldsZero number) = HasUnsoundBytes e source (HoldsZero number)
 IsUnsound e source (NotUtf8 number) = HasUnsoundBytes e source (NotUtf8 number)

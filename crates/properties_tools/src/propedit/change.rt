@@ -6,13 +6,13 @@ ghost use Rattle.properties_tools.specs.Propedit.Change.{Changes, ChangesByEdits
 use crate::propedit::asked::{Change, Conversion, Edits};
 use crate::propedit::error::Failure;
 use crate::propedit::source::{refuse_bytes, refuse_unsound};
-use java_properties::{Encoding, convert, edit_all, edit_all_ascii};
+use java_properties::{Encoding, convert, edit_pairs};
 use std::alloc::Global;
 
 /// Returns the bytes of a source after a change.
 ///
 /// It refuses a source for its bytes: lines that are ill-formed in the encoding in force, or U+0000 if UTF-8 is in force
-/// without a byte order mark. Edits refuse a malformed escape too, and then UTF-16. A conversion keeps what is
+/// without a byte order mark. Edits refuse a malformed escape in a pair too, and then UTF-16. A conversion keeps what is
 /// malformed.
 ///
 /// ```text
@@ -53,30 +53,26 @@ fn edited(
 ) -> Result<Vec<u8>, Failure>
     ensures { ChangesByEdits (encoding_of encoding) source.now edits.now result }
 {
-    refuse_unsound(alloc, source, encoding)?;
-    let bytes = if edits.ascii_only {
-        edit_all_ascii(alloc, source, encoding, &edits.list)?
-    } else {
-        edit_all(alloc, source, encoding, &edits.list)?
-    };
-    Ok(bytes)
+    refuse_bytes(source, encoding)?;
+    match edit_pairs(alloc, source, encoding, edits.ascii_only, &edits.list) {
+        Ok(bytes) => Ok(bytes),
+        // A malformed escape comes before the encoding.
+        Err(error) => {
+            refuse_unsound(alloc, source, encoding)?;
+            Err(Failure::from(error))
+        }
+    }
 }
 
 // Returns the bytes of a source after a conversion.
 fn converted(
     alloc: Global,
     source: &[u8],
-    encoding: Encoding,
+    from: Encoding,
     conversion: Conversion,
 ) -> Result<Vec<u8>, Failure>
-    ensures { Converts (encoding_of encoding) source.now conversion result }
+    ensures { Converts (encoding_of from) source.now conversion result }
 {
-    refuse_bytes(source, encoding)?;
-    Ok(convert(
-        alloc,
-        source,
-        encoding,
-        conversion.target,
-        conversion.spelling,
-    )?)
+    refuse_bytes(source, from)?;
+    Ok(convert(alloc, source, from, conversion.target, conversion.spelling)?)
 }

@@ -6,8 +6,7 @@ ghost use Rattle.std.specs.Str.{chars};
 ghost use Rattle.std.specs.String.{string_bytes};
 ghost use Rattle.java_properties.specs.KeyLines.{key_line_entry, key_line_entries};
 ghost use Rattle.properties_text.specs.Encoding.{encoding_of};
-ghost use Rattle.properties_tools.specs.Propedit.Failures.{comment_words};
-ghost use Rattle.properties_tools.specs.Propedit.Check.{escape_finding, finding_line, finding_lines, first_words, has_replacement, ill_formed_findings, ill_formed_text, repeat_findings, words_after, zero_findings, ArrangesByLine, Reports};
+ghost use Rattle.properties_tools.specs.Propedit.Check.{comment_words, escape_finding, finding_line, finding_lines, first_words, has_replacement, ill_formed_findings, ill_formed_text, repeat_findings, words_after, zero_findings, ArrangesByLine, Reports};
 
 use crate::messages::Escaped;
 use crate::propedit::error::{HOLDS_ZERO, NOT_UTF_8, NOT_UTF_8_BY_MARK, NOT_UTF_16};
@@ -54,7 +53,7 @@ enum Words {
 ///
 /// ```text
 /// let text = report(alloc, "my.properties", b"# C:\\users\na=1\na=\xe9", Encoding::UTF_8)?;
-/// // my.properties:1: Malformed \uxxxx encoding: not hex. (in a comment)
+/// // my.properties:1: Malformed \uxxxx encoding: not hex. (in a comment, which Java and propedit pass over)
 /// // my.properties:3: not UTF-8; -e windows-1252 reads it
 /// // my.properties:3: repeats the key of line 2
 /// ```
@@ -256,5 +255,9 @@ fn ill_formed_words(words: Words) -> &'static str
 fn place_words(in_comment: bool) -> &'static str
     ensures { result.now ≡ comment_words in_comment }
 {
-    if in_comment { " (in a comment)" } else { "" }
+    if in_comment {
+        " (in a comment, which Java and propedit pass over)"
+    } else {
+        ""
+    }
 }

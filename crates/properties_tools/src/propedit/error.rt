@@ -2,7 +2,8 @@
 
 ghost use Rattle.std.specs.Prelude.{◌≡◌, IfOk, string_bytes};
 ghost use Rattle.counted_io.specs.Streams.{IsSameSink};
-ghost use Rattle.properties_tools.specs.Propedit.Failures.{escape_reason, number_of, place_of, IsInputReason, IsIoFailure, IsMessageLine, IsReasonOf, LacksMemory, PrintsFailure};
+ghost use Rattle.java_properties.specs.DisplayTexts.{description};
+ghost use Rattle.properties_tools.specs.Propedit.Failures.{number_of, place_of, IsInputReason, IsIoFailure, IsMessageLine, IsReasonOf, LacksMemory, PrintsFailure};
 
 use crate::messages::{Escaped, print_line};
 use counted_io::CountedWrite;
@@ -42,7 +43,7 @@ pub enum Failure {
     NotUtf8ByMark(usize),
     /// The line of this number is not UTF-16, which is in force.
     NotUtf16(usize),
-    /// The source has this malformed escape.
+    /// A pair of the source has this malformed escape.
     Malformed(MalformedEscape),
     /// The source can't be read or edited, or memory ran out.
     Input(PropertiesError),
@@ -153,12 +154,9 @@ fn message(alloc: Global, name: &str, failure: &Failure) -> Result<String, Alloc
 }
 
 fn reason_of_escape(alloc: Global, escape: &MalformedEscape) -> Result<String, AllocError>
-    ensures { IfOk result (λ text. string_bytes text ≡ escape_reason escape.now) }
+    ensures { IfOk result (λ text. string_bytes text ≡ description escape.now.kind) }
 {
     let kind = escape.kind;
-    if escape.in_comment {
-        return format!(in alloc; "{kind} (in a comment)");
-    }
     format!(in alloc; "{kind}")
 }
 

@@ -17,7 +17,7 @@ use std::alloc::{AllocError, Global};
 /// pairs. If there is none, the status is 1.
 ///
 /// It refuses a source for its bytes: lines that are ill-formed in the encoding in force, or U+0000 if UTF-8 is in force
-/// without a byte order mark. It refuses a malformed escape too.
+/// without a byte order mark. It refuses a malformed escape in a pair too.
 ///
 /// ```text
 /// let answer = list(alloc, b"b = 1\na = 2\nb = 3", Encoding::UTF_8, "", TextEnd::LineFeed)?;

@@ -2,27 +2,38 @@
 
 ghost use Rattle.std.specs.Prelude.{◌≡◌};
 ghost use Rattle.properties_text.specs.Encoding.{encoding_of};
-ghost use Rattle.properties_tools.specs.Propedit.Sources.{is_in_utf_16, FindsKeysIn, FindsMalformedIn, IsIllFormedLine, IsNotUtf8, RefusesBytes, RefusesUnsound};
+ghost use Rattle.properties_tools.specs.Propedit.Sources.{is_in_utf_16, first_in_pair, FindsKeysIn, FindsMalformedIn, IsIllFormedLine, IsNotUtf8, RefusesBytes, RefusesUnsound};
 
 use crate::propedit::error::Failure;
 use crate::propedit::lines::{Flaw, first_flawed_line, has_mark};
 use java_properties::{
-    Encoding, KeyLine, MalformedEscape, PropertiesError, first_malformed_escape, key_lines,
-    malformed_escapes,
+    Encoding, KeyLine, MalformedEscape, PropertiesError, key_lines, malformed_escapes,
 };
 use properties_text::encoding::byte_order_mark::encoding_in_force;
 use std::alloc::Global;
 
-/// Refuses a source for its bytes, or else one that has a malformed escape. The failure has the first of them.
+/// Refuses a source for its bytes, or else one that has a malformed escape in a pair. The failure has the first of them.
 pub fn refuse_unsound(alloc: Global, source: &[u8], encoding: Encoding) -> Result<(), Failure>
     ensures { RefusesUnsound (encoding_of encoding) source.now result }
 {
     refuse_bytes(source, encoding)?;
-    let mut input = source;
-    match first_malformed_escape(alloc, &mut input, encoding)? {
+    let escapes = malformed_in(alloc, source, encoding)?;
+    match first_in_pair(&escapes) {
         Some(escape) => Err(Failure::Malformed(escape)),
         None => Ok(()),
     }
+}
+
+// Returns the first escape that isn't in a comment.
+fn first_in_pair(escapes: &[MalformedEscape]) -> Option<MalformedEscape>
+    ensures { result ≡ first_in_pair escapes.now }
+{
+    for escape in escapes {
+        if !escape.in_comment {
+            return Some(*escape);
+        }
+    }
+    None
 }
 
 /// Refuses a source for its bytes: UTF-8 is in force without a byte order mark, and it has U+0000; or else a line is

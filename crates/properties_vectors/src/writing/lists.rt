@@ -106,6 +106,8 @@ fn call(alloc: Global, clause: &Clause) -> Result<Call, Halt> {
         ("ending", [ending]) => Call::Ending(line_ending(ending)?),
         ("ascii-only", []) => Call::AsciiOnly(true),
         ("all-characters", []) => Call::AsciiOnly(false),
+        ("readable", []) => Call::Readable(true),
+        ("escaped", []) => Call::Readable(false),
         ("flush" | "finish", []) => Call::Flush,
         _ => return Err(Halt::Unreadable),
     };

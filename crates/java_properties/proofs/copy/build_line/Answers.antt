@@ -16,7 +16,7 @@ comment c =
     let bytes = c.with_room-bytes.result.now in
     let found = c.in-Some-Comment.ensures in
     rw c.in-Some-Comment.field-0-is at
-    (found-in lines.encoding lines.at.line bytes _ (Some c.in-Some-Comment.field-0) c.requires c.with_room-bytes.ensures.front c.length-length.ensures found.slices found.places found.text)
+    (found-in lines.encoding lines.at.line bytes _ (Some c.in-Some-Comment.field-0) c.requires.well c.with_room-bytes.ensures.front c.length-length.ensures found.slices found.places found.text)
 
 -- where the key and the value of a pair are
 pair : (c : In-Some-KVPair)
@@ -26,7 +26,7 @@ pair c =
     let bytes = c.with_room-bytes.result.now in
     let found = c.in-Some-KVPair.ensures in
     rw c.in-Some-KVPair.field-0-is at
-    (found-in lines.encoding lines.at.line bytes _ (Some c.in-Some-KVPair.field-0) c.requires c.with_room-bytes.ensures.front c.length-length.ensures found.slices found.places found.text)
+    (found-in lines.encoding lines.at.line bytes _ (Some c.in-Some-KVPair.field-0) c.requires.well c.with_room-bytes.ensures.front c.length-length.ensures found.slices found.places found.text)
 
 pub returns-then-length-eq0-clause-builds : goal.returns-then-length-eq0-clause-builds
 returns-then-length-eq0-clause-builds c = grind (arith, empty-is)
@@ -36,7 +36,7 @@ returns-in-None-clause-builds c =
     let lines = c.args.lines.now in
     let bytes = c.with_room-bytes.result.now in
     blank-is lines.encoding lines.at.line bytes
-    (found-in lines.encoding lines.at.line bytes _ None c.requires c.with_room-bytes.ensures.front c.length-length.ensures c.in-None.ensures.slices c.in-None.ensures.places c.in-None.ensures.text)
+    (found-in lines.encoding lines.at.line bytes _ None c.requires.well c.with_room-bytes.ensures.front c.length-length.ensures c.in-None.ensures.slices c.in-None.ensures.places c.in-None.ensures.text)
 
 pub check_escapes-requires : goal.check_escapes-requires
 check_escapes-requires c = rw c.encoding.ensures (comment-well _ _ _ _ (comment (goal.at.check_escapes-requires c).In-Some-Comment))

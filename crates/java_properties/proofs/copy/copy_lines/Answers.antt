@@ -1,13 +1,15 @@
 use Rattle.std.proofs.Common.{refl, sym, ap, ◌∙◌}
 use Rattle.properties_lines.specs.LineJoiner.{LineJoining}
+use Rattle.java_properties.specs.PropertiesWriter.{Writing}
 use Rattle.java_properties.specs.Private.Engine.{writing}
+use Rattle.java_properties.specs.declared.writer.engine.Engine.{Engine}
 use Rattle.java_properties.specs.Private.GivenItems.{in_utf_8}
 use Rattle.java_properties.proofs.CopiedLines.{unbuilt-no_item}
 use Rattle.java_properties.proofs.Copying.{built-sent, built-unsent, built-refused, copied-start, copied-same, copied-no_pair, copied-pair, copied-unwritten, copied-unread, copied-all, copied-error}
 use Rattle.java_properties.proofs.copy.copy_lines.Goals as goal
 
 pub loop-number-init : goal.loop-number-init
-loop-number-init g c = record { copied = copied-start; error = c.requires; same_reader = refl; same_sink = refl }
+loop-number-init g c = record { copied = copied-start; error = c.requires.error; readable = c.requires.readable; same_reader = refl; same_sink = refl }
 
 pub loop-number-preserved-in-Ok-Nothing : goal.loop-number-preserved-in-Ok-Nothing
 loop-number-preserved-in-Ok-Nothing g c =
@@ -16,6 +18,7 @@ loop-number-preserved-in-Ok-Nothing g c =
     record {
       copied = copied-no_pair h advances.joins (rw c.in-Ok-Nothing.field-0-is at c.in-Ok-Nothing.ensures.builds);
       error = advances.error;
+      readable = ap (λ (w : Engine). w.settings.readable) c.build_line.ensures.same ∙ c.loop-number.invariant.readable;
       same_reader = c.next_line.ensures.same_reader ∙ c.loop-number.invariant.same_reader;
       same_sink = c.loop-number.invariant.same_sink;
     }
@@ -31,6 +34,7 @@ loop-number-preserved g c =
     record {
       copied = copied-pair h advances.joins built.0.key built.0.value after built.0.outcome built.0.scalars writes;
       error = advances.error;
+      readable = ap (λ (w : Writing _). w.settings.readable) c.in_default-send_line.ensures.sends.1 ∙ ap (λ (w : Engine). w.settings.readable) c.build_line.ensures.same ∙ c.loop-number.invariant.readable;
       same_reader = c.next_line.ensures.same_reader ∙ c.loop-number.invariant.same_reader;
       same_sink = c.send_line.ensures.same_sink ∙ c.loop-number.invariant.same_sink;
     }

@@ -12,6 +12,7 @@ invariant-loop-number g l = record {
   copied : IsCopiedTo (reader g.R.Read g.R.CountedRead) (sink g.W.Write g.W.CountedWrite) (iteration l.fn.lines.at l.fn.reader) (writing l.fn.engine l.fn.sink)
       l.lines.at.state l.reader (writing l.engine l.sink);
   error : l.lines.error ≡ None;
+  readable : l.engine.settings.readable ≡ l.fn.readable;
   same_reader : IsSameReader (reader g.R.Read g.R.CountedRead) l.fn.reader l.reader;
   same_sink : IsSameSink (sink g.W.Write g.W.CountedWrite) l.fn.sink l.sink;
 }

@@ -4,7 +4,7 @@ use Rattle.counted_io.specs.Streams.{sink}
 use Rattle.properties_text.specs.Encoding.{line_of}
 use Rattle.java_properties.specs.Private.Engine.{writing}
 use Rattle.java_properties.specs.PropertiesWriter.{Writing}
-use Rattle.java_properties.proofs.TextMaps.Writing.{HasMadeFirst, new-writing, first-none, first-more, first-all, stops-in-pair, writes}
+use Rattle.java_properties.proofs.TextMaps.Writing.{HasWrittenFirst, new-writing, first-none, first-more, first-all, stops-in-pair, writes}
 use Rattle.java_properties.proofs.maps.write_pairs.Goals as goal
 
 pub loop-key-init : goal.loop-key-init
@@ -14,9 +14,9 @@ loop-key-init g c =
     let from = c.args.writer.now in
     let items = c.args.pairs.now in
     let e = c.new-engine in
-    let P : Writing _ → Type 0 = λ v. HasMadeFirst s a from items 0 v in
+    let P : Writing _ → Type 0 = λ v. HasWrittenFirst s a from items 0 v in
     let fresh = new-writing e.result from (rw e.ensures.encoding refl) e.ensures.settings e.ensures.lines e.ensures.failed in
-    record { made = subst P fresh (first-none s a from items); same_sink = refl }
+    record { written = subst P fresh (first-none s a from items); same_sink = refl }
 
 pub returns-in_err-write_line-clause-writes : goal.returns-in_err-write_line-clause-writes
 returns-in_err-write_line-clause-writes g c =
@@ -29,7 +29,7 @@ returns-in_err-write_line-clause-writes g c =
     let fails = rw c.in_err-write_line.was at c.write_line.ensures.writes in
     rw (error.1, error.2) (stops-in-pair s (line_of c.args.encoding) c.args.writer.now items c.loop-key.key-index c.loop-key-item.result _ _
     (writing c.loop-key.engine c.loop-key.writer) (writing c.write_line.new.self c.write_line.new.sink) below c.loop-key-item.is c.as_str.ensures.value
-    c.as_str-in-loop-key.ensures.value held.made _ fails)
+    c.as_str-in-loop-key.ensures.value held.written _ fails)
 
 pub loop-key-preserved : goal.loop-key-preserved
 loop-key-preserved g c =
@@ -39,8 +39,8 @@ loop-key-preserved g c =
     let below : c.loop-key.key-index < length items = omega arith in
     let line = rw c.in_ok-write_line.was at c.write_line.ensures.writes in
     record {
-      made = first-more s (line_of c.args.encoding) c.args.writer.now items c.loop-key.key-index c.loop-key-item.result _ _ (writing c.loop-key.engine c.loop-key.writer)
-          (writing c.write_line.new.self c.write_line.new.sink) below c.loop-key-item.is c.as_str.ensures.value c.as_str-in-loop-key.ensures.value held.made line;
+      written = first-more s (line_of c.args.encoding) c.args.writer.now items c.loop-key.key-index c.loop-key-item.result _ _ (writing c.loop-key.engine c.loop-key.writer)
+          (writing c.write_line.new.self c.write_line.new.sink) below c.loop-key-item.is c.as_str.ensures.value c.as_str-in-loop-key.ensures.value held.written line;
       same_sink = c.write_line.ensures.same_sink ∙ held.same_sink;
     }
 
@@ -53,5 +53,5 @@ returns-clause-writes g c =
     let held = c.loop-key.invariant in
     let last = writing c.loop-key.engine c.loop-key.writer in
     let above : length items ≤ c.loop-key.key-index = omega arith in
-    let made = first-all s a from items c.loop-key.key-index last above held.made in
+    let made = first-all s a from items c.loop-key.key-index last above held.written in
     writes s a from items last (writing c.flush.new.self c.flush.new.sink) c.flush.result made c.flush.ensures.flushes

@@ -1,5 +1,5 @@
-use Rattle.std.proofs.Common.{◌≡◌, ◌∙◌, sym, refl, rules, inl, inr, Some, string_bytes}
-use Rattle.std.specs.Prelude.{encode_utf8_all}
+use Rattle.std.proofs.Common.{◌≡◌, ◌∙◌, sym, refl, rules, inl, inr, None, Some, string_bytes}
+use Rattle.std.specs.Prelude.{Ok, Err, encode_utf8_all}
 use Rattle.std.specs.Str.{chars}
 use Rattle.properties_text.specs.Encoding.{encoding_of}
 use Rattle.properties_c.proofs.PackedLines.{encoded-text}
@@ -13,7 +13,7 @@ returns-in-Ok-Some c =
     inl (
       encoding_of c.in-Some.encoding,
       search rules,
-      inl (search rules, inl (Some (chars (string_bytes value)), search rules, rw same (search rules))),
+      inl (c.in-Some-flags_numbered.flags, search rules, inl (search rules, (Ok (Some value), search rules, rw same (search rules)))),
     )
 
 pub returns-in-Err : goal.returns-in-Err
@@ -21,5 +21,25 @@ returns-in-Err c =
     inl (
       encoding_of c.in-Some.encoding,
       search rules,
-      inl (search rules, inr (c.in-Err.error, search rules, record { answers = search rules; kept = refl })),
+      inl (
+        c.in-Some-flags_numbered.flags,
+        search rules,
+        inl (search rules, (Err c.in-Err.error, search rules, record { answers = search rules; kept = refl })),
+      ),
+    )
+
+pub returns-in_default-text_of : goal.returns-in_default-text_of
+returns-in_default-text_of c =
+    inl (
+      encoding_of c.in-Some.encoding,
+      search rules,
+      inl (c.in-Some-flags_numbered.flags, search rules, inr (search rules, record { answers = search rules; kept = refl })),
+    )
+
+pub returns-in-Ok-None : goal.returns-in-Ok-None
+returns-in-Ok-None c =
+    inl (
+      encoding_of c.in-Some.encoding,
+      search rules,
+      inl (c.in-Some-flags_numbered.flags, search rules, inl (search rules, (Ok None, search rules, record { answers = search rules; kept = refl }))),
     )

@@ -9,5 +9,18 @@ returns-in-Err c =
     inl (
       encoding_of c.in-Some.encoding,
       search rules,
-      inr (list-crossed lines c.args.list.now c.in-Err.status c.args.out.now _ _ _ c.in-Err.ensures (search rules)),
+      inl (
+        c.in-Some-flags_numbered.flags,
+        search rules,
+        inr (list-crossed lines c.args.list.now c.in-Err.status c.args.out.now _ _ _ c.in-Err.ensures (search rules)),
+      ),
+    )
+
+pub returns-in-Ok-written : goal.returns-in-Ok-written
+returns-in-Ok-written c =
+    let found = c.in-Ok.ensures in
+    inl (
+      encoding_of c.in-Some.encoding,
+      search rules,
+      inl (c.in-Some-flags_numbered.flags, search rules, inl (found.0, found.1, inl (search rules))),
     )

@@ -1,12 +1,11 @@
 use Rattle.std.proofs.Common.{◌≡◌, ◌∙◌, ap, subst}
 use Rattle.std.proofs.lemmas.List.{take_rest}
 use Rattle.std.specs.Str.{chars}
-use Rattle.properties_format.specs.Edited.{edited, IsKeySet}
-use Rattle.properties_format.specs.Computed.Edited.{key_set, set_key_result}
-use Rattle.properties_format.proofs.Edited.Results.{set_key_result-meets}
+use Rattle.properties_format.specs.Edited.{IsKeySet}
+use Rattle.properties_format.specs.Computed.Edited.{key_set}
+use Rattle.properties_format.proofs.Edited.Made.{key_set-meets}
 use Rattle.properties_text.specs.Encoding.{encoding_of}
-use Rattle.properties_editing.proofs.Editing.{refusal, span-within, set-edits, replaced-result, appended-result}
-use Rattle.properties_items.proofs.Scalars.{chars-scalars}
+use Rattle.properties_editing.proofs.Editing.{appended-result, made-result, refusal, replaced-result, span-within}
 use Rattle.properties_editing.proofs.edit.set_key_with.Goals as goal
 use Rattle.properties_editing.proofs.edit.set_key_with.Goals.{in-Some+in_ok-bytes-in-Some, in-None+in_ok-bytes-in-None}
 
@@ -18,14 +17,13 @@ returns-in_err-place c =
     let value = chars c.args.value.now in
     let opened = c.in_ok-opened.ensures in
     let only = c.args.ascii_only in
-    let meets = set_key_result-meets e only source key value in
-    let refused = refusal c.from_residual-in_err-place.result (IsKeySet e only source key value) (key_set e only source key value) opened.0 opened.1 meets
-    c.in_err-place.ensures c.from_residual-in_err-place.ensures.1 in
+    let refused = refusal c.args.comments c.from_residual-in_err-place.result (IsKeySet e only source key value) (key_set e only source key value) opened.0 opened.1
+    (key_set-meets e only source key value) c.in_err-place.ensures c.from_residual-in_err-place.ensures.1 in
     rw refused.1 refused.2
 
 pub with_pair_replaced-requires-clause-within : goal.with_pair_replaced-requires-clause-within
 with_pair_replaced-requires-clause-within c =
-    let found = (rw (take_rest c.args.source.now c.in_ok-opened.opened.start) at c.in_ok-place.ensures).0 in
+    let found = (rw (take_rest c.args.source.now c.in_ok-opened.opened.start) at c.in_ok-place.ensures).1 in
     span-within c.in-Some.pair c.in_ok-opened.ensures.0 c.in_ok-opened.ensures.1 found c.in-Some.is
 
 pub returns : goal.returns
@@ -36,13 +34,13 @@ returns c =
     let value = chars c.args.value.now in
     let bytes = c.match-place.bytes.items in
     let opened = c.in_ok-opened in
-    let found = (rw (take_rest source opened.opened.start) at c.in_ok-place.ensures).0 in
-    set-edits (chars-scalars c.args.key.now c.utf8.key) (chars-scalars c.args.value.now c.utf8.value)
-    (subst (λ b. set_key_result e b source key value ≡ edited bytes) opened.ensures.2 (elim c.match-place.branch [
+    let found = rw (take_rest source opened.opened.start) at c.in_ok-place.ensures in
+    made-result c.args.comments (IsKeySet e c.args.ascii_only source key value) bytes opened.ensures.0 opened.ensures.1 found.0
+    (subst (λ b. IsKeySet e b source key value bytes) opened.ensures.2 (elim c.match-place.branch [
       | in-Some+in_ok-bytes-in-Some w ↦
-          replaced-result key value bytes w.in-Some.pair opened.ensures.0 opened.ensures.1 found w.in-Some.is
+          replaced-result key value bytes w.in-Some.pair opened.ensures.0 opened.ensures.1 found.1 w.in-Some.is
           (ap (λ v. v.items) w.bytes-is ∙ w.in_ok-bytes-in-Some.ensures)
       | in-None+in_ok-bytes-in-None w ↦
-          appended-result key value bytes opened.ensures.0 opened.ensures.1 found w.in-None.is
+          appended-result key value bytes opened.ensures.0 opened.ensures.1 found.1 w.in-None.is
           (ap (λ v. v.items) w.bytes-is ∙ w.in_ok-bytes-in-None.ensures)
     ]))

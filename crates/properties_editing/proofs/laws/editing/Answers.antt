@@ -1,5 +1,8 @@
 use Rattle.properties_format.proofs.Valued.Laws.{setting-own_value, setting-value_twice, setting-value_again, setting-value_gives}
+use Rattle.properties_format.proofs.Valued.Anew.{setting-value_anew}
 use Rattle.properties_format.proofs.EditLaws.{removing-no_pair, setting-twice, setting-gives, removing-takes, lists-follow}
+use Rattle.properties_format.proofs.Edits.PairResults.{passing_over-is_reading}
+use Rattle.properties_format.proofs.Edits.PairValues.{value-among_pairs}
 use Rattle.properties_editing.proofs.laws.editing.Goals as goal
 
 pub returns-clause-absent : goal.returns-clause-absent
@@ -26,5 +29,14 @@ returns-clause-value_again c = setting-value_again
 pub returns-clause-value : goal.returns-clause-value
 returns-clause-value c = setting-value_gives
 
+pub returns-clause-value_anew : goal.returns-clause-value_anew
+returns-clause-value_anew c = setting-value_anew
+
 pub returns-clause-lists : goal.returns-clause-lists
 returns-clause-lists c = lists-follow
+
+pub returns-clause-passed_over : goal.returns-clause-passed_over
+returns-clause-passed_over c = passing_over-is_reading
+
+pub returns-clause-among_pairs : goal.returns-clause-among_pairs
+returns-clause-among_pairs c = value-among_pairs

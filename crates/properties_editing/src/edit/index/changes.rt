@@ -12,7 +12,7 @@ ghost use Rattle.properties_format.specs.Text.{line_ending_text};
 ghost use Rattle.std.specs.Str.{chars};
 ghost use Rattle.properties_format.specs.Edited.{is_editable};
 ghost use Rattle.properties_format.specs.Computed.Body.{held_groups_of};
-ghost use Rattle.properties_format.specs.Computed.Edited.{AreSound};
+ghost use Rattle.properties_editing.specs.Private.Sound.{AreSound};
 ghost use Rattle.properties_text.specs.Encoding.{encoding_of};
 ghost use Rattle.properties_editing.specs.Private.BodyIndex.{PutsPair, PutsValue, RemovesPairs, AddsKey, AddsValue, AppendsPair, FollowsPair, GuardsFront, IsIndex, PutsFirst, stored_at};
 ghost use Rattle.properties_editing.specs.Private.BodyKeys.{IsPlaceOf};
@@ -93,8 +93,8 @@ pub fn remove_pairs(source: &mut Vec<u8>, opened: BodyStart, index: &mut Index, 
     for place in &pair.earlier {
         sweep = cut_out_pair(source, opened.start, index, sweep, *place);
     }
-    let end = cut_out_pair(source, opened.start, index, sweep, last);
-    close_up(source, index, end);
+    let swept = cut_out_pair(source, opened.start, index, sweep, last);
+    close_up(source, index, swept);
     guard_front(source, opened.start, index);
     true
 }

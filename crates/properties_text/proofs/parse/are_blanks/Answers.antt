@@ -3,8 +3,7 @@ use Rattle.std.specs.Str.{IsUtf8, chars}
 use Rattle.std.proofs.lemmas.Bool.{cases_Bool}
 use Rattle.std.proofs.lemmas.Bool.Decides.{nat_tests}
 use Rattle.std.proofs.lemmas.List.{length-drop}
-use Rattle.properties_format.specs.Text.{is_blank, is_blanks, without_leading_blanks}
-use Rattle.properties_format.specs.Writing.{is_empty}
+use Rattle.properties_format.specs.Text.{is_blank, is_blanks, without_leading_blanks, is_empty}
 use Rattle.properties_text.proofs.Texts.Characters.{is_empty-chars}
 use Rattle.properties_text.proofs.Texts.Split.{without_leading_blanks-part}
 use Rattle.properties_text.proofs.parse.are_blanks.Goals as goal

@@ -1,4 +1,4 @@
-use Rattle.std.proofs.Common.{◌++◌, ◌∙◌, arith, ap, append-nil, sym, subst, inr}
+use Rattle.std.proofs.Common.{◌≡◌, false, rules, ◌++◌, ◌∙◌, arith, ap, append-nil, sym, subst, inr}
 use Rattle.std.specs.Prelude.{Option, Ok}
 use Rattle.std.specs.Str.{chars}
 use Rattle.std.proofs.lemmas.Result.{err_from_is_err_and}
@@ -6,8 +6,9 @@ use Rattle.properties_items.specs.Errors.{IsBareError}
 use Rattle.properties_items.specs.declared.error.ErrorKind.TheVariants.{Memory}
 use Rattle.properties_items.specs.declared.error.PropertiesError.{PropertiesError}
 use Rattle.properties_items.specs.declared.findings.MalformedEscape.{MalformedEscape}
+use Rattle.java_properties.specs.MalformedEscapes.{escape_records}
 use Rattle.java_properties.specs.Private.LineByLine.{FindsLineEscape}
-use Rattle.java_properties.proofs.MalformedEscapes.{found-next, found-all, found-stops, found-lost}
+use Rattle.java_properties.proofs.MalformedEscapes.{found-next, found-all, found-stops, found-lost, plain-none}
 use Rattle.java_properties.proofs.Items.{stopped, ended}
 use Rattle.java_properties.proofs.iter.malformed_lines.next_malformed.Goals as goal
 
@@ -25,6 +26,19 @@ returns-in-Some-2-clause-finds g c =
     let one = rw c.line.ensures at (subst P c.in-Some-2.is c.in_ok-escape.ensures) in
     λ e begin found before. found-next c.in-Some.number c.next_text.new.self.at _ (c.loop-number.invariant.finds e begin found before) c.in-Some.ensures.joins.0
     (ap (λ v. found ++ v) one)
+
+-- A line without a backslash came.
+pub loop-number-preserved-then-not-has_backslash : goal.loop-number-preserved-then-not-has_backslash
+loop-number-preserved-then-not-has_backslash g c =
+    let off : c.next_text.new.self.has_backslash ≡ false = search rules in
+    let none = ap escape_records (plain-none c.in-Some.number _ (c.in-Some.ensures.joins.1 off)) in
+    record {
+      finds = λ e begin found before. found-next c.in-Some.number c.next_text.new.self.at found (c.loop-number.invariant.finds e begin found before) c.in-Some.ensures.joins.0
+          (sym (append-nil found) ∙ ap (λ v. found ++ v) (sym none));
+      left = omega (arith, c.loop-number.invariant.left, c.in-Some.ensures.nearer);
+      error = c.in-Some.ensures.joins.2;
+      same_reader = c.next_text.ensures.same_reader ∙ c.loop-number.invariant.same_reader;
+    }
 
 pub loop-number-preserved : goal.loop-number-preserved
 loop-number-preserved g c =

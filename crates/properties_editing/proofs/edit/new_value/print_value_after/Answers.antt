@@ -4,8 +4,7 @@ use Rattle.std.proofs.lemmas.Result.{on_ok_weaker}
 use Rattle.properties_format.specs.Printing.{encoded_text}
 use Rattle.properties_format.specs.Encoding.{output_encoding}
 use Rattle.properties_text.specs.Encoding.{encoding_of}
-use Rattle.properties_text.proofs.Printing.Values.{none-left}
-use Rattle.properties_editing.proofs.NewPairs.{value-unseparated, value-separated, text-some}
+use Rattle.properties_editing.proofs.NewPairs.{none-left, value-unseparated, value-separated, text-some}
 use Rattle.properties_editing.proofs.edit.new_value.print_value_after.Goals as goal
 
 pub returns-then-is_empty : goal.returns-then-is_empty

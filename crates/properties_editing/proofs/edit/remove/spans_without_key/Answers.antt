@@ -16,8 +16,8 @@ loop-others-init c =
     let n = c.new-groups.ensures in
     let same = ap encoding_of n.encoding in
     let within : IsWithin body s = record { bytes = ap unit_size same ∙ c.requires; within_body = n.within_body body } in
-    subst (λ e. HasKept e body (chars c.args.key.now) s c.new-others.result.items 0) same
-    (kept-none body (chars c.args.key.now) s c.new-others.result.items n.start n.none n.going within c.new-others.ensures.items)
+    subst (λ e. HasKept c.args.comments e body (chars c.args.key.now) s c.new-others.result.items 0) same
+    (kept-none c.args.comments body (chars c.args.key.now) s c.new-others.result.items n.start n.none n.going within c.new-others.ensures.items)
 
 pub returns-in_err-has_key : goal.returns-in_err-has_key
 returns-in_err-has_key c =
@@ -33,7 +33,7 @@ loop-others-preserved-then-unwrap_or c =
     let is = sym c.if-unwrap_or.true ∙ c.unwrap_or.ensures ∙ ap (λ v. unwrap_or v false) told.1 ∙ told-with (chars c.args.key.now) _ in
     let body = c.args.body.now in
     let kept = kept-removed c.push.new.self.items c.loop-others.invariant came told.0 is c.in_ok-push.ensures.items in
-    subst (HasKept (encoding_of c.args.encoding) body (chars c.args.key.now) c.next.new.self c.push.new.self.items) (sym c.place-start.ensures) kept
+    subst (HasKept c.args.comments (encoding_of c.args.encoding) body (chars c.args.key.now) c.next.new.self c.push.new.self.items) (sym c.place-start.ensures) kept
 
 pub loop-others-preserved : goal.loop-others-preserved
 loop-others-preserved c =

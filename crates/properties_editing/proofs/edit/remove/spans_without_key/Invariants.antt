@@ -6,7 +6,7 @@ use Rattle.properties_editing.proofs.BodyKeys.{HasKept}
 use Rattle.properties_editing.proofs.edit.remove.spans_without_key.Given as goal
 
 abbrev pub invariant-loop-others : goal.invariant-loop-others
-invariant-loop-others l = HasKept (encoding_of l.fn.encoding) l.body (chars l.key) l.groups l.others.items l.start
+invariant-loop-others l = HasKept l.fn.comments (encoding_of l.fn.encoding) l.body (chars l.key) l.groups l.others.items l.start
 
 abbrev pub decreases-loop-others : goal.decreases-loop-others
 decreases-loop-others l = length (groups_left l.body l.groups)

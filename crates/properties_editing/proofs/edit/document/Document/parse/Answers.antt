@@ -1,13 +1,13 @@
+use Rattle.std.proofs.Common.{refl}
 use Rattle.std.specs.Prelude.{[], false}
 use Rattle.std.proofs.lemmas.List.{take_rest}
 use Rattle.properties_format.specs.Edits.{AreEdited}
-use Rattle.properties_format.specs.Computed.Edits.{edits_made}
-use Rattle.properties_format.proofs.Edits.Results.{edit_all_result-meets}
 use Rattle.properties_format.proofs.Laws.{splitting-commutes}
 use Rattle.properties_text.specs.Encoding.{encoding_of}
 use Rattle.properties_editing.specs.declared.edit.document.Document.TheInside.{Inside}
 use Rattle.properties_editing.proofs.BodyDocuments.{IsOpened, opens-document}
 use Rattle.properties_editing.proofs.Editing.{refusal}
+use Rattle.properties_editing.specs.declared.edit.source.Comments.TheVariants.{Read}
 use Rattle.properties_editing.proofs.edit.document.Document.parse.Goals as goal
 
 pub returns-in_err-opened-clause-splitting : goal.returns-in_err-opened-clause-splitting
@@ -19,8 +19,7 @@ returns-in_err-index-clause-opens c =
     let source = c.args.source.now in
     let opened = c.in_ok-opened.ensures in
     let refused =
-    refusal c.from_residual-in_err-index.result (AreEdited e false source []) (edits_made e false source []) opened.0 opened.1
-    (edit_all_result-meets e false source [])
+    refusal Read c.from_residual-in_err-index.result (AreEdited e false source []) source opened.0 opened.1 refl
     c.in_err-index.ensures c.from_residual-in_err-index.ensures.1 in
     rw refused.1 refused.2
 

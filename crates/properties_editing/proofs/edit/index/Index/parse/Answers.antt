@@ -19,8 +19,8 @@ loop-index-init c =
     let same = ap encoding_of new.encoding in
     let within : IsWithin body reader = record { bytes = ap unit_size same ∙ c.requires; within_body = new.within_body body } in
     let index : Index = record { pairs = c.new.result; spans = c.new-2.result; closing = Nothing } in
-    subst (λ e. HasIndexed e body reader index) same
-    (indexed-none body reader index new.start new.none new.going within c.new.ensures.empty c.new.ensures.ordered c.new-2.ensures.items)
+    subst (λ e. HasIndexed c.args.comments e body reader index) same
+    (indexed-none c.args.comments body reader index new.start new.none new.going within c.new.ensures.empty c.new.ensures.ordered c.new-2.ensures.items)
 
 pub returns-in_err-pair : goal.returns-in_err-pair
 returns-in_err-pair c =

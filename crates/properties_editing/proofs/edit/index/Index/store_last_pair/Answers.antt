@@ -1,4 +1,4 @@
-use Rattle.std.proofs.Common.{rules, ◌≡◌, ◌++◌, ◌∷◌, [], ℕ, List, length, refl, ap, ap₂, sym, subst, inr, ◌∙◌}
+use Rattle.std.proofs.Common.{◌≡◌, ◌++◌, ◌∷◌, [], ℕ, List, length, refl, ap, ap₂, sym, subst, ◌∙◌}
 use Rattle.std.specs.BTreeMap.{IsOrdered, Updates}
 use Rattle.std.specs.String.{string_cmp}
 use Rattle.std.specs.Prelude.{Option, Some, None, string_bytes}
@@ -9,9 +9,8 @@ use Rattle.properties_editing.specs.Private.BodyIndex.{places_of, stored_at}
 use Rattle.properties_items.specs.Texts.{characters}
 use Rattle.properties_editing.specs.declared.edit.index.IndexedPair.{IndexedPair}
 use Rattle.properties_editing.specs.declared.edit.find.BodySpan.{BodySpan}
-use Rattle.properties_editing.proofs.IndexStored.{none-removed, put-after}
 use Rattle.properties_items.proofs.TextMaps.Values.{at_chars-sorted, at_chars-updated}
-use Rattle.std.specs.BTreeMap.Entry.{entry_map_ref, entry_value}
+use Rattle.std.specs.BTreeMap.Entry.{entry_value}
 use Rattle.properties_editing.proofs.edit.index.Index.store_last_pair.Goals as goal
 use Rattle.properties_editing.proofs.edit.index.Index.store_last_pair.Goals.{in-Occupied+in_ok-push-in-Occupied, in-Vacant}
 

@@ -2,14 +2,13 @@ use Rattle.std.proofs.Common.{◌≡◌, ◌-◌, ◌++◌, drop, take, length, 
 use Rattle.std.specs.Prelude.{if◌then◌else◌}
 use Rattle.std.specs.Str.{chars}
 use Rattle.std.proofs.lemmas.List.{take_rest}
-use Rattle.properties_format.specs.Text.{cr, lf, line_ending_text}
+use Rattle.properties_format.specs.Text.{cr, lf, line_ending_text, is_empty}
 use Rattle.properties_format.specs.Encoding.{output_encoding}
 use Rattle.properties_format.specs.Edited.{pair_bytes}
 use Rattle.properties_format.specs.Computed.Lines.{ends_in_cr}
-use Rattle.properties_format.specs.Writing.{is_empty}
 use Rattle.properties_text.specs.Encoding.{encoding_of}
 use Rattle.properties_items.specs.LineEndings.{ending_of}
-use Rattle.properties_editing.specs.Editing.{IsSet}
+use Rattle.properties_format.specs.Edited.{IsKeySet}
 use Rattle.properties_editing.specs.Private.BodyKeys.{closing_bytes}
 use Rattle.properties_items.proofs.Scalars.{chars-scalars}
 use Rattle.properties_editing.proofs.IndexAdded.{appended-changes, key-added}
@@ -32,7 +31,7 @@ returns c =
     let first = c.is_first-first.ensures by ∙ ap (λ v. is_empty (v ++ closing_bytes (line_ending_text by) was.closing)) body in
     let printed =
     c.as_slice.ensures ∙ c.in_ok-print_new.ensures ∙ ap₂ (λ v b. v ++ pair_bytes out opened.ascii_only b key value) c.new-line.ensures first in
-    appended-changes c.append_pair.result (λ e. IsSet e opened.ascii_only old key value new) opened key value
+    appended-changes c.append_pair.result (λ e. IsKeySet e opened.ascii_only old key value new) opened key value
     (line_ending_text by) c.as_slice.result.now (line_ending_text lf) old new was is
     (key-added opened old new key value c.as_slice.result.now was is c.requires.editable c.requires.start c.requires.sound c.requires.is_index c.requires.is_new
     (chars-scalars c.args.key.now c.utf8.key) (chars-scalars c.args.value.now c.utf8.value) (omega arith) by fits printed)

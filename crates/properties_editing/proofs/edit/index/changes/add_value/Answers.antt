@@ -1,13 +1,12 @@
 use Rattle.std.proofs.Common.{◌-◌, ◌++◌, drop, take, length, ap, ap₂, sym, subst, ◌∙◌, arith}
 use Rattle.std.specs.Str.{chars}
 use Rattle.std.proofs.lemmas.List.{take_rest}
-use Rattle.properties_format.specs.Text.{line_ending_text}
+use Rattle.properties_format.specs.Text.{line_ending_text, is_empty}
 use Rattle.properties_format.specs.Encoding.{output_encoding}
-use Rattle.properties_format.specs.Writing.{is_empty}
 use Rattle.properties_text.specs.Encoding.{encoding_of}
 use Rattle.properties_editing.specs.Private.BodyValues.{IsLastPair, unended_pair}
 use Rattle.properties_items.specs.LineEndings.{ending_of}
-use Rattle.properties_editing.specs.Editing.{HasValueSet}
+use Rattle.properties_format.specs.Valued.{IsValueSet}
 use Rattle.properties_editing.specs.Private.BodyKeys.{closing_bytes}
 use Rattle.properties_editing.proofs.BodyKeys.{editable-bytes}
 use Rattle.properties_items.proofs.Scalars.{chars-scalars}
@@ -43,7 +42,7 @@ returns c =
     let pair = ap₂ (λ b s. unended_pair out opened.ascii_only b key (chars s) value) first c.as_str-separator.ensures.value in
     let printed = c.as_slice.ensures ∙ c.in_ok-print_new_pair.ensures ∙ ap₂ (λ v w. v ++ w) c.new-line.ensures pair in
     appended-changes c.append_pair.result
-    (λ e. HasValueSet e opened.ascii_only old key value new) opened key value ending c.as_slice.result.now ending old new was is
+    (λ e. IsValueSet e opened.ascii_only old key value new) opened key value ending c.as_slice.result.now ending old new was is
     (pair-added opened old new key value c.as_slice.result.now was is (editable-bytes (encoding_of opened.encoding) c.requires.unit) c.requires.start c.requires.sound c.requires.is_index
     c.requires.is_new (chars-scalars c.args.key.now c.utf8.key) (chars-scalars c.args.value.now c.utf8.value) (omega arith) layout laid printed)
     c.requires.is_new c.append_pair.ensures

@@ -71,17 +71,17 @@ loop-place-preserved c =
     (swept-step c.args.opened.start (sym (length-take-le c.args.opened.start c.args.source.now.items c.requires.start)) next
     (omega arith) _ _ _ c.cut_out_pair-sweep.ensures.cuts).0
 
-pub cut_out_pair-end-requires-clause-order : goal.cut_out_pair-end-requires-clause-order
-cut_out_pair-end-requires-clause-order c = c.loop-place.invariant.order
+pub cut_out_pair-swept-requires-clause-order : goal.cut_out_pair-swept-requires-clause-order
+cut_out_pair-swept-requires-clause-order c = c.loop-place.invariant.order
 
-pub cut_out_pair-end-requires-clause-later : goal.cut_out_pair-end-requires-clause-later
-cut_out_pair-end-requires-clause-later c =
+pub cut_out_pair-swept-requires-clause-later : goal.cut_out_pair-swept-requires-clause-later
+cut_out_pair-swept-requires-clause-later c =
     let last = subst (IsSweptTo _ _ _ _ _ _ _)
     (ap (λ v. v ++ c.in-Some.pair.place ∷ []) (drop_of_length-le c.deref-place-items.result.now c.loop-place-test.false)) c.loop-place.invariant in
     last.later.0
 
-pub cut_out_pair-end-requires-clause-ahead : goal.cut_out_pair-end-requires-clause-ahead
-cut_out_pair-end-requires-clause-ahead c =
+pub cut_out_pair-swept-requires-clause-ahead : goal.cut_out_pair-swept-requires-clause-ahead
+cut_out_pair-swept-requires-clause-ahead c =
     let last = subst (IsSweptTo _ _ _ _ _ _ _)
     (ap (λ v. v ++ c.in-Some.pair.place ∷ []) (drop_of_length-le c.deref-place-items.result.now c.loop-place-test.false)) c.loop-place.invariant in
     swept-ahead c.args.opened.start (sym (length-take-le c.args.opened.start c.args.source.now.items c.requires.start)) last (omega arith)
@@ -91,7 +91,7 @@ close_up-requires-clause-order c =
     let last = subst (IsSweptTo _ _ _ _ _ _ _)
     (ap (λ v. v ++ c.in-Some.pair.place ∷ []) (drop_of_length-le c.deref-place-items.result.now c.loop-place-test.false)) c.loop-place.invariant in
     let done = swept-step c.args.opened.start (sym (length-take-le c.args.opened.start c.args.source.now.items c.requires.start)) last
-    (omega arith) _ _ _ c.cut_out_pair-end.ensures.cuts in
+    (omega arith) _ _ _ c.cut_out_pair-swept.ensures.cuts in
     done.0.order
 
 pub close_up-requires-clause-within : goal.close_up-requires-clause-within
@@ -99,7 +99,7 @@ close_up-requires-clause-within c =
     let last = subst (IsSweptTo _ _ _ _ _ _ _)
     (ap (λ v. v ++ c.in-Some.pair.place ∷ []) (drop_of_length-le c.deref-place-items.result.now c.loop-place-test.false)) c.loop-place.invariant in
     let done = swept-step c.args.opened.start (sym (length-take-le c.args.opened.start c.args.source.now.items c.requires.start)) last
-    (omega arith) _ _ _ c.cut_out_pair-end.ensures.cuts in
+    (omega arith) _ _ _ c.cut_out_pair-swept.ensures.cuts in
     done.0.within
 
 pub close_up-requires-clause-places : goal.close_up-requires-clause-places
@@ -107,7 +107,7 @@ close_up-requires-clause-places c =
     let last = subst (IsSweptTo _ _ _ _ _ _ _)
     (ap (λ v. v ++ c.in-Some.pair.place ∷ []) (drop_of_length-le c.deref-place-items.result.now c.loop-place-test.false)) c.loop-place.invariant in
     let done = swept-step c.args.opened.start (sym (length-take-le c.args.opened.start c.args.source.now.items c.requires.start)) last
-    (omega arith) _ _ _ c.cut_out_pair-end.ensures.cuts in
+    (omega arith) _ _ _ c.cut_out_pair-swept.ensures.cuts in
     let inside = done.0.inside in
     let size = done.0.size in
     omega arith
@@ -117,7 +117,7 @@ guard_front-requires c =
     let last = subst (IsSweptTo _ _ _ _ _ _ _)
     (ap (λ v. v ++ c.in-Some.pair.place ∷ []) (drop_of_length-le c.deref-place-items.result.now c.loop-place-test.false)) c.loop-place.invariant in
     let done = swept-step c.args.opened.start (sym (length-take-le c.args.opened.start c.args.source.now.items c.requires.start)) last
-    (omega arith) _ _ _ c.cut_out_pair-end.ensures.cuts in
+    (omega arith) _ _ _ c.cut_out_pair-swept.ensures.cuts in
     let shorter = swept-size done.0 _ c.close_up.ensures.bytes in
     let wider = done.1 in
     omega arith
@@ -133,7 +133,7 @@ returns-clause-removes c = λ e force.
     let last = subst (IsSweptTo _ _ _ _ _ _ _)
     (ap (λ v. v ++ c.in-Some.pair.place ∷ []) (drop_of_length-le c.deref-place-items.result.now c.loop-place-test.false)) c.loop-place.invariant in
     let done = swept-step c.args.opened.start (sym (length-take-le c.args.opened.start c.args.source.now.items r.start)) last
-    (omega arith) _ _ _ c.cut_out_pair-end.ensures.cuts in
+    (omega arith) _ _ _ c.cut_out_pair-swept.ensures.cuts in
     let up = c.close_up.ensures in
     let cut = swept-ends done.0 c.close_up.new.source.items c.close_up.new.index up.bytes up.spans up.pairs up.closing in
     removal-ends e c.args.opened c.args.source.now.items (chars c.args.key.now) force r.editable r.sound _ _ _ _ (cut-whole cut)

@@ -14,7 +14,7 @@ pub new_value-requires-clause-alone : goal.new_value-requires-clause-alone
 new_value-requires-clause-alone c =
     let r = c.requires in
     rw c.deref.ensures.value
-    (pair-alone c.args.opened c.args.source.now.items (editable-bytes _ r.unit) r.start c.args.pair (chars c.args.key.now) r.placed r.sound)
+    (pair-alone c.args.opened c.args.source.now.items (editable-bytes _ r.unit) r.start c.args.pair (chars c.args.key.now) r.placed)
 
 pub overflow_add-start : goal.overflow_add-start
 overflow_add-start c =

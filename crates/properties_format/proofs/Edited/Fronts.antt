@@ -1,5 +1,5 @@
--- The outcomes of the groups of some bytes, in order: that of a whole group at the front comes first, followed by those
--- of the bytes after it.
+-- The logical lines of some bytes, in order: that of a whole group at the front comes first, followed by those of the
+-- bytes after it.
 use Rattle.std.proofs.Common.{◌≡◌, ℕ, ◌+◌, Bool, true, false, List, [], ◌∷◌, ◌++◌, refl, ap, ap₂, sym, ◌∙◌, inl, inr}
 use Rattle.std.proofs.lemmas.Bool.Decides.{eqb_tells}
 use Rattle.properties_format.specs.Text.{line_feed}
@@ -8,32 +8,35 @@ use Rattle.properties_format.specs.Lines.{Ended, Lines, end, more, Line, numbere
 use Rattle.properties_format.specs.Computed.Lines.{lines_of, ends_in_cr, rest_of_end, lines_to_come}
 use Rattle.properties_format.specs.Groups.{IsWhole, joined}
 use Rattle.properties_format.specs.Computed.Groups.{groups_of}
-use Rattle.properties_format.specs.Entries.{Content}
-use Rattle.properties_format.specs.Items.{Outcome, ignored, given, broken}
+use Rattle.properties_format.specs.Items.{ignored}
+use Rattle.properties_format.specs.LogicalLines.{line_before, AreLinesOf}
 use Rattle.properties_format.specs.Computed.Items.{outcome_of, split_outcome}
 use Rattle.properties_format.proofs.Lines.Append.{lines_to_come-append}
 use Rattle.properties_format.proofs.Groups.Only.{groups_of-before}
+use Rattle.properties_format.proofs.Items.Unique.{outcome_of-meets, outcome_of-only}
 use Rattle.properties_format.proofs.Split.Unique.{split_of-blank}
 use Rattle.properties_format.specs.Computed.Cut.{decoded_line}
 use Rattle.properties_format.proofs.Body.Decoded.{decoded-nil}
 
--- ---- the outcomes of groups
+-- ---- the logical lines of groups
 
--- an outcome before others; a blank line has none
-abbrev pub outcome_before : Outcome → List Outcome → List Outcome
-outcome_before ignored os = os
-outcome_before (given content) os = given content ∷ os
-outcome_before (broken kind) os = broken kind ∷ os
+-- a logical line before others, unless it is blank
+abbrev pub with_line : List ℕ → List (List ℕ) → List (List ℕ)
+with_line x xs = line_before (outcome_of x) x xs
 
--- the outcomes of the groups, in order
-abbrev pub outcomes_of : List (List Line) → List Outcome
-outcomes_of [] = []
-outcomes_of (g ∷ gs) = outcome_before (outcome_of (joined g)) (outcomes_of gs)
+-- the logical lines of the groups, in order
+abbrev pub logical_lines : List (List Line) → List (List ℕ)
+logical_lines [] = []
+logical_lines (g ∷ gs) = with_line (joined g) (logical_lines gs)
 
--- contents as outcomes, none of them malformed
-abbrev pub givens : List Content → List Outcome
-givens [] = []
-givens (c ∷ cs) = given c ∷ givens cs
+-- They are these lines, and no others are.
+pub logical_lines-meets : (gs : List (List Line)) → AreLinesOf gs (logical_lines gs)
+logical_lines-meets [] = refl
+logical_lines-meets (g ∷ gs) = (outcome_of (joined g), logical_lines gs, outcome_of-meets (joined g), refl, logical_lines-meets gs)
+
+pub logical_lines-only : (gs : List (List Line)) (xs : List (List ℕ)) → AreLinesOf gs xs → xs ≡ logical_lines gs
+logical_lines-only [] xs h = h
+logical_lines-only (g ∷ gs) xs h = h.3 ∙ ap₂ (λ o v. line_before o (joined g) v) (outcome_of-only (joined g) h.0 h.2) (logical_lines-only gs h.1 h.4)
 
 -- ---- the lines of some bytes, each decoded by itself
 
@@ -53,9 +56,9 @@ line_texts_in e lines = ended_lines e lines.ended ++ record { number = 0; text =
 unfoldable pub line_texts : Encoding → List ℕ → List Line
 line_texts e d = line_texts_in e (lines_of d)
 
--- the outcomes of the groups of some bytes
-unfoldable pub outcomes_in : Encoding → List ℕ → List Outcome
-outcomes_in e d = outcomes_of (groups_of (line_texts e d) end)
+-- the logical lines of some bytes
+unfoldable pub logical_lines_in : Encoding → List ℕ → List (List ℕ)
+logical_lines_in e d = logical_lines (groups_of (line_texts e d) end)
 
 -- Two lists of lines, each line decoded by itself.
 decoded_each-append : (e : Encoding) (ls ms : List Line) → decoded_each e (ls ++ ms) ≡ decoded_each e ls ++ decoded_each e ms
@@ -79,7 +82,7 @@ unfolding line_texts
 line_texts-numbered e n d = decoded-end e n (lines_of d).ended (lines_of d).last
 
 -- The lines of bytes that end in a line end come before those of what follows, without an LF that belongs to a CR.
-pub line_texts-append : (e : Encoding) (x d : List ℕ) → (lines_of x).last ≡ []
+line_texts-append : (e : Encoding) (x d : List ℕ) → (lines_of x).last ≡ []
     → line_texts e (x ++ d) ≡ ended_lines e (lines_of x).ended ++ line_texts e (rest_of_end (ends_in_cr x) d)
 line_texts-append e x d h =
     let ls = lines_of x in
@@ -98,12 +101,12 @@ pub record IsFront (e : Encoding) (x : List ℕ) (g : List Line) : Type 0 where
   pub whole : IsWhole g
 
 -- With such bytes at the front, their group comes first, followed by what comes without an LF that belongs to a CR.
-front-outcomes : (e : Encoding) (x d : List ℕ) (g : List Line) → IsFront e x g
-    → outcomes_in e (x ++ d) ≡ outcome_before (outcome_of (joined g)) (outcomes_in e (rest_of_end (ends_in_cr x) d))
-unfolding outcomes_in
-front-outcomes e x d g h =
-    ap (λ v. outcomes_of (groups_of v end)) (line_texts-append e x d h.ended ∙ ap (λ v. v ++ line_texts e (rest_of_end (ends_in_cr x) d)) h.texts)
-    ∙ ap outcomes_of (groups_of-before g (line_texts e (rest_of_end (ends_in_cr x) d)) end h.whole)
+front-lines : (e : Encoding) (x d : List ℕ) (g : List Line) → IsFront e x g
+    → logical_lines_in e (x ++ d) ≡ with_line (joined g) (logical_lines_in e (rest_of_end (ends_in_cr x) d))
+unfolding logical_lines_in
+front-lines e x d g h =
+    ap (λ v. logical_lines (groups_of v end)) (line_texts-append e x d h.ended ∙ ap (λ v. v ++ line_texts e (rest_of_end (ends_in_cr x) d)) h.texts)
+    ∙ ap logical_lines (groups_of-before g (line_texts e (rest_of_end (ends_in_cr x) d)) end h.whole)
 
 -- ---- empty lines
 
@@ -115,28 +118,28 @@ outcome-empty = ap split_outcome (split_of-blank [] tt)
 lf-front : (e : Encoding) → IsFront e (line_feed ∷ []) (record { number = 0; text = [] } ∷ [])
 lf-front e = record { ended = refl; texts = ap (λ v. record { number = 0; text = v } ∷ []) (decoded-nil e); whole = inr (refl, refl) }
 
--- An LF at the front has no outcome.
-pub outcomes-lf : (e : Encoding) (d : List ℕ) → outcomes_in e (line_feed ∷ d) ≡ outcomes_in e d
-outcomes-lf e d = front-outcomes e (line_feed ∷ []) d (record { number = 0; text = [] } ∷ []) (lf-front e) ∙ ap (λ v. outcome_before v (outcomes_in e d)) outcome-empty
+-- An LF at the front has no logical line.
+pub lines-lf : (e : Encoding) (d : List ℕ) → logical_lines_in e (line_feed ∷ d) ≡ logical_lines_in e d
+lines-lf e d = front-lines e (line_feed ∷ []) d (record { number = 0; text = [] } ∷ []) (lf-front e) ∙ ap (λ v. line_before v [] (logical_lines_in e d)) outcome-empty
 
 -- So it doesn't matter whether an LF at the front is left out.
-outcomes-rest : (e : Encoding) (b : Bool) (d : List ℕ) → outcomes_in e (rest_of_end b d) ≡ outcomes_in e d
-outcomes-rest e true (c ∷ d) = elim (eqb_tells c line_feed) [
-  | inl k ↦ rw k.1 (sym (outcomes-lf e d))
+lines-rest : (e : Encoding) (b : Bool) (d : List ℕ) → logical_lines_in e (rest_of_end b d) ≡ logical_lines_in e d
+lines-rest e true (c ∷ d) = elim (eqb_tells c line_feed) [
+  | inl k ↦ rw k.1 (sym (lines-lf e d))
   | inr k ↦ rw k.0 refl
 ]
-outcomes-rest e b d = refl
+lines-rest e b d = refl
 
--- The outcome of a group before any bytes comes first, followed by the outcomes of those bytes.
-pub outcomes-front : (e : Encoding) (x d : List ℕ) (g : List Line) → IsFront e x g → outcomes_in e (x ++ d) ≡ outcome_before (outcome_of (joined g)) (outcomes_in e d)
-outcomes-front e x d g h = front-outcomes e x d g h ∙ ap (outcome_before (outcome_of (joined g))) (outcomes-rest e (ends_in_cr x) d)
+-- The logical line of a group before any bytes comes first, followed by those of the bytes.
+pub lines-front : (e : Encoding) (x d : List ℕ) (g : List Line) → IsFront e x g → logical_lines_in e (x ++ d) ≡ with_line (joined g) (logical_lines_in e d)
+lines-front e x d g h = front-lines e x d g h ∙ ap (with_line (joined g)) (lines-rest e (ends_in_cr x) d)
 
--- An empty list of bytes has no outcomes.
-pub outcomes-nil : (e : Encoding) → outcomes_in e [] ≡ []
-unfolding outcomes_in line_texts
-outcomes-nil e = ap (λ v. outcomes_of (groups_of (record { number = 0; text = v } ∷ []) end)) (decoded-nil e) ∙ ap (λ v. outcome_before v []) outcome-empty
+-- An empty list of bytes has no logical lines.
+pub lines-nil : (e : Encoding) → logical_lines_in e [] ≡ []
+unfolding logical_lines_in line_texts
+lines-nil e = ap (λ v. logical_lines (groups_of (record { number = 0; text = v } ∷ []) end)) (decoded-nil e) ∙ ap (λ v. line_before v [] []) outcome-empty
 
--- The outcome of bytes that are one group is that of the group.
-pub outcomes-one : (e : Encoding) (d : List ℕ) (g : List Line) → line_texts e d ≡ g → groups_of g end ≡ g ∷ [] → outcomes_in e d ≡ outcome_before (outcome_of (joined g)) []
-unfolding outcomes_in
-outcomes-one e d g h k = ap (λ v. outcomes_of (groups_of v end)) h ∙ ap outcomes_of k
+-- The logical line of bytes that are one group is that of the group.
+pub lines-one : (e : Encoding) (d : List ℕ) (g : List Line) → line_texts e d ≡ g → groups_of g end ≡ g ∷ [] → logical_lines_in e d ≡ with_line (joined g) []
+unfolding logical_lines_in
+lines-one e d g h k = ap (λ v. logical_lines (groups_of v end)) h ∙ ap logical_lines k

@@ -1,25 +1,22 @@
--- What is printed for a value that is set in place: it means the value, and can follow what separates the key from the
+-- What is printed for a value as people write it: it means the value, and can follow what separates the key from the
 -- value.
-use Rattle.std.proofs.Common.{◌≡◌, ◌⊎◌, ◌<◌, ℕ, ◌==◌, ◌&&◌, ◌||◌, Bool, true, false, List, [], ◌∷◌, ◌++◌, map, refl, ap, ap₂, sym, ◌∙◌, inl, inr, append_assoc, append-nil, eqb-true, lit<, subst, arith}
+use Rattle.std.proofs.Common.{◌≡◌, ◌⊎◌, ℕ, ◌==◌, ◌&&◌, ◌||◌, Bool, true, false, List, [], ◌∷◌, ◌++◌, map, refl, ap, ap₂, sym, ◌∙◌, inl, inr, append_assoc, append-nil, eqb-true, lit<, subst, arith}
 use Rattle.std.specs.List.{AllByRecursion}
 use Rattle.std.proofs.lemmas.Bool.{cond_both}
-use Rattle.properties_format.specs.Text.{scalar, space, backslash, is_blank, is_line_end, is_separator}
+use Rattle.properties_format.specs.Text.{scalar, space, backslash, is_blank, is_line_end, is_separator, is_empty}
 use Rattle.properties_format.specs.Encoding.{Encoding}
 use Rattle.properties_format.specs.Lines.{HoldsNoLineEnd}
 use Rattle.properties_format.specs.Groups.{is_open}
 use Rattle.properties_format.specs.Split.{begins}
 use Rattle.properties_format.specs.Escapes.{Spelling, itself, spelling_text, spelling_character, spellings_before, means}
 use Rattle.properties_format.specs.Computed.Escapes.{meaning_of}
-use Rattle.properties_format.specs.Printing.{in_key_or_value, unit_escape, printed_character, is_special}
-use Rattle.properties_format.specs.Writing.{is_empty}
-use Rattle.properties_format.specs.Valued.{is_free, printed_inside, printed_first, printed_last, printed_rest, printed_value}
+use Rattle.properties_format.specs.Printing.{in_key_or_value, unit_escape, printed_character, is_free, printed_inside, printed_first, printed_last, printed_rest, printed_value}
 use Rattle.properties_format.proofs.Lines.Plain.{plain-append}
 use Rattle.properties_format.proofs.Groups.Open.{is_open-other}
 use Rattle.properties_format.proofs.Escapes.Laws.{IsWhole, AreWhole, meaning_of-all}
-use Rattle.properties_format.proofs.Printing.Characters.{AreAscii, AreEncodable-ascii, printed-encodable, printed-either, unicode_escape-ascii}
+use Rattle.properties_format.proofs.Printing.Characters.{free-plain, first-special}
 use Rattle.properties_format.proofs.ReadBack.Spellings.{IsSafe, IsSafelyPrinted, special-printed, unicode-printed, in_key_or_value-printed}
 use Rattle.properties_format.proofs.ReadBack.Texts.{safe-plain, safe-closed, safe-begins}
-use Rattle.properties_format.proofs.ReadBack.Bytes.{AreWritable, ascii-scalars, writable-append}
 
 -- ---- spellings that may be used in such a value
 
@@ -104,14 +101,6 @@ loosely-closed x y z s o = ap (λ v. is_open (x ++ v)) s.text ∙ are_loose-clos
 
 -- ---- each character
 
--- A character that a value may have unescaped isn't a backslash or a line end.
-pub free-plain : (c : ℕ) → is_free c ≡ true → ((c == backslash) ≡ false) × (is_line_end c ≡ false) × (c < 0x80)
-free-plain c h = (grind (arith), grind (arith), grind (arith))
-
--- A space and a separator are special.
-pub first-special : (after_blanks : Bool) (c : ℕ) → (c == space || (after_blanks && is_separator c)) ≡ true → is_special c ≡ true
-first-special after_blanks c h = grind (arith)
-
 -- A character inside a value is loosely spelt.
 inside-loose : (e : Encoding) (only : Bool) (c : ℕ) → scalar c → IsLooselyPrinted (printed_inside e only c) c
 inside-loose e only c h =
@@ -181,35 +170,3 @@ value-begins e only after_blanks [] h = record { no_blank = refl; no_separator =
 value-begins e only after_blanks (c ∷ cs) h =
     cond_both (is_empty cs && c == space) (unit_escape space) (printed_first e only after_blanks c ++ printed_rest e only cs) (BeginsAfter after_blanks)
     (λ k. record { no_blank = refl; no_separator = λ q. refl }) (λ k. first-begins e only after_blanks c (printed_rest e only cs) h.0)
-
--- ---- it can be written
-
--- An ASCII text can be written.
-pub ascii-writable : (e : Encoding) (x : List ℕ) → AreAscii x → AreWritable e x
-ascii-writable e x h = record { scalars = ascii-scalars x h; encodable = AreEncodable-ascii e x h }
-
--- A character inside a value can be written.
-inside-writable : (e : Encoding) (only : Bool) (c : ℕ) → scalar c → AreWritable e (printed_inside e only c)
-inside-writable e only c h =
-    cond_both (is_free c) (c ∷ []) (printed_character e only in_key_or_value c) (AreWritable e) (λ k. ascii-writable e (c ∷ []) ((free-plain c k).2, tt))
-    (λ k. record { scalars = printed-either e only in_key_or_value c (AllByRecursion scalar) ascii-scalars (λ m. (h, tt)); encodable = printed-encodable e only in_key_or_value c })
-
--- A character at the front of a value can be written.
-first-writable : (e : Encoding) (only : Bool) (after_blanks : Bool) (c : ℕ) → scalar c → AreWritable e (printed_first e only after_blanks c)
-first-writable e only after_blanks c h =
-    grind (arith, inside-writable)
-
--- A space as `\u0020` can be written.
-space-writable : (e : Encoding) → AreWritable e (unit_escape space)
-space-writable e = ascii-writable e (unit_escape space) (unicode_escape-ascii space)
-
--- The characters after the first can be written.
-rest-writable : (e : Encoding) (only : Bool) (cs : List ℕ) → AllByRecursion scalar cs → AreWritable e (printed_rest e only cs)
-rest-writable e only [] h = ascii-writable e [] tt
-rest-writable e only (c ∷ []) h = cond_both (c == space) (unit_escape space) (printed_inside e only c) (AreWritable e) (λ k. space-writable e) (λ k. inside-writable e only c h.0)
-rest-writable e only (c ∷ d ∷ cs) h = writable-append e (printed_inside e only c) (printed_rest e only (d ∷ cs)) (inside-writable e only c h.0) (rest-writable e only (d ∷ cs) h.1)
-
--- What is printed for a value of scalar values can be written.
-pub value-writable : (e : Encoding) (only : Bool) (after_blanks : Bool) (value : List ℕ) → AllByRecursion scalar value → AreWritable e (printed_value e only after_blanks value)
-value-writable e only after_blanks value h =
-    grind (arith, writable-append, first-writable, rest-writable)
