@@ -13,3 +13,4 @@ pub mod Spelt
 pub mod PrintedTexts
 pub mod UnitBlocks
 pub mod Converted
+pub mod Tails

@@ -1,26 +1,60 @@
 -- Fronts of bytes that are valid text without being decoded.
-use Rattle.std.proofs.Common.{◌≡◌, ◌↔◌, ℕ, true, List, [], ◌∷◌, ◌++◌, length, drop, refl, sym, ap, ◌∙◌, append-nil, append_assoc}
-use Rattle.std.specs.Prelude.{Result, Ok, Err, MatchResult, OnErr, IsSome, encode_utf8_all}
-use Rattle.std.specs.Result.{result_ok}
-use Rattle.std.specs.Str.{IsUtf8, chars}
+use Rattle.std.proofs.Common.{◌≡◌, ◌+◌, ◌-◌, ◌<◌, ◌≤◌, ℕ, true, List, [], ◌∷◌, ◌++◌, length, take, drop, refl, sym, ap, subst, inl, inr, ◌∙◌, arith, append-nil, append_assoc, take_all, take-add, take-take, take-append-drop}
+use Rattle.std.specs.Prelude.{Result, Ok, Err, OnErr, encode_utf8_all}
+use Rattle.std.specs.Str.{IsUtf8, IsValidUpTo, chars}
 use Rattle.std.proofs.Math.Utf8.{scalar as is_scalar, scalars}
 use Rattle.std.specs.Char.{IsScalar, encode_utf8}
-use Rattle.std.proofs.lemmas.Bool.{and_from}
-use Rattle.std.proofs.lemmas.List.{nil_from_length}
-use Rattle.std.proofs.lemmas.Str.{IsUtf8-append, chars-append, chars-encodes}
+use Rattle.std.proofs.lemmas.Bool.{and_from, cases_lt}
+use Rattle.std.proofs.lemmas.List.{nil_from_length, drop-take, length-drop, length-take-le}
+use Rattle.std.proofs.lemmas.Str.{IsUtf8-append, IsUtf8-drop, IsCharBoundary-from_take, chars-append, chars-encodes}
 use Rattle.properties_format.specs.Pieces.{characters}
 use Rattle.properties_format.specs.Encoding.{Encoding, windows_1252, utf_8, utf_16le, utf_16be}
 use Rattle.properties_format.specs.Computed.Encoding.{first_piece, pieces_of}
 use Rattle.properties_format.proofs.Encodings.Pieces.{pieces_of-nil}
 use Rattle.properties_format.proofs.Encodings.Waiting.{characters-step}
 use Rattle.properties_format.proofs.Encodings.WellFormed.{IsUtf8-from_well_formed, characters-ascii, characters-text}
-use Rattle.properties_text.specs.Decoding.{IsText}
+use Rattle.properties_text.specs.Decoding.{IsLongestText, IsText}
 
--- A result is `Ok` exactly if its fact holds.
-pub ok-exactly : {X E : Type 0} (A : X → Type 0) (B : E → Type 0) (P : Type 0) (r : Result X E)
-    → MatchResult r (λ x. A x × P) (λ e. ¬ P × B e) → IsSome (result_ok r) ↔ P
-ok-exactly A B P (Ok x) h = (λ k. h.1, λ k. refl)
-ok-exactly A B P (Err e) h = (λ k. absurd (cc), λ k. absurd (h.0 k))
+-- All bytes are well-formed if the longest well-formed front has all of them, and otherwise not.
+pub whole-text : (bs : List ℕ) (n : ℕ) → IsLongestText bs n → length bs ≤ n → IsUtf8 bs
+whole-text bs n h le = subst IsUtf8 (take_all n bs le) h.text
+
+pub no-whole_text : (bs : List ℕ) (n : ℕ) → IsLongestText bs n → n < length bs → ¬ IsUtf8 bs
+no-whole_text bs n h few u =
+    let all : IsUtf8 (take (length bs) bs) = rw (take_all (length bs) bs (omega arith)) u in
+    let most = h.longest (length bs) (omega arith) all in
+    absurd (omega (arith, most, few))
+
+-- A well-formed front, and what std finds of the bytes after it.
+module _ (bs : List ℕ) (at : ℕ) (within : at ≤ length bs) (front : IsUtf8 (take at bs)) where
+  pub front-and_rest : IsUtf8 (drop at bs) → IsUtf8 bs
+  front-and_rest rest = subst IsUtf8 (take-append-drop at bs) (IsUtf8-append _ _ front rest)
+
+  -- More well-formed bytes from the start on are more after that front.
+  rest-of : (m : ℕ) → at ≤ m → m ≤ length bs → IsUtf8 (take m bs) → IsUtf8 (take (m - at) (drop at bs))
+  rest-of m le short u =
+      let same : IsUtf8 (take at (take m bs)) = rw (take-take at m bs le) front in
+      let rest = IsUtf8-drop (take m bs) at u (IsCharBoundary-from_take (take m bs) at u (omega (arith, length-take-le m bs short)) same) in
+      let e : at + (m - at) ≡ m = omega arith in
+      rw (← drop-take at (m - at) bs, e) rest
+
+  -- No longer front is well-formed than both together.
+  pub longest-after : (n : ℕ) → IsValidUpTo (drop at bs) n → IsLongestText bs (at + n)
+  longest-after n v = record {
+    within = omega (arith, v.short, length-drop at bs);
+    text = rw take-add (IsUtf8-append _ _ front v.front);
+    longest = λ m le u. elim (cases_lt (at + n) m) [
+      | inl l ↦ absurd (v.longest (m - at) (omega arith) (rest-of m (omega arith) le u))
+      | inr h ↦ h
+    ];
+  }
+
+pub longest-whole : (bs : List ℕ) → IsUtf8 bs → IsLongestText bs (length bs)
+longest-whole bs u = record {
+  within = omega arith;
+  text = rw (take_all (length bs) bs (omega arith)) u;
+  longest = λ m le _. le;
+}
 
 whole-front : (e : Encoding) (d : List ℕ) → characters (pieces_of e (d ++ [])) ≡ chars d ++ characters (pieces_of e []) → chars d ≡ characters (pieces_of e d)
 whole-front e d h = sym (rw (append-nil d, pieces_of-nil e, append-nil (chars d)) at h)

@@ -1,2 +1,3 @@
 pub mod Latin1
 pub mod Labels
+pub mod Tails

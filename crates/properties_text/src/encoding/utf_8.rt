@@ -1,16 +1,20 @@
 // UTF-8: sequences of one to four bytes. The first byte determines the length.
 
-ghost use Rattle.std.specs.Prelude.{◌≡◌, ◌++◌, ◌+◌, ◌*◌, ◌%◌, ◌^◌, ◌<◌, ◌≤◌, ◌∷◌, map, length, take, Some, None, IsSome, IfSome, ◌↔◌, MatchOption};
+ghost use Rattle.std.specs.Prelude.{ℕ, ◌≡◌, ◌++◌, ◌+◌, ◌*◌, ◌%◌, ◌^◌, ◌<◌, ◌≤◌, ◌∷◌, map, length, take, Some, None, IsSome, IfSome, ◌↔◌, MatchOption};
+ghost use Rattle.std.specs.Simd.Lanes.{mask_l};
 ghost use Rattle.std.specs.Str.{IsUtf8};
 ghost use Rattle.properties_format.specs.Utf8.{well_formed_rows, sequence_character, IsWellFormedText};
 ghost use Rattle.properties_format.specs.Computed.Utf8.{is_in, ranges_after, fitting};
 ghost use Rattle.properties_format.specs.Encoding.{utf_8};
 ghost use Rattle.properties_text.specs.Decoding.{IsFirstPiece, IsLongestText, range_of};
 ghost use Rattle.properties_text.specs.Spelt.{IsFirst, length_by_first};
+ghost use Rattle.properties_text.specs.Private.Tails.{ones, GoesOn};
 ghost use Rattle.properties_text.specs.declared.encoding.line.LineEncoding.TheVariants.{Utf8};
 
 use super::first_piece::FirstPiece;
 use super::line::Spelt;
+use byte_blocks::{ByteClass, Either, PastAscii, Within};
+use std::simd::prelude::*;
 
 // A range of bytes, both ends included.
 #[derive(Clone, Copy)]
@@ -117,7 +121,10 @@ pub fn as_text(bytes: &[u8]) -> Option<&str>
     ensures exactly { IsSome result ↔ IsWellFormedText bytes.now }
     ensures same { IfSome result (λ text. text.now ≡ bytes.now) }
 {
-    str::from_utf8(bytes).ok()
+    if well_formed_length(bytes) < bytes.len() {
+        return None;
+    }
+    Some(unsafe { str::from_utf8_unchecked(bytes) })
 }
 
 /// Returns the longest well-formed front, and the bytes after it.
@@ -126,20 +133,73 @@ pub fn text_front(bytes: &[u8]) -> (&str, &[u8])
     ensures text { IsUtf8 result.0.now }
     ensures longest { IsLongestText bytes.now (length result.0.now) }
 {
-    match str::from_utf8(bytes) {
-        Ok(text) => (text, &[]),
-        Err(error) => {
-            let (front, after) = bytes.split_at(error.valid_up_to());
-            (unsafe { str::from_utf8_unchecked(front) }, after)
-        }
-    }
+    let (front, after) = bytes.split_at(well_formed_length(bytes));
+    (unsafe { str::from_utf8_unchecked(front) }, after)
 }
 
 /// Returns the length of the longest well-formed front.
 pub fn well_formed_length(bytes: &[u8]) -> usize
     ensures { IsLongestText bytes.now result }
 {
-    text_front(bytes).0.len()
+    let front = blocks_length(bytes);
+    match str::from_utf8(&bytes[front..]) {
+        Ok(_) => bytes.len(),
+        Err(error) => front + error.valid_up_to(),
+    }
+}
+
+// The length of a well-formed front that is found by blocks of sixteen bytes. It ends where a block does.
+fn blocks_length(bytes: &[u8]) -> usize
+    ensures { (result ≤ length bytes.now) × IsUtf8 (take result bytes.now) }
+{
+    let mut known = 0;
+    let mut wanted = 0;
+    let mut at = 0;
+    while bytes.len() - at >= 16 {
+        let Some(after) = tails_after(wanted, u8x16::from_slice(&bytes[at..])) else {
+            break;
+        };
+        wanted = after;
+        at += 16;
+        if wanted == 0 {
+            known = at;
+        }
+    }
+    known
+}
+
+// Which bytes after the block have to be tails: bit i stands for byte i. `wanted` says it of the bytes of the block.
+// `None` if one of its bytes is not as wanted, or begins a sequence whose second byte may not be any tail.
+#[inline(always)]
+fn tails_after(wanted: u64, block: u8x16) -> Option<u64>
+    requires { wanted ≤ 0xffff }
+    ensures few { IfSome result (λ after. after ≤ 0xffff) }
+    ensures goes_on { IfSome result (λ after.
+        (n : ℕ) → wanted ≡ ones n → (m : ℕ) × (after ≡ ones m) × GoesOn n block m) }
+{
+    let past = bits_of::<PastAscii>(block);
+    if past + wanted == 0 {
+        return Some(0);
+    }
+    let tails = bits_of::<Within<0x80, 0xbf>>(block);
+    let twos = bits_of::<Within<0xc2, 0xdf>>(block);
+    let threes = bits_of::<Either<Within<0xe1, 0xec>, Within<0xee, 0xef>>>(block);
+    let fours = bits_of::<Within<0xf1, 0xf3>>(block);
+    let all = wanted + 2 * (twos + 3 * threes + 7 * fours);
+    // Sums are as good as bits here: a byte belongs to at most one of these classes.
+    if past != tails + twos + threes + fours || all % 0x1_0000 != tails {
+        return None;
+    }
+    Some(all / 0x1_0000)
+}
+
+// The bytes of the block that belong to the class, as bits.
+#[inline(always)]
+fn bits_of<C: ByteClass>(block: u8x16) -> u64
+    ensures value { result ≡ mask_l (map C.holds block) }
+    ensures small { result < 0x1_0000 }
+{
+    C::marks(block).bits()
 }
 
 /// Returns the first character of a text that is well-formed and not empty.
