@@ -1,5 +1,5 @@
 -- What the calls of a document come to.
-use Rattle.std.proofs.Common.{◌≡◌, ℕ, ◌+◌, Bool, true, false, List, [], ◌∷◌, length, drop, All, refl, ap, sym, ◌∙◌, subst}
+use Rattle.std.proofs.Common.{◌≡◌, ℕ, ◌+◌, Bool, true, false, List, [], ◌∷◌, length, drop, All, refl, ap, sym, ◌∙◌, subst, inl}
 use Rattle.std.specs.Prelude.{bytes_eq, if◌then◌else◌, Option, Some, None, Result, Ok, Err, IfOk, OnOk}
 use Rattle.std.specs.Borrow.{Bor}
 use Rattle.std.specs.Global.{Vec}
@@ -41,6 +41,7 @@ use Rattle.properties_editing.specs.declared.edit.document.Document.TheInside.{I
 use Rattle.properties_editing.specs.declared.edit.index.Index.{Index}
 use Rattle.properties_editing.specs.declared.edit.find.BodySpan.{BodySpan}
 use Rattle.properties_editing.specs.declared.edit.source.BodyStart.{BodyStart}
+use Rattle.properties_editing.proofs.Comments.{read-line}
 use Rattle.properties_editing.proofs.Editing.{made-result, removed-edits, set-edits}
 use Rattle.properties_editing.proofs.EditsInTurn.{result-made}
 use Rattle.properties_editing.proofs.SetValues.{value-edits}
@@ -62,7 +63,7 @@ value-entries : (n m : ℕ) (gs : List (List HeldLine)) (key : List ℕ) → Are
 value-entries n m [] key s = refl
 value-entries n m (g ∷ gs) key s =
     let next = m + length (group_bytes g) in
-    by (span_of m g) (pairs_from next gs) (outcome g) s.0 (value-entries (n + length g) next gs key s.1)
+    by (span_of m g) (pairs_from next gs) (outcome g) (read-line _ s.0) (value-entries (n + length g) next gs key s.1)
   where
     by : (span : BodySpan) (ps : List PairAt) (o : Outcome) → IsSound o → value_in (entries_in (n + length g) gs) key ≡ last_value key ps
         → value_in (followed n o (entries_in (n + length g) gs)) key ≡ last_value key (cons_option (option_map (paired span) (outcome_pair o)) ps)
@@ -74,7 +75,7 @@ value-entries n m (g ∷ gs) key s =
 -- The entries of groups without malformed escapes are items.
 items-sound : (n : ℕ) (gs : List (List HeldLine)) → AreSoundFor Read gs → AreItems (entries_in n gs)
 items-sound n [] s = tt
-items-sound n (g ∷ gs) s = of-outcome (outcome g) s.0 (items-sound (n + length g) gs s.1)
+items-sound n (g ∷ gs) s = of-outcome (outcome g) (read-line _ s.0) (items-sound (n + length g) gs s.1)
   where
     of-outcome : (o : Outcome) → IsSound o → AreItems (entries_in (n + length g) gs) → AreItems (followed n o (entries_in (n + length g) gs))
     of-outcome ignored s h = h
@@ -84,7 +85,7 @@ items-sound n (g ∷ gs) s = of-outcome (outcome g) s.0 (items-sound (n + length
 -- Where they are items, nothing is malformed.
 sound-items : (n : ℕ) (gs : List (List HeldLine)) → AreItems (entries_in n gs) → AreSoundFor Read gs
 sound-items n [] h = tt
-sound-items n (g ∷ gs) h = let m = of-outcome (outcome g) h in (m.0, sound-items (n + length g) gs m.1)
+sound-items n (g ∷ gs) h = let m = of-outcome (outcome g) h in (inl m.0, sound-items (n + length g) gs m.1)
   where
     of-outcome : (o : Outcome) → AreItems (followed n o (entries_in (n + length g) gs)) → IsSound o × AreItems (entries_in (n + length g) gs)
     of-outcome ignored h = (tt, h)
@@ -123,7 +124,7 @@ checks_has_key f d key (Some x) h = (f x, h)
 -- The keys of groups are those of their entries.
 entries-keys : (n : ℕ) (gs : List (List HeldLine)) → AreSoundFor Read gs → pair_keys (entries_in n gs) ≡ group_keys gs
 entries-keys n [] s = refl
-entries-keys n (g ∷ gs) s = of-outcome (outcome g) s.0 (entries-keys (n + length g) gs s.1)
+entries-keys n (g ∷ gs) s = of-outcome (outcome g) (read-line _ s.0) (entries-keys (n + length g) gs s.1)
   where
     of-outcome : (o : Outcome) → IsSound o → pair_keys (entries_in (n + length g) gs) ≡ group_keys gs
         → pair_keys (followed n o (entries_in (n + length g) gs)) ≡ cons_option (outcome_key o) (group_keys gs)

@@ -9,11 +9,11 @@ use Rattle.properties_format.specs.Entries as content
 use Rattle.std.proofs.lemmas.Bool.{cases_Bool, cond-true, cond-false}
 use Rattle.std.proofs.lemmas.List.{drop-drop, take_more}
 use Rattle.std.proofs.Math.Seq.{drop-append_seam}
-use Rattle.properties_format.specs.Edited.{is_editable, unreadable, final_group, is_empty_line, is_left_open}
+use Rattle.properties_format.specs.Edited.{is_editable, final_group, is_empty_line, is_left_open}
 use Rattle.properties_format.specs.Computed.Edited.{without}
-use Rattle.properties_editing.specs.Private.Sound.{AreSound, AreSoundFor, IsSoundFor, passes_over, result_from}
+use Rattle.properties_editing.specs.Private.Sound.{AreSoundFor, IsSoundFor}
 use Rattle.properties_editing.specs.declared.edit.source.Comments.{Comments}
-use Rattle.properties_editing.proofs.Comments.{from-after, from-fault, line-weaker, sound-join}
+use Rattle.properties_editing.proofs.Comments.{line-weaker, sound-join}
 use Rattle.properties_format.proofs.Body.Groups.{held-body, held_groups_of-meets, groups_bytes-append, groups-close, groups-leave}
 use Rattle.properties_format.proofs.Edited.Steps.{without-append, last_place-new, last_place-other, with_after, final_group-push}
 use Rattle.properties_editing.specs.Private.BodyKeys.{spans_bytes, AreWithin, AreOthersFound, IsErrorOfGroups, IsFault, IsPlace, closing_of, closing_bytes, IsKeyFound, places_with, key_told}
@@ -65,10 +65,6 @@ read-none comments body s at passed going w = record {
   encoding = refl;
 }
 
-pub sound-append : (gs hs : List (List HeldLine)) → AreSound gs → AreSound hs → AreSound (gs ++ hs)
-sound-append [] hs h k = k
-sound-append (g ∷ gs) hs h k = (h.0, sound-append gs hs h.1 k)
-
 -- the next group was read, and nothing in it is malformed
 pub read-more : {comments : Comments} {e : Encoding} {body : List ℕ} {groups : List (List HeldLine)} {s t : GroupReader} {group : Group} → HasRead comments e body groups s
     → (k : TakesGroup body s group t) → IsSoundFor comments (chars (text_of body t group)) → HasRead comments e body (groups ++ k.held ∷ []) t
@@ -100,20 +96,16 @@ read-all {comments} {e} {body} {groups} {s} h done = h.all ∙ (rw done (append-
 pub read-fault : {comments : Comments} {e : Encoding} {body : List ℕ} {groups : List (List HeldLine)} {s t : GroupReader} {group : Group} (error : PropertiesError)
     → HasRead comments e body groups s → TakesGroup body s group t → IsFault comments group.number (chars (text_of body t group)) error
     → IsErrorOfGroups comments (held_groups_of e body) error
-read-fault {comments} {e} {body} {groups} {s} {t} {group} error h k (passed, inl (how, breaks, is)) =
-    let broke : outcome_of (joined (as_lines k.held)) ≡ broken how = ap outcome_of (sym k.text) ∙ breaks in
+read-fault {comments} {e} {body} {groups} {s} {t} {group} error h k fault =
     let first : group.number ≡ 1 + length (held_in groups) = omega arith in
     inl (
-      how,
-      group.number,
-      (λ made.
-          ap (λ v. result_from comments 1 v made) (h.all ∙ ap (λ v. groups ++ v) k.groups)
-          ∙ from-after comments 1 groups (k.held ∷ groups_left body t) made h.sound
-          ∙ from-fault comments (1 + length (held_in groups)) k.held (groups_left body t) made how broke (ap (passes_over comments) (sym k.text) ∙ passed)
-          ∙ ap (unreadable how) (sym first)),
-      is,
+      groups,
+      k.held,
+      groups_left body t,
+      h.all ∙ ap (λ v. groups ++ v) k.groups,
+      h.sound,
+      subst (λ n. IsFault comments n (joined (as_lines k.held)) error) first (subst (λ x. IsFault comments group.number x error) k.text fault),
     )
-read-fault error h k (passed, inr is) = inr is
 
 -- ---- where the key is
 

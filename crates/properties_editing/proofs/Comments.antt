@@ -1,6 +1,6 @@
 -- What is asked of comments: which lines are read past, and the result of an edit by that.
 use Rattle.std.proofs.Common.{◌≡◌, ℕ, ◌+◌, true, false, List, [], ◌∷◌, ◌++◌, length, refl, ap, sym, ◌∙◌, inl, inr, subst, append-nil, length-append, arith}
-use Rattle.std.specs.Prelude.{if◌then◌else◌, None}
+use Rattle.std.specs.Prelude.{None}
 use Rattle.std.proofs.lemmas.Bool.{cond-true, cond-false}
 use Rattle.properties_format.specs.Encoding.{Encoding, byte_order_mark}
 use Rattle.properties_format.specs.Groups.{is_comment_line, joined}
@@ -17,41 +17,36 @@ use Rattle.properties_format.specs.Computed.Split.{split_of}
 use Rattle.properties_format.specs.Computed.Body.{entries_in, held_groups_of}
 use Rattle.properties_format.specs.Computed.Edited.{IsSound, result_by, result_of}
 use Rattle.properties_format.specs.Computed.Edited as format
-use Rattle.properties_format.specs.Computed.EditedPairs.{escapes_of_body, pairs_result_of, result_by_pairs}
 use Rattle.properties_format.specs.Computed.Parts.{outcome_key}
 use Rattle.properties_format.proofs.Body.Numbers.{items_of-groups}
 use Rattle.properties_format.proofs.Edited.Results.{result_of-meets, result-editable}
 use Rattle.properties_format.proofs.Edited.Steps.{result-after}
-use Rattle.properties_format.proofs.Edits.Escapes.{malformed_escapes_of-groups}
-use Rattle.properties_format.proofs.Edits.PairResults.{pairs_result_of-meets, pairs_result-editable}
+use Rattle.properties_format.proofs.Edits.Escapes.{escapes_of_body, malformed_escapes_of-groups}
+use Rattle.properties_format.proofs.Edits.PairResults.{pairs_result_of, pairs_result_of-meets, pairs_result-editable, result_by_pairs}
 use Rattle.properties_format.proofs.Split.Unique.{split_of-meets}
 use Rattle.properties_format.proofs.Valued.Parts.{comment_line-no_pair}
 use Rattle.properties_items.specs.FoundItems.{outcome_pair}
-use Rattle.properties_editing.specs.Private.Sound.{AreSound, AreSoundFor, IsResult, IsSoundFor, IsSoundLine, passes_over, result_for, result_from}
+use Rattle.properties_editing.specs.Private.Sound.{AreSound, AreSoundFor, IsResult, IsSoundFor, passes_over}
 use Rattle.properties_editing.specs.declared.edit.source.Comments.{Comments}
 use Rattle.properties_editing.specs.declared.edit.source.Comments.TheVariants.{Read, PassedOver}
 
 -- ---- one line
 
--- A line in which nothing is malformed is sound, whatever is asked,
-pub sound-line : (comments : Comments) (x : List ℕ) → IsSound (outcome_of x) → IsSoundFor comments x
-sound-line Read x s = s
-sound-line PassedOver x s = inl s
-
--- and so is a comment that is passed over.
-pub sound-passed : (comments : Comments) (x : List ℕ) → passes_over comments x ≡ true → IsSoundFor comments x
-sound-passed Read x h = absurd (cc)
-sound-passed PassedOver x h = inr h
-
-pub line-weaker : (comments : Comments) (x : List ℕ) → IsSoundFor comments x → IsSoundLine x
-line-weaker Read x s = inl s
-line-weaker PassedOver x s = s
+-- Where comments are read, nothing in a sound line is malformed.
+pub read-line : (x : List ℕ) → IsSoundFor Read x → IsSound (outcome_of x)
+read-line x (inl s) = s
+read-line x (inr h) = absurd (cc)
 
 passed-comment : (comments : Comments) (x : List ℕ) → passes_over comments x ≡ true → is_comment_line x ≡ true
 passed-comment Read x h = absurd (cc)
 passed-comment PassedOver x h = h
 
--- Such a line is no pair.
+-- A sound line is sound where comments are passed over.
+pub line-weaker : (comments : Comments) (x : List ℕ) → IsSoundFor comments x → IsSoundFor PassedOver x
+line-weaker comments x (inl s) = inl s
+line-weaker comments x (inr h) = inr (passed-comment comments x h)
+
+-- A comment is no pair.
 not-pair : (x : List ℕ) → is_comment_line x ≡ true → (outcome_key (outcome_of x) ≡ None) × (outcome_pair (outcome_of x) ≡ None)
 not-pair x c = of-split (split_of x) (split_of-meets x)
   where
@@ -79,12 +74,22 @@ sound-join comments (g ∷ gs) hs h k = (h.0, sound-join comments gs hs h.1 k)
 
 all-read : (gs : List (List HeldLine)) → AreSoundFor Read gs → format.AreSound gs
 all-read [] h = tt
-all-read (g ∷ gs) h = (h.0, all-read gs h.1)
+all-read (g ∷ gs) h = (read-line (joined (as_lines g)) h.0, all-read gs h.1)
 
 -- ---- the first malformed escape that isn't passed over
 
+-- the result of an edit that makes these bytes of a source
+abbrev pub result_for : Comments → Encoding → List ℕ → List ℕ → EditResult
+result_for Read e source made = result_of e source made
+result_for PassedOver e source made = pairs_result_of e source made
+
+-- the same of the groups of its body, whose lines are numbered from this number on
+abbrev pub result_from : Comments → ℕ → List (List HeldLine) → List ℕ → EditResult
+result_from Read n gs made = result_by (entries_in n gs) made
+result_from PassedOver n gs made = result_by_pairs (escapes_of_body n gs) made
+
 -- a line that is sound, before malformed escapes
-pairs-step : (n : ℕ) (x : List ℕ) (o : Outcome) (ms : List MalformedEscape) (made : List ℕ) → o ≡ outcome_of x → IsSoundLine x
+pairs-step : (n : ℕ) (x : List ℕ) (o : Outcome) (ms : List MalformedEscape) (made : List ℕ) → o ≡ outcome_of x → IsSoundFor PassedOver x
     → result_by_pairs (escapes_from n x o ms) made ≡ result_by_pairs ms made
 pairs-step n x ignored ms made s h = refl
 pairs-step n x (given content) ms made s h = refl
@@ -104,7 +109,7 @@ pairs-after n (g ∷ gs) hs made h =
 pub from-after : (comments : Comments) (n : ℕ) (gs hs : List (List HeldLine)) (made : List ℕ) → AreSoundFor comments gs
     → result_from comments n (gs ++ hs) made ≡ result_from comments (n + length (held_in gs)) hs made
 from-after Read n gs hs made h = result-after n gs hs made (all-read gs h)
-from-after PassedOver n gs hs made h = pairs-after n gs hs made (sound-weaker PassedOver gs h)
+from-after PassedOver n gs hs made h = pairs-after n gs hs made h
 
 -- A group with a malformed escape that isn't passed over.
 pub from-fault : (comments : Comments) (n : ℕ) (g : List HeldLine) (gs : List (List HeldLine)) (made : List ℕ) (how : Malformed)
@@ -148,10 +153,3 @@ pub result_for-meets : (comments : Comments) (e : Encoding) (source made : List 
     → IsResult comments e source Makes (result_for comments e source made)
 result_for-meets Read e source made Makes m = strict-result e source Makes (result_of e source made) (result_of-meets e source made Makes (λ ok. m))
 result_for-meets PassedOver e source made Makes m = pairs-result e source Makes (pairs_result_of e source made) (pairs_result_of-meets e source made Makes (λ ok. m))
-
--- Edits that make the same bytes have the same results.
-pub result-as : (comments : Comments) (e : Encoding) (source : List ℕ) (Makes Other : List ℕ → Type 0) → ((made : List ℕ) → Makes made → Other made)
-    → (r : EditResult) → IsResult comments e source Makes r → IsResult comments e source Other r
-result-as comments e source Makes Other f unsupported h = h
-result-as comments e source Makes Other f (unreadable kind n) h = h
-result-as comments e source Makes Other f (edited made) h = (h.0, h.1, f made h.2)

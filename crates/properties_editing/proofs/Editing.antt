@@ -10,14 +10,14 @@ use Rattle.properties_format.specs.Text.{LineEnding, lf, cr, crlf, line_ending_t
 use Rattle.properties_format.specs.Printing.{in_key_or_value, printed_key, printed_characters, encoded_text}
 use Rattle.properties_format.proofs.Printing.Characters.{encoded-ascii, encoded_text-append}
 use Rattle.properties_format.specs.Encoding.{Encoding, InForce, byte_order_mark, begins_with, begins_like_bom, utf_8_bom, utf_16be_bom, utf_16le_bom, output_encoding}
-use Rattle.properties_format.specs.Body.{ending_bytes, groups_bytes, last_ending}
+use Rattle.properties_format.specs.Body.{ending_bytes, groups_bytes, held_in, last_ending}
 use Rattle.properties_format.specs.Edited.{bom_of, pair_bytes, separation, added_ending, is_editable, edited, IsKeySet, IsKeyRemoved, IsSetKeyResult, IsRemoveKeyResult}
 use Rattle.properties_format.specs.Computed.Body.{held_groups_of}
 use Rattle.properties_format.specs.Computed.Edited.{without, key_removed, key_removed_in, key_set, key_set_in, set_at, last_place}
-use Rattle.properties_editing.specs.Private.Sound.{AreSound, AreSoundFor, IsResult, Returns, result_for, result_from}
+use Rattle.properties_editing.specs.Private.Sound.{AreSound, AreSoundFor, IsResult, Returns}
 use Rattle.properties_editing.specs.declared.edit.source.Comments.{Comments}
 use Rattle.properties_editing.specs.declared.edit.source.Comments.TheVariants.{Read}
-use Rattle.properties_editing.proofs.Comments.{from-sound, result-groups, result_for-meets}
+use Rattle.properties_editing.proofs.Comments.{from-after, from-fault, from-sound, result_for, result_from, result-groups, result_for-meets}
 use Rattle.properties_format.proofs.Body.Groups.{held_groups_of-meets, held-body}
 use Rattle.properties_format.proofs.Edited.ByteOrderMarks.{key_removed-in_force, key_set-in_force, source-whole}
 use Rattle.properties_format.proofs.Edited.Results.{set_key_result-only, remove_key_result-only}
@@ -105,8 +105,12 @@ refusal comments {source} {e} {opened} result Makes made h ok makes fault return
     (r.0, r.1, subst (IsRefusal (IsResult comments e source Makes)) (sym r.2) (by (rw (take_rest source opened.start) at fault)))
   where
     by : {error : PropertiesError} → IsErrorOfGroups comments (held_groups_of (encoding_of opened.encoding) (drop opened.start source)) error → IsRefusal (IsResult comments e source Makes) error
-    by (inl (how, n, first, is)) =
-        inr (inl (how, n, subst (IsResult comments e source Makes) (groups-of comments made h ok ∙ first made) (result_for-meets comments e source made Makes makes), is))
+    by (inl (before, g, after, division, sound, (passed, inl (how, broke, is)))) =
+        let n = 1 + length (held_in before) in
+        let first =
+        ap (λ v. result_from comments 1 v made) division ∙ from-after comments 1 before (g ∷ after) made sound ∙ from-fault comments n g after made how broke passed in
+        inr (inl (how, n, subst (IsResult comments e source Makes) (groups-of comments made h ok ∙ first) (result_for-meets comments e source made Makes makes), is))
+    by (inl (before, g, after, division, sound, (passed, inr is))) = inr (inr ((λ none. not-unsupported h ok none), is))
     by (inr is) = inr (inr ((λ none. not-unsupported h ok none), is))
 
 -- ---- a key is set

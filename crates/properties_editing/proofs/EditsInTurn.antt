@@ -1,5 +1,5 @@
 -- Edits made one after another, each to the bytes that the one before it gave.
-use Rattle.std.proofs.Common.{◌≡◌, ℕ, Bool, List, [], ◌∷◌, ◌++◌, refl, sym, ◌∙◌, subst}
+use Rattle.std.proofs.Common.{ℕ, Bool, List, [], ◌∷◌, ◌++◌, refl, sym, ◌∙◌, subst}
 use Rattle.std.specs.Prelude.{Result, Ok, Err}
 use Rattle.std.specs.Global.{Vec}
 use Rattle.properties_format.specs.Encoding.{Encoding}
@@ -73,5 +73,7 @@ returns-pairs e only source edits scalar (Err error) h = h
 -- What a call for one edit returns is what a list of that edit does.
 pub returns-once : (comments : Comments) (e : Encoding) (only : Bool) (source : List ℕ) (edit : Edit) (result : Result (Vec ℕ) PropertiesError)
     → Returns comments e source (IsEdited e only source edit) result → Returns comments e source (AreEdited e only source (edit ∷ [])) result
-returns-once comments e only source edit (Ok bytes) h = (h.0, h.1, (bytes.items, h.2, refl))
-returns-once comments e only source edit (Err error) h = h
+returns-once Read e only source edit (Ok bytes) h = (h.0, h.1, (bytes.items, h.2, refl))
+returns-once PassedOver e only source edit (Ok bytes) h = (h.0, h.1, (bytes.items, h.2, refl))
+returns-once Read e only source edit (Err error) h = h
+returns-once PassedOver e only source edit (Err error) h = h

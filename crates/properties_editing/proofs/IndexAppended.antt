@@ -17,7 +17,8 @@ use Rattle.properties_format.specs.Body.{HeldLine, as_lines, group_bytes, groups
 use Rattle.properties_format.specs.Edited.{final_group, is_editable, is_empty_line, is_left_open}
 use Rattle.properties_format.specs.Computed.Items.{outcome_of}
 use Rattle.properties_format.specs.Computed.Edited.{IsSound}
-use Rattle.properties_editing.specs.Private.Sound.{AreSound, IsSoundLine}
+use Rattle.properties_editing.specs.Private.Sound.{AreSound, IsSoundFor}
+use Rattle.properties_editing.specs.declared.edit.source.Comments.TheVariants.{PassedOver}
 use Rattle.properties_format.specs.Computed.Parts.{unended_bytes}
 use Rattle.properties_format.proofs.Edited.AppendedPair as appended
 use Rattle.properties_format.proofs.Edited.Closed.{AreClosedBy, IsLeft, opened_by}
@@ -29,7 +30,7 @@ use Rattle.properties_editing.specs.Private.BodyKeys.{closing_of}
 use Rattle.properties_editing.specs.declared.edit.index.Index.{Index}
 use Rattle.properties_editing.specs.declared.edit.index.Shift.TheVariants as shift
 use Rattle.properties_editing.specs.declared.edit.find.BodySpan.{BodySpan}
-use Rattle.properties_editing.proofs.BodyKeys.{sound-append}
+use Rattle.properties_editing.proofs.Comments.{sound-join}
 use Rattle.properties_editing.proofs.IndexListed.{IsShift, listed-as, listed-shifted, moved, shift-append}
 use Rattle.properties_editing.proofs.IndexParsed.{listed-stored}
 use Rattle.properties_editing.proofs.IndexSpans.{group-size, pairs-around, pairs-first, pairs-join, shift-all, shift-option, size-around, span-is}
@@ -116,15 +117,15 @@ sound-second : (xs ys : List (List HeldLine)) → AreSound (xs ++ ys) → AreSou
 sound-second [] ys h = h
 sound-second (x ∷ xs) ys h = sound-second xs ys h.1
 
-left-sound : (by : LineEnding) (g : List HeldLine) (left : List (List HeldLine)) → IsSoundLine (joined (as_lines g)) → IsLeft by g left → AreSound left
+left-sound : (by : LineEnding) (g : List HeldLine) (left : List (List HeldLine)) → IsSoundFor PassedOver (joined (as_lines g)) → IsLeft by g left → AreSound left
 left-sound by g left s (inl gone) = subst AreSound (sym gone.0) tt
-left-sound by g left s (inr is) = subst AreSound (sym is.is) (subst IsSoundLine (sym is.line) s, tt)
+left-sound by g left s (inr is) = subst AreSound (sym is.is) (subst (IsSoundFor PassedOver) (sym is.line) s, tt)
 
 closed-sound : (e : Encoding) (by : LineEnding) (gs : List (List HeldLine)) (k : AreClosedBy e by gs) → AreSound gs → AreSound (k.before ++ k.left)
 closed-sound e by gs k sounds =
     let whole : AreSound (k.before ++ k.final ∷ []) = subst AreSound k.division sounds in
     let final = (sound-second k.before (k.final ∷ []) whole).0 in
-    sound-append k.before k.left (sound-first k.before (k.final ∷ []) whole) (left-sound by k.final k.left final k.is_left)
+    sound-join PassedOver k.before k.left (sound-first k.before (k.final ∷ []) whole) (left-sound by k.final k.left final k.is_left)
 
 final-two : (xs : List (List HeldLine)) (x y : List HeldLine) → final_group (xs ++ x ∷ y ∷ []) ≡ y
 final-two xs x y = ap final_group (sym (append_assoc xs (x ∷ []) (y ∷ []))) ∙ final_group-push (xs ++ x ∷ []) y
@@ -152,7 +153,7 @@ module _ (e : Encoding) (by second : LineEnding) (gs : List (List HeldLine)) (ke
 
   pub appended-sound : AreSound gs → AreSound groups
   appended-sound sounds =
-      sound-append closed ((line ∷ []) ∷ last ∷ []) (closed-sound e by gs k sounds)
+      sound-join PassedOver closed ((line ∷ []) ∷ last ∷ []) (closed-sound e by gs k sounds)
       (inl (subst IsSound (sym said) tt), (inl (subst IsSound (sym empty-said) tt), tt))
 
   -- The index with the pair is that of the groups with it.

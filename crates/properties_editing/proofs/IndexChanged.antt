@@ -11,7 +11,8 @@ use Rattle.properties_format.specs.Items.{given}
 use Rattle.properties_format.specs.Body.{HeldLine, NoneHasKey, as_lines, ending_bytes, group_bytes, groups_bytes, last_ending}
 use Rattle.properties_format.specs.Edited.{final_group, is_empty_line, is_last_open, is_left_open}
 use Rattle.properties_format.specs.Computed.Edited.{IsSound}
-use Rattle.properties_editing.specs.Private.Sound.{AreSound, IsSoundLine}
+use Rattle.properties_editing.specs.Private.Sound.{AreSound, IsSoundFor}
+use Rattle.properties_editing.specs.declared.edit.source.Comments.TheVariants.{PassedOver}
 use Rattle.properties_format.specs.Computed.Parts.{unended_bytes}
 use Rattle.properties_format.proofs.InTurn.Lines.{ending-of}
 use Rattle.properties_format.proofs.InTurn.Merged.{AreInTurn}
@@ -81,7 +82,7 @@ last-told e before g (h ∷ after) m n start turn m_is n_is =
 
 -- ---- groups that say the same
 
-sound-changed : (before : List (List HeldLine)) (g h : List HeldLine) (after : List (List HeldLine)) → IsSoundLine (joined (as_lines h))
+sound-changed : (before : List (List HeldLine)) (g h : List HeldLine) (after : List (List HeldLine)) → IsSoundFor PassedOver (joined (as_lines h))
     → AreSound (before ++ g ∷ after)
     → AreSound (before ++ h ∷ after)
 sound-changed [] g h after s k = (s, k.1)

@@ -13,7 +13,8 @@ use Rattle.properties_format.specs.Body.{HeldLine, group_bytes, groups_bytes}
 use Rattle.properties_format.specs.Edited.{is_editable}
 use Rattle.properties_format.specs.Computed.Body.{has_key, held_groups_of, is_pair_with}
 use Rattle.properties_format.specs.Computed.Cut.{decoded_line}
-use Rattle.properties_editing.specs.Private.Sound.{AreSound, IsSoundLine}
+use Rattle.properties_editing.specs.Private.Sound.{AreSound, IsSoundFor}
+use Rattle.properties_editing.specs.declared.edit.source.Comments.TheVariants.{PassedOver}
 use Rattle.properties_format.specs.Computed.Items.{outcome_of}
 use Rattle.properties_format.specs.Computed.Parts.{unended_bytes, are_one_ending}
 use Rattle.properties_format.proofs.Body.Decoded.{decoded-nil}
@@ -91,7 +92,7 @@ module _ (e : Encoding) where
     | inl k ↦
         let m = one-ending g h k in
         subst AreSound (sym (merged-one g h gs k))
-        (subst IsSoundLine (sym (ap joined (texts-with (Some crlf) g))) s.0, merged-sound gs (after-lf e h gs r m.by_lf) s.1.1)
+        (subst (IsSoundFor PassedOver) (sym (ap joined (texts-with (Some crlf) g))) s.0, merged-sound gs (after-lf e h gs r m.by_lf) s.1.1)
     | inr k ↦ subst AreSound (sym (merged-two g h gs k)) (s.0, merged-sound (h ∷ gs) r s.1)
   ]
 

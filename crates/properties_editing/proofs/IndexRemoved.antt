@@ -41,7 +41,9 @@ use Rattle.properties_editing.specs.declared.edit.source.BodyStart.{BodyStart}
 use Rattle.properties_editing.specs.declared.edit.find.Closing.{Closing}
 use Rattle.properties_editing.specs.declared.edit.find.Closing.TheVariants.{Nothing}
 use Rattle.properties_editing.proofs.BodyGroups.{front-of}
-use Rattle.properties_editing.proofs.BodyKeys.{some-groups, sound-append}
+use Rattle.properties_editing.proofs.BodyKeys.{some-groups}
+use Rattle.properties_editing.proofs.Comments.{sound-join}
+use Rattle.properties_editing.specs.declared.edit.source.Comments.TheVariants.{PassedOver}
 use Rattle.properties_editing.proofs.Editing.{removed-bytes, removed-kept, unmarked}
 use Rattle.properties_editing.proofs.IndexChanged.{IsLastTold, final-behind, last-told, some-ending, turn-behind}
 use Rattle.properties_editing.proofs.IndexCut.{HasCut, HaveBytes, all_cut, cut-first, cut_from}
@@ -212,7 +214,7 @@ same-rest e key xs [] =
     let last = empty_group None in
     let said : outcome last ≡ ignored = empty-said e None last (empty-lines e None) refl in
     record {
-      sound = λ h. sound-append xs (last ∷ []) (subst AreSound (append-nil xs) h) (inl (subst IsSound (sym said) tt), tt);
+      sound = λ h. sound-join PassedOver xs (last ∷ []) (subst AreSound (append-nil xs) h) (inl (subst IsSound (sym said) tt), tt);
       left = without-append key xs (last ∷ [])
           ∙ ap (λ v. without key xs ++ v) (cond-false (has_key key last) [] (group_bytes last ++ []) (ap (is_pair_with key) said))
           ∙ sym (without-append key xs []);

@@ -41,7 +41,8 @@ use Rattle.properties_format.specs.Computed.Parts.{unended_bytes}
 use Rattle.properties_format.specs.Split.{Logical, IsSplit}
 use Rattle.properties_format.proofs.Split.Unique.{split_of-meets}
 use Rattle.properties_format.proofs.Valued.Parts.{comment_line-no_pair}
-use Rattle.properties_editing.specs.Private.Sound.{IsSoundLine}
+use Rattle.properties_editing.specs.Private.Sound.{IsSoundFor}
+use Rattle.properties_editing.specs.declared.edit.source.Comments.TheVariants.{PassedOver}
 use Rattle.properties_format.specs.Escapes.{Meaning, means, breaks}
 use Rattle.properties_format.specs.Computed.Escapes.{meaning_of}
 use Rattle.properties_format.specs.Computed.Items.{comment_outcome, pair_outcome, split_outcome}
@@ -71,7 +72,7 @@ between-some (Logical.comment raw) x some = of-comment (meaning_of raw) some
 between-some (Logical.pair raw_key raw_value) x some = (between_in x, refl)
 
 -- a line that is no pair
-between-unpaired : (x : List ℕ) → IsSoundLine x → is_pair (split_outcome (split_of x)) ≡ false → between_if_pair (split_of x) x ≡ None
+between-unpaired : (x : List ℕ) → IsSoundFor PassedOver x → is_pair (split_outcome (split_of x)) ≡ false → between_if_pair (split_of x) x ≡ None
 between-unpaired x (inl s) n = between-none (split_of x) x s n
 between-unpaired x (inr c) n = of-split (split_of x) (split_of-meets x)
   where
@@ -83,7 +84,7 @@ between-unpaired x (inr c) n = of-split (split_of x) (split_of-meets x)
 -- ---- the last pair
 
 -- the last pair with one more group after it, which is a pair or not
-pub last-after : (groups : List (List HeldLine)) (g : List HeldLine) (span : BodySpan) (told : Bool) (last : Option BodySpan) → IsLastPair groups last → IsSoundLine (joined (as_lines g))
+pub last-after : (groups : List (List HeldLine)) (g : List HeldLine) (span : BodySpan) (told : Bool) (last : Option BodySpan) → IsLastPair groups last → IsSoundFor PassedOver (joined (as_lines g))
     → told ≡ is_pair (outcome g) → span.start ≡ length (groups_bytes groups) → span.end ≡ span.start + length (unended_bytes g)
     → IsLastPair (groups ++ g ∷ []) (if told then Some span else last)
 last-after groups g span true last h sound is starts ends =

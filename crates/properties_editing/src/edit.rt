@@ -272,7 +272,9 @@ pub fn edit_all_ascii(
 }
 
 /// Returns the source after these edits, as [`edit_all`] does, or as [`edit_all_ascii`] does if `ascii_only` is set, and
-/// passes over comments, as Java does: only a malformed escape in a pair is an error. Comments stay as they are.
+/// passes over comments, as Java does. Comments stay as they are.
+///
+/// UTF-16 is refused. Of malformed escapes, only one in a pair is an error.
 ///
 /// ```text
 /// let edits = vec![in alloc; Edit::Put(port, value)]?;
@@ -310,24 +312,10 @@ fn edit_all_with(
 ) -> Result<Vec<u8>, PropertiesError>
     ensures { Returns comments (encoding_of encoding) source.now (AreEdited (encoding_of encoding) ascii_only source.now (edits_in edits.now)) result }
 {
-    match edits {
-        // One edit needs no index, which takes eight times the memory of a source, and more if its pairs are short.
-        [edit] => edit_once(alloc, source, encoding, ascii_only, comments, edit),
-        _ => edit_in_turn(alloc, source, encoding, ascii_only, comments, edits),
-    }
-}
-
-// Returns the source after one edit, by the call for it.
-fn edit_once(
-    alloc: Global,
-    source: &[u8],
-    encoding: Encoding,
-    ascii_only: bool,
-    comments: Comments,
-    edit: &Edit,
-) -> Result<Vec<u8>, PropertiesError>
-    ensures { Returns comments (encoding_of encoding) source.now (AreEdited (encoding_of encoding) ascii_only source.now (edit_in edit.now ∷ [])) result }
-{
+    // One edit needs no index, which takes eight times the memory of a source, and more if its pairs are short.
+    let [edit] = edits else {
+        return edit_in_turn(alloc, source, encoding, ascii_only, comments, edits);
+    };
     match edit {
         Edit::Put(key, value) => set_key_with(
             alloc, source, encoding, ascii_only, comments, key, value,

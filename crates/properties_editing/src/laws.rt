@@ -21,10 +21,14 @@ ghost use Rattle.properties_format.specs.EditLaws.{PassingOverIsReading, ValueIs
 /// A value that is set with its layout kept is in the map as well. Setting the value that a key has changes no byte,
 /// nor does setting a value again. Setting a value twice is the same as setting it once, to the later value, if the
 /// source doesn't have the later value already. Setting the value of a pair in what a writer wrote, with readable output
-/// on, gives what the writer writes with that value.
+/// on, gives what the writer writes with that value, if no later pair has its key. The edit is in ASCII alone exactly if
+/// the writer printed the pair so.
 ///
 /// An empty list of edits returns the source. A list of one edit is the same as the call for that edit. Two lists of
 /// edits, concatenated, give what the second list makes of the first list's result.
+///
+/// If no comment has a malformed escape, edits that pass over comments have the same results as edits that read them,
+/// refusals too. If no pair has one either, a key has the same value whether comments are read or passed over.
 ///
 /// ```text
 /// laws::editing();

@@ -1,7 +1,8 @@
 //! Edits `.properties` files that are in memory, and says the laws of edits.
 //!
-//! [`set_key`], [`set_value`] and [`remove_key`] make one edit, [`edit_all`] and [`edit_all_ascii`] a list of them. A
-//! [`Document`] is a source that is kept open for edits. `java_properties` hands all of it on.
+//! [`set_key`], [`set_value`] and [`remove_key`] make one edit, [`edit_all`] and [`edit_all_ascii`] a list of them.
+//! [`edit_pairs`] makes a list of edits and passes over comments. A [`Document`] is a source that is kept open for
+//! edits. `java_properties` hands all of it on.
 #![tactic(auto)]
 
 mod edit;

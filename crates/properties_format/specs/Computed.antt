@@ -22,4 +22,3 @@ pub mod Parts
 pub mod Keys
 pub mod Undecoded
 pub mod Converting
-pub mod EditedPairs

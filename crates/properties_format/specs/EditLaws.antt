@@ -78,7 +78,7 @@ SettingAValueGivesIt e only source key value =
     → (old new : List ℕ → Option (List ℕ)) → HasMap e source old → HasMap e result new → DiffersAt key (Some value) old new
 
 -- A pair's value is set in what calls wrote: the result is what they write with that value. Readable output was on for
--- the pair, ASCII-only output is on for the edit if it was for the pair, and no later pair has the key.
+-- the pair, ASCII-only output is on for the edit exactly if it was for the pair, and no later pair has the key.
 abbrev pub SettingAValueIsWritingAnew : Encoding → Settings → List Call → List ℕ → List ℕ → List Call → List ℕ → Type 0
 SettingAValueIsWritingAnew e s before key old after value =
     let at = settings_after s before in

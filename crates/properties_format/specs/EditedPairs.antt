@@ -5,8 +5,8 @@ use Rattle.properties_format.specs.Encoding.{Encoding, IsDecoded, byte_order_mar
 use Rattle.properties_format.specs.Lines.{end, Line, Lines, IsLines, numbered_lines}
 use Rattle.properties_format.specs.Groups.{IsGroups, joined, first_number}
 use Rattle.properties_format.specs.Escapes.{Malformed}
-use Rattle.properties_format.specs.Entries.{comment, pair, Entry, item}
-use Rattle.properties_format.specs.Items.{Outcome, ignored, given, broken, IsOutcome}
+use Rattle.properties_format.specs.Entries.{pair, Entry, item}
+use Rattle.properties_format.specs.Items.{Outcome, given, IsOutcome}
 use Rattle.properties_format.specs.Maps.{IsValue}
 use Rattle.properties_format.specs.MalformedEscapes.{MalformedEscape, AreMalformedEscapes}
 use Rattle.properties_format.specs.Edited.{EditResult, edited, unsupported, unreadable, is_editable}
@@ -50,10 +50,8 @@ IsEditPairsResult e only source edits result = IsPairsResult e source (AreEdited
 
 -- the entry of a pair, before those of the groups after it; whatever else a group gives has none
 abbrev pub pair_from : ℕ → Outcome → List Entry → List Entry
-pair_from n ignored rest = rest
-pair_from n (given (comment text)) rest = rest
 pair_from n (given (pair key value)) rest = item n (pair key value) ∷ rest
-pair_from n (broken kind) rest = rest
+pair_from n outcome rest = rest
 
 -- These are the pairs of the groups, in order.
 abbrev pub ArePairsIn : List (List Line) → List Entry → Type 0

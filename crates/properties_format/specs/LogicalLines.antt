@@ -1,21 +1,19 @@
 -- The logical lines of a source that can be edited, and what an edit does to them: it changes pairs, and leaves every
 -- other line as it is, whatever that is.
 -- Source: java.util.Properties of Java SE 7, setProperty and load (comment lines are passed over).
-use Rattle.std.specs.Prelude.{◌≡◌, ◌⊎◌, ℕ, true, List, [], ◌∷◌, ◌++◌}
+use Rattle.std.specs.Prelude.{◌≡◌, ◌⊎◌, ℕ, List, [], ◌∷◌, ◌++◌}
 use Rattle.properties_format.specs.Encoding.{Encoding, byte_order_mark}
 use Rattle.properties_format.specs.Lines.{Line}
-use Rattle.properties_format.specs.Groups.{is_comment_line, joined}
-use Rattle.properties_format.specs.Escapes.{Malformed}
+use Rattle.properties_format.specs.Groups.{joined}
 use Rattle.properties_format.specs.Entries.{pair}
-use Rattle.properties_format.specs.Items.{Outcome, ignored, given, broken, IsOutcome}
+use Rattle.properties_format.specs.Items.{Outcome, ignored, given, IsOutcome}
 use Rattle.properties_format.specs.Body.{HeldLine, AreGroupsOf, as_groups}
 use Rattle.properties_format.specs.Edits.{Edit, put, remove, set_value}
 
 -- the logical line of a group, given its outcome, before those of the groups after it; blank lines are left out
 abbrev pub line_before : Outcome → List ℕ → List (List ℕ) → List (List ℕ)
 line_before ignored x xs = xs
-line_before (given content) x xs = x ∷ xs
-line_before (broken kind) x xs = x ∷ xs
+line_before outcome x xs = x ∷ xs
 
 -- These are the logical lines of the groups, in order, without blank ones.
 abbrev pub AreLinesOf : List (List Line) → List (List ℕ) → Type 0
@@ -50,16 +48,10 @@ pub record IsLastLineChanged (key value : List ℕ) (old new : List (List ℕ)) 
   pub now : new ≡ before ++ changed ∷ after
   pub has_value : IsOutcome changed (given (pair key value))
 
--- No line is a pair with the key, and a pair with it and this value comes last.
-pub record IsLineAppended (key value : List ℕ) (old new : List (List ℕ)) : Type 0 where
-  pub none : NoneIsPair key old
-  pub line : List ℕ
-  pub now : new ≡ old ++ line ∷ []
-  pub has_value : IsOutcome line (given (pair key value))
-
--- The key is set.
+-- The key is set: the last pair with it has the new value; or, if no pair has the key, there is a new last line.
 abbrev pub AreLinesSet : List ℕ → List ℕ → List (List ℕ) → List (List ℕ) → Type 0
-AreLinesSet key value old new = IsLastLineChanged key value old new ⊎ IsLineAppended key value old new
+AreLinesSet key value old new =
+    IsLastLineChanged key value old new ⊎ NoneIsPair key old × (line : List ℕ) × (new ≡ old ++ line ∷ []) × IsOutcome line (given (pair key value))
 
 -- The key is removed: every pair with it is left out, and all other lines are unchanged.
 abbrev pub AreLinesLeft : List ℕ → List (List ℕ) → List (List ℕ) → Type 0
@@ -76,7 +68,3 @@ AreLinesEdited (set_value key value) old new = AreLinesSet key value old new
 abbrev pub AreLinesEditedInTurn : List Edit → List (List ℕ) → List (List ℕ) → Type 0
 AreLinesEditedInTurn [] old new = new ≡ old
 AreLinesEditedInTurn (edit ∷ edits) old new = (next : List (List ℕ)) × AreLinesEdited edit old next × AreLinesEditedInTurn edits next new
-
--- The line is no pair with a malformed escape. It may be a comment with one.
-abbrev pub IsNoMalformedPair : List ℕ → Type 0
-IsNoMalformedPair x = (is_comment_line x ≡ true) ⊎ ((kind : Malformed) → ¬ (IsOutcome x (broken kind)))

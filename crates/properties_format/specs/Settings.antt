@@ -7,8 +7,8 @@ use Rattle.properties_format.specs.Split.{AreBlanks}
 use Rattle.properties_format.specs.Text.{LineEnding, lf, space, number_sign, equals_sign, is_comment_sign, is_separator}
 
 -- what comes before a comment's text, what separates a key from its value, what ends a line, whether ASCII-only output
--- is on, which escapes every character above U+007F, and whether readable output is on, which escapes no more of a value
--- than it must
+-- is on, which escapes every character above U+007F, and whether readable output is on, which prints a value as people
+-- write it
 pub record Settings : Type 0 where
   pub comment_prefix : List ℕ
   pub kv_separator : List ℕ

@@ -4,18 +4,18 @@ use Rattle.std.specs.Option.{is_some, option_map}
 use Rattle.std.specs.declared.vec.Vec.{Vec}
 use Rattle.properties_format.specs.Text.{line_feed}
 use Rattle.properties_format.specs.Encoding.{Encoding, begins_like_bom}
-use Rattle.properties_format.specs.Escapes.{Malformed}
-use Rattle.properties_format.specs.Body.{HeldLine, groups_bytes}
-use Rattle.properties_format.specs.Edited.{unreadable, final_group}
+use Rattle.properties_format.specs.Groups.{joined}
+use Rattle.properties_format.specs.Body.{HeldLine, as_lines, groups_bytes, held_in}
+use Rattle.properties_format.specs.Edited.{final_group}
 use Rattle.properties_format.specs.Items.{Outcome}
 use Rattle.properties_format.specs.Valued.{separation_by}
 use Rattle.properties_format.specs.Computed.Items.{outcome_of}
 use Rattle.properties_format.specs.Computed.Body.{held_groups_of}
 use Rattle.properties_format.specs.Computed.Parts.{outcome_key, unended_bytes}
 use Rattle.properties_format.specs.Computed.Edited.{KeyPlace, last_place, without}
-use Rattle.properties_editing.specs.Private.Sound.{AreSoundFor, IsSoundFor, passes_over, result_from}
+use Rattle.properties_editing.specs.Private.Sound.{AreSoundFor, IsSoundFor, passes_over}
 use Rattle.properties_items.specs.FoundItems.{IsNoItem}
-use Rattle.properties_items.specs.Errors.{IsBareError, IsMalformed}
+use Rattle.properties_items.specs.Errors.{IsBareError}
 use Rattle.properties_editing.specs.Private.BodyValues.{FindsLastPair}
 use Rattle.properties_editing.specs.declared.edit.source.Comments.{Comments}
 use Rattle.properties_editing.specs.declared.edit.groups.Group.{Group}
@@ -41,11 +41,11 @@ ChecksKeyOfLine comments line key number (Err e) = IsFault comments number line 
 
 -- ---- the first malformed escape of a body
 
--- The first malformed escape of these groups that isn't passed over is malformed in some way, and the error reports how
--- and in which line; or memory ran out.
+-- One of these groups, which comes after sound ones, has no item for this reason; or memory ran out.
 abbrev pub IsErrorOfGroups : Comments → List (List HeldLine) → PropertiesError → Type 0
 IsErrorOfGroups comments groups e =
-    ((how : Malformed) × (n : ℕ) × ((made : List ℕ) → result_from comments 1 groups made ≡ unreadable how n) × IsMalformed how n e)
+    ((before : List (List HeldLine)) × (g : List HeldLine) × (after : List (List HeldLine)) × (groups ≡ before ++ g ∷ after) × AreSoundFor comments before
+    × IsFault comments (1 + length (held_in before)) (joined (as_lines g)) e)
     ⊎ IsBareError kind.Memory e
 
 -- ---- where a key is

@@ -16,7 +16,7 @@ use properties_text::encoding::byte_order_mark::encoding_in_force;
 pub enum Comments {
     /// They are read: a malformed escape in one refuses the source.
     Read,
-    /// They are passed over, whatever they are.
+    /// They are passed over once they are decoded: no escape in one is read.
     PassedOver,
 }
 

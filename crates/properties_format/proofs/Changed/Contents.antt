@@ -74,8 +74,8 @@ module _ (b : Bool) where
     now = ap (contents_among b) h.now ∙ contents-append h.before (h.changed ∷ h.after) ∙ ap (λ v. contents_among b h.before ++ v) (contents-pair h.changed key value h.after h.has_value);
   })
   set-contents key value old new (inr h) = inr (
-    none-contents key old h.none,
-    ap (contents_among b) h.now ∙ contents-append old (h.line ∷ []) ∙ ap (λ v. contents_among b old ++ v) (contents-pair h.line key value [] h.has_value),
+    none-contents key old h.0,
+    ap (contents_among b) h.2 ∙ contents-append old (h.1 ∷ []) ∙ ap (λ v. contents_among b old ++ v) (contents-pair h.1 key value [] h.3),
   )
 
   -- where a line is left that is no pair with the key, its content is,

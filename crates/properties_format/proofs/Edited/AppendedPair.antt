@@ -84,13 +84,12 @@ module _ (e : Encoding) (by second : LineEnding) (gs : List (List HeldLine)) (ke
   pub appended-lines : NoneIsPair key (logical_lines (as_groups gs)) → AreLinesSet key value (logical_lines (as_groups gs)) (logical_lines (as_groups appended_groups))
   appended-lines none =
       let own : HasPair key value (line ∷ []) = subst (IsOutcome (joined (as_lines (line ∷ [])))) said (outcome_of-meets (joined (as_lines (line ∷ [])))) in
-      inr (record {
-        none = none;
-        line = joined (as_lines (line ∷ []));
-        now =
-            lines-append closed ((line ∷ []) ∷ last ∷ [])
+      inr (
+        none,
+        joined (as_lines (line ∷ [])),
+        lines-append closed ((line ∷ []) ∷ last ∷ [])
             ∙ ap₂ (λ v w. v ++ w) (closed-lines e by gs k)
             (lines-pair key (line ∷ []) (logical_lines (as_groups (last ∷ []))) (value, own)
-            ∙ ap (λ o. joined (as_lines (line ∷ [])) ∷ line_before o (joined (as_lines last)) []) (outcomes-empty e None));
-        has_value = own;
-      })
+            ∙ ap (λ o. joined (as_lines (line ∷ [])) ∷ line_before o (joined (as_lines last)) []) (outcomes-empty e None)),
+        own,
+      )

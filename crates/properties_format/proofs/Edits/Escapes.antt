@@ -1,16 +1,17 @@
 -- The malformed escapes of a source, by its logical lines; and that edits leave all of them in comments, if they are
 -- there.
-use Rattle.std.proofs.Common.{◌≡◌, ℕ, ◌+◌, Bool, true, List, [], ◌∷◌, length, refl, ap, sym, ◌∙◌, inl, inr, subst}
+use Rattle.std.proofs.Common.{◌≡◌, ◌⊎◌, ℕ, ◌+◌, Bool, true, List, [], ◌∷◌, length, refl, ap, sym, ◌∙◌, inl, inr, subst}
 use Rattle.properties_format.specs.Encoding.{Encoding, byte_order_mark}
 use Rattle.properties_format.specs.Lines.{end, Line, numbered_lines}
 use Rattle.properties_format.specs.Groups.{is_comment_line, joined, first_number}
+use Rattle.properties_format.specs.Escapes.{Malformed}
 use Rattle.properties_format.specs.Entries.{pair}
 use Rattle.properties_format.specs.Items.{Outcome, ignored, given, broken, IsOutcome}
 use Rattle.properties_format.specs.Body.{HeldLine, as_lines, as_groups}
 use Rattle.properties_format.specs.MalformedEscapes.{MalformedEscape, escapes_from}
 use Rattle.properties_format.specs.Edited.{edited}
 use Rattle.properties_format.specs.Edits.{Edit, AreScalarEdits}
-use Rattle.properties_format.specs.LogicalLines.{line_before, IsNoMalformedPair}
+use Rattle.properties_format.specs.LogicalLines.{line_before}
 use Rattle.properties_format.specs.EditedPairs.{AreInComments, EscapesAre, IsEditPairsResult}
 use Rattle.properties_format.specs.Computed.Encoding.{decoded_of}
 use Rattle.properties_format.specs.Computed.Lines.{lines_of}
@@ -18,7 +19,6 @@ use Rattle.properties_format.specs.Computed.Groups.{groups_of}
 use Rattle.properties_format.specs.Computed.Items.{outcome_of}
 use Rattle.properties_format.specs.Computed.Body.{held_groups_of}
 use Rattle.properties_format.specs.Computed.MalformedEscapes.{escapes_in, malformed_escapes_of}
-use Rattle.properties_format.specs.Computed.EditedPairs.{escapes_of_body}
 use Rattle.properties_format.proofs.Body.Numbers.{folded, folded_from, folded-source}
 use Rattle.properties_format.proofs.Edited.Fronts.{with_line, logical_lines}
 use Rattle.properties_format.proofs.Items.Unique.{outcome_of-meets, outcome_of-only}
@@ -56,6 +56,12 @@ lines-of-text e source =
 abbrev escape_before : ℕ → List ℕ → List MalformedEscape → List MalformedEscape
 escape_before n x rest = escapes_from n x (outcome_of x) rest
 
+-- the malformed escapes of a body's groups, whose lines are numbered from this number on
+abbrev pub escapes_of_body : ℕ → List (List HeldLine) → List MalformedEscape
+escapes_of_body n [] = []
+escapes_of_body n (g ∷ gs) =
+    escapes_from n (joined (as_lines g)) (outcome_of (joined (as_lines g))) (escapes_of_body (n + length g) gs)
+
 -- The malformed escapes of groups, and of a body's groups, are folds of this.
 escapes-folded : (gs : List (List Line)) → escapes_in gs ≡ folded escape_before [] gs
 escapes-folded [] = refl
@@ -72,6 +78,10 @@ unfolding malformed_escapes_of
 malformed_escapes_of-groups e source =
     let f = byte_order_mark e source in
     escapes-folded (text_groups e source) ∙ folded-source escape_before [] e source ∙ escapes-held 1 (held_groups_of f.encoding f.body)
+
+-- The line is no pair with a malformed escape. It may be a comment with one.
+abbrev IsNoMalformedPair : List ℕ → Type 0
+IsNoMalformedPair x = (is_comment_line x ≡ true) ⊎ ((kind : Malformed) → ¬ (IsOutcome x (broken kind)))
 
 -- All malformed escapes are in comments exactly if no line is a malformed pair.
 read-step : (n : ℕ) (x : List ℕ) (o : Outcome) (ms : List MalformedEscape) (xs : List (List ℕ)) → o ≡ outcome_of x → (AreInComments ms → OfEach IsNoMalformedPair xs)

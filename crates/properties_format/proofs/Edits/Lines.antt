@@ -129,7 +129,7 @@ module _ (P : List ℕ → Type 0) (of_pair : (x key value : List ℕ) → IsOut
   set-each key value old new (inl h) r =
       let parts = each-parts h.before (h.line ∷ h.after) (subst (OfEach P) h.was r) in
       subst (OfEach P) (sym h.now) (each-join h.before (h.changed ∷ h.after) parts.0 (of_pair h.changed key value h.has_value, parts.1.1))
-  set-each key value old new (inr h) r = subst (OfEach P) (sym h.now) (each-join old (h.line ∷ []) r (of_pair h.line key value h.has_value, tt))
+  set-each key value old new (inr h) r = subst (OfEach P) (sym h.2) (each-join old (h.1 ∷ []) r (of_pair h.1 key value h.3, tt))
 
   -- A key is removed.
   left-each : (key : List ℕ) (old new : List (List ℕ)) → AreLinesLeft key old new → OfEach P old → OfEach P new

@@ -16,7 +16,6 @@ use Rattle.properties_format.specs.Computed.Items.{outcome_of, followed, entries
 use Rattle.properties_format.specs.Computed.MalformedEscapes.{escapes_in, malformed_escapes_of}
 use Rattle.properties_format.specs.Computed.Edited.{result_by, result_of}
 use Rattle.properties_format.specs.Computed.Edits.{edits_made}
-use Rattle.properties_format.specs.Computed.EditedPairs.{result_by_pairs, pairs_result_of}
 use Rattle.properties_format.specs.Edited.{EditResult, edited, unsupported, unreadable, is_editable}
 use Rattle.properties_format.specs.Edits.{Edit, AreEdited, IsEditAllResult}
 use Rattle.properties_format.specs.EditedPairs.{AreInComments, AreInPairs, EscapesAre, IsFirstInPair, IsPairsResult, IsEditPairsResult}
@@ -24,6 +23,16 @@ use Rattle.properties_format.specs.EditLaws.{PassingOverIsReading}
 use Rattle.properties_format.proofs.Items.Unique.{items_of-only}
 use Rattle.properties_format.proofs.MalformedEscapes.{malformed_escapes_of-meets, malformed_escapes_of-only}
 use Rattle.properties_format.proofs.Edits.Results.{edit_all_result-meets, edit_all_result-only, edits_made-meets, edits_made-only}
+
+-- the result, given the malformed escapes of the source: the first that is in a pair, or these bytes if none is
+abbrev pub result_by_pairs : List MalformedEscape → List ℕ → EditResult
+result_by_pairs [] made = edited made
+result_by_pairs (m ∷ ms) made = if m.in_comment then result_by_pairs ms made else unreadable m.kind m.number
+
+-- the result of an edit that makes these bytes of the source; the encoding is tested first
+abbrev pub pairs_result_of : Encoding → List ℕ → List ℕ → EditResult
+pairs_result_of e source made =
+    if is_editable (byte_order_mark e source).encoding then result_by_pairs (malformed_escapes_of e source) made else unsupported
 
 -- what the malformed escapes say about a result that is made of these bytes
 abbrev IsByPairs : List MalformedEscape → List ℕ → EditResult → Type 0
