@@ -20,6 +20,10 @@ slice_reader = record {
   read_gives = λ old result new. Unit {0};
 }
 
+-- a slice of these bytes, wherever they are
+abbrev pub slice_of : List ℕ → Bor (List ℕ)
+slice_of bytes = record { ref_ptr = (0, 0); now = bytes }
+
 module _ {from to : Bor (List ℕ)} {bytes : List ℕ} where
   -- What was read comes first in it, and then what is left.
   pub slice-read : HasRead slice_reader from bytes to → from.now ≡ bytes ++ to.now

@@ -5,8 +5,8 @@ use Rattle.std.specs.Borrow.{Bor}
 use Rattle.std.specs.Option.{option_map}
 use Rattle.std.specs.Str.{chars}
 use Rattle.std.specs.declared.string.String.{String}
-use Rattle.std.proofs.lemmas.Bool.{cases_Bool}
-use Rattle.counted_io.specs.Streams.{Reader, has_ended}
+use Rattle.std.specs.Io.KnownBytes.{Consumes}
+use Rattle.counted_io.specs.Streams.{Reader, HasRead, has_ended}
 use Rattle.properties_format.specs.Encoding.{Encoding}
 use Rattle.properties_format.specs.Computed.Encoding.{decoded_of}
 use Rattle.properties_format.specs.Lines.{end, Line, numbered_lines}
@@ -36,17 +36,16 @@ use Rattle.properties_format.proofs.Valued.Parts.{comment_line-no_pair}
 use Rattle.properties_lines.specs.LineReader.{Passes}
 use Rattle.properties_lines.specs.LineJoiner.{LineState, JoinsNext, JoinsError}
 use Rattle.properties_lines.specs.declared.error.LineError.{LineError}
-use Rattle.properties_items.specs.Errors.{IsBareError, IsLineError, IsMalformed}
+use Rattle.properties_items.specs.Errors.{IsLineError, IsMalformed}
 use Rattle.properties_items.specs.FoundItems.{IsNoItem}
 use Rattle.properties_items.specs.Texts.{characters}
-use Rattle.properties_items.specs.declared.error.ErrorKind.TheVariants as kind
 use Rattle.properties_items.specs.declared.error.PropertiesError.{PropertiesError}
 use Rattle.java_properties.specs.MalformedEscapes.{FailsToFind, StopsFinding}
 use Rattle.java_properties.specs.Values.{TellsPairValue}
 use Rattle.java_properties.specs.Private.LineByLine.{Collected}
-use Rattle.java_properties.specs.Private.SoughtValues.{ReadsPairValue, SeeksPairValue, StopsAtPair, TellsLineValue, value_after, value_through}
+use Rattle.java_properties.specs.Private.SoughtValues.{TellsLineValue, value_after, value_through}
 use Rattle.java_properties.proofs.MalformedEscapes.{collected-start, collected-next, collected-on, collected-lines, collected-groups, found-error, found-lost}
-use Rattle.java_properties.proofs.SliceReads.{slice_reader, slice-read, slice-whole, slice-faultless, slice-numbered}
+use Rattle.java_properties.proofs.SliceReads.{slice_of, slice_reader, slice-read, slice-whole, slice-faultless, slice-numbered}
 
 -- ---- a logical line
 
@@ -109,6 +108,28 @@ value-push gs g key =
     ∙ last-through (first_number g) (outcome_of (joined g)) key (value_in (pairs_in gs) key)
 
 -- ---- the reading
+
+-- The input was read to its end, no escape of a pair is malformed, and this is the value of the key.
+pub record ReadsPairValue {R : Type 0} (reader : Reader R) (e : Encoding) (from : R) (key : List ℕ) (value : Option (List ℕ)) (to : R) : Type 0 where
+  pub bytes : List ℕ
+  pub read : HasRead reader from bytes to
+  pub ended : has_ended reader to ≡ true
+  pub has_value : HasPairValue e bytes key value
+
+-- The reading stopped at a malformed escape of a pair, the first of the bytes that were read, whatever comes after them;
+-- or of the whole input, if the reader is at its end.
+pub record StopsAtPair {R : Type 0} (reader : Reader R) (e : Encoding) (from : R) (error : PropertiesError) (to : R) : Type 0 where
+  pub bytes : List ℕ
+  pub how : Malformed
+  pub number : ℕ
+  pub read : HasRead reader from bytes to
+  pub first : ((d : List ℕ) → EscapesAre e (bytes ++ d) (IsFirstInPair how number)) ⊎ (has_ended reader to ≡ true) × EscapesAre e bytes (IsFirstInPair how number)
+  pub is : IsMalformed how number error
+
+abbrev pub SeeksPairValue : {R Z : Type 0} → Reader R → Encoding → List ℕ → R → Result (Option (String Z)) PropertiesError → R → Type 0
+SeeksPairValue reader e key from (Ok value) to = ReadsPairValue reader e from key (option_map characters value) to
+SeeksPairValue reader e key from (Err error) to =
+    StopsAtPair reader e from error to ⊎ (FailsToFind reader e from error to ⊎ StopsFinding reader e from error to)
 
 -- In the groups that came only comments are malformed, and this is the value of the key in them.
 pub record HasSoughtPairs {R : Type 0} (reader : Reader R) (e : Encoding) (from : R) (key : List ℕ) (value : Option (List ℕ)) (state : ReaderState) (to : R) : Type 0 where
@@ -221,6 +242,25 @@ module _ {R : Type 0} {reader : Reader R} {e : Encoding} {key : List ℕ} where
   pairs-error h live f says = inr (found-error (record { groups = h.groups; collected = h.collected; escapes = refl }) live f says)
 
 -- ---- a slice
+
+-- Where a slice is doesn't matter.
+pub pairs-at : {e : Encoding} {from to next : Bor (List ℕ)} {key : List ℕ} {value : Option (List ℕ)} {s : ReaderState} → to.now ≡ next.now
+    → HasSoughtPairs slice_reader e from key value s to → HasSoughtPairs slice_reader e from key value s next
+pairs-at {from = from} same h =
+    let c = h.collected in
+    record {
+      groups = h.groups;
+      collected = record {
+        bytes = c.bytes;
+        read = record { moved = subst (λ v. Consumes (Some from.now) (Some v) c.bytes) same c.read.moved; faultless = refl };
+        passes = c.passes;
+        whole = c.whole;
+        grouped = c.grouped;
+        ended = λ d. subst (λ v. has_ended slice_reader (slice_of v) ≡ true) same (c.ended d);
+      };
+      in_comments = h.in_comments;
+      is = h.is;
+    }
 
 -- What a slice says of a key: it fails only at a malformed escape of a pair, or if memory runs out.
 pub slice-tells_pairs : {Z : Type 0} (e : Encoding) (from to : Bor (List ℕ)) (key : List ℕ) (result : Result (Option (String Z)) PropertiesError) → length from.now + 1 < 2 ^ 64

@@ -1,10 +1,11 @@
 -- The value of a key that is sought, item after item.
 use Rattle.std.proofs.Common.{◌≡◌, ℕ, ◌+◌, ◌^◌, ◌<◌, false, List, [], ◌∷◌, ◌++◌, length, refl, sym, inl, inr, subst}
-use Rattle.std.specs.Prelude.{◌⊎◌, if◌then◌else◌, Option, None, Result, Ok, Err, bytes_eq}
+use Rattle.std.specs.Prelude.{◌⊎◌, if◌then◌else◌, Option, Some, None, Result, Ok, Err, bytes_eq}
 use Rattle.std.specs.Borrow.{Bor}
 use Rattle.std.specs.Option.{option_map}
 use Rattle.std.specs.declared.string.String.{String}
-use Rattle.counted_io.specs.Streams.{Reader}
+use Rattle.std.specs.Io.KnownBytes.{Consumes}
+use Rattle.counted_io.specs.Streams.{Reader, has_ended}
 use Rattle.properties_format.specs.Edited.{IsFirstMalformed}
 use Rattle.properties_format.specs.Encoding.{Encoding}
 use Rattle.properties_format.specs.Entries.{Content, comment, pair, Entry, item, malformed, AreItems}
@@ -20,12 +21,12 @@ use Rattle.properties_items.specs.Texts.{characters}
 use Rattle.properties_items.specs.declared.error.ErrorKind.TheVariants as kind
 use Rattle.properties_items.specs.declared.error.PropertiesError.{PropertiesError}
 use Rattle.java_properties.specs.Maps.{ReadsValue}
-use Rattle.java_properties.specs.ReadLines.{StopsMalformed}
+use Rattle.java_properties.specs.ReadLines.{StopsMalformed, StopsFailed, StopsEarly}
 use Rattle.java_properties.specs.Values.{TellsValue}
 use Rattle.java_properties.specs.Private.GivenItems.{GivesEntry, GivesNone, GivesMalformed, GivesError}
-use Rattle.java_properties.specs.Private.SoughtValues.{value_after, StopsSeeking, SeeksValue}
-use Rattle.java_properties.proofs.Readings.{Collected, collected-start, collected-next, collected-none, collected-lost, collected-malformed, collected-error}
-use Rattle.java_properties.proofs.SliceReads.{slice_reader, slice-read, slice-whole, slice-faultless, slice-numbered}
+use Rattle.java_properties.specs.Private.SoughtValues.{value_after}
+use Rattle.java_properties.proofs.Readings.{Collected, Comes, collected-start, collected-next, collected-none, collected-lost, collected-malformed, collected-error}
+use Rattle.java_properties.proofs.SliceReads.{slice_of, slice_reader, slice-read, slice-whole, slice-faultless, slice-numbered}
 
 -- ---- one item more
 
@@ -46,6 +47,16 @@ value-added entries number content key value h =
         map-pair entries number name text (value_in entries) (λ k. if bytes_eq name k then Option.Some text else value_in entries k) (map-meets entries) (λ k. refl) key
 
 -- ---- the reading
+
+-- The reading stopped after some items.
+pub record StopsSeeking {R : Type 0} (reader : Reader R) (e : Encoding) (from : R) (error : PropertiesError) (to : R) : Type 0 where
+  pub entries : List Entry
+  pub are_items : AreItems entries
+  pub stops : StopsMalformed reader e from entries error to ⊎ (StopsFailed reader e from entries error to ⊎ StopsEarly reader e from entries error to)
+
+abbrev pub SeeksValue : {R Z : Type 0} → Reader R → Encoding → List ℕ → R → Result (Option (String Z)) PropertiesError → R → Type 0
+SeeksValue reader e key from (Ok value) to = ReadsValue reader e from key (option_map characters value) to
+SeeksValue reader e key from (Err error) to = StopsSeeking reader e from error to
 
 -- These items came so far, and this is the value of the key in them.
 pub record HasSought {R : Type 0} (reader : Reader R) (e : Encoding) (from : R) (key : List ℕ) (value : Option (List ℕ)) (state : ReaderState) (to : R) : Type 0 where
@@ -97,6 +108,23 @@ module _ {R : Type 0} {reader : Reader R} {e : Encoding} {key : List ℕ} where
       }
 
 -- ---- a slice
+
+-- Where a slice is doesn't matter.
+pub sought-at : {e : Encoding} {from to next : Bor (List ℕ)} {key : List ℕ} {value : Option (List ℕ)} {s : ReaderState} → to.now ≡ next.now
+    → HasSought slice_reader e from key value s to → HasSought slice_reader e from key value s next
+sought-at {e} {from} {s = s} same h =
+    let c = h.collected in
+    record {
+      entries = h.entries;
+      bytes = h.bytes;
+      collected = record {
+        read = record { moved = subst (λ v. Consumes (Some from.now) (Some v) h.bytes) same c.read.moved; faultless = refl };
+        comes = subst (λ v. Comes e h.bytes h.entries (has_ended slice_reader (slice_of v)) s) same c.comes;
+        passes = c.passes;
+      };
+      are_items = h.are_items;
+      is = h.is;
+    }
 
 first-malformed : (entries : List Entry) (how : Malformed) (number : ℕ) → AreItems entries → IsFirstMalformed how number (entries ++ (malformed how number ∷ []))
 first-malformed [] how number h = (refl, refl)

@@ -2,7 +2,7 @@
 //!
 //! [`PropertiesIter`] reads the comments and pairs of a file, each with its line number. [`PropertiesWriter`] writes
 //! comments and pairs. [`set_key`], [`set_value`], [`remove_key`], [`edit_all`] and [`Document`] edit the pairs of a
-//! file. [`convert`] changes its encoding.
+//! file, and so does [`edit_pairs`], which passes over comments. [`convert`] changes its encoding.
 //!
 //! ```text
 //! for item in PropertiesIter::new(alloc, &mut input)? {

@@ -217,7 +217,8 @@ impl<W: CountedWrite> PropertiesWriter<W> {
     /// returns its error. The lines before it have been written. An empty key is the first one, so if it is refused,
     /// nothing has been written.
     ///
-    /// What is written reads back as the same map. If comments or pairs were written before, all lines read back.
+    /// If no line was written before, what is written reads back as the same map. Otherwise it reads back with the lines
+    /// before it, unless one of these is a comment whose prefix holds a backslash.
     ///
     /// ```text
     /// writer.set_readable(true);

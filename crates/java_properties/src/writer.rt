@@ -147,8 +147,8 @@ impl<W: CountedWrite> PropertiesWriter<W> {
     ///
     /// A readable value has spaces, `=`, `:`, `#` and `!` as they are, except at its ends: a space at the front gets a
     /// backslash, and so does a `=` or `:` at the front if the separator consists only of blanks; a space at the end is
-    /// `\u0020`. Everything else is written as in a key. [`set_value`](crate::set_value) writes values in the same way.
-    /// What is written reads back the same.
+    /// `\u0020`, even if it is the whole value. Everything else is written as in a key.
+    /// [`set_value`](crate::set_value) writes values in the same way. What is written reads back the same.
     ///
     /// ```text
     /// writer.set_readable(true);

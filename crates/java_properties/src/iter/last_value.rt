@@ -8,10 +8,9 @@ ghost use Rattle.properties_text.specs.Encoding.{encoding_of};
 ghost use Rattle.properties_items.specs.BorrowedItems.{borrowed_content};
 ghost use Rattle.properties_items.specs.Texts.{characters};
 ghost use Rattle.java_properties.specs.Values.{TellsPairValue, TellsValue};
-ghost use Rattle.java_properties.specs.Private.SoughtValues.{SeeksPairValue, SeeksValue, TellsLineValue, value_after};
+ghost use Rattle.java_properties.specs.Private.SoughtValues.{TellsLineValue, value_after};
 
 use crate::iter::items::ItemReader;
-use counted_io::CountedRead;
 use properties_items::borrowed::{ContentRef, LineRef};
 use properties_items::error::PropertiesError;
 use properties_items::found::{cut_item, find_item};
@@ -41,7 +40,13 @@ pub fn value_of(
     ensures { TellsValue (encoding_of encoding) source.now (chars key.now) result }
 {
     let mut input = source;
-    last_value(alloc, &mut input, encoding, key)
+    let mut items = ItemReader::new(alloc, encoding);
+    let mut value = None;
+    while let Some(item) = items.advance(&mut input) {
+        let found = item?;
+        value = later_value(alloc, value, items.get(found), key)?;
+    }
+    Ok(value)
 }
 
 /// Returns the value of a key, as [`value_of`] does, and passes over comments, as Java does: only a malformed escape in
@@ -61,21 +66,9 @@ pub fn value_among_pairs(
     ensures { TellsPairValue (encoding_of encoding) source.now (chars key.now) result }
 {
     let mut input = source;
-    last_pair_value(alloc, &mut input, encoding, key)
-}
-
-// Reads an input to its end, passes over comments, and returns the value of the last pair with a key.
-fn last_pair_value<R: CountedRead>(
-    alloc: Global,
-    input: &mut R,
-    encoding: Encoding,
-    key: &str,
-) -> Result<Option<String>, PropertiesError>
-    ensures { SeeksPairValue R.CountedRead (encoding_of encoding) (chars key.now) input.old result input.new }
-{
     let mut lines = LineJoiner::new(alloc, encoding);
     let mut value = None;
-    while let Some(number) = lines.next_text(input) {
+    while let Some(number) = lines.next_text(&mut input) {
         value = value_after_line(alloc, value, number, lines.line(), key)?;
     }
     match lines.take_error() {
@@ -102,24 +95,6 @@ fn value_after_line(
         Some(found) => Ok(later_value(alloc, earlier, cut_item(found, line), key)?),
         None => Ok(earlier),
     }
-}
-
-// Reads an input to its end and returns the value of the last pair with a key.
-fn last_value<R: CountedRead>(
-    alloc: Global,
-    input: &mut R,
-    encoding: Encoding,
-    key: &str,
-) -> Result<Option<String>, PropertiesError>
-    ensures { SeeksValue R.CountedRead (encoding_of encoding) (chars key.now) input.old result input.new }
-{
-    let mut items = ItemReader::new(alloc, encoding);
-    let mut value = None;
-    while let Some(item) = items.advance(input) {
-        let found = item?;
-        value = later_value(alloc, value, items.get(found), key)?;
-    }
-    Ok(value)
 }
 
 // Returns the value of an item if it is a pair with this key, and otherwise the value of the items before it.
