@@ -6,8 +6,8 @@ ghost use Rattle.std.specs.Prelude.{◌<◌};
 
 use crate::same::same;
 use java_properties::{
-    Document, Edit, Encoding, PropertiesError, edit_all, edit_all_ascii, remove_key, set_key,
-    set_value, value_of,
+    Document, Edit, Encoding, PropertiesError, edit_all, edit_all_ascii, edit_pairs, remove_key,
+    set_key, set_value, value_among_pairs, value_of,
 };
 use std::alloc::{AllocError, Global};
 use std::process::Abort;
@@ -76,6 +76,8 @@ fn check_edits(
     }
     let listed = edit_all(alloc, source, Encoding::WINDOWS_1252, &edits)?;
     same(rt, listed.as_slice(), wanted.as_slice());
+    let paired = edit_pairs(alloc, source, Encoding::WINDOWS_1252, false, &edits)?;
+    same(rt, paired.as_slice(), wanted.as_slice());
     check_ascii(rt, alloc, source, &edits, &document)?;
     check_source(rt, alloc, &document, KEYS[numbers.below(7)])
 }
@@ -153,6 +155,8 @@ fn check_source(
     key: &str,
 ) -> Result<(), Fail> {
     let value = value_of(alloc, document.source(), Encoding::WINDOWS_1252, key)?;
+    check_value(rt, value.as_deref(), document.get(key));
+    let value = value_among_pairs(alloc, document.source(), Encoding::WINDOWS_1252, key)?;
     check_value(rt, value.as_deref(), document.get(key));
     Ok(())
 }

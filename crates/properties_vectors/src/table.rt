@@ -3,6 +3,7 @@
 use crate::converting::check_converting;
 use crate::copying::check_copying;
 use crate::editing::check_edit;
+use crate::editing::pairs::{check_edit_pairs, check_get_pairs};
 use crate::items::Reading;
 use crate::labels::check_label;
 use crate::reading::{Pace, check_compared, check_printed, check_reading};
@@ -31,6 +32,8 @@ enum Kind {
     WritePrint,
     WriteMap,
     Edit,
+    EditPairs,
+    GetPairs,
     Convert,
     Label,
 }
@@ -131,6 +134,8 @@ fn kind_of(word: &str) -> Option<Kind> {
         "write-print" => Some(Kind::WritePrint),
         "write-map" => Some(Kind::WriteMap),
         "edit" => Some(Kind::Edit),
+        "edit-pairs" => Some(Kind::EditPairs),
+        "get-pairs" => Some(Kind::GetPairs),
         "convert" => Some(Kind::Convert),
         "label" => Some(Kind::Label),
         _ => None,
@@ -190,6 +195,8 @@ fn outcome_of(
         Kind::WritePrint => check_printing(alloc, encoding, clauses, &mut outcome)?,
         Kind::WriteMap => check_maps(alloc, encoding, clauses, &mut outcome)?,
         Kind::Edit => check_edit(alloc, encoding, clauses, &mut outcome)?,
+        Kind::EditPairs => check_edit_pairs(alloc, encoding, clauses, &mut outcome)?,
+        Kind::GetPairs => check_get_pairs(alloc, encoding, clauses, &mut outcome)?,
         Kind::Convert => check_converting(alloc, encoding, clauses, &mut outcome)?,
         Kind::Label => check_label(alloc, encoding, clauses, &mut outcome)?,
     }
