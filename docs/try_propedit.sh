@@ -82,9 +82,9 @@ leaves_nothing() {
 run --help
 gives 0 "$(cat ../output)\n" ''
 cp ../output ../usage
-for words in 'Usage: propedit [OPTION ..] COMMAND [WORD ..]' '  get KEY  ' '  list [PREFIX]  ' '  check [FILE ..]  ' \
+for words in 'Usage: propedit [OPTION ..] COMMAND [WORD ..]' '  get KEY ..  ' '  list [PREFIX]  ' '  check [FILE ..]  ' \
     '  set KEY VALUE ..  ' '  remove KEY ..  ' '  convert ENCODING  ' '-f, --file FILE' '-i, --in-place FILE' '--create' '-e, --encoding NAME' \
-    '-d, --default VALUE' '-z, --null' '-a, --ascii' '-r, --readable' '-h, --help' '-V, --version' 'utf-8 (the default)' \
+    '-d, --default VALUE' '-z, --null' '-v, --values' '-a, --ascii' '-x, --existing' '-r, --readable' '-h, --help' '-V, --version' 'utf-8 (the default)' \
     'Options come before the command' 'Words after get, list, set and remove are never options' 'standard input' \
     'Status: 0'; do
     grep -qF -- "$words" ../usage || fail "the usage lacks: $words"
@@ -94,9 +94,9 @@ is "$(awk 'length > 80' ../usage)" ''
 run -h
 gives 0 "$(cat ../usage)\n" ''
 run --version
-gives 0 'propedit 1.8.0\n' ''
+gives 0 'propedit 1.9.0\n' ''
 run -V
-gives 0 'propedit 1.8.0\n' ''
+gives 0 'propedit 1.9.0\n' ''
 run -f nowhere --help get
 gives 0 "$(cat ../usage)\n" ''
 for words in 'check --help' 'check a -h' 'convert --help' 'convert ascii -h'; do
@@ -163,6 +163,8 @@ run -z -d 'a b' get absent
 gives 0 'a b\0' ''
 run -f app.properties get port
 gives 0 '8080\n' ''
+run -f - get port
+gives 0 '8080\n' ''
 given '-d = 1\nget = 2\n-- = 3\n'
 run get -d
 gives 0 '1\n' ''
@@ -172,6 +174,10 @@ run -f app.properties get get
 gives 0 '2\n' ''
 run get --help
 gives 1 '' ''
+run get get absent -- -d get
+gives 1 '2\n1\n2\n' ''
+run -z -d x get get absent
+gives 0 '2\0x\0' ''
 
 # list
 
@@ -190,6 +196,14 @@ run -z list a.
 gives 0 'a.x\0a.y\0' ''
 run -f app.properties list b
 gives 0 'b\n' ''
+run -v list
+gives 0 'b=4\na.x=6\na.y=5\nno=value\n' ''
+run --values list a.
+gives 0 'a.x=6\na.y=5\n' ''
+run -zv -f app.properties list a.
+gives 0 'a.x\00006\0a.y\00005\0' ''
+run -v list c
+gives 1 '' ''
 command='propedit -z list | while read'
 is "$(../propedit -f app.properties -z list | while IFS= read -r -d '' key; do echo "($key)"; done)" $'(b)\n(a.x)\n(a.y)\n(no)'
 run list -z
@@ -253,6 +267,16 @@ gives 0 '# ports\r\nport : 80\r\n\r\n  host = a\r\n! end' ''
 run -f app.properties set port 8080
 gives 0 '# ports\r\nport : 8080\r\n\r\n  host = a\r\n! end' ''
 holds app.properties '# ports\r\nport : 80\r\n\r\n  host = a\r\n! end'
+# With -x, a key that no pair has is refused.
+run -x set port 8080 remove absent
+gives 0 '# ports\r\nport : 8080\r\n\r\n  host = a\r\n! end' ''
+run --existing set port 8080 set prot 1 set hots b
+gives 1 '' "propedit: standard input: no pair has the key 'prot'\n"
+run -x -i app.properties set port 8080 set prot 1
+gives 1 '' "propedit: app.properties: no pair has the key 'prot'\n"
+holds app.properties '# ports\r\nport : 80\r\n\r\n  host = a\r\n! end'
+run -x -i app.properties set port 80
+gives 0 '' ''
 given 'a = 1\n'
 run set -f -i
 gives 0 'a = 1\n-f = -i\n' ''
@@ -612,7 +636,7 @@ gives 2 '' 'propedit: standard input:2: not UTF-8; -e windows-1252 reads it\n'
 given 'a = 1\n'
 usage='Usage: propedit [OPTION ..]'
 edits="$usage (set KEY VALUE | remove KEY) .."
-all="$usage get KEY
+all="$usage get KEY ..
        propedit [OPTION ..] list [PREFIX]
        propedit [OPTION ..] check [FILE ..]
        propedit [OPTION ..] set KEY VALUE ..
@@ -620,7 +644,7 @@ all="$usage get KEY
        propedit [OPTION ..] convert ENCODING"
 shape() {
     case $1 in
-        get) echo "$usage get KEY" ;;
+        get) echo "$usage get KEY .." ;;
         list) echo "$usage list [PREFIX]" ;;
         check) echo "$usage check [FILE ..]" ;;
         set) echo "$usage set KEY VALUE .." ;;
@@ -660,13 +684,10 @@ for word in delete del rm unset; do
 done
 is_refused "'get' lacks its KEY" "$(shape get)" get
 surplus="takes one word, and '-f FILE' before it names a file"
-is_refused "unexpected 'b': 'get' $surplus" "$(shape get)" get a b
 is_refused "unexpected 'b': 'list' $surplus" "$(shape list)" list a b
-is_refused "unexpected 'app.properties': 'get' $surplus" "$(shape get)" get port app.properties
-is_refused "unexpected 'server.host': 'get' $surplus" "$(shape get)" -f app.properties get port server.host
 first='options come before the command'
 is_refused "unexpected '-z' after 'get': $first" "$(shape get)" get k -z
-is_refused "unexpected '-z' after 'get': $first" "$(shape get)" get k -- -z
+is_refused "unexpected '-z' after 'get': $first" "$(shape get)" get -z k -- -x
 is_refused "unexpected '-f' after 'get': $first" "$(shape get)" get -f a k
 is_refused "unexpected '-f' after 'list': $first" "$(shape list)" list -f a
 is_refused "unexpected '-z' after 'check': $first" "$(shape check)" check a -z
@@ -689,7 +710,7 @@ is_refused "the option '-f FILE' lacks its FILE" "$all" --file
 is_refused "the option '-f FILE' lacks its FILE" "$all" -f '' get a
 is_refused "the option '-i FILE' lacks its FILE" "$all" --create --in-place= set a 1
 is_refused "the option '-z' takes no value" "$all" --null=1 list
-is_refused "unknown option in '-x'" "$all" -x get a
+is_refused "unknown option in '-q'" "$all" -q get a
 is_refused "unknown option in '-zq'" "$all" -zq list
 is_refused "unknown option '--fil'; '--file' is one" "$all" --fil app.properties get a
 labels='is no label of windows-1252, utf-8, utf-16le or utf-16be'
@@ -699,7 +720,7 @@ is_refused "'Latin_1' $labels; 'latin1' is one" "$(shape list)" -e Latin_1 list
 is_refused "'iso8859_1' $labels; 'iso-8859-1' is one" "$(shape check)" -e iso8859_1 check
 is_refused "'utf_8' $labels; 'utf-8' is one" "$(shape set)" -e utf_8 set a 1
 is_refused "'--' $labels" "$(shape get)" -e -- get a
-for option in -z '-e NAME' '-d VALUE' '-f FILE' '-i FILE' --create -a; do
+for option in -z '-e NAME' '-d VALUE' '-f FILE' '-i FILE' --create -a -x; do
     letter=${option% *}
     value=
     [ "$letter" = "$option" ] || value=utf-8
@@ -713,6 +734,12 @@ is_refused "the option '-f FILE' cannot be used with 'check FILE ..'" "$(shape c
     -f app.properties check app.properties
 for words in 'get a' list check 'remove a' 'remove a remove b'; do
     is_refused "the option '-a' cannot be used with '${words%% *}'" "$(shape ${words%% *})" -a $words
+    is_refused "the option '-x' cannot be used with '${words%% *}'" "$(shape ${words%% *})" -x $words
+done
+is_refused "the option '-x' cannot be used with '--create'" "$(shape set)" -x --create -i new.properties set a 1
+file="needs a file, and '-' is standard input; './-' is a file"
+for words in 'set a 1' 'remove a' 'convert ascii'; do
+    is_refused "the option '-i FILE' $file" "$(shape ${words%% *})" -i - $words
 done
 for words in 'get a' list check; do
     is_refused "the option '-i FILE' cannot be used with '${words%% *}'" "$(shape ${words%% *})" -i app.properties $words
@@ -746,7 +773,13 @@ run -i $'two\nlines' set b 1
 gives 2 '' 'propedit: two\\u{a}lines: two\\u{a}lines.propedit exists: another run is at work, or was killed; if none is, remove it\n'
 rm $'two\nlines' $'two\nlines.propedit'
 is_refused "the argument 'a\xff\n' is not UTF-8" "$all" get $'a\xff\n'
-is_refused "the argument '\xe9' is not UTF-8" "$all" check app.properties $'\xe9' app.properties
+is_refused "the argument '\xe9' is not UTF-8" "$all" -f $'\xe9' check
+is_refused "the argument '\xe9' is not UTF-8" "$all" -e $'\xe9' check app.properties
+# A check of files goes on after such a name. The name - is that of standard input.
+given 'a = 1\na = 2\n'
+run check app.properties $'a\xe9' -
+gives 2 'app.properties:2: repeats the key of line 1\nstandard input:2: repeats the key of line 1\n' \
+    'propedit: a\\xe9: this name is not UTF-8\n'
 
 # Files that can't be read, and standard streams that fail
 

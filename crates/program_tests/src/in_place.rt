@@ -273,6 +273,21 @@ const EDITS: &[Row] = &[
         "propedit: no such file: No such file or directory (os error 2)\n",
         b"a=1",
     ),
+    // A key that no pair has is refused if that is asked for.
+    (
+        &["-x", "-i", EDITED, "set", "a", "3", "set", "b", "1"],
+        b"# x\na=1",
+        1,
+        "propedit: edited.properties: no pair has the key 'b'\n",
+        b"# x\na=1",
+    ),
+    (
+        &["-x", "-i", EDITED, "set", "a", "3"],
+        b"# x\na=1",
+        0,
+        "",
+        b"# x\na=3",
+    ),
     // A missing file that is to be made isn't made if nothing changes.
     (
         &["-i", "no such file", "--create", "remove", "a"],
@@ -322,9 +337,9 @@ fn files_are_edited_whole_or_not_at_all(rt: HostRuntime) -> Result<(), Fail> {
     }
     let other = "edited.properties.propedit";
     make(&rt, other, b"of another")?;
-    check_edit(&rt, &rt, 9, HELD)?;
+    check_edit(&rt, &rt, 11, HELD)?;
     let now = content(&rt, other)?;
-    same(&rt, 9, Bytes(now.as_slice()), Bytes(b"of another"));
+    same(&rt, 11, Bytes(now.as_slice()), Bytes(b"of another"));
     fs::remove_file(&rt, other)?;
     Ok(())
 }

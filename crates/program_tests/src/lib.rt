@@ -10,6 +10,10 @@ mod filtering;
 #[cfg(test)]
 mod in_place;
 #[cfg(test)]
+mod keys;
+#[cfg(test)]
+mod listing;
+#[cfg(test)]
 mod propedit;
 #[cfg(test)]
 mod propfilter;

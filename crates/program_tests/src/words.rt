@@ -59,14 +59,6 @@ const OTHER_WORDS: &[Refusal] = &[
     (&["get"], "propedit: 'get' lacks its KEY"),
     (&["get", "--"], "propedit: 'get' lacks its KEY"),
     (
-        &["get", "port", "app.properties"],
-        "propedit: unexpected 'app.properties': 'get' takes one word, and '-f FILE' before it names a file",
-    ),
-    (
-        &["get", "a", "--", "b"],
-        "propedit: unexpected 'b': 'get' takes one word, and '-f FILE' before it names a file",
-    ),
-    (
         &["list", "a", "b"],
         "propedit: unexpected 'b': 'list' takes one word, and '-f FILE' before it names a file",
     ),
@@ -76,7 +68,7 @@ const OTHER_WORDS: &[Refusal] = &[
         "propedit: unexpected '-z' after 'get': options come before the command",
     ),
     (
-        &["get", "k", "--", "-z"],
+        &["get", "-z", "k", "--", "-x"],
         "propedit: unexpected '-z' after 'get': options come before the command",
     ),
     (
@@ -146,7 +138,7 @@ fn edits_that_are_not_whole_are_named(rt: HostRuntime) -> Result<(), Fail> {
 
 const OPTIONS: &[Refusal] = &[
     // Options that there are not, without their value, or with one.
-    (&["-x", "check"], "propedit: unknown option in '-x'"),
+    (&["-q", "check"], "propedit: unknown option in '-q'"),
     (&["-zq", "check"], "propedit: unknown option in '-zq'"),
     (
         &["--fil", "x", "check"],
@@ -193,6 +185,7 @@ const OPTIONS: &[Refusal] = &[
         "propedit: the option '-z' is given twice",
     ),
     (&["-zz", "list"], "propedit: the option '-z' is given twice"),
+    (&["-vv", "list"], "propedit: the option '-v' is given twice"),
     (
         &["-f", "x", "--file=y", "list"],
         "propedit: the option '-f FILE' is given twice",
@@ -252,12 +245,41 @@ const USELESS_OPTIONS: &[Refusal] = &[
         "propedit: the option '-a' cannot be used with 'list'",
     ),
     (
+        &["-v", "get", "a"],
+        "propedit: the option '-v' cannot be used with 'get'",
+    ),
+    (
+        &["--values", "set", "a", "1"],
+        "propedit: the option '-v' cannot be used with 'set'",
+    ),
+    (
         &["-a", "check"],
         "propedit: the option '-a' cannot be used with 'check'",
     ),
     (
         &["-a", "remove", "a"],
         "propedit: the option '-a' cannot be used with 'remove'",
+    ),
+    (
+        &["-x", "get", "a"],
+        "propedit: the option '-x' cannot be used with 'get'",
+    ),
+    (
+        &["-x", "remove", "a", "remove", "b"],
+        "propedit: the option '-x' cannot be used with 'remove'",
+    ),
+    (
+        &["-x", "--create", "-i", "a", "set", "k", "v"],
+        "propedit: the option '-x' cannot be used with '--create'",
+    ),
+    // Standard input can't be changed in place.
+    (
+        &["-i", "-", "set", "k", "v"],
+        "propedit: the option '-i FILE' needs a file, and '-' is standard input; './-' is a file",
+    ),
+    (
+        &["-i-", "convert", "ascii"],
+        "propedit: the option '-i FILE' needs a file, and '-' is standard input; './-' is a file",
     ),
     // A file to make is one that is edited in place.
     (
@@ -297,7 +319,7 @@ fn options_without_use_are_named(rt: HostRuntime) -> Result<(), Fail> {
 }
 
 const WITHOUT_COMMAND: &str = "propedit: no command\n\n\
-    Usage: propedit [OPTION ..] get KEY\n       propedit [OPTION ..] list [PREFIX]\n       \
+    Usage: propedit [OPTION ..] get KEY ..\n       propedit [OPTION ..] list [PREFIX]\n       \
     propedit [OPTION ..] check [FILE ..]\n       propedit [OPTION ..] set KEY VALUE ..\n       \
     propedit [OPTION ..] remove KEY ..\n       propedit [OPTION ..] convert ENCODING\nFor more information, try 'propedit --help'.\n";
 
@@ -319,7 +341,7 @@ const USAGES: &[Row] = &[
         2,
         b"",
         "propedit: the option '-a' cannot be used with 'get'\n\n\
-        Usage: propedit [OPTION ..] get KEY\n\
+        Usage: propedit [OPTION ..] get KEY ..\n\
         For more information, try 'propedit --help'.\n",
     ),
     (

@@ -2,7 +2,9 @@
 #![tactic(auto)]
 
 use counted_io::{Counted, CountedWrite};
-use propedit_arguments::{asked_for, explain, explain_not_utf_8};
+use propedit_arguments::{
+    asked_for, explain, explain_name, explain_not_utf_8, marked_words, name_of_marked,
+};
 use properties_tools::arguments::words;
 use properties_tools::propedit::asked::{CheckedFiles, Command, Request, Source, Work};
 use properties_tools::propedit::error::Failure;
@@ -29,15 +31,30 @@ fn main(rt: HostRuntime) -> ExitCode {
 // Does what the arguments ask for. Fails only if there is no memory for them.
 fn status<E: CountedWrite>(rt: &HostRuntime, errors: &mut E) -> io::Result<u8> {
     let alloc = rt.alloc();
-    let Some(words) = words(alloc, env::args(rt))? else {
-        return Ok(explain_not_utf_8(rt, alloc, errors));
-    };
+    let words = words(alloc, env::args(rt))?;
     let mut output = Counted::new(BufWriter::with_capacity(alloc, BLOCK, rt.stdout())?);
+    let Some(words) = words else {
+        return check_or_explain(rt, alloc, &mut output, errors);
+    };
     match asked_for(alloc, words.as_slice()) {
         Ok(Request::Work(work)) => Ok(do_work(rt, alloc, &work, &mut output, errors)),
         Ok(Request::CheckFiles(files)) => Ok(check_files(rt, alloc, files, &mut output, errors)),
         Ok(Request::EditFile(file)) => Ok(edit_file(rt, alloc, &file, errors)),
         Err(error) => Ok(explain(alloc, error, &mut output, errors)),
+    }
+}
+
+// Checks files, of which some have names that are not UTF-8. No other command takes such a word.
+fn check_or_explain<W: CountedWrite, E: CountedWrite>(
+    rt: &HostRuntime,
+    alloc: Global,
+    output: &mut W,
+    errors: &mut E,
+) -> io::Result<u8> {
+    let words = marked_words(rt, alloc)?;
+    match asked_for(alloc, words.as_slice()) {
+        Ok(Request::CheckFiles(files)) => Ok(check_files(rt, alloc, files, output, errors)),
+        _ => Ok(explain_not_utf_8(rt, alloc, errors)),
     }
 }
 
@@ -71,13 +88,40 @@ fn check_files<W: CountedWrite, E: CountedWrite>(
     for path in files.paths {
         let work = Work {
             encoding,
-            source: Source::File(path),
+            source: source_named(path),
             command: Command::Check,
         };
-        let status = do_work(rt, alloc, &work, output, errors);
+        let status = check_file(rt, alloc, &work, output, errors);
         if status > highest {
             highest = status;
         }
     }
     highest
+}
+
+// The name `-` is that of standard input.
+fn source_named(path: String) -> Source {
+    if path.as_str() == "-" {
+        Source::StandardInput
+    } else {
+        Source::File(path)
+    }
+}
+
+// Checks a file, unless its name is not UTF-8: no such file can be opened.
+fn check_file<W: CountedWrite, E: CountedWrite>(
+    rt: &HostRuntime,
+    alloc: Global,
+    work: &Work,
+    output: &mut W,
+    errors: &mut E,
+) -> u8 {
+    let marked = match &work.source {
+        Source::File(path) => name_of_marked(path.as_str()),
+        Source::StandardInput => None,
+    };
+    match marked {
+        Some(name) => explain_name(alloc, name, errors),
+        None => do_work(rt, alloc, work, output, errors),
+    }
 }

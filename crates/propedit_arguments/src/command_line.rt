@@ -3,7 +3,7 @@
 use java_properties::Repertoire;
 use std::fmt;
 
-const VERSION: &str = "1.8.0";
+const VERSION: &str = "1.9.0";
 
 /// A command.
 #[derive(Clone, Copy, Debug, PartialEq, Eq)]
@@ -39,7 +39,9 @@ pub enum OptionName {
     Encoding,
     Default,
     Null,
+    Values,
     Ascii,
+    Existing,
     Readable,
     Help,
     Version,
@@ -60,8 +62,8 @@ pub const COMMANDS: &[CommandRow] = &[
     CommandRow {
         command: CommandName::Get,
         name: "get",
-        words: "KEY",
-        help: "Prints the value of a key",
+        words: "KEY ..",
+        help: "Prints the value of each key",
         options: &[
             OptionName::File,
             OptionName::Encoding,
@@ -75,7 +77,12 @@ pub const COMMANDS: &[CommandRow] = &[
         name: "list",
         words: "[PREFIX]",
         help: "Prints each key once, or those that begin with PREFIX",
-        options: &[OptionName::File, OptionName::Encoding, OptionName::Null],
+        options: &[
+            OptionName::File,
+            OptionName::Encoding,
+            OptionName::Null,
+            OptionName::Values,
+        ],
         other_names: &["ls", "keys"],
     },
     CommandRow {
@@ -123,6 +130,7 @@ const EDIT_OPTIONS: &[OptionName] = &[
     OptionName::Create,
     OptionName::Encoding,
     OptionName::Ascii,
+    OptionName::Existing,
 ];
 
 const OPTIONS: &[OptionRow] = &[
@@ -159,7 +167,7 @@ const OPTIONS: &[OptionRow] = &[
         short: Some('d'),
         long: "default",
         value: "VALUE",
-        help: "What get prints if no pair has KEY, with status 0",
+        help: "What get prints if no pair has a KEY, with status 0",
     },
     OptionRow {
         option: OptionName::Null,
@@ -169,11 +177,25 @@ const OPTIONS: &[OptionRow] = &[
         help: "Ends each text of get and list with a zero byte",
     },
     OptionRow {
+        option: OptionName::Values,
+        short: Some('v'),
+        long: "values",
+        value: "",
+        help: "Has list print KEY=VALUE; with -z, KEY and VALUE",
+    },
+    OptionRow {
         option: OptionName::Ascii,
         short: Some('a'),
         long: "ascii",
         value: "",
         help: "Has set put in ASCII-only text, right in every encoding",
+    },
+    OptionRow {
+        option: OptionName::Existing,
+        short: Some('x'),
+        long: "existing",
+        value: "",
+        help: "Has set refuse a KEY that no pair has, with status 1",
     },
     OptionRow {
         option: OptionName::Readable,

@@ -18,5 +18,5 @@ mod not_utf_8;
 mod options;
 pub mod request;
 
-pub use not_utf_8::explain_not_utf_8;
+pub use not_utf_8::{explain_name, explain_not_utf_8, marked_words, name_of_marked};
 pub use request::{asked_for, explain};

@@ -59,6 +59,10 @@ pub enum Mistake<'a> {
     TwoFiles(&'static str, Usage),
     /// A file is to be made, and none is edited in place.
     NothingToCreate(&'static CommandRow),
+    /// A file may be made, and a pair of it has to have each key.
+    NothingExists(&'static CommandRow),
+    /// Standard input is to be changed in place.
+    NoFileInPlace(&'static CommandRow),
     /// No encoding has this label, which is given for this command.
     NoEncoding(&'a str, &'static CommandRow),
     /// No conversion is to this encoding.
@@ -90,6 +94,8 @@ impl Mistake<'_> {
             Mistake::TwoFiles(_, usage) => usage,
             Mistake::NotWith(_, row)
             | Mistake::NothingToCreate(row)
+            | Mistake::NothingExists(row)
+            | Mistake::NoFileInPlace(row)
             | Mistake::NoEncoding(_, row)
             | Mistake::NoTarget(_, row)
             | Mistake::NoWord(row)
@@ -168,6 +174,12 @@ impl fmt::Display for Mistake<'_> {
             Mistake::NothingToCreate(_) => {
                 f.write_str("the option '--create' needs '-i FILE', whose FILE it makes")
             }
+            Mistake::NothingExists(_) => {
+                f.write_str("the option '-x' cannot be used with '--create'")
+            }
+            Mistake::NoFileInPlace(_) => f.write_str(
+                "the option '-i FILE' needs a file, and '-' is standard input; './-' is a file",
+            ),
             Mistake::NoEncoding(label, _) => show_unknown_encoding(f, label),
             Mistake::NoTarget(word, row) => {
                 write!(

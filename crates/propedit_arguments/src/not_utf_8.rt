@@ -1,4 +1,4 @@
-// An argument that is not UTF-8, which can't be had as a text.
+// Arguments that are not UTF-8, which can't be had as texts.
 
 ghost use Rattle.std.specs.Prelude.{◌≡◌};
 ghost use Rattle.counted_io.specs.Streams.{IsSameSink};
@@ -6,8 +6,8 @@ ghost use Rattle.counted_io.specs.Streams.{IsSameSink};
 use crate::mistake::Mistake;
 use crate::request::explain_mistake;
 use counted_io::CountedWrite;
-use properties_tools::propedit::print_out_of_memory;
-use std::alloc::Global;
+use properties_tools::propedit::{print_out_of_memory, print_usage_error};
+use std::alloc::{AllocError, Global};
 use std::env::Env;
 use std::str;
 
@@ -31,6 +31,54 @@ pub fn explain_not_utf_8<R: Env, E: CountedWrite>(rt: &R, alloc: Global, errors:
     };
     let mistake = Mistake::NotUtf8(first_not_utf_8(rt, &mut bytes));
     explain_mistake(alloc, mistake, errors)
+}
+
+// What marks a word that is not UTF-8. No argument holds it.
+const MARK: char = '\0';
+
+/// Returns the words after the program's name. One that is not UTF-8 is marked, and has an escape for each byte that is
+/// not ASCII.
+///
+/// ```text
+/// let words = marked_words(&rt, alloc)?;
+/// if let Ok(Request::CheckFiles(files)) = asked_for(alloc, &words) {
+///     // Of a path that is marked, `name_of_marked` gives the name.
+/// }
+/// ```
+pub fn marked_words<R: Env>(rt: &R, alloc: Global) -> Result<Vec<String>, AllocError> {
+    let mut bytes = vec![in alloc; 0u8; LONGEST]?;
+    let mut words = Vec::new(alloc);
+    for number in 1..usize::MAX {
+        let Ok(length) = rt.arg(number, &mut bytes) else {
+            break;
+        };
+        words.push(marked(alloc, &bytes[..length])?)?;
+    }
+    Ok(words)
+}
+
+fn marked(alloc: Global, bytes: &[u8]) -> Result<String, AllocError> {
+    match str::from_utf8(bytes) {
+        Ok(word) => String::from_str(alloc, word),
+        Err(_) => format!(in alloc; "{MARK}{}", bytes.escape_ascii()),
+    }
+}
+
+/// Returns what stands for a word that is not UTF-8, or `None` of any other word.
+pub fn name_of_marked(word: &str) -> Option<&str> {
+    word.strip_prefix(MARK)
+}
+
+/// Prints on `errors` that the name of a file is not UTF-8, and returns the exit status of failures, 2. What can't be
+/// printed is dropped.
+pub fn explain_name<E: CountedWrite>(alloc: Global, name: &str, errors: &mut E) -> u8
+    ensures status { result ≡ 2 }
+    ensures same_error_sink { IsSameSink E.CountedWrite errors.old errors.new }
+{
+    match format!(in alloc; "propedit: {name}: this name is not UTF-8\n") {
+        Ok(text) => print_usage_error(errors, text.as_str()),
+        Err(_) => print_out_of_memory(errors),
+    }
 }
 
 // Returns the first argument that is not UTF-8. The program's name counts as one.

@@ -6,6 +6,9 @@ use java_properties::{Encoding, Spelling};
 use properties_tools::propedit::asked::{Command, Missing, Request, Source, TextEnd, Work};
 use std::alloc::Global;
 
+/// The FILE that is standard input.
+pub const STANDARD_INPUT: &str = "-";
+
 /// The options that are given, each once.
 #[derive(Drop)]
 pub struct Options<'a> {
@@ -141,6 +144,12 @@ impl<'a> Options<'a> {
         if self.has(OptionName::Create) && !self.has(OptionName::InPlace) {
             return Err(Mistake::NothingToCreate(command));
         }
+        if self.has(OptionName::Existing) && self.has(OptionName::Create) {
+            return Err(Mistake::NothingExists(command));
+        }
+        if self.in_place() == Some(STANDARD_INPUT) {
+            return Err(Mistake::NoFileInPlace(command));
+        }
         Ok(())
     }
 
@@ -152,9 +161,12 @@ impl<'a> Options<'a> {
         Ok(())
     }
 
-    /// Fails if ASCII-only text is asked for, for edits that put in none.
-    pub fn refuse_ascii(&self, command: &'static CommandRow) -> Result<(), Mistake<'a>> {
-        match self.find(OptionName::Ascii) {
+    /// Fails if an option is given that only `set` has a use for, for edits that set nothing.
+    pub fn refuse_for_set(&self, command: &'static CommandRow) -> Result<(), Mistake<'a>> {
+        match self
+            .find(OptionName::Ascii)
+            .or(self.find(OptionName::Existing))
+        {
             Some(given) => Err(Mistake::NotWith(given.row, command)),
             None => Ok(()),
         }
@@ -199,6 +211,11 @@ impl<'a> Options<'a> {
         }
     }
 
+    /// Returns whether `-v` is given: keys are listed with their values.
+    pub fn lists_values(&self) -> bool {
+        self.has(OptionName::Values)
+    }
+
     /// Returns how a conversion spells characters. With `-r` it is readable.
     pub fn spelling(&self) -> Spelling {
         if self.has(OptionName::Readable) {
@@ -213,6 +230,11 @@ impl<'a> Options<'a> {
         self.has(OptionName::Ascii)
     }
 
+    /// Returns whether `-x` is given: a pair has to have each key that is set.
+    pub fn existing(&self) -> bool {
+        self.has(OptionName::Existing)
+    }
+
     /// Returns the request for a command over the source that the options name.
     pub fn work(
         &self,
@@ -221,8 +243,8 @@ impl<'a> Options<'a> {
         command: Command,
     ) -> Result<Request, Mistake<'a>> {
         let source = match self.value(OptionName::File) {
+            None | Some(STANDARD_INPUT) => Source::StandardInput,
             Some(path) => Source::File(String::from_str(alloc, path)?),
-            None => Source::StandardInput,
         };
         Ok(Request::Work(Work {
             encoding: self.encoding(row)?,

@@ -115,15 +115,42 @@ fn get<'a>(
     options: &Options<'a>,
     words: &'a [String],
 ) -> Result<Request, Mistake<'a>> {
-    let Some(key) = only_word(row, words)? else {
-        return Err(Mistake::NoWord(row));
-    };
-    let key = String::from_str(alloc, key)?;
+    let keys = keys_in(alloc, row, words)?;
+    if keys.is_empty() {
+        return Err(Mistake::NoKey(row.name));
+    }
     let default = match options.default() {
         Some(value) => Some(String::from_str(alloc, value)?),
         None => None,
     };
-    options.work(alloc, row, Command::Get(key, default, options.end()))
+    options.work(alloc, row, Command::Get(keys, default, options.end()))
+}
+
+// Returns the keys that words are. A first `--` is dropped. Among several words, those that look like options come
+// after it, so that none is taken for a key that was meant as an option.
+fn keys_in<'a>(
+    alloc: Global,
+    row: &'static CommandRow,
+    words: &'a [String],
+) -> Result<Vec<String>, Mistake<'a>> {
+    let mut keys = Vec::new(alloc);
+    let mut in_doubt = None;
+    let mut dashes = false;
+    for word in words {
+        let word = word.as_str();
+        if word == "--" && !dashes {
+            dashes = true;
+            continue;
+        }
+        if is_option(word) && !dashes {
+            in_doubt = in_doubt.or(Some(word));
+        }
+        keys.push(String::from_str(alloc, word)?)?;
+    }
+    match in_doubt {
+        Some(word) if keys.len() > 1 => Err(Mistake::OptionAfter(word, row)),
+        _ => Ok(keys),
+    }
 }
 
 fn list<'a>(
@@ -133,7 +160,12 @@ fn list<'a>(
     words: &'a [String],
 ) -> Result<Request, Mistake<'a>> {
     let prefix = String::from_str(alloc, only_word(row, words)?.unwrap_or(""))?;
-    options.work(alloc, row, Command::List(prefix, options.end()))
+    let command = if options.lists_values() {
+        Command::ListValues(prefix, options.end())
+    } else {
+        Command::List(prefix, options.end())
+    };
+    options.work(alloc, row, command)
 }
 
 // Returns the word after a command that takes one at most. A first `--` is dropped.
@@ -200,11 +232,12 @@ fn edit<'a>(
     list: Vec<Edit>,
 ) -> Result<Request, Mistake<'a>> {
     if !list.iter().any(sets_value) {
-        options.refuse_ascii(row)?;
+        options.refuse_for_set(row)?;
     }
     let edits = Edits {
         list,
         ascii_only: options.ascii_only(),
+        existing: options.existing(),
     };
     change(alloc, row, options, Change::Edits(edits))
 }

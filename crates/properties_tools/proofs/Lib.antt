@@ -5,11 +5,14 @@ pub mod FilterErrors
 pub mod Filtering
 pub mod Flawed
 pub mod Borrowed
-pub mod Looked
+pub mod LastPairs
+pub mod ListedKeys
+pub mod LookedUp
 pub mod Paired
 pub mod Pairs
 pub mod Prefixes
 pub mod Settled
 pub mod Slices
+pub mod Statuses
 pub mod Taking
 pub mod Unsound

@@ -1,10 +1,11 @@
 -- A text begins with another exactly if its UTF-8 begins with the other's.
-use Rattle.std.proofs.Common.{◌≡◌, ℕ, true, List, [], ◌∷◌, ◌++◌, refl, ap, ◌∙◌, append_assoc, drop, length, eqb}
+use Rattle.std.proofs.Common.{◌≡◌, ℕ, Bool, true, List, [], ◌∷◌, ◌++◌, refl, ap, ap₂, sym, ◌∙◌, append_assoc, drop, length, eqb}
 use Rattle.std.specs.Prelude.{encode_utf8, encode_utf8_all}
 use Rattle.std.specs.List.{starts_with}
+use Rattle.std.specs.Str.{chars, IsUtf8}
 use Rattle.std.proofs.lemmas.Bool.Decides.{Decides-eqb, same_from_decides}
 use Rattle.std.proofs.lemmas.Slice.Eq.{starts_is}
-use Rattle.std.proofs.lemmas.Str.{cons_from_encodes, encodes-append}
+use Rattle.std.proofs.lemmas.Str.{cons_from_encodes, encodes-append, encodes-chars}
 
 front-decoded : (p k t : List ℕ) → encode_utf8_all k ≡ encode_utf8_all p ++ t → (r : List ℕ) × (k ≡ p ++ r)
 front-decoded [] k t h = (k, refl)
@@ -21,3 +22,8 @@ starts-encoded k p =
       (λ h. let found = front-decoded p k _ (bytes.0 h) in text.1 found.0 found.1),
       (λ h. bytes.1 (encode_utf8_all (drop (length p) k)) (ap encode_utf8_all (text.0 h) ∙ encodes-append p (drop (length p) k))),
     ) ((λ h. h), (λ h. h))
+
+-- The test of the bytes is that of the characters.
+pub starts-chars : (r : Bool) (key prefix : List ℕ) → IsUtf8 key → IsUtf8 prefix → r ≡ starts_with eqb key prefix → r ≡ starts_with eqb (chars key) (chars prefix)
+starts-chars r key prefix key-is prefix-is h =
+    h ∙ ap₂ (λ v w. starts_with eqb v w) (sym (encodes-chars key key-is)) (sym (encodes-chars prefix prefix-is)) ∙ starts-encoded (chars key) (chars prefix)

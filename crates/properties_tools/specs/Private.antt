@@ -1,2 +1,5 @@
 pub mod Flawed
 pub mod InPlace
+pub mod LastPairs
+pub mod ListedKeys
+pub mod LookedUp

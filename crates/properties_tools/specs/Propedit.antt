@@ -7,6 +7,7 @@ pub mod Get
 pub mod InPlace
 pub mod Lines
 pub mod Listing
+pub mod Pairs
 pub mod Sources
 pub mod Texts
 pub mod Utf16
@@ -19,7 +20,7 @@ use Rattle.java_properties.specs.WholeSources.{GivesWhole, ReadsSource, WritesSo
 use Rattle.properties_items.specs.declared.error.PropertiesError.{PropertiesError}
 use Rattle.properties_tools.specs.Propedit.Answers.{name_of, Answers as Gives}
 use Rattle.properties_tools.specs.Propedit.Change.{Changes}
-use Rattle.properties_tools.specs.Propedit.Failures.{standard_output, PrintsFailure}
+use Rattle.properties_tools.specs.Propedit.Failures.{failure_status, standard_output, PrintsFailure}
 use Rattle.properties_tools.specs.declared.propedit.printed.Answer.{Answer}
 use Rattle.properties_tools.specs.declared.propedit.asked.Change.{Change as AskedChange}
 use Rattle.properties_tools.specs.declared.propedit.asked.Work.{Work}
@@ -28,10 +29,10 @@ use Rattle.properties_tools.specs.declared.propedit.error.Failure.TheVariants.{I
 
 -- ---- how it ends
 
--- The status is that of the result, and nothing is printed; or it is 2, and the message of the failure is printed.
+-- The status is that of the result, and nothing is printed; or it is that of the failure, whose message is printed.
 abbrev pub Ends : {E : Type 0} → Sink E → List ℕ → E → Result ℕ Failure → ℕ → E → Type 0
 Ends error_sink name errors (Ok answer) status errors' = (status ≡ answer) × (errors' ≡ errors)
-Ends error_sink name errors (Err failure) status errors' = (status ≡ 2) × PrintsFailure error_sink errors name failure errors'
+Ends error_sink name errors (Err failure) status errors' = (status ≡ failure_status failure) × PrintsFailure error_sink errors name failure errors'
 
 -- ---- a command
 

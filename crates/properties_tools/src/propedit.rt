@@ -9,8 +9,11 @@ pub mod get;
 pub mod in_place;
 pub mod lines;
 pub mod list;
+mod listed;
+pub mod pairs;
 pub mod printed;
 pub mod source;
+mod values;
 
 ghost use Rattle.std.specs.Prelude.{◌≡◌};
 ghost use Rattle.counted_io.specs.Streams.{IsSameReader, IsSameSink};
@@ -23,17 +26,14 @@ use crate::messages::print_line;
 use crate::propedit::answers::{answer_to, name};
 use crate::propedit::asked::{Change, Work};
 use crate::propedit::change::change;
-use crate::propedit::error::{Failure, NO_MEMORY, STANDARD_OUTPUT, print_failure};
+use crate::propedit::error::{FAILED, Failure, NO_MEMORY, STANDARD_OUTPUT, print_failure};
 use counted_io::{CountedRead, CountedWrite};
 use java_properties::{Encoding, read_source, write_source};
 use std::alloc::Global;
 
-// The exit status of wrong arguments and of failures.
-const FAILED: u8 = 2;
-
 /// Reads the source to its end, prints what the command gives for it, and returns the exit status.
 ///
-/// The status is that of the answer, or 2 if anything fails; a line on `errors` then says why. If the source can't be
+/// The status is that of the answer, or of a failure; a line on `errors` then says why. If the source can't be
 /// read, or the command refuses it, nothing is printed on `output`. Nothing is written to the source.
 ///
 /// ```text
@@ -88,6 +88,7 @@ fn print_answer<R: CountedRead, W: CountedWrite>(
 /// let edits = Change::Edits(Edits {
 ///     list: vec![in alloc; Edit::Remove(port)]?,
 ///     ascii_only: false,
+///     existing: false,
 /// });
 /// replacement(alloc, b"host = a\n", Encoding::UTF_8, &edits)?; // None
 /// ```
@@ -106,8 +107,8 @@ pub fn replacement(
     Ok(Some(bytes))
 }
 
-/// Returns the exit status of a result: its own, or 2 for a failure, which is printed on `errors` as a line under the
-/// name of the source. What can't be printed is dropped.
+/// Returns the exit status of a result: its own, or that of a failure, which is printed on `errors` as a line under the
+/// name of the source. It is 1 if no pair has a key that is set, and else 2. What can't be printed is dropped.
 ///
 /// ```text
 /// exit_status(alloc, &mut errors, "app.properties", Err(Failure::NotUtf8(7))); // 2, and one line is printed
@@ -125,7 +126,7 @@ pub fn exit_status<E: CountedWrite>(
         Ok(status) => status,
         Err(failure) => {
             print_failure(alloc, errors, name, &failure);
-            FAILED
+            failure.status()
         }
     }
 }
@@ -135,7 +136,7 @@ pub fn exit_status<E: CountedWrite>(
 ///
 /// ```text
 /// let mut output = Counted::new(Vec::new(alloc));
-/// propedit::print_text(alloc, "propedit 1.8.0\n", &mut output, &mut errors); // 0, and the output holds the text
+/// propedit::print_text(alloc, "propedit 1.9.0\n", &mut output, &mut errors); // 0, and the output holds the text
 /// ```
 pub fn print_text<W: CountedWrite, E: CountedWrite>(
     alloc: Global,

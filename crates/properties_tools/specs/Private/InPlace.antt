@@ -1,7 +1,15 @@
 -- What is known of a file that is edited in place without asking the system.
-use Rattle.std.specs.Prelude.{ℕ, if◌then◌else◌, List, length, ◌==◌, Option, Some, None}
+use Rattle.std.specs.Prelude.{◌≡◌, ◌⊎◌, ℕ, if◌then◌else◌, List, length, ◌==◌, Option, Some, None, Err}
 use Rattle.std.specs.Path.{cur_dir, path_parent}
 use Rattle.std.specs.declared.io.Error.{Error}
+use Rattle.properties_format.specs.Encoding.{Encoding}
+use Rattle.properties_items.specs.declared.error.PropertiesError.{PropertiesError}
+use Rattle.properties_tools.specs.Propedit.Change.{Changes}
+use Rattle.properties_tools.specs.declared.propedit.asked.Change.{Change}
+use Rattle.properties_tools.specs.declared.propedit.error.Failure.{Failure}
+use Rattle.properties_tools.specs.declared.propedit.error.Failure.TheVariants.{Input}
+use Rattle.properties_tools.specs.declared.propedit.in_place.EditError.{EditError}
+use Rattle.properties_tools.specs.declared.propedit.in_place.EditError.TheVariants.{NotEdited, NotReplaced}
 use Rattle.properties_tools.specs.declared.propedit.in_place.Problem.{Problem}
 use Rattle.properties_tools.specs.declared.propedit.in_place.Problem.TheVariants as problem
 use Rattle.properties_tools.specs.declared.propedit.in_place.Snapshot.{Snapshot}
@@ -19,3 +27,8 @@ folder_of path = or_current (path_parent path)
 abbrev pub unsynced : Option Snapshot → Error → Problem
 unsynced None error = problem.MadeUnsynced error
 unsynced (Some snapshot) error = problem.ReplacedUnsynced error
+
+-- Why a file is not changed: it can't be read, the change is refused for some bytes, or the file is not replaced.
+abbrev pub IsEditError : Encoding → Change → EditError → Type 0
+IsEditError e change (NotEdited failure) = ((error : PropertiesError) × (failure ≡ Input error)) ⊎ ((source : List ℕ) × Changes e source change (Err failure))
+IsEditError e change (NotReplaced error) = Unit {0}

@@ -1,5 +1,5 @@
 -- What a command gives for a source: a text to print and the exit status, or why it fails.
-use Rattle.std.specs.Prelude.{◌≡◌, ℕ, List, [], ◌∷◌, Result, Ok, Err, codes, string_bytes}
+use Rattle.std.specs.Prelude.{◌≡◌, ℕ, List, [], ◌∷◌, Result, Ok, Err, codes, map, string_bytes}
 use Rattle.std.specs.Option.{option_map}
 use Rattle.properties_format.specs.Encoding.{Encoding}
 use Rattle.properties_text.specs.Encoding.{encoding_of}
@@ -9,6 +9,7 @@ use Rattle.properties_tools.specs.Propedit.Check.{IsReport}
 use Rattle.properties_tools.specs.Propedit.Failures.{LacksMemory}
 use Rattle.properties_tools.specs.Propedit.Get.{Gets}
 use Rattle.properties_tools.specs.Propedit.Listing.{Lists}
+use Rattle.properties_tools.specs.Propedit.Pairs.{ListsValues}
 use Rattle.properties_tools.specs.declared.propedit.printed.Answer.{Answer}
 use Rattle.properties_tools.specs.declared.propedit.asked.Command.{Command}
 use Rattle.properties_tools.specs.declared.propedit.asked.Change.{Change}
@@ -41,8 +42,9 @@ ChangesTo e source change (Err failure) = Changes e source change (Err failure)
 
 -- What a command gives for a source of this name in this encoding.
 abbrev pub AnswersCommand : List ℕ → Encoding → Command → List ℕ → Result Answer Failure → Type 0
-AnswersCommand name e (Get key default end) source result = Gets e source (characters key) (option_map characters default) end result
+AnswersCommand name e (Get keys default end) source result = Gets e source (map characters keys.items) (option_map characters default) end result
 AnswersCommand name e (command.List prefix end) source result = Lists e source (characters prefix) end result
+AnswersCommand name e (command.ListValues prefix end) source result = ListsValues e source (characters prefix) end result
 AnswersCommand name e Check source result = Checks name e source result
 AnswersCommand name e (command.Change change) source result = ChangesTo e source change result
 

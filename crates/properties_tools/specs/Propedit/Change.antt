@@ -1,12 +1,16 @@
 -- What a change gives: the bytes of a source after it.
-use Rattle.std.specs.Prelude.{◌≡◌, ◌⊎◌, ℕ, List, Result, Ok, Err}
-use Rattle.std.specs.Global.{Vec}
+use Rattle.std.specs.Prelude.{◌≡◌, ◌⊎◌, ℕ, true, List, [], ◌∷◌, ◌++◌, Option, Some, None, Result, Ok, Err}
+use Rattle.std.specs.Global.{Global, Vec}
+use Rattle.std.specs.declared.string.String.{String}
 use Rattle.properties_format.specs.Converting.{IsConverted}
-use Rattle.properties_format.specs.EditedPairs.{IsEditPairsResult}
+use Rattle.properties_format.specs.EditedPairs.{HasPairValue, IsEditPairsResult}
+use Rattle.properties_format.specs.Edits as format
+use Rattle.properties_format.specs.Edits.{put, remove, set_value}
 use Rattle.properties_format.specs.Encoding.{Encoding}
 use Rattle.properties_text.specs.Converted.{is_readable}
 use Rattle.properties_text.specs.Printing.{encoding_in, only_in}
 use Rattle.java_properties.specs.Editing.{ArePairsMade, IsRefusal, edits_in}
+use Rattle.java_properties.specs.Maps.{characters}
 use Rattle.properties_items.specs.declared.error.PropertiesError.{PropertiesError}
 use Rattle.properties_tools.specs.Propedit.Failures.{LacksMemory}
 use Rattle.properties_tools.specs.Propedit.Sources.{HasSoundBytes, HasUnsoundBytes, IsSound, IsUnsound}
@@ -15,13 +19,40 @@ use Rattle.properties_tools.specs.declared.propedit.asked.Change.TheVariants as 
 use Rattle.properties_tools.specs.declared.propedit.asked.Conversion.{Conversion}
 use Rattle.properties_tools.specs.declared.propedit.asked.Edits.{Edits}
 use Rattle.properties_tools.specs.declared.propedit.error.Failure.{Failure}
-use Rattle.properties_tools.specs.declared.propedit.error.Failure.TheVariants.{Input}
+use Rattle.properties_tools.specs.declared.propedit.error.Failure.TheVariants.{Absent, Input}
+
+-- ---- keys that are set
+
+-- the keys that edits set, in order
+abbrev pub keys_set : List format.Edit → List (List ℕ)
+keys_set [] = []
+keys_set (put key value ∷ edits) = key ∷ keys_set edits
+keys_set (remove key ∷ edits) = keys_set edits
+keys_set (set_value key value ∷ edits) = key ∷ keys_set edits
+
+-- A pair of the source has the key.
+abbrev pub HasKey : Encoding → List ℕ → List ℕ → Type 0
+HasKey e source key = (value : List ℕ) × HasPairValue e source key (Some value)
+
+-- A pair of it has each of these keys.
+abbrev pub HasKeys : Encoding → List ℕ → List (List ℕ) → Type 0
+HasKeys e source [] = Unit {0}
+HasKeys e source (key ∷ keys) = HasKey e source key × HasKeys e source keys
+
+-- This is the first of the keys that no pair of the source has.
+pub record IsFirstAbsent (e : Encoding) (source : List ℕ) (keys : List (List ℕ)) (key : List ℕ) : Type 0 where
+  pub before : List (List ℕ)
+  pub after : List (List ℕ)
+  pub division : keys ≡ before ++ key ∷ after
+  pub passed : HasKeys e source before
+  pub absent : HasPairValue e source key None
 
 -- ---- edits
 
--- The source is sound, and these are its bytes after the edits.
+-- The source is sound, and these are its bytes after the edits. If that is asked for, a pair of it has each key that is set.
 pub record MakesEdits (e : Encoding) (source : List ℕ) (edits : Edits) (bytes : List ℕ) : Type 0 where
   pub sound : IsSound e source
+  pub existing : edits.existing ≡ true → HasKeys e source (keys_set (edits_in edits.list.items))
   pub made : ArePairsMade e edits.ascii_only source (edits_in edits.list.items) bytes
 
 -- The source is sound, but the edits aren't made: its encoding is not one that is edited, or memory ran out.
@@ -31,10 +62,21 @@ pub record RefusesEdits (e : Encoding) (source : List ℕ) (edits : Edits) (fail
   pub refused : IsRefusal (IsEditPairsResult e edits.ascii_only source (edits_in edits.list.items)) error
   pub is : failure ≡ Input error
 
+-- The source is sound, and the edits can be made. But a pair of it has to have each key that is set, and this is the first
+-- of them that none has.
+pub record RefusesAbsent (e : Encoding) (source : List ℕ) (edits : Edits) (failure : Failure) : Type 0 where
+  pub sound : IsSound e source
+  pub existing : edits.existing ≡ true
+  pub bytes : List ℕ
+  pub made : ArePairsMade e edits.ascii_only source (edits_in edits.list.items) bytes
+  pub key : String Global
+  pub first : IsFirstAbsent e source (keys_set (edits_in edits.list.items)) (characters key)
+  pub is : failure ≡ Absent key
+
 -- What making edits returns.
 abbrev pub ChangesByEdits : Encoding → List ℕ → Edits → Result (Vec ℕ) Failure → Type 0
 ChangesByEdits e source edits (Ok bytes) = MakesEdits e source edits bytes.items
-ChangesByEdits e source edits (Err failure) = IsUnsound e source failure ⊎ RefusesEdits e source edits failure
+ChangesByEdits e source edits (Err failure) = IsUnsound e source failure ⊎ (RefusesAbsent e source edits failure ⊎ RefusesEdits e source edits failure)
 
 -- ---- a conversion
 

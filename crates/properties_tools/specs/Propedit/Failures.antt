@@ -1,5 +1,5 @@
 -- Why `propedit` fails, and what it prints of a failure.
-use Rattle.std.specs.Prelude.{◌≡◌, ◌≢◌, ◌⊎◌, ℕ, true, false, Bool, List, [], ◌++◌, Option, Some, None, IfSome, codes}
+use Rattle.std.specs.Prelude.{◌≡◌, ◌≢◌, ◌⊎◌, ℕ, true, false, Bool, List, [], ◌++◌, Option, Some, None, IfSome, codes, string_bytes}
 use Rattle.std.specs.Fmt.{decimal}
 use Rattle.std.specs.IoError.{error_kind}
 use Rattle.std.specs.declared.io.Error.{Error}
@@ -13,7 +13,7 @@ use Rattle.properties_items.specs.declared.error.Reason.{Reason}
 use Rattle.properties_items.specs.declared.findings.MalformedEscape.{MalformedEscape}
 use Rattle.properties_tools.specs.Messages.{escaped, printed_line, HasPrintedLine}
 use Rattle.properties_tools.specs.declared.propedit.error.Failure.{Failure}
-use Rattle.properties_tools.specs.declared.propedit.error.Failure.TheVariants.{HoldsZero, NotUtf8, NotUtf8ByMark, NotUtf16, Malformed, Input, Output}
+use Rattle.properties_tools.specs.declared.propedit.error.Failure.TheVariants.{Absent, HoldsZero, NotUtf8, NotUtf8ByMark, NotUtf16, Malformed, Input, Output}
 
 -- what is printed where memory runs out before a message, or for it
 abbrev pub memory_words : List ℕ
@@ -30,6 +30,19 @@ abbrev pub IsIoFailure : Error → Failure → Type 0
 IsIoFailure source failure =
     ((error_kind source ≡ OutOfMemory) × LacksMemory failure)
     ⊎ ((error_kind source ≢ OutOfMemory) × ((error : PropertiesError) × (failure ≡ Input error) × IsStreamError None source error))
+
+-- ---- its status
+
+-- 1 for a key that no pair has, and else 2
+abbrev pub failure_status : Failure → ℕ
+failure_status (HoldsZero number) = 2
+failure_status (NotUtf8 number) = 2
+failure_status (NotUtf8ByMark number) = 2
+failure_status (NotUtf16 number) = 2
+failure_status (Malformed escape) = 2
+failure_status (Absent key) = 1
+failure_status (Input error) = 2
+failure_status (Output error) = 2
 
 -- ---- its reason
 
@@ -54,6 +67,10 @@ ill_formed_by_mark_words = codes "not UTF-8, though a byte order mark says so"
 abbrev pub not_utf_16_words : List ℕ
 not_utf_16_words = codes "not UTF-16"
 
+-- of a key that no pair has
+abbrev pub absent_words : List ℕ → List ℕ
+absent_words key = codes "no pair has the key '" ++ (escaped key ++ codes "'")
+
 -- The words are the reason of an error, or say of UTF-16 what can be done, where a source in it was to be edited.
 abbrev pub IsInputReason : PropertiesError → List ℕ → Type 0
 IsInputReason error words =
@@ -67,6 +84,7 @@ IsReasonOf (NotUtf8 number) words = words ≡ ill_formed_words
 IsReasonOf (NotUtf8ByMark number) words = words ≡ ill_formed_by_mark_words
 IsReasonOf (NotUtf16 number) words = words ≡ not_utf_16_words
 IsReasonOf (Malformed escape) words = words ≡ description escape.kind
+IsReasonOf (Absent key) words = words ≡ absent_words (string_bytes key)
 IsReasonOf (Input error) words = IsInputReason error words
 IsReasonOf (Output error) words = IsInputReason error words
 
@@ -79,6 +97,7 @@ number_of (NotUtf8 number) = Some number
 number_of (NotUtf8ByMark number) = Some number
 number_of (NotUtf16 number) = Some number
 number_of (Malformed escape) = Some escape.line_number
+number_of (Absent key) = None
 number_of (Input error) = message_line error
 number_of (Output error) = message_line error
 
@@ -92,6 +111,7 @@ place_of name (NotUtf8 number) = name
 place_of name (NotUtf8ByMark number) = name
 place_of name (NotUtf16 number) = name
 place_of name (Malformed escape) = name
+place_of name (Absent key) = name
 place_of name (Input error) = name
 place_of name (Output error) = standard_output
 

@@ -1,10 +1,16 @@
 -- Why a file that is edited in place is not replaced, or what fails after that, and what is printed of it.
-use Rattle.std.specs.Prelude.{◌≡◌, ◌⊎◌, ℕ, Bool, true, false, List, [], ◌++◌, Option, None, Some, IfSome, codes, string_bytes}
+use Rattle.std.specs.Prelude.{◌≡◌, ◌⊎◌, ℕ, Bool, true, false, List, [], ◌++◌, Option, None, Some, Err, IfSome, codes, string_bytes}
 use Rattle.std.specs.Fmt.{◌++?◌}
+use Rattle.std.specs.Global.{Global}
+use Rattle.std.specs.declared.string.String.{String}
 use Rattle.counted_io.specs.Streams.{Sink}
+use Rattle.properties_format.specs.Encoding.{Encoding}
 use Rattle.properties_tools.specs.Messages.{escaped, printed_line, HasPrintedLine}
-use Rattle.properties_tools.specs.Propedit.Failures.{message, PrintsFailure, PrintsOutOfMemory}
+use Rattle.properties_tools.specs.Propedit.Change.{Changes}
+use Rattle.properties_tools.specs.Propedit.Failures.{failure_status, message, PrintsFailure, PrintsOutOfMemory}
+use Rattle.properties_tools.specs.declared.propedit.asked.Change.{Change}
 use Rattle.properties_tools.specs.declared.propedit.error.Failure.{Failure}
+use Rattle.properties_tools.specs.declared.propedit.error.Failure.TheVariants.{Absent}
 use Rattle.properties_tools.specs.declared.propedit.in_place.Problem.{Problem}
 use Rattle.properties_tools.specs.declared.propedit.in_place.Problem.TheVariants as problem
 use Rattle.properties_tools.specs.declared.propedit.in_place.ReplaceError.{ReplaceError}
@@ -56,6 +62,19 @@ pub record PrintsProblemLine {W : Type 0} (sink : Sink W) (old : W) (path : List
 abbrev pub PrintsProblem : {W : Type 0} → Sink W → W → List ℕ → ReplaceError → W → Type 0
 PrintsProblem sink old path error new = PrintsProblemLine sink old path error new ⊎ PrintsOutOfMemory sink old new
 
+-- The change is refused for some bytes: they have no pair with a key that has to be there. That is printed as a line.
+pub record PrintsAbsent {W : Type 0} (sink : Sink W) (old : W) (path : List ℕ) (e : Encoding) (change : Change) (new : W) : Type 0 where
+  pub source : List ℕ
+  pub key : String Global
+  pub refused : Changes e source change (Err (Absent key))
+  pub prints : PrintsFailure sink old path (Absent key) new
+
+-- This failure, which is no key that is absent, is printed as a line.
+pub record PrintsOtherFailure {W : Type 0} (sink : Sink W) (old : W) (path : List ℕ) (new : W) : Type 0 where
+  pub failure : Failure
+  pub status : failure_status failure ≡ 2
+  pub prints : PrintsFailure sink old path failure new
+
 -- Why a file is not edited is printed as a line, or that there is no memory for it: it is not read, its edits fail, or it is not replaced.
 abbrev pub PrintsEditError : {W : Type 0} → Sink W → W → List ℕ → W → Type 0
-PrintsEditError sink old path new = ((failure : Failure) × PrintsFailure sink old path failure new) ⊎ ((error : ReplaceError) × PrintsProblem sink old path error new)
+PrintsEditError sink old path new = PrintsOtherFailure sink old path new ⊎ ((error : ReplaceError) × PrintsProblem sink old path error new)

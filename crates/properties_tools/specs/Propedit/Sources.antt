@@ -14,7 +14,7 @@ use Rattle.properties_items.specs.declared.findings.KeyLine.{KeyLine}
 use Rattle.properties_items.specs.declared.findings.MalformedEscape.{MalformedEscape}
 use Rattle.properties_tools.specs.Propedit.Lines.{is_utf_16, starts_with_mark, AreFlawedLines, IsFirstFlawed}
 use Rattle.properties_tools.specs.declared.propedit.error.Failure.{Failure}
-use Rattle.properties_tools.specs.declared.propedit.error.Failure.TheVariants.{HoldsZero, NotUtf8, NotUtf8ByMark, NotUtf16, Malformed, Input, Output}
+use Rattle.properties_tools.specs.declared.propedit.error.Failure.TheVariants.{Absent, HoldsZero, NotUtf8, NotUtf8ByMark, NotUtf16, Malformed, Input, Output}
 use Rattle.properties_tools.specs.declared.propedit.lines.Flaw.TheVariants.{IllFormed, Zero}
 
 -- These are the malformed escapes of a source, and the only ones.
@@ -75,6 +75,7 @@ HasUnsoundBytes e source (NotUtf8 number) = IsFirstIllFormed e source number × 
 HasUnsoundBytes e source (NotUtf8ByMark number) = IsFirstIllFormed e source number × (is_in_utf_16 e source ≡ false) × (starts_with_mark source ≡ true)
 HasUnsoundBytes e source (NotUtf16 number) = IsFirstIllFormed e source number × (is_in_utf_16 e source ≡ true)
 HasUnsoundBytes e source (Malformed escape) = ⊥
+HasUnsoundBytes e source (Absent key) = ⊥
 HasUnsoundBytes e source (Input error) = ⊥
 HasUnsoundBytes e source (Output error) = ⊥
 
@@ -113,6 +114,7 @@ IsUnsound e source (NotUtf8 number) = HasUnsoundBytes e source (NotUtf8 number)
 IsUnsound e source (NotUtf8ByMark number) = HasUnsoundBytes e source (NotUtf8ByMark number)
 IsUnsound e source (NotUtf16 number) = HasUnsoundBytes e source (NotUtf16 number)
 IsUnsound e source (Malformed escape) = IsFirstMalformed e source escape
+IsUnsound e source (Absent key) = ⊥
 IsUnsound e source (Input error) = IsBareError kind.Memory error
 IsUnsound e source (Output error) = ⊥
 

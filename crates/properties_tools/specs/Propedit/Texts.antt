@@ -11,9 +11,13 @@ abbrev pub end_byte : TextEnd → ℕ
 end_byte LineFeed = line_feed
 end_byte Zero = 0
 
+-- a text in UTF-8, and a byte after it
+abbrev pub followed : ℕ → List ℕ → List ℕ
+followed byte text = encode_utf8_all text ++ (byte ∷ [])
+
 -- a text in UTF-8, and the byte that ends it
 abbrev pub ended : TextEnd → List ℕ → List ℕ
-ended end text = encode_utf8_all text ++ (end_byte end ∷ [])
+ended end text = followed (end_byte end) text
 
 -- texts, one after another
 abbrev pub ended_all : TextEnd → List (List ℕ) → List ℕ

@@ -10,6 +10,7 @@ use crate::propedit::check::report;
 use crate::propedit::error::Failure;
 use crate::propedit::get::get;
 use crate::propedit::list::list;
+use crate::propedit::pairs::list_values;
 use crate::propedit::printed::Answer;
 use java_properties::Encoding;
 use std::alloc::Global;
@@ -40,14 +41,17 @@ pub fn answer_to(alloc: Global, work: &Work, source: &[u8]) -> Result<Answer, Fa
     ensures { Answers work.now source.now result }
 {
     match &work.command {
-        Command::Get(key, default, end) => {
+        Command::Get(keys, default, end) => {
             let default = match default {
                 Some(text) => Some(text.as_str()),
                 None => None,
             };
-            get(alloc, source, work.encoding, key.as_str(), default, *end)
+            get(alloc, source, work.encoding, keys, default, *end)
         }
         Command::List(prefix, end) => list(alloc, source, work.encoding, prefix.as_str(), *end),
+        Command::ListValues(prefix, end) => {
+            list_values(alloc, source, work.encoding, prefix.as_str(), *end)
+        }
         Command::Check => check(alloc, name(&work.source), source, work.encoding),
         Command::Change(change) => changed(alloc, source, work.encoding, change),
     }

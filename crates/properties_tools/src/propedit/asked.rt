@@ -58,6 +58,8 @@ pub struct Edits {
     pub list: Vec<Edit>,
     /// Whether what they put in is ASCII-only.
     pub ascii_only: bool,
+    /// Whether a pair of the source has to have each key that they set.
+    pub existing: bool,
 }
 
 /// A conversion, which keeps all but the encoding and the spelling of characters.
@@ -89,10 +91,12 @@ pub enum Source {
 /// What is to be done.
 #[derive(Drop)]
 pub enum Command {
-    /// Print the value of this key, or this default if no pair has the key.
-    Get(String, Option<String>, TextEnd),
+    /// Print the value of each of these keys, or this default if no pair has it. There is one key at least.
+    Get(Vec<String>, Option<String>, TextEnd),
     /// Print the keys that begin with this prefix, each once, in the order of the file.
     List(String, TextEnd),
+    /// Print these keys, each with its last value.
+    ListValues(String, TextEnd),
     /// Print what is wrong.
     Check,
     /// Print the source after this change.

@@ -1,24 +1,32 @@
 // A source after a change.
 
+ghost use Rattle.std.specs.Prelude.{◌≡◌, length, map, IfOk};
+ghost use Rattle.std.specs.Option.{option_map};
+ghost use Rattle.java_properties.specs.Editing.{edit_in, edits_in};
+ghost use Rattle.java_properties.specs.Maps.{characters};
 ghost use Rattle.properties_text.specs.Encoding.{encoding_of};
-ghost use Rattle.properties_tools.specs.Propedit.Change.{Changes, ChangesByEdits, Converts};
+ghost use Rattle.properties_tools.specs.Private.LookedUp.{first_without, key_set, value_texts, RefusesIfAbsent};
+ghost use Rattle.properties_tools.specs.Propedit.Change.{keys_set, Changes, ChangesByEdits, Converts};
+ghost use Rattle.properties_tools.specs.Propedit.Texts.{borrowed_characters};
 
 use crate::propedit::asked::{Change, Conversion, Edits};
 use crate::propedit::error::Failure;
 use crate::propedit::source::{refuse_bytes, refuse_unsound};
-use java_properties::{Encoding, convert, edit_pairs};
-use std::alloc::Global;
+use crate::propedit::values::values_of;
+use java_properties::{Edit, Encoding, convert, edit_pairs};
+use std::alloc::{AllocError, Global};
 
 /// Returns the bytes of a source after a change.
 ///
 /// It refuses a source for its bytes: lines that are ill-formed in the encoding in force, or U+0000 if UTF-8 is in force
-/// without a byte order mark. Edits refuse a malformed escape in a pair too, and then UTF-16. A conversion keeps what is
-/// malformed.
+/// without a byte order mark. Edits refuse a malformed escape in a pair too, then UTF-16, and then, if that is asked for,
+/// the first key to set that no pair of the source has. A conversion keeps what is malformed.
 ///
 /// ```text
 /// let edits = Change::Edits(Edits {
 ///     list: vec![in alloc; Edit::SetValue(port, value)]?,
 ///     ascii_only: false,
+///     existing: false,
 /// });
 /// let bytes = change(alloc, b"# the front door\nport = 80\n", Encoding::UTF_8, &edits)?;
 /// // If the value is `8080`: `# the front door`, a line feed, `port = 8080` and a line feed.
@@ -55,13 +63,72 @@ fn edited(
 {
     refuse_bytes(source, encoding)?;
     match edit_pairs(alloc, source, encoding, edits.ascii_only, &edits.list) {
-        Ok(bytes) => Ok(bytes),
+        Ok(bytes) => {
+            if edits.existing {
+                refuse_absent(alloc, source, encoding, &edits.list)?;
+            }
+            Ok(bytes)
+        }
         // A malformed escape comes before the encoding.
         Err(error) => {
             refuse_unsound(alloc, source, encoding)?;
             Err(Failure::from(error))
         }
     }
+}
+
+// Refuses edits that set a key which no pair of a sound source has. The failure has the first such key.
+fn refuse_absent(
+    alloc: Global,
+    source: &[u8],
+    encoding: Encoding,
+    edits: &[Edit],
+) -> Result<(), Failure>
+    ensures { RefusesIfAbsent (encoding_of encoding) source.now (keys_set (edits_in edits.now)) result }
+{
+    let keys = keys_set(alloc, edits)?;
+    let values = values_of(alloc, source, encoding, &keys)?;
+    match first_without_value(&keys, &values) {
+        Some(key) => Err(Failure::Absent(String::from_str(alloc, key)?)),
+        None => Ok(()),
+    }
+}
+
+// Returns the keys that edits set, in order.
+fn keys_set(alloc: Global, edits: &[Edit]) -> Result<Vec<String>, AllocError>
+    ensures { IfOk result (λ keys. map characters keys.items ≡ keys_set (edits_in edits.now)) }
+{
+    let mut keys = Vec::new(alloc);
+    for edit in edits {
+        match key_set(edit) {
+            Some(key) => keys.push(String::from_str(alloc, key)?)?,
+            None => {}
+        }
+    }
+    Ok(keys)
+}
+
+// Returns the key that an edit sets, if it sets one.
+fn key_set(edit: &Edit) -> Option<&str>
+    ensures { option_map borrowed_characters result ≡ key_set (edit_in edit.now) }
+{
+    match edit {
+        Edit::Put(key, _) | Edit::SetValue(key, _) => Some(key.as_str()),
+        Edit::Remove(_) => None,
+    }
+}
+
+// Returns the first of these keys that has no value.
+fn first_without_value<'a>(keys: &'a [String], values: &[Option<String>]) -> Option<&'a str>
+    requires { length values.now ≡ length keys.now }
+    ensures { option_map borrowed_characters result ≡ first_without (map characters keys.now) (value_texts values.now) }
+{
+    for (place, value) in values.iter().enumerate() {
+        if value.is_none() {
+            return Some(keys[place].as_str());
+        }
+    }
+    None
 }
 
 // Returns the bytes of a source after a conversion.

@@ -3,13 +3,16 @@
 ghost use Rattle.std.specs.Prelude.{◌≡◌, IfOk, string_bytes};
 ghost use Rattle.counted_io.specs.Streams.{IsSameSink};
 ghost use Rattle.java_properties.specs.DisplayTexts.{description};
-ghost use Rattle.properties_tools.specs.Propedit.Failures.{number_of, place_of, IsInputReason, IsIoFailure, IsMessageLine, IsReasonOf, LacksMemory, PrintsFailure};
+ghost use Rattle.properties_tools.specs.Propedit.Failures.{absent_words, failure_status, number_of, place_of, IsInputReason, IsIoFailure, IsMessageLine, IsReasonOf, LacksMemory, PrintsFailure};
 
 use crate::messages::{Escaped, print_line};
 use counted_io::CountedWrite;
 use java_properties::{ErrorKind, MalformedEscape, PropertiesError};
 use std::alloc::{AllocError, Global};
 use std::io;
+
+/// The exit status of wrong arguments and of failures.
+pub(crate) const FAILED: u8 = 2;
 
 /// What messages name if the result can't be written.
 pub const STANDARD_OUTPUT: &str = "standard output";
@@ -45,6 +48,8 @@ pub enum Failure {
     NotUtf16(usize),
     /// A pair of the source has this malformed escape.
     Malformed(MalformedEscape),
+    /// No pair of the source has this key, which was to be set only if one has it.
+    Absent(String),
     /// The source can't be read or edited, or memory ran out.
     Input(PropertiesError),
     /// The result can't be written.
@@ -101,7 +106,18 @@ impl Failure {
             | Failure::NotUtf8ByMark(number)
             | Failure::NotUtf16(number) => Some(*number),
             Failure::Malformed(escape) => Some(escape.line_number),
+            Failure::Absent(_) => None,
             Failure::Input(error) | Failure::Output(error) => error.at("").line_number(),
+        }
+    }
+
+    /// Returns the exit status: 1 if no pair has a key, and otherwise that of failures.
+    pub(crate) fn status(&self) -> u8
+        ensures { result ≡ failure_status self.now }
+    {
+        match self {
+            Failure::Absent(_) => 1,
+            _ => FAILED,
         }
     }
 
@@ -114,6 +130,7 @@ impl Failure {
             Failure::NotUtf8ByMark(_) => String::from_str(alloc, NOT_UTF_8_BY_MARK),
             Failure::NotUtf16(_) => String::from_str(alloc, NOT_UTF_16),
             Failure::Malformed(escape) => reason_of_escape(alloc, escape),
+            Failure::Absent(key) => reason_of_absence(alloc, key.as_str()),
             Failure::Input(error) | Failure::Output(error) => reason_of_error(alloc, error),
         }
     }
@@ -158,6 +175,13 @@ fn reason_of_escape(alloc: Global, escape: &MalformedEscape) -> Result<String, A
 {
     let kind = escape.kind;
     format!(in alloc; "{kind}")
+}
+
+fn reason_of_absence(alloc: Global, key: &str) -> Result<String, AllocError>
+    ensures { IfOk result (λ text. string_bytes text ≡ absent_words key.now) }
+{
+    let key = Escaped(key);
+    format!(in alloc; "no pair has the key '{key}'")
 }
 
 fn reason_of_error(alloc: Global, error: &PropertiesError) -> Result<String, AllocError>

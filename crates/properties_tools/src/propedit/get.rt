@@ -1,44 +1,50 @@
-// The value of a key.
+// The values of keys.
 
-ghost use Rattle.std.specs.Prelude.{IfOk};
+ghost use Rattle.std.specs.Prelude.{◌≡◌, map, IfOk};
 ghost use Rattle.std.specs.Option.{option_map};
-ghost use Rattle.std.specs.Str.{chars};
+ghost use Rattle.java_properties.specs.Maps.{characters};
 ghost use Rattle.properties_text.specs.Encoding.{encoding_of};
-ghost use Rattle.properties_tools.specs.Propedit.Get.{Gets, LooksUp, Prints};
+ghost use Rattle.properties_tools.specs.Private.LookedUp.{value_texts};
+ghost use Rattle.properties_tools.specs.Propedit.Get.{value_or, Gets, Prints};
 ghost use Rattle.properties_tools.specs.Propedit.Texts.{borrowed_characters};
 
 use crate::propedit::asked::TextEnd;
 use crate::propedit::error::Failure;
 use crate::propedit::printed::{Answer, push_ended};
 use crate::propedit::source::{refuse_bytes, refuse_unsound};
-use java_properties::{Encoding, PropertiesError, value_among_pairs};
+use crate::propedit::values::values_of;
+use java_properties::Encoding;
 use std::alloc::{AllocError, Global};
 
-/// Returns the last value of a key, or the default if no pair has the key, and the byte that ends it. If there is
-/// neither, the text is empty and the status is 1.
+/// Returns the last value of each key, or the default if no pair has the key, and the byte that ends it. For a key with
+/// neither there is no text, and the status is 1.
 ///
 /// It refuses a source for its bytes: lines that are ill-formed in the encoding in force, or U+0000 if UTF-8 is in force
 /// without a byte order mark. It refuses a malformed escape in a pair too.
 ///
 /// ```text
-/// let answer = get(alloc, b"b = 1\nb = 2", Encoding::UTF_8, "b", None, TextEnd::LineFeed)?;
-/// // The text is `2` and a line feed, and the status is 0.
+/// let keys = vec![in alloc; b, a]?;
+/// let answer = get(alloc, b"b = 1\na = 2\nb = 3", Encoding::UTF_8, &keys, None, TextEnd::LineFeed)?;
+/// // For the keys `b` and `a` the text is `3` and `2`, each ended by a line feed, and the status is 0.
 /// ```
 pub fn get(
     alloc: Global,
     source: &[u8],
     encoding: Encoding,
-    key: &str,
+    keys: &[String],
     default: Option<&str>,
     end: TextEnd,
 ) -> Result<Answer, Failure>
     ensures { let e = encoding_of encoding in
-        Gets e source.now (chars key.now) (option_map borrowed_characters default.entry) end result }
+        Gets e source.now (map characters keys.now) (option_map borrowed_characters default.entry) end result }
 {
     refuse_bytes(source, encoding)?;
-    match look_up(alloc, source, encoding, key) {
-        Ok(Some(value)) => Ok(answer_of(alloc, Some(value.as_str()), end)?),
-        Ok(None) => Ok(answer_of(alloc, default, end)?),
+    if keys.is_empty() {
+        refuse_unsound(alloc, source, encoding)?;
+        return Ok(answer_of(alloc, &[], default, end)?);
+    }
+    match values_of(alloc, source, encoding, keys) {
+        Ok(values) => Ok(answer_of(alloc, &values, default, end)?),
         Err(error) => {
             refuse_unsound(alloc, source, encoding)?;
             Err(Failure::from(error))
@@ -46,33 +52,32 @@ pub fn get(
     }
 }
 
-// Returns the last value of a key, if a pair has it.
-#[tactic(auto, using(crate::proofs::Looked::looks_up))]
-fn look_up(
+// Returns each value with the byte that ends it, or else the default. The status is 1 if there is neither for one.
+fn answer_of(
     alloc: Global,
-    source: &[u8],
-    encoding: Encoding,
-    key: &str,
-) -> Result<Option<String>, PropertiesError>
-    ensures { LooksUp (encoding_of encoding) source.now (chars key.now) result }
+    values: &[Option<String>],
+    default: Option<&str>,
+    end: TextEnd,
+) -> Result<Answer, AllocError>
+    ensures { IfOk result (Prints end (map (value_or (option_map borrowed_characters default.entry)) (value_texts values.now))) }
 {
-    value_among_pairs(alloc, source, encoding, key)
+    let mut text = Vec::new(alloc);
+    let mut status = 0;
+    for value in values {
+        match value_or(value, default) {
+            Some(word) => push_ended(&mut text, word, end)?,
+            None => status = 1,
+        }
+    }
+    Ok(Answer { text, status })
 }
 
-// Returns a text with the byte that ends it, or no text and the status 1.
-fn answer_of(alloc: Global, text: Option<&str>, end: TextEnd) -> Result<Answer, AllocError>
-    ensures { IfOk result (Prints end (option_map borrowed_characters text.entry)) }
+// Returns a value, or else the default.
+fn value_or<'a>(value: &'a Option<String>, default: Option<&'a str>) -> Option<&'a str>
+    ensures { option_map borrowed_characters result ≡ value_or (option_map borrowed_characters default.entry) (option_map characters value.now) }
 {
-    let mut bytes = Vec::new(alloc);
-    let Some(text) = text else {
-        return Ok(Answer {
-            text: bytes,
-            status: 1,
-        });
-    };
-    push_ended(&mut bytes, text, end)?;
-    Ok(Answer {
-        text: bytes,
-        status: 0,
-    })
+    match value {
+        Some(text) => Some(text.as_str()),
+        None => default,
+    }
 }

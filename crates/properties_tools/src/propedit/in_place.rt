@@ -1,11 +1,12 @@
 //! Files that are edited in place, whole or not at all.
 
-ghost use Rattle.std.specs.Prelude.{◌≡◌, ◌⊎◌, ◌++◌, codes, string_bytes, if◌then◌else◌, IfOk};
+ghost use Rattle.std.specs.Prelude.{◌≡◌, ◌⊎◌, ◌++◌, codes, string_bytes, if◌then◌else◌, IfErr, IfOk};
 ghost use Rattle.std.specs.Option.{is_some};
 ghost use Rattle.counted_io.specs.Streams.{IsSameSink};
 ghost use Rattle.std.specs.Path.{path_bytes};
-ghost use Rattle.properties_tools.specs.Propedit.InPlace.{problem_display, replace_display, IsProblemLine, PrintsEditError, PrintsProblem};
-ghost use Rattle.properties_tools.specs.Private.InPlace.{folder_of, unsynced};
+ghost use Rattle.properties_text.specs.Encoding.{encoding_of};
+ghost use Rattle.properties_tools.specs.Propedit.InPlace.{problem_display, replace_display, IsProblemLine, PrintsAbsent, PrintsEditError, PrintsProblem};
+ghost use Rattle.properties_tools.specs.Private.InPlace.{folder_of, unsynced, IsEditError};
 
 use crate::messages::{Escaped, print_line};
 use crate::propedit::asked::{FileChange, Missing};
@@ -25,6 +26,7 @@ use std::path::Path;
 const BLOCK: usize = 1 << 16;
 
 /// Changes a file in place, and returns the exit status: 0, or 2 after an error, which is printed on `errors` as a line.
+/// It is 1 if that error is a key to set which no pair of the file has.
 ///
 /// The file is replaced whole, or stays as it is. Nothing is written if no byte changes. A missing file that
 /// may be created counts as empty. What can't be printed is dropped.
@@ -39,8 +41,10 @@ pub fn edit_file<E: CountedWrite>(
     file: &FileChange,
     errors: &mut E,
 ) -> u8
-    ensures status { (result ≡ 0) ⊎ (result ≡ 2) }
+    ensures status { (result ≡ 0) ⊎ ((result ≡ 1) ⊎ (result ≡ 2)) }
     ensures quiet { result ≡ 0 → errors.new ≡ errors.old }
+    ensures absent { result ≡ 1 →
+        PrintsAbsent E.CountedWrite errors.old (string_bytes file.now.path) (encoding_of file.now.encoding) file.now.change errors.new }
     ensures prints { result ≡ 2 → PrintsEditError E.CountedWrite errors.old (string_bytes file.now.path) errors.new }
     ensures same_sink { IsSameSink E.CountedWrite errors.old errors.new }
 {
@@ -59,7 +63,9 @@ enum EditError {
     NotReplaced(ReplaceError),
 }
 
-fn replace_edited(rt: &HostRuntime, alloc: Global, file: &FileChange) -> Result<(), EditError> {
+fn replace_edited(rt: &HostRuntime, alloc: Global, file: &FileChange) -> Result<(), EditError>
+    ensures { IfErr result (IsEditError (encoding_of file.now.encoding) file.now.change) }
+{
     let target = match Target::read(rt, alloc, file.path.as_str(), file.missing) {
         Ok(target) => target,
         Err(error) => return Err(EditError::NotEdited(Failure::from(error))),

@@ -1,17 +1,26 @@
 // The keys of a source.
 
-ghost use Rattle.std.specs.Prelude.{◌≡◌, IfOk};
+ghost use Rattle.std.specs.Prelude.{◌≡◌, OnOk};
+ghost use Rattle.std.specs.Cow.{cow_str_bytes};
 ghost use Rattle.std.specs.Str.{chars};
-ghost use Rattle.java_properties.specs.KeyLines.{key_line_entry, key_line_entries};
+ghost use Rattle.properties_format.specs.Computed.Parts.{outcome_key};
+ghost use Rattle.properties_format.specs.Items.{given};
+ghost use Rattle.properties_items.specs.BorrowedItems.{borrowed_content};
 ghost use Rattle.properties_text.specs.Encoding.{encoding_of};
-ghost use Rattle.properties_tools.specs.Propedit.Listing.{Lists, PrintsKeys, is_key_listed};
+ghost use Rattle.properties_tools.specs.Propedit.Listing.{is_key_listed, Lists};
+ghost use Rattle.properties_tools.specs.Private.ListedKeys.{FindsListed, IndexesSome, ListsKey, ListsLine};
 
 use crate::propedit::asked::TextEnd;
 use crate::propedit::error::Failure;
-use crate::propedit::printed::{Answer, push_ended};
-use crate::propedit::source::{keys_in, refuse_unsound};
-use java_properties::{Encoding, KeyLine};
+use crate::propedit::listed::ListedKeys;
+use crate::propedit::printed::Answer;
+use crate::propedit::source::{refuse_bytes, refuse_unsound};
+use java_properties::{ContentRef, Encoding, LineRef, PropertiesError};
+use properties_items::found::{cut_item, find_item};
+use properties_lines::join::is_comment;
+use properties_lines::joiner::LineJoiner;
 use std::alloc::{AllocError, Global};
+use std::borrow::CowStr;
 
 /// Returns the keys that begin with a prefix, each once and with the byte that ends it, in the order of their first
 /// pairs. If there is none, the status is 1.
@@ -32,28 +41,91 @@ pub fn list(
 ) -> Result<Answer, Failure>
     ensures { Lists (encoding_of encoding) source.now (chars prefix.now) end result }
 {
-    refuse_unsound(alloc, source, encoding)?;
-    let keys = keys_in(alloc, source, encoding)?;
-    Ok(listed(alloc, &keys, prefix, end)?)
-}
-
-// Returns whether no pair before has the key, and the key begins with the prefix.
-fn is_listed(key: &KeyLine, prefix: &str) -> bool
-    ensures { result ≡ is_key_listed (chars prefix.now) (key_line_entry key.now) }
-{
-    key.first_line_number == key.line_number && key.key.as_str().starts_with(prefix)
-}
-
-// Returns the keys that are listed, and the status.
-fn listed(alloc: Global, keys: &[KeyLine], prefix: &str, end: TextEnd) -> Result<Answer, AllocError>
-    ensures { IfOk result (PrintsKeys end (chars prefix.now) (key_line_entries keys.now)) }
-{
-    let mut text = Vec::new(alloc);
-    for key in keys {
-        if is_listed(key, prefix) {
-            push_ended(&mut text, key.key.as_str(), end)?;
+    refuse_bytes(source, encoding)?;
+    match listed(alloc, source, encoding, prefix, end) {
+        Ok(text) => {
+            let status = if text.is_empty() { 1 } else { 0 };
+            Ok(Answer { text, status })
+        }
+        Err(error) => {
+            refuse_unsound(alloc, source, encoding)?;
+            Err(Failure::from(error))
         }
     }
-    let status = if text.is_empty() { 1 } else { 0 };
-    Ok(Answer { text, status })
+}
+
+// Returns the keys that are listed, each with the byte that ends it. Passes over comments.
+fn listed(
+    alloc: Global,
+    source: &[u8],
+    encoding: Encoding,
+    prefix: &str,
+    end: TextEnd,
+) -> Result<Vec<u8>, PropertiesError>
+    ensures { FindsListed (encoding_of encoding) source.now (chars prefix.now) end result }
+{
+    let mut input = source;
+    let mut lines = LineJoiner::new(alloc, encoding);
+    let mut keys = ListedKeys::new(alloc, source.len() / 16 + 1)?;
+    while let Some(number) = lines.next_text(&mut input) {
+        add_line(alloc, &mut keys, number, lines.line(), prefix, end)?;
+    }
+    match lines.take_error() {
+        Some(error) => Err(PropertiesError::from(error)),
+        None => Ok(keys.text),
+    }
+}
+
+// Adds the key of a logical line, if it is a pair and its key is listed.
+#[inline(always)]
+fn add_line(
+    alloc: Global,
+    keys: &mut ListedKeys,
+    line_number: usize,
+    line: &str,
+    prefix: &str,
+    end: TextEnd,
+) -> Result<(), PropertiesError>
+    requires { IndexesSome keys.old }
+    ensures { ListsLine line_number (chars line.now) (chars prefix.now) end keys.old result keys.new }
+{
+    if is_comment(line.as_bytes()) {
+        return Ok(());
+    }
+    match find_item(alloc, line_number, line)? {
+        Some(found) => Ok(add_item(alloc, keys, cut_item(found, line), prefix, end)?),
+        None => Ok(()),
+    }
+}
+
+// Adds the key of an item, if it is a pair and its key is listed.
+#[inline(always)]
+fn add_item(
+    alloc: Global,
+    keys: &mut ListedKeys,
+    line: LineRef<'_>,
+    prefix: &str,
+    end: TextEnd,
+) -> Result<(), AllocError>
+    requires { IndexesSome keys.old }
+    ensures { OnOk result (let item = outcome_key (given (borrowed_content line.entry.content)) in
+        ListsKey (chars prefix.now) end item keys.old keys.new) }
+{
+    match line.content() {
+        ContentRef::Comment(_) => Ok(()),
+        ContentRef::KVPair(key, _) => {
+            if !is_listed(key, prefix) {
+                return Ok(());
+            }
+            keys.add(alloc, key.as_str(), end)
+        }
+    }
+}
+
+// Returns whether the key begins with the prefix.
+#[inline(always)]
+fn is_listed(key: &CowStr<'_>, prefix: &str) -> bool
+    ensures { result ≡ is_key_listed (chars prefix.now) (chars (cow_str_bytes key.now)) }
+{
+    key.as_str().starts_with(prefix)
 }

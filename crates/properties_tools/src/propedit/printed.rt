@@ -2,7 +2,7 @@
 
 ghost use Rattle.std.specs.Prelude.{◌≡◌, ◌++◌, OnOk};
 ghost use Rattle.std.specs.Str.{chars};
-ghost use Rattle.properties_tools.specs.Propedit.Texts.{end_byte, ended};
+ghost use Rattle.properties_tools.specs.Propedit.Texts.{end_byte, ended, followed};
 
 use crate::propedit::asked::TextEnd;
 use std::alloc::AllocError;
@@ -20,8 +20,15 @@ pub struct Answer {
 pub(crate) fn push_ended(text: &mut Vec<u8>, word: &str, end: TextEnd) -> Result<(), AllocError>
     ensures { OnOk result (text.new.items ≡ text.old.items ++ ended end (chars word.now)) }
 {
+    push_followed(text, word, byte_of(end))
+}
+
+/// Appends a text and a byte after it.
+pub(crate) fn push_followed(text: &mut Vec<u8>, word: &str, byte: u8) -> Result<(), AllocError>
+    ensures { OnOk result (text.new.items ≡ text.old.items ++ followed byte (chars word.now)) }
+{
     text.extend_from_slice(word.as_bytes())?;
-    text.push(byte_of(end))?;
+    text.push(byte)?;
     Ok(())
 }
 

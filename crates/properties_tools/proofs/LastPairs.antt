@@ -1,0 +1,489 @@
+-- Pairs that are collected, each key once and with its last value.
+use Rattle.std.proofs.Common.{◌≡◌, ◌≢◌, ℕ, zero, suc, ◌+◌, ◌^◌, ◌<◌, true, false, List, [], ◌∷◌, ◌++◌, length, refl, ap, sym, ◌∙◌, inl, inr, subst, arith}
+use Rattle.std.proofs.Common.{append_assoc, append-nil, if◌then◌else◌}
+use Rattle.std.specs.Prelude.{◌⊎◌, All, AllPairs, Option, Some, None, Result, Ok, Err, bytes_eq, cond}
+use Rattle.std.specs.BTreeMap.{BTreeMap, UpdatesBy, get_by_text}
+use Rattle.std.specs.Borrow.{Bor}
+use Rattle.std.specs.Cmp.Lexicographic.{slice_cmp}
+use Rattle.std.specs.Global.{Global, Vec}
+use Rattle.std.specs.Io.KnownBytes.{Consumes}
+use Rattle.std.specs.Map.{update}
+use Rattle.std.specs.Option.{option_map}
+use Rattle.std.specs.Ordering.{nat_cmp}
+use Rattle.std.specs.Str.{chars}
+use Rattle.std.specs.String.{string_bytes, string_cmp}
+use Rattle.std.specs.declared.string.String.{String}
+use Rattle.std.proofs.Math.ListN.{get_or, set}
+use Rattle.std.proofs.lemmas.Bool.{cases_Bool}
+use Rattle.std.proofs.lemmas.List.{map-append, map-set, get_or-map, length-map}
+use Rattle.std.proofs.lemmas.List.Elements.{filter_map-append, All-append}
+use Rattle.std.proofs.lemmas.List.Kept.{AllPairs-cons}
+use Rattle.std.proofs.lemmas.Slice.Eq.{bytes_eq-Decides}
+use Rattle.std.proofs.lemmas.Str.{IsUtf8-string_bytes}
+use Rattle.properties_format.specs.Encoding.{Encoding}
+use Rattle.properties_format.specs.Lines.{Line}
+use Rattle.properties_format.specs.Groups.{is_comment_line, joined, first_number}
+use Rattle.properties_format.specs.Entries.{comment, pair, Entry, item}
+use Rattle.properties_format.specs.Escapes.{Meaning, means, breaks}
+use Rattle.properties_format.specs.Items.{Outcome, ignored, given, broken}
+use Rattle.properties_format.specs.Split.{Logical, IsSplit}
+use Rattle.properties_format.specs.Maps.{IsMap, IsValue}
+use Rattle.properties_format.specs.MalformedEscapes as format
+use Rattle.properties_format.specs.MalformedEscapes.{escapes_from}
+use Rattle.properties_format.specs.EditedPairs.{AreInComments, ArePairs, EscapesAre, pair_from}
+use Rattle.properties_format.specs.Pairs.{Pair}
+use Rattle.properties_format.specs.ItemsToCome.{ReaderState, start}
+use Rattle.properties_format.specs.Computed.Escapes.{meaning_of}
+use Rattle.properties_format.specs.Computed.Items.{comment_outcome, outcome_of, split_outcome}
+use Rattle.properties_format.specs.Computed.Keys.{Has, HasNot, ComesBefore, AreFirstOf}
+use Rattle.properties_format.specs.Computed.MalformedEscapes.{escapes_in, malformed_escapes_of}
+use Rattle.properties_format.specs.Computed.Split.{split_of}
+use Rattle.properties_format.proofs.Edits.PairValues.{pairs_in, pairs_in-push, pairs_of-meets}
+use Rattle.properties_format.proofs.Keys.{contained, pair_key, pair_keys, are-keys}
+use Rattle.properties_format.proofs.MalformedEscapes.{escapes_in-append, escapes_in-groups, malformed_escapes_of-meets}
+use Rattle.properties_format.proofs.Maps.{map-none, map-pair, value_in-only}
+use Rattle.properties_format.proofs.Changed.Maps.{other-test, same-test}
+use Rattle.properties_format.proofs.Split.Unique.{split_of-meets}
+use Rattle.properties_format.proofs.Valued.Parts.{comment_line-no_pair}
+use Rattle.properties_lines.specs.LineJoiner.{LineState, JoinsNext, JoinsError}
+use Rattle.properties_lines.specs.declared.error.LineError.{LineError}
+use Rattle.properties_items.proofs.TextMaps.Values.{at_chars-sorted, at_chars-updated}
+use Rattle.properties_items.specs.Errors.{IsBareError, IsLineError}
+use Rattle.properties_items.specs.FoundItems.{outcome_pair, IsNoItem}
+use Rattle.properties_items.specs.Texts.{characters}
+use Rattle.properties_items.specs.declared.error.ErrorKind.TheVariants as kind
+use Rattle.properties_items.specs.declared.error.PropertiesError.{PropertiesError}
+use Rattle.counted_io.specs.Streams.{Reader, HasRead, has_ended}
+use Rattle.java_properties.specs.MalformedEscapes.{FailsToFind, StopsFinding}
+use Rattle.java_properties.specs.Private.LineByLine.{Collected}
+use Rattle.java_properties.proofs.MalformedEscapes.{collected-start, collected-next, collected-lines, collected-groups, found-lost}
+use Rattle.java_properties.proofs.SliceReads.{slice_of, slice_reader, slice-whole}
+use Rattle.java_properties.proofs.SoughtPairs.{HasSoughtPairs, StopsAtPair, pairs-refused, pairs-error, slice-tells_pairs}
+use Rattle.properties_tools.specs.Propedit.Pairs.{keys_of, AreLastPairs}
+use Rattle.properties_tools.specs.Private.LastPairs.{pair_of, pairs_of, place_of, with_line, with_pair, FindsLastPairs, HasPlaces, PutsLine}
+use Rattle.properties_tools.proofs.LookedUp.{lost}
+
+-- ---- keys in a list
+
+pub has-left : (key : List ℕ) (ks ls : List (List ℕ)) → Has key ks → Has key (ks ++ ls)
+has-left key [] ls h = absurd h
+has-left key (k ∷ ks) ls (inl e) = inl e
+has-left key (k ∷ ks) ls (inr h) = inr (has-left key ks ls h)
+
+pub has-last : (key : List ℕ) (ks : List (List ℕ)) → Has key (ks ++ key ∷ [])
+has-last key [] = inl refl
+has-last key (k ∷ ks) = inr (has-last key ks)
+
+-- one of them, or the last
+pub has-split : (key last : List ℕ) (ks : List (List ℕ)) → Has key (ks ++ last ∷ []) → Has key ks ⊎ (last ≡ key)
+has-split key last [] (inl e) = inr e
+has-split key last [] (inr h) = absurd h
+has-split key last (k ∷ ks) (inl e) = inl (inl e)
+has-split key last (k ∷ ks) (inr h) = elim (has-split key last ks h) [ inl l ↦ inl (inr l) | inr e ↦ inr e ]
+
+-- what isn't one of them is none of the first
+has_not-left : (key : List ℕ) (ks ls : List (List ℕ)) → HasNot key (ks ++ ls) → HasNot key ks
+has_not-left key [] ls h = tt
+has_not-left key (k ∷ ks) ls h = (h.0, has_not-left key ks ls h.1)
+
+pub has_not : (key : List ℕ) (ks : List (List ℕ)) → (Has key ks → ⊥) → HasNot key ks
+has_not key [] never = tt
+has_not key (k ∷ ks) never = ((λ e. never (inl e)), has_not key ks (λ h. never (inr h)))
+
+no-both : (key : List ℕ) (ks : List (List ℕ)) → HasNot key ks → Has key ks → ⊥
+no-both key [] n h = h
+no-both key (k ∷ ks) n (inl e) = n.0 e
+no-both key (k ∷ ks) n (inr h) = no-both key ks n.1 h
+
+-- a place within a list has the same whatever is beyond its end
+same-at : {X : Type 0} (xs : List X) (i : ℕ) (d : X) → i < length xs → get_or xs i (get_or xs i d) ≡ get_or xs i d
+same-at [] i d m = absurd (omega arith)
+same-at (x ∷ xs) zero d m = refl
+same-at (x ∷ xs) (suc i) d m = same-at xs i d (omega arith)
+
+-- where it is
+divides : (key : List ℕ) (ks : List (List ℕ)) → Has key ks → (before : List (List ℕ)) × (after : List (List ℕ)) × (ks ≡ before ++ key ∷ after)
+divides key [] h = absurd h
+divides key (k ∷ ks) (inl e) = ([], ks, ap (λ v. v ∷ ks) e)
+divides key (k ∷ ks) (inr h) = let d = divides key ks h in (k ∷ d.0, d.1, ap (λ v. k ∷ v) d.2)
+
+-- ---- one key more
+
+grown : {all : List (List ℕ)} {one other : List ℕ} (key : List ℕ) → ComesBefore all one other → ComesBefore (all ++ key ∷ []) one other
+grown {all} {one} key h = record {
+  before = h.before;
+  after = h.after ++ key ∷ [];
+  division = ap (λ v. v ++ key ∷ []) h.division ∙ append_assoc h.before (one ∷ h.after) (key ∷ []);
+  none_before = h.none_before;
+  differ = h.differ;
+}
+
+-- a key that is there
+pub first-same : (all ks : List (List ℕ)) (key : List ℕ) → AreFirstOf all ks → Has key ks → AreFirstOf (all ++ key ∷ []) ks
+first-same all ks key h there = record {
+  only = λ k m. has-left k all (key ∷ []) (h.only k m);
+  every = λ k m. elim (has-split k key all m) [ inl l ↦ h.every k l | inr e ↦ subst (λ v. Has v ks) e there ];
+  in_order = λ i j d l m. grown key (h.in_order i j d l m);
+}
+
+AllPairs-last : {X : Type 0} (R : X → X → Type 0) (xs : List X) (y : X) → AllPairs R xs → All (λ x. R x y) xs → AllPairs R (xs ++ y ∷ [])
+AllPairs-last R [] y h all = λ i j d l m. absurd (omega arith)
+AllPairs-last R (x ∷ xs) y h all =
+    AllPairs-cons R x (xs ++ y ∷ [])
+    (All-append (R x) xs (y ∷ []) (λ j d m. h zero (suc j) d (omega arith) (omega arith)) (λ j d m. last j d m))
+    (AllPairs-last R xs y (λ i j d l m. h (suc i) (suc j) d (omega arith) (omega arith)) (λ j d m. all (suc j) d (omega arith)))
+  where
+    last : All (R x) (y ∷ [])
+    last zero d m = all zero y (omega arith)
+    last (suc j) d m = absurd (omega arith)
+
+-- a new key
+pub first-new : (all ks : List (List ℕ)) (key : List ℕ) → AreFirstOf all ks → HasNot key ks → AreFirstOf (all ++ key ∷ []) (ks ++ key ∷ [])
+first-new all ks key h new = record {
+  only = λ k m. elim (has-split k key ks m) [ inl l ↦ has-left k all (key ∷ []) (h.only k l) | inr e ↦ subst (λ v. Has v (all ++ key ∷ [])) e (has-last key all) ];
+  every = λ k m. elim (has-split k key all m) [ inl l ↦ has-left k ks (key ∷ []) (h.every k l) | inr e ↦ subst (λ v. Has v (ks ++ key ∷ [])) e (has-last key ks) ];
+  in_order = AllPairs-last (ComesBefore (all ++ key ∷ [])) ks key (λ i j d l m. grown key (h.in_order i j d l m)) (λ i d m. before (get_or ks i d) (contained (get_or ks i d) ks (i, m, same-at ks i d m)));
+}
+  where
+    none : HasNot key all
+    none = has_not key all (λ m. no-both key ks new (h.every key m))
+
+    before : (k : List ℕ) → Has k ks → ComesBefore (all ++ key ∷ []) k key
+    before k m =
+        let d = divides k all (h.only k m) in
+        record {
+          before = d.0;
+          after = d.1 ++ key ∷ [];
+          division = ap (λ v. v ++ key ∷ []) d.2 ∙ append_assoc d.0 (k ∷ d.1) (key ∷ []);
+          none_before = has_not-left key d.0 (k ∷ d.1) (subst (HasNot key) d.2 none);
+          differ = λ e. no-both key ks new (subst (λ v. Has v ks) e m);
+        }
+
+-- the key goes among the keys, or comes last
+with_key : (key value : List ℕ) (ps : List Pair) → (Has key (keys_of ps) × (keys_of (with_pair key value ps) ≡ keys_of ps))
+    ⊎ (HasNot key (keys_of ps) × (keys_of (with_pair key value ps) ≡ keys_of ps ++ key ∷ []))
+with_key key value [] = inr (tt, refl)
+with_key key value (p ∷ ps) = elim (cases_Bool (bytes_eq p.0 key)) [
+  | inl same ↦ inl (inl ((bytes_eq-Decides p.0 key).0 same), rw same refl)
+  | inr other ↦ elim (with_key key value ps) [
+    | inl h ↦ inl (inr h.0, rw other (ap (λ v. p.0 ∷ v) h.1))
+    | inr h ↦ inr ((differs p.0 key other, h.0), rw other (ap (λ v. p.0 ∷ v) h.1))
+  ]
+]
+  where
+    differs : (x y : List ℕ) → bytes_eq x y ≡ false → x ≢ y
+    differs x y e q = let t = (bytes_eq-Decides x y).1 q in cc
+
+first-with : (all : List (List ℕ)) (key value : List ℕ) (ps : List Pair) → AreFirstOf all (keys_of ps) → AreFirstOf (all ++ key ∷ []) (keys_of (with_pair key value ps))
+first-with all key value ps h = elim (with_key key value ps) [
+  | inl k ↦ rw k.1 (first-same all (keys_of ps) key h k.0)
+  | inr k ↦ rw k.1 (first-new all (keys_of ps) key h k.0)
+]
+
+-- ---- places
+
+-- a place that is found
+some-place : (o : Option ℕ) (n : ℕ) → option_map (λ m. m + 1) o ≡ Some n → (m : ℕ) × (o ≡ Some m) × (n ≡ m + 1)
+some-place None n h = absurd (cc)
+some-place (Some m) n h = (m, refl, cc)
+
+no-place : (o : Option ℕ) → option_map (λ m. m + 1) o ≡ None → o ≡ None
+no-place None h = refl
+no-place (Some m) h = absurd (cc)
+
+-- the place of the first key is 0
+here-place : (o : Option ℕ) (n : ℕ) → (if true then Some 0 else o) ≡ Some n → 0 ≡ n
+here-place o n h = cc
+
+pub place-within : (key : List ℕ) (ks : List (List ℕ)) (n : ℕ) → place_of ks key ≡ Some n → n < length ks
+place-within key [] n h = absurd (cc)
+place-within key (k ∷ ks) n h = elim (cases_Bool (bytes_eq k key)) [
+  | inl same ↦ let is : 0 ≡ n = here-place (option_map (λ m. m + 1) (place_of ks key)) n (rw same at h) in omega arith
+  | inr other ↦
+      let found = some-place (place_of ks key) n (rw other at h) in
+      let below = place-within key ks found.0 found.1 in
+      let is = found.2 in
+      omega arith
+]
+
+-- The pair at the place of a key takes the value.
+pub set-with : (key value : List ℕ) (ps : List Pair) (n : ℕ) (p : Pair) → place_of (keys_of ps) key ≡ Some n → p ≡ get_or ps n p
+    → set ps n (p.0, value) ≡ with_pair key value ps
+set-with key value [] n p h at = absurd (cc)
+set-with key value (q ∷ ps) n p h at = elim (cases_Bool (bytes_eq q.0 key)) [
+  | inl same ↦ rw same (here n (here-place (option_map (λ m. m + 1) (place_of (keys_of ps) key)) n (rw same at h)) at)
+  | inr other ↦ let found = some-place (place_of (keys_of ps) key) n (rw other at h) in rw other (there (λ m f a. set-with key value ps m p f a) n found.0 found.1 found.2 at)
+]
+  where
+    here : (m : ℕ) → 0 ≡ m → p ≡ get_or (q ∷ ps) m p → set (q ∷ ps) m (p.0, value) ≡ (q.0, value) ∷ ps
+    here zero e a = ap (λ (v : Pair). (v.0, value) ∷ ps) a
+    here (suc m) e a = absurd (omega arith)
+
+    there : ((m : ℕ) → place_of (keys_of ps) key ≡ Some m → p ≡ get_or ps m p → set ps m (p.0, value) ≡ with_pair key value ps)
+        → (m k : ℕ) → place_of (keys_of ps) key ≡ Some k → m ≡ k + 1 → p ≡ get_or (q ∷ ps) m p → set (q ∷ ps) m (p.0, value) ≡ q ∷ with_pair key value ps
+    there others zero k f e a = absurd (omega arith)
+    there others (suc m) k f e a = let same : k ≡ m = omega arith in ap (λ v. q ∷ v) (others m (f ∙ ap Some same) a)
+
+-- A key without a place comes last.
+pub new-with : (key value : List ℕ) (ps : List Pair) → place_of (keys_of ps) key ≡ None → with_pair key value ps ≡ ps ++ (key, value) ∷ []
+new-with key value [] h = refl
+new-with key value (q ∷ ps) h = elim (cases_Bool (bytes_eq q.0 key)) [
+  | inl same ↦ absurd (let k = rw same at h in cc)
+  | inr other ↦ rw other (ap (λ v. q ∷ v) (new-with key value ps (no-place (place_of (keys_of ps) key) (rw other at h))))
+]
+
+-- the places after it
+pub place-new : (key : List ℕ) (ks : List (List ℕ)) (k : List ℕ) → place_of ks key ≡ None
+    → place_of (ks ++ key ∷ []) k ≡ update bytes_eq (place_of ks) key (Some (length ks)) k
+place-new key [] k h = refl
+place-new key (x ∷ ks) k h = elim (cases_Bool (bytes_eq x key)) [
+  | inl same ↦ absurd (let n = rw same at h in cc)
+  | inr other ↦ ap (λ v. if bytes_eq x k then Some 0 else option_map (λ m. m + 1) v) (place-new key ks k (no-place (place_of ks key) (rw other at h))) ∙ chosen (cases_Bool (bytes_eq key k)) other
+]
+  where
+    chosen : (bytes_eq key k ≡ true) ⊎ (bytes_eq key k ≡ false) → bytes_eq x key ≡ false → (if bytes_eq x k then Some 0 else option_map (λ m. m + 1) (update bytes_eq (place_of ks) key (Some (length ks)) k))
+        ≡ update bytes_eq (place_of (x ∷ ks)) key (Some (length (x ∷ ks))) k
+    chosen (inl same) other =
+        let e : key ≡ k = (bytes_eq-Decides key k).0 same in
+        let apart : bytes_eq x k ≡ false = ap (bytes_eq x) (sym e) ∙ other in
+        let next : length ks + 1 ≡ suc (length ks) = omega arith in
+        rw (same, apart) (ap Some next)
+    chosen (inr differs) other = rw differs refl
+
+-- The keys stay, where the key has a place.
+pub kept-with : (key value : List ℕ) (ps : List Pair) (n : ℕ) → place_of (keys_of ps) key ≡ Some n → keys_of (with_pair key value ps) ≡ keys_of ps
+kept-with key value [] n h = absurd (cc)
+kept-with key value (q ∷ ps) n h = elim (cases_Bool (bytes_eq q.0 key)) [
+  | inl same ↦ rw same refl
+  | inr other ↦ let found = some-place (place_of (keys_of ps) key) n (rw other at h) in rw other (ap (λ v. q.0 ∷ v) (kept-with key value ps found.0 found.1))
+]
+
+-- the place of a text
+pub place-found : {Y Z : Type 0} (places : BTreeMap (String Z) ℕ) (ps : List Pair) (key : String Y) (o : Option ℕ) → HasPlaces places.entries ps
+    → o ≡ get_by_text places (string_bytes key) → place_of (keys_of ps) (characters key) ≡ o
+place-found places ps key o placed h = sym (placed (characters key)) ∙ at_chars-sorted places (string_bytes key) (IsUtf8-string_bytes key) ∙ sym h
+
+-- The pair at that place takes the value.
+pub set-texts : (texts : List (String Global × String Global)) (n : ℕ) (key : List ℕ) (value : String Global) (p : String Global × String Global)
+    → place_of (keys_of (pairs_of texts)) key ≡ Some n → p ≡ get_or texts n p
+    → pairs_of (set texts n (p.0, value)) ≡ with_pair key (characters value) (pairs_of texts)
+set-texts texts n key value p found at =
+    let below : n < length (keys_of (pairs_of texts)) = place-within key (keys_of (pairs_of texts)) n found in
+    let keys = length-map (pairs_of texts) (λ (q : Pair). q.0) in
+    let all = length-map texts pair_of in
+    map-set pair_of texts n (p.0, value)
+    ∙ set-with key (characters value) (pairs_of texts) n (pair_of p) found (ap pair_of at ∙ sym (get_or-map pair_of texts n p (pair_of p) (omega arith)))
+
+-- The map has the places, after a key more.
+pub places-new : {Y : Type 0} (m n : BTreeMap (String Y) ℕ) (key : String Y) (ps : List Pair) (value : List ℕ) → HasPlaces m.entries ps
+    → place_of (keys_of ps) (characters key) ≡ None
+    → UpdatesBy string_cmp (λ x. slice_cmp nat_cmp (string_bytes key) (string_bytes x)) m n (Some (length ps))
+    → HasPlaces n.entries (ps ++ (characters key, value) ∷ [])
+places-new m n key ps value placed none updates k =
+    at_chars-updated m n (string_bytes key) (IsUtf8-string_bytes key) (Some (length ps)) updates k
+    ∙ ap (λ v. cond (bytes_eq (characters key) k) (Some (length ps)) v) (placed k)
+    ∙ ap (λ v. cond (bytes_eq (characters key) k) (Some v) (place_of (keys_of ps) k)) (sym (length-map ps (λ (q : Pair). q.0)))
+    ∙ sym (place-new (characters key) (keys_of ps) k none)
+    ∙ ap (λ v. place_of v k) (sym (map-append (λ (q : Pair). q.0) ps ((characters key, value) ∷ [])))
+
+-- ---- values
+
+-- the value of a key in pairs
+abbrev pub pair_value : List Pair → List ℕ → Option (List ℕ)
+pair_value [] key = None
+pair_value (p ∷ ps) key = if bytes_eq p.0 key then Some p.1 else pair_value ps key
+
+value-with : (key value : List ℕ) (ps : List Pair) (k : List ℕ) → pair_value (with_pair key value ps) k ≡ (if bytes_eq key k then Some value else pair_value ps k)
+value-with key value [] k = refl
+value-with key value (p ∷ ps) k = elim (cases_Bool (bytes_eq p.0 key)) [
+  | inl same ↦
+      let e : p.0 ≡ key = (bytes_eq-Decides p.0 key).0 same in
+      elim (cases_Bool (bytes_eq key k)) [ inl here ↦ rw (same, e, here) refl | inr there ↦ rw (same, e, there) refl ]
+  | inr other ↦ elim (cases_Bool (bytes_eq p.0 k)) [
+    | inl here ↦
+        let e : p.0 ≡ k = (bytes_eq-Decides p.0 k).0 here in
+        let no : bytes_eq key k ≡ false = other-test key k (λ q. absurd (let t = same-test p.0 key (e ∙ sym q) in cc)) in
+        rw (other, here, no) refl
+    | inr there ↦ rw (other, there) (value-with key value ps k)
+  ]
+]
+
+-- each pair has the value of its key, where no key comes twice
+own-values : (ps : List Pair) → AllPairs (λ a b. a ≢ b) (keys_of ps) → All (λ p. pair_value ps p.0 ≡ Some p.1) ps
+own-values [] differ k d m = absurd (omega arith)
+own-values (p ∷ ps) differ zero d m = let same = same-test p.0 p.0 refl in rw same refl
+own-values (p ∷ ps) differ (suc k) d m =
+    let others = own-values ps (λ i j e l n. differ (suc i) (suc j) e (omega arith) (omega arith)) k d (omega arith) in
+    let apart = differ zero (suc k) [] (omega arith) within in
+    let other = other-test p.0 _ (λ e. apart (e ∙ sym (get_or-map (λ (q : Pair). q.0) ps k d [] (omega arith)))) in
+    rw other others
+  where
+    within : suc k < length (keys_of (p ∷ ps))
+    within = let l = length-map ps (λ (q : Pair). q.0) in omega arith
+
+-- ---- logical lines, one after another
+
+-- These are the pairs of some entries, each key once and with its last value.
+pub record AreLast (entries : List Entry) (ps : List Pair) : Type 0 where
+  pub keys : AreFirstOf (pair_keys entries) (keys_of ps)
+  pub values : IsMap entries (pair_value ps)
+
+pub last-none : AreLast [] []
+last-none = record {
+  keys = record { only = λ key h. h; every = λ key h. h; in_order = λ i j d l m. absurd (omega arith) };
+  values = map-none (pair_value []) (λ key. refl);
+}
+
+last-more : (entries : List Entry) (number : ℕ) (key value : List ℕ) (ps : List Pair) → AreLast entries ps
+    → AreLast (entries ++ item number (pair key value) ∷ []) (with_pair key value ps)
+last-more entries number key value ps h = record {
+  keys = rw (filter_map-append pair_key entries (item number (pair key value) ∷ [])) (first-with (pair_keys entries) key value ps h.keys);
+  values = map-pair entries number key value (pair_value ps) (pair_value (with_pair key value ps)) h.values (value-with key value ps);
+}
+
+-- a logical line more
+last-line : (gs : List (List Line)) (g : List Line) (ps : List Pair) → AreLast (pairs_in gs) ps
+    → AreLast (pairs_in (gs ++ g ∷ [])) (with_line (outcome_pair (outcome_of (joined g))) ps)
+last-line gs g ps h = rw (pairs_in-push gs g) (by (outcome_of (joined g)))
+  where
+    by : (o : Outcome) → AreLast (pairs_in gs ++ pair_from (first_number g) o []) (with_line (outcome_pair o) ps)
+    by ignored = rw append-nil h
+    by (given (comment text)) = rw append-nil h
+    by (given (pair key value)) = last-more (pairs_in gs) (first_number g) key value ps h
+    by (broken how) = rw append-nil h
+
+-- A comment is no pair, and what is malformed in it is in a comment.
+pub comment-none : (x : List ℕ) → is_comment_line x ≡ true → None ≡ outcome_pair (outcome_of x)
+comment-none x c = of-split (split_of x) (split_of-meets x)
+  where
+    of-meaning : (m : Meaning) → None ≡ outcome_pair (comment_outcome m)
+    of-meaning (means text) = refl
+    of-meaning (breaks how) = refl
+
+    of-split : (l : Logical) → IsSplit x l → None ≡ outcome_pair (split_outcome l)
+    of-split Logical.blank h = refl
+    of-split (Logical.comment raw) h = of-meaning (meaning_of raw)
+    of-split (Logical.pair name value) h = absurd (comment_line-no_pair x name value c h)
+
+pub comment-escapes : (number : ℕ) (x : List ℕ) (o : Outcome) → is_comment_line x ≡ true → AreInComments (escapes_from number x o [])
+comment-escapes number x ignored c = tt
+comment-escapes number x (given content) c = tt
+comment-escapes number x (broken how) c = (c, tt)
+
+pub comments-join : (ms ns : List format.MalformedEscape) → AreInComments ms → AreInComments ns → AreInComments (ms ++ ns)
+comments-join [] ns h k = k
+comments-join (m ∷ ms) ns h k = (h.0, comments-join ms ns h.1 k)
+
+-- The input was read to its end, all malformed escapes are in comments, and these are its pairs, each key once and with its
+-- last value.
+pub record ReadsLastPairs {R : Type 0} (reader : Reader R) (e : Encoding) (from : R) (pairs : List Pair) (to : R) : Type 0 where
+  pub bytes : List ℕ
+  pub read : HasRead reader from bytes to
+  pub ended : has_ended reader to ≡ true
+  pub in_comments : EscapesAre e bytes AreInComments
+  pub are : AreLastPairs e bytes pairs
+
+-- What reading them from an input returns.
+abbrev pub CollectsPairs : {R Y Z : Type 0} → Reader R → Encoding → R → Result (Vec (String Y × String Z)) PropertiesError → R → Type 0
+CollectsPairs reader e from (Ok found) to = ReadsLastPairs reader e from (pairs_of found.items) to
+CollectsPairs reader e from (Err error) to = StopsAtPair reader e from error to ⊎ (FailsToFind reader e from error to ⊎ StopsFinding reader e from error to)
+
+-- These pairs were collected from the groups that came, in which only comments are malformed.
+pub record HasCollected {R : Type 0} (reader : Reader R) (e : Encoding) (from : R) (ps : List Pair) (state : ReaderState) (to : R) : Type 0 where
+  pub groups : List (List Line)
+  pub collected : Collected reader e from groups state to
+  pub in_comments : AreInComments (escapes_in groups)
+  pub last : AreLast (pairs_in groups) ps
+
+module _ {R : Type 0} {reader : Reader R} {e : Encoding} where
+  -- before the first line
+  pub pairs-none : (from : R) (s : ReaderState) → s ≡ start e → HasCollected reader e from [] s from
+  pairs-none from s is = rw is (record { groups = []; collected = collected-start e from; in_comments = tt; last = last-none })
+
+  -- as the search for some key
+  sought : {from to : R} {ps : List Pair} {s : ReaderState} → HasCollected reader e from ps s to → HasSoughtPairs reader e from [] (pair_value ps []) s to
+  sought {ps = ps} h = record {
+    groups = h.groups;
+    collected = h.collected;
+    in_comments = h.in_comments;
+    is = value_in-only (pairs_in h.groups) [] (pair_value ps []) (h.last.values []);
+  }
+
+  -- a line came
+  pub pairs-more : {from to next : R} {ps qs : List Pair} {s : ReaderState} (number : ℕ) (new : LineState) → HasCollected reader e from ps s to
+      → (n : JoinsNext reader s to number new next) → PutsLine number (chars new.line) ps (Ok tt) qs → HasCollected reader e from qs new.state next
+  pairs-more {ps = ps} number new h n puts =
+      let g = n.group.first ∷ n.group.others in
+      let here : AreInComments (escapes_in (g ∷ [])) =
+      subst (λ m. AreInComments (escapes_from m (joined g) (outcome_of (joined g)) [])) n.group.number
+      (subst (λ x. AreInComments (escapes_from number x (outcome_of x) [])) n.group.text puts.0) in
+      rw puts.1 (record {
+        groups = h.groups ++ g ∷ [];
+        collected = collected-next number new h.collected n;
+        in_comments = subst AreInComments (sym (escapes_in-append h.groups (g ∷ []))) (comments-join (escapes_in h.groups) (escapes_in (g ∷ [])) h.in_comments here);
+        last = rw n.group.text (last-line h.groups g ps h.last);
+      })
+
+  -- a line came that has no pair to put
+  pub pairs-lost : {from to next : R} {ps : List Pair} {s : ReaderState} {error : PropertiesError} (number : ℕ) (new : LineState) → HasCollected reader e from ps s to
+      → JoinsNext reader s to number new next → ((is_comment_line (chars new.line) ≡ false) × IsNoItem number (chars new.line) error) ⊎ IsBareError kind.Memory error
+      → StopsAtPair reader e from error next ⊎ (FailsToFind reader e from error next ⊎ StopsFinding reader e from error next)
+  pairs-lost number new h n (inl why) = pairs-refused number new (sought h) n why
+  pairs-lost number new h n (inr says) = inr (inr (found-lost number new (record { groups = h.groups; collected = h.collected; escapes = refl }) n says))
+
+  -- no line came
+  pub pairs-failed : {from to next : R} {ps : List Pair} {s t : ReaderState} {why : LineError} {error : PropertiesError} → HasCollected reader e from ps s to
+      → s.is_done ≡ false → JoinsError reader s to why t next → IsLineError why error
+      → StopsAtPair reader e from error next ⊎ (FailsToFind reader e from error next ⊎ StopsFinding reader e from error next)
+  pairs-failed h live f says = pairs-error (sought h) live f says
+
+  -- no more came
+  pub pairs-read : {from to next : R} {s : ReaderState} (ps : List Pair) → HasCollected reader e from ps s to → s.is_done ≡ true → next ≡ to
+      → ReadsLastPairs reader e from ps next
+  pairs-read ps h d same = rw same (record {
+    bytes = h.collected.bytes;
+    read = h.collected.read;
+    ended = h.collected.ended d;
+    in_comments = (
+      malformed_escapes_of e h.collected.bytes,
+      malformed_escapes_of-meets e h.collected.bytes,
+      subst AreInComments (escapes_in-groups e h.collected.bytes h.groups (collected-lines h.collected d)) h.in_comments,
+    );
+    are = record {
+      entries = pairs_in h.groups;
+      are = subst (ArePairs e h.collected.bytes) (sym (ap pairs_in (collected-groups h.collected d))) (pairs_of-meets e h.collected.bytes);
+      keys = are-keys (pairs_in h.groups) (pair_keys (pairs_in h.groups)) (keys_of ps) refl h.last.keys;
+      values = λ k m l.
+          let value = own-values ps (λ i j f n o. (h.last.keys.in_order i j f n o).differ) k m l in
+          subst (IsValue (pairs_in h.groups) (get_or ps k m).0) value (h.last.values (get_or ps k m).0);
+    };
+  })
+
+-- ---- a slice
+
+-- What collecting the pairs of a slice returns. In a sound source it fails only for want of memory.
+pub slice-pairs : {Y Z : Type 0} (e : Encoding) (from to : Bor (List ℕ)) (result : Result (Vec (String Y × String Z)) PropertiesError) → length from.now + 1 < 2 ^ 64
+    → CollectsPairs slice_reader e from result to → FindsLastPairs e from.now result
+slice-pairs e from to (Ok found) small h =
+    subst (λ v. EscapesAre e v AreInComments × AreLastPairs e v (pairs_of found.items)) (slice-whole h.read h.ended) (h.in_comments, h.are)
+slice-pairs e from to (Err error) small h =
+    lost e from.now error (slice-tells_pairs {Z = Unit {0}} e from to [] (Err error) small h)
+
+-- Where a slice is doesn't matter.
+pub collected-at : {e : Encoding} {from to next : Bor (List ℕ)} {ps : List Pair} {s : ReaderState} → to.now ≡ next.now
+    → HasCollected slice_reader e from ps s to → HasCollected slice_reader e from ps s next
+collected-at {from = from} same h =
+    let c = h.collected in
+    record {
+      groups = h.groups;
+      collected = record {
+        bytes = c.bytes;
+        read = record { moved = subst (λ v. Consumes (Some from.now) (Some v) c.bytes) same c.read.moved; faultless = refl };
+        passes = c.passes;
+        whole = c.whole;
+        grouped = c.grouped;
+        ended = λ d. subst (λ v. has_ended slice_reader (slice_of v) ≡ true) same (c.ended d);
+      };
+      in_comments = h.in_comments;
+      last = h.last;
+    }

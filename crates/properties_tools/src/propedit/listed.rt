@@ -1,0 +1,134 @@
+// The keys that are listed, each held once.
+
+ghost use Rattle.std.specs.Prelude.{◌≡◌, ◌+◌, ◌≤◌, ◌<◌, bytes_eq, length, IfOk, OnOk, []};
+ghost use Rattle.std.specs.BTreeMap.{IsOrdered};
+ghost use Rattle.std.specs.Str.{chars};
+ghost use Rattle.std.specs.String.{string_cmp};
+ghost use Rattle.properties_tools.specs.Private.ListedKeys.{bytes_at, hash_after, slot_for, AddsKey, IndexesSome, IsIndexed, KeepsKey, TellsHas};
+
+use crate::propedit::asked::TextEnd;
+use crate::propedit::printed::push_ended;
+use std::alloc::{AllocError, Global};
+use std::collections::BTreeMap;
+
+// The factor of the hash.
+const FACTOR: u64 = 6_364_136_223_846_793_005;
+
+/// Where a key is in the text.
+#[derive(Clone, Copy)]
+pub(crate) struct Place {
+    pub start: usize,
+    pub length: usize,
+}
+
+/// The keys that are listed. A key is held once, in the text that is printed.
+///
+/// Each key has one of the slots, by its hash. A slot has the place of one key. The others with this slot are in a sorted
+/// map, so that no choice of keys makes it slow.
+#[derive(Drop)]
+pub(crate) struct ListedKeys {
+    /// The keys, each with the byte that ends it.
+    pub text: Vec<u8>,
+    pub slots: Vec<Option<Place>>,
+    pub others: BTreeMap<String, usize>,
+}
+
+impl ListedKeys {
+    /// Has no keys, and so many slots.
+    pub fn new(alloc: Global, slots: usize) -> Result<ListedKeys, AllocError>
+        requires { 0 < slots }
+        ensures indexed { IfOk result (IsIndexed []) }
+        ensures empty { IfOk result (λ keys. keys.text.items ≡ []) }
+    {
+        Ok(ListedKeys {
+            text: Vec::new(alloc),
+            slots: vec![in alloc; None; slots]?,
+            others: BTreeMap::new(alloc),
+        })
+    }
+
+    /// Adds a key and the byte that ends it, if it isn't there.
+    #[inline(always)]
+    pub fn add(&mut self, alloc: Global, key: &str, end: TextEnd) -> Result<(), AllocError>
+        requires { IndexesSome self.old }
+        ensures { OnOk result (AddsKey end (chars key.now) self.old self.new) }
+    {
+        let slot = slot_of(key, self.slots.len());
+        if self.has(slot, key) {
+            return Ok(());
+        }
+        let place = Place {
+            start: self.text.len(),
+            length: key.len(),
+        };
+        push_ended(&mut self.text, key, end)?;
+        self.keep(alloc, slot, key, place)
+    }
+
+    // Returns whether the key is there, which has this slot.
+    #[inline(always)]
+    fn has(&self, slot: usize, key: &str) -> bool
+        requires indexed { IndexesSome self.now }
+        requires slot { slot ≡ slot_for (length self.now.slots.items) key.now }
+        ensures { TellsHas (chars key.now) self.now result }
+    {
+        let Some(place) = self.slots[slot] else {
+            return false;
+        };
+        is_at(&self.text, place, key) || self.others.get(key).is_some()
+    }
+
+    // Keeps the place of a key, which has this slot: in the slot if nothing is there, and otherwise among the others.
+    #[inline(always)]
+    fn keep(
+        &mut self,
+        alloc: Global,
+        slot: usize,
+        key: &str,
+        place: Place,
+    ) -> Result<(), AllocError>
+        requires some { slot < length self.old.slots.items }
+        requires slot { slot ≡ slot_for (length self.old.slots.items) key.now }
+        requires ordered { IsOrdered string_cmp self.old.others }
+        ensures { OnOk result (KeepsKey key.now place self.old self.new) }
+    {
+        if let Some(_) = self.slots[slot] {
+            self.others
+                .insert(String::from_str(alloc, key)?, place.start)?;
+            return Ok(());
+        }
+        self.slots[slot] = Some(place);
+        Ok(())
+    }
+}
+
+// Returns whether the key is at this place.
+#[inline(always)]
+fn is_at(text: &[u8], place: Place, key: &str) -> bool
+    requires { place.start + place.length ≤ length text.now }
+    ensures { result ≡ bytes_eq (bytes_at text.now place) key.now }
+{
+    &text[place.start..place.start + place.length] == key.as_bytes()
+}
+
+// Returns the slot of a key.
+#[inline(always)]
+fn slot_of(key: &str, slots: usize) -> usize
+    requires { 0 < slots }
+    ensures is { result ≡ slot_for slots key.now }
+    ensures within { result < slots }
+{
+    let mut hash = 0;
+    for byte in key.as_bytes() {
+        hash = hash_after(hash, *byte);
+    }
+    (hash / 4_294_967_296) as usize % slots
+}
+
+// Returns a hash after one more byte.
+#[inline(always)]
+fn hash_after(hash: u64, byte: u8) -> u64
+    ensures { result ≡ hash_after hash byte }
+{
+    hash.wrapping_add(u64::from(byte)).wrapping_mul(FACTOR)
+}

@@ -1,0 +1,25 @@
+// The values of some keys of a source.
+
+ghost use Rattle.properties_text.specs.Encoding.{encoding_of};
+ghost use Rattle.properties_tools.specs.Private.LookedUp.{FindsValues};
+
+use java_properties::{Encoding, PropertiesError, value_among_pairs};
+use std::alloc::Global;
+
+/// Returns the value of each key: that of the last pair with the key, or `None` if no pair has it. It reads the source
+/// once for each key.
+pub(crate) fn values_of(
+    alloc: Global,
+    source: &[u8],
+    encoding: Encoding,
+    keys: &[String],
+) -> Result<Vec<Option<String>>, PropertiesError>
+    ensures { FindsValues (encoding_of encoding) source.now keys.now result }
+{
+    let mut values = Vec::new(alloc);
+    for key in keys {
+        let value = value_among_pairs(alloc, source, encoding, key.as_str())?;
+        values.push(value)?;
+    }
+    Ok(values)
+}
