@@ -6,3 +6,4 @@ pub mod Slices
 pub mod Refusals
 pub mod ItemsRead
 pub mod OneReading
+pub mod WriterSettings

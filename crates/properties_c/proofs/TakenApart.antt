@@ -10,9 +10,7 @@ use Rattle.java_properties.specs.PropertiesWriter.{call_of}
 use Rattle.java_properties.specs.declared.writer.calls.Call.{Call}
 use Rattle.properties_c.specs.PackedLists.{Meaning, edits, lines, AreMeant, Begins}
 use Rattle.properties_c.specs.Records.{Record, IsSized}
-use Rattle.properties_c.specs.Writing.{calls_before}
 use Rattle.properties_c.specs.Private.Lists.{Splits, IsFirst, RefusesFirst, RefusesRecord, RefusesList}
-use Rattle.properties_c.specs.declared.encoding.Flags.{Flags}
 use Rattle.properties_c.specs.declared.status.Status.{Status}
 use Rattle.properties_c.specs.declared.status.Status.TheVariants.{NoMemory, NotUtf8, BadList}
 use Rattle.properties_c.proofs.Packing.{sizes}
@@ -69,15 +67,15 @@ pub ruleset taking = (first-refused, edits-more, IsFirst-shorter)
 -- ---- lines to write
 
 -- The list begins with lines, and these are the calls that write them.
-pub record HasCalls (list : List ℕ) (f : Flags) (found : List Call) (rest : List ℕ) : Type 0 where
+pub record HasCalls (list : List ℕ) (found : List Call) (rest : List ℕ) : Type 0 where
   pub contents : List Content
   pub begins : Begins lines list contents rest
-  pub are : calls_in found ≡ calls_before f ++ map call_of contents
+  pub are : calls_in found ≡ map call_of contents
 
-pub HasCalls-more : {list rest after : List ℕ} {f : Flags} {found : List Call} {content : Content} (call : Call)
-    → HasCalls list f found rest → IsFirst lines rest content after → call_in call ≡ call_of content → HasCalls list f (found ++ call ∷ []) after
-HasCalls-more {list} {rest} {after} {f} {found} {content} call before next is = record {
+pub HasCalls-more : {list rest after : List ℕ} {found : List Call} {content : Content} (call : Call)
+    → HasCalls list found rest → IsFirst lines rest content after → call_in call ≡ call_of content → HasCalls list (found ++ call ∷ []) after
+HasCalls-more {list} {rest} {after} {found} {content} call before next is = record {
   contents = before.contents ++ content ∷ [];
   begins = Begins-more before.begins next;
-  are = simp (map-append, before.are, is, append_assoc);
+  are = simp (map-append, before.are, is);
 }

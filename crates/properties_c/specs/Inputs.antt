@@ -25,32 +25,34 @@ target_at n = if n == 16 then Some Windows1252 else (if n == 17 then Some Utf8 e
 abbrev pub ToTarget : ℕ → (Repertoire → Type 0) → Crossing → Type 0
 ToTarget n Holds x = ((t : Repertoire) × (target_at n ≡ Some t) × Holds t) ⊎ (target_at n ≡ None) × Refuses UnknownEncoding 0 x
 
-abbrev pub flagged : Bool → Bool → Bool → Flags
-flagged ascii_only readable read_comments = record { ascii_only = ascii_only; readable = readable; read_comments = read_comments }
+abbrev pub flagged : Bool → Bool → Bool → Bool → Bool → Flags
+flagged ascii_only readable read_comments crlf cr = record { ascii_only = ascii_only; readable = readable; read_comments = read_comments; crlf = crlf; cr = cr }
 
 -- the flags that an edit takes, those of a call that puts in no text, and those of the call that writes lines
 abbrev pub for_edits : Flags
-for_edits = flagged true false true
+for_edits = flagged true false true false false
 
 abbrev pub for_keys : Flags
-for_keys = flagged false false true
+for_keys = flagged false false true false false
 
 abbrev pub for_lines : Flags
-for_lines = flagged true true false
+for_lines = flagged true true false true true
 
 -- whether each of the flags is among those that are taken
 abbrev pub are_among : Flags → Flags → Bool
 are_among f taken =
-    (taken.ascii_only || not f.ascii_only) && ((taken.readable || not f.readable) && (taken.read_comments || not f.read_comments))
+    (taken.ascii_only || not f.ascii_only)
+    && ((taken.readable || not f.readable)
+    && ((taken.read_comments || not f.read_comments) && ((taken.crlf || not f.crlf) && (taken.cr || not f.cr))))
 
--- what the flags of a number ask for: 1 is ASCII alone, 2 is readable values, 4 is comments that are read, and a sum is
--- each of its parts
+-- what the flags of a number ask for: 1 is ASCII alone, 2 is readable values, 4 is comments that are read, 8 is lines
+-- that end in CR LF, 16 is lines that end in CR, and a sum is each of its parts
 abbrev pub flags_in : ℕ → Flags
-flags_in n = flagged (n % 2 == 1) (n / 2 % 2 == 1) (n / 4 == 1)
+flags_in n = flagged (n % 2 == 1) (n / 2 % 2 == 1) (n / 4 % 2 == 1) (n / 8 % 2 == 1) (n / 16 == 1)
 
--- what they ask for, if the call takes each of them
+-- what they ask for, if the call takes each of them; from 24 on there are flags that no call has, or both line endings
 abbrev pub flags_at : Flags → ℕ → Option Flags
-flags_at taken n = if nat_lt n 8 && are_among (flags_in n) taken then Some (flags_in n) else None
+flags_at taken n = if nat_lt n 24 && are_among (flags_in n) taken then Some (flags_in n) else None
 
 -- The call takes each of the flags, and this holds of what they ask for; or it doesn't, and was refused.
 abbrev pub WithFlags : Flags → ℕ → (Flags → Type 0) → Crossing → Type 0

@@ -1,5 +1,6 @@
 pub mod Statuses
 pub mod Crossing
+pub mod Texts
 pub mod Inputs
 pub mod Numbers
 pub mod Records

@@ -6,7 +6,7 @@ use Rattle.properties_items.specs.declared.error.ErrorKind.{ErrorKind}
 use Rattle.properties_items.specs.declared.error.ErrorKind.TheVariants as kind
 use Rattle.properties_items.specs.declared.error.PropertiesError.{PropertiesError}
 use Rattle.properties_c.specs.declared.status.Status.{Status}
-use Rattle.properties_c.specs.declared.status.Status.TheVariants.{Done, NoRoom, NoKey, NoMemory, UnknownEncoding, NotUtf8, BadList, NotEnoughDigits, NotHex, InvalidCharacter, TooManyLines, Unsupported}
+use Rattle.properties_c.specs.declared.status.Status.TheVariants.{Done, NoRoom, NoKey, NoMemory, UnknownEncoding, NotUtf8, BadList, NotEnoughDigits, NotHex, InvalidCharacter, TooManyLines, Unsupported, BadPrefix, BadSeparator, EmptyKey}
 
 abbrev pub status_number : Status → ℤ
 status_number Done = pos 0
@@ -21,17 +21,19 @@ status_number NotHex = pos 8
 status_number InvalidCharacter = pos 9
 status_number TooManyLines = pos 10
 status_number Unsupported = pos 11
+status_number BadPrefix = pos 12
+status_number BadSeparator = pos 13
+status_number EmptyKey = pos 14
 
--- the status of an error of this kind; a stream in memory fails only if memory runs out, and the kinds of a writer's
--- errors are those of calls that no export makes
+-- the status of an error of this kind; a stream in memory fails only if memory runs out
 abbrev pub status_of_kind : ErrorKind → Status
 status_of_kind kind.Io = NoMemory
 status_of_kind kind.NotEnoughDigits = NotEnoughDigits
 status_of_kind kind.NotHex = NotHex
 status_of_kind kind.InvalidCharacter = InvalidCharacter
-status_of_kind kind.BadCommentPrefix = NoMemory
-status_of_kind kind.BadKvSeparator = NoMemory
-status_of_kind kind.EmptyKey = NoMemory
+status_of_kind kind.BadCommentPrefix = BadPrefix
+status_of_kind kind.BadKvSeparator = BadSeparator
+status_of_kind kind.EmptyKey = EmptyKey
 status_of_kind kind.TooManyLines = TooManyLines
 status_of_kind kind.Failed = NoMemory
 status_of_kind kind.Memory = NoMemory

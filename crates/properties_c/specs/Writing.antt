@@ -1,25 +1,60 @@
 -- What the export that writes gives.
-use Rattle.std.specs.Prelude.{◌⊎◌, ℕ, true, List, [], ◌∷◌, ◌++◌, map, if◌then◌else◌}
+use Rattle.std.specs.Prelude.{◌≡◌, ◌⊎◌, ℕ, Bool, true, false, not, List, map, if◌then◌else◌}
+use Rattle.std.specs.List.{list_any}
 use Rattle.properties_format.specs.Encoding.{Encoding, output_encoding}
 use Rattle.properties_format.specs.Entries.{Content}
-use Rattle.properties_format.specs.Settings.{default_settings}
-use Rattle.properties_format.specs.Writing.{Call, ascii_only_call, readable_call, wrote}
+use Rattle.properties_format.specs.Settings.{Settings, default_settings, IsGoodPrefix, IsGoodSeparator}
+use Rattle.properties_format.specs.Text.{LineEnding, cr, lf, crlf, is_empty}
+use Rattle.properties_format.specs.Writing.{is_accepted, wrote}
 use Rattle.java_properties.specs.PropertiesWriter.{call_of}
 use Rattle.properties_c.specs.Crossing.{Crossing, Delivers, Refuses}
-use Rattle.properties_c.specs.Inputs.{InEncoding, WithFlags, for_lines}
+use Rattle.properties_c.specs.Inputs.{InEncoding, WithFlags, WithText, for_lines}
 use Rattle.properties_c.specs.PackedLists.{lines, WithList}
 use Rattle.properties_c.specs.declared.encoding.Flags.{Flags}
-use Rattle.properties_c.specs.declared.status.Status.TheVariants.{Done, NoMemory}
+use Rattle.properties_c.specs.declared.status.Status.TheVariants.{Done, NoMemory, BadPrefix, BadSeparator, EmptyKey}
 
--- the calls that come before the lines, as the flags ask for them: one that has every character past U+007F escaped,
--- and one that has values written as people write them
-abbrev pub calls_before : Flags → List Call
-calls_before f = (if f.ascii_only then ascii_only_call true ∷ [] else []) ++ (if f.readable then readable_call true ∷ [] else [])
+-- a text, or another one in the place of an empty text
+abbrev pub given_or : List ℕ → List ℕ → List ℕ
+given_or text other = if is_empty text then other else text
 
--- the bytes that a new writer writes for these lines
-abbrev pub lines_written : Encoding → Flags → List Content → List ℕ
-lines_written e f contents = wrote (output_encoding e) default_settings 0 (calls_before f ++ map call_of contents)
+-- what ends lines, as the flags ask for it
+abbrev pub ending_in : Flags → LineEnding
+ending_in f = if f.crlf then crlf else (if f.cr then cr else lf)
 
-abbrev pub WritesAcross : List ℕ → ℕ → ℕ → Crossing → Type 0
-WritesAcross list encoding flags x =
-    InEncoding encoding (λ e. WithFlags for_lines flags (λ f. WithList lines list (λ contents. Delivers (lines_written e f contents) Done 0 x ⊎ Refuses NoMemory 0 x) x) x) x
+-- the settings that a call asks for: a prefix or a separator without characters is that of a new writer
+abbrev pub settings_for : Flags → List ℕ → List ℕ → Settings
+settings_for f prefix separator = record {
+  comment_prefix = given_or prefix default_settings.comment_prefix;
+  kv_separator = given_or separator default_settings.kv_separator;
+  line_ending = ending_in f;
+  ascii_only = f.ascii_only;
+  readable = f.readable;
+}
+
+-- The prefix and the separator are good.
+pub record AreGood (s : Settings) : Type 0 where
+  pub prefix : IsGoodPrefix s.comment_prefix
+  pub separator : IsGoodSeparator s.kv_separator
+
+-- whether one of these lines is a pair that is not accepted: its key is empty and the separator is blanks only
+abbrev pub has_refused : Settings → List Content → Bool
+has_refused s contents = list_any (λ content. not (is_accepted s (call_of content))) contents
+
+-- The lines were written with these settings.
+pub record GivesLines (e : Encoding) (s : Settings) (contents : List Content) (x : Crossing) : Type 0 where
+  pub good : AreGood s
+  pub accepted : has_refused s contents ≡ false
+  pub given : Delivers (wrote (output_encoding e) s 0 (map call_of contents)) Done 0 x
+
+-- The lines were written, or refused: because of the prefix, the separator or an empty key, of which the first one
+-- counts, or because memory ran out.
+abbrev pub WritesLines : Encoding → Settings → List Content → Crossing → Type 0
+WritesLines e s contents x =
+    GivesLines e s contents x
+    ⊎ ((IsGoodPrefix s.comment_prefix → ⊥) × Refuses BadPrefix 0 x
+    ⊎ (IsGoodPrefix s.comment_prefix × (IsGoodSeparator s.kv_separator → ⊥) × Refuses BadSeparator 0 x
+    ⊎ (AreGood s × (has_refused s contents ≡ true) × Refuses EmptyKey 0 x ⊎ Refuses NoMemory 0 x)))
+
+abbrev pub WritesAcross : List ℕ → ℕ → ℕ → List ℕ → List ℕ → Crossing → Type 0
+WritesAcross list encoding flags prefix separator x =
+    InEncoding encoding (λ e. WithFlags for_lines flags (λ f. WithText prefix (λ p. WithText separator (λ s. WithList lines list (λ contents. WritesLines e (settings_for f p s) contents x) x) x) x) x) x

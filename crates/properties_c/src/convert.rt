@@ -13,7 +13,7 @@ use std::alloc::Global;
 
 /// Gives the source in another encoding, with readable characters or with their spellings kept, and all else as it is.
 #[unsafe(no_mangle)]
-pub extern "C" fn properties_convert(
+pub extern "C" fn todrenval_convert(
     alloc: Global,
     source: &[u8],
     encoding: u32,

@@ -16,7 +16,7 @@ use std::alloc::Global;
 
 /// Gives the source with the value of a key set, and the layout of its line kept.
 #[unsafe(no_mangle)]
-pub extern "C" fn properties_set_value(
+pub extern "C" fn todrenval_set_value(
     alloc: Global,
     source: &[u8],
     encoding: u32,
@@ -48,7 +48,7 @@ pub extern "C" fn properties_set_value(
 
 /// Gives the source with a key set to a value.
 #[unsafe(no_mangle)]
-pub extern "C" fn properties_set_key(
+pub extern "C" fn todrenval_set_key(
     alloc: Global,
     source: &[u8],
     encoding: u32,
@@ -80,7 +80,7 @@ pub extern "C" fn properties_set_key(
 
 /// Gives the source without the pairs that have a key.
 #[unsafe(no_mangle)]
-pub extern "C" fn properties_remove_key(
+pub extern "C" fn todrenval_remove_key(
     alloc: Global,
     source: &[u8],
     encoding: u32,
@@ -108,7 +108,7 @@ pub extern "C" fn properties_remove_key(
 
 /// Gives the source after a packed list of edits, in order: each applies to the result of the one before it.
 #[unsafe(no_mangle)]
-pub extern "C" fn properties_edit(
+pub extern "C" fn todrenval_edit(
     alloc: Global,
     source: &[u8],
     encoding: u32,

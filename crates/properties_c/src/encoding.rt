@@ -42,6 +42,10 @@ pub struct Flags {
     pub readable: bool,
     /// Comments are read, and not passed over.
     pub read_comments: bool,
+    /// Lines end in CR LF.
+    pub crlf: bool,
+    /// Lines end in CR.
+    pub cr: bool,
 }
 
 /// What an edit takes.
@@ -49,6 +53,8 @@ pub const FOR_EDITS: Flags = Flags {
     ascii_only: true,
     readable: false,
     read_comments: true,
+    crlf: false,
+    cr: false,
 };
 
 /// What a call takes that puts in no text.
@@ -56,6 +62,8 @@ pub const FOR_KEYS: Flags = Flags {
     ascii_only: false,
     readable: false,
     read_comments: true,
+    crlf: false,
+    cr: false,
 };
 
 /// What the call takes that writes lines.
@@ -63,6 +71,8 @@ pub const FOR_LINES: Flags = Flags {
     ascii_only: true,
     readable: true,
     read_comments: false,
+    crlf: true,
+    cr: true,
 };
 
 /// Returns what the flags with this number ask for, if the call takes each of them.
@@ -72,9 +82,11 @@ pub fn flags_numbered(number: u32, taken: Flags) -> Option<Flags>
     let flags = Flags {
         ascii_only: number % 2 == 1,
         readable: number / 2 % 2 == 1,
-        read_comments: number / 4 == 1,
+        read_comments: number / 4 % 2 == 1,
+        crlf: number / 8 % 2 == 1,
+        cr: number / 16 == 1,
     };
-    if number < 8 && are_among(flags, taken) {
+    if number < 24 && are_among(flags, taken) {
         Some(flags)
     } else {
         None
@@ -87,6 +99,8 @@ fn are_among(flags: Flags, taken: Flags) -> bool
     (taken.ascii_only || !flags.ascii_only)
         && (taken.readable || !flags.readable)
         && (taken.read_comments || !flags.read_comments)
+        && (taken.crlf || !flags.crlf)
+        && (taken.cr || !flags.cr)
 }
 
 /// Returns the text with these bytes, if they are UTF-8.

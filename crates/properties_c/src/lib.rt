@@ -5,7 +5,7 @@
 //!
 //! - at 0, `length` bytes were written to `out`;
 //! - if `out` has too little room, nothing is written, and `length` is what is needed;
-//! - at any other status nothing is written and `length` is 0, but [`properties_items`] then gives the items before the
+//! - at any other status nothing is written and `length` is 0, but [`todrenval_items`] then gives the items before the
 //!   error;
 //! - `line` is the line of the error, or 0.
 //!
@@ -24,5 +24,6 @@ mod numbers;
 pub mod read;
 mod records;
 mod status;
+pub mod text;
 pub mod version;
 pub mod write;

@@ -1,13 +1,11 @@
 // Packed lists that come from C: edits, and lines to write.
 
-ghost use Rattle.std.specs.Prelude.{◌≡◌, IfOk};
-ghost use Rattle.java_properties.specs.Calls.{calls_in};
-ghost use Rattle.properties_c.specs.Writing.{calls_before as first_calls};
+ghost use Rattle.std.specs.Prelude.{◌≡◌};
 ghost use Rattle.properties_c.specs.Records.{record_in};
 ghost use Rattle.properties_c.specs.Private.Lists.{CopiesText, MakesCall, MakesEdit, ReadsCalls, ReadsEdits, ReadsFirstCall, ReadsFirstEdit};
 ghost use Rattle.properties_c.specs.declared.status.Status.TheVariants.{NoMemory};
 
-use crate::encoding::{Flags, text_of};
+use crate::encoding::text_of;
 use crate::items::{COMMENT, PAIR};
 use crate::records::{Record, split_record};
 use crate::status::Status;
@@ -59,12 +57,11 @@ pub fn edits_of(alloc: Global, list: &[u8]) -> Result<Vec<Edit>, Status>
     Ok(edits)
 }
 
-/// Returns the calls that write the lines of a packed list, or why it is refused. Calls that set the writer as the flags
-/// ask for come before them.
-pub fn calls_of(alloc: Global, list: &[u8], flags: Flags) -> Result<Vec<Call>, Status>
-    ensures { ReadsCalls list.now flags result }
+/// Returns the calls that write the lines of a packed list, or why it is refused.
+pub fn calls_of(alloc: Global, list: &[u8]) -> Result<Vec<Call>, Status>
+    ensures { ReadsCalls list.now result }
 {
-    let mut calls = calls_before(alloc, flags)?;
+    let mut calls = Vec::new(alloc);
     let mut rest = list;
     while !rest.is_empty() {
         match first_call(alloc, rest) {
@@ -74,20 +71,6 @@ pub fn calls_of(alloc: Global, list: &[u8], flags: Flags) -> Result<Vec<Call>, S
             }
             Err(status) => return Err(status),
         }
-    }
-    Ok(calls)
-}
-
-// Returns the calls that come before the lines.
-fn calls_before(alloc: Global, flags: Flags) -> Result<Vec<Call>, AllocError>
-    ensures { IfOk result (λ calls. calls_in calls.items ≡ first_calls flags) }
-{
-    let mut calls = Vec::new(alloc);
-    if flags.ascii_only {
-        calls.push(Call::AsciiOnly(true))?;
-    }
-    if flags.readable {
-        calls.push(Call::Readable(true))?;
     }
     Ok(calls)
 }

@@ -15,7 +15,7 @@ use std::alloc::Global;
 
 /// Gives the value of a key: that of the last pair with it.
 #[unsafe(no_mangle)]
-pub extern "C" fn properties_get(
+pub extern "C" fn todrenval_get(
     alloc: Global,
     source: &[u8],
     encoding: u32,
@@ -46,7 +46,7 @@ pub extern "C" fn properties_get(
 
 /// Gives all comments and pairs, packed, each with its line. At a malformed escape, it gives those before it.
 #[unsafe(no_mangle)]
-pub extern "C" fn properties_items(
+pub extern "C" fn todrenval_items(
     alloc: Global,
     source: &[u8],
     encoding: u32,
@@ -75,7 +75,7 @@ pub extern "C" fn properties_items(
 
 /// Gives what is wrong, packed: malformed escapes, and then keys that an earlier pair has.
 #[unsafe(no_mangle)]
-pub extern "C" fn properties_findings(
+pub extern "C" fn todrenval_findings(
     alloc: Global,
     source: &[u8],
     encoding: u32,

@@ -32,6 +32,12 @@ pub enum Status {
     TooManyLines,
     /// Sources in this encoding can't be edited.
     Unsupported,
+    /// Comments can't begin so.
+    BadPrefix,
+    /// Keys and values can't be separated so.
+    BadSeparator,
+    /// A pair has an empty key, and its value would be read as the key.
+    EmptyKey,
 }
 
 /// Returns the number of a status.
@@ -51,11 +57,13 @@ pub fn number_of(status: Status) -> i32
         Status::InvalidCharacter => 9,
         Status::TooManyLines => 10,
         Status::Unsupported => 11,
+        Status::BadPrefix => 12,
+        Status::BadSeparator => 13,
+        Status::EmptyKey => 14,
     }
 }
 
-/// Returns the status of an error. Sources and sinks are in memory, so a stream fails only if memory runs out, and the
-/// kinds that are not named here are errors of calls that no export makes.
+/// Returns the status of an error. Sources and sinks are in memory, so a stream fails only if memory runs out.
 pub fn status_of(kind: ErrorKind) -> Status
     ensures { result ≡ status_of_kind kind }
 {
@@ -65,6 +73,9 @@ pub fn status_of(kind: ErrorKind) -> Status
         ErrorKind::InvalidCharacter => Status::InvalidCharacter,
         ErrorKind::TooManyLines => Status::TooManyLines,
         ErrorKind::Unsupported => Status::Unsupported,
+        ErrorKind::BadCommentPrefix => Status::BadPrefix,
+        ErrorKind::BadKvSeparator => Status::BadSeparator,
+        ErrorKind::EmptyKey => Status::EmptyKey,
         _ => Status::NoMemory,
     }
 }

@@ -2,10 +2,10 @@
 
 ghost use Rattle.std.specs.Prelude.{◌≡◌};
 
-/// Returns the number of the interface: 2.
+/// Returns the number of the interface: 3.
 #[unsafe(no_mangle)]
-pub extern "C" fn properties_version() -> u32
-    ensures { result ≡ 2 }
+pub extern "C" fn todrenval_version() -> u32
+    ensures { result ≡ 3 }
 {
-    2
+    3
 }

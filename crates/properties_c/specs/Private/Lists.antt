@@ -13,9 +13,7 @@ use Rattle.std.specs.declared.string.String.{String}
 use Rattle.properties_items.specs.Texts.{characters}
 use Rattle.properties_c.specs.PackedLists.{IsText, Meaning, edits, lines, IsPackedList, IsBadList, LacksText, HasNoRecord, HasNoText}
 use Rattle.properties_c.specs.Records.{Record, packed, record_in, IsSized}
-use Rattle.properties_c.specs.Writing.{calls_before}
 use Rattle.properties_c.specs.declared.records.Record as code
-use Rattle.properties_c.specs.declared.encoding.Flags.{Flags}
 use Rattle.properties_c.specs.declared.status.Status.{Status}
 use Rattle.properties_c.specs.declared.status.Status.TheVariants.{NoMemory, NotUtf8, BadList}
 
@@ -93,7 +91,6 @@ abbrev pub ReadsFirstCall : List ℕ → Result (Call × Bor (List ℕ)) Status 
 ReadsFirstCall list (Ok (call, rest)) = (content : Content) × IsFirst lines list content rest.now × (call_in call ≡ call_of content)
 ReadsFirstCall list (Err status) = RefusesFirst lines list status
 
-abbrev pub ReadsCalls : List ℕ → Flags → Result (Vec Call) Status → Type 0
-ReadsCalls list f (Ok found) =
-    (contents : List Content) × IsPackedList lines list contents × (calls_in found.items ≡ calls_before f ++ map call_of contents)
-ReadsCalls list f (Err status) = RefusesList lines list status
+abbrev pub ReadsCalls : List ℕ → Result (Vec Call) Status → Type 0
+ReadsCalls list (Ok found) = (contents : List Content) × IsPackedList lines list contents × (calls_in found.items ≡ map call_of contents)
+ReadsCalls list (Err status) = RefusesList lines list status

@@ -1,11 +1,11 @@
-use Rattle.std.proofs.Common.{◌≡◌, [], ◌∷◌, ◌++◌, sym, ◌∙◌, rules, arith, append-nil}
+use Rattle.std.proofs.Common.{◌≡◌, [], ◌∷◌, ◌++◌, refl, rules, arith}
 use Rattle.std.proofs.lemmas.Bool.Decides.{nat_tests}
 use Rattle.properties_c.proofs.OneReading.{line-one, list-read}
 use Rattle.properties_c.proofs.TakenApart.{HasCalls-more, IsFirst-shorter}
 use Rattle.properties_c.proofs.lists.calls_of.Goals as goal
 
 pub loop-rest-init : goal.loop-rest-init
-loop-rest-init c = record { contents = []; begins = search rules; are = c.in_ok-calls.ensures ∙ sym (append-nil _) }
+loop-rest-init c = record { contents = []; begins = search rules; are = rw c.new-calls.ensures.items refl }
 
 pub loop-rest-smaller : goal.loop-rest-smaller
 loop-rest-smaller c = IsFirst-shorter c.in-Ok.ensures.1

@@ -1,6 +1,6 @@
 use Rattle.std.proofs.Common.{refl, rules, inl, inr}
 use Rattle.properties_text.specs.Encoding.{encoding_of}
-use Rattle.properties_c.proofs.edit.properties_remove_key.Goals as goal
+use Rattle.properties_c.proofs.edit.todrenval_remove_key.Goals as goal
 
 pub returns-in_default-text_of : goal.returns-in_default-text_of
 returns-in_default-text_of c =

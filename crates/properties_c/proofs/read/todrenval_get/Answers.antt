@@ -3,7 +3,7 @@ use Rattle.std.specs.Prelude.{Ok, Err, encode_utf8_all}
 use Rattle.std.specs.Str.{chars}
 use Rattle.properties_text.specs.Encoding.{encoding_of}
 use Rattle.properties_c.proofs.PackedLines.{encoded-text}
-use Rattle.properties_c.proofs.read.properties_get.Goals as goal
+use Rattle.properties_c.proofs.read.todrenval_get.Goals as goal
 
 pub returns-in-Ok-Some : goal.returns-in-Ok-Some
 returns-in-Ok-Some c =

@@ -2,7 +2,7 @@ use Rattle.std.proofs.Common.{◌≡◌, rules, arith, inl, to_z, of_z, w32}
 use Rattle.properties_text.specs.Encoding.{encoding_of}
 use Rattle.properties_c.proofs.ItemsRead.{items-whole, items-stopped}
 use Rattle.properties_c.proofs.Slices.{slice-items}
-use Rattle.properties_c.proofs.read.properties_items.Goals as goal
+use Rattle.properties_c.proofs.read.todrenval_items.Goals as goal
 
 pub returns-in-Ok : goal.returns-in-Ok
 returns-in-Ok c =

@@ -1,6 +1,6 @@
 use Rattle.std.proofs.Common.{refl, rules, inl, inr}
 use Rattle.properties_text.specs.Encoding.{encoding_of}
-use Rattle.properties_c.proofs.edit.properties_set_value.Goals as goal
+use Rattle.properties_c.proofs.edit.todrenval_set_key.Goals as goal
 
 pub returns-in_default-text_of : goal.returns-in_default-text_of
 returns-in_default-text_of c =
@@ -23,5 +23,5 @@ returns c =
     inl (
       encoding_of c.in-Some.encoding,
       search rules,
-      inl (c.in-Some-flags_numbered.flags, search rules, inl (search rules, inl (search rules, (c.with_value-edited.result, search rules, search rules)))),
+      inl (c.in-Some-flags_numbered.flags, search rules, inl (search rules, inl (search rules, (c.with_key-edited.result, search rules, search rules)))),
     )

@@ -12,7 +12,7 @@ use Rattle.properties_items.specs.declared.error.PropertiesError.{PropertiesErro
 use Rattle.properties_c.specs.Converting.{GivesConverted}
 use Rattle.properties_c.specs.Crossing.{Crossing, Crosses, Refuses}
 use Rattle.properties_c.specs.declared.status.Status.TheVariants.{NoMemory}
-use Rattle.properties_c.proofs.convert.properties_convert.Goals as goal
+use Rattle.properties_c.proofs.convert.todrenval_convert.Goals as goal
 
 crossed : (e : Encoding) (t : Repertoire) (readable : Bool) (source : List ℕ) (outcome : Result (Vec ℕ) PropertiesError) (x : Crossing)
     → IfOk outcome (λ bytes. IsConverted e (encoding_in t) (only_in t) readable source bytes.items) → IfErr outcome (λ error. IsBareError kind.Memory error) → Crosses outcome x

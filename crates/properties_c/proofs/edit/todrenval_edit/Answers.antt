@@ -3,7 +3,7 @@ use Rattle.java_properties.specs.Editing.{edits_in}
 use Rattle.properties_text.specs.Encoding.{encoding_of}
 use Rattle.properties_c.specs.PackedLists.{edits}
 use Rattle.properties_c.proofs.Refusals.{list-crossed}
-use Rattle.properties_c.proofs.edit.properties_edit.Goals as goal
+use Rattle.properties_c.proofs.edit.todrenval_edit.Goals as goal
 
 pub returns-in-Err : goal.returns-in-Err
 returns-in-Err c =
