@@ -1,6 +1,6 @@
-/* Reads standard input, and prints how many items properties_items finds in it. With the argument `copy` it only reads
+/* Reads standard input, and prints how many items todrenval_items finds in it. With the argument `copy` it only reads
  * the input, and prints its length. */
-#include "properties.h"
+#include "todrenval.h"
 
 #include <stdio.h>
 #include <stdlib.h>
@@ -27,8 +27,8 @@ static int read_input(void) {
 int main(int count, char **words) {
     size_t room, length, line, items = 0;
     uint8_t *list;
-    struct properties_cursor cursor;
-    struct properties_item item;
+    struct todrenval_cursor cursor;
+    struct todrenval_item item;
     if (!read_input()) {
         return 1;
     }
@@ -38,11 +38,11 @@ int main(int count, char **words) {
     }
     room = 4 * source_length + 1;
     list = malloc(room);
-    if (list == NULL || properties_items(source, source_length, PROPERTIES_WINDOWS_1252, list, room, &length, &line)) {
+    if (list == NULL || todrenval_items(source, source_length, TODRENVAL_WINDOWS_1252, list, room, &length, &line)) {
         return 1;
     }
-    cursor = properties_walk(list, length);
-    while (properties_next_item(&cursor, &item)) {
+    cursor = todrenval_walk(list, length);
+    while (todrenval_next_item(&cursor, &item)) {
         items++;
     }
     printf("%zu\n", items);

@@ -2,18 +2,20 @@
 # Makes the library for programs in C and in Python in a folder, which is made if it isn't there:
 #
 #     (cd crates/properties_c && rt lib)
-#     bindings/build.sh FOLDER
+#     bindings/build.sh FOLDER [ARCHIVE MEMORY]
 #
-# FOLDER then has libproperties.a with properties.h, and libproperties.so with properties.py. They are made of the archive that
-# `rt lib` has proved, and of the toolchain's few lines of C that call malloc. It needs rt, cc and ar.
+# FOLDER then has libtodrenval.a with todrenval.h, the shared object libtodrenval.so.1 with libtodrenval.so, which names it for
+# the linker, and the Python package todrenval. They are made of the archive that `rt lib` has proved, and of the toolchain's
+# few lines of C that call malloc. The package has the version of propedit. It needs cc and ar, and rt if these two archives
+# aren't named.
 set -eu
-[ $# = 1 ] || { echo 'usage: build.sh FOLDER' >&2; exit 2; }
+[ $# = 1 ] || [ $# = 3 ] || { echo 'usage: build.sh FOLDER [ARCHIVE MEMORY]' >&2; exit 2; }
 top=$(cd "$(dirname "${BASH_SOURCE[0]}")/.." && pwd)
-proved=$top/crates/properties_c/out/libproperties_c.a
-for tool in rt cc ar; do
+proved=$(realpath -m "${2:-$top/crates/properties_c/out/libproperties_c.a}")
+for tool in cc ar $([ $# = 3 ] || echo rt); do
     command -v "$tool" >/dev/null || { echo "build.sh: there is no $tool on the path" >&2; exit 1; }
 done
-memory=$(dirname "$(rt doc)")/c/liblibc_c.a
+memory=$(realpath -m "${3:-$(dirname "$(rt doc)")/c/liblibc_c.a}")
 for file in "$proved" "$memory"; do
     [ -f "$file" ] && continue
     echo "build.sh: there is no $file" >&2
@@ -29,12 +31,22 @@ trap 'rm -rf "$work"' EXIT
 mkdir "$work/proved" "$work/memory"
 (cd "$work/proved" && ar x "$proved")
 (cd "$work/memory" && ar x "$memory")
-rm -f "$folder/libproperties.a"
-ar rcs "$folder/libproperties.a" "$work"/proved/*.o "$work"/memory/*.o
+rm -f "$folder/libtodrenval.a"
+ar rcsD "$folder/libtodrenval.a" "$work"/proved/*.o "$work"/memory/*.o
 
-# A shared object, of which only the functions of the header can be called.
-printf '{ global: properties_*; local: *; };\n' >"$work/exports"
-cc -shared -o "$folder/libproperties.so" -Wl,-soname,libproperties.so -Wl,--version-script="$work/exports" \
-    -Wl,--gc-sections -Wl,-z,relro,-z,now -Wl,-z,defs -Wl,--whole-archive "$folder/libproperties.a" -Wl,--no-whole-archive
+# A shared object, of which only the functions of the header can be called. The number in its name rises with
+# TODRENVAL_VERSION of the header, so that a program finds no object that it wasn't linked with.
+shared=libtodrenval.so.1
+printf '{ global: todrenval_*; local: *; };\n' >"$work/exports"
+cc -shared -o "$folder/$shared" -Wl,-soname,"$shared" -Wl,--version-script="$work/exports" \
+    -Wl,--gc-sections -Wl,-z,relro,-z,now,-z,noexecstack -Wl,-z,defs \
+    -Wl,--whole-archive "$folder/libtodrenval.a" -Wl,--no-whole-archive
+ln -sf "$shared" "$folder/libtodrenval.so"
 
-cp "$top/bindings/c/properties.h" "$top/bindings/python/properties.py" "$folder/"
+cp "$top/bindings/c/todrenval.h" "$folder/"
+mkdir -p "$folder/todrenval"
+cp "$top"/bindings/python/todrenval/*.py "$top/bindings/python/todrenval/py.typed" "$folder/todrenval/"
+version=$(sed -n 's/^const VERSION: &str = "\(.*\)";$/\1/p' "$top/crates/propedit_arguments/src/command_line.rt")
+[ -n "$version" ] || { echo 'build.sh: crates/propedit_arguments names no version' >&2; exit 1; }
+sed -i "s/^__version__ = .*/__version__ = \"$version\"/" "$folder/todrenval/__init__.py"
+ln -sf "../$shared" "$folder/todrenval/$shared"

@@ -74,30 +74,38 @@ gives() {
 }
 
 # The header, twice, with none of its functions called.
-printf '#include "properties.h"\n#include "properties.h"\nint main(void) { return 0; }\n' >"$work/header.c"
+printf '#include "todrenval.h"\n#include "todrenval.h"\nint main(void) { return 0; }\n' >"$work/header.c"
 for standard in c99 c11 c17; do
     works "the header in $standard" cc -std=$standard $warnings -I"$built" -c "$work/header.c" -o "$work/header.o"
     works "the example in $standard" cc -std=$standard $warnings -I"$built" -c "$top/bindings/c/example.c" -o "$work/header.o"
 done
+# Clang knows no useless casts.
+casts='-Wold-style-cast -Wuseless-cast'
+c++ -Werror $casts -x c++ -fsyntax-only /dev/null 2>/dev/null || casts=-Wold-style-cast
 for standard in c++98 c++11 c++17 c++20; do
-    works "the header in $standard" c++ -x c++ -std=$standard $warnings -I"$built" -c "$work/header.c" -o "$work/header.o"
+    works "the header in $standard" c++ -x c++ -std=$standard $warnings $casts -I"$built" -c "$work/header.c" -o "$work/header.o"
 done
 
+# Whether this processor will do.
+printf '#include "todrenval.h"\nint main(void) { return todrenval_runs_here() ? 0 : 1; }\n' >"$work/runs.c"
+works 'todrenval_runs_here, compiled' cc -std=c99 $warnings -I"$built" "$work/runs.c" -o "$work/runs"
+works 'todrenval_runs_here' "$work/runs"
+
 # The shared object gives the functions that the header declares, and no others.
-grep -oE '^(int|uint32_t) properties_[a-z_]+' "$built/properties.h" | sed 's/.* //' | sort >"$work/declared"
-nm -D --defined-only "$built/libproperties.so" | sed 's/.* //' | sort | diff "$work/declared" - >"$work/log"
+grep -oE '^(int|uint32_t) todrenval_[a-z_]+' "$built/todrenval.h" | sed 's/.* //' | sort >"$work/declared"
+nm -D --defined-only "$built/libtodrenval.so" | sed 's/.* //' | sort | diff "$work/declared" - >"$work/log"
 result $? 'the names in the shared object'
 
 # Every call, in C and in C++.
 wraps=-Wl,--wrap=malloc,--wrap=realloc,--wrap=free
 test=$top/bindings/c/test_calls.c
-works 'the calls in C, compiled' cc -std=c99 $warnings $sanitizers $wraps -I"$built" "$test" "$built/libproperties.a" -o "$work/calls"
+works 'the calls in C, compiled' cc -std=c99 $warnings $sanitizers $wraps -I"$built" "$test" "$built/libtodrenval.a" -o "$work/calls"
 counts 'the calls in C' "$work/calls"
 works 'the calls in C++, compiled' c++ -x c++ -std=c++11 $warnings $sanitizers $wraps -I"$built" "$test" -x none \
-    "$built/libproperties.a" -o "$work/calls"
+    "$built/libtodrenval.a" -o "$work/calls"
 counts 'the calls in C++' "$work/calls"
 if command -v valgrind >/dev/null; then
-    works 'the calls, compiled' cc -std=c99 $warnings -g $wraps -I"$built" "$test" "$built/libproperties.a" -o "$work/calls"
+    works 'the calls, compiled' cc -std=c99 $warnings -g $wraps -I"$built" "$test" "$built/libtodrenval.a" -o "$work/calls"
     works 'the calls under valgrind' valgrind -q --error-exitcode=9 --leak-check=full "$work/calls"
 else
     echo 'There is no valgrind, so reads outside of the inputs are not looked for.'
@@ -114,11 +122,11 @@ for _ in $(seq 3000); do printf 'k\n'; done >long.properties
 items='line 1, a comment: the web server\nline 2, port: 80\n'
 for library in archive 'shared object'; do
     if [ "$library" = archive ]; then
-        works 'the example, with the archive' cc -std=c99 $warnings $sanitizers -I"$built" "$example" "$built/libproperties.a" \
+        works 'the example, with the archive' cc -std=c99 $warnings $sanitizers -I"$built" "$example" "$built/libtodrenval.a" \
             -o example
     else
         works 'the example, with the shared object' cc -std=c99 $warnings $sanitizers -I"$built" "$example" -L"$built" \
-            -lproperties -Wl,-rpath,"$built" -o example
+            -ltodrenval -Wl,-rpath,"$built" -o example
     fi
     gives 0 "$items# the web server\nport    = 8080\n" '' ./example app.properties port 8080
     gives 0 "$items# the web server\nport    = 80\nhost = caf\xc3\xa9\n" '' ./example app.properties host $'caf\xc3\xa9'
@@ -134,22 +142,45 @@ for library in archive 'shared object'; do
 done
 
 # Python: the module beside the shared object, and without it.
-unset PROPERTIES_LIBRARY
-use='import properties; print(properties.load(b"a=1"))'
+unset TODRENVAL_LIBRARY
+use='import todrenval; print(todrenval.loads(b"a=1"))'
 gives 0 "{'a': '1'}\n" '' env PYTHONPATH="$built" PYTHONDONTWRITEBYTECODE=1 python3 -c "$use"
-mkdir alone
-cp "$built/properties.py" alone/
+version=$(sed -n 's/^const VERSION: &str = "\(.*\)";$/\1/p' "$top/crates/propedit_arguments/src/command_line.rt")
+gives 0 "$version\n" '' env PYTHONPATH="$built" PYTHONDONTWRITEBYTECODE=1 \
+    python3 -c 'import todrenval; print(todrenval.__version__)'
+mkdir -p alone/todrenval
+cp "$built"/todrenval/*.py alone/todrenval/
 env PYTHONPATH=alone PYTHONDONTWRITEBYTECODE=1 python3 -c "$use" >log 2>&1
-grep -q '^ImportError: .*PROPERTIES_LIBRARY says where it is' log
+grep -q '^ImportError: .*TODRENVAL_LIBRARY says where it is' log
 result $? 'the module without the shared object'
-printf 'unsigned properties_version(void) { return %s; }\n' "$(sed -n 's/^#define PROPERTIES_VERSION //p' "$built/properties.h")" |
+printf 'processor\t: 0\nflags\t\t: fpu sse2 pni ssse3 cx16 lahf_lm\n' >cpuinfo
+env PYTHONPATH="$built" PYTHONDONTWRITEBYTECODE=1 \
+    python3 -c 'import todrenval.processor as it; it.refuse_older("cpuinfo")' >log 2>&1
+grep -q '^ImportError: .* needs x86-64-v2, and this processor lacks popcnt, sse4_1, sse4_2\.$' log
+result $? 'the module on an older processor'
+other="import platform; platform.machine = lambda: 'i686'; $use"
+env PYTHONPATH="$built" PYTHONDONTWRITEBYTECODE=1 python3 -c "$other" >log 2>&1
+grep -q '^ImportError: .* is for x86-64, and this machine is i686\.$' log
+result $? 'the module on another processor'
+gives 0 "{'a': '1'}\n" '' env TODRENVAL_LIBRARY="$built/libtodrenval.so.1" PYTHONPATH="$built" \
+    PYTHONDONTWRITEBYTECODE=1 python3 -c "$other"
+printf 'unsigned todrenval_version(void) { return %s; }\n' "$(sed -n 's/^#define TODRENVAL_VERSION //p' "$built/todrenval.h")" |
     cc -shared -fPIC -x c - -o older.so
-env PROPERTIES_LIBRARY=./older.so PYTHONPATH=alone PYTHONDONTWRITEBYTECODE=1 python3 -c "$use" >log 2>&1
+env TODRENVAL_LIBRARY=./older.so PYTHONPATH=alone PYTHONDONTWRITEBYTECODE=1 python3 -c "$use" >log 2>&1
 grep -q '^ImportError: ./older.so is older than this module' log
 result $? 'the module with an older shared object'
-counts 'the tables and the module, in Python' env PROPERTIES_LIBRARY="$built/libproperties.so" PYTHONDONTWRITEBYTECODE=1 \
-    python3 "$top/bindings/python/test_rows.py"
-grep -E '^ *[0-9]+ of ' "$work/log"
+for python in python3 python3.{8..15}; do
+    "$python" -c '' 2>/dev/null || continue
+    counts "the tables and the module, in $("$python" --version)" env TODRENVAL_LIBRARY="$built/libtodrenval.so.1" \
+        PYTHONDONTWRITEBYTECODE=1 "$python" "$top/bindings/python/test_rows.py"
+    grep -E '^ *[0-9]+ of ' "$work/log" >rows
+done
+cat rows
+if python3 -m mypy --version >/dev/null 2>&1; then
+    works 'the types, by mypy' python3 -m mypy --strict --cache-dir=/dev/null "$top/bindings/python/todrenval"
+else
+    echo 'There is no mypy, so types are not checked.'
+fi
 
 echo "$passed passed, $failed failed"
 [ "$failed" = 0 ]

@@ -1,13 +1,11 @@
 /* Lists the items of a file in UTF-8, and prints the file with a value changed: example FILE KEY VALUE. */
-#include "properties.h"
+#include "todrenval.h"
 
 #include <errno.h>
 #include <stdio.h>
-#include <stdlib.h>
-#include <string.h>
 
 struct bytes {
-    uint8_t *start;
+    char *start;
     size_t length;
 };
 
@@ -21,13 +19,6 @@ static bool fail(char const *name, size_t line, char const *reason) {
     return false;
 }
 
-/* Makes the room for a call, which is never null, in the place of what was there. */
-static bool make_room(char const *name, struct bytes *out, size_t room) {
-    free(out->start);
-    out->start = malloc(room > 0 ? room : 1);
-    return out->start != NULL || fail(name, 0, "Out of memory.");
-}
-
 static bool read_file(char const *name, struct bytes *file) {
     size_t room = 4096;
     FILE *stream = fopen(name, "rb");
@@ -35,7 +26,7 @@ static bool read_file(char const *name, struct bytes *file) {
         return fail(name, 0, strerror(errno));
     }
     for (;;) {
-        uint8_t *larger = realloc(file->start, room);
+        char *larger = realloc(file->start, room);
         if (larger == NULL) {
             fclose(stream);
             return fail(name, 0, "Out of memory.");
@@ -57,23 +48,12 @@ static bool read_file(char const *name, struct bytes *file) {
 
 /* Prints the items up to the end or to a malformed escape. */
 static bool list_items(char const *name, struct bytes const *file) {
-    struct bytes list = {NULL, 0};
-    struct properties_cursor cursor;
-    struct properties_item item;
-    size_t line, room = 4 * file->length;
-    int status;
-    do {
-        if (!make_room(name, &list, room)) {
-            return false;
-        }
-        status = properties_items(file->start, file->length, PROPERTIES_UTF_8, list.start, room, &list.length,
-                                  &line);
-        room = list.length;
-    } while (status == PROPERTIES_NO_ROOM);
-
-    cursor = properties_walk(list.start, list.length);
-    while (properties_next_item(&cursor, &item)) {
-        if (item.kind == PROPERTIES_PAIR) {
+    struct todrenval_result list = todrenval_items_new(file->start, file->length, TODRENVAL_UTF_8);
+    struct todrenval_cursor cursor = todrenval_walk(list.bytes, list.length);
+    struct todrenval_item item;
+    char reason[TODRENVAL_REASON_ROOM];
+    while (todrenval_next_item(&cursor, &item)) {
+        if (item.kind == TODRENVAL_PAIR) {
             printf("line %llu, ", (unsigned long long)item.line);
             fwrite(item.key, 1, item.key_length, stdout);
         } else {
@@ -83,32 +63,20 @@ static bool list_items(char const *name, struct bytes const *file) {
         fwrite(item.value, 1, item.value_length, stdout);
         printf("\n");
     }
-    free(list.start);
-    return status == PROPERTIES_OK || fail(name, line, properties_status_text(status));
+    free(list.bytes);
+    return list.status == TODRENVAL_OK || fail(name, list.line, todrenval_reason(list.status, reason));
 }
 
 static bool print_changed(char const *name, struct bytes const *file, char const *key, char const *value) {
-    struct bytes changed = {NULL, 0};
-    size_t line, room = file->length + strlen(key) + strlen(value) + 100;
-    int status;
-    bool printed;
-    do {
-        if (!make_room(name, &changed, room)) {
-            return false;
-        }
-        status = properties_set_value(file->start, file->length, PROPERTIES_UTF_8, 0, (uint8_t const *)key,
-                                      strlen(key), (uint8_t const *)value, strlen(value), changed.start, room,
-                                      &changed.length, &line);
-        room = changed.length;
-    } while (status == PROPERTIES_NO_ROOM);
-
-    if (status != PROPERTIES_OK) {
-        free(changed.start);
-        return fail(name, line, properties_status_text(status));
+    struct todrenval_result changed = todrenval_set_value_new(file->start, file->length, TODRENVAL_UTF_8, 0, key,
+                                                              strlen(key), value, strlen(value));
+    size_t printed = fwrite(changed.bytes, 1, changed.length, stdout);
+    char reason[TODRENVAL_REASON_ROOM];
+    free(changed.bytes);
+    if (changed.status != TODRENVAL_OK) {
+        return fail(name, changed.line, todrenval_reason(changed.status, reason));
     }
-    printed = fwrite(changed.start, 1, changed.length, stdout) == changed.length && fflush(stdout) == 0;
-    free(changed.start);
-    return printed || fail("standard output", 0, strerror(errno));
+    return (printed == changed.length && fflush(stdout) == 0) || fail("standard output", 0, strerror(errno));
 }
 
 int main(int count, char **words) {
@@ -118,7 +86,7 @@ int main(int count, char **words) {
         fprintf(stderr, "usage: example FILE KEY VALUE\n");
         return 2;
     }
-    if (properties_version() != PROPERTIES_VERSION) {
+    if (todrenval_version() != TODRENVAL_VERSION) {
         fprintf(stderr, "The library is of another version than its header.\n");
         return 2;
     }

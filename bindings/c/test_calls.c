@@ -1,7 +1,7 @@
-/* Makes every call with enough room, one byte too little and none, brings about every refusal, and compares what comes
- * with what the header says. bindings/test.sh compiles it as C and as C++, with malloc, realloc and free wrapped. The
- * last line counts. */
-#include "properties.h"
+/* Makes every call with enough room, one byte too little and none, and with memory for its result; brings about every
+ * refusal, and compares what comes with what the header says. bindings/test.sh compiles it as C and as C++, with
+ * malloc, realloc and free wrapped. The last line counts. */
+#include "todrenval.h"
 
 #include <stdio.h>
 #include <stdlib.h>
@@ -10,8 +10,9 @@ enum { GUARD = 64, PATTERN = 0xa5, UNSET = 12345 };
 
 static long passed, failed;
 
-/* Memory: the allocation of this number fails, if it isn't 0, and how many blocks are in use. */
-static long refuse_at, allocations, blocks;
+/* Memory: the allocation of this number fails, if it isn't 0, and how many blocks are in use. They are volatile, since
+ * a compiler may take it that malloc changes no variable. */
+static volatile long refuse_at, allocations, blocks;
 
 #ifdef __cplusplus
 extern "C" {
@@ -134,6 +135,8 @@ struct request {
     struct text list;
     uint32_t target;
     bool readable;
+    struct text prefix;
+    struct text separator;
 };
 
 static struct request request_of(enum call call, struct text source, uint32_t encoding) {
@@ -145,37 +148,87 @@ static struct request request_of(enum call call, struct text source, uint32_t en
     request.key = T("k");
     request.value = T("v");
     request.list = T("");
-    request.target = PROPERTIES_TO_ASCII;
+    request.target = TODRENVAL_TO_ASCII;
     request.readable = false;
+    request.prefix = T("");
+    request.separator = T("");
     return request;
 }
 
 static int make_call(struct request const *r, uint8_t *out, size_t room, size_t *length, size_t *line) {
     switch (r->call) {
     case GET:
-        return properties_get(r->source.bytes, r->source.length, r->encoding, r->flags, r->key.bytes, r->key.length,
+        return todrenval_get(r->source.bytes, r->source.length, r->encoding, r->flags, r->key.bytes, r->key.length,
                               out, room, length, line);
     case ITEMS:
-        return properties_items(r->source.bytes, r->source.length, r->encoding, out, room, length, line);
+        return todrenval_items(r->source.bytes, r->source.length, r->encoding, out, room, length, line);
     case FINDINGS:
-        return properties_findings(r->source.bytes, r->source.length, r->encoding, out, room, length, line);
+        return todrenval_findings(r->source.bytes, r->source.length, r->encoding, out, room, length, line);
     case SET_VALUE:
-        return properties_set_value(r->source.bytes, r->source.length, r->encoding, r->flags, r->key.bytes,
+        return todrenval_set_value(r->source.bytes, r->source.length, r->encoding, r->flags, r->key.bytes,
                                     r->key.length, r->value.bytes, r->value.length, out, room, length, line);
     case SET_KEY:
-        return properties_set_key(r->source.bytes, r->source.length, r->encoding, r->flags, r->key.bytes,
+        return todrenval_set_key(r->source.bytes, r->source.length, r->encoding, r->flags, r->key.bytes,
                                   r->key.length, r->value.bytes, r->value.length, out, room, length, line);
     case REMOVE_KEY:
-        return properties_remove_key(r->source.bytes, r->source.length, r->encoding, r->flags, r->key.bytes,
+        return todrenval_remove_key(r->source.bytes, r->source.length, r->encoding, r->flags, r->key.bytes,
                                      r->key.length, out, room, length, line);
     case EDIT:
-        return properties_edit(r->source.bytes, r->source.length, r->encoding, r->flags, r->list.bytes,
+        return todrenval_edit(r->source.bytes, r->source.length, r->encoding, r->flags, r->list.bytes,
                                r->list.length, out, room, length, line);
     case CONVERT:
-        return properties_convert(r->source.bytes, r->source.length, r->encoding, r->target, r->readable, out, room,
+        return todrenval_convert(r->source.bytes, r->source.length, r->encoding, r->target, r->readable, out, room,
                                   length, line);
     default:
-        return properties_write(r->list.bytes, r->list.length, r->encoding, r->flags, out, room, length, line);
+        return todrenval_write(r->list.bytes, r->list.length, r->encoding, r->flags, r->prefix.bytes,
+                               r->prefix.length, r->separator.bytes, r->separator.length, out, room, length, line);
+    }
+}
+
+/* A text as a C string, or null if it has no bytes. */
+static char *string_of(struct text text) {
+    char *string = NULL;
+    if (text.length > 0) {
+        string = (char *)__real_malloc(text.length + 1);
+        memcpy(string, text.bytes, text.length);
+        string[text.length] = 0;
+    }
+    return string;
+}
+
+/* The same by the calls that take memory. Prefixes and separators end at a zero byte there. */
+static struct todrenval_result make_new(struct request const *r) {
+    struct todrenval_result result;
+    char *prefix, *separator;
+    switch (r->call) {
+    case GET:
+        return todrenval_get_new(r->source.bytes, r->source.length, r->encoding, r->flags, r->key.bytes,
+                                 r->key.length);
+    case ITEMS:
+        return todrenval_items_new(r->source.bytes, r->source.length, r->encoding);
+    case FINDINGS:
+        return todrenval_findings_new(r->source.bytes, r->source.length, r->encoding);
+    case SET_VALUE:
+        return todrenval_set_value_new(r->source.bytes, r->source.length, r->encoding, r->flags, r->key.bytes,
+                                       r->key.length, r->value.bytes, r->value.length);
+    case SET_KEY:
+        return todrenval_set_key_new(r->source.bytes, r->source.length, r->encoding, r->flags, r->key.bytes,
+                                     r->key.length, r->value.bytes, r->value.length);
+    case REMOVE_KEY:
+        return todrenval_remove_key_new(r->source.bytes, r->source.length, r->encoding, r->flags, r->key.bytes,
+                                        r->key.length);
+    case EDIT:
+        return todrenval_edit_new(r->source.bytes, r->source.length, r->encoding, r->flags, r->list.bytes,
+                                  r->list.length);
+    case CONVERT:
+        return todrenval_convert_new(r->source.bytes, r->source.length, r->encoding, r->target, r->readable);
+    default:
+        prefix = string_of(r->prefix);
+        separator = string_of(r->separator);
+        result = todrenval_write_new(r->list.bytes, r->list.length, r->encoding, r->flags, prefix, separator);
+        __real_free(prefix);
+        __real_free(separator);
+        return result;
     }
 }
 
@@ -219,9 +272,10 @@ static void check_room(char const *name, struct request request, size_t room, in
     uint8_t *out = memory + GUARD;
     size_t length = UNSET, line = UNSET, written = result.length;
     struct request copy = request;
+    char reason[TODRENVAL_REASON_ROOM];
     int status;
     if (written > room) {
-        wanted = PROPERTIES_NO_ROOM;
+        wanted = TODRENVAL_NO_ROOM;
         wanted_line = 0;
         written = 0;
     }
@@ -233,9 +287,9 @@ static void check_room(char const *name, struct request request, size_t room, in
     blocks = 0;
     status = make_call(&copy, out, room, &length, &line);
     if (status != wanted) {
-        printf("%s: status %d: %s\n", name, status, properties_status_text(status));
+        printf("%s: status %d: %s\n", name, status, todrenval_reason(status, reason));
     }
-    count(status == wanted, properties_status_text(wanted), name, (long)room);
+    count(status == wanted, todrenval_reason(wanted, reason), name, (long)room);
     count(length == result.length, "the length", name, (long)room);
     count(line == wanted_line, "the line", name, (long)room);
     count(memcmp(out, result.bytes, written) == 0, "the bytes", name, (long)room);
@@ -249,8 +303,41 @@ static void check_room(char const *name, struct request request, size_t room, in
     __real_free(memory);
 }
 
-/* Makes the call with more room than it needs, with just enough, with one byte too little and with none. */
+/* Null in the place of a pointer to no bytes. */
+static void drop_pointer(struct text *text) {
+    if (text->length == 0) {
+        text->bytes = NULL;
+    }
+}
+
+/* Makes the call with null for what has no bytes, and the call that takes memory for its result. */
+static void check_new(char const *name, struct request request, int status, size_t line, struct text result) {
+    struct todrenval_result made;
+    size_t length = UNSET, its_line = UNSET;
+    int came;
+    drop_pointer(&request.source);
+    drop_pointer(&request.key);
+    drop_pointer(&request.value);
+    drop_pointer(&request.list);
+    drop_pointer(&request.prefix);
+    drop_pointer(&request.separator);
+    came = make_call(&request, NULL, 0, &length, &its_line);
+    count(came == (result.length > 0 ? TODRENVAL_NO_ROOM : status), "the status", name, -1);
+    count(length == result.length && its_line == (result.length > 0 ? 0 : line), "its length and line", name, -1);
+    blocks = 0;
+    made = make_new(&request);
+    count(made.status == status && made.length == result.length && made.line == line, "the same", name, -2);
+    count(memcmp(made.bytes, result.bytes, result.length) == 0, "the bytes", name, -2);
+    count(made.bytes[made.length] == 0, "a zero byte after them", name, -2);
+    count(blocks == 1, "one block in use", name, -2);
+    free(made.bytes);
+    count(blocks == 0, "all memory freed", name, -2);
+}
+
+/* Makes the call with more room than it needs, with just enough, with one byte too little and with none, and then the
+ * call that takes memory. */
 static void check(char const *name, struct request request, int status, size_t line, struct text result) {
+    check_new(name, request, status, line, result);
     check_room(name, request, result.length + 50, status, line, result);
     check_room(name, request, result.length, status, line, result);
     if (result.length > 1) {
@@ -264,66 +351,67 @@ static void check(char const *name, struct request request, int status, size_t l
 static void refuses(char const *name, struct request request, int status, size_t line) {
     check_room(name, request, 0, status, line, T(""));
     check_room(name, request, 300, status, line, T(""));
+    check_new(name, request, status, line, T(""));
 }
 
 static char const SOURCE[] = "# one\na = 1\n\nk : caf\xc3\xa9\na\\\n  =2\n";
 
 static void try_get(void) {
-    struct request request = request_of(GET, T(SOURCE), PROPERTIES_UTF_8);
-    check("get", request, PROPERTIES_OK, 0, T("caf\xc3\xa9"));
-    request.encoding = PROPERTIES_WINDOWS_1252;
-    check("get, windows-1252", request, PROPERTIES_OK, 0, T("caf\xc3\x83\xc2\xa9"));
+    struct request request = request_of(GET, T(SOURCE), TODRENVAL_UTF_8);
+    check("get", request, TODRENVAL_OK, 0, T("caf\xc3\xa9"));
+    request.encoding = TODRENVAL_WINDOWS_1252;
+    check("get, windows-1252", request, TODRENVAL_OK, 0, T("caf\xc3\x83\xc2\xa9"));
     request.key = T("a");
-    check("get of the last", request, PROPERTIES_OK, 0, T("2"));
+    check("get of the last", request, TODRENVAL_OK, 0, T("2"));
     request.key = T("b");
-    check("get of none", request, PROPERTIES_NO_KEY, 0, T(""));
+    check("get of none", request, TODRENVAL_NO_KEY, 0, T(""));
     request.key = T("");
-    check("get of no key", request, PROPERTIES_NO_KEY, 0, T(""));
-    request = request_of(GET, T("k="), PROPERTIES_UTF_8);
-    check("get of nothing", request, PROPERTIES_OK, 0, T(""));
-    request = request_of(GET, T("k\0=\0v\0\xac\x20"), PROPERTIES_UTF_16LE);
-    check("get, UTF-16LE", request, PROPERTIES_OK, 0, T("v\xe2\x82\xac"));
-    request = request_of(GET, T("\0k\0=\0v\x20\xac"), PROPERTIES_UTF_16BE);
-    check("get, UTF-16BE", request, PROPERTIES_OK, 0, T("v\xe2\x82\xac"));
-    request = request_of(GET, T("\xef\xbb\xbfk=\xc3\xa9"), PROPERTIES_WINDOWS_1252);
-    check("get after a mark", request, PROPERTIES_OK, 0, T("\xc3\xa9"));
-    request = request_of(GET, T("\xff=1"), PROPERTIES_UTF_8);
+    check("get of no key", request, TODRENVAL_NO_KEY, 0, T(""));
+    request = request_of(GET, T("k="), TODRENVAL_UTF_8);
+    check("get of nothing", request, TODRENVAL_OK, 0, T(""));
+    request = request_of(GET, T("k\0=\0v\0\xac\x20"), TODRENVAL_UTF_16LE);
+    check("get, UTF-16LE", request, TODRENVAL_OK, 0, T("v\xe2\x82\xac"));
+    request = request_of(GET, T("\0k\0=\0v\x20\xac"), TODRENVAL_UTF_16BE);
+    check("get, UTF-16BE", request, TODRENVAL_OK, 0, T("v\xe2\x82\xac"));
+    request = request_of(GET, T("\xef\xbb\xbfk=\xc3\xa9"), TODRENVAL_WINDOWS_1252);
+    check("get after a mark", request, TODRENVAL_OK, 0, T("\xc3\xa9"));
+    request = request_of(GET, T("\xff=1"), TODRENVAL_UTF_8);
     request.key = T("\xef\xbf\xbd");
-    check("get of a replacement", request, PROPERTIES_OK, 0, T("1"));
+    check("get of a replacement", request, TODRENVAL_OK, 0, T("1"));
 }
 
 static void try_items(void) {
     struct packed list = {{0}, 0};
-    struct properties_cursor cursor;
-    struct properties_item item;
+    struct todrenval_cursor cursor;
+    struct todrenval_item item;
     size_t end;
-    check("items of nothing", request_of(ITEMS, T(""), PROPERTIES_UTF_8), PROPERTIES_OK, 0, T(""));
-    check("items of blanks", request_of(ITEMS, T("\n \r\n"), PROPERTIES_UTF_8), PROPERTIES_OK, 0, T(""));
-    put_item(&list, PROPERTIES_COMMENT, 1, T(""), T("one"));
-    put_item(&list, PROPERTIES_PAIR, 2, T("a"), T("1"));
-    put_item(&list, PROPERTIES_PAIR, 4, T("k"), T("caf\xc3\xa9"));
-    put_item(&list, PROPERTIES_PAIR, 5, T("a"), T("2"));
-    check("items", request_of(ITEMS, T(SOURCE), PROPERTIES_UTF_8), PROPERTIES_OK, 0, text_of_list(&list));
+    check("items of nothing", request_of(ITEMS, T(""), TODRENVAL_UTF_8), TODRENVAL_OK, 0, T(""));
+    check("items of blanks", request_of(ITEMS, T("\n \r\n"), TODRENVAL_UTF_8), TODRENVAL_OK, 0, T(""));
+    put_item(&list, TODRENVAL_COMMENT, 1, T(""), T("one"));
+    put_item(&list, TODRENVAL_PAIR, 2, T("a"), T("1"));
+    put_item(&list, TODRENVAL_PAIR, 4, T("k"), T("caf\xc3\xa9"));
+    put_item(&list, TODRENVAL_PAIR, 5, T("a"), T("2"));
+    check("items", request_of(ITEMS, T(SOURCE), TODRENVAL_UTF_8), TODRENVAL_OK, 0, text_of_list(&list));
 
     /* The cursor gives the records, and nothing of a list that is cut. */
     for (end = 0; end <= list.length; end++) {
         uint8_t *cut = (uint8_t *)__real_malloc(end > 0 ? end : 1);
         size_t seen = 0, whole = 0;
         memcpy(cut, list.bytes, end);
-        cursor = properties_walk(cut, end);
-        while (properties_next_item(&cursor, &item)) {
+        cursor = todrenval_walk(cut, end);
+        while (todrenval_next_item(&cursor, &item)) {
             seen++;
-            whole += PROPERTIES_RECORD_SIZE + item.key_length + item.value_length;
+            whole += TODRENVAL_RECORD_SIZE + item.key_length + item.value_length;
         }
         count(cursor.left == end - whole, "what is left", "a cursor", (long)end);
         count((seen == 4) == (end == list.length), "all records", "a cursor", (long)end);
         __real_free(cut);
     }
-    cursor = properties_walk(list.bytes, list.length);
-    count(properties_next_item(&cursor, &item) && item.kind == PROPERTIES_COMMENT && item.line == 1 &&
+    cursor = todrenval_walk(list.bytes, list.length);
+    count(todrenval_next_item(&cursor, &item) && item.kind == TODRENVAL_COMMENT && item.line == 1 &&
               item.key_length == 0 && item.value_length == 3 && memcmp(item.value, "one", 3) == 0,
           "the comment", "a cursor", 0);
-    count(properties_next_item(&cursor, &item) && item.kind == PROPERTIES_PAIR && item.line == 2 &&
+    count(todrenval_next_item(&cursor, &item) && item.kind == TODRENVAL_PAIR && item.line == 2 &&
               item.key_length == 1 && *item.key == 'a' && item.value_length == 1 && *item.value == '1',
           "the pair", "a cursor", 0);
 
@@ -334,139 +422,209 @@ static void try_items(void) {
     put_number(&list, 1);
     put_number(&list, 0xffffffffffffffffULL);
     put_text(&list, T("ab"));
-    cursor = properties_walk(list.bytes, list.length);
-    count(!properties_next_item(&cursor, &item) && cursor.left == list.length, "refused", "a cursor", 0);
+    cursor = todrenval_walk(list.bytes, list.length);
+    count(!todrenval_next_item(&cursor, &item) && cursor.left == list.length, "refused", "a cursor", 0);
 }
 
 static void try_findings(void) {
     struct packed list = {{0}, 0};
-    struct properties_cursor cursor;
-    struct properties_finding finding;
+    struct todrenval_cursor cursor;
+    struct todrenval_finding finding;
     static char const source[] = "a=1\nb=2\na=3\n\\u0062=\\u12\n#C:\\users\n k\\u0020=\\udc1e\n\\u0062=4\na\n";
-    check("findings of nothing", request_of(FINDINGS, T(""), PROPERTIES_UTF_8), PROPERTIES_OK, 0, T(""));
-    check("no findings", request_of(FINDINGS, T("a=1\nb=1\n#a\n"), PROPERTIES_UTF_8), PROPERTIES_OK, 0, T(""));
-    put_finding(&list, PROPERTIES_FOUND_NOT_ENOUGH_DIGITS, 4, 0, T(""));
-    put_finding(&list, PROPERTIES_FOUND_NOT_HEX, 5, 1, T(""));
-    put_finding(&list, PROPERTIES_FOUND_INVALID_CHARACTER, 6, 0, T(""));
-    put_finding(&list, PROPERTIES_FOUND_REPEATED_KEY, 3, 1, T("a"));
-    put_finding(&list, PROPERTIES_FOUND_REPEATED_KEY, 7, 2, T("b"));
-    put_finding(&list, PROPERTIES_FOUND_REPEATED_KEY, 8, 1, T("a"));
-    check("findings", request_of(FINDINGS, T(source), PROPERTIES_UTF_8), PROPERTIES_OK, 0, text_of_list(&list));
-    cursor = properties_walk(list.bytes, list.length);
-    count(properties_next_finding(&cursor, &finding) && finding.kind == PROPERTIES_FOUND_NOT_ENOUGH_DIGITS &&
+    check("findings of nothing", request_of(FINDINGS, T(""), TODRENVAL_UTF_8), TODRENVAL_OK, 0, T(""));
+    check("no findings", request_of(FINDINGS, T("a=1\nb=1\n#a\n"), TODRENVAL_UTF_8), TODRENVAL_OK, 0, T(""));
+    put_finding(&list, TODRENVAL_FOUND_NOT_ENOUGH_DIGITS, 4, 0, T(""));
+    put_finding(&list, TODRENVAL_FOUND_NOT_HEX, 5, 1, T(""));
+    put_finding(&list, TODRENVAL_FOUND_INVALID_CHARACTER, 6, 0, T(""));
+    put_finding(&list, TODRENVAL_FOUND_REPEATED_KEY, 3, 1, T("a"));
+    put_finding(&list, TODRENVAL_FOUND_REPEATED_KEY, 7, 2, T("b"));
+    put_finding(&list, TODRENVAL_FOUND_REPEATED_KEY, 8, 1, T("a"));
+    check("findings", request_of(FINDINGS, T(source), TODRENVAL_UTF_8), TODRENVAL_OK, 0, text_of_list(&list));
+    cursor = todrenval_walk(list.bytes, list.length);
+    count(todrenval_next_finding(&cursor, &finding) && finding.kind == TODRENVAL_FOUND_NOT_ENOUGH_DIGITS &&
               finding.line == 4 && finding.first == 0 && !finding.in_comment && finding.key_length == 0,
           "the escape", "a cursor", 0);
-    count(properties_next_finding(&cursor, &finding) && finding.kind == PROPERTIES_FOUND_NOT_HEX && finding.line == 5 &&
+    count(todrenval_next_finding(&cursor, &finding) && finding.kind == TODRENVAL_FOUND_NOT_HEX && finding.line == 5 &&
               finding.first == 0 && finding.in_comment && finding.key_length == 0,
           "the escape in a comment", "a cursor", 0);
-    count(properties_next_finding(&cursor, &finding) && !finding.in_comment &&
-              properties_next_finding(&cursor, &finding) && finding.kind == PROPERTIES_FOUND_REPEATED_KEY &&
+    count(todrenval_next_finding(&cursor, &finding) && !finding.in_comment &&
+              todrenval_next_finding(&cursor, &finding) && finding.kind == TODRENVAL_FOUND_REPEATED_KEY &&
               finding.line == 3 && finding.first == 1 && !finding.in_comment && finding.key_length == 1 &&
               *finding.key == 'a',
           "the key", "a cursor", 0);
-    cursor = properties_walk(list.bytes, list.length - 1);
-    while (properties_next_finding(&cursor, &finding)) {
+    cursor = todrenval_walk(list.bytes, list.length - 1);
+    while (todrenval_next_finding(&cursor, &finding)) {
     }
-    count(cursor.left == PROPERTIES_RECORD_SIZE, "what is left", "a cursor", 0);
+    count(cursor.left == TODRENVAL_RECORD_SIZE, "what is left", "a cursor", 0);
 
     /* Keys that aren't UTF-8 read as one, and the lines aren't reported. */
     list.length = 0;
-    put_finding(&list, PROPERTIES_FOUND_REPEATED_KEY, 2, 1, T("\xef\xbf\xbd"));
-    check("findings in what isn't UTF-8", request_of(FINDINGS, T("\xe4=1\n\xf6=2\n"), PROPERTIES_UTF_8), PROPERTIES_OK,
+    put_finding(&list, TODRENVAL_FOUND_REPEATED_KEY, 2, 1, T("\xef\xbf\xbd"));
+    check("findings in what isn't UTF-8", request_of(FINDINGS, T("\xe4=1\n\xf6=2\n"), TODRENVAL_UTF_8), TODRENVAL_OK,
           0, text_of_list(&list));
-    check("no findings in windows-1252", request_of(FINDINGS, T("\xe4=1\n\xf6=2\n"), PROPERTIES_WINDOWS_1252),
-          PROPERTIES_OK, 0, T(""));
+    check("no findings in windows-1252", request_of(FINDINGS, T("\xe4=1\n\xf6=2\n"), TODRENVAL_WINDOWS_1252),
+          TODRENVAL_OK, 0, T(""));
 }
 
 static void try_edits(void) {
     struct packed list = {{0}, 0};
-    struct request request = request_of(SET_VALUE, T("k    = 1\nb=2"), PROPERTIES_UTF_8);
-    check("set_value", request, PROPERTIES_OK, 0, T("k    = v\nb=2"));
+    struct request request = request_of(SET_VALUE, T("k    = 1\nb=2"), TODRENVAL_UTF_8);
+    check("set_value", request, TODRENVAL_OK, 0, T("k    = v\nb=2"));
     request.call = SET_KEY;
-    check("set_key", request, PROPERTIES_OK, 0, T("k=v\nb=2"));
+    check("set_key", request, TODRENVAL_OK, 0, T("k=v\nb=2"));
     request.call = REMOVE_KEY;
-    check("remove_key", request, PROPERTIES_OK, 0, T("b=2"));
+    check("remove_key", request, TODRENVAL_OK, 0, T("b=2"));
     request.key = T("c");
-    check("remove_key of none", request, PROPERTIES_OK, 0, T("k    = 1\nb=2"));
+    check("remove_key of none", request, TODRENVAL_OK, 0, T("k    = 1\nb=2"));
     request.call = SET_VALUE;
-    check("set_value of none", request, PROPERTIES_OK, 0, T("k    = 1\nb=2\nc=v\n"));
-    request = request_of(REMOVE_KEY, T("k\\\n=v"), PROPERTIES_UTF_8);
-    check("remove_key of all", request, PROPERTIES_OK, 0, T(""));
-    request = request_of(SET_KEY, T(""), PROPERTIES_WINDOWS_1252);
+    check("set_value of none", request, TODRENVAL_OK, 0, T("k    = 1\nb=2\nc=v\n"));
+    request = request_of(REMOVE_KEY, T("k\\\n=v"), TODRENVAL_UTF_8);
+    check("remove_key of all", request, TODRENVAL_OK, 0, T(""));
+    request = request_of(SET_KEY, T(""), TODRENVAL_WINDOWS_1252);
     request.key = T("");
     request.value = T("");
-    check("set_key of nothing", request, PROPERTIES_OK, 0, T("=\n"));
+    check("set_key of nothing", request, TODRENVAL_OK, 0, T("=\n"));
 
     /* ASCII alone, and each encoding. What was there stays. */
-    request = request_of(SET_VALUE, T("# \xe9\n\xe9 = \xe9\n"), PROPERTIES_WINDOWS_1252);
+    request = request_of(SET_VALUE, T("# \xe9\n\xe9 = \xe9\n"), TODRENVAL_WINDOWS_1252);
     request.key = T("\xc3\xa9");
     request.value = T("\xc3\xa8\xe2\x82\xac\xe3\x81\x82");
-    check("set_value, windows-1252", request, PROPERTIES_OK, 0, T("# \xe9\n\xe9 = \xe8\x80\\u3042\n"));
-    request.flags = PROPERTIES_ASCII_ONLY;
-    check("set_value, ASCII", request, PROPERTIES_OK, 0, T("# \xe9\n\xe9 = \\u00e8\\u20ac\\u3042\n"));
+    check("set_value, windows-1252", request, TODRENVAL_OK, 0, T("# \xe9\n\xe9 = \xe8\x80\\u3042\n"));
+    request.flags = TODRENVAL_ASCII_ONLY;
+    check("set_value, ASCII", request, TODRENVAL_OK, 0, T("# \xe9\n\xe9 = \\u00e8\\u20ac\\u3042\n"));
     request.call = SET_KEY;
-    check("set_key, ASCII", request, PROPERTIES_OK, 0, T("# \xe9\n\\u00e9=\\u00e8\\u20ac\\u3042\n"));
+    check("set_key, ASCII", request, TODRENVAL_OK, 0, T("# \xe9\n\\u00e9=\\u00e8\\u20ac\\u3042\n"));
     request.source = T("# \xc3\xa9\n");
-    request.encoding = PROPERTIES_UTF_8;
-    check("set_key, ASCII in UTF-8", request, PROPERTIES_OK, 0, T("# \xc3\xa9\n\\u00e9=\\u00e8\\u20ac\\u3042\n"));
+    request.encoding = TODRENVAL_UTF_8;
+    check("set_key, ASCII in UTF-8", request, TODRENVAL_OK, 0, T("# \xc3\xa9\n\\u00e9=\\u00e8\\u20ac\\u3042\n"));
     request.flags = 0;
-    check("set_key, UTF-8", request, PROPERTIES_OK, 0, T("# \xc3\xa9\n\xc3\xa9=\xc3\xa8\xe2\x82\xac\xe3\x81\x82\n"));
-    request.encoding = PROPERTIES_UTF_16LE;
+    check("set_key, UTF-8", request, TODRENVAL_OK, 0, T("# \xc3\xa9\n\xc3\xa9=\xc3\xa8\xe2\x82\xac\xe3\x81\x82\n"));
+    request.encoding = TODRENVAL_UTF_16LE;
     request.source = T("\xef\xbb\xbf");
-    check("set_key after a mark", request, PROPERTIES_OK, 0,
+    check("set_key after a mark", request, TODRENVAL_OK, 0,
           T("\xef\xbb\xbf\xc3\xa9=\xc3\xa8\xe2\x82\xac\xe3\x81\x82\n"));
 
     /* Escapes of ASCII, and of what would begin like a byte order mark; and a new pair takes no indent. */
-    request = request_of(SET_KEY, T(""), PROPERTIES_UTF_8);
+    request = request_of(SET_KEY, T(""), TODRENVAL_UTF_8);
     request.key = T("\xef\xbb\xbf\x01");
     request.value = T("\n\xef\xbb\xbf");
-    check("set_key like a mark", request, PROPERTIES_OK, 0, T("\\ufeff\\u0001=\\n\xef\xbb\xbf\n"));
-    request = request_of(REMOVE_KEY, T("k=v\n\xef\xbb\xbf" "a=1\n"), PROPERTIES_UTF_8);
-    check("remove_key before a mark", request, PROPERTIES_OK, 0, T("\n\xef\xbb\xbf" "a=1\n"));
-    request = request_of(SET_VALUE, T("  a  :  1\r\n"), PROPERTIES_UTF_8);
-    check("set_value without indent", request, PROPERTIES_OK, 0, T("  a  :  1\r\nk : v\r\n"));
+    check("set_key like a mark", request, TODRENVAL_OK, 0, T("\\ufeff\\u0001=\\n\xef\xbb\xbf\n"));
+    request = request_of(REMOVE_KEY, T("k=v\n\xef\xbb\xbf" "a=1\n"), TODRENVAL_UTF_8);
+    check("remove_key before a mark", request, TODRENVAL_OK, 0, T("\n\xef\xbb\xbf" "a=1\n"));
+    request = request_of(SET_VALUE, T("  a  :  1\r\n"), TODRENVAL_UTF_8);
+    check("set_value without indent", request, TODRENVAL_OK, 0, T("  a  :  1\r\nk : v\r\n"));
 
-    request = request_of(EDIT, T("a : 1\nb=2\n"), PROPERTIES_UTF_8);
-    check("edit by no edits", request, PROPERTIES_OK, 0, T("a : 1\nb=2\n"));
-    put_item(&list, PROPERTIES_EDIT_SET_VALUE, 7, T("a"), T("3"));
-    put_item(&list, PROPERTIES_EDIT_REMOVE_KEY, 0xffffffffffffffffULL, T("b"), T(""));
-    put_item(&list, PROPERTIES_EDIT_SET_KEY, 0, T("c"), T("\xc3\xa9"));
+    request = request_of(EDIT, T("a : 1\nb=2\n"), TODRENVAL_UTF_8);
+    check("edit by no edits", request, TODRENVAL_OK, 0, T("a : 1\nb=2\n"));
+    put_item(&list, TODRENVAL_EDIT_SET_VALUE, 7, T("a"), T("3"));
+    put_item(&list, TODRENVAL_EDIT_REMOVE_KEY, 0xffffffffffffffffULL, T("b"), T(""));
+    put_item(&list, TODRENVAL_EDIT_SET_KEY, 0, T("c"), T("\xc3\xa9"));
     request.list = text_of_list(&list);
-    check("edit", request, PROPERTIES_OK, 0, T("a : 3\nc=\xc3\xa9\n"));
-    request.flags = PROPERTIES_ASCII_ONLY;
-    check("edit, ASCII", request, PROPERTIES_OK, 0, T("a : 3\nc=\\u00e9\n"));
+    check("edit", request, TODRENVAL_OK, 0, T("a : 3\nc=\xc3\xa9\n"));
+    request.flags = TODRENVAL_ASCII_ONLY;
+    check("edit, ASCII", request, TODRENVAL_OK, 0, T("a : 3\nc=\\u00e9\n"));
 }
 
 static void try_write(void) {
     struct packed list = {{0}, 0};
-    struct request request = request_of(WRITE, T(""), PROPERTIES_UTF_8);
-    check("write of nothing", request, PROPERTIES_OK, 0, T(""));
-    put_item(&list, PROPERTIES_COMMENT, 9, T(""), T("c \xc3\xa9"));
-    put_item(&list, PROPERTIES_PAIR, 0, T("a b"), T("\xe2\x82\xac\n"));
-    put_item(&list, PROPERTIES_PAIR, 0, T(""), T(""));
+    struct request request = request_of(WRITE, T(""), TODRENVAL_UTF_8);
+    check("write of nothing", request, TODRENVAL_OK, 0, T(""));
+    put_item(&list, TODRENVAL_COMMENT, 9, T(""), T("c \xc3\xa9"));
+    put_item(&list, TODRENVAL_PAIR, 0, T("a b"), T("\xe2\x82\xac\n"));
+    put_item(&list, TODRENVAL_PAIR, 0, T(""), T(""));
     request.list = text_of_list(&list);
-    check("write", request, PROPERTIES_OK, 0, T("# c \xc3\xa9\na\\ b=\xe2\x82\xac\\n\n=\n"));
-    request.encoding = PROPERTIES_UTF_16LE;
-    check("write, UTF-16LE", request, PROPERTIES_OK, 0, T("# c \xc3\xa9\na\\ b=\xe2\x82\xac\\n\n=\n"));
-    request.encoding = PROPERTIES_UTF_16BE;
-    check("write, UTF-16BE", request, PROPERTIES_OK, 0, T("# c \xc3\xa9\na\\ b=\xe2\x82\xac\\n\n=\n"));
-    request.encoding = PROPERTIES_WINDOWS_1252;
-    check("write, windows-1252", request, PROPERTIES_OK, 0, T("# c \xe9\na\\ b=\x80\\n\n=\n"));
-    request.flags = PROPERTIES_ASCII_ONLY;
-    check("write, ASCII", request, PROPERTIES_OK, 0, T("# c \\u00e9\na\\ b=\\u20ac\\n\n=\n"));
+    check("write", request, TODRENVAL_OK, 0, T("# c \xc3\xa9\na\\ b=\xe2\x82\xac\\n\n=\n"));
+    request.encoding = TODRENVAL_UTF_16LE;
+    check("write, UTF-16LE", request, TODRENVAL_OK, 0, T("# c \xc3\xa9\na\\ b=\xe2\x82\xac\\n\n=\n"));
+    request.encoding = TODRENVAL_UTF_16BE;
+    check("write, UTF-16BE", request, TODRENVAL_OK, 0, T("# c \xc3\xa9\na\\ b=\xe2\x82\xac\\n\n=\n"));
+    request.encoding = TODRENVAL_WINDOWS_1252;
+    check("write, windows-1252", request, TODRENVAL_OK, 0, T("# c \xe9\na\\ b=\x80\\n\n=\n"));
+    request.flags = TODRENVAL_ASCII_ONLY;
+    check("write, ASCII", request, TODRENVAL_OK, 0, T("# c \\u00e9\na\\ b=\\u20ac\\n\n=\n"));
 
     /* Values as people write them, or not. */
     list.length = 0;
-    put_item(&list, PROPERTIES_COMMENT, 0, T(""), T("a b"));
-    put_item(&list, PROPERTIES_PAIR, 0, T("a b"), T(" x: \xc3\xa9=#! "));
-    put_item(&list, PROPERTIES_PAIR, 0, T("c"), T("=\t"));
+    put_item(&list, TODRENVAL_COMMENT, 0, T(""), T("a b"));
+    put_item(&list, TODRENVAL_PAIR, 0, T("a b"), T(" x: \xc3\xa9=#! "));
+    put_item(&list, TODRENVAL_PAIR, 0, T("c"), T("=\t"));
     request.list = text_of_list(&list);
     request.flags = 0;
-    check("write, escaped", request, PROPERTIES_OK, 0, T("# a b\na\\ b=\\ x\\:\\ \xe9\\=\\#\\!\\ \nc=\\=\\t\n"));
-    request.flags = PROPERTIES_READABLE;
-    check("write, readable", request, PROPERTIES_OK, 0, T("# a b\na\\ b=\\ x: \xe9=#!\\u0020\nc==\\t\n"));
-    request.flags = PROPERTIES_ASCII_ONLY | PROPERTIES_READABLE;
-    check("write, readable ASCII", request, PROPERTIES_OK, 0, T("# a b\na\\ b=\\ x: \\u00e9=#!\\u0020\nc==\\t\n"));
+    check("write, escaped", request, TODRENVAL_OK, 0, T("# a b\na\\ b=\\ x\\:\\ \xe9\\=\\#\\!\\ \nc=\\=\\t\n"));
+    request.flags = TODRENVAL_READABLE;
+    check("write, readable", request, TODRENVAL_OK, 0, T("# a b\na\\ b=\\ x: \xe9=#!\\u0020\nc==\\t\n"));
+    request.flags = TODRENVAL_ASCII_ONLY | TODRENVAL_READABLE;
+    check("write, readable ASCII", request, TODRENVAL_OK, 0, T("# a b\na\\ b=\\ x: \\u00e9=#!\\u0020\nc==\\t\n"));
+}
+
+/* Prefixes, separators and line endings. */
+static void try_settings(void) {
+    static char const *const prefixes[] = {"x", " ", "\xc3\xa9#", "#\n", "#\r", "\n#", "=#"};
+    static char const *const separators[] = {"x", "==", "=:", "= :", "a=", "\n", "= \r", "\xc2\xa0"};
+    static uint32_t const endings[] = {0, TODRENVAL_CRLF, TODRENVAL_CR};
+    static uint32_t const both[] = {24, 25, 26, 28, 31, 32, 40, 48};
+    struct packed list = {{0}, 0};
+    struct packed empty = {{0}, 0};
+    struct text wanted[3];
+    struct request request = request_of(WRITE, T(""), TODRENVAL_UTF_8);
+    size_t place;
+    put_item(&list, TODRENVAL_COMMENT, 0, T(""), T("c"));
+    put_item(&list, TODRENVAL_PAIR, 0, T("a"), T("1 2"));
+    put_item(&list, TODRENVAL_PAIR, 0, T("b"), T(""));
+    put_item(&empty, TODRENVAL_PAIR, 0, T("a"), T("1"));
+    put_item(&empty, TODRENVAL_PAIR, 0, T(""), T("2"));
+    put_item(&empty, TODRENVAL_PAIR, 0, T("b"), T("3"));
+    wanted[0] = T("# c\na=1\\ 2\nb=\n");
+    wanted[1] = T("# c\r\na=1\\ 2\r\nb=\r\n");
+    wanted[2] = T("# c\ra=1\\ 2\rb=\r");
+    request.list = text_of_list(&list);
+    for (place = 0; place < 3; place++) {
+        request.flags = endings[place];
+        check("endings", request, TODRENVAL_OK, 0, wanted[place]);
+    }
+    for (place = 0; place < sizeof both / sizeof *both; place++) {
+        request.flags = both[place];
+        refuses("no endings", request, TODRENVAL_UNKNOWN_ENCODING, 0);
+    }
+    request.flags = TODRENVAL_READABLE | TODRENVAL_CRLF;
+    request.prefix = T("  ! \xc3\xa9");
+    request.separator = T(" : ");
+    check("settings", request, TODRENVAL_OK, 0, T("  ! \xc3\xa9" "c\r\na : 1 2\r\nb : \r\n"));
+    request.flags |= TODRENVAL_ASCII_ONLY;
+    check("settings, ASCII", request, TODRENVAL_OK, 0, T("  ! \\u00e9c\r\na : 1 2\r\nb : \r\n"));
+    request.flags = TODRENVAL_READABLE;
+    request.prefix = T("#");
+    request.separator = T("\t");
+    check("blanks", request, TODRENVAL_OK, 0, T("#c\na\t1 2\nb\t\n"));
+    request.list = text_of_list(&empty);
+    refuses("an empty key", request, TODRENVAL_EMPTY_KEY, 0);
+    request.separator = T("\t:");
+    check("an empty key", request, TODRENVAL_OK, 0, T("a\t:1\n\t:2\nb\t:3\n"));
+    request.separator = T(" ");
+    request.list = T("x");
+    refuses("a bad list before an empty key", request, TODRENVAL_BAD_LIST, 0);
+    request.list = T("");
+    check("no lines", request, TODRENVAL_OK, 0, T(""));
+    for (place = 0; place < sizeof prefixes / sizeof *prefixes; place++) {
+        request.prefix = text_of(prefixes[place], strlen(prefixes[place]));
+        request.separator = T("x");
+        request.list = text_of_list(&empty);
+        refuses("a bad prefix", request, TODRENVAL_BAD_PREFIX, 0);
+        request.list = T("x");
+        refuses("a bad list before a bad prefix", request, TODRENVAL_BAD_LIST, 0);
+    }
+    request.prefix = T("#");
+    request.list = text_of_list(&empty);
+    for (place = 0; place < sizeof separators / sizeof *separators; place++) {
+        request.separator = text_of(separators[place], strlen(separators[place]));
+        refuses("a bad separator", request, TODRENVAL_BAD_SEPARATOR, 0);
+    }
+    request.list = T("x");
+    request.separator = T("\xff");
+    refuses("a separator that isn't UTF-8", request, TODRENVAL_NOT_UTF_8, 0);
+    request.separator = T("=");
+    request.prefix = T("#\xc3");
+    refuses("a prefix that isn't UTF-8", request, TODRENVAL_NOT_UTF_8, 0);
 }
 
 /* Converts to each target, with spellings kept and readable. In ASCII that is the same. */
@@ -474,17 +632,17 @@ static void converts(char const *name, struct text source, uint32_t encoding, st
                      struct text windows_1252_readable, struct text utf_8, struct text utf_8_readable,
                      struct text ascii) {
     struct request request = request_of(CONVERT, source, encoding);
-    check(name, request, PROPERTIES_OK, 0, ascii);
+    check(name, request, TODRENVAL_OK, 0, ascii);
     request.readable = true;
-    check(name, request, PROPERTIES_OK, 0, ascii);
-    request.target = PROPERTIES_TO_UTF_8;
-    check(name, request, PROPERTIES_OK, 0, utf_8_readable);
+    check(name, request, TODRENVAL_OK, 0, ascii);
+    request.target = TODRENVAL_TO_UTF_8;
+    check(name, request, TODRENVAL_OK, 0, utf_8_readable);
     request.readable = false;
-    check(name, request, PROPERTIES_OK, 0, utf_8);
-    request.target = PROPERTIES_TO_WINDOWS_1252;
-    check(name, request, PROPERTIES_OK, 0, windows_1252);
+    check(name, request, TODRENVAL_OK, 0, utf_8);
+    request.target = TODRENVAL_TO_WINDOWS_1252;
+    check(name, request, TODRENVAL_OK, 0, windows_1252);
     request.readable = true;
-    check(name, request, PROPERTIES_OK, 0, windows_1252_readable);
+    check(name, request, TODRENVAL_OK, 0, windows_1252_readable);
 }
 
 static void try_convert(void) {
@@ -494,69 +652,69 @@ static void try_convert(void) {
     struct text text;
     size_t place;
     text = T("");
-    converts("convert of nothing", text, PROPERTIES_UTF_8, text, text, text, text, text);
-    converts("convert of windows-1252", T("# caf\xe9\nk\xe9y : \\u20ac\n"), PROPERTIES_WINDOWS_1252,
+    converts("convert of nothing", text, TODRENVAL_UTF_8, text, text, text, text, text);
+    converts("convert of windows-1252", T("# caf\xe9\nk\xe9y : \\u20ac\n"), TODRENVAL_WINDOWS_1252,
              T("# caf\xe9\nk\xe9y : \\u20ac\n"), T("# caf\xe9\nk\xe9y : \x80\n"),
              T("# caf\xc3\xa9\nk\xc3\xa9y : \\u20ac\n"), T("# caf\xc3\xa9\nk\xc3\xa9y : \xe2\x82\xac\n"),
              T("# caf\\u00e9\nk\\u00e9y : \\u20ac\n"));
-    converts("convert of UTF-8", T("\xe3\x81\x82=\\u3042\\u00E9"), PROPERTIES_UTF_8, T("\\u3042=\\u3042\\u00E9"),
+    converts("convert of UTF-8", T("\xe3\x81\x82=\\u3042\\u00E9"), TODRENVAL_UTF_8, T("\\u3042=\\u3042\\u00E9"),
              T("\\u3042=\\u3042\xe9"), T("\xe3\x81\x82=\\u3042\\u00E9"), T("\xe3\x81\x82=\xe3\x81\x82\xc3\xa9"),
              T("\\u3042=\\u3042\\u00E9"));
     text = T("\\u3042=\xe9");
-    converts("convert of UTF-16LE", T("\x42\x30=\0\xe9\0"), PROPERTIES_UTF_16LE, text, text,
+    converts("convert of UTF-16LE", T("\x42\x30=\0\xe9\0"), TODRENVAL_UTF_16LE, text, text,
              T("\xe3\x81\x82=\xc3\xa9"), T("\xe3\x81\x82=\xc3\xa9"), T("\\u3042=\\u00e9"));
-    converts("convert of UTF-16BE", T("\x30\x42\0=\0\xe9"), PROPERTIES_UTF_16BE, text, text, T("\xe3\x81\x82=\xc3\xa9"),
+    converts("convert of UTF-16BE", T("\x30\x42\0=\0\xe9"), TODRENVAL_UTF_16BE, text, text, T("\xe3\x81\x82=\xc3\xa9"),
              T("\xe3\x81\x82=\xc3\xa9"), T("\\u3042=\\u00e9"));
     text = T("k=\\ud83d\\udc1e");
-    converts("convert of two escapes", text, PROPERTIES_UTF_8, text, text, text, T("k=\xf0\x9f\x90\x9e"), text);
-    converts("convert past U+FFFF", T("k=\xf0\x9f\x90\x9e"), PROPERTIES_UTF_8, text, text, T("k=\xf0\x9f\x90\x9e"),
+    converts("convert of two escapes", text, TODRENVAL_UTF_8, text, text, text, T("k=\xf0\x9f\x90\x9e"), text);
+    converts("convert past U+FFFF", T("k=\xf0\x9f\x90\x9e"), TODRENVAL_UTF_8, text, text, T("k=\xf0\x9f\x90\x9e"),
              T("k=\xf0\x9f\x90\x9e"), text);
 
     /* Layout stays, escapes of ASCII stay, and the backslash goes with its character. */
     text = T("\t! one \r\n\n  a\\\n  \t: \\t\\u003d\\\r\n");
-    converts("convert of ASCII", text, PROPERTIES_WINDOWS_1252, text, text, text, text, text);
-    converts("convert after a backslash", T("\\\xc3\xa9=1"), PROPERTIES_UTF_8, T("\\\xe9=1"), T("\xe9=1"),
+    converts("convert of ASCII", text, TODRENVAL_WINDOWS_1252, text, text, text, text, text);
+    converts("convert after a backslash", T("\\\xc3\xa9=1"), TODRENVAL_UTF_8, T("\\\xe9=1"), T("\xe9=1"),
              T("\\\xc3\xa9=1"), T("\xc3\xa9=1"), T("\\u00e9=1"));
     text = T("\\\\u00e9=\\u00\\\ne9");
-    converts("convert of no escapes", text, PROPERTIES_UTF_8, text, text, text, text, text);
+    converts("convert of no escapes", text, TODRENVAL_UTF_8, text, text, text, text, text);
 
     /* A mark is dropped, and nothing at the front is like one. */
     text = T("k=1");
-    converts("convert after a mark", T("\xef\xbb\xbfk=1"), PROPERTIES_UTF_16LE, text, text, text, text, text);
-    converts("convert after a mark", T("\xfe\xff\0k\0=\0001"), PROPERTIES_UTF_8, text, text, text, text, text);
+    converts("convert after a mark", T("\xef\xbb\xbfk=1"), TODRENVAL_UTF_16LE, text, text, text, text, text);
+    converts("convert after a mark", T("\xfe\xff\0k\0=\0001"), TODRENVAL_UTF_8, text, text, text, text, text);
     text = T("\\ufeffk=1");
-    converts("convert after two marks", T("\xef\xbb\xbf\xef\xbb\xbfk=1"), PROPERTIES_UTF_8, text, text, text, text,
+    converts("convert after two marks", T("\xef\xbb\xbf\xef\xbb\xbfk=1"), TODRENVAL_UTF_8, text, text, text, text,
              text);
     text = T("\\u00ef\xbb\xbfk=1");
-    converts("convert like a mark", T("\xc3\xaf\xc2\xbb\xc2\xbfk=1"), PROPERTIES_UTF_8, text, text,
+    converts("convert like a mark", T("\xc3\xaf\xc2\xbb\xc2\xbfk=1"), TODRENVAL_UTF_8, text, text,
              T("\xc3\xaf\xc2\xbb\xc2\xbfk=1"), T("\xc3\xaf\xc2\xbb\xc2\xbfk=1"), T("\\u00ef\\u00bb\\u00bfk=1"));
 
     /* Malformed escapes, and bytes that aren't text. */
-    converts("convert of a malformed escape", T("# C:\\users \xe9\nk=\\u12\n\\ud83d=\\uxxxx"), PROPERTIES_WINDOWS_1252,
+    converts("convert of a malformed escape", T("# C:\\users \xe9\nk=\\u12\n\\ud83d=\\uxxxx"), TODRENVAL_WINDOWS_1252,
              T("# C:\\users \xe9\nk=\\u12\n\\ud83d=\\uxxxx"), T("# C:\\users \xe9\nk=\\u12\n\\ud83d=\\uxxxx"),
              T("# C:\\users \xc3\xa9\nk=\\u12\n\\ud83d=\\uxxxx"), T("# C:\\users \xc3\xa9\nk=\\u12\n\\ud83d=\\uxxxx"),
              T("# C:\\users \\u00e9\nk=\\u12\n\\ud83d=\\uxxxx"));
     text = T("k=\\ufffd");
-    converts("convert of what isn't UTF-8", T("k=\xff"), PROPERTIES_UTF_8, text, text, T("k=\xef\xbf\xbd"),
+    converts("convert of what isn't UTF-8", T("k=\xff"), TODRENVAL_UTF_8, text, text, T("k=\xef\xbf\xbd"),
              T("k=\xef\xbf\xbd"), text);
 
     for (place = 0; place < sizeof targets / sizeof *targets; place++) {
-        struct request request = request_of(CONVERT, T("k=1"), PROPERTIES_UTF_8);
+        struct request request = request_of(CONVERT, T("k=1"), TODRENVAL_UTF_8);
         request.target = targets[place];
-        refuses("convert to none", request, PROPERTIES_UNKNOWN_ENCODING, 0);
+        refuses("convert to none", request, TODRENVAL_UNKNOWN_ENCODING, 0);
     }
 }
 
-/* What properties_items gives is what properties_write takes. */
+/* What todrenval_items gives is what todrenval_write takes. */
 static void try_round_trip(void) {
     static char const source[] = "# one\na=1\nb=\\u00e9\n";
     uint8_t list[200], out[200];
     size_t length, written, line;
-    count(properties_items((uint8_t const *)source, sizeof source - 1, PROPERTIES_UTF_8, list, sizeof list, &length,
-                           &line) == PROPERTIES_OK,
+    count(todrenval_items((uint8_t const *)source, sizeof source - 1, TODRENVAL_UTF_8, list, sizeof list, &length,
+                           &line) == TODRENVAL_OK,
           "read", "a round trip", 0);
-    count(properties_write(list, length, PROPERTIES_UTF_8, PROPERTIES_ASCII_ONLY, out, sizeof out, &written, &line) ==
-              PROPERTIES_OK,
+    count(todrenval_write(list, length, TODRENVAL_UTF_8, TODRENVAL_ASCII_ONLY, NULL, 0, NULL, 0, out, sizeof out,
+                          &written, &line) == TODRENVAL_OK,
           "written", "a round trip", 0);
     count(written == sizeof source - 1 && memcmp(out, source, written) == 0, "the same", "a round trip", 0);
 }
@@ -565,10 +723,10 @@ static void try_round_trip(void) {
 static void try_append(void) {
     struct packed wanted = {{0}, 0};
     uint8_t memory[200];
-    struct properties_list list;
+    struct todrenval_list list;
     size_t room;
-    put_item(&wanted, PROPERTIES_EDIT_SET_VALUE, 0, T("a"), T("3"));
-    put_item(&wanted, PROPERTIES_EDIT_REMOVE_KEY, 0, T("b"), T(""));
+    put_item(&wanted, TODRENVAL_EDIT_SET_VALUE, 0, T("a"), T("3"));
+    put_item(&wanted, TODRENVAL_EDIT_REMOVE_KEY, 0, T("b"), T(""));
     for (room = 0; room <= wanted.length; room++) {
         size_t before;
         bool fits;
@@ -576,10 +734,10 @@ static void try_append(void) {
         list.bytes = memory;
         list.room = room;
         list.length = 0;
-        fits = properties_append(&list, PROPERTIES_EDIT_SET_VALUE, T("a").bytes, 1, T("3").bytes, 1);
+        fits = todrenval_append(&list, TODRENVAL_EDIT_SET_VALUE, "a", 1, "3", 1);
         count(fits == (room >= 34) && list.length == (fits ? 34u : 0u), "appended", "append", (long)room);
         before = list.length;
-        fits = properties_append(&list, PROPERTIES_EDIT_REMOVE_KEY, T("b").bytes, 1, T("").bytes, 0);
+        fits = todrenval_append(&list, TODRENVAL_EDIT_REMOVE_KEY, "b", 1, "", 0);
         count(fits == (room - before >= 33), "appended", "append", (long)room);
         count(list.length == before + (fits ? 33 : 0), "the length", "append", (long)room);
         count(is_untouched(memory + list.length, sizeof memory - list.length), "as it was", "append", (long)room);
@@ -587,15 +745,31 @@ static void try_append(void) {
               (long)room);
     }
     list.room = sizeof memory;
-    count(!properties_append(&list, PROPERTIES_PAIR, memory, SIZE_MAX, memory, SIZE_MAX), "refused", "append", 0);
-    count(!properties_append(&list, PROPERTIES_PAIR, memory, 1, memory, SIZE_MAX), "refused", "append", 0);
+    count(!todrenval_append(&list, TODRENVAL_PAIR, memory, SIZE_MAX, memory, SIZE_MAX), "refused", "append", 0);
+    count(!todrenval_append(&list, TODRENVAL_PAIR, memory, 1, memory, SIZE_MAX), "refused", "append", 0);
 
     /* Null where there are no bytes. */
     list.length = 0;
-    count(properties_append(&list, PROPERTIES_PAIR, NULL, 0, NULL, 0) && list.length == 32, "appended", "append", 0);
+    count(todrenval_append(&list, TODRENVAL_PAIR, NULL, 0, NULL, 0) && list.length == 32, "appended", "append", 0);
     list.bytes = NULL;
     list.room = list.length = 0;
-    count(!properties_append(&list, PROPERTIES_PAIR, NULL, 0, NULL, 0) && list.length == 0, "refused", "append", 0);
+    count(!todrenval_append(&list, TODRENVAL_PAIR, NULL, 0, NULL, 0) && list.length == 0, "refused", "append", 0);
+
+    /* A list that grows, and one without memory. */
+    blocks = allocations = 0;
+    count(todrenval_push(&list, TODRENVAL_EDIT_SET_VALUE, "a", 1, "3", 1) && blocks == 1, "pushed", "push", 0);
+    count(todrenval_push(&list, TODRENVAL_EDIT_REMOVE_KEY, "b", 1, NULL, 0) && blocks == 1, "pushed", "push", 1);
+    count(list.length == wanted.length && memcmp(list.bytes, wanted.bytes, wanted.length) == 0, "the list", "push", 2);
+    while (list.room - list.length >= TODRENVAL_RECORD_SIZE + 1) {
+        count(todrenval_push(&list, TODRENVAL_PAIR, "k", 1, NULL, 0), "pushed", "push", 3);
+    }
+    refuse_at = allocations + 1;
+    room = list.length;
+    count(!todrenval_push(&list, TODRENVAL_PAIR, "k", 1, NULL, 0) && list.length == room, "refused", "push", 4);
+    refuse_at = 0;
+    count(memcmp(list.bytes, wanted.bytes, wanted.length) == 0, "the list", "push", 5);
+    free(list.bytes);
+    count(blocks == 0, "all memory freed", "push", 6);
 }
 
 /* Encodings that there are not, before all else that is wrong. */
@@ -608,7 +782,7 @@ static void try_encodings(void) {
             struct request request = request_of((enum call)call, T("k=\\u1\n"), encodings[place]);
             request.key = T("\xff");
             request.list = T("x");
-            refuses(names[call], request, PROPERTIES_UNKNOWN_ENCODING, 0);
+            refuses(names[call], request, TODRENVAL_UNKNOWN_ENCODING, 0);
         }
     }
 }
@@ -616,23 +790,34 @@ static void try_encodings(void) {
 /* Flags that there are not, and those that a call has no use for, before a key and a list that are no good. */
 static void try_flags(void) {
     static enum call const calls[] = {GET, SET_VALUE, SET_KEY, REMOVE_KEY, EDIT, WRITE};
-    static uint32_t const taken[] = {4, 5, 5, 4, 5, 3};
+    static uint32_t const taken[] = {4, 5, 5, 4, 5, 27};
     static uint32_t const flags[] = {
         0, 1, 2, 3, 4, 5, 6, 7, 8, 12, 16, 255, 256, 0x7fffffff, 0x80000000, 0x80000001, 0xffffffff,
     };
     size_t place, number;
     for (number = 0; number < sizeof calls / sizeof *calls; number++) {
         for (place = 0; place < sizeof flags / sizeof *flags; place++) {
-            struct request request = request_of(calls[number], T("k=1"), PROPERTIES_UTF_8);
+            struct request request = request_of(calls[number], T("k=1"), TODRENVAL_UTF_8);
             bool is_list = calls[number] == EDIT || calls[number] == WRITE;
-            int status = is_list ? PROPERTIES_BAD_LIST : PROPERTIES_NOT_UTF_8;
+            int status = is_list ? TODRENVAL_BAD_LIST : TODRENVAL_NOT_UTF_8;
             request.flags = flags[place];
             request.key = T("\xff");
             request.list = T("x");
+            request.prefix = T("\xff");
             refuses(names[calls[number]], request,
-                    (flags[place] & ~taken[number]) == 0 ? status : PROPERTIES_UNKNOWN_ENCODING, 0);
+                    (flags[place] & ~taken[number]) != 0 ? TODRENVAL_UNKNOWN_ENCODING
+                    : calls[number] == WRITE             ? TODRENVAL_NOT_UTF_8
+                                                         : status,
+                    0);
         }
     }
+}
+
+/* Whether the error of a call that takes memory is in a comment. */
+static void sees_comment(char const *name, struct request request, bool wanted) {
+    struct todrenval_result made = make_new(&request);
+    count(made.in_comment == wanted, "in a comment or not", name, -2);
+    free(made.bytes);
 }
 
 /* Malformed escapes in comments: passed over, and errors where comments are read. */
@@ -644,9 +829,9 @@ static void try_comments(void) {
     size_t number, place, line;
     uint32_t ascii;
     memset(lists, 0, sizeof lists);
-    put_item(&lists[4], PROPERTIES_EDIT_SET_VALUE, 0, T("k"), T("v"));
-    put_item(&lists[5], PROPERTIES_EDIT_SET_VALUE, 0, T("k"), T("w"));
-    put_item(&lists[5], PROPERTIES_EDIT_SET_VALUE, 0, T("k"), T("v"));
+    put_item(&lists[4], TODRENVAL_EDIT_SET_VALUE, 0, T("k"), T("v"));
+    put_item(&lists[5], TODRENVAL_EDIT_SET_VALUE, 0, T("k"), T("w"));
+    put_item(&lists[5], TODRENVAL_EDIT_SET_VALUE, 0, T("k"), T("v"));
     sources[0] = T("# C:\\users\nk : 1\n");
     sources[1] = T("k : 1\n!\\u12\nb=2\n");
     sources[2] = T("\nk : 1\n  #\\ud83d\\u0041");
@@ -669,29 +854,37 @@ static void try_comments(void) {
     for (number = 0; number < 7; number++) {
         for (place = 0; place < 3; place++) {
             static int const statuses[] = {
-                PROPERTIES_NOT_HEX, PROPERTIES_NOT_ENOUGH_DIGITS, PROPERTIES_INVALID_CHARACTER,
+                TODRENVAL_NOT_HEX, TODRENVAL_NOT_ENOUGH_DIGITS, TODRENVAL_INVALID_CHARACTER,
             };
-            struct request request = request_of(calls[number], sources[place], PROPERTIES_UTF_8);
+            struct request request = request_of(calls[number], sources[place], TODRENVAL_UTF_8);
             bool puts_text = calls[number] != GET && calls[number] != REMOVE_KEY;
             request.list = text_of_list(&lists[number]);
             for (ascii = 0; ascii <= (puts_text ? 1u : 0u); ascii++) {
                 request.flags = ascii;
-                check("comments passed over", request, PROPERTIES_OK, 0, results[number][place]);
-                request.flags |= PROPERTIES_READ_COMMENTS;
+                check("comments passed over", request, TODRENVAL_OK, 0, results[number][place]);
+                request.flags |= TODRENVAL_READ_COMMENTS;
                 refuses("comments read", request, statuses[place], lines[place]);
+                sees_comment("comments read", request, true);
             }
         }
         /* A malformed escape of another pair, behind one in a comment, and no pair with the key. */
         for (line = 0; line < 2; line++) {
-            struct request request = request_of(calls[number], T("# C:\\users\n\nb=\\u12"), PROPERTIES_UTF_8);
+            struct request request = request_of(calls[number], T("# C:\\users\n\nb=\\u12"), TODRENVAL_UTF_8);
             request.list = text_of_list(&lists[number]);
-            request.flags = line == 0 ? PROPERTIES_READ_COMMENTS : 0;
-            refuses("an escape of a pair", request, line == 0 ? PROPERTIES_NOT_HEX : PROPERTIES_NOT_ENOUGH_DIGITS,
+            request.flags = line == 0 ? TODRENVAL_READ_COMMENTS : 0;
+            refuses("an escape of a pair", request, line == 0 ? TODRENVAL_NOT_HEX : TODRENVAL_NOT_ENOUGH_DIGITS,
                     line == 0 ? 1 : 3);
+            sees_comment("an escape of a pair", request, line == 0);
+            request.flags = TODRENVAL_READ_COMMENTS;
+            request.source = T("b=\\u12\n# C:\\users\n");
+            sees_comment("an escape before a comment", request, false);
         }
     }
-    refuses("items of a comment", request_of(ITEMS, T("# C:\\users"), PROPERTIES_UTF_8), PROPERTIES_NOT_HEX, 1);
-    refuses("get of none", request_of(GET, T("# C:\\users"), PROPERTIES_UTF_8), PROPERTIES_NO_KEY, 0);
+    refuses("items of a comment", request_of(ITEMS, T("# C:\\users"), TODRENVAL_UTF_8), TODRENVAL_NOT_HEX, 1);
+    sees_comment("items of a comment", request_of(ITEMS, T("a\n# C:\\users"), TODRENVAL_UTF_8), true);
+    sees_comment("items of a pair", request_of(ITEMS, T("\\u1\n# C:\\users"), TODRENVAL_UTF_8), false);
+    sees_comment("no error", request_of(ITEMS, T("a\n# C"), TODRENVAL_UTF_8), false);
+    refuses("get of none", request_of(GET, T("# C:\\users"), TODRENVAL_UTF_8), TODRENVAL_NO_KEY, 0);
 }
 
 static void try_texts(void) {
@@ -709,31 +902,31 @@ static void try_texts(void) {
     texts[7] = T("\xe3\x81z");
     for (place = 0; place < 8; place++) {
         for (number = 0; number < 4; number++) {
-            struct request request = request_of(calls[number], T("k=\\u1\n"), PROPERTIES_UTF_16LE);
+            struct request request = request_of(calls[number], T("k=\\u1\n"), TODRENVAL_UTF_16LE);
             request.key = texts[place];
-            refuses(names[calls[number]], request, PROPERTIES_NOT_UTF_8, 0);
+            refuses(names[calls[number]], request, TODRENVAL_NOT_UTF_8, 0);
             if (number == 1 || number == 2) {
                 request.key = T("k");
                 request.value = texts[place];
-                refuses(names[calls[number]], request, PROPERTIES_NOT_UTF_8, 0);
+                refuses(names[calls[number]], request, TODRENVAL_NOT_UTF_8, 0);
             }
         }
         for (number = 0; number < 4; number++) {
             struct packed list = {{0}, 0};
-            struct request request = request_of(number < 2 ? EDIT : WRITE, T("k=\\u1\n"), PROPERTIES_UTF_16LE);
+            struct request request = request_of(number < 2 ? EDIT : WRITE, T("k=\\u1\n"), TODRENVAL_UTF_16LE);
             put_item(&list, number < 2 ? 3 : 1, 1, T("k"), number < 2 ? T("") : T("v"));
             put_item(&list, number < 2 ? 4 : 1, 1, number % 2 ? texts[place] : T("k"),
                      number % 2 ? T("v") : texts[place]);
             request.list = text_of_list(&list);
-            refuses(names[request.call], request, PROPERTIES_NOT_UTF_8, 0);
+            refuses(names[request.call], request, TODRENVAL_NOT_UTF_8, 0);
         }
     }
 }
 
 static void refuses_list(enum call call, struct packed const *list) {
-    struct request request = request_of(call, T("k=\\u1\n"), PROPERTIES_UTF_16LE);
+    struct request request = request_of(call, T("k=\\u1\n"), TODRENVAL_UTF_16LE);
     request.list = text_of_list(list);
-    refuses(names[call], request, PROPERTIES_BAD_LIST, 0);
+    refuses(names[call], request, TODRENVAL_BAD_LIST, 0);
 }
 
 static void try_lists(void) {
@@ -786,16 +979,16 @@ static void try_lists(void) {
     }
     {
         struct packed list = {{0}, 0};
-        put_item(&list, PROPERTIES_EDIT_REMOVE_KEY, 0, T("k"), T("v"));
+        put_item(&list, TODRENVAL_EDIT_REMOVE_KEY, 0, T("k"), T("v"));
         refuses_list(EDIT, &list);
         list.length = 0;
-        put_item(&list, PROPERTIES_COMMENT, 0, T("k"), T("v"));
+        put_item(&list, TODRENVAL_COMMENT, 0, T("k"), T("v"));
         refuses_list(WRITE, &list);
     }
 }
 
 static void try_escapes(void) {
-    static int const statuses[] = {PROPERTIES_NOT_ENOUGH_DIGITS, PROPERTIES_NOT_HEX, PROPERTIES_INVALID_CHARACTER};
+    static int const statuses[] = {TODRENVAL_NOT_ENOUGH_DIGITS, TODRENVAL_NOT_HEX, TODRENVAL_INVALID_CHARACTER};
     static enum call const calls[] = {GET, SET_VALUE, SET_KEY, REMOVE_KEY, EDIT};
     struct text sources[3];
     size_t number, place;
@@ -805,20 +998,20 @@ static void try_escapes(void) {
     for (number = 0; number < 3; number++) {
         struct packed list = {{0}, 0};
         struct packed edits = {{0}, 0};
-        put_item(&list, PROPERTIES_COMMENT, 1, T(""), T("c"));
-        put_item(&list, PROPERTIES_PAIR, 2, T("k"), T("1"));
-        put_item(&edits, PROPERTIES_EDIT_SET_KEY, 0, T("a"), T("1"));
-        check("items before an escape", request_of(ITEMS, sources[number], PROPERTIES_UTF_8), statuses[number], 4,
+        put_item(&list, TODRENVAL_COMMENT, 1, T(""), T("c"));
+        put_item(&list, TODRENVAL_PAIR, 2, T("k"), T("1"));
+        put_item(&edits, TODRENVAL_EDIT_SET_KEY, 0, T("a"), T("1"));
+        check("items before an escape", request_of(ITEMS, sources[number], TODRENVAL_UTF_8), statuses[number], 4,
               text_of_list(&list));
         for (place = 0; place < 5; place++) {
-            struct request request = request_of(calls[place], sources[number], PROPERTIES_WINDOWS_1252);
+            struct request request = request_of(calls[place], sources[number], TODRENVAL_WINDOWS_1252);
             request.list = text_of_list(&edits);
-            request.flags = PROPERTIES_READ_COMMENTS;
+            request.flags = TODRENVAL_READ_COMMENTS;
             refuses(names[calls[place]], request, statuses[number], 4);
         }
     }
-    refuses("items of an escape", request_of(ITEMS, T("\\u1"), PROPERTIES_UTF_8), PROPERTIES_NOT_ENOUGH_DIGITS, 1);
-    refuses("edit by no edits", request_of(EDIT, T("\n\\u1"), PROPERTIES_UTF_8), PROPERTIES_NOT_ENOUGH_DIGITS, 2);
+    refuses("items of an escape", request_of(ITEMS, T("\\u1"), TODRENVAL_UTF_8), TODRENVAL_NOT_ENOUGH_DIGITS, 1);
+    refuses("edit by no edits", request_of(EDIT, T("\n\\u1"), TODRENVAL_UTF_8), TODRENVAL_NOT_ENOUGH_DIGITS, 2);
 }
 
 static void try_unsupported(void) {
@@ -826,10 +1019,10 @@ static void try_unsupported(void) {
     int call;
     for (call = SET_VALUE; call <= EDIT; call++) {
         enum call edit = (enum call)call;
-        refuses(names[call], request_of(edit, T(""), PROPERTIES_UTF_16LE), PROPERTIES_UNSUPPORTED, 0);
-        refuses(names[call], request_of(edit, T("\0k"), PROPERTIES_UTF_16BE), PROPERTIES_UNSUPPORTED, 0);
-        refuses(names[call], request_of(edit, little, PROPERTIES_UTF_8), PROPERTIES_UNSUPPORTED, 0);
-        refuses(names[call], request_of(edit, big, PROPERTIES_WINDOWS_1252), PROPERTIES_UNSUPPORTED, 0);
+        refuses(names[call], request_of(edit, T(""), TODRENVAL_UTF_16LE), TODRENVAL_UNSUPPORTED, 0);
+        refuses(names[call], request_of(edit, T("\0k"), TODRENVAL_UTF_16BE), TODRENVAL_UNSUPPORTED, 0);
+        refuses(names[call], request_of(edit, little, TODRENVAL_UTF_8), TODRENVAL_UNSUPPORTED, 0);
+        refuses(names[call], request_of(edit, big, TODRENVAL_WINDOWS_1252), TODRENVAL_UNSUPPORTED, 0);
     }
 }
 
@@ -849,7 +1042,7 @@ static void refuse_each(char const *name, struct request request, int wanted, si
         refuse_at = 0;
         count(blocks == 0, "all memory freed", name, number);
         if (allocations >= number) {
-            count(status == PROPERTIES_NO_MEMORY, "refused", name, number);
+            count(status == TODRENVAL_NO_MEMORY, "refused", name, number);
             count(length == 0 && line == 0, "without length and line", name, number);
             count(is_untouched(out, sizeof out), "as it was", name, number);
         }
@@ -857,6 +1050,26 @@ static void refuse_each(char const *name, struct request request, int wanted, si
     count(status == wanted && line == wanted_line, "done in the end", name, number);
     count(length == result.length && memcmp(out, result.bytes, length) == 0, "the bytes", name, number);
     count(number > 1, "taking memory", name, number);
+
+    /* The same of the call that takes memory for its result, and perhaps looks for a comment. */
+    number = 0;
+    do {
+        struct todrenval_result made;
+        number++;
+        blocks = allocations = 0;
+        refuse_at = number;
+        made = make_new(&request);
+        refuse_at = 0;
+        if (allocations >= number) {
+            count(made.status == TODRENVAL_NO_MEMORY && made.length == 0 && made.line == 0, "refused", name, -number);
+        } else {
+            count(made.status == wanted && made.line == wanted_line, "done in the end", name, -number);
+            count(made.length == result.length && memcmp(made.bytes, result.bytes, made.length) == 0, "the bytes",
+                  name, -number);
+        }
+        free(made.bytes);
+        count(blocks == 0, "all memory freed", name, -number);
+    } while (allocations >= number && number < 1000);
 }
 
 static void try_memory(void) {
@@ -868,17 +1081,17 @@ static void try_memory(void) {
     struct text results[CALLS][2];
     static uint32_t const all_flags[] = {4, 0, 0, 5, 5, 4, 5, 3, 0};
     int call, flagged;
-    put_item(&edits, PROPERTIES_EDIT_SET_KEY, 0, T("a"), T("\xc3\xa9"));
-    put_item(&edits, PROPERTIES_EDIT_SET_VALUE, 0, T("k"), T("12"));
-    put_item(&edits, PROPERTIES_EDIT_REMOVE_KEY, 0, T("a"), T(""));
-    put_item(&edits, PROPERTIES_EDIT_SET_VALUE, 0, T("b"), T("\xc3\xa9"));
-    put_item(&lines, PROPERTIES_COMMENT, 0, T(""), T("c"));
-    put_item(&lines, PROPERTIES_PAIR, 0, T("k"), T("\xc3\xa9"));
-    put_item(&items, PROPERTIES_COMMENT, 1, T(""), T("c"));
-    put_item(&items, PROPERTIES_PAIR, 2, T("k"), T("1"));
+    put_item(&edits, TODRENVAL_EDIT_SET_KEY, 0, T("a"), T("\xc3\xa9"));
+    put_item(&edits, TODRENVAL_EDIT_SET_VALUE, 0, T("k"), T("12"));
+    put_item(&edits, TODRENVAL_EDIT_REMOVE_KEY, 0, T("a"), T(""));
+    put_item(&edits, TODRENVAL_EDIT_SET_VALUE, 0, T("b"), T("\xc3\xa9"));
+    put_item(&lines, TODRENVAL_COMMENT, 0, T(""), T("c"));
+    put_item(&lines, TODRENVAL_PAIR, 0, T("k"), T("\xc3\xa9"));
+    put_item(&items, TODRENVAL_COMMENT, 1, T(""), T("c"));
+    put_item(&items, TODRENVAL_PAIR, 2, T("k"), T("1"));
     before = items;
-    put_item(&items, PROPERTIES_PAIR, 3, T("k"), T("2"));
-    put_finding(&findings, PROPERTIES_FOUND_REPEATED_KEY, 3, 2, T("k"));
+    put_item(&items, TODRENVAL_PAIR, 3, T("k"), T("2"));
+    put_finding(&findings, TODRENVAL_FOUND_REPEATED_KEY, 3, 2, T("k"));
     results[GET][0] = results[GET][1] = T("2");
     results[ITEMS][0] = results[ITEMS][1] = text_of_list(&items);
     results[FINDINGS][0] = results[FINDINGS][1] = text_of_list(&findings);
@@ -893,16 +1106,16 @@ static void try_memory(void) {
     for (call = 0; call < CALLS; call++) {
         for (flagged = 0; flagged < 2; flagged++) {
             struct packed list = call == WRITE ? lines : edits;
-            struct request request = request_of((enum call)call, T("# c\nk : \\u0031\nk=2\n"), PROPERTIES_UTF_8);
+            struct request request = request_of((enum call)call, T("# c\nk : \\u0031\nk=2\n"), TODRENVAL_UTF_8);
             request.flags = flagged == 1 ? all_flags[call] : 0;
             request.value = T("\xc3\xa9");
             request.list = text_of_list(&list);
-            refuse_each(names[call], request, PROPERTIES_OK, 0, results[call][flagged]);
+            refuse_each(names[call], request, TODRENVAL_OK, 0, results[call][flagged]);
 
             /* A malformed escape, before which there are items. */
             if (call != FINDINGS && call != WRITE && call != CONVERT) {
                 request.source = T("# c\nk = 1\nb=\\u12\n");
-                refuse_each(names[call], request, PROPERTIES_NOT_ENOUGH_DIGITS, 3,
+                refuse_each(names[call], request, TODRENVAL_NOT_ENOUGH_DIGITS, 3,
                             call == ITEMS ? text_of_list(&before) : T(""));
             }
 
@@ -910,11 +1123,11 @@ static void try_memory(void) {
             if (call == EDIT || call == WRITE) {
                 put_item(&list, 9, 0, T(""), T(""));
                 request.list = text_of_list(&list);
-                refuse_each(names[call], request, PROPERTIES_BAD_LIST, 0, T(""));
+                refuse_each(names[call], request, TODRENVAL_BAD_LIST, 0, T(""));
                 list.length -= 32;
                 put_item(&list, call == EDIT ? 4 : 1, 0, T("k"), T("\xff"));
                 request.list = text_of_list(&list);
-                refuse_each(names[call], request, PROPERTIES_NOT_UTF_8, 0, T(""));
+                refuse_each(names[call], request, TODRENVAL_NOT_UTF_8, 0, T(""));
             }
         }
     }
@@ -922,22 +1135,63 @@ static void try_memory(void) {
 
 /* The same of a source that is decoded first, and of which the first character becomes an escape. */
 static void try_memory_converting(void) {
-    struct request request = request_of(CONVERT, T("\xff\xfe\xff\xfek\0=\0\xe9\0"), PROPERTIES_UTF_8);
-    request.target = PROPERTIES_TO_UTF_8;
-    refuse_each("convert of UTF-16", request, PROPERTIES_OK, 0, T("\\ufeffk=\xc3\xa9"));
+    struct request request = request_of(CONVERT, T("\xff\xfe\xff\xfek\0=\0\xe9\0"), TODRENVAL_UTF_8);
+    request.target = TODRENVAL_TO_UTF_8;
+    refuse_each("convert of UTF-16", request, TODRENVAL_OK, 0, T("\\ufeffk=\xc3\xa9"));
     request.source = T("\xef\xbb\xbf\xef\xbb\xbfk=\xff");
-    refuse_each("convert of what isn't UTF-8", request, PROPERTIES_OK, 0, T("\\ufeffk=\xef\xbf\xbd"));
+    refuse_each("convert of what isn't UTF-8", request, TODRENVAL_OK, 0, T("\\ufeffk=\xef\xbf\xbd"));
+}
+
+/* The text of a status comes with this room, whole or not at all. */
+static void check_text(int status, char const *text, size_t room) {
+    uint8_t memory[GUARD + TODRENVAL_REASON_ROOM + GUARD];
+    uint8_t *out = memory + GUARD;
+    size_t length = UNSET, line = UNSET, fits = strlen(text) <= room ? strlen(text) : 0;
+    int came;
+    memset(memory, PATTERN, sizeof memory);
+    blocks = 0;
+    came = todrenval_status_text(status, room == 0 ? NULL : out, room, &length, &line);
+    count(came == (fits > 0 ? TODRENVAL_OK : TODRENVAL_NO_ROOM), "the status", text, (long)room);
+    count(length == strlen(text) && line == 0, "the length and no line", text, (long)room);
+    count(memcmp(out, text, fits) == 0, "the bytes", text, (long)room);
+    count(is_untouched(memory, GUARD), "as it was before", text, (long)room);
+    count(is_untouched(out + fits, TODRENVAL_REASON_ROOM - fits + GUARD), "as it was behind", text, (long)room);
+    count(blocks == 0, "all memory freed", text, (long)room);
 }
 
 static void try_words(void) {
-    int status, other;
-    for (status = PROPERTIES_OK; status <= PROPERTIES_UNSUPPORTED; status++) {
-        for (other = -1; other < status; other++) {
-            count(strcmp(properties_status_text(status), properties_status_text(other)) != 0, "words of its own",
-                  "a status", status);
+    static char const *const texts[] = {
+        "No error.",
+        "The room is too small.",
+        "No pair has the key.",
+        "Out of memory.",
+        "Unknown encoding or flags.",
+        "A text isn't UTF-8.",
+        "A packed list isn't well formed.",
+        "Malformed \\uxxxx encoding: not enough digits.",
+        "Malformed \\uxxxx encoding: not hex.",
+        "Malformed \\uxxxx encoding: invalid character.",
+        "Too many lines.",
+        "Encoding can't be edited.",
+        "Bad comment prefix.",
+        "Bad key/value separator.",
+        "Empty key with a blank key/value separator.",
+    };
+    static int const unknown[] = {-2147483647 - 1, -1, TODRENVAL_EMPTY_KEY + 1, 2147483647};
+    int const known = (int)(sizeof texts / sizeof *texts);
+    char reason[TODRENVAL_REASON_ROOM];
+    int each;
+    count(known == TODRENVAL_EMPTY_KEY + 1, "each status", "status_text", known);
+    for (each = 0; each < known + 4; each++) {
+        int status = each < known ? each : unknown[each - known];
+        char const *text = each < known ? texts[each] : "Unknown status.";
+        size_t room;
+        for (room = 0; room <= TODRENVAL_REASON_ROOM; room++) {
+            check_text(status, text, room);
         }
+        count(strcmp(todrenval_reason(status, reason), text) == 0, "a C string", text, status);
     }
-    count(properties_version() == PROPERTIES_VERSION, "the version", "version", 0);
+    count(todrenval_version() == TODRENVAL_VERSION, "the version", "version", 0);
 }
 
 int main(void) {
@@ -946,6 +1200,7 @@ int main(void) {
     try_findings();
     try_edits();
     try_write();
+    try_settings();
     try_convert();
     try_round_trip();
     try_append();

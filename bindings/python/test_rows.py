@@ -1,27 +1,35 @@
 #!/usr/bin/env python3
-"""Runs the rows of the tables of crates/properties_vectors through properties.py, and tries what no row says.
+"""Runs the rows of the tables of crates/properties_vectors through the module todrenval, and tries what no row says.
 
-    PROPERTIES_LIBRARY=FOLDER/libproperties.so bindings/python/test_rows.py
+    TODRENVAL_LIBRARY=FOLDER/libtodrenval.so.1 bindings/python/test_rows.py
 
 It prints what doesn't hold, how many rows are left out and why, and last how many checks passed and failed. CONTRIBUTING,
 "Rows of tables", has the notation.
 """
+import array
 import contextlib
 import ctypes
 import doctest
+import inspect
 import io
 import itertools
+import mmap
+import os
 import pathlib
 import pickle
 import random
 import re
+import stat
 import struct
 import sys
+import tempfile
 import threading
+import typing
+from copy import copy as copy_of
 
 sys.path.insert(0, str(pathlib.Path(__file__).resolve().parent))
-import properties  # noqa: E402
-from properties import Comment, Pair, PropertiesError, RemoveKey, SetKey, SetValue, Status  # noqa: E402
+import todrenval  # noqa: E402
+from todrenval import Comment, Pair, PropertiesError, RemoveKey, SetKey, SetValue, Status  # noqa: E402
 
 TOP = pathlib.Path(__file__).resolve().parent.parent.parent
 TABLES = TOP / "crates/properties_vectors/data"
@@ -107,7 +115,7 @@ def wanted_items(parts):
 
 def came_items(data, encoding):
     try:
-        return list(properties.items(data, encoding))
+        return list(todrenval.items(data, encoding=encoding, errors="replace"))
     except PropertiesError as error:
         return [*error.items, came_error(error)]
 
@@ -140,21 +148,24 @@ def read_pairs(encoding, left, right):
 def read_map(encoding, left, right):
     data = input_of(left)
     try:
-        came = sorted(properties.load(data, encoding).items())
+        came = sorted(todrenval.loads(data, encoding=encoding, errors="replace", comments="read").items())
     except PropertiesError as error:
         came = [came_error(error)]
     wanted = [error_of(part) or tuple(texts_of(part)) for part in split(right) if part != "nothing"]
     yield came, wanted
     if came == wanted and not any(pair[0] == "error" for pair in wanted):
         for comments in ("skip", "read"):
-            yield [(key, properties.get(data, key, encoding=encoding, comments=comments)) for key, _ in wanted], wanted
+            named = {"encoding": encoding, "errors": "replace", "comments": comments}
+            yield [(key, todrenval.get(data, key, **named)) for key, _ in wanted], wanted
+            yield sorted(todrenval.loads(data, **named).items()), wanted
+            yield dict(todrenval.Document(data, **named)), dict(wanted)
 
 
 def read_print(encoding, left, right):
     data = input_of(left)
     came = []
     try:
-        came = properties.items(data, encoding)
+        came = todrenval.items(data, encoding=encoding, errors="replace")
     except PropertiesError as error:
         came = [*error.items, f"{error.reason} (line_number = {error.line})"]
     wanted = []
@@ -171,38 +182,56 @@ SETTINGS = {
     "readable": ("readable", True),
     "escaped": ("readable", False),
 }
+TEXTS = ("prefix", "separator", "ending")
 
 
 def lines_of(calls):
     """The lines that calls of a writer write, and with which settings."""
     lines, settings = [], {"ascii_only": False, "readable": False}
     for word, texts in calls:
-        if word in SETTINGS:
+        if word in SETTINGS or word in TEXTS:
             if lines:
                 raise LeftOut("settings that change between lines")
-            settings.update([SETTINGS[word]])
+            settings.update([SETTINGS[word] if word in SETTINGS else (word, texts[0].decode())])
         elif word == "comment":
             lines.append(Comment(texts[0].decode()))
         elif word == "pair":
             lines.append((texts[0].decode(), texts[1].decode()))
         elif word.startswith("sink"):
             raise LeftOut("sinks that fail or take little")
-        elif word in ("prefix", "separator", "ending"):
-            raise LeftOut("prefixes, separators and line endings of a writer")
         elif word not in ("flush", "finish", "nothing"):
             raise ValueError(word)
     return lines, settings
+
+
+def written_in(encoding):
+    return "utf-8" if encoding.startswith("utf-16") else encoding
 
 
 def is_reading(word):
     return word.startswith("read ")
 
 
+def written(lines, encoding, settings):
+    """The bytes, or the kind of a call that was refused. In the tables such a call is passed over."""
+    try:
+        return todrenval.dumps(lines, encoding=encoding, **settings)
+    except PropertiesError as error:
+        return REFUSED[error.status]
+
+
+REFUSED = {Status.BAD_PREFIX: "BadCommentPrefix", Status.BAD_SEPARATOR: "BadKvSeparator", Status.EMPTY_KEY: "EmptyKey"}
+
+
 def write(encoding, left, right):
     calls = clauses(left)
     lines, settings = lines_of([call for call in calls if not is_reading(call[0])])
-    came = properties.dumps(lines, encoding=encoding, **settings)
+    came = written(lines, encoding, settings)
     parts = split(right)
+    refused = [part for part in parts if re.match(r"\d+: ", part)]
+    if refused:
+        yield came, refused[0].partition(": ")[2]
+        return
     yield came, as_bytes(QUOTED.fullmatch(parts[0])[1])
     readings = [word.split()[1] for word, _ in calls if is_reading(word)]
     yield [item for name in readings for item in came_items(came, name)], wanted_items(parts[1:])
@@ -210,10 +239,13 @@ def write(encoding, left, right):
 
 def write_map(encoding, left, right):
     lines, settings = lines_of(clauses(left))
-    came = properties.dumps(dict(sorted(lines)), encoding=encoding, **settings)
-    yield came, as_bytes(QUOTED.fullmatch(right)[1])
-    written = "utf-8" if encoding.startswith("utf-16") else encoding
-    yield properties.load(came, written), dict(lines)
+    came = written(dict(sorted(lines)), encoding, settings)
+    parts = split(right)
+    if len(parts) > 1:
+        yield came, parts[0].partition(": ")[2] or parts[0]
+        return
+    yield came, as_bytes(QUOTED.fullmatch(parts[0])[1])
+    yield todrenval.loads(came, encoding=written_in(encoding)), dict(lines)
 
 
 def copy(encoding, left, right):
@@ -225,16 +257,17 @@ def copy(encoding, left, right):
     lines, settings = lines_of(calls)
     items = came_items(data, encoding)
     lines += [item for item in items if isinstance(item, Pair)]
-    came = [properties.dumps(lines, encoding=into.split()[1], **settings)]
+    came = [written(lines, into.split()[1], settings)]
     came += [item for item in items if not isinstance(item, (Comment, Pair))]
     bytes_part, *errors = split(right)
-    wanted = [as_bytes(QUOTED.fullmatch(bytes_part)[1])]
-    wanted += [error_of(part.removeprefix("read ")) or part for part in errors]
+    refused = [part[6:] for part in errors if part.startswith("write ")]
+    wanted = [refused[0] if refused else as_bytes(QUOTED.fullmatch(bytes_part)[1])]
+    wanted += [error_of(part[5:]) or part for part in errors if part.startswith("read ")]
     yield came, wanted
 
 
-def edit(encoding, left, right):
-    (_, (source,)), *steps = clauses(left)
+def steps_of(steps):
+    """The edits of a row, each with its setting, the keys that are got after so many of them, and the readings."""
     edits, asked, readings, ascii_only = [], [], [], False
     for word, texts in steps:
         words = [text.decode() for text in texts]
@@ -248,6 +281,16 @@ def edit(encoding, left, right):
             ascii_only = word == "ascii-only"
         else:
             raise ValueError(word)
+    return edits, asked, readings
+
+
+def values_of(parts):
+    return [None if part == "none" else texts_of(part)[0] for part in parts]
+
+
+def edit(encoding, left, right):
+    (_, (source,)), *steps = clauses(left)
+    edits, asked, readings = steps_of(steps)
     parts = split(right)
     wanted = error_of(parts[0]) or as_bytes(QUOTED.fullmatch(parts[0])[1])
     came = changed(source, encoding, edits)
@@ -261,9 +304,32 @@ def edit(encoding, left, right):
                 yield by_single_call(source, encoding, ascii_only, single), wanted
         return
     yield changed(source, encoding, edits, "skip"), wanted
-    seen = [properties.get(changed(source, encoding, edits[:count]), key, encoding=encoding) for count, key in asked]
-    yield seen, [None if part == "none" else texts_of(part)[0] for part in parts[1 : 1 + len(asked)]]
+    yield by_document(source, encoding, edits), wanted
+    named = {"encoding": encoding, "errors": "replace"}
+    seen = [todrenval.get(changed(source, encoding, edits[:count]), key, **named) for count, key in asked]
+    yield seen, values_of(parts[1 : 1 + len(asked)])
     yield [item for name in readings for item in came_items(came, name)], wanted_items(parts[1 + len(asked) :])
+
+
+def edit_pairs(encoding, left, right):
+    (_, (source,)), *steps = clauses(left)
+    edits, asked, _ = steps_of(steps)
+    parts = split(right)
+    wanted = error_of(parts[0]) or as_bytes(QUOTED.fullmatch(parts[0])[1])
+    came = changed(source, encoding, edits, "skip")
+    yield came, wanted
+    if len(edits) == 1:
+        yield by_single_call(source, encoding, *edits[0], comments="skip"), wanted
+    if not isinstance(wanted, tuple):
+        yield [todrenval.get(came, key, encoding=encoding, errors="replace", comments="skip") for _, key in asked], values_of(parts[1:])
+
+
+def get_pairs(encoding, left, right):
+    (_, (source,)), *steps = clauses(left)
+    parts = split(right)
+    error = error_of(parts[0])
+    wanted = [error] * len(steps) if error else values_of(parts)
+    yield [got(source, key.decode(), encoding) for _, (key,) in steps], wanted
 
 
 def convert(encoding, left, right):
@@ -271,7 +337,7 @@ def convert(encoding, left, right):
     *words, to = word.split()
     if words not in (["to"], ["readable", "to"]):
         raise ValueError(word)
-    came = properties.convert(source, to, encoding=encoding, readable="readable" in words)
+    came = todrenval.convert(source, to, encoding=encoding, errors="replace", readable="readable" in words)
     yield came, as_bytes(QUOTED.fullmatch(right)[1])
 
 
@@ -279,23 +345,47 @@ EDITS = {"put": SetKey, "value": SetValue, "remove": RemoveKey}
 
 
 def changed(source, encoding, edits, comments="read"):
-    """The source after the edits, of which those that follow one another with the same setting are a list. In the tables
-    comments are read."""
+    """The source after the edits, of which those that follow one another with the same setting are a list. In rows of
+    `edit` comments are read."""
     try:
         for ascii_only, run in itertools.groupby(edits or [(False, None)], lambda edit: edit[0]):
             run = [edit for _, edit in run if edit is not None]
-            source = properties.edit(source, run, encoding=encoding, ascii_only=ascii_only, comments=comments)
+            named = {"encoding": encoding, "errors": "replace", "ascii_only": ascii_only, "comments": comments}
+            source = todrenval.edit(source, run, **named)
         return source
     except PropertiesError as error:
         return came_error(error)
 
 
-def by_single_call(source, encoding, ascii_only, single):
+def by_document(source, encoding, edits):
+    """The same by a document, which has no edit that prints a pair anew: that one is made to its bytes."""
+    for ascii_only, single in edits:
+        document = todrenval.Document(source, encoding=encoding, errors="replace", ascii_only=ascii_only)
+        if isinstance(single, SetKey):
+            document = changed(source, encoding, [(ascii_only, single)], "skip")
+        elif isinstance(single, SetValue):
+            document[single.key] = single.value
+        else:
+            document.pop(single.key, None)
+        source = bytes(document)
+    return source
+
+
+def by_single_call(source, encoding, ascii_only, single, comments="read"):
+    named = {"encoding": encoding, "errors": "replace", "comments": comments}
     try:
         if isinstance(single, RemoveKey):
-            return properties.remove_key(source, single.key, encoding=encoding, comments="read")
-        call = properties.set_key if isinstance(single, SetKey) else properties.set_value
-        return call(source, single.key, single.value, encoding=encoding, ascii_only=ascii_only, comments="read")
+            return todrenval.remove_key(source, single.key, **named)
+        call = todrenval.set_key if isinstance(single, SetKey) else todrenval.set_value
+        return call(source, single.key, single.value, ascii_only=ascii_only, **named)
+    except PropertiesError as error:
+        return came_error(error)
+
+
+def got(source, key, encoding):
+    """The value of a key, past comments, or the error."""
+    try:
+        return todrenval.get(source, key, encoding=encoding, errors="replace", comments="skip")
     except PropertiesError as error:
         return came_error(error)
 
@@ -317,6 +407,8 @@ ROWS = {
     "write-map": write_map,
     "copy": copy,
     "edit": edit,
+    "edit-pairs": edit_pairs,
+    "get-pairs": get_pairs,
     "convert": convert,
     "write-print": left_out("how errors of a writer print"),
     "compare": left_out("the order of lines"),
@@ -380,83 +472,304 @@ def raised(call, *arguments, **named):
 
 
 def try_arguments(count):
-    for data in (b"a=1", bytearray(b"a=1"), memoryview(b"a=1")):
-        count.check(properties.load(data) == {"a": "1"}, f"load of {type(data)}")
+    with tempfile.TemporaryFile() as file:
+        file.write(b"a=1")
+        file.flush()
+        for data in (b"a=1", bytearray(b"a=1"), memoryview(b"a=1"), mmap.mmap(file.fileno(), 0), array.array("B", b"a=1")):
+            count.check(todrenval.loads(data) == {"a": "1"}, f"loads of {type(data)}")
+            count.check(todrenval.set_value(data, "a", "2") == b"a=2", f"set_value of {type(data)}")
     for label in "latin-1 latin1 iso-8859-1 ISO_8859-1 cp1252 windows-1252 utf-8 UTF8 utf-8-sig".split():
-        count.check(properties.load(b"a=1", label) == {"a": "1"}, label)
+        count.check(todrenval.loads(b"a=1", encoding=label) == {"a": "1"}, label)
     for label, name in (("utf-16-le", "utf-16-le"), ("utf-16-be", "utf-16-be"), ("utf-16", "utf-16-le"), ("UTF-16LE", "utf-16-le")):
-        count.check(properties.load("a=\u20ac".encode(name), label) == {"a": "\u20ac"}, label)
-    count.check(properties.load(b"a=\x80") == {"a": "\u20ac"}, "the default encoding")
-    count.check(properties.set_key(b"", "a", "\u20ac") == b"a=\\u20ac\n", "ASCII alone")
+        count.check(todrenval.loads("a=\u20ac".encode(name), encoding=label) == {"a": "\u20ac"}, label)
+    count.check(todrenval.loads("a=\u20ac".encode()) == {"a": "\u20ac"}, "the default encoding")
+    count.check(todrenval.loads(b"a=\x80", encoding="iso-8859-1") == {"a": "\u20ac"}, "iso-8859-1")
+    count.check(todrenval.set_key(b"", "a", "\u20ac") == b"a=\\u20ac\n", "ASCII alone")
     calls = [
-        (properties.load, []),
-        (properties.items, []),
-        (properties.findings, []),
-        (properties.get, ["a"]),
-        (properties.set_value, ["a", "b"]),
-        (properties.set_key, ["a", "b"]),
-        (properties.remove_key, ["a"]),
-        (properties.edit, [[]]),
-        (properties.convert, ["ascii"]),
+        (todrenval.loads, []),
+        (todrenval.items, []),
+        (todrenval.findings, []),
+        (todrenval.get, ["a"]),
+        (todrenval.set_value, ["a", "b"]),
+        (todrenval.set_key, ["a", "b"]),
+        (todrenval.remove_key, ["a"]),
+        (todrenval.edit, [[]]),
+        (todrenval.convert, ["ascii"]),
+        (todrenval.Document, []),
     ]
     for call, more in calls:
         for wrong in ("a=1", 3, None, ["a"]):
             count.check(isinstance(raised(call, wrong, *more), TypeError), f"{call.__name__} of {wrong!r}")
+        count.check(isinstance(raised(call, b"", *more, "utf-8"), TypeError), f"{call.__name__}, an encoding by its place")
         for label in ("koi8-r", "ascii", "none such"):
             count.check(isinstance(raised(call, b"", *more, encoding=label), LookupError), f"{call.__name__} in {label}")
+        for wrong in ("ignore", "", None, 3):
+            count.check(type(raised(call, b"", *more, errors=wrong)) is ValueError, f"{call.__name__}, errors {wrong!r}")
+        for data, encoding, line, decoded in NOT_TEXT:
+            error = raised(call, data, *more, encoding=encoding)
+            place = f"{call.__name__} of {data!r}: {error!r}"
+            count.check(type(error) is PropertiesError and (error.status, error.line) == (Status.NOT_UTF_8, line), place)
+            count.check(error.reason == f"Not text of {decoded}.", place)
+            unsupported = decoded != "utf-8" and call.__name__ in ("set_value", "set_key", "remove_key", "edit")
+            error = raised(call, data, *more, encoding=encoding, errors="replace")
+            count.check(error is None or unsupported and error.status == Status.UNSUPPORTED, f"{place}, replaced")
     for label, name in (("US-ASCII", "ascii"), ("windows-1252", "cp1252"), ("UTF8", "utf-8")):
-        came = properties.convert(b"\xe9=\xe9", label)
-        count.check(came == properties.convert(b"\xe9=\xe9", name), f"convert to {label}")
+        came = todrenval.convert(b"\xe9=\xe9", label, encoding="cp1252")
+        count.check(came == todrenval.convert(b"\xe9=\xe9", name, encoding="cp1252"), f"convert to {label}")
     for label in ("iso-8859-1", "latin-1", "utf-8-sig", "utf-16", "utf-16-le", "koi8-r", "none such"):
-        count.check(isinstance(raised(properties.convert, b"", label), LookupError), f"convert to {label}")
+        count.check(isinstance(raised(todrenval.convert, b"", label), LookupError), f"convert to {label}")
     for wrong in (3, b"a", None):
-        count.check(isinstance(raised(properties.convert, b"", wrong), TypeError), f"convert to {wrong!r}")
-        count.check(isinstance(raised(properties.get, b"", wrong), TypeError), f"get of {wrong!r}")
-        count.check(isinstance(raised(properties.set_value, b"", "a", wrong), TypeError), f"set_value of {wrong!r}")
-        count.check(isinstance(raised(properties.dumps, {"a": wrong}), TypeError), f"dumps of {wrong!r}")
-        count.check(isinstance(raised(properties.dumps, [wrong]), TypeError), f"dumps of {wrong!r}")
-        count.check(isinstance(raised(properties.edit, b"", [wrong]), TypeError), f"edit of {wrong!r}")
+        count.check(isinstance(raised(todrenval.convert, b"", wrong), TypeError), f"convert to {wrong!r}")
+        count.check(isinstance(raised(todrenval.get, b"", wrong), TypeError), f"get of {wrong!r}")
+        count.check(isinstance(raised(todrenval.set_value, b"", "a", wrong), TypeError), f"set_value of {wrong!r}")
+        count.check(isinstance(raised(todrenval.dumps, {"a": wrong}), TypeError), f"dumps of {wrong!r}")
+        count.check(isinstance(raised(todrenval.dumps, [wrong]), TypeError), f"dumps of {wrong!r}")
+        count.check(isinstance(raised(todrenval.dumps, [], prefix=wrong), TypeError), f"a prefix {wrong!r}")
+        count.check(isinstance(raised(todrenval.dumps, [], ending=wrong), ValueError), f"an ending {wrong!r}")
+        count.check(isinstance(raised(todrenval.edit, b"", [wrong]), TypeError), f"edit of {wrong!r}")
+        count.check(isinstance(raised(todrenval.edit, b"", [(wrong, "a")]), TypeError), f"edit of a key {wrong!r}")
+        count.check(isinstance(raised(todrenval.edit, b"", [SetValue("a", wrong)]), TypeError), f"edit to {wrong!r}")
     for wrong in (("a",), ("a", "b", "c"), ["a", "b"], "ab", SetKey("a", "b"), SetValue("a", "b"), RemoveKey("a")):
-        count.check(isinstance(raised(properties.dumps, [wrong]), TypeError), f"dumps of {wrong!r}")
-    for wrong in (("a", "b"), Pair("a", "b"), Comment("a")):
-        count.check(isinstance(raised(properties.edit, b"", [wrong]), TypeError), f"edit of {wrong!r}")
-    count.check(properties.dumps([("a", "b"), Pair("c", "d", 7), Comment("e")]) == b"a=b\nc=d\n# e\n", "dumps of lines")
-    count.check(isinstance(raised(properties.set_value, b"", "a", "\ud83d"), UnicodeEncodeError), "a surrogate alone")
-    count.check(isinstance(raised(properties.dumps, {}, encoding="koi8-r"), LookupError), "dumps in koi8-r")
+        count.check(isinstance(raised(todrenval.dumps, [wrong]), TypeError), f"dumps of {wrong!r}")
+    for wrong in (("a",), ("a", "b", "c"), ["a", "b"], Pair("a", "b"), Comment("a"), ("a", 3)):
+        count.check(isinstance(raised(todrenval.edit, b"", [wrong]), TypeError), f"edit of {wrong!r}")
+    source = b"a : 1\nb = 2\nc 3\n"
+    for edits in ({"a": "4", "b": None, "d": ""}, [("a", "4"), ("b", None), ("d", "")], [SetValue("a", "4"), RemoveKey("b"), ("d", "")]):
+        count.check(todrenval.edit(source, edits) == b"a : 4\nc 3\nd \n", f"edit by {edits!r}")
+    count.check(todrenval.dumps([("a", "b"), Pair("c", "d", 7), Comment("e")]) == b"a=b\nc=d\n# e\n", "dumps of lines")
+    count.check(isinstance(raised(todrenval.dumps, {}, encoding="koi8-r"), LookupError), "dumps in koi8-r")
+    document = todrenval.Document(b"a=1")
+    for call, more in (
+        (todrenval.get, [b"", "\ud83d"]), (todrenval.set_value, [b"", "a", "\ud83d"]), (todrenval.set_key, [b"", "\udc1e", "a"]),
+        (todrenval.remove_key, [b"", "\ud83d"]), (todrenval.edit, [b"", {"a": "\ud83d"}]), (todrenval.dumps, [{"a": "\ud83d"}]),
+        (todrenval.dumps, [[Comment("\ud83d")]]), (document.__setitem__, ["a", "\ud83d"]),
+    ):
+        error = raised(call, *more)
+        count.check(type(error) is PropertiesError and (error.status, error.line) == (Status.NOT_UTF_8, None), f"a surrogate: {error!r}")
+    count.check(bytes(document) == b"a=1" and dict(document) == {"a": "1"}, "a document after an error")
+
+
+NOT_TEXT = [
+    (b"a=1\r\n\rb=\xff\n", "utf-8", 3, "utf-8"),
+    (b"# \xe9", "utf-8", 1, "utf-8"),
+    (b"\xef\xbb\xbfa\n\xc3", "cp1252", 2, "utf-8"),
+    ("a\n".encode("utf-16-le") + b"\x3d\xd8", "utf-16-le", 2, "utf-16-le"),
+    (b"\xfe\xff\0a\0\n\0", "utf-8", 2, "utf-16-be"),
+]
+
+
+def try_files(count):
+    """Files, paths, and documents that are written whole or not at all."""
+    with tempfile.TemporaryDirectory() as folder:
+        path = pathlib.Path(folder) / "app.properties"
+        todrenval.dump({"port": "80", "host": "a"}, path, separator=" = ", ending="\r\n")
+        count.check(path.read_bytes() == b"port = 80\r\nhost = a\r\n", "dump to a path")
+        mask = os.umask(0)
+        os.umask(mask)
+        count.check(path.stat().st_mode & 0o777 == 0o666 & ~mask, "the mode of a new file")
+        with open(path, "rb") as file:
+            count.check(todrenval.load(file) == {"port": "80", "host": "a"}, "load of a file")
+        for each in (path, str(path)):
+            count.check(todrenval.load(each) == {"port": "80", "host": "a"}, "load of a path")
+        with open(path) as file:
+            count.check(isinstance(raised(todrenval.load, file), TypeError), "load of a file of text")
+        for wrong in (b"a=1", b"/a", 3, None):
+            count.check(isinstance(raised(todrenval.load, wrong), TypeError), f"load of {wrong!r}")
+            count.check(isinstance(raised(todrenval.open, wrong), TypeError), f"open of {wrong!r}")
+        count.check(isinstance(raised(todrenval.load, path.with_name("none")), FileNotFoundError), "load of none")
+        out = io.BytesIO()
+        todrenval.dump([Comment("c"), ("k", "v")], out, prefix="#")
+        count.check(out.getvalue() == b"#c\nk=v\n", "dump to a file")
+
+        path.chmod(0o640)
+        before = path.stat()
+        with todrenval.open(path) as settings:
+            count.check(settings["port"] == "80" and len(settings) == 2 and list(settings) == ["port", "host"], "what a document has")
+        count.check(path.stat().st_ino == before.st_ino, "a file that nobody changed isn't written")
+        with todrenval.open(path) as settings:
+            settings["port"] = "8080"
+            settings.update(drink="caf\u00e9")
+            del settings["host"]
+            count.check(raised(settings.__getitem__, "host").args == ("host",), "a key that was deleted")
+            count.check(path.read_bytes() == b"port = 80\r\nhost = a\r\n", "nothing is written before the end")
+        count.check(path.read_bytes() == b"port = 8080\r\ndrink = caf\\u00e9\r\n", f"a document: {path.read_bytes()!r}")
+        after = path.stat()
+        count.check(after.st_ino != before.st_ino and after.st_mode == before.st_mode, "a new file with the old mode")
+        try:
+            with todrenval.open(path) as settings:
+                settings["port"] = "1"
+                raise KeyError
+        except KeyError:
+            pass
+        count.check(path.stat().st_ino == after.st_ino, "nothing is written after an error")
+        settings = todrenval.open(path)
+        count.check(type(raised(settings.__delitem__, "none")) is KeyError, "a key that isn't there")
+        settings["port"] = "1"
+        settings.save()
+        settings.save()
+        count.check(todrenval.load(path)["port"] == "1", "a document that is saved")
+        link = path.with_name("link")
+        link.symlink_to("app.properties")
+        with todrenval.open(link) as settings:
+            settings["port"] = "2"
+        count.check(link.is_symlink() and todrenval.load(path)["port"] == "2", "a document behind a link")
+        wide = "k=\u20ac\n".encode("utf-16-le")
+        path.write_bytes(wide)
+        settings = todrenval.open(path, encoding="utf-16-le")
+        count.check(dict(settings) == {"k": "\u20ac"}, "a document in UTF-16")
+        for error in (raised(settings.__setitem__, "k", "v"), raised(settings.__delitem__, "k")):
+            count.check(type(error) is PropertiesError and error.status == Status.UNSUPPORTED, f"which can't be edited: {error!r}")
+        count.check(type(raised(settings.__delitem__, "none")) is KeyError and settings.pop("none", "") == "", "a key that isn't there")
+        settings.save()
+        count.check(bytes(settings) == path.read_bytes() == wide and repr(wide) in repr(settings), "and stays as it is")
+        real = todrenval.os.replace
+        try:
+            todrenval.os.replace = lambda *_: 1 / 0
+            count.check(isinstance(raised(todrenval.dump, {}, path), ZeroDivisionError), "a rename that fails")
+        finally:
+            todrenval.os.replace = real
+        count.check(path.read_bytes() == wide and sorted(os.listdir(folder)) == ["app.properties", "link"], "no other files are left")
+    count.check(type(raised(todrenval.Document(b"").save)) is ValueError, "a document without a path")
+    document = todrenval.Document(b"a=1\n")
+    count.check(repr(document) == "Document(b'a=1\\n')" and document == {"a": "1"}, "a document prints itself")
+
+
+def try_special_files(count):
+    """What is no regular file is written to, and never replaced."""
+    with tempfile.TemporaryDirectory() as folder:
+        path = os.path.join(folder, "pipe")
+        os.mkfifo(path)
+        for each in (path, "/dev/null", folder):
+            count.check(isinstance(raised(todrenval.open, each), OSError), f"open of {each}")
+        document = todrenval.Document(b"a=1\n", path=path)
+        document["a"] = "2"
+        count.check(isinstance(raised(document.save), OSError), "a document at a pipe")
+        reader = os.open(path, os.O_RDONLY | os.O_NONBLOCK)
+        todrenval.dump({"a": "1"}, path)
+        todrenval.dump({"b": "2"}, "/dev/null")
+        count.check(os.read(reader, 100) == b"a=1\n", "dump to a pipe")
+        os.close(reader)
+        count.check(stat.S_ISFIFO(os.stat(path).st_mode) and stat.S_ISCHR(os.stat("/dev/null").st_mode), "they stay what they are")
+        reader, writer = os.pipe()
+        todrenval.dump({"a": "1"}, f"/dev/fd/{writer}")
+        count.check(os.read(reader, 100) == b"a=1\n", "dump to a descriptor")
+        os.close(reader)
+        os.close(writer)
+        count.check(os.listdir(folder) == ["pipe"], "no other files are left")
+
+
+def try_documents(count):
+    """Documents in a folder that is left, that are copied, and whose file changes meanwhile."""
+    here = os.getcwd()
+    with tempfile.TemporaryDirectory() as folder:
+        path = pathlib.Path(folder) / "app.properties"
+        path.write_bytes(b"port = 80\n")
+        try:
+            os.chdir(folder)
+            opened, made = todrenval.open("app.properties"), todrenval.Document(b"", path="new.properties")
+        finally:
+            os.chdir(here)
+        opened["port"] = "81"
+        made["a"] = "1"
+        opened.save()
+        made.save()
+        count.check(path.read_bytes() == b"port = 81\n", "a relative path of open")
+        count.check(path.with_name("new.properties").read_bytes() == b"a=1\n", "a relative path of a document")
+        opened["port"] = "82"
+        for other in (copy_of(opened), opened.copy()):
+            other["host"] = "b"
+            del other["port"]
+            count.check(dict(opened) == {"port": "82"} and bytes(opened) == b"port = 82\n", "a document that was copied")
+            count.check(dict(other) == {"host": "b"} and bytes(other) == b"host = b\n", "its copy")
+        path.write_bytes(b"port = 1\n")
+        error = raised(opened.save)
+        count.check(type(error) is PropertiesError and error.status is None and error.line is None, repr(error))
+        count.check(str(error) == f"{path}: The file has changed since it was read.", str(error))
+        count.check(path.read_bytes() == b"port = 1\n" and len(os.listdir(folder)) == 2, "a file that changed stays")
+        path.unlink()
+        count.check(isinstance(raised(opened.save), FileNotFoundError) and len(os.listdir(folder)) == 1, "a file that is gone")
+        opened.path = path.with_name("other.properties")
+        opened.save()
+        count.check(path.with_name("other.properties").read_bytes() == b"port = 82\n", "a document at another path")
+        for call in (todrenval.load, todrenval.open):
+            path.write_bytes(b"a=1\nb=\\u1\n")
+            error = raised(call, path)
+            count.check(str(error) == f"{path}:2: {error.reason}" and error.path == str(path), f"{call.__name__}: {error}")
+            count.check(str(pickle.loads(pickle.dumps(error))) == str(error), "an error with a path that is pickled")
+
+
+def try_zeros(count):
+    """U+0000 in UTF-8 without a mark is refused, unless what isn't text is replaced."""
+    wide = "a=1\nb=2\n".encode("utf-16-le")
+    for data, line in ((wide, 1), (b"a=1\r\nb=\0", 2), (b"\xff=1\na\0", 2)):
+        for call, more in ((todrenval.loads, []), (todrenval.findings, []), (todrenval.set_value, ["a", "3"]), (todrenval.Document, [])):
+            error = raised(call, data, *more)
+            count.check(type(error) is PropertiesError and (error.status, error.line) == (Status.NOT_UTF_8, line), f"{data!r}: {error!r}")
+            count.check(error.reason == "U+0000. If this is UTF-16, give that as the encoding.", repr(error))
+            count.check(raised(call, data, *more, errors="replace") is None, f"{data!r}, replaced")
+    for data, named in ((b"\xef\xbb\xbfa=\0", {}), (b"a=\0", {"encoding": "cp1252"}), (b"a=\\u0000", {})):
+        count.check(todrenval.loads(data, **named) == {"a": "\0"}, f"loads of {data!r}")
+
+
+def try_types(count):
+    """Each public name is there, and each call has hints and an example."""
+    for name in todrenval.__all__:
+        count.check(hasattr(todrenval, name), name)
+        call = getattr(todrenval, name)
+        if inspect.isfunction(call):
+            signature = inspect.signature(call)
+            count.check(signature.return_annotation is not signature.empty, f"{name} returns")
+            for parameter in signature.parameters.values():
+                count.check(parameter.annotation is not parameter.empty, f"{name}({parameter.name})")
+            count.check(">>> " in call.__doc__, f"{name} has an example")
+            # Older Pythons can't evaluate os.PathLike[str].
+            count.check(sys.version_info < (3, 9) or typing.get_type_hints(call), f"the hints of {name}")
+    count.check((pathlib.Path(todrenval.__file__).with_name("py.typed")).is_file(), "py.typed")
 
 
 def try_errors(count):
-    error = raised(properties.items, b"#c\na=1\n\nb=\\u12")
-    count.check(isinstance(error, properties.MalformedEscape) and isinstance(error, ValueError), repr(error))
+    error = raised(todrenval.items, b"#c\na=1\n\nb=\\u12")
+    count.check(isinstance(error, todrenval.MalformedEscape) and isinstance(error, ValueError), repr(error))
     count.check((error.line, error.status) == (4, Status.NOT_ENOUGH_DIGITS), repr(error))
-    count.check(error.items == [Comment("c", 1), Pair("a", "1", 2)], repr(error.items))
+    count.check(error.items == [Comment("c", 1), Pair("a", "1", 2)] and not error.in_comment, repr(error.items))
     count.check(str(error) == r"line 4: Malformed \uxxxx encoding: not enough digits.", str(error))
     other = pickle.loads(pickle.dumps(error))
     count.check((type(other), other.line, str(other)) == (type(error), error.line, str(error)), "an error that is pickled")
     count.check((other.status, other.items) == (error.status, error.items), "the items of an error that is pickled")
-    error = raised(properties.set_key, b"", "a", "b", encoding="utf-16")
+    error = raised(todrenval.items, b"a=1\n#C:\\users\nb=\\u12")
+    count.check((error.line, error.in_comment) == (2, True) and pickle.loads(pickle.dumps(error)).in_comment, repr(error))
+    for name, settings, status in (
+        ("prefix", {"prefix": "x"}, Status.BAD_PREFIX), ("prefix", {"prefix": ""}, Status.BAD_PREFIX),
+        ("separator", {"separator": "=="}, Status.BAD_SEPARATOR), ("separator", {"separator": ""}, Status.BAD_SEPARATOR),
+        ("key", {"separator": " "}, Status.EMPTY_KEY),
+    ):
+        error = raised(todrenval.dumps, {"": "a"}, **settings)
+        count.check(type(error) is PropertiesError and error.status == status and error.reason == todrenval._reason(status), repr(error))
+    error = raised(todrenval.set_key, b"", "a", "b", encoding="utf-16")
     count.check(type(error) is PropertiesError and error.line is None and str(error) == "Encoding can't be edited.", repr(error))
 
 
 def try_lists(count):
     """A list of items is no list of edits, nor the other way round."""
-    item = properties._record(1, "a", "b")
-    edits = [properties._edit_record(each) for each in (SetKey("a", "b"), SetValue("a", "b"), RemoveKey("a"))]
-    calls = [("properties_write", [0, 0], packed) for packed in edits + [item + edits[0]]]
-    calls += [("properties_edit", [b"a=1", 0, 0], packed) for packed in (item, edits[0] + item)]
+    item = todrenval._record(1, "a", "b")
+    edits = [todrenval._edit_record(each) for each in (SetKey("a", "b"), SetValue("a", "b"), RemoveKey("a"))]
+    calls = [("todrenval_write", [0, 0, b"", b""], packed) for packed in edits + [item + edits[0]]]
+    calls += [("todrenval_edit", [b"a=1", 0, 0], packed) for packed in (item, edits[0] + item)]
     for name, more, packed in calls:
-        arguments = [packed, *more] if name == "properties_write" else [*more, packed]
-        count.check(properties._answer(name, 100, *arguments) == (Status.BAD_LIST, b"", None), f"{name} of {packed!r}")
+        arguments = [packed, *more] if name == "todrenval_write" else [*more, packed]
+        count.check(todrenval._answer(name, 100, *arguments) == (Status.BAD_LIST, b"", None), f"{name} of {packed!r}")
 
 
 class Newer:
     """A library that gives a status and a finding that the module doesn't know."""
 
+    todrenval_status_text = staticmethod(todrenval._LIBRARY.todrenval_status_text)
+
     def __init__(self, status, bytes_given):
         self.status = status
         self.given = bytes_given
 
-    def properties_findings(self, source, source_length, encoding, out, room, length, line):
+    def todrenval_findings(self, source, source_length, encoding, out, room, length, line):
         length._obj.value = len(self.given)
         line._obj.value = 3 if self.status else 0
         out[: len(self.given)] = self.given
@@ -464,30 +777,30 @@ class Newer:
 
 
 def try_newer(count):
-    library = properties._LIBRARY
+    library = todrenval._LIBRARY
     try:
-        properties._LIBRARY = Newer(12, b"")
-        error = raised(properties.findings, b"")
+        todrenval._LIBRARY = Newer(99, b"")
+        error = raised(todrenval.findings, b"")
         count.check((type(error), str(error)) == (PropertiesError, "line 3: Unknown status."), repr(error))
-        count.check(error.status == 12 and str(pickle.loads(pickle.dumps(error))) == str(error), repr(error))
-        properties._LIBRARY = Newer(0, struct.pack("<4Q", 4, 3, 1, 1) + b"a")
-        found = properties.findings(b"")
+        count.check(error.status == 99 and str(pickle.loads(pickle.dumps(error))) == str(error), repr(error))
+        todrenval._LIBRARY = Newer(0, struct.pack("<4Q", 4, 3, 1, 1) + b"a")
+        found = todrenval.findings(b"")
         count.check(found == [(3, 4, None, None, False)] and found[0].reason == "Unknown kind of finding.", repr(found))
     finally:
-        properties._LIBRARY = library
+        todrenval._LIBRARY = library
 
 
 def try_room(count):
     """No source needs more room for its items than docs/C.md says. It is most if each other byte is a line ending."""
     most = {}
     for encoding in ("cp1252", "utf-8", "utf-16-le", "utf-16-be"):
-        number = properties._number(encoding)
+        number = todrenval._number(encoding)
         for size in range(6):
             for pieces in itertools.product((b"a", b"=", b"#", b"\\", b" ", b"\n", b"\r", b"\0", b"\x80", b"\xff"), repeat=size):
                 source = b"".join(pieces)
                 length, line = ctypes.c_size_t(), ctypes.c_size_t()
                 arguments = (source, size, number, b"", 0, ctypes.byref(length), ctypes.byref(line))
-                properties._LIBRARY.properties_items(*arguments)
+                todrenval._LIBRARY.todrenval_items(*arguments)
                 most[size] = max(most.get(size, 0), length.value)
     count.check(most == {size: 35 * ((size + 1) // 2) + (size % 2 == 0 and size > 0) * 3 for size in range(6)}, f"room: {most}")
     count.check(all(most[size] <= 18 * size + 18 for size in most), f"room: {most}")
@@ -495,7 +808,7 @@ def try_room(count):
 
 def try_findings(count):
     source = b"a=1\na=2\nb=\\u1\n#\\uxxxx\na=\\udc1e\nb=3\na : 4"
-    found = [(finding.line, finding.key, finding.reason) for finding in properties.findings(source)]
+    found = [(finding.line, finding.key, finding.reason) for finding in todrenval.findings(source)]
     malformed = "Malformed \\uxxxx encoding: "
     wanted = [
         (2, "a", "repeats the key of line 1"),
@@ -505,14 +818,15 @@ def try_findings(count):
         (7, "a", "repeats the key of line 1"),
     ]
     count.check(found == wanted, f"findings: {found}")
-    in_comments = [finding.line for finding in properties.findings(source) if finding.in_comment]
+    in_comments = [finding.line for finding in todrenval.findings(source) if finding.in_comment]
     count.check(in_comments == [4], f"findings in comments: {in_comments}")
-    count.check(properties.findings(b"") == [], "findings of nothing")
+    count.check(todrenval.findings(b"") == [], "findings of nothing")
     mixed = b"\xe4=1\n\xf6=2\n"
-    found = [(finding.line, finding.key, finding.first) for finding in properties.findings(mixed, "utf-8")]
-    count.check(found == [(2, "\ufffd", 1)] and properties.findings(mixed) == [], f"findings in what isn't UTF-8: {found}")
+    found = [(finding.line, finding.key, finding.first) for finding in todrenval.findings(mixed, errors="replace")]
+    count.check(found == [(2, "\ufffd", 1)], f"findings in what isn't UTF-8: {found}")
+    count.check(todrenval.findings(mixed, encoding="iso-8859-1") == [], "findings in iso-8859-1")
     many = b"".join(b"%d=1\n" % (number % 100) for number in range(2000))
-    count.check(len(properties.findings(many)) == 1900, "many findings")
+    count.check(len(todrenval.findings(many)) == 1900, "many findings")
 
 
 def try_comments(count):
@@ -520,13 +834,14 @@ def try_comments(count):
     source = b"# C:\\users\nport = 80\nhost = a\n"
     edits = [SetValue("port", "81"), RemoveKey("host")]
     calls = [
-        (properties.get, ["port"], "80"),
-        (properties.set_value, ["port", "81"], b"# C:\\users\nport = 81\nhost = a\n"),
-        (properties.set_key, ["port", "81"], b"# C:\\users\nport=81\nhost = a\n"),
-        (properties.remove_key, ["host"], b"# C:\\users\nport = 80\n"),
-        (properties.edit, [edits], b"# C:\\users\nport = 81\n"),
-        (properties.edit, [edits[:1]], b"# C:\\users\nport = 81\nhost = a\n"),
-        (properties.edit, [[]], source),
+        (todrenval.get, ["port"], "80"),
+        (todrenval.set_value, ["port", "81"], b"# C:\\users\nport = 81\nhost = a\n"),
+        (todrenval.set_key, ["port", "81"], b"# C:\\users\nport=81\nhost = a\n"),
+        (todrenval.remove_key, ["host"], b"# C:\\users\nport = 80\n"),
+        (todrenval.edit, [edits], b"# C:\\users\nport = 81\n"),
+        (todrenval.edit, [edits[:1]], b"# C:\\users\nport = 81\nhost = a\n"),
+        (todrenval.edit, [[]], source),
+        (todrenval.loads, [], {"port": "80", "host": "a"}),
     ]
     for call, more, wanted in calls:
         for encoding in ("iso-8859-1", "utf-8", "utf-8-sig"):
@@ -534,16 +849,26 @@ def try_comments(count):
                 came = call(source, *more, encoding=encoding, **named)
                 count.check(came == wanted, f"{call.__name__}, past comments: {came}")
             error = raised(call, source, *more, encoding=encoding, comments="read")
-            count.check(error and came_error(error) == ("error", "NotHex", 1), f"{call.__name__}, comments read: {error!r}")
+            count.check(error and came_error(error) == ("error", "NotHex", 1) and error.in_comment, f"{call.__name__}, comments read: {error!r}")
         for wrong in ("Skip", "", None, True, 4):
             error = raised(call, source, *more, comments=wrong)
             count.check(type(error) is ValueError, f"{call.__name__}, comments {wrong!r}: {error!r}")
         error = raised(call, source + b"\\u12", *more)
         count.check(error and came_error(error) == ("error", "NotEnoughDigits", 4), f"{call.__name__} of a pair: {error!r}")
-    for call in (properties.load, properties.items):
-        error = raised(call, source)
-        count.check(error and came_error(error) == ("error", "NotHex", 1), f"{call.__name__}: {error!r}")
-    count.check(properties.get("#\\u12\nk=v".encode("utf-16-le"), "k", encoding="utf-16-le") == "v", "get in UTF-16")
+    error = raised(todrenval.items, source)
+    count.check(error and came_error(error) == ("error", "NotHex", 1), f"items: {error!r}")
+    for text in ("# C:\\users\nport = 80\n", "\r\nport = \\\r\n  80\r\r#\\u\n\r\n!\\uxxxx", "#\\u12\\\nport:80"):
+        for encoding in ("utf-8", "utf-8-sig", "cp1252", "utf-16-le", "utf-16-be", "utf-16"):
+            data = text.encode(encoding)
+            count.check(todrenval.loads(data, encoding=encoding) == {"port": "80"}, f"loads of {data!r}")
+            error = raised(todrenval.loads, data, encoding=encoding, comments="read")
+            count.check(type(error) is todrenval.MalformedEscape and error.in_comment, f"loads of {data!r}, comments read: {error!r}")
+            error = raised(todrenval.loads, data + "\na=\\u12".encode(encoding.replace("16", "16-le") if encoding == "utf-16" else encoding.replace("-sig", "")), encoding=encoding)
+            count.check(type(error) is todrenval.MalformedEscape and not error.in_comment, f"loads of {data!r} and a pair: {error!r}")
+    for name in ("C\xe9=1\n# C:\\users\n", "# C:\\users\nC\xe9=1\n"):
+        count.check(todrenval.loads(name.encode("cp1252"), encoding="cp1252") == {"C\xe9": "1"}, f"loads of {name!r}")
+        count.check(dict(todrenval.Document(name.encode())) == {"C\xe9": "1"}, f"a document of {name!r}")
+    count.check(todrenval.get("#\\u12\nk=v".encode("utf-16-le"), "k", encoding="utf-16-le") == "v", "get in UTF-16")
 
 
 def try_round_trips(count):
@@ -551,24 +876,24 @@ def try_round_trips(count):
     for encoding in ("iso-8859-1", "utf-8", "utf-16-le", "utf-16-be"):
         for ascii_only, readable in itertools.product((False, True), repeat=2):
             named = {"encoding": encoding, "ascii_only": ascii_only, "readable": readable}
-            data = properties.dumps(pairs, **named)
-            written = "utf-8" if encoding.startswith("utf-16") else encoding
-            count.check(properties.load(data, written) == dict(pairs), f"a round trip in {encoding}")
-            count.check(properties.dumps(properties.items(data, written), **named) == data, encoding)
+            data = todrenval.dumps(pairs, **named)
+            written = written_in(encoding)
+            count.check(todrenval.loads(data, encoding=written) == dict(pairs), f"a round trip in {encoding}")
+            count.check(todrenval.dumps(todrenval.items(data, encoding=written), **named) == data, encoding)
             count.check(not ascii_only or data.isascii(), "ASCII alone")
     blanks = b"a\n" * 5000
-    count.check(len(properties.items(blanks)) == 5000, "items of short lines")
+    count.check(len(todrenval.items(blanks)) == 5000, "items of short lines")
 
 
 def try_threads(count):
     source = b"".join(b"key.%d = some value\n" % number for number in range(20000))
-    wanted = properties.items(source)
+    wanted = todrenval.items(source)
     came = []
 
     def work(number):
         for _ in range(5):
-            edited = properties.set_value(source, f"key.{number}", "x")
-            came.append(properties.items(source) == wanted and properties.get(edited, f"key.{number}") == "x")
+            edited = todrenval.set_value(source, f"key.{number}", "x")
+            came.append(todrenval.items(source) == wanted and todrenval.get(edited, f"key.{number}") == "x")
 
     threads = [threading.Thread(target=work, args=(number,)) for number in range(8)]
     for thread in threads:
@@ -589,41 +914,46 @@ def try_random(count):
             source += b"\\u00"
         encoding = numbers.choice(["iso-8859-1", "utf-8"])
         key, value, ascii_only = numbers.choice("abk"), numbers.choice(values), numbers.random() < 0.5
-        named = {"encoding": encoding, "ascii_only": ascii_only}
+        reading = {"encoding": encoding, "errors": "replace"}
+        named = {**reading, "ascii_only": ascii_only}
         place = f"{source!r} in {encoding}, {key!r}, {value!r}, {ascii_only}"
-        escapes = [found for found in properties.findings(source, encoding) if found.key is None]
+        escapes = [found for found in todrenval.findings(source, **reading) if found.key is None]
         in_pairs = [found for found in escapes if not found.in_comment]
-        for call, more in ((properties.get, [key]), (properties.set_value, [key, value]), (properties.remove_key, [key])):
-            other = raised(call, source, *more, encoding=encoding)
+        for call, more in ((todrenval.get, [key]), (todrenval.set_value, [key, value]), (todrenval.remove_key, [key])):
+            other = raised(call, source, *more, **reading)
             came = other and (other.line, other.status.name)
             wanted = (in_pairs[0].line, in_pairs[0].kind.name) if in_pairs else None
             count.check(came == wanted, f"{call.__name__} past comments of {place}")
-        error = raised(properties.items, source, encoding)
+        error = raised(todrenval.loads, source, **reading)
+        wanted = in_pairs and came_error(raised(todrenval.get, source, key, **reading))
+        count.check((came_error(error) if error else []) == wanted, f"loads of {place}")
+        error = raised(todrenval.items, source, **reading)
         count.check((error is None) == (not escapes), f"findings of {place}")
         if error is not None:
             count.check(error.line == escapes[0].line and error.status.name == escapes[0].kind.name, f"the line in {place}")
-            for call, more in ((properties.get, [key]), (properties.set_value, [key, value]), (properties.remove_key, [key])):
-                other = raised(call, source, *more, encoding=encoding, comments="read")
+            count.check(error.in_comment == escapes[0].in_comment, f"whether it is in a comment in {place}")
+            for call, more in ((todrenval.get, [key]), (todrenval.set_value, [key, value]), (todrenval.remove_key, [key])):
+                other = raised(call, source, *more, comments="read", **reading)
                 count.check(other is not None and came_error(other) == came_error(error), f"{call.__name__} of {place}")
             continue
-        items = properties.items(source, encoding)
+        items = todrenval.items(source, **reading)
         pairs = [item[:2] for item in items if isinstance(item, Pair)]
-        loaded = properties.load(source, encoding)
-        count.check(loaded == dict(pairs) and list(loaded) == list(dict.fromkeys(key for key, _ in pairs)), f"load of {place}")
-        count.check(all(properties.get(source, key, encoding=encoding) == loaded[key] for key in loaded), f"get of {place}")
+        loaded = todrenval.loads(source, **reading)
+        count.check(loaded == dict(pairs) and list(loaded) == list(dict.fromkeys(key for key, _ in pairs)), f"loads of {place}")
+        count.check(all(todrenval.get(source, key, **reading) == loaded[key] for key in loaded), f"get of {place}")
         others = [pair for pair in pairs if pair[0] != key]
-        for call, kind in ((properties.set_value, SetValue), (properties.set_key, SetKey)):
+        for call, kind in ((todrenval.set_value, SetValue), (todrenval.set_key, SetKey)):
             edited = call(source, key, value, **named)
-            count.check(edited == properties.edit(source, [kind(key, value)], **named), f"{call.__name__} of {place}")
+            count.check(edited == todrenval.edit(source, [kind(key, value)], **named), f"{call.__name__} of {place}")
             count.check(edited == call(source, key, value, comments="read", **named), f"{call.__name__} of {place}")
-            count.check(properties.get(edited, key, encoding=encoding) == value, f"{call.__name__} of {place}")
-            left = [item[:2] for item in properties.items(edited, encoding) if isinstance(item, Pair) and item.key != key]
+            count.check(todrenval.get(edited, key, **reading) == value, f"{call.__name__} of {place}")
+            left = [item[:2] for item in todrenval.items(edited, **reading) if isinstance(item, Pair) and item.key != key]
             count.check(left == others, f"{call.__name__} of {place}")
-        edited = properties.remove_key(source, key, encoding=encoding)
-        left = [item[:2] for item in properties.items(edited, encoding) if isinstance(item, Pair)]
+        edited = todrenval.remove_key(source, key, **reading)
+        left = [item[:2] for item in todrenval.items(edited, **reading) if isinstance(item, Pair)]
         count.check(left == others, f"remove_key of {place}")
-        written = properties.dumps(items, **named)
-        read = [as_read_back(item) for item in properties.items(written, encoding)]
+        written = todrenval.dumps(items, encoding=encoding, ascii_only=ascii_only)
+        read = [as_read_back(item) for item in todrenval.items(written, **reading)]
         count.check(read == [as_read_back(item) for item in items], f"dumps of {place}")
 
 
@@ -634,14 +964,15 @@ def try_conversion(count, source, encoding, to, readable):
     """A converted source reads the same and has the same line endings, and converting it again changes nothing. It isn't
     longer than the header says."""
     place = f"{source!r} from {encoding} to {to}, {readable}"
-    came = properties.convert(source, to, encoding=encoding, readable=readable)
+    came = todrenval.convert(source, to, encoding=encoding, errors="replace", readable=readable)
     reading = "iso-8859-1" if to == "ascii" else to
+    replaced = {"encoding": reading, "errors": "replace"}
     count.check(all_of(came, reading) == all_of(source, encoding), f"what is in {place}")
     count.check(len(came) <= 6 * len(source), f"the length of {place}")
     count.check(to != "ascii" or came.isascii(), f"ASCII in {place}")
-    count.check(properties.convert(came, to, encoding=reading, readable=readable) == came, f"twice {place}")
-    direct = properties.convert(source, "utf-8", encoding=encoding, readable=True)
-    count.check(properties.convert(came, "utf-8", encoding=reading, readable=True) == direct, f"readable after {place}")
+    count.check(todrenval.convert(came, to, readable=readable, **replaced) == came, f"twice {place}")
+    direct = todrenval.convert(source, "utf-8", encoding=encoding, errors="replace", readable=True)
+    count.check(todrenval.convert(came, "utf-8", readable=True, **replaced) == direct, f"readable after {place}")
     if not encoding.startswith("utf-16") and source[:2] not in (b"\xfe\xff", b"\xff\xfe"):
         endings = re.compile(rb"\r\n|\r|\n")
         count.check(endings.findall(came) == endings.findall(source), f"the line endings of {place}")
@@ -650,8 +981,8 @@ def try_conversion(count, source, encoding, to, readable):
 def all_of(data, encoding):
     """The items, and those before a malformed escape with its line: its kind may be another after a conversion."""
     try:
-        return properties.items(data, encoding), None
-    except properties.MalformedEscape as error:
+        return todrenval.items(data, encoding=encoding, errors="replace"), None
+    except todrenval.MalformedEscape as error:
         return error.items, error.line
 
 
@@ -673,7 +1004,7 @@ def try_conversions(count):
             encoding = numbers.choice(("cp1252", "utf-8", "utf-16-le", "utf-16-be"))
             try_conversion(count, source, encoding, *numbers.choice(CONVERSIONS))
     for times in (1, 1000, 100000):
-        count.check(properties.convert(b"\xe9" * times, "ascii") == b"\\u00e9" * times, f"{times} characters to ASCII")
+        count.check(todrenval.convert(b"\xe9" * times, "ascii", encoding="cp1252") == b"\\u00e9" * times, f"{times} characters to ASCII")
 
 
 def as_read_back(item):
@@ -682,33 +1013,31 @@ def as_read_back(item):
 
 
 def try_header(count):
-    """The numbers and words of the module are those of the header."""
-    header = (TOP / "bindings/c/properties.h").read_text()
-    numbers = {name: int(number) for name, number in re.findall(r"PROPERTIES_(\w+) = (\d+)", header)}
+    """The numbers of the module are those of the header."""
+    header = (TOP / "bindings/c/todrenval.h").read_text()
+    numbers = {name: int(number) for name, number in re.findall(r"TODRENVAL_(\w+) = (\d+)", header)}
     for status in Status:
         count.check(numbers[status.name] == status, status.name)
-    for kind in properties.FindingKind:
+    for kind in todrenval.FindingKind:
         count.check(numbers["FOUND_" + kind.name] == kind, kind.name)
-    words = dict(re.findall(r'case PROPERTIES_(\w+):\s*return "(.*)";', header))
-    for status, reason in properties._REASONS.items():
-        count.check(words[status.name].replace("\\\\", "\\") == reason, status.name)
-    count.check(f"PROPERTIES_VERSION {properties.VERSION}\n" in header, "the version")
+    count.check(f"TODRENVAL_VERSION {todrenval.VERSION}\n" in header, "the version")
     for each, name in ((SetKey("", ""), "SET_KEY"), (RemoveKey(""), "REMOVE_KEY"), (SetValue("", ""), "SET_VALUE")):
-        count.check(numbers["EDIT_" + name] == properties._edit_record(each)[0], name)
+        count.check(numbers["EDIT_" + name] == todrenval._edit_record(each)[0], name)
     for label, name in (("cp1252", "WINDOWS_1252"), ("utf-8", "UTF_8"), ("ascii", "ASCII")):
-        count.check(numbers["TO_" + name] == properties._TARGETS[label], name)
-    count.check(not set(properties._TARGETS.values()) & set(properties._ENCODINGS.values()), "numbers of targets of their own")
-    flags = {"ASCII_ONLY": properties._ASCII_ONLY, "READABLE": properties._READABLE, "READ_COMMENTS": properties._READ_COMMENTS}
+        count.check(numbers["TO_" + name] == todrenval._TARGETS[label], name)
+    count.check(not set(todrenval._TARGETS.values()) & set(todrenval._ENCODINGS.values()), "numbers of targets of their own")
+    flags = {"ASCII_ONLY": todrenval._ASCII_ONLY, "READABLE": todrenval._READABLE, "READ_COMMENTS": todrenval._READ_COMMENTS}
+    flags.update(CRLF=todrenval._ENDINGS["\r\n"], CR=todrenval._ENDINGS["\r"])
     for name, flag in flags.items():
         count.check(numbers[name] == flag, name)
     for line, name in ((Comment(""), "COMMENT"), (Pair("", ""), "PAIR")):
-        count.check(numbers[name] == properties._line_record(line)[0], name)
-    for name in properties._ARGUMENTS:
+        count.check(numbers[name] == todrenval._line_record(line)[0], name)
+    for name in todrenval._ARGUMENTS:
         count.check(f"int {name}(" in header, name)
 
 
 def try_examples(count):
-    failed, run = doctest.testmod(properties)
+    failed, run = doctest.testmod(todrenval)
     count.passed += run - failed
     count.failed += failed
 
@@ -718,9 +1047,13 @@ def try_page(count):
     page = (TOP / "docs/C.md").read_text(encoding="utf-8")
     blocks = dict(re.findall(r"^```(\S+)\n(.*?)^```$", page, re.MULTILINE | re.DOTALL))
     count.check(blocks.get("c") == (TOP / "bindings/c/example.c").read_text(), "docs/C.md has another program in C")
-    printed = io.StringIO()
-    with contextlib.redirect_stdout(printed):
-        exec(compile(blocks["python"], "docs/C.md", "exec"), {})
+    printed, here = io.StringIO(), os.getcwd()
+    with tempfile.TemporaryDirectory() as folder, contextlib.redirect_stdout(printed):
+        os.chdir(folder)
+        try:
+            exec(compile(blocks["python"], "docs/C.md", "exec"), {})
+        finally:
+            os.chdir(here)
     count.check(printed.getvalue() == blocks["stdout"], f"docs/C.md, in Python: {printed.getvalue()}")
 
 
@@ -728,8 +1061,9 @@ def main():
     count = Count()
     run_tables(count)
     for test in (
-        try_arguments, try_errors, try_lists, try_newer, try_room, try_findings, try_comments, try_round_trips, try_random, try_conversions,
-        try_threads, try_header, try_examples, try_page,
+        try_arguments, try_files, try_special_files, try_documents, try_zeros, try_types, try_errors, try_lists, try_newer,
+        try_room, try_findings, try_comments, try_round_trips, try_random, try_conversions, try_threads, try_header,
+        try_examples, try_page,
     ):
         try:
             test(count)

@@ -1,0 +1,650 @@
+/* Reads, checks, edits, converts and writes Java .properties files, in memory.
+ *
+ *     struct todrenval_result port = todrenval_get_new(file, length, TODRENVAL_UTF_8, 0, "port", 4);
+ *     char reason[TODRENVAL_REASON_ROOM];
+ *     puts(port.status == TODRENVAL_OK ? port.bytes : todrenval_reason(port.status, reason));
+ *     free(port.bytes);
+ *
+ * docs/C.md has whole programs, and says how to build and link. The functions are written and proved in Rattle; only
+ * what is `static inline` here is C. Each call has two forms: todrenval_get writes into memory of the caller, and
+ * todrenval_get_new, which calls it, takes memory for the result by malloc. todrenval_status_text has the first alone.
+ *
+ * What every call into memory of the caller has in common:
+ *
+ * - Bytes go in as a pointer and a length. The call reads them and keeps no pointer to them.
+ * - The result goes to `out`, which has room for `room` bytes. *length is set to the length of the result, and *line to
+ *   the number of the line that an error is in, or to 0 if there is no error or no line. Lines are numbered from 1.
+ * - The call returns one of enum todrenval_status. If the room is too small, it returns TODRENVAL_NO_ROOM, *length is
+ *   the room that is needed, and `out` is as it was. With any other status but TODRENVAL_OK, *length is 0 and `out` is
+ *   as it was; but at a malformed escape todrenval_items gives the items before it. Past *length, `out` always is as it
+ *   was.
+ * - If several errors could be reported, it is the first of these: the encoding, the target or the flags, a key, a
+ *   value, a prefix or a separator that isn't UTF-8, the packed list, from its front on, and then the rest.
+ *
+ * How much room: try four times the length of the source for items, twice its length for a conversion, the length of
+ * the list and some more for what is written, and once the length of the source and some more for everything else. If
+ * that is too little, the call is to be made again with the room that *length says; it then does all its work again. A
+ * call with room for 0 bytes asks for the length.
+ *
+ * What the caller owes:
+ *
+ * - A pointer to no bytes may be null. Every other pointer is valid.
+ * - `out` has `room` bytes, and they overlap no input, nor *length nor *line; those two are two variables.
+ * - Nothing else changes the inputs or uses `out`, *length or *line during the call.
+ * - A bool is true or false.
+ *
+ * Any bytes may be in the inputs: a source, a key or a list that is no good gives a status and does no harm.
+ *
+ * Any thread may make any call at any time: there is no state, nothing to set up and nothing to free. A call takes
+ * memory by malloc, and has freed it when it returns. Don't call from a signal handler.
+ */
+#ifndef TODRENVAL_H
+#define TODRENVAL_H
+
+#include <stdbool.h>
+#include <stddef.h>
+#include <stdint.h>
+#include <stdlib.h>
+#include <string.h>
+
+/* A cast for C and for C++. Only the functions below need it. */
+#ifdef __cplusplus
+#define TODRENVAL_CAST(type, value) static_cast<type>(value)
+extern "C" {
+#else
+#define TODRENVAL_CAST(type, value) ((type)(value))
+#endif
+
+/* The interface that this header describes. todrenval_version returns that of the library. */
+#define TODRENVAL_VERSION 3
+
+/* What a call returns. */
+enum todrenval_status {
+    TODRENVAL_OK = 0,
+    TODRENVAL_NO_ROOM = 1,           /* *length bytes are needed in `out` */
+    TODRENVAL_NO_KEY = 2,            /* todrenval_get: no pair has the key */
+    TODRENVAL_NO_MEMORY = 3,         /* malloc or realloc returned null */
+    TODRENVAL_UNKNOWN_ENCODING = 4,  /* no number of enum todrenval_encoding or todrenval_target, or no such flags */
+    TODRENVAL_NOT_UTF_8 = 5,         /* a key, a value, a prefix, a separator or a text of a list isn't UTF-8 */
+    TODRENVAL_BAD_LIST = 6,          /* a packed list ends too early, or has a record that it may not have */
+    TODRENVAL_NOT_ENOUGH_DIGITS = 7, /* fewer than four characters follow a \u in the line */
+    TODRENVAL_NOT_HEX = 8,           /* one of the four characters after a \u isn't a hexadecimal digit */
+    TODRENVAL_INVALID_CHARACTER = 9, /* an escape is a surrogate without its partner */
+    TODRENVAL_TOO_MANY_LINES = 10,   /* never comes: no source in memory has so many lines */
+    TODRENVAL_UNSUPPORTED = 11,      /* a source in UTF-16 can't be edited */
+    TODRENVAL_BAD_PREFIX = 12,       /* todrenval_write: a comment can't begin so */
+    TODRENVAL_BAD_SEPARATOR = 13,    /* todrenval_write: a key and a value can't be separated so */
+    TODRENVAL_EMPTY_KEY = 14         /* todrenval_write: an empty key, and blanks alone as the separator */
+};
+
+/* How the bytes of a source are read, and an edit or a list is written. A byte order mark at the front of a source
+ * overrides it. Reading fails at no byte: what isn't UTF-8 or UTF-16 is read as U+FFFD. */
+enum todrenval_encoding {
+    TODRENVAL_WINDOWS_1252 = 0, /* ISO 8859-1, but for 27 of the bytes from 80 to 9F */
+    TODRENVAL_UTF_8 = 1,
+    TODRENVAL_UTF_16LE = 2, /* sources can't be edited; todrenval_write writes UTF-8 */
+    TODRENVAL_UTF_16BE = 3  /* likewise */
+};
+
+/* What todrenval_convert converts to. No encoding has one of these numbers, so neither is taken for the other. */
+enum todrenval_target {
+    TODRENVAL_TO_WINDOWS_1252 = 16,
+    TODRENVAL_TO_UTF_8 = 17,
+    TODRENVAL_TO_ASCII = 18 /* reads the same in ISO 8859-1, windows-1252 and UTF-8 */
+};
+
+/* What a call does otherwise than without flags: 0, one of these, or several, as in TODRENVAL_ASCII_ONLY |
+ * TODRENVAL_READABLE. A call that has no use for a flag refuses it, as it refuses flags that there are not. */
+enum todrenval_flag {
+    /* Each character past ASCII that is put in is an escape: todrenval_set_value, _set_key, _edit, _write. */
+    TODRENVAL_ASCII_ONLY = 1,
+    /* Values are written as people write them: todrenval_write. */
+    TODRENVAL_READABLE = 2,
+    /* A malformed escape in a comment is an error too: todrenval_get, _set_value, _set_key, _remove_key, _edit. Without
+     * this flag they pass over comments, as Java does, so a comment may be `# C:\users`. */
+    TODRENVAL_READ_COMMENTS = 4,
+    /* Lines end in CR LF, or in CR, and not in LF: todrenval_write. It takes one of the two at most. */
+    TODRENVAL_CRLF = 8,
+    TODRENVAL_CR = 16
+};
+
+/* What an item of a source is, and a line to write. */
+enum todrenval_item_kind {
+    TODRENVAL_COMMENT = 0, /* no key; the value is the text after the # or !, less the blanks at its ends */
+    TODRENVAL_PAIR = 1
+};
+
+/* What an edit does. None of these numbers is that of a kind of item, so a list of items isn't taken for a list of
+ * edits. */
+enum todrenval_edit_kind {
+    TODRENVAL_EDIT_SET_KEY = 2,    /* as todrenval_set_key */
+    TODRENVAL_EDIT_REMOVE_KEY = 3, /* as todrenval_remove_key; no value */
+    TODRENVAL_EDIT_SET_VALUE = 4   /* as todrenval_set_value */
+};
+
+/* What is wrong in a line. */
+enum todrenval_finding_kind {
+    TODRENVAL_FOUND_REPEATED_KEY = 0, /* an earlier pair, in line `first`, has the key */
+    TODRENVAL_FOUND_NOT_ENOUGH_DIGITS = 1,
+    TODRENVAL_FOUND_NOT_HEX = 2,
+    TODRENVAL_FOUND_INVALID_CHARACTER = 3
+};
+
+/* Packed lists.
+ *
+ * A list is its records, one after another, with nothing before, between or after them. A record is four numbers of 8
+ * bytes, unsigned and little endian, and then bytes of texts, which are UTF-8:
+ *
+ *     an item, an edit, a line to write: kind, line, length of the key, length of the value; key; value
+ *     a finding:                         kind, line, first, length of the key;               key
+ *
+ * A malformed escape has no key, and in the place of `first` it has 1 if it is in a comment, and 0 if it isn't.
+ *
+ * Edits and lines to write may have any number as their `line`. So the list that todrenval_items gives can be passed
+ * to todrenval_write as it is. todrenval_edit refuses a list of items, and todrenval_write a list of edits, unless
+ * it is empty. The functions below walk these lists and make them. */
+
+/* The bytes of a record before its texts. */
+#define TODRENVAL_RECORD_SIZE 32
+
+/* An item. Its texts are in the list, and end in no zero byte. */
+struct todrenval_item {
+    uint64_t kind; /* enum todrenval_item_kind */
+    uint64_t line; /* the number of the line that it begins in */
+    uint8_t const *key;
+    size_t key_length;
+    uint8_t const *value;
+    size_t value_length;
+};
+
+/* A finding. The key of a malformed escape is empty, and its `first` is 0. */
+struct todrenval_finding {
+    uint64_t kind; /* enum todrenval_finding_kind */
+    uint64_t line;
+    uint64_t first;
+    bool in_comment; /* whether a malformed escape is in a comment, which Java passes over */
+    uint8_t const *key;
+    size_t key_length;
+};
+
+/* Where a walk through a list is, and how many bytes come after that place. */
+struct todrenval_cursor {
+    uint8_t const *next;
+    size_t left;
+};
+
+/* A list that is being made, in memory of the caller: room for `room` bytes, of which `length` hold records. */
+struct todrenval_list {
+    uint8_t *bytes;
+    size_t room;
+    size_t length;
+};
+
+/* Sets *length to the length of the value of a key, and writes the value to `out` in UTF-8. If several pairs have the
+ * key, it is the value of the last one. A malformed escape of any pair is an error, even after that pair, and with
+ * TODRENVAL_READ_COMMENTS one in a comment is too.
+ *
+ * Returns TODRENVAL_OK, _NO_ROOM, _NO_KEY, _NO_MEMORY, _UNKNOWN_ENCODING, _NOT_UTF_8 (of the key), _NOT_ENOUGH_DIGITS,
+ * _NOT_HEX or _INVALID_CHARACTER. */
+int todrenval_get(uint8_t const *source, size_t source_length, uint32_t encoding, uint32_t flags, uint8_t const *key,
+                  size_t key_length, uint8_t *out, size_t room, size_t *length, size_t *line);
+
+/* Writes the packed list of all comments and pairs, in order, each with the number of the line that it begins in. Since
+ * it gives the texts of comments, a malformed escape in one is an error.
+ *
+ * At a malformed escape `out` gets the items before it, *length is how many bytes they take, and *line is the line with
+ * the escape. (If the room is too small for these items, it returns _NO_ROOM instead.)
+ *
+ * Returns TODRENVAL_OK, _NO_ROOM, _NO_MEMORY, _UNKNOWN_ENCODING, _NOT_ENOUGH_DIGITS, _NOT_HEX or _INVALID_CHARACTER. */
+int todrenval_items(uint8_t const *source, size_t source_length, uint32_t encoding, uint8_t *out, size_t room,
+                    size_t *length, size_t *line);
+
+/* Writes the packed list of what is wrong: first the malformed escapes, of each logical line the first one, in the
+ * order of the lines, and then the pairs whose key an earlier pair has, in that order too. Pairs with a malformed
+ * escape are left out of the latter. If nothing is wrong, *length is 0.
+ *
+ * Lines that aren't text of the encoding are not reported. In them, what isn't text is read as U+FFFD, so keys that
+ * differ in their bytes may read as one key, which is then reported as repeated: in UTF-8, the second of the lines
+ * "\xe4=1" and "\xf6=2". (`propedit check` reports such lines, and compares no keys with U+FFFD then.)
+ *
+ * Returns TODRENVAL_OK, _NO_ROOM, _NO_MEMORY or _UNKNOWN_ENCODING. */
+int todrenval_findings(uint8_t const *source, size_t source_length, uint32_t encoding, uint8_t *out, size_t room,
+                       size_t *length, size_t *line);
+
+/* Writes the source with the value of a key set. The last pair with the key gets the value, and keeps its indent, the
+ * spelling of its key, its separator and its line ending. If no pair has the key, one is added at the end, with the
+ * separator of the last pair and the last line ending of the source, but with no indent. Every other line stays as it
+ * is, but for a line ending that a new pair needs before it.
+ *
+ * With TODRENVAL_ASCII_ONLY, what is new is written in ASCII alone, with an escape for each other character. Without
+ * it, a character past ASCII is an escape only if the encoding lacks it, or if it is the first one of a key at the
+ * front of the source that would begin like a byte order mark.
+ *
+ * A malformed escape of any pair is an error, and with TODRENVAL_READ_COMMENTS one in a comment is too.
+ *
+ * Returns TODRENVAL_OK, _NO_ROOM, _NO_MEMORY, _UNKNOWN_ENCODING, _NOT_UTF_8 (of key or value), _NOT_ENOUGH_DIGITS,
+ * _NOT_HEX, _INVALID_CHARACTER (of these the first in the source that counts) or _UNSUPPORTED. */
+int todrenval_set_value(uint8_t const *source, size_t source_length, uint32_t encoding, uint32_t flags,
+                        uint8_t const *key, size_t key_length, uint8_t const *value, size_t value_length, uint8_t *out,
+                        size_t room, size_t *length, size_t *line);
+
+/* The same, but the pair is printed anew as `key=value`, in the place of the last pair with the key or at the end.
+ *
+ * Returns what todrenval_set_value returns. */
+int todrenval_set_key(uint8_t const *source, size_t source_length, uint32_t encoding, uint32_t flags,
+                      uint8_t const *key, size_t key_length, uint8_t const *value, size_t value_length, uint8_t *out,
+                      size_t room, size_t *length, size_t *line);
+
+/* Writes the source without the pairs that have the key, which may be none. Every other line stays as it is; but if
+ * what is left would begin like a byte order mark, a line feed comes first. Of the flags it takes
+ * TODRENVAL_READ_COMMENTS alone, since it puts in no text.
+ *
+ * Returns what todrenval_set_value returns. */
+int todrenval_remove_key(uint8_t const *source, size_t source_length, uint32_t encoding, uint32_t flags,
+                         uint8_t const *key, size_t key_length, uint8_t *out, size_t room, size_t *length,
+                         size_t *line);
+
+/* Writes the source after a packed list of edits, in order: each edit is made to what the one before it gave.
+ * todrenval_push makes such a list. It takes time in the number of the edits times the size of the source: 5,000 edits
+ * of 5,000 pairs take a tenth of a second, and 20,000 of 20,000 take two. For many more, read all items and write them
+ * anew, if no layout is to be kept.
+ *
+ * Returns what todrenval_set_value returns (_NOT_UTF_8 of a key or a value of the list), or TODRENVAL_BAD_LIST: a
+ * record is cut short, has a kind that no edit has, such as that of an item, or removes a key and has a value. */
+int todrenval_edit(uint8_t const *source, size_t source_length, uint32_t encoding, uint32_t flags, uint8_t const *edits,
+                   size_t edits_length, uint8_t *out, size_t room, size_t *length, size_t *line);
+
+/* Writes the source in another encoding. All else stays as it is: comments, blank lines, layout, line endings, and what
+ * each key, value and comment means.
+ *
+ * A non-ASCII character that the target lacks becomes an escape. Each other character and each escape stays as it is
+ * written; but if `readable` is true, a non-ASCII character that the target has becomes itself. Escapes of ASCII
+ * characters stay in each case.
+ *
+ * A byte order mark is dropped. What isn't text of the encoding becomes U+FFFD, as it reads. A malformed escape is no
+ * error: it stays malformed, in the same line. If the result would begin like a byte order mark, its first character is
+ * an escape. The result is never longer than six times the source.
+ *
+ * Returns TODRENVAL_OK, _NO_ROOM, _NO_MEMORY or _UNKNOWN_ENCODING (of `encoding` or `target`). */
+int todrenval_convert(uint8_t const *source, size_t source_length, uint32_t encoding, uint32_t target, bool readable,
+                      uint8_t *out, size_t room, size_t *length, size_t *line);
+
+/* Writes a packed list of comments and pairs as a file, a line each. It reads back as the same pairs, and as the same
+ * comments but for blanks at their ends.
+ *
+ * Before a comment comes the prefix: blanks, a # or a !, and any text in one line, such as "#" or "! ". Between a key
+ * and its value comes the separator: an = or a :, with blanks around it or without, or blanks alone. A prefix or a
+ * separator of no bytes is the usual one, "# " or "=". Lines end in a line feed if no flag asks for another ending. If
+ * the prefix has a backslash, what is read back of comments may differ.
+ *
+ * With TODRENVAL_ASCII_ONLY, each character past ASCII is an escape; without it, it is one where it is in
+ * todrenval_set_value. Without TODRENVAL_READABLE, each space, `=`, `:`, `#` and `!` of a value gets a backslash. With
+ * it, values are written as todrenval_set_value writes them: a space at the end is \u0020, even if it is the whole
+ * value, one at the front gets a backslash, and all others of these are as they are. Keys are written alike in both. A
+ * prefix is written as it is, but for characters that the encoding lacks.
+ *
+ * Returns TODRENVAL_OK, _NO_ROOM, _NO_MEMORY, _UNKNOWN_ENCODING, _NOT_UTF_8, _BAD_LIST, _BAD_PREFIX, _BAD_SEPARATOR or
+ * _EMPTY_KEY. A list is bad if a record is cut short, has a kind that no item has, such as that of an edit, or is a
+ * comment and has a key. An empty key is refused if the separator is blanks alone: its value would read as the key. */
+int todrenval_write(uint8_t const *list, size_t list_length, uint32_t encoding, uint32_t flags, uint8_t const *prefix,
+                    size_t prefix_length, uint8_t const *separator, size_t separator_length, uint8_t *out, size_t room,
+                    size_t *length, size_t *line);
+
+/* Writes the text of a status, in ASCII and without a line: "No pair has the key." or the like, and "Unknown status." for
+ * a number that no status has. No text is longer than 63 bytes. *line is always 0.
+ *
+ * Returns TODRENVAL_OK or _NO_ROOM. */
+int todrenval_status_text(int status, uint8_t *out, size_t room, size_t *length, size_t *line);
+
+/* Returns the version of the interface that the library has: TODRENVAL_VERSION, if the header fits. */
+uint32_t todrenval_version(void);
+
+/* Returns whether this processor has the features of x86-64-v2, which the library was built for. On one that lacks them
+ * the calls above may end the program by an illegal instruction. This one runs everywhere. */
+static inline bool todrenval_runs_here(void) {
+#ifdef __x86_64__
+    return __builtin_cpu_supports("ssse3") && __builtin_cpu_supports("sse4.1") && __builtin_cpu_supports("sse4.2") &&
+           __builtin_cpu_supports("popcnt");
+#else
+    return false;
+#endif
+}
+
+/* Room for the text of a status, and for a zero byte after it. */
+#define TODRENVAL_REASON_ROOM 64
+
+/* Puts the text of a status into `reason`, which has TODRENVAL_REASON_ROOM bytes, as a C string, and returns it. */
+static inline char const *todrenval_reason(int status, char *reason) {
+    void *out = reason;
+    size_t length, line;
+    if (todrenval_status_text(status, TODRENVAL_CAST(uint8_t *, out), TODRENVAL_REASON_ROOM - 1, &length, &line) !=
+        TODRENVAL_OK) {
+        length = 0;
+    }
+    reason[length] = 0;
+    return reason;
+}
+
+/* The number in eight bytes, and the bytes of a number. Only the functions below need them. */
+static inline uint64_t todrenval_number_at(uint8_t const *bytes) {
+    uint64_t number = 0;
+    int place;
+    for (place = 7; place >= 0; place--) {
+        number = number << 8 | bytes[place];
+    }
+    return number;
+}
+
+static inline void todrenval_put_number(uint8_t *bytes, uint64_t number) {
+    int place;
+    for (place = 0; place < 8; place++) {
+        bytes[place] = TODRENVAL_CAST(uint8_t, number >> (8 * place) & 0xff);
+    }
+}
+
+/* Returns a cursor at the front of a list. */
+static inline struct todrenval_cursor todrenval_walk(void const *list, size_t length) {
+    struct todrenval_cursor cursor;
+    cursor.next = TODRENVAL_CAST(uint8_t const *, list);
+    cursor.left = length;
+    return cursor;
+}
+
+/* Goes to the next item of a list, or edit, and returns true; or returns false, at the end of the list. It also
+ * returns false if what is left isn't a whole record: `left` isn't 0 then. That can't be in a list that a call gave. */
+static inline bool todrenval_next_item(struct todrenval_cursor *cursor, struct todrenval_item *item) {
+    size_t key_length, value_length, texts;
+    if (cursor->left < TODRENVAL_RECORD_SIZE) {
+        return false;
+    }
+    texts = cursor->left - TODRENVAL_RECORD_SIZE;
+    key_length = todrenval_number_at(cursor->next + 16);
+    value_length = todrenval_number_at(cursor->next + 24);
+    if (key_length > texts || value_length > texts - key_length) {
+        return false;
+    }
+    item->kind = todrenval_number_at(cursor->next);
+    item->line = todrenval_number_at(cursor->next + 8);
+    item->key = cursor->next + TODRENVAL_RECORD_SIZE;
+    item->key_length = key_length;
+    item->value = item->key + key_length;
+    item->value_length = value_length;
+    cursor->next = item->value + value_length;
+    cursor->left = texts - key_length - value_length;
+    return true;
+}
+
+/* Goes to the next finding of a list, as todrenval_next_item goes to the next item. */
+static inline bool todrenval_next_finding(struct todrenval_cursor *cursor, struct todrenval_finding *finding) {
+    size_t key_length, texts;
+    bool is_escape;
+    if (cursor->left < TODRENVAL_RECORD_SIZE) {
+        return false;
+    }
+    texts = cursor->left - TODRENVAL_RECORD_SIZE;
+    key_length = todrenval_number_at(cursor->next + 24);
+    if (key_length > texts) {
+        return false;
+    }
+    finding->kind = todrenval_number_at(cursor->next);
+    finding->line = todrenval_number_at(cursor->next + 8);
+    finding->first = todrenval_number_at(cursor->next + 16);
+    is_escape =
+        finding->kind >= TODRENVAL_FOUND_NOT_ENOUGH_DIGITS && finding->kind <= TODRENVAL_FOUND_INVALID_CHARACTER;
+    finding->in_comment = is_escape && finding->first == 1;
+    if (is_escape) {
+        finding->first = 0;
+    }
+    finding->key = cursor->next + TODRENVAL_RECORD_SIZE;
+    finding->key_length = key_length;
+    cursor->next = finding->key + key_length;
+    cursor->left = texts - key_length;
+    return true;
+}
+
+/* Appends an edit, or a line to write, to a list, and returns true; or returns false, and the list is as it was: the
+ * record doesn't fit. It needs room for TODRENVAL_RECORD_SIZE + key_length + value_length bytes. `kind` is of enum
+ * todrenval_edit_kind, or of enum todrenval_item_kind. A key or a value of no bytes may be null here, and so may the
+ * bytes of a list without room. */
+static inline bool todrenval_append(struct todrenval_list *list, uint64_t kind, void const *key, size_t key_length,
+                                    void const *value, size_t value_length) {
+    uint8_t *record;
+    size_t left = list->room - list->length;
+    if (left < TODRENVAL_RECORD_SIZE || key_length > left - TODRENVAL_RECORD_SIZE ||
+        value_length > left - TODRENVAL_RECORD_SIZE - key_length) {
+        return false;
+    }
+    record = list->bytes + list->length;
+    todrenval_put_number(record, kind);
+    todrenval_put_number(record + 8, 0);
+    todrenval_put_number(record + 16, key_length);
+    todrenval_put_number(record + 24, value_length);
+    if (key_length > 0) {
+        memcpy(record + TODRENVAL_RECORD_SIZE, key, key_length);
+    }
+    if (value_length > 0) {
+        memcpy(record + TODRENVAL_RECORD_SIZE + key_length, value, value_length);
+    }
+    list->length += TODRENVAL_RECORD_SIZE + key_length + value_length;
+    return true;
+}
+
+/* Appends as todrenval_append does, and takes more room by realloc if there is too little. A list begins as
+ * {NULL, 0, 0}, and its bytes are freed by free. Returns false, and the list is as it was, if there is no memory. */
+static inline bool todrenval_push(struct todrenval_list *list, uint64_t kind, void const *key, size_t key_length,
+                                  void const *value, size_t value_length) {
+    size_t needed = list->length + TODRENVAL_RECORD_SIZE + key_length + value_length;
+    if (needed > list->room) {
+        void *bytes = realloc(list->bytes, 2 * needed);
+        if (bytes == NULL) {
+            return false;
+        }
+        list->bytes = TODRENVAL_CAST(uint8_t *, bytes);
+        list->room = 2 * needed;
+    }
+    return todrenval_append(list, kind, key, key_length, value, value_length);
+}
+
+/* Calls that take memory for their result.
+ *
+ * Each of the functions with _new at the end of its name makes the call of that name, again if there was too little
+ * room. It takes what that takes before `out`. `bytes` of what it returns is to be freed by free, whatever the status
+ * is. A zero byte that isn't counted comes after the result, so a value without zero bytes is a C string. */
+
+/* What a call returned and gave. */
+struct todrenval_result {
+    int status;      /* enum todrenval_status, but never TODRENVAL_NO_ROOM */
+    char *bytes;     /* the result; it may be null if there is no memory */
+    size_t length;   /* how long the result is */
+    size_t line;     /* the line of the error, or 0 */
+    bool in_comment; /* whether the error is a malformed escape in a comment, which Java passes over */
+};
+
+/* A result for which `room` bytes are to be tried. Only the functions below need this and the next three functions. */
+static inline struct todrenval_result todrenval_try_room(size_t room) {
+    struct todrenval_result result;
+    result.status = TODRENVAL_NO_ROOM;
+    result.bytes = NULL;
+    result.length = room;
+    result.line = 0;
+    result.in_comment = false;
+    return result;
+}
+
+/* Makes the room that is needed and returns true, or returns false: the call is not to be made again. */
+static inline bool todrenval_make_room(struct todrenval_result *result, size_t *room) {
+    if (result->status != TODRENVAL_NO_ROOM) {
+        result->bytes[result->length] = 0;
+        return false;
+    }
+    free(result->bytes);
+    *room = result->length;
+    result->bytes = TODRENVAL_CAST(char *, malloc(*room + 1));
+    if (result->bytes == NULL) {
+        result->status = TODRENVAL_NO_MEMORY;
+        result->length = 0;
+        return false;
+    }
+    return true;
+}
+
+static inline uint8_t *todrenval_out(struct todrenval_result const *result) {
+    void *out = result->bytes;
+    return TODRENVAL_CAST(uint8_t *, out);
+}
+
+static inline uint8_t const *todrenval_in(void const *bytes) {
+    return TODRENVAL_CAST(uint8_t const *, bytes);
+}
+
+static inline struct todrenval_result todrenval_findings_new(void const *source, size_t source_length,
+                                                             uint32_t encoding) {
+    size_t room;
+    struct todrenval_result result = todrenval_try_room(1024);
+    while (todrenval_make_room(&result, &room)) {
+        result.status = todrenval_findings(todrenval_in(source), source_length, encoding, todrenval_out(&result), room,
+                                           &result.length, &result.line);
+    }
+    return result;
+}
+
+/* Sets in_comment of the result of a call that reads comments: the error is the first finding. */
+static inline void todrenval_see_comment(struct todrenval_result *result, void const *source, size_t source_length,
+                                         uint32_t encoding) {
+    struct todrenval_result findings;
+    struct todrenval_cursor cursor;
+    struct todrenval_finding finding;
+    if (result->status < TODRENVAL_NOT_ENOUGH_DIGITS || result->status > TODRENVAL_INVALID_CHARACTER) {
+        return;
+    }
+    findings = todrenval_findings_new(source, source_length, encoding);
+    cursor = todrenval_walk(findings.bytes, findings.length);
+    if (findings.status != TODRENVAL_OK) {
+        result->status = findings.status;
+        result->bytes[0] = 0;
+        result->length = 0;
+        result->line = 0;
+    } else if (todrenval_next_finding(&cursor, &finding)) {
+        result->in_comment = finding.in_comment;
+    }
+    free(findings.bytes);
+}
+
+static inline struct todrenval_result todrenval_items_new(void const *source, size_t source_length, uint32_t encoding) {
+    size_t room;
+    struct todrenval_result result = todrenval_try_room(4 * source_length);
+    while (todrenval_make_room(&result, &room)) {
+        result.status = todrenval_items(todrenval_in(source), source_length, encoding, todrenval_out(&result), room,
+                                        &result.length, &result.line);
+    }
+    todrenval_see_comment(&result, source, source_length, encoding);
+    return result;
+}
+
+static inline struct todrenval_result todrenval_get_new(void const *source, size_t source_length, uint32_t encoding,
+                                                        uint32_t flags, void const *key, size_t key_length) {
+    size_t room;
+    struct todrenval_result result = todrenval_try_room(1024);
+    while (todrenval_make_room(&result, &room)) {
+        result.status = todrenval_get(todrenval_in(source), source_length, encoding, flags, todrenval_in(key),
+                                      key_length, todrenval_out(&result), room, &result.length, &result.line);
+    }
+    if (flags & TODRENVAL_READ_COMMENTS) {
+        todrenval_see_comment(&result, source, source_length, encoding);
+    }
+    return result;
+}
+
+static inline struct todrenval_result todrenval_set_value_new(void const *source, size_t source_length,
+                                                              uint32_t encoding, uint32_t flags, void const *key,
+                                                              size_t key_length, void const *value,
+                                                              size_t value_length) {
+    size_t room;
+    struct todrenval_result result = todrenval_try_room(source_length + key_length + value_length + 100);
+    while (todrenval_make_room(&result, &room)) {
+        result.status = todrenval_set_value(todrenval_in(source), source_length, encoding, flags, todrenval_in(key),
+                                            key_length, todrenval_in(value), value_length, todrenval_out(&result), room,
+                                            &result.length, &result.line);
+    }
+    if (flags & TODRENVAL_READ_COMMENTS) {
+        todrenval_see_comment(&result, source, source_length, encoding);
+    }
+    return result;
+}
+
+static inline struct todrenval_result todrenval_set_key_new(void const *source, size_t source_length, uint32_t encoding,
+                                                            uint32_t flags, void const *key, size_t key_length,
+                                                            void const *value, size_t value_length) {
+    size_t room;
+    struct todrenval_result result = todrenval_try_room(source_length + key_length + value_length + 100);
+    while (todrenval_make_room(&result, &room)) {
+        result.status = todrenval_set_key(todrenval_in(source), source_length, encoding, flags, todrenval_in(key),
+                                          key_length, todrenval_in(value), value_length, todrenval_out(&result), room,
+                                          &result.length, &result.line);
+    }
+    if (flags & TODRENVAL_READ_COMMENTS) {
+        todrenval_see_comment(&result, source, source_length, encoding);
+    }
+    return result;
+}
+
+static inline struct todrenval_result todrenval_remove_key_new(void const *source, size_t source_length,
+                                                               uint32_t encoding, uint32_t flags, void const *key,
+                                                               size_t key_length) {
+    size_t room;
+    struct todrenval_result result = todrenval_try_room(source_length + 1);
+    while (todrenval_make_room(&result, &room)) {
+        result.status = todrenval_remove_key(todrenval_in(source), source_length, encoding, flags, todrenval_in(key),
+                                             key_length, todrenval_out(&result), room, &result.length, &result.line);
+    }
+    if (flags & TODRENVAL_READ_COMMENTS) {
+        todrenval_see_comment(&result, source, source_length, encoding);
+    }
+    return result;
+}
+
+static inline struct todrenval_result todrenval_edit_new(void const *source, size_t source_length, uint32_t encoding,
+                                                         uint32_t flags, void const *edits, size_t edits_length) {
+    size_t room;
+    struct todrenval_result result = todrenval_try_room(source_length + edits_length);
+    while (todrenval_make_room(&result, &room)) {
+        result.status = todrenval_edit(todrenval_in(source), source_length, encoding, flags, todrenval_in(edits),
+                                       edits_length, todrenval_out(&result), room, &result.length, &result.line);
+    }
+    if (flags & TODRENVAL_READ_COMMENTS) {
+        todrenval_see_comment(&result, source, source_length, encoding);
+    }
+    return result;
+}
+
+static inline struct todrenval_result todrenval_convert_new(void const *source, size_t source_length, uint32_t encoding,
+                                                            uint32_t target, bool readable) {
+    size_t room;
+    struct todrenval_result result = todrenval_try_room(2 * source_length);
+    while (todrenval_make_room(&result, &room)) {
+        result.status = todrenval_convert(todrenval_in(source), source_length, encoding, target, readable,
+                                          todrenval_out(&result), room, &result.length, &result.line);
+    }
+    return result;
+}
+
+/* The prefix and the separator are C strings here, and null is the usual one. */
+static inline struct todrenval_result todrenval_write_new(void const *list, size_t list_length, uint32_t encoding,
+                                                          uint32_t flags, char const *prefix, char const *separator) {
+    size_t room;
+    size_t prefix_length = prefix == NULL ? 0 : strlen(prefix);
+    size_t separator_length = separator == NULL ? 0 : strlen(separator);
+    struct todrenval_result result = todrenval_try_room(list_length);
+    while (todrenval_make_room(&result, &room)) {
+        result.status = todrenval_write(todrenval_in(list), list_length, encoding, flags, todrenval_in(prefix),
+                                        prefix_length, todrenval_in(separator), separator_length,
+                                        todrenval_out(&result), room, &result.length, &result.line);
+    }
+    return result;
+}
+
+#ifdef __cplusplus
+}
+#endif
+
+#endif

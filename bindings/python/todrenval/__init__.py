@@ -1,0 +1,976 @@
+r"""Reads, checks, edits, converts and writes Java .properties files, and keeps the layout of what it edits.
+
+    >>> import todrenval
+    >>> data = b"# the web server\nport    = 80\n"
+    >>> todrenval.loads(data)
+    {'port': '80'}
+    >>> todrenval.set_value(data, "port", "8080")
+    b'# the web server\nport    = 8080\n'
+
+A file as a mapping, which is written whole or not at all:
+
+    with todrenval.open("app.properties") as settings:
+        settings["port"] = "8080"
+
+`load` and `dump` take a path or a binary file; all other functions take and return bytes, which may also be a bytearray, a
+memoryview or an mmap. Keys and values are str.
+
+The encoding is utf-8 if none is given. Others are iso-8859-1, cp1252, utf-16, utf-16-le and utf-16-be, by any label that
+Python has for them. A byte order mark overrides the encoding. iso-8859-1 is taken as cp1252: they differ in 27 of the bytes
+from 80 to 9F. Bytes that aren't text of the encoding raise a PropertiesError with their line; with errors="replace" they
+are read as U+FFFD. U+0000 in UTF-8 without a byte order mark raises one too, since UTF-16 looks so, unless errors is
+"replace".
+
+What is written is ASCII alone, with escapes for other characters, as Java's `Properties.store` and `json.dumps` write it, so
+it reads the same in iso-8859-1 and utf-8. With ascii_only=False a character past ASCII is an escape only if the encoding
+lacks it, or if it is the first one of a key at the front of a file that would begin like a byte order mark.
+
+Java passes over comments, and so do all functions but `items`, so that a comment may be `# C:\users`. With comments="read" a
+malformed escape in a comment is an error.
+
+Any thread may call the functions at any time. They need the shared object libtodrenval.so.1 beside this file, or at the path
+that the environment variable TODRENVAL_LIBRARY has.
+"""
+
+from __future__ import annotations
+
+import codecs
+import contextlib
+import ctypes
+import enum
+import errno
+import io
+import mmap
+import os
+import pathlib
+import re
+import secrets
+import stat
+import struct
+from types import TracebackType
+from typing import Any, BinaryIO, Dict, Iterable, Iterator, List, Mapping, MutableMapping, NamedTuple, Optional, Tuple, Type
+from typing import Union, overload
+
+from . import processor
+
+__all__ = [
+    "Comment",
+    "Document",
+    "Edit",
+    "Finding",
+    "FindingKind",
+    "Item",
+    "MalformedEscape",
+    "Pair",
+    "PropertiesError",
+    "RemoveKey",
+    "SetKey",
+    "SetValue",
+    "Status",
+    "convert",
+    "dump",
+    "dumps",
+    "edit",
+    "findings",
+    "get",
+    "items",
+    "load",
+    "loads",
+    "open",
+    "remove_key",
+    "set_key",
+    "set_value",
+]
+
+#: The version of the package, which bindings/build.sh writes here. Where nothing was built, there is none.
+__version__ = "0"
+#: The version of the interface for C, which rises more rarely: TODRENVAL_VERSION of todrenval.h.
+VERSION = 3
+Bytes = Union[bytes, bytearray, memoryview, mmap.mmap]
+Path = Union[str, "os.PathLike[str]"]
+
+
+class Status(enum.IntEnum):
+    """Why a call failed, as in todrenval.h."""
+
+    OK = 0
+    NO_ROOM = 1
+    NO_KEY = 2
+    NO_MEMORY = 3
+    UNKNOWN_ENCODING = 4
+    NOT_UTF_8 = 5
+    BAD_LIST = 6
+    NOT_ENOUGH_DIGITS = 7
+    NOT_HEX = 8
+    INVALID_CHARACTER = 9
+    TOO_MANY_LINES = 10
+    UNSUPPORTED = 11
+    BAD_PREFIX = 12
+    BAD_SEPARATOR = 13
+    EMPTY_KEY = 14
+
+
+class Comment(NamedTuple):
+    """A comment, with the number of the line that it is in. Blanks at its ends are no part of the text."""
+
+    text: str
+    line: int = 0
+
+
+class Pair(NamedTuple):
+    """A key with its value, and the number of the line that they begin in."""
+
+    key: str
+    value: str
+    line: int = 0
+
+
+Item = Union[Comment, Pair]
+
+
+class SetValue(NamedTuple):
+    """The edit that `set_value` makes."""
+
+    key: str
+    value: str
+
+
+class SetKey(NamedTuple):
+    """The edit that `set_key` makes."""
+
+    key: str
+    value: str
+
+
+class RemoveKey(NamedTuple):
+    """The edit that `remove_key` makes."""
+
+    key: str
+
+
+#: A tuple of a key and a value sets the value, and one of a key and None removes the key.
+Edit = Union[SetValue, SetKey, RemoveKey, Tuple[str, Optional[str]]]
+
+
+class FindingKind(enum.IntEnum):
+    """What is wrong in a line."""
+
+    REPEATED_KEY = 0
+    NOT_ENOUGH_DIGITS = 1
+    NOT_HEX = 2
+    INVALID_CHARACTER = 3
+
+
+class Finding(NamedTuple):
+    """What is wrong in a line. Repeated keys alone have a `key`, and as `first` the line of the first pair with it.
+    Malformed escapes alone may be in a comment. A `kind` that is no FindingKind comes only from a library that is newer
+    than this module."""
+
+    line: int
+    kind: Union[FindingKind, int]
+    key: Optional[str] = None
+    first: Optional[int] = None
+    in_comment: bool = False
+
+    @property
+    def reason(self) -> str:
+        """What is wrong, in words.
+
+        >>> findings(b"a=1\\na=2")[0].reason
+        'repeats the key of line 1'
+        """
+        if self.kind == FindingKind.REPEATED_KEY:
+            return f"repeats the key of line {self.first}"
+        if not isinstance(self.kind, FindingKind):
+            return "Unknown kind of finding."
+        return _reason(Status[self.kind.name]) + (" (in a comment)" if self.in_comment else "")
+
+
+class PropertiesError(ValueError):
+    r"""Why a call failed: a status, the reason in words, and the number of a line, or None. The status is NOT_UTF_8 if a key
+    or a value has a surrogate, and if bytes aren't text of the encoding; it is None if a file has changed since `open` read
+    it. A status that is no Status comes only from a library that is newer than this module.
+
+    >>> try:
+    ...     loads(b"a=1\nb=caf\xe9")
+    ... except PropertiesError as error:
+    ...     print(error.line, error.reason)
+    2 Not text of utf-8.
+    """
+
+    #: The file, if `load`, `open` or `save` raised the error and knows its path.
+    path: Optional[str] = None
+
+    def __init__(self, status: Optional[int], line: Optional[int] = None, reason: Optional[str] = None) -> None:
+        self.status = status
+        self.line = line
+        self.reason = reason or ("Unknown status." if status is None else _reason(status))
+        super().__init__(self.reason)
+
+    def __str__(self) -> str:
+        if self.path is None:
+            return self.reason if self.line is None else f"line {self.line}: {self.reason}"
+        return f"{self.path}: {self.reason}" if self.line is None else f"{self.path}:{self.line}: {self.reason}"
+
+    def __reduce__(self) -> Tuple[Any, ...]:
+        return type(self), (self.status, self.line, self.reason), self.__dict__
+
+
+class MalformedEscape(PropertiesError):
+    r"""A backslash with a u isn't followed by four hexadecimal digits that make a character.
+
+    >>> items(b"# C:\\users")
+    Traceback (most recent call last):
+    ...
+    todrenval.MalformedEscape: line 1: Malformed \uxxxx encoding: not hex.
+    """
+
+    #: Whether it is in a comment, which Java passes over.
+    in_comment = False
+
+    def __init__(self, status: Optional[int], line: Optional[int] = None, reason: Optional[str] = None) -> None:
+        super().__init__(status, line, reason)
+        #: If `items` raised the error, the items before the line.
+        self.items: List[Item] = []
+
+
+_ENCODINGS = {
+    "cp1252": 0,
+    "iso8859-1": 0,
+    "utf-8": 1,
+    "utf-8-sig": 1,
+    "utf-16": 2,
+    "utf-16-le": 2,
+    "utf-16-be": 3,
+}
+_DECODED = {1: "utf-8", 2: "utf-16-le", 3: "utf-16-be"}
+_MARKS = {codecs.BOM_UTF8: 1, codecs.BOM_UTF16_LE: 2, codecs.BOM_UTF16_BE: 3}
+_TARGETS = {"cp1252": 16, "utf-8": 17, "ascii": 18}
+_ASCII_ONLY, _READABLE, _READ_COMMENTS = 1, 2, 4
+_COMMENTS = {"skip": 0, "read": _READ_COMMENTS}
+_ENDINGS = {"\n": 0, "\r\n": 8, "\r": 16}
+
+_IN = [ctypes.c_char_p, ctypes.c_size_t]
+_OUT = [ctypes.c_char_p, ctypes.c_size_t, ctypes.POINTER(ctypes.c_size_t), ctypes.POINTER(ctypes.c_size_t)]
+_NUMBER = ctypes.c_uint32
+_ARGUMENTS: Dict[str, List[Any]] = {
+    "todrenval_get": [*_IN, _NUMBER, _NUMBER, *_IN, *_OUT],
+    "todrenval_items": [*_IN, _NUMBER, *_OUT],
+    "todrenval_findings": [*_IN, _NUMBER, *_OUT],
+    "todrenval_set_value": [*_IN, _NUMBER, _NUMBER, *_IN, *_IN, *_OUT],
+    "todrenval_set_key": [*_IN, _NUMBER, _NUMBER, *_IN, *_IN, *_OUT],
+    "todrenval_remove_key": [*_IN, _NUMBER, _NUMBER, *_IN, *_OUT],
+    "todrenval_edit": [*_IN, _NUMBER, _NUMBER, *_IN, *_OUT],
+    "todrenval_convert": [*_IN, _NUMBER, _NUMBER, ctypes.c_bool, *_OUT],
+    "todrenval_write": [*_IN, _NUMBER, _NUMBER, *_IN, *_IN, *_OUT],
+    "todrenval_status_text": [ctypes.c_int, *_OUT],
+}
+
+
+def _library() -> ctypes.CDLL:
+    path = os.environ.get("TODRENVAL_LIBRARY") or str(pathlib.Path(__file__).resolve().with_name("libtodrenval.so.1"))
+    try:
+        library = ctypes.CDLL(path)
+    except OSError as error:
+        where = "bindings/build.sh makes it; TODRENVAL_LIBRARY says where it is"
+        raise ImportError(f"{error}. {where}.", path=path) from None
+    library.todrenval_version.argtypes = []
+    library.todrenval_version.restype = _NUMBER
+    version = library.todrenval_version()
+    if version != VERSION:
+        raise ImportError(f"{path} has version {version} of the interface, and this module needs {VERSION}", path=path)
+    for name, arguments in _ARGUMENTS.items():
+        function = getattr(library, name, None)
+        if function is None:
+            raise ImportError(f"{path} is older than this module: it has no {name}", path=path)
+        function.argtypes = arguments
+        function.restype = ctypes.c_int
+    return library
+
+
+if not os.environ.get("TODRENVAL_LIBRARY"):
+    # Another library may be built for any x86-64 processor.
+    processor.refuse_older()
+_LIBRARY = _library()
+
+
+def _named(numbers: Type[enum.IntEnum], number: int) -> int:
+    """Returns the member of an enum, or a number that it doesn't have as it is."""
+    try:
+        return numbers(number)
+    except ValueError:
+        return number
+
+
+def _answer(name: str, room: int, *inputs: Union[bytes, int]) -> Tuple[int, bytes, Optional[int]]:
+    """Makes a call, again if the room is too small, and returns its status, what it wrote, and a line."""
+    arguments: List[Union[bytes, int]] = []
+    for given in inputs:
+        arguments += [given, len(given)] if isinstance(given, bytes) else [given]
+    length, line = ctypes.c_size_t(), ctypes.c_size_t()
+    while True:
+        out = ctypes.create_string_buffer(max(room, 1))
+        status = getattr(_LIBRARY, name)(*arguments, out, room, ctypes.byref(length), ctypes.byref(line))
+        if status != Status.NO_ROOM:
+            # string_at takes its length as a C int in older Pythons.
+            return _named(Status, status), bytes(memoryview(out)[: length.value]), line.value or None
+        room = length.value
+
+
+def _reason(status: int) -> str:
+    """Returns a status in words."""
+    return _answer("todrenval_status_text", 64, status)[1].decode()
+
+
+def _error(status: int, line: Optional[int]) -> Exception:
+    if status == Status.NO_MEMORY:
+        return MemoryError()
+    if status in (Status.NOT_ENOUGH_DIGITS, Status.NOT_HEX, Status.INVALID_CHARACTER):
+        return MalformedEscape(status, line)
+    return PropertiesError(status, line)
+
+
+def _result(name: str, room: int, *inputs: Union[bytes, int]) -> bytes:
+    status, result, line = _answer(name, room, *inputs)
+    if status != Status.OK:
+        raise _error(status, line)
+    return result
+
+
+def _bytes(data: Bytes) -> bytes:
+    if isinstance(data, bytes):
+        return data
+    try:
+        return memoryview(data).tobytes()
+    except TypeError:
+        raise TypeError(f"a file is bytes, not {type(data).__name__}; load and open take a path") from None
+
+
+def _utf_8(text: str) -> bytes:
+    if not isinstance(text, str):
+        raise TypeError(f"a key, a value or a comment is a str, not {type(text).__name__}")
+    try:
+        return text.encode("utf-8")
+    except UnicodeEncodeError:
+        raise PropertiesError(Status.NOT_UTF_8, None, "A text has a surrogate without its partner.") from None
+
+
+def _number(encoding: str) -> int:
+    number = _ENCODINGS.get(codecs.lookup(encoding).name)
+    if number is None:
+        raise LookupError(f"not an encoding of properties files: {encoding}")
+    return number
+
+
+def _source(data: Bytes, encoding: str, errors: str) -> Tuple[bytes, int]:
+    """Returns a file and the number of its encoding. Raises an error with the line if the file isn't text of it."""
+    source, number = _bytes(data), _number(encoding)
+    if errors not in ("strict", "replace"):
+        raise ValueError(f"errors are to be 'strict' or 'replace', not {errors!r}")
+    if errors == "strict":
+        _refuse_other_text(source, number)
+    return source, number
+
+
+def _in_force(source: bytes, number: int) -> int:
+    """Returns the number of the encoding that a byte order mark names, or else the number that is given."""
+    return next((_MARKS[mark] for mark in _MARKS if source.startswith(mark)), number)
+
+
+def _refuse_other_text(source: bytes, number: int) -> None:
+    decoded = _DECODED.get(_in_force(source, number))
+    if decoded is None:
+        return
+    reason = f"Not text of {decoded}."
+    place = -1
+    if decoded == "utf-8" and not source.startswith(codecs.BOM_UTF8):
+        place = source.find(b"\0")
+    if place >= 0:
+        reason = "U+0000. If this is UTF-16, give that as the encoding."
+    elif not (decoded == "utf-8" and source.isascii()):
+        try:
+            source.decode(decoded)
+        except UnicodeDecodeError as error:
+            place = error.start
+    if place >= 0:
+        before = source[:place].decode(decoded, "replace")
+        raise PropertiesError(Status.NOT_UTF_8, len(_LINE_END.findall(before)) + 1, reason)
+
+
+_LINE_END = re.compile(r"\r\n|\r|\n")
+
+
+@contextlib.contextmanager
+def _naming(path: Path) -> Iterator[None]:
+    """An error that is raised has the path."""
+    try:
+        yield
+    except PropertiesError as error:
+        error.path = os.fspath(path)
+        raise
+
+
+def _flags(comments: str, ascii_only: bool = False) -> int:
+    if comments not in _COMMENTS:
+        raise ValueError(f"comments are to be 'skip' or 'read', not {comments!r}")
+    return bool(ascii_only) * _ASCII_ONLY + _COMMENTS[comments]
+
+
+def _edited(name: str, more: int, source: bytes, number: int, flags: int, *inputs: bytes) -> bytes:
+    """Returns what a call gives that edits."""
+    status, result, line = _answer(name, len(source) + more, source, number, flags, *inputs)
+    if status != Status.OK:
+        raise _in_comment(_error(status, line), source, number, flags & _READ_COMMENTS)
+    return result
+
+
+def _in_comment(error: Exception, source: bytes, number: int, reads: int = 1) -> Exception:
+    """Sets whether an error is in a comment. If comments were read, it is the first one of all."""
+    if isinstance(error, MalformedEscape) and reads:
+        error.in_comment = _findings(source, number)[0].in_comment
+    return error
+
+
+def _record(kind: int, key: str, value: str) -> bytes:
+    key_bytes, value_bytes = _utf_8(key), _utf_8(value)
+    return struct.pack("<4Q", kind, 0, len(key_bytes), len(value_bytes)) + key_bytes + value_bytes
+
+
+def _items(packed: bytes) -> List[Item]:
+    found: List[Item] = []
+    place = 0
+    while place < len(packed):
+        kind, line, key_length, value_length = struct.unpack_from("<4Q", packed, place)
+        place += 32
+        key = packed[place : place + key_length].decode("utf-8")
+        place += key_length
+        value = packed[place : place + value_length].decode("utf-8")
+        place += value_length
+        found.append(Pair(key, value, line) if kind == 1 else Comment(value, line))
+    return found
+
+
+def items(data: Bytes, *, encoding: str = "utf-8", errors: str = "strict") -> List[Item]:
+    r"""Returns all comments and pairs in order, each with the number of its line.
+
+    Raises MalformedEscape, which has the items before it, also for one in a comment.
+
+    >>> items(b"# one\na = 1\nb = \\\n    2")
+    [Comment(text='one', line=1), Pair(key='a', value='1', line=2), Pair(key='b', value='2', line=3)]
+    """
+    return _all_items(*_source(data, encoding, errors))
+
+
+def _all_items(source: bytes, number: int) -> List[Item]:
+    status, packed, line = _answer("todrenval_items", 4 * len(source), source, number)
+    found = _items(packed)
+    if status == Status.OK:
+        return found
+    error = _in_comment(_error(status, line), source, number)
+    if isinstance(error, MalformedEscape):
+        error.items = found
+    raise error
+
+
+def loads(data: Bytes, *, encoding: str = "utf-8", errors: str = "strict", comments: str = "skip") -> Dict[str, str]:
+    r"""Returns the value of each key. If several pairs have a key, it is that of the last one.
+
+    >>> loads(b"# C:\\users\na = 1\nb : caf\\u00e9\na = 2")
+    {'a': '2', 'b': 'café'}
+    >>> loads("drink = café".encode("cp1252"), encoding="cp1252")
+    {'drink': 'café'}
+    """
+    source, number = _source(data, encoding, errors)
+    skips = not _flags(comments)
+    try:
+        found = _all_items(source, number)
+    except MalformedEscape as error:
+        if not (skips and error.in_comment):
+            raise
+        found = _all_items(_emptied(source, number), 1)
+    return {item.key: item.value for item in found if isinstance(item, Pair)}
+
+
+def _emptied(source: bytes, number: int) -> bytes:
+    """Returns a file in UTF-8 with the same pairs, and with no text in comments that have a malformed escape."""
+    converted = _result("todrenval_convert", 2 * len(source), source, number, _TARGETS["utf-8"], 0)
+    parts = re.split(rb"(\r\n|\r|\n)", converted)
+    for finding in _findings(converted, 1):
+        if finding.in_comment:
+            parts[2 * finding.line - 2] = b"#"
+    return b"".join(parts)
+
+
+def load(
+    file: Union[Path, BinaryIO], *, encoding: str = "utf-8", errors: str = "strict", comments: str = "skip"
+) -> Dict[str, str]:
+    r"""Does what `loads` does, with a path, or with a file that is open in the mode "rb".
+
+    >>> load(io.BytesIO(b"a = 1\n"))
+    {'a': '1'}
+    """
+    if isinstance(file, (str, os.PathLike)):
+        with _naming(file):
+            return loads(pathlib.Path(file).read_bytes(), encoding=encoding, errors=errors, comments=comments)
+    if hasattr(file, "read"):
+        data = file.read()
+        if isinstance(data, str):
+            raise TypeError('a file is to be open for bytes, as by open(path, "rb")')
+    else:
+        raise TypeError(f"a path or a binary file, not {type(file).__name__}; loads takes bytes")
+    return loads(data, encoding=encoding, errors=errors, comments=comments)
+
+
+@overload
+def get(
+    data: Bytes, key: str, *, default: str, encoding: str = "utf-8", errors: str = "strict", comments: str = "skip"
+) -> str: ...
+
+
+@overload
+def get(
+    data: Bytes, key: str, *, default: None = None, encoding: str = "utf-8", errors: str = "strict", comments: str = "skip"
+) -> Optional[str]: ...
+
+
+def get(
+    data: Bytes,
+    key: str,
+    *,
+    default: Optional[str] = None,
+    encoding: str = "utf-8",
+    errors: str = "strict",
+    comments: str = "skip",
+) -> Optional[str]:
+    r"""Returns the value of a key, or the default if no pair has it. It makes no dict.
+
+    >>> get(b"port = 80\nhost = a", "port")
+    '80'
+    >>> get(b"port = 80", "host", default="localhost")
+    'localhost'
+    """
+    source, number = _source(data, encoding, errors)
+    flags = _flags(comments)
+    status, value, line = _answer("todrenval_get", 4096, source, number, flags, _utf_8(key))
+    if status == Status.NO_KEY:
+        return default
+    if status != Status.OK:
+        raise _in_comment(_error(status, line), source, number, flags)
+    return value.decode("utf-8")
+
+
+def set_value(
+    data: Bytes,
+    key: str,
+    value: str,
+    *,
+    encoding: str = "utf-8",
+    errors: str = "strict",
+    ascii_only: bool = True,
+    comments: str = "skip",
+) -> bytes:
+    r"""Returns the file with the value of a key set, and with the layout of its line. If no pair has the key, one is
+    added at the end. Every other line stays as it is.
+
+    Raises MalformedEscape for one in a pair, and PropertiesError if the file is UTF-16.
+
+    >>> set_value(b"port    = 80\n", "port", "8080")
+    b'port    = 8080\n'
+    >>> set_value(b"drink : tea\n", "food", "crêpe")
+    b'drink : tea\nfood : cr\\u00eape\n'
+    """
+    texts = _utf_8(key), _utf_8(value)
+    source, number = _source(data, encoding, errors)
+    return _edited("todrenval_set_value", 100 + 2 * len(value), source, number, _flags(comments, ascii_only), *texts)
+
+
+def set_key(
+    data: Bytes,
+    key: str,
+    value: str,
+    *,
+    encoding: str = "utf-8",
+    errors: str = "strict",
+    ascii_only: bool = True,
+    comments: str = "skip",
+) -> bytes:
+    r"""Does what `set_value` does, but prints the pair anew, as `dumps` does with readable=False.
+
+    >>> set_key(b"port    = 80\n", "port", "8080")
+    b'port=8080\n'
+    """
+    texts = _utf_8(key), _utf_8(value)
+    source, number = _source(data, encoding, errors)
+    return _edited("todrenval_set_key", 100 + 2 * len(value), source, number, _flags(comments, ascii_only), *texts)
+
+
+def remove_key(
+    data: Bytes, key: str, *, encoding: str = "utf-8", errors: str = "strict", comments: str = "skip"
+) -> bytes:
+    r"""Returns the file without the pairs that have a key. Every other line stays as it is.
+
+    >>> remove_key(b"# one\na = 1\nb = 2\n", "a")
+    b'# one\nb = 2\n'
+    """
+    text = _utf_8(key)
+    source, number = _source(data, encoding, errors)
+    return _edited("todrenval_remove_key", 16, source, number, _flags(comments), text)
+
+
+def edit(
+    data: Bytes,
+    edits: Union[Mapping[str, Optional[str]], Iterable[Edit]],
+    *,
+    encoding: str = "utf-8",
+    errors: str = "strict",
+    ascii_only: bool = True,
+    comments: str = "skip",
+) -> bytes:
+    r"""Returns the file after several edits, each made to what the one before it gave. A mapping has the value that each key
+    is to have, or None if the key is to be removed. So do tuples.
+
+    It takes time in the number of the edits times the size of the file: 20,000 edits of 20,000 pairs take two seconds. If
+    no layout is to be kept, `dumps` writes any number of pairs quickly.
+
+    >>> edit(b"a = 1\nb = 2\n", {"a": "3", "b": None})
+    b'a = 3\n'
+    >>> edit(b"a = 1\nb = 2\n", [("a", "3"), RemoveKey("b"), SetKey("c", "4")])
+    b'a = 3\nc=4\n'
+    """
+    pairs: Iterable[Edit] = edits.items() if isinstance(edits, Mapping) else edits
+    packed = b"".join(_edit_record(each) for each in pairs)
+    source, number = _source(data, encoding, errors)
+    return _edited("todrenval_edit", len(packed), source, number, _flags(comments, ascii_only), packed)
+
+
+def _edit_record(each: Edit) -> bytes:
+    if isinstance(each, SetKey):
+        return _record(2, each.key, each.value)
+    if isinstance(each, RemoveKey):
+        return _record(3, each.key, "")
+    if isinstance(each, SetValue):
+        return _record(4, each.key, each.value)
+    if type(each) is tuple and len(each) == 2:
+        key, value = each
+        return _record(3, key, "") if value is None else _record(4, key, value)
+    raise TypeError(f"an edit is a SetValue, a SetKey, a RemoveKey or a tuple of a key and a value, not {each!r}")
+
+
+def convert(
+    data: Bytes, to: str, *, encoding: str = "utf-8", errors: str = "strict", readable: bool = False
+) -> bytes:
+    r"""Returns the file in another encoding: ascii, cp1252 or utf-8. Everything else stays: comments, blank lines,
+    layout, line endings, and what each key, value and comment means.
+
+    A character that `to` lacks becomes an escape. Other characters and escapes stay as they are written; but if the
+    result is to be readable, each non-ASCII character that `to` has becomes itself. Escapes of ASCII characters stay.
+
+    A byte order mark is dropped, and if the result would begin like one, its first character becomes an escape. Malformed
+    escapes are no error: the result has them in the same lines.
+
+    `to` isn't iso-8859-1, from which cp1252 differs in 27 bytes. A file in ascii reads the same there.
+
+    >>> convert("# café\nprice : 3 €\n".encode("utf-8"), "ascii")
+    b'# caf\\u00e9\nprice : 3 \\u20ac\n'
+    >>> convert(b"# caf\\u00e9\nprice : 3 \\u20ac\n", "utf-8", readable=True).decode("utf-8")
+    '# café\nprice : 3 €\n'
+    """
+    target = _TARGETS.get(codecs.lookup(to).name)
+    if target is None:
+        raise LookupError(f"not an encoding that files are converted to: {to}; use ascii, cp1252 or utf-8")
+    source, number = _source(data, encoding, errors)
+    return _result("todrenval_convert", 2 * len(source) + 16, source, number, target, bool(readable))
+
+
+Line = Union[Item, Tuple[str, str]]
+
+
+def dumps(
+    content: Union[Mapping[str, str], Iterable[Line]],
+    *,
+    encoding: str = "utf-8",
+    ascii_only: bool = True,
+    readable: bool = True,
+    prefix: str = "# ",
+    separator: str = "=",
+    ending: str = "\n",
+) -> bytes:
+    r"""Returns a file with these lines: the entries of a mapping, or comments and pairs, as `items` returns them or as
+    plain tuples of a key and a value. For utf-16 it is UTF-8.
+
+    Values are written as people write them, and as `set_value` writes them: a space at the end is \u0020, even if it is
+    the whole value, one at the front gets a backslash, and other spaces, =, :, # and ! are as they are. With
+    readable=False each of these gets a backslash. It reads back the same.
+
+    The prefix comes before the text of a comment: blanks, a # or a !, and any text. The separator comes between a key and
+    its value: = or :, with blanks around it or without, or blanks alone. The ending is "\n", "\r\n" or "\r".
+
+    >>> dumps({"port": "80", "drink": "café"})
+    b'port=80\ndrink=caf\\u00e9\n'
+    >>> dumps([Comment("the web server"), ("port", "80")], prefix="! ", separator=" : ")
+    b'! the web server\nport : 80\n'
+    >>> dumps({"quote": "Hi you: a=b"}, readable=False)
+    b'quote=Hi\\ you\\:\\ a\\=b\n'
+    """
+    lines: Iterable[Line] = content.items() if isinstance(content, Mapping) else content
+    packed = b"".join(_line_record(line) for line in lines)
+    if ending not in _ENDINGS:
+        raise ValueError(f"an ending is '\\n', '\\r\\n' or '\\r', not {ending!r}")
+    flags = bool(ascii_only) * _ASCII_ONLY + bool(readable) * _READABLE + _ENDINGS[ending]
+    texts = [_utf_8(prefix), _utf_8(separator)]
+    for text, status in zip(texts, (Status.BAD_PREFIX, Status.BAD_SEPARATOR)):
+        if not text:
+            raise PropertiesError(status)
+    return _result("todrenval_write", len(packed), packed, _number(encoding), flags, *texts)
+
+
+def _line_record(line: Line) -> bytes:
+    if isinstance(line, Comment):
+        return _record(0, "", line.text)
+    if isinstance(line, Pair) or (type(line) is tuple and len(line) == 2):
+        return _record(1, line[0], line[1])
+    raise TypeError(f"a line is a Comment, a Pair or a tuple of a key and a value, not {line!r}")
+
+
+def dump(
+    content: Union[Mapping[str, str], Iterable[Line]],
+    file: Union[Path, BinaryIO],
+    *,
+    encoding: str = "utf-8",
+    ascii_only: bool = True,
+    readable: bool = True,
+    prefix: str = "# ",
+    separator: str = "=",
+    ending: str = "\n",
+) -> None:
+    r"""Writes what `dumps` returns to a file that is open in the mode "wb"; or to a path, whole or not at all. A pipe,
+    a device or the like stays what it is, and is written to.
+
+    >>> file = io.BytesIO()
+    >>> dump({"port": "80"}, file, separator=" = ")
+    >>> file.getvalue()
+    b'port = 80\n'
+    """
+    named = {"prefix": prefix, "separator": separator, "ending": ending}
+    data = dumps(content, encoding=encoding, ascii_only=ascii_only, readable=readable, **named)
+    if not isinstance(file, (str, os.PathLike)):
+        file.write(data)
+    elif _is_regular(file):
+        _replace(file, data)
+    else:
+        with io.open(file, "wb") as special:
+            special.write(data)
+
+
+def findings(data: Bytes, *, encoding: str = "utf-8", errors: str = "strict") -> List[Finding]:
+    r"""Returns what is wrong, in the order of the lines: the first malformed escape of each, and each pair whose key an
+    earlier pair has. Unlike the other functions it goes on after a malformed escape, and it tells whether the escape is
+    in a comment.
+
+    With errors="replace", keys that differ in bytes that aren't text may read as one key, which then counts as repeated.
+
+    >>> for finding in findings(b"a = 1\nb = \\u12\na = 2\n"):
+    ...     print(finding.line, finding.reason)
+    2 Malformed \uxxxx encoding: not enough digits.
+    3 repeats the key of line 1
+    """
+    return sorted(_findings(*_source(data, encoding, errors)), key=lambda finding: finding.line)
+
+
+def _findings(source: bytes, number: int) -> List[Finding]:
+    """Returns the malformed escapes and then the repeated keys, each in the order of the lines."""
+    packed = _result("todrenval_findings", 4096, source, number)
+    found: List[Finding] = []
+    place = 0
+    while place < len(packed):
+        kind, line, first, key_length = struct.unpack_from("<4Q", packed, place)
+        place += 32
+        key = packed[place : place + key_length].decode("utf-8")
+        place += key_length
+        named = _named(FindingKind, kind)
+        if named == FindingKind.REPEATED_KEY:
+            found.append(Finding(line, named, key, first))
+        else:
+            found.append(Finding(line, named, in_comment=isinstance(named, FindingKind) and first == 1))
+    return found
+
+
+class Document(MutableMapping[str, str]):
+    r"""A file as a mapping of its keys to their values. What is set or deleted is an edit of the bytes, as `set_value` and
+    `remove_key` make it, so that everything else stays as it is.
+
+    >>> document = Document(b"# the web server\nport    = 80\nhost = a\n")
+    >>> document["port"]
+    '80'
+    >>> document["port"] = "8080"
+    >>> del document["host"]
+    >>> bytes(document)
+    b'# the web server\nport    = 8080\n'
+    """
+
+    def __init__(
+        self,
+        data: Bytes = b"",
+        *,
+        encoding: str = "utf-8",
+        errors: str = "strict",
+        ascii_only: bool = True,
+        comments: str = "skip",
+        path: Optional[Path] = None,
+    ) -> None:
+        self._data = _bytes(data)
+        self._read = {"encoding": encoding, "errors": errors, "comments": comments}
+        self._ascii_only = ascii_only
+        self._values = loads(self._data, **self._read)
+        self._edits: List[Edit] = []
+        self._is_utf_16 = _in_force(self._data, _number(encoding)) > 1
+        #: Where `save` writes it. What is given is made absolute here.
+        self.path: Optional[Path] = None if path is None else _absolute(path)
+        self._saved = self._data
+        # Where the bytes of _saved are, if it is known.
+        self._place: Optional[str] = None
+
+    def __getitem__(self, key: str) -> str:
+        return self._values[key]
+
+    def __setitem__(self, key: str, value: str) -> None:
+        _record(4, key, value)
+        self._refuse_utf_16()
+        self._edits.append(SetValue(key, value))
+        self._values[key] = value
+
+    def __delitem__(self, key: str) -> None:
+        if key in self._values:
+            self._refuse_utf_16()
+        del self._values[key]
+        self._edits.append(RemoveKey(key))
+
+    def _refuse_utf_16(self) -> None:
+        if self._is_utf_16:
+            raise PropertiesError(Status.UNSUPPORTED)
+
+    def __iter__(self) -> Iterator[str]:
+        return iter(self._values)
+
+    def __len__(self) -> int:
+        return len(self._values)
+
+    def __repr__(self) -> str:
+        return f"{type(self).__name__}({bytes(self)!r})"
+
+    def __bytes__(self) -> bytes:
+        """The file with all edits."""
+        if self._edits:
+            self._data = edit(self._data, self._edits, ascii_only=self._ascii_only, **self._read)
+            self._edits = []
+        return self._data
+
+    def copy(self) -> Document:
+        """Returns a document with the same bytes and the same path, which changes on its own."""
+        other = type(self).__new__(type(self))
+        other.__dict__.update(self.__dict__, _values=dict(self._values), _edits=list(self._edits))
+        return other
+
+    __copy__ = copy
+
+    def save(self) -> None:
+        """Writes the file to `path` if the document has changed: whole or not at all, by a new file that is synced and takes
+        the place of the old one, with its mode and its owner. Raises PropertiesError if the file has other bytes than `open`
+        read or `save` wrote there last."""
+        if self.path is None:
+            raise ValueError("a document without a path; bytes(document) has its bytes")
+        data = bytes(self)
+        if data != self._saved:
+            if not _is_regular(self.path):
+                raise _not_regular(self.path)
+            place = os.fspath(self.path)
+            _replace(place, data, self._saved if place == self._place else None)
+            self._saved, self._place = data, place
+
+    def __enter__(self) -> Document:
+        return self
+
+    def __exit__(
+        self, kind: Optional[Type[BaseException]], error: Optional[BaseException], trace: Optional[TracebackType]
+    ) -> None:
+        """Saves it, unless an error was raised."""
+        if kind is None:
+            self.save()
+
+
+def open(  # noqa: A001
+    path: Path, *, encoding: str = "utf-8", errors: str = "strict", ascii_only: bool = True, comments: str = "skip"
+) -> Document:
+    """Returns the file at a path as a Document, which a `with` saves at its end if nothing was raised.
+
+    >>> import tempfile
+    >>> path = tempfile.mktemp()
+    >>> dump({"port": "80", "host": "a"}, path, separator=" = ")
+    >>> with open(path) as settings:
+    ...     settings["port"] = "8080"
+    >>> pathlib.Path(path).read_bytes()
+    b'port = 8080\\nhost = a\\n'
+    >>> os.remove(path)
+    """
+    place = _absolute(path)
+    if not _is_regular(place):
+        raise _not_regular(path)
+    data = pathlib.Path(place).read_bytes()
+    with _naming(path):
+        document = Document(data, encoding=encoding, errors=errors, ascii_only=ascii_only, comments=comments, path=place)
+    document._place = place
+    return document
+
+
+def _absolute(path: Path) -> str:
+    """The path from the root. `os.path.abspath` would drop a link that `..` follows."""
+    text = os.fspath(path)
+    return text if os.path.isabs(text) else os.path.join(os.getcwd(), text)
+
+
+def _is_regular(path: Path) -> bool:
+    """Returns whether a path is that of a regular file, or of none, which may be made."""
+    try:
+        return stat.S_ISREG(os.stat(path).st_mode)
+    except FileNotFoundError:
+        return True
+
+
+def _not_regular(path: Path) -> OSError:
+    return OSError(errno.EINVAL, "Not a regular file", os.fspath(path))
+
+
+def _replace(path: Path, data: bytes, expected: Optional[bytes] = None) -> None:
+    """Puts bytes in the place of a file, whole or not at all: into a new file in its folder, which is renamed. Raises an error
+    instead if the file has neither these bytes nor those that are expected."""
+    real = os.path.realpath(path)
+    folder, name = os.path.split(real)
+    new = os.path.join(folder, f".{name}.{secrets.token_hex(8)}")
+    try:
+        old: Optional[os.stat_result] = os.stat(real)
+    except FileNotFoundError:
+        old = None
+    # Opened first: once the file has its new bytes, only a sync that fails can raise.
+    folder_descriptor = os.open(folder, os.O_RDONLY)
+    try:
+        descriptor = os.open(new, os.O_WRONLY | os.O_CREAT | os.O_EXCL, 0o666 if old is None else 0o600)
+        try:
+            with os.fdopen(descriptor, "wb") as file:
+                file.write(data)
+                if old is not None:
+                    made = os.fstat(descriptor)
+                    if (made.st_uid, made.st_gid) != (old.st_uid, old.st_gid):
+                        os.fchown(descriptor, old.st_uid, old.st_gid)
+                    os.fchmod(descriptor, stat.S_IMODE(old.st_mode))
+                file.flush()
+                os.fsync(descriptor)
+            if expected is not None and pathlib.Path(real).read_bytes() not in (expected, data):
+                with _naming(path):
+                    raise PropertiesError(None, None, "The file has changed since it was read.")
+            os.replace(new, real)
+        except BaseException:
+            os.unlink(new)
+            raise
+        os.fsync(folder_descriptor)
+    finally:
+        os.close(folder_descriptor)
