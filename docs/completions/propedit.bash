@@ -1,0 +1,115 @@
+# Completes propedit and propfilter in Bash. Made by docs/completions.py.
+
+# Sets `wanted` to the words that a command takes.
+_propedit_after() {
+    case $1 in
+    get) wanted='KEY..' ;;
+    list) wanted='PREFIX' ;;
+    check) wanted='FILE..' ;;
+    set) wanted='KEY VALUE EDIT' ;;
+    remove) wanted='KEY EDIT' ;;
+    convert) wanted='ENCODING' ;;
+    *) wanted= ;;
+    esac
+}
+
+# Keeps the value of an option, if it is the name of the file or its encoding.
+_propedit_option() {
+    case $1 in
+    -f | --file | -i | --in-place) file=$2 ;;
+    -e | --encoding) encoding=$2 ;;
+    esac
+}
+
+# Adds the keys of the file that begin with what is typed.
+_propedit_keys() {
+    local key
+    file=${file//[\\\"\']/}
+    file=${file/#\~\//$HOME/}
+    [ -f "$file" ] && [[ $typed != *[\\\"\']* ]] || return
+    while IFS= read -r -d '' key; do
+        COMPREPLY+=("$(printf %q "${key#"$head"}")")
+    done < <(propedit -z -f "$file" ${encoding:+-e "$encoding"} list -- "$typed" 2>/dev/null </dev/null)
+}
+
+_propedit() {
+    local wanted=COMMAND option= file= encoding= word before words=() at=-1
+    # Bash splits words at equals signs and colons too. Here they are whole again, up to the cursor.
+    local line=${COMP_LINE:0:COMP_POINT}
+    for word in "${COMP_WORDS[@]:0:COMP_CWORD}" ''; do
+        [[ $at -ge 0 && $line != [[:space:]]* ]] || at=$((at + 1))
+        line=${line#"${line%%[![:space:]]*}"}
+        words[at]+=$word
+        line=${line#"$word"}
+    done
+    local typed=${words[at]}$line
+    unset 'words[at]'
+    for word in "${words[@]:1}"; do
+        if [ -n "$option" ]; then
+            _propedit_option "$option" "$word"
+            option=
+        elif [[ $wanted == COMMAND && $word == --*=* ]]; then
+            _propedit_option "${word%%=*}" "${word#*=}"
+        elif [[ $wanted == COMMAND && $word == -* ]]; then
+            case $word in
+            -f | --file | -i | --in-place | -e | --encoding | -d | --default) option=$word ;;
+            --*) ;;
+            -*[fied]*)
+                before=${word%%[fied]*}
+                word=${word#"$before"}
+                if [ -n "${word:1}" ]; then
+                    _propedit_option "-${word::1}" "${word:1}"
+                else
+                    option=-$word
+                fi
+                ;;
+            esac
+        elif [[ $word != -- || $wanted != @(PREFIX|ENCODING) ]]; then
+            case $wanted in
+            COMMAND | EDIT) _propedit_after "$word" ;;
+            *..) ;;
+            *' '*) wanted=${wanted#* } ;;
+            *) wanted= ;;
+            esac
+        fi
+    done
+    # Readline replaces what follows the last equals sign or colon alone.
+    local head=${typed%"${typed##*["${COMP_WORDBREAKS//[!=:]/}"$'\n']}"}
+    local choices= prefix=
+    if [[ -z $option && $wanted == COMMAND && $typed == --*=* ]]; then
+        option=${typed%%=*} typed=${typed#*=} prefix=$option=
+    fi
+    COMPREPLY=()
+    case $option in
+    -f | --file | -i | --in-place) wanted=FILE ;;
+    -e | --encoding) choices='utf-8 windows-1252 utf-16le utf-16be' wanted= ;;
+    ?*) wanted= ;;
+    esac
+    case ${wanted%% *} in
+    COMMAND) [[ $typed == -* ]] && choices='-f --file -i --in-place --create -e --encoding -d --default -z --null -v --values -a --ascii -x --existing -r --readable -h --help -V --version' || choices='get list check set remove convert' ;;
+    EDIT) choices='set remove' ;;
+    ENCODING) choices='utf-8 windows-1252 ascii' ;;
+    KEY | KEY.. | PREFIX)
+        _propedit_keys
+        return
+        ;;
+    FILE | FILE..)
+        compopt -o filenames 2>/dev/null
+        mapfile -t COMPREPLY < <(compgen -P "$prefix" -f -- "$typed")
+        ;;
+    esac
+    [ -z "$choices" ] || mapfile -t COMPREPLY < <(compgen -P "$prefix" -W "$choices" -- "$typed")
+    COMPREPLY=("${COMPREPLY[@]#"$head"}")
+}
+
+_propfilter() {
+    local choices=
+    case $COMP_CWORD in
+    1) choices='utf-8 windows-1252 utf-16le utf-16be' ;;
+    2) choices=ascii ;;
+    esac
+    mapfile -t COMPREPLY < <(compgen -W "$choices" -- "${COMP_WORDS[COMP_CWORD]}")
+}
+
+complete -F _propedit propedit
+complete -F _propfilter propfilter

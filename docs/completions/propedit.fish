@@ -1,0 +1,101 @@
+# Completes propedit and propfilter in fish. Made by docs/completions.py.
+
+# Prints the words that a command takes.
+function __propedit_after
+    switch $argv[1]
+        case get
+            string split ' ' 'KEY..'
+        case list
+            string split ' ' 'PREFIX'
+        case check
+            string split ' ' 'FILE..'
+        case set
+            string split ' ' 'KEY VALUE EDIT'
+        case remove
+            string split ' ' 'KEY EDIT'
+        case convert
+            string split ' ' 'ENCODING'
+    end
+end
+
+# Whether the next word is one of these. With no argument it prints the file and its encoding, a line each.
+function __propedit_wants
+    set -l wanted COMMAND
+    set -l option
+    set -l file ''
+    set -l encoding utf-8
+    for word in (commandline -opc)[2..]
+        set -l value
+        if set -q option[1]
+            set value $word
+        else if test "$wanted" = COMMAND; and string match -q -- '--*=*' $word
+            set option (string split -m 1 = -- $word)
+            set value $option[2]
+        else if test "$wanted" = COMMAND; and contains -- $word -f --file -i --in-place -e --encoding -d --default
+            set option $word
+            continue
+        else if test "$wanted" = COMMAND; and string match -q -- '--*' $word
+            continue
+        else if test "$wanted" = COMMAND; and string match -q -- '-?*' $word
+            set -l parts (string match -r -- '^-[^fied]*([fied])(.*)' $word)
+            or continue
+            set option -$parts[2]
+            test -n "$parts[3]"; or continue
+            set value $parts[3]
+        else
+            test "$word" = --; and contains -- "$wanted" PREFIX ENCODING; and continue
+            switch "$wanted[1]"
+                case COMMAND EDIT
+                    set wanted (__propedit_after $word)
+                case '*..'
+                case '*'
+                    set -e wanted[1]
+            end
+            continue
+        end
+        switch $option[1]
+            case -f --file -i --in-place
+                set file $value
+            case -e --encoding
+                set encoding $value
+        end
+        set -e option
+    end
+    if set -q argv[1]
+        contains -- "$wanted[1]" $argv
+    else
+        printf '%s\n' (string replace -r '^~/' ~/ -- $file) $encoding
+    end
+end
+
+function __propedit_keys
+    set -l named (__propedit_wants)
+    test -f "$named[1]"; and propedit -z -f $named[1] -e $named[2] list 2>/dev/null </dev/null | string split0
+end
+
+complete -c propedit -f
+complete -c propedit -n '__propedit_wants COMMAND' -s f -l file -r -F -d 'Reads FILE instead of standard input'
+complete -c propedit -n '__propedit_wants COMMAND' -s i -l in-place -r -F -d 'Changes FILE in place (set, remove and convert)'
+complete -c propedit -n '__propedit_wants COMMAND' -l create -d 'Makes the FILE of -i if it is missing'
+complete -c propedit -n '__propedit_wants COMMAND' -s e -l encoding -x -a 'utf-8 windows-1252 utf-16le utf-16be' -d 'utf-8 (the default), windows-1252, utf-16le or utf-16be'
+complete -c propedit -n '__propedit_wants COMMAND' -s d -l default -x -d 'What get prints if no pair has a KEY, with status 0'
+complete -c propedit -n '__propedit_wants COMMAND' -s z -l null -d 'Ends each text of get and list with a zero byte'
+complete -c propedit -n '__propedit_wants COMMAND' -s v -l values -d 'Has list print KEY=VALUE; with -z, KEY and VALUE'
+complete -c propedit -n '__propedit_wants COMMAND' -s a -l ascii -d 'Has set put in ASCII-only text, right in every encoding'
+complete -c propedit -n '__propedit_wants COMMAND' -s x -l existing -d 'Has set refuse a KEY that no pair has, with status 1'
+complete -c propedit -n '__propedit_wants COMMAND' -s r -l readable -d 'Has convert write characters in place of escapes'
+complete -c propedit -n '__propedit_wants COMMAND' -s h -l help -d 'Prints this'
+complete -c propedit -n '__propedit_wants COMMAND' -s V -l version -d 'Prints the version'
+complete -c propedit -n '__propedit_wants COMMAND' -a get -d 'Prints the value of each key'
+complete -c propedit -n '__propedit_wants COMMAND' -a list -d 'Prints each key once, or those that begin with PREFIX'
+complete -c propedit -n '__propedit_wants COMMAND' -a check -d 'Reports ill-formed lines, bad escapes, repeated keys'
+complete -c propedit -n '__propedit_wants COMMAND' -a set -d 'Sets a value, keeps its line\'s layout; edits may follow'
+complete -c propedit -n '__propedit_wants COMMAND' -a remove -d 'Removes a key; edits may follow'
+complete -c propedit -n '__propedit_wants COMMAND' -a convert -d 'Changes the encoding to utf-8, windows-1252 or ascii'
+complete -c propedit -n '__propedit_wants EDIT' -a 'set remove'
+complete -c propedit -n '__propedit_wants ENCODING' -a 'utf-8 windows-1252 ascii'
+complete -c propedit -n '__propedit_wants KEY KEY.. PREFIX' -a '(__propedit_keys)'
+complete -c propedit -n '__propedit_wants FILE FILE..' -F
+complete -c propfilter -f
+complete -c propfilter -n 'test (count (commandline -opc)) -eq 1' -a 'utf-8 windows-1252 utf-16le utf-16be'
+complete -c propfilter -n 'test (count (commandline -opc)) -eq 2' -a ascii
