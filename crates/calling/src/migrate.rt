@@ -3,12 +3,12 @@
 use java_properties::{Document, Encoding, PropertiesError};
 use std::alloc::{AllocError, Global};
 
-/// The file with the names of this version: `server.port` is called `port`, and `debug` is gone. Where `retries` has no
-/// value, it gets one. Comments and all other lines stay.
+/// The file with the names of this version: `server.port` is called `port`, and keys that begin with `debug.` are gone.
+/// Where `retries` has no value, it gets one. Comments and all other lines stay.
 pub fn migrate(alloc: Global, file: &[u8]) -> Result<Vec<u8>, PropertiesError> {
     let mut document = Document::parse(alloc, file, Encoding::UTF_8)?;
     rename(alloc, &mut document, "server.port", "port")?;
-    document.remove("debug");
+    remove_all(alloc, &mut document, "debug.")?;
     if !document.contains_key("retries") {
         document.put("retries", "3")?;
     }
@@ -27,6 +27,21 @@ fn rename(alloc: Global, document: &mut Document, from: &str, to: &str) -> Resul
     Ok(())
 }
 
+// Removes the keys that begin with a prefix.
+fn remove_all(alloc: Global, document: &mut Document, prefix: &str) -> Result<(), AllocError> {
+    // `remove` changes the document, which the keys borrow from.
+    let mut found = Vec::new(alloc);
+    for key in &document.keys()? {
+        if key.starts_with(prefix) {
+            found.push(String::from_str(alloc, key)?)?;
+        }
+    }
+    for key in &found {
+        document.remove(key.as_str());
+    }
+    Ok(())
+}
+
 #[cfg(test)]
 mod tests {
     use super::*;
@@ -36,7 +51,7 @@ mod tests {
     #[test]
     fn brings_a_file_to_new_names(rt: HostRuntime) -> Result<(), Fail> {
         let wanted = b"# ours\n\nhost = a\nport=80\nretries=3\n".as_slice();
-        let old = b"# ours\nserver.port : 80\n\ndebug=yes\nhost = a\n".as_slice();
+        let old = b"# ours\nserver.port : 80\n\ndebug.log=yes\nhost = a\ndebug.ui=no\n".as_slice();
         for file in [old, wanted] {
             let migrated = migrate(rt.alloc(), file)?;
             same(&rt, migrated.as_slice(), wanted);
