@@ -5,7 +5,7 @@
     docs/manual.py --check    compares them, and ends with 1 where one is not what its page says
 
 What stands before a page's first section is left out. A point that begins with code and a colon is an entry of a list of
-terms. The version and the date are those of CHANGELOG.md.
+terms, and so is a row of a table: its first cell, and what the others say. The version and the date are those of CHANGELOG.md.
 """
 import pathlib
 import re
@@ -74,6 +74,15 @@ def mark_word(found):
     return rf"\fI{word}\fR" if PLACEHOLDER.fullmatch(word) else r"\fB" + escaped(word, True) + r"\fR"
 
 
+def table(lines):
+    """The rows after the heads of the columns, each as an entry of a list of terms."""
+    out = []
+    for line in lines[2:]:
+        term, *meaning = (cell.strip() for cell in line.strip("| ").split(" | "))
+        out += [".TP", inline(term)] + prose(" ".join(meaning))
+    return out
+
+
 def blocks(text):
     """The blocks of a page: a heading, a paragraph, a point of a list, or lines of code."""
     taken = []
@@ -102,6 +111,8 @@ def manual(page, name):
             out.append(".SH " + escaped(section.upper(), False))
         elif lines[0].startswith("    "):
             out += synopsis(lines) if section == "Synopsis" else code(lines)
+        elif lines[0].startswith("|"):
+            out += table(lines)
         elif section == "Name":
             out.append(escaped(body, False).replace(" - ", r" \- ", 1))
         elif TERM.fullmatch(body):

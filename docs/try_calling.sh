@@ -67,7 +67,6 @@ block stdin docs/CALLING.md >crates/my_program/stdin
 block stdout docs/CALLING.md >"$work/wanted"
 mkdir -p crates/readme/src
 block 'rust' README.md >crates/readme/src/main.rt
-block 'stdout' README.md >"$work/wanted_of_readme"
 echo 'readme: counted_io java_properties' >>crates.txt
 mkdir -p crates/value_of/src
 block 'rust tool' docs/CALLING.md >crates/value_of/src/main.rt
@@ -82,8 +81,9 @@ try() {
     echo "$name prints what the page says"
 }
 try my_program "$PWD/crates/my_program/stdin" "$work/wanted"
-try readme /dev/null "$work/wanted_of_readme"
+# README says so before its program.
 echo 8080 >"$work/port"
+try readme /dev/null "$work/port"
 try value_of /dev/null "$work/port" --data app.properties="$PWD/crates/my_program/stdin" -- app.properties port
 mkdir -p crates/examples/src
 "$top/docs/examples.py" >crates/examples/src/lib.rt
