@@ -1,7 +1,7 @@
 //! Classes of bytes, tested sixteen bytes at a time: which bytes belong to a class, and where the first of them is.
 //!
 //! A [`ByteClass`] tests one byte, or a block of sixteen. [`Byte`] is the class of one byte, and [`Within`] that of a
-//! range; line ends, control characters and the bytes past ASCII have classes of their own; [`Either`] and [`Except`]
+//! range; line endings, control characters and the non-ASCII bytes have classes of their own; [`Either`] and [`Except`]
 //! combine classes, and a class of your own takes one call of [`table_marks`]. For example, a reader of CSV finds the
 //! end of a field:
 //!

@@ -1,4 +1,4 @@
--- What looks at no character past ASCII sees the same in bytes of windows-1252 and in their characters.
+-- What looks at no non-ASCII character sees the same in bytes of windows-1252 and in their characters.
 use Rattle.std.proofs.Common.{◌≡◌, ℕ, zero, suc, ◌<◌, ◌≤◌, ◌==◌, ◌%◌, Bool, true, false, List, [], ◌∷◌, ◌++◌, length, map, reverse, refl, sym, ap, ap₂, ◌∙◌, inl, inr, arith}
 use Rattle.std.proofs.lemmas.Bool.{cases_Bool}
 use Rattle.std.proofs.lemmas.List.{map-append, take-map, drop-map}
@@ -20,7 +20,7 @@ use Rattle.properties_format.specs.Computed.Undecoded.{characters_of, decoded, i
 
 -- ---- one character
 
--- a byte past ASCII is a character past ASCII
+-- a non-ASCII byte is a non-ASCII character
 pub past-character : (b : ℕ) → 0x80 ≤ b → 0x80 ≤ windows_1252_character b
 past-character b h = grind (arith, windows_1252-ascii)
 

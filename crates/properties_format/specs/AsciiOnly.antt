@@ -40,7 +40,7 @@ pub record AreItemsInBoth (bytes : List ℕ) (entries : List Entry) : Type 0 whe
 
 -- ---- Edits.
 
--- the bytes past ASCII, from 80 hexadecimal on, in order
+-- the non-ASCII bytes, from 80 hexadecimal on, in order
 abbrev pub beyond_ascii : List ℕ → List ℕ
 beyond_ascii [] = []
 beyond_ascii (b ∷ bs) = if nat_lt b 0x80 then beyond_ascii bs else b ∷ beyond_ascii bs
@@ -50,7 +50,7 @@ abbrev pub IsSubsequence : List ℕ → List ℕ → Type 0
 IsSubsequence some [] = some ≡ []
 IsSubsequence some (x ∷ all) = IsSubsequence some all ⊎ (more : List ℕ) × (some ≡ x ∷ more) × IsSubsequence more all
 
--- Only ASCII is put into the source: each byte past ASCII in the result is one of the source's, in order.
+-- Only ASCII is put into the source: each non-ASCII byte in the result is one of the source's, in order.
 abbrev pub PutsInAscii : List ℕ → List ℕ → Type 0
 PutsInAscii source result = IsSubsequence (beyond_ascii result) (beyond_ascii source)
 

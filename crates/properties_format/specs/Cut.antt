@@ -1,6 +1,6 @@
--- The lines of bytes before they are decoded: line ends are searched for among the units, and each line is decoded by
--- itself. A unit is one byte, or two bytes in UTF-16. The text of an ended line is its bytes here, until it is decoded.
--- Source: java.util.Properties of Java SE 7, load (what ends a line); The Unicode Standard, D77 (code units).
+-- The lines of bytes before they are decoded: line endings are searched for among the units, and each line is decoded
+-- by itself. A unit is one byte, or two bytes in UTF-16. The text of an ended line is its bytes here, until it is
+-- decoded. Source: java.util.Properties of Java SE 7, load (what ends a line); The Unicode Standard, D77 (code units).
 use Rattle.std.specs.Prelude.{◌≡◌, ℕ, List, [], ◌∷◌, ◌++◌}
 use Rattle.properties_format.specs.Text.{line_feed, carriage_return, LineEnding, lf, cr, crlf}
 use Rattle.properties_format.specs.Lines.{Ended, Lines, HoldsNoLineEnd, BeginsWithNoLoneLf}
@@ -29,7 +29,7 @@ HoldsNoLineEndUnit e d = HoldsNoLineEnd (units e d)
 
 -- ---- The cut: lines of bytes.
 
--- the bytes of a line end
+-- the bytes of a line ending
 abbrev pub line_ending_bytes : Encoding → LineEnding → List ℕ
 line_ending_bytes e lf = ascii_bytes e line_feed
 line_ending_bytes e cr = ascii_bytes e carriage_return

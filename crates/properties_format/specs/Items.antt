@@ -58,7 +58,7 @@ IsOutcome x (given (comment text)) = MeansComment x text
 IsOutcome x (given (pair key value)) = MeansPair x key value
 IsOutcome x (broken kind) = BreaksComment x kind ⊎ (BreaksKey x kind ⊎ BreaksValue x kind)
 
--- what the ending adds after n line ends: if a read failed, the error has the number of the line in which it failed
+-- what the ending adds after n line endings: if a read failed, the error has the number of the line in which it failed
 abbrev pub last_entries : ℕ → InputEnd → List Entry
 last_entries n end = []
 last_entries n fault = read_fault (n + 1) ∷ []
@@ -70,7 +70,7 @@ IsFollowed number ignored Rest entries = Rest entries
 IsFollowed number (given content) Rest entries = (rest : List Entry) × (entries ≡ item number content ∷ rest) × Rest rest
 IsFollowed number (broken kind) Rest entries = entries ≡ malformed kind number ∷ []
 
--- The entries of these groups, with this ending after n line ends: the outcome of each group, with the number of its
+-- The entries of these groups, with this ending after n line endings: the outcome of each group, with the number of its
 -- first line.
 abbrev pub AreEntries : ℕ → InputEnd → List (List Line) → List Entry → Type 0
 AreEntries n ending [] entries = entries ≡ last_entries n ending

@@ -9,8 +9,8 @@ use Rattle.properties_format.specs.Groups.{IsGroups}
 use Rattle.properties_format.specs.Items.{Entry, AreEntries, last_entries}
 
 -- The state of a reader: the encoding in force, or the requested one as long as it is undecided whether the input
--- begins with a byte order mark; the bytes that were read and not yet taken; the number of line ends that were passed;
--- whether the last of them was a CR, whose LF may still come; and whether the reader is permanently at its end.
+-- begins with a byte order mark; the bytes that were read and not yet taken; the number of line endings that were
+-- passed; whether the last of them was a CR, whose LF may still come; and whether the reader is permanently at its end.
 pub record ReaderState : Type 0 where
   pub encoding : Encoding
   pub is_decided : Bool
@@ -27,7 +27,7 @@ start e = record { encoding = e; is_decided = false; held = []; passed = 0; afte
 abbrev pub in_force : ReaderState → List ℕ → InForce
 in_force s d = if s.is_decided then record { encoding = s.encoding; body = s.held ++ d } else byte_order_mark s.encoding (s.held ++ d)
 
--- the text after a line end: if that end is a CR, an LF at the front belongs to it
+-- the text after a line ending: if that end is a CR, an LF at the front belongs to it
 abbrev pub IsAfterEnd : Bool → List ℕ → List ℕ → Type 0
 IsAfterEnd false x text = x ≡ text
 IsAfterEnd true x text = (x ≡ line_feed ∷ text) ⊎ (x ≡ text) × ((y : List ℕ) → text ≢ line_feed ∷ y)

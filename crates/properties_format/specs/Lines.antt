@@ -9,7 +9,7 @@ pub record Ended : Type 0 where
   pub text : List ℕ
   pub by : LineEnding
 
--- the lines of a text: those that a line end ends, and the last one, which the end of the text ends
+-- the lines of a text: those that a line ending ends, and the last one, which the end of the text ends
 pub record Lines : Type 0 where
   pub ended : List Ended
   pub last : List ℕ
@@ -29,8 +29,8 @@ abbrev pub BeginsWithNoLoneLf : List Ended → Type 0
 BeginsWithNoLoneLf [] = Unit {0}
 BeginsWithNoLoneLf (l ∷ ls) = ¬ ((l.text ≡ []) × (l.by ≡ lf))
 
--- No line contains a line end. After a line that a CR ends, the next line isn't an empty one that an LF ends, because
--- that LF would belong to the same end.
+-- No line contains a line ending. After a line that a CR ends, the next line isn't an empty one that an LF ends,
+-- because that LF would belong to the same end.
 abbrev pub AreLines : List Ended → List ℕ → Type 0
 AreLines [] last = HoldsNoLineEnd last
 AreLines (l ∷ ls) last = HoldsNoLineEnd l.text × (l.by ≡ cr → BeginsWithNoLoneLf ls) × AreLines ls last
@@ -40,7 +40,7 @@ pub record IsLines (x : List ℕ) (lines : Lines) : Type 0 where
   pub text : x ≡ put_together lines.ended lines.last
   pub are_lines : AreLines lines.ended lines.last
 
--- the number of line ends
+-- the number of line endings
 abbrev pub line_ends : Lines → ℕ
 line_ends lines = length lines.ended
 
@@ -61,7 +61,8 @@ pub record Line : Type 0 where
   pub number : ℕ
   pub text : List ℕ
 
--- the lines after n line ends, with their numbers; characters after the last line end are a line only if the input ends
+-- the lines after n line endings, with their numbers; characters after the last line ending are a line only if the
+-- input ends
 abbrev pub numbered : ℕ → List Ended → List ℕ → InputEnd → List Line
 numbered n [] last end = record { number = n + 1; text = last } ∷ []
 numbered n [] last fault = []

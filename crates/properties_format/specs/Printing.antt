@@ -50,7 +50,7 @@ abbrev pub has_letter : ℕ → Bool
 has_letter c = (c == tab || c == line_feed) || (c == form_feed || c == carriage_return)
 
 -- How a character is printed. In a key or a value, the characters with a special meaning and everything below the space
--- are escaped; in a comment, the backslash and the line ends are. Everywhere, a character that the encoding lacks is
+-- are escaped; in a comment, the backslash and the line endings are. Everywhere, a character that the encoding lacks is
 -- escaped, and if ASCII-only output is on, so is every character above U+007F.
 abbrev pub printed_character : Encoding → Bool → Place → ℕ → List ℕ
 printed_character e only in_key_or_value c =
@@ -120,7 +120,7 @@ printed_key e only first key = if first && is_bom_like e only key then with_firs
 abbrev pub written_value : Encoding → Settings → List ℕ → List ℕ
 written_value e s value = if s.readable then printed_value e s.ascii_only (is_blanks s.kv_separator) value else printed_characters e s.ascii_only in_key_or_value value
 
--- the characters of a printed line: prefix, text and line end; or key, separator, value and line end
+-- the characters of a printed line: prefix, text and line ending; or key, separator, value and line ending
 abbrev pub printed_text : Encoding → Settings → Bool → Content → List ℕ
 printed_text e s first (comment text) = printed_characters e s.ascii_only in_prefix s.comment_prefix ++ (printed_characters e s.ascii_only in_comment text ++ line_ending_text s.line_ending)
 printed_text e s first (pair key value) = printed_key e s.ascii_only first key ++ (s.kv_separator ++ (written_value e s value ++ line_ending_text s.line_ending))

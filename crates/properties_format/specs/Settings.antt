@@ -21,7 +21,7 @@ pub record Settings : Type 0 where
 abbrev pub default_settings : Settings
 default_settings = record { comment_prefix = number_sign ∷ space ∷ []; kv_separator = equals_sign ∷ []; line_ending = lf; ascii_only = false; readable = false }
 
--- A good comment prefix: any number of blanks, a comment sign, and any text without a line end.
+-- A good comment prefix: any number of blanks, a comment sign, and any text without a line ending.
 pub record IsGoodPrefix (prefix : List ℕ) : Type 0 where
   pub indent : List ℕ
   pub sign : ℕ

@@ -84,7 +84,7 @@ pub data LineEnding : Type 0 where
   cr : LineEnding
   crlf : LineEnding
 
--- the characters of a line end
+-- the characters of a line ending
 abbrev pub line_ending_text : LineEnding → List ℕ
 line_ending_text lf = line_feed ∷ []
 line_ending_text cr = carriage_return ∷ []

@@ -30,7 +30,7 @@ use Rattle.properties_lines.specs.declared.scanner.Scanner.{Scanner}
 use Rattle.properties_lines.proofs.ScannerFront.{fits-grown, fits-release, release}
 use Rattle.properties_lines.proofs.Scans.{kept-encoding}
 
--- ---- where no line end is held
+-- ---- where no line ending is held
 
 none-ended : (n : ℕ) (ls : List Ended) (last : List ℕ) → numbered n ls last more ≡ [] → ls ≡ []
 none-ended n [] last h = refl

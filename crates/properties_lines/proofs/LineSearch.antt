@@ -1,4 +1,4 @@
--- The steps of a search for a line end among undecoded bytes.
+-- The steps of a search for a line ending among undecoded bytes.
 use Rattle.std.proofs.Common.{◌≡◌, ◌<◌, ◌≤◌, ◌+◌, ◌-◌, ◌%◌, ◌==◌, ℕ, suc, zero, true, false, Bool, List, [], ◌∷◌, ◌++◌, take, drop, length, get_or}
 use Rattle.std.proofs.Common.{drop-cons, length-append, length-drop, refl, sym, ap, subst, ◌∙◌, arith}
 use Rattle.std.specs.Prelude.{Option, Some, None, option_map}
@@ -85,7 +85,7 @@ searched-grown e bytes more from s =
       none_before = subst (HoldsNoLineEndUnit e) same s.none_before;
     }
 
--- where bytes hold no line end, their whole units are searched
+-- where bytes hold no line ending, their whole units are searched
 pub searched-whole : (e : Encoding) (bytes : List ℕ) → HoldsNoLineEndUnit e bytes → IsSearched e bytes (whole_units e (length bytes))
 searched-whole e bytes h =
     let n = whole_units e (length bytes) in
@@ -166,7 +166,7 @@ searched-all e bytes from s h =
 
 -- ---- The unit at a place.
 
--- it is a line end
+-- it is a line ending
 pub found-at : (e : Encoding) (bytes : List ℕ) (end : LineEnd) (rest : List ℕ) → IsSearched e bytes end.at
     → drop end.at bytes ≡ ascii_bytes e (end_character end.is_cr) ++ rest → IsFirstLineEnd e bytes end
 found-at e bytes end rest s h =
@@ -212,7 +212,7 @@ end_character-of : (c : ℕ) (is_cr : Bool) → (c == carriage_return) ≡ is_cr
 end_character-of c true h is = grind (arith, nat_tests)
 end_character-of c false h is = grind (arith, nat_tests)
 
--- a byte that is a line end
+-- a byte that is a line ending
 pub found-byte : (e : Encoding) (bytes : List ℕ) (from at : ℕ) → unit_size e ≡ 1 → IsSearched e bytes from
     → NoneBefore (Passes is_line_end bytes) from (length bytes) at → is_line_end (get_or bytes at 0) ≡ true
     → IsFirstLineEnd e bytes (record { at = at; is_cr = get_or bytes at 0 == carriage_return })
@@ -237,14 +237,14 @@ two-at d at h =
     drop-cons d (at + 1) 0 high ∙ ap (λ n. get_or d (at + 1) 0 ∷ drop n d) two in
     drop-cons d at 0 low ∙ ap (λ v. get_or d at 0 ∷ v) (ap (λ n. drop n d) one ∙ second)
 
--- a unit of two bytes that is the character of a line end
+-- a unit of two bytes that is the character of a line ending
 pub found-unit : (e : Encoding) (bytes : List ℕ) (end : LineEnd) → IsSearched e bytes end.at → end.at + 2 ≤ length bytes
     → ascii_bytes e (end_character end.is_cr) ≡ get_or bytes end.at 0 ∷ get_or bytes (end.at + 1) 0 ∷ [] → IsFirstLineEnd e bytes end
 found-unit e bytes end s le h =
     let rest = drop (end.at + 2) bytes in
     found-at e bytes end rest s (two-at bytes end.at le ∙ ap (λ v. v ++ rest) (sym h))
 
--- a search goes on after a unit of two bytes that is no line end
+-- a search goes on after a unit of two bytes that is no line ending
 pub searched-past : (e : Encoding) (bytes : List ℕ) (at : ℕ) → unit_size e ≡ 2 → IsSearched e bytes at → at + 2 ≤ length bytes
     → HoldsNoLineEndUnit e (get_or bytes at 0 ∷ get_or bytes (at + 1) 0 ∷ []) → IsSearched e bytes (at + 2)
 searched-past e bytes at size s le none =

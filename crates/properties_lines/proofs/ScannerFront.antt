@@ -192,7 +192,7 @@ skips-mark old new held ended h d waits is le same =
       front = front-undecided s undecided ∙ ap (λ v. let w : ReaderState = v in front-held_by w) (sym is);
     }
 
--- ---- an LF of the line end before
+-- ---- an LF of the line ending before
 
 awaits-unit : (s : Scanner) (held : List ℕ) → s.is_done ≡ false → s.front ≡ Feed → length (drop s.at held) < unit_size (encoding_of s.encoding)
     → natural_to_come (scanner_state s held) [] more ≡ []

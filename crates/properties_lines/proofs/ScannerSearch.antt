@@ -55,7 +55,7 @@ decided-left t lines held is_after h reads =
     let P : Bool → Type 0 = λ v. ReadsLines t [] lines (record t { is_decided = v; held = held; passed = t.passed + 1; after_cr = is_after }) in
     subst P h reads
 
--- what stands after the first unit of a line end, as far as it is held
+-- what stands after the first unit of a line ending, as far as it is held
 pub data Tail (e : Encoding) (after : List ℕ) : Type 0 where
   of_lf : Tail e after
   of_cr : begins_with_lf (units e after) ≡ false → unit_size e ≤ length after → Tail e after
@@ -220,7 +220,7 @@ takes-line s held n unit is_ascii has_backslash r ready found size told =
       flags = subst Tells (sym whole) told;
     }
 
--- the scanner after a line and its line end
+-- the scanner after a line and its line ending
 abbrev after_line_end : Scanner → ℕ → ℕ → Bool → Bool → Scanner
 after_line_end s n unit is_ascii has_backslash = record s { passed = s.passed + 1; at = s.at + n + unit; line = line_at s n is_ascii has_backslash }
 
@@ -250,7 +250,7 @@ takes s held end unit feed front is_ascii has_backslash h r cr at-front at-feed 
     let fronted : P front feed 0 = subst (λ f. P f feed 0) (sym at-front) fed in
     subst (λ n. P front feed n) (sym h.nothing) fronted
 
--- up to a line end that is an LF
+-- up to a line ending that is an LF
 pub takes-lf : (s : Scanner) (held : List ℕ) (end : LineEnd) (unit : ℕ) (is_ascii has_backslash : Bool) → IsTaken s held end unit is_ascii has_backslash → end.is_cr ≡ false
     → TakesLine s held (after_line_end s end.at unit is_ascii has_backslash)
 takes-lf s held end unit is_ascii has_backslash h lf =
@@ -286,7 +286,7 @@ clear-nowhere bytes n within clear k low high e = absurd (cc (before k high, e))
         let one = All-get_or (λ b. is_line_end b ≡ false) (take n bytes) k 0 (omega (arith, h, length-take-le n bytes (omega (arith, within)))) clear in
         subst (λ b. is_line_end b ≡ false) (get_or-take n bytes k 0 h) one
 
--- the first byte that ends a line is the first line end
+-- the first byte that ends a line is the first line ending
 pub found-end : (e : Encoding) (bytes : List ℕ) (n : ℕ) → unit_size e ≡ 1 → n < length bytes → All (λ b. is_line_end b ≡ false) (take n bytes)
     → is_line_end (get_or bytes n 0) ≡ true → IsFirstLineEnd e bytes (record { at = n; is_cr = get_or bytes n 0 == carriage_return })
 found-end e bytes n size within clear ends =
@@ -400,7 +400,7 @@ holds-escape : (bytes : List ℕ) (from at : ℕ) → from < at → at ≤ lengt
 holds-escape bytes from at low within escaped =
     sym (holds-at (take at bytes) from (omega (arith, low, length-take-le at bytes within)) (get_or-take at bytes from 0 low ∙ escaped))
 
--- up to the line end after it
+-- up to the line ending after it
 pub tells-escaped : (bytes : List ℕ) (from : ℕ) (was_ascii : Bool) (found : BlockSearch) → IsBefore is_line_end bytes from was_ascii
     → FindsByte is_line_end bytes found → get_or bytes from 0 ≡ backslash → TellsBackslash bytes found true
 tells-escaped bytes from was_ascii (Found size is_ascii) before h escaped =

@@ -171,7 +171,7 @@ more-of old mid held f g n h holds = record {
         let body : drop old.at held ≡ drop mid.at held = ap (λ v. let w : InForce = v in w.body) (rw k at h.front) in
         inl (omega (arith, ap length body, length-drop old.at held, length-drop mid.at held, f.within, h.fits.within), settled h ∙ sym k)
 
--- no line end is held
+-- no line ending is held
 pub asks-for_more : (old mid new : Scanner) (held : List ℕ) → Fits old held → old.is_done ≡ false → old.passed + 1 < 2 ^ 64 → IsAlike old held false mid → LacksEnd mid held new
     → AsksForMore old held new
 asks-for_more old mid new held f g n h k =

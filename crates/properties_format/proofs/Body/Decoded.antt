@@ -17,13 +17,13 @@ use Rattle.properties_format.proofs.Cut.Byline.{no_end-undecoded}
 pub decoded-nil : (e : Encoding) → decoded_line e [] ≡ []
 decoded-nil e = ap characters (pieces_of-nil e)
 
--- Bytes without a line end unit contain no CR and no LF.
+-- Bytes without a line ending unit contain no CR and no LF.
 plain-unit : (e : Encoding) (d : List ℕ) → is_editable e ≡ true → HoldsNoLineEndUnit e d → HoldsNoLineEnd d
 plain-unit utf_16le d ok h = absurd (cc)
 plain-unit utf_16be d ok h = absurd (cc)
 plain-unit e d ok h = h
 
--- If a text contains no line end, its bytes contain none.
+-- If a text contains no line ending, its bytes contain none.
 pub plain-bytes : (e : Encoding) (d : List ℕ) → is_editable e ≡ true → HoldsNoLineEnd (decoded_line e d) → HoldsNoLineEnd d
 plain-bytes e d ok h = plain-unit e d ok (no_end-undecoded e d h)
 

@@ -23,7 +23,7 @@ abbrev numbered_from : ℕ → List HeldLine → List Line
 numbered_from n [] = []
 numbered_from n (h ∷ hs) = record { number = n; text = h.text } ∷ numbered_from (n + 1) hs
 
--- The decoded lines after n line ends are the lines of the body, numbered from n + 1 on.
+-- The decoded lines after n line endings are the lines of the body, numbered from n + 1 on.
 numbered-held : (e : Encoding) (n : ℕ) (ls : List Ended) (last : List ℕ) → numbered n (decoded_ended e ls) (decoded_line e last) end ≡ numbered_from (n + 1) (held_of e ls last)
 numbered-held e n [] last = refl
 numbered-held e n (l ∷ ls) last = ap (λ v. record { number = n + 1; text = decoded_line e l.text } ∷ v) (numbered-held e (n + 1) ls last)

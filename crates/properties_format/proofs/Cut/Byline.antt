@@ -43,11 +43,11 @@ first-end (c ∷ x) = elim (cases_Bool (is_line_end c)) [
   | inr h ↦ elim (first-end x) [ inl p ↦ inl (h, p) | inr q ↦ inr (c ∷ q.0, q.1, q.2, q.3, ap (λ v. c ∷ v) q.4) ]
 ]
 
--- A line end is an ASCII character.
+-- A line ending is an ASCII character.
 pub end-ascii : (c : ℕ) → is_line_end c ≡ true → c < 0x80
 end-ascii c h = grind (arith)
 
--- Bytes without a line end unit decode to a text without a line end.
+-- Bytes without a line ending unit decode to a text without a line ending.
 pub no_end-decoded : (e : Encoding) (d : List ℕ) → HoldsNoLineEndUnit e d → HoldsNoLineEnd (decoded_line e d)
 no_end-decoded e d h = grind (arith, first-end, cut-at_ascii, no_end_unit-at)
 
@@ -73,12 +73,12 @@ decoded_lines-meets e d lines h = grind (arith, decoded-together, lines-decoded)
 pub decoded_lines-cut : (e : Encoding) (d : List ℕ) → decoded_lines e (cut_of e d) ≡ lines_of (decoded_line e d)
 decoded_lines-cut e d = lines_of-only (decoded_line e d) (decoded_lines e (cut_of e d)) (decoded_lines-meets e d (cut_of e d) (cut_of-meets e d))
 
--- If no decoded line is ended, the lines of bytes, put together, contain no line end unit.
+-- If no decoded line is ended, the lines of bytes, put together, contain no line ending unit.
 no_ended : (e : Encoding) (ls : List Ended) (last : List ℕ) → decoded_ended e ls ≡ [] → AreCut e ls last → HoldsNoLineEndUnit e (bytes_together e ls last)
 no_ended e [] last h k = k
 no_ended e (l ∷ ls) last h k = absurd (cc)
 
--- Bytes that decode to a text without a line end contain no line end unit.
+-- Bytes that decode to a text without a line ending contain no line ending unit.
 pub no_end-undecoded : (e : Encoding) (d : List ℕ) → HoldsNoLineEnd (decoded_line e d) → HoldsNoLineEndUnit e d
 no_end-undecoded e d h =
     let c = cut_of-meets e d in

@@ -64,7 +64,7 @@ two-meets : (e : Encoding) (unit : ℕ → ℕ → ℕ) (a b : ℕ) (ended : Lis
     → IsCut e d (record { ended = ended; last = last }) → IsCut e (a ∷ b ∷ d) (two_before a b (record { ended = ended; last = last }))
 two-meets e unit a b ended last d h k m = grind (arith)
 
--- A line end unit is a CR or an LF.
+-- A line ending unit is a CR or an LF.
 unit-meets : (e : Encoding) (unit : ℕ → ℕ → ℕ) (a b : ℕ) (lines : Lines) (d : List ℕ) → IsOfTwo e unit
     → IsCut e d lines → IsCut e (a ∷ b ∷ d) (unit_before (unit a b) a b lines)
 unit-meets e unit a b lines d t h = elim (cases_Bool (is_line_end (unit a b))) [

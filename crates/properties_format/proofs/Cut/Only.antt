@@ -9,18 +9,18 @@ use Rattle.properties_format.specs.Computed.Cut.{cut_of}
 use Rattle.properties_format.proofs.Lines.Only.{lines_of-plain, lines_of-before}
 use Rattle.properties_format.proofs.Cut.Two.{ReadsEnds, two-plain, two-line}
 
--- Bytes without a line end unit are one line.
+-- Bytes without a line ending unit are one line.
 pub cut_of-plain : (e : Encoding) (d : List ℕ) → HoldsNoLineEndUnit e d → cut_of e d ≡ record { ended = []; last = d }
 cut_of-plain utf_16le d h = two-plain low_first d h
 cut_of-plain utf_16be d h = two-plain high_first d h
 cut_of-plain e d h = lines_of-plain d h
 
--- In windows-1252, the bytes of a line end are its characters.
+-- In windows-1252, the bytes of a line ending are its characters.
 pub ending-windows_1252 : (by : LineEnding) → line_ending_bytes windows_1252 by ≡ line_ending_text by
 ending-windows_1252 lf = refl
 ending-windows_1252 by = refl
 
--- In UTF-8, the bytes of a line end are its characters.
+-- In UTF-8, the bytes of a line ending are its characters.
 pub ending-utf_8 : (by : LineEnding) → line_ending_bytes utf_8 by ≡ line_ending_text by
 ending-utf_8 lf = refl
 ending-utf_8 by = refl

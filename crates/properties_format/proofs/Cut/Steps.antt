@@ -29,7 +29,7 @@ no_lone e (l ∷ ls) last h = of_line l.text l.by (bytes_together e ls last) h
 pub cut_of-no_lone : (e : Encoding) (y : List ℕ) → begins_with_lf (units e y) ≡ false → BeginsWithNoLoneLf (cut_of e y).ended
 cut_of-no_lone e y h = no_lone e (cut_of e y).ended (cut_of e y).last (sym (ap (λ v. begins_with_lf (units e v)) (cut_of-meets e y).bytes) ∙ h)
 
--- A line and its end before any bytes; a CR is a line end by itself only if no LF unit follows.
+-- A line and its end before any bytes; a CR is a line ending by itself only if no LF unit follows.
 pub cut_of-line : (e : Encoding) (text : List ℕ) (by : LineEnding) (y : List ℕ) → HoldsNoLineEndUnit e text → IsAligned e text
     → (by ≡ cr → begins_with_lf (units e y) ≡ false) → cut_of e (text ++ (line_ending_bytes e by ++ y)) ≡ line_in_front text by (cut_of e y)
 cut_of-line e text by y h a k = cut_of-before e text by y (cut_of e y).ended (cut_of e y).last h a (λ q. cut_of-no_lone e y (k q)) refl

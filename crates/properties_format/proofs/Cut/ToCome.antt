@@ -1,4 +1,4 @@
--- A line end in undecoded bytes is one in the decoded text, and separates what is decoded before it from what is
+-- A line ending in undecoded bytes is one in the decoded text, and separates what is decoded before it from what is
 -- decoded after it.
 use Rattle.std.proofs.Common.{◌≡◌, ℕ, true, false, List, [], ◌∷◌, ◌++◌, ap, ◌∙◌, lit<, eqb-true}
 use Rattle.std.proofs.lemmas.Bool.{false_from_ne_true}

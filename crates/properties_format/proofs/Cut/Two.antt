@@ -18,12 +18,12 @@ pub record ReadsEnds (e : Encoding) (unit : ℕ → ℕ → ℕ) : Type 0 where
 pub unit-plain : (u a b : ℕ) (lines : Lines) → is_line_end u ≡ false → unit_before u a b lines ≡ two_before a b lines
 unit-plain u a b lines h = cond-false (is_line_end u) (before u lines) (two_before a b lines) h
 
--- Bytes without a line end unit are one line.
+-- Bytes without a line ending unit are one line.
 pub two-plain : (unit : ℕ → ℕ → ℕ) (d : List ℕ) → HoldsNoLineEnd (units_of_two unit d) → cut_of_two unit d ≡ record { ended = []; last = d }
 two-plain unit (a ∷ b ∷ d) h = ap (unit_before (unit a b) a b) (two-plain unit d h.1) ∙ unit-plain (unit a b) a b (record { ended = []; last = d }) h.0
 two-plain unit d h = refl
 
--- A line end at the front.
+-- A line ending at the front.
 two-end : (e : Encoding) (unit : ℕ → ℕ → ℕ) (by : LineEnding) (y : List ℕ) (ls : List Ended) (last : List ℕ) → ReadsEnds e unit
     → (by ≡ cr → BeginsWithNoLoneLf ls) → cut_of_two unit y ≡ record { ended = ls; last = last }
     → cut_of_two unit (line_ending_bytes e by ++ y) ≡ record { ended = end_before by ls; last = last }

@@ -23,15 +23,15 @@ two-append unit (a ∷ b ∷ x) y h = ap (λ v. unit a b ∷ v) (two-append unit
 pub units-append : (e : Encoding) (x y : List ℕ) → IsAligned e x → units e (x ++ y) ≡ units e x ++ units e y
 units-append e x y h = grind (arith, two-append)
 
--- If neither part contains a line end unit, the whole contains none.
+-- If neither part contains a line ending unit, the whole contains none.
 pub no_end_unit-append : (e : Encoding) (x y : List ℕ) → IsAligned e x → HoldsNoLineEndUnit e x → HoldsNoLineEndUnit e y → HoldsNoLineEndUnit e (x ++ y)
 no_end_unit-append e x y a h k = rw (units-append e x y a) (plain-append (units e x) (units e y) h k)
 
--- If the whole contains no line end unit, the first part contains none.
+-- If the whole contains no line ending unit, the first part contains none.
 pub no_end_unit-left : (e : Encoding) (x y : List ℕ) → IsAligned e x → HoldsNoLineEndUnit e (x ++ y) → HoldsNoLineEndUnit e x
 no_end_unit-left e x y a h = plain-left (units e x) (units e y) (rw (units-append e x y a) at h)
 
--- If the whole contains no line end unit, what follows whole units contains none.
+-- If the whole contains no line ending unit, what follows whole units contains none.
 pub no_end_unit-right : (e : Encoding) (x y : List ℕ) → IsAligned e x → HoldsNoLineEndUnit e (x ++ y) → HoldsNoLineEndUnit e y
 no_end_unit-right e x y a h = plain-right (units e x) (units e y) (rw (units-append e x y a) at h)
 
@@ -39,7 +39,7 @@ no_end_unit-right e x y a h = plain-right (units e x) (units e y) (rw (units-app
 pub no_end_unit-at : (e : Encoding) (c : ℕ) (x y : List ℕ) → is_line_end c ≡ true → IsAligned e x → HoldsNoLineEndUnit e (x ++ (ascii_bytes e c ++ y)) → ⊥
 no_end_unit-at e c x y h a k = grind (arith, no_end_unit-right)
 
--- ---- Line ends searched for among the bytes.
+-- ---- Line endings searched for among the bytes.
 
 -- With the low byte first, a unit is a CR or an LF exactly if its low byte is one and its high byte is 0.
 pub low_first-line_end : (a b : ℕ) → is_line_end (low_first a b) ≡ (b == 0 && is_line_end a)

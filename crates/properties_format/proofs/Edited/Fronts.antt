@@ -81,7 +81,7 @@ line_texts-numbered : (e : Encoding) (n : ℕ) (d : List ℕ) → decoded_each e
 unfolding line_texts
 line_texts-numbered e n d = decoded-end e n (lines_of d).ended (lines_of d).last
 
--- The lines of bytes that end in a line end come before those of what follows, without an LF that belongs to a CR.
+-- The lines of bytes that end in a line ending come before those of what follows, without an LF that belongs to a CR.
 line_texts-append : (e : Encoding) (x d : List ℕ) → (lines_of x).last ≡ []
     → line_texts e (x ++ d) ≡ ended_lines e (lines_of x).ended ++ line_texts e (rest_of_end (ends_in_cr x) d)
 line_texts-append e x d h =
@@ -94,7 +94,7 @@ line_texts-append e x d h =
 
 -- ---- a group at the front
 
--- The bytes end in a line end, and their lines are one whole group.
+-- The bytes end in a line ending, and their lines are one whole group.
 pub record IsFront (e : Encoding) (x : List ℕ) (g : List Line) : Type 0 where
   pub ended : (lines_of x).last ≡ []
   pub texts : ended_lines e (lines_of x).ended ≡ g

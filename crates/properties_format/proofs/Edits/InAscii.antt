@@ -1,4 +1,4 @@
--- With ASCII-only output on, an edit puts in no byte past ASCII.
+-- With ASCII-only output on, an edit puts in no non-ASCII byte.
 use Rattle.std.proofs.Common.{◌≡◌, ℕ, true, cond, List, [], ◌∷◌, ◌++◌, refl, ap, sym, ◌∙◌, inl, inr, append_assoc, append-nil, not, ◌&&◌, if◌then◌else◌, lit<, lt-ltb, ltb-true, subst}
 use Rattle.std.specs.Prelude.{nat_lt, Option, Some, None}
 use Rattle.std.proofs.lemmas.Bool.{cases_Bool, cond_both}
@@ -58,7 +58,7 @@ sub-trans a b (z ∷ c) h (inr k) =
       | inr m ↦ inr (m.0, m.1, sub-trans m.0 k.0 c m.2 k.2)
     ]
 
--- ---- bytes past ASCII
+-- ---- non-ASCII bytes
 
 -- Those of bytes and of others after them.
 beyond-append : (x y : List ℕ) → beyond_ascii (x ++ y) ≡ beyond_ascii x ++ beyond_ascii y
@@ -207,7 +207,7 @@ without-puts key (g ∷ gs) rest (inr h) =
 
 -- ---- an edit of a source
 
--- A key that is set puts in ASCII alone.
+-- A key that is set puts in ASCII only.
 pub key_set-puts : (e : Encoding) (source key value result : List ℕ) → is_editable (byte_order_mark e source).encoding ≡ true → IsKeySet e true source key value result
     → PutsInAscii source result
 key_set-puts e source key value result ok h =
@@ -229,7 +229,7 @@ key_removed-puts e source key result ok h =
     (without-puts key h.groups h.rest h.without))
     h.whole
 
--- A value that is set puts in ASCII alone.
+-- A value that is set puts in ASCII only.
 pub value_set-puts : (e : Encoding) (source key value result : List ℕ) → is_editable (byte_order_mark e source).encoding ≡ true → IsValueSet e true source key value result
     → PutsInAscii source result
 value_set-puts e source key value result ok h =

@@ -69,7 +69,7 @@ pieces-cut e d (p ∷ ps) q qs (rest, s, h, k) =
     let c = pieces-cut e rest ps q qs k in
     (p.bytes ++ c.0, c.1, cut-more e d rest c.0 c.1 p q ps qs s h c.2)
 
--- ---- A cut at an ASCII character, such as a line end.
+-- ---- A cut at an ASCII character, such as a line ending.
 
 -- The characters of two lists of pieces.
 pub characters-append : (ps qs : List Piece) → characters (ps ++ qs) ≡ characters ps ++ characters qs

@@ -20,23 +20,23 @@ abbrev cut : List (Encoding × List ℕ × Lines)
 cut =
     -- An empty list of bytes is one empty line.
     (utf_16le, [], lines [] [])
-    -- In windows-1252, CR LF is one line end.
+    -- In windows-1252, CR LF is one line ending.
     ∷ (windows_1252, 0xe9 ∷ 0x0d ∷ 0x0a ∷ 0x80 ∷ [], lines (ended (0xe9 ∷ []) crlf ∷ []) (0x80 ∷ []))
-    -- In windows-1252, CR CR LF is two line ends.
+    -- In windows-1252, CR CR LF is two line endings.
     ∷ (windows_1252, 0x0d ∷ 0x0d ∷ 0x0a ∷ [], lines (ended [] cr ∷ ended [] crlf ∷ []) [])
-    -- In UTF-8, CR LF is one line end.
+    -- In UTF-8, CR LF is one line ending.
     ∷ (utf_8, 0x61 ∷ 0x0d ∷ 0x0a ∷ 0x62 ∷ [], lines (ended (0x61 ∷ []) crlf ∷ []) (0x62 ∷ []))
-    -- In UTF-8, CR CR LF is two line ends.
+    -- In UTF-8, CR CR LF is two line endings.
     ∷ (utf_8, 0x0d ∷ 0x0d ∷ 0x0a ∷ [], lines (ended [] cr ∷ ended [] crlf ∷ []) [])
-    -- In UTF-8, LF CR is two line ends.
+    -- In UTF-8, LF CR is two line endings.
     ∷ (utf_8, 0x0a ∷ 0x0d ∷ [], lines (ended [] lf ∷ ended [] cr ∷ []) [])
-    -- In UTF-16LE, CR LF is one line end of four bytes.
+    -- In UTF-16LE, CR LF is one line ending of four bytes.
     ∷ (utf_16le, 0x61 ∷ 0x00 ∷ 0x0d ∷ 0x00 ∷ 0x0a ∷ 0x00 ∷ 0x62 ∷ 0x00 ∷ [], lines (ended (0x61 ∷ 0x00 ∷ []) crlf ∷ []) (0x62 ∷ 0x00 ∷ []))
-    -- In UTF-16LE, CR CR LF is two line ends.
+    -- In UTF-16LE, CR CR LF is two line endings.
     ∷ (utf_16le, 0x0d ∷ 0x00 ∷ 0x0d ∷ 0x00 ∷ 0x0a ∷ 0x00 ∷ [], lines (ended [] cr ∷ ended [] crlf ∷ []) [])
-    -- In UTF-16BE, CR LF is one line end.
+    -- In UTF-16BE, CR LF is one line ending.
     ∷ (utf_16be, 0x00 ∷ 0x61 ∷ 0x00 ∷ 0x0d ∷ 0x00 ∷ 0x0a ∷ 0x00 ∷ 0x62 ∷ [], lines (ended (0x00 ∷ 0x61 ∷ []) crlf ∷ []) (0x00 ∷ 0x62 ∷ []))
-    -- In UTF-16BE, CR CR LF is two line ends.
+    -- In UTF-16BE, CR CR LF is two line endings.
     ∷ (utf_16be, 0x00 ∷ 0x0d ∷ 0x00 ∷ 0x0d ∷ 0x00 ∷ 0x0a ∷ [], lines (ended [] cr ∷ ended [] crlf ∷ []) [])
     -- An odd byte at the end doesn't end a line, even if it is that of a CR or an LF.
     ∷ (utf_16le, 0x0a ∷ 0x00 ∷ 0x0a ∷ [], lines (ended [] lf ∷ []) (0x0a ∷ []))
@@ -54,11 +54,11 @@ each_cut = refl
 -- an encoding, bytes, and the lines that are decoded one by one
 abbrev decoded : List (Encoding × List ℕ × Lines)
 decoded =
-    -- The unit 0A0A is a character, not a line end.
+    -- The unit 0A0A is a character, not a line ending.
     (windows_1252, 0xff ∷ 0xfe ∷ 0x61 ∷ 0x00 ∷ 0x3d ∷ 0x00 ∷ 0x0a ∷ 0x0a ∷ [], lines [] (0x61 ∷ 0x3d ∷ 0x0a0a ∷ []))
-    -- The unit 0A0D isn't a line end.
+    -- The unit 0A0D isn't a line ending.
     ∷ (utf_8, 0xfe ∷ 0xff ∷ 0x0a ∷ 0x0d ∷ 0x00 ∷ 0x0a ∷ 0x00 ∷ 0x61 ∷ [], lines (ended (0x0a0d ∷ []) lf ∷ []) (0x61 ∷ []))
-    -- The units 0D00 and 0A00 aren't line ends.
+    -- The units 0D00 and 0A00 aren't line endings.
     ∷ (utf_8, 0xff ∷ 0xfe ∷ 0x00 ∷ 0x0d ∷ 0x00 ∷ 0x0a ∷ 0x0d ∷ 0x00 ∷ 0x0a ∷ 0x00 ∷ 0x62 ∷ 0x00 ∷ [], lines (ended (0x0d00 ∷ 0x0a00 ∷ []) crlf ∷ []) (0x62 ∷ []))
     -- A UTF-8 sequence that a CR breaks off is one U+FFFD in the line before the CR.
     ∷ (utf_8, 0x61 ∷ 0x3d ∷ 0xf0 ∷ 0x9f ∷ 0x90 ∷ 0x0d ∷ 0xf0 ∷ 0x9f ∷ 0x90 ∷ 0x9e ∷ 0x0a ∷ [], lines (ended (0x61 ∷ 0x3d ∷ 0xfffd ∷ []) cr ∷ ended (0x1_f41e ∷ []) lf ∷ []) [])
@@ -94,6 +94,6 @@ not-odd = λ h. let k = h.are_cut.1 in absurd (cc)
 not-parted : ¬ IsCut utf_8 (0x0d ∷ 0x0a ∷ []) (lines (ended [] cr ∷ ended [] lf ∷ []) [])
 not-parted = λ h. h.are_cut.2 refl (refl, refl)
 
--- No line end is left in a line.
+-- No line ending is left in a line.
 not-left : ¬ IsCut utf_16be (0x00 ∷ 0x0a ∷ []) (lines [] (0x00 ∷ 0x0a ∷ []))
 not-left = λ h. let k = h.are_cut.0 in absurd (cc)

@@ -83,9 +83,9 @@ joins =
     ∷ (codes "foo\\" ∷ codes "# bar" ∷ [], line 1 (codes "foo# bar") ∷ [])
     -- an open last line loses its backslash
     ∷ (codes "foo\\" ∷ [], line 1 (codes "foo") ∷ [])
-    -- lines with characters above ASCII are joined too
+    -- lines with non-ASCII characters are joined too
     ∷ (codes "🐞\\" ∷ codes "🐞" ∷ [], line 1 (codes "🐞🐞") ∷ [])
-    -- continuations lose their leading blanks after characters above ASCII too
+    -- continuations lose their leading blanks after non-ASCII characters too
     ∷ (codes "🐞\\" ∷ codes " 🐞" ∷ [], line 1 (codes "🐞🐞") ∷ [])
     ∷ []
 
@@ -116,7 +116,7 @@ texts =
     ∷ (codes "a = b\\\n  c, d ", end, line 1 (codes "a = bc, d ") ∷ [])
     -- an empty text is one empty line
     ∷ ([], end, line 1 [] ∷ [])
-    -- white space above ASCII isn't a blank
+    -- non-ASCII white space isn't a blank
     ∷ (codes "a=\\\n\u{a0}b", end, line 1 (codes "a=\u{a0}b") ∷ [])
     -- if a read fails, the line without an end is left out
     ∷ (codes "a=1\rb", fault, line 1 (codes "a=1") ∷ [])

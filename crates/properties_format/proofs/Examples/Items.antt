@@ -44,15 +44,15 @@ rows =
     ∷ (windows_1252, codes "#a\\ ", end, item 1 (comment (codes "a\0")) ∷ [])
     -- a broken sequence of UTF-8
     ∷ (utf_8, 0x6b ∷ 0x3d ∷ 0xe3 ∷ 0x81 ∷ 0x0a ∷ 0x78 ∷ 0x3d ∷ 0x79 ∷ [], end, item 1 (pair (codes "k") (codes "�")) ∷ item 2 (pair (codes "x") (codes "y")) ∷ [])
-    -- a CR and an LF are one line end
+    -- a CR and an LF are one line ending
     ∷ (windows_1252, codes "a=1\r\nb=2", end, item 1 (pair (codes "a") (codes "1")) ∷ item 2 (pair (codes "b") (codes "2")) ∷ [])
-    -- characters above ASCII in UTF-8
+    -- non-ASCII characters in UTF-8
     ∷ (utf_8, encode_utf8_all (codes "a=日本語\nb=Français"), end, item 1 (pair (codes "a") (codes "日本語")) ∷ item 2 (pair (codes "b") (codes "Français")) ∷ [])
     -- UTF-16, by its byte order mark
     ∷ (windows_1252, 0xff ∷ 0xfe ∷ 0x61 ∷ 0x00 ∷ 0x3d ∷ 0x00 ∷ 0x3d ∷ 0xd8 ∷ 0x0a ∷ 0x00 ∷ 0x62 ∷ [], end, item 1 (pair (codes "a") (codes "�")) ∷ item 2 (pair (codes "�") []) ∷ [])
     -- a high surrogate and an odd byte at the end are one U+FFFD
     ∷ (windows_1252, 0xff ∷ 0xfe ∷ 0x3d ∷ 0xd8 ∷ 0x61 ∷ [], end, item 1 (pair (codes "�") []) ∷ [])
-    -- the bytes 0A 0A are U+0A0A, not a line end
+    -- the bytes 0A 0A are U+0A0A, not a line ending
     ∷ (windows_1252, 0xff ∷ 0xfe ∷ 0x61 ∷ 0x00 ∷ 0x3d ∷ 0x00 ∷ 0x0a ∷ 0x0a ∷ [], end, item 1 (pair (codes "a") (codes "ਊ")) ∷ [])
     -- UTF-16BE, by its byte order mark
     ∷ (windows_1252, 0xfe ∷ 0xff ∷ 0x00 ∷ 0x61 ∷ 0x00 ∷ 0x3d ∷ 0x00 ∷ 0x62 ∷ [], end, item 1 (pair (codes "a") (codes "b")) ∷ [])

@@ -20,9 +20,9 @@ abbrev rows : List (ReaderState × List ℕ × InputEnd × List Entry)
 rows =
     -- held bytes come before those to come, and line numbers continue
     (going windows_1252 (codes "b=") 3 false, codes "c\n#d", end, item 4 (pair (codes "b") (codes "c")) ∷ item 5 (comment (codes "d")) ∷ [])
-    -- an LF after a CR belongs to the same line end
+    -- an LF after a CR belongs to the same line ending
     ∷ (going windows_1252 [] 1 true, codes "\n\na", end, item 3 (pair (codes "a") []) ∷ [])
-    -- an LF after an LF is another line end
+    -- an LF after an LF is another line ending
     ∷ (going windows_1252 [] 1 false, codes "\n\na", end, item 4 (pair (codes "a") []) ∷ [])
     -- in UTF-16, half of that LF may be held
     ∷ (going utf_16le (0x0a ∷ []) 1 true, 0x00 ∷ 0x61 ∷ 0x00 ∷ [], end, item 2 (pair (codes "a") []) ∷ [])

@@ -38,7 +38,7 @@ each_around lf = refl
 each_around cr = refl
 each_around crlf = refl
 
--- CR CR LF is two line ends, and so is LF CR
+-- CR CR LF is two line endings, and so is LF CR
 of_cr_crlf : lines_of (13 ∷ 13 ∷ 10 ∷ []) ≡ record { ended = record { text = []; by = cr } ∷ record { text = []; by = crlf } ∷ []; last = [] }
 of_cr_crlf = refl
 

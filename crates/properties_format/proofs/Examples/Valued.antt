@@ -36,7 +36,7 @@ rows =
     ∷ (windows_1252, codes "k=v\n", codes "k", codes "  a  ", edited (codes "k=\\  a \\u0020\n"))
     -- A value that is one space is an escape.
     ∷ (windows_1252, codes "k=v\nm=1\n", codes "k", codes " ", edited (codes "k=\\u0020\nm=1\n"))
-    -- Comment signs aren't escaped; tabs, backslashes and line ends are.
+    -- Comment signs aren't escaped; tabs, backslashes and line endings are.
     ∷ (windows_1252, codes "k=v", codes "k", codes "#a\tb\\\n", edited (codes "k=#a\\tb\\\\\\n"))
     -- If the value becomes empty, the front is unchanged.
     ∷ (windows_1252, codes "k = v\n", codes "k", [], edited (codes "k = \n"))

@@ -28,7 +28,7 @@ last_line more = 0
 
 -- ---- lines
 
--- The numbers of the lines after n line ends ascend, start above n, and are at most n plus their count.
+-- The numbers of the lines after n line endings ascend, start above n, and are at most n plus their count.
 numbered-within : (n : ℕ) (ls : List Ended) (last : List ℕ) (ending : InputEnd) (high : ℕ) → n + length ls + last_line ending ≤ high → LinesWithin n high (numbered n ls last ending)
 numbered-within n [] last end high h = (omega arith, omega arith)
 numbered-within n (l ∷ ls) last ending high h = (omega arith, numbered-within (n + 1) ls last ending high (omega arith))
@@ -78,7 +78,7 @@ ascend-lower : (low less : ℕ) (entries : List Entry) → less < low → Number
 ascend-lower low less [] k h = tt
 ascend-lower low less (x ∷ xs) k h = (let b = h.0 in omega arith, h.1)
 
--- A read that fails after n line ends has a number above n, and above those of the lines before it.
+-- A read that fails after n line endings has a number above n, and above those of the lines before it.
 last-ascend : (low high n : ℕ) (ending : InputEnd) → high ≤ n + last_line ending → low ≤ high → NumbersAscend low (last_entries n ending)
 last-ascend low high n ending h k = grind (arith)
 
@@ -88,7 +88,7 @@ entries-ascend low high n ending [] h k = last-ascend low high n ending h k
 entries-ascend low high n ending (g ∷ gs) h k =
     grind (arith, ascend-lower, entries-ascend (first_number g) high n ending gs h k.1)
 
--- The numbers of the entries of lines after n line ends ascend strictly, and are at least n + 1.
+-- The numbers of the entries of lines after n line endings ascend strictly, and are at least n + 1.
 pub lines-ascend : (n : ℕ) (lines : Lines) (ending : InputEnd)
     → NumbersAscend n (entries_of (n + line_ends lines) ending (groups_of (numbered n lines.ended lines.last ending) ending))
 lines-ascend n lines ending =

@@ -52,7 +52,7 @@ gives-text s t x y ending h k m = record {
       ∙ ap (λ v. last_unless t.is_done t.passed v ending) m;
 }
 
--- the text of some bytes in an encoding, after a line end
+-- the text of some bytes in an encoding, after a line ending
 abbrev text_of : Bool → InForce → List ℕ
 text_of after_cr m = rest_of_end after_cr (characters (pieces_of m.encoding m.body))
 
@@ -145,7 +145,7 @@ gives-lines s t d ending text by h k m e = rw (h, k, m) (record {
       ∙ ap (λ v. last_entries v ending) (sym (one-more s.passed (length (lines_of (text_to_come t d)).ended)));
 })
 
--- The decoded line is known to contain no line end.
+-- The decoded line is known to contain no line ending.
 line-plain : (s : ReaderState) (l : List ℕ) (c : ℕ) (rest d : List ℕ) (ending : InputEnd) → HoldsLine s l c rest → HoldsNoLineEnd (decoded_line s.encoding l)
     → Gives s d (next_line s l ∷ []) (after_line s c rest) d ending
 line-plain s l c rest d ending h plain =
@@ -170,7 +170,7 @@ gives-line s l c rest d ending h = line-plain s l c rest d ending h (no_end-deco
 
 -- ---- nothing comes
 
--- The lines in a state that holds no line end.
+-- The lines in a state that holds no line ending.
 last-plain : (s : ReaderState) → HoldsNoEnd s → HoldsNoLineEnd (decoded_line s.encoding s.held)
     → lines_of (text_to_come s []) ≡ record { ended = []; last = (next_line s s.held).text }
 last-plain s h plain =

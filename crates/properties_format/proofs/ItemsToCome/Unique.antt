@@ -20,9 +20,9 @@ use Rattle.properties_format.proofs.Groups.Meets.{groups_of-meets}
 use Rattle.properties_format.proofs.Groups.Only.{groups_of-only}
 use Rattle.properties_format.proofs.Items.Unique.{entries_of-meets, entries_of-only}
 
--- ---- the text after a line end
+-- ---- the text after a line ending
 
--- The computed text is the text after the line end.
+-- The computed text is the text after the line ending.
 pub rest_of_end-meets : (after_cr : Bool) (x : List ℕ) → IsAfterEnd after_cr x (rest_of_end after_cr x)
 rest_of_end-meets false x = refl
 rest_of_end-meets true [] = inr (refl, (λ y h. cc))

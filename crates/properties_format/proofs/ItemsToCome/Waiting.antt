@@ -6,6 +6,6 @@ use Rattle.properties_format.specs.Computed.ReaderSteps.{after_decided, HoldsNoE
 
 -- ---- A byte order mark.
 
--- A reader that still waits for a byte order mark when nothing more comes holds no line end.
+-- A reader that still waits for a byte order mark when nothing more comes holds no line ending.
 pub waiting-no_end : (s : ReaderState) → s.is_done ≡ false → awaits_bom s.held ≡ true → HoldsNoEnd (after_decided s)
 waiting-no_end s h k = grind (arith)

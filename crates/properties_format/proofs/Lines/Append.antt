@@ -14,7 +14,7 @@ Goes : List Ended → List ℕ → Type 0
 Goes ls last = (n : ℕ) (y : List ℕ) (e : InputEnd)
     → lines_to_come n false [] (put_together ls last ++ y) e ≡ numbered n ls last more ++ lines_to_come (n + length ls) (ends_in_cr (put_together ls last)) last y e
 
--- A last line without a line end.
+-- A last line without a line ending.
 goes-last : (last : List ℕ) → HoldsNoLineEnd last → Goes [] last
 unfolding Goes
 goes-last last h n y e = rw (plain-no_cr last h, add-zero n) refl

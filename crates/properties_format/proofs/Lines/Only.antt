@@ -5,7 +5,7 @@ use Rattle.properties_format.specs.Lines.{Ended, Lines, put_together, HoldsNoLin
 use Rattle.properties_format.specs.Computed.Lines.{end_before, cr_before, before, lines_of}
 use Rattle.properties_format.proofs.Lines.Meets.{before-plain}
 
--- A text without line ends is one line.
+-- A text without line endings is one line.
 pub lines_of-plain : (l : List ℕ) → HoldsNoLineEnd l → lines_of l ≡ record { ended = []; last = l }
 lines_of-plain [] h = refl
 lines_of-plain (c ∷ l) h = ap (before c) (lines_of-plain l h.1) ∙ before-plain c (record { ended = []; last = l }) h.0

@@ -1,4 +1,4 @@
--- Texts without line ends, and what the lines of a text say about its first and its last character.
+-- Texts without line endings, and what the lines of a text say about its first and its last character.
 use Rattle.std.proofs.Common.{◌≡◌, ℕ, ◌==◌, false, List, [], ◌∷◌, ◌++◌, refl, ap, sym, ◌∙◌, suc, ◌+◌, append_assoc, arith}
 use Rattle.std.proofs.lemmas.Bool.{or_parts}
 use Rattle.properties_format.specs.Text.{line_feed, carriage_return, LineEnding, lf, cr, crlf, line_ending_text}
@@ -6,22 +6,22 @@ use Rattle.properties_format.specs.Lines.{Ended, put_together, HoldsNoLineEnd, B
 use Rattle.properties_format.specs.Computed.Lines.{begins_with_lf, ends_in_cr, without_leading_lf, lines_of}
 use Rattle.properties_format.proofs.Lines.Meets.{lines_of-meets}
 
--- Two texts without line ends have none together.
+-- Two texts without line endings have none together.
 pub plain-append : (x y : List ℕ) → HoldsNoLineEnd x → HoldsNoLineEnd y → HoldsNoLineEnd (x ++ y)
 plain-append [] y h k = k
 plain-append (c ∷ x) y h k = (h.0, plain-append x y h.1 k)
 
--- The front of a text without line ends has none.
+-- The front of a text without line endings has none.
 pub plain-left : (x y : List ℕ) → HoldsNoLineEnd (x ++ y) → HoldsNoLineEnd x
 plain-left [] y h = tt
 plain-left (c ∷ x) y h = (h.0, plain-left x y h.1)
 
--- The rest of a text without line ends has none.
+-- The rest of a text without line endings has none.
 pub plain-right : (x y : List ℕ) → HoldsNoLineEnd (x ++ y) → HoldsNoLineEnd y
 plain-right [] y h = h
 plain-right (c ∷ x) y h = plain-right x y h.1
 
--- The last of a text's lines contains no line end.
+-- The last of a text's lines contains no line ending.
 pub plain-last : (ls : List Ended) (last : List ℕ) → AreLines ls last → HoldsNoLineEnd last
 plain-last [] last h = h
 plain-last (l ∷ ls) last h = plain-last ls last h.2
@@ -29,11 +29,11 @@ plain-last (l ∷ ls) last h = plain-last ls last h.2
 pub last-plain : (x : List ℕ) → HoldsNoLineEnd (lines_of x).last
 last-plain x = plain-last (lines_of x).ended (lines_of x).last (lines_of-meets x).are_lines
 
--- A text without line ends doesn't begin with an LF.
+-- A text without line endings doesn't begin with an LF.
 pub plain-no_lf : (x : List ℕ) → HoldsNoLineEnd x → begins_with_lf x ≡ false
 plain-no_lf x h = grind (arith)
 
--- A text without line ends doesn't end in a CR.
+-- A text without line endings doesn't end in a CR.
 pub plain-no_cr : (x : List ℕ) → HoldsNoLineEnd x → ends_in_cr x ≡ false
 plain-no_cr [] h = refl
 plain-no_cr (c ∷ []) h = (or_parts (c == line_feed) (c == carriage_return) h.0).1
@@ -74,7 +74,7 @@ pub ends_in_cr-append : (x : List ℕ) (c : ℕ) (y : List ℕ) → ends_in_cr (
 ends_in_cr-append (b ∷ d ∷ x) c y = ends_in_cr-append (d ∷ x) c y
 ends_in_cr-append x c y = refl
 
--- A text with characters after a line end ends in a CR exactly if those characters do.
+-- A text with characters after a line ending ends in a CR exactly if those characters do.
 pub ends-after : (text : List ℕ) (by : LineEnding) (c : ℕ) (x : List ℕ) → ends_in_cr (text ++ (line_ending_text by ++ c ∷ x)) ≡ ends_in_cr (c ∷ x)
 ends-after text by c x = grind (arith, ends_in_cr-append)
 

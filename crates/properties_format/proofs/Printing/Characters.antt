@@ -177,7 +177,7 @@ printed_key-encodable e only first key =
 
 -- ---- values as people write them
 
--- A character that a value may have unescaped isn't a backslash or a line end, and is ASCII.
+-- A character that a value may have unescaped isn't a backslash or a line ending, and is ASCII.
 pub free-plain : (c : ℕ) → is_free c ≡ true → ((c == backslash) ≡ false) × (is_line_end c ≡ false) × (c < 0x80)
 free-plain c h = (grind (arith), grind (arith), grind (arith))
 

@@ -25,7 +25,7 @@ use Rattle.properties_format.proofs.ReadBack.Spellings.{IsSafe, IsPlainlyPrinted
 use Rattle.properties_format.proofs.ReadBack.Texts.{safe-plain}
 use Rattle.properties_format.proofs.ReadBack.Pairs.{IsReadAs, blanks-plain, cons-front}
 
--- x is plainly spelt for y: it is the text of whole spellings of y that keep blanks, and contains no line end.
+-- x is plainly spelt for y: it is the text of whole spellings of y that keep blanks, and contains no line ending.
 record ArePlainlyPrinted (x y : List ℕ) : Type 0 where
   spellings : List Spelling
   text : x ≡ spellings_before spellings []
@@ -40,7 +40,7 @@ record ArePlainlyPrinted (x y : List ℕ) : Type 0 where
 plainly-whole : (c : ℕ) (p : Spelling) → IsSafe p ⊎ ((p ≡ itself c) × ((c == backslash) ≡ false) × (is_line_end c ≡ false)) → IsWhole p
 plainly-whole c p h = grind (arith)
 
--- It contains no line end.
+-- It contains no line ending.
 plainly-plain : (c : ℕ) (p : Spelling) → IsSafe p ⊎ ((p ≡ itself c) × ((c == backslash) ≡ false) × (is_line_end c ≡ false)) → HoldsNoLineEnd (spelling_text p)
 plainly-plain c p h = grind (arith, safe-plain)
 
@@ -81,7 +81,7 @@ tail-plainly e only (c ∷ tail) y cs h b p s =
 pub literal-ascii : (e : Encoding) (only : Bool) (c : ℕ) → c < 0x80 → literal e only c ≡ c ∷ []
 literal-ascii e only c h = cond-true (may_be_unescaped e only c) (c ∷ []) (unicode_escape c) (may_be_unescaped-ascii e only c h)
 
--- A comment sign is ASCII, and isn't a line end.
+-- A comment sign is ASCII, and isn't a line ending.
 pub sign-ascii : (c : ℕ) → is_comment_sign c ≡ true → (c < 0x80) × (is_line_end c ≡ false)
 sign-ascii c h = (grind (arith), grind (arith))
 

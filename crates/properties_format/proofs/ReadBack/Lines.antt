@@ -53,7 +53,7 @@ wrote-text e s n (call ∷ calls) =
 
 -- ---- one line
 
--- A text followed by its line end, and what the text is read as.
+-- A text followed by its line ending, and what the text is read as.
 pub record IsLineReadAs (by : LineEnding) (x : List ℕ) (content : Content) : Type 0 where
   pub text : List ℕ
   pub whole : x ≡ text ++ line_ending_text by
@@ -97,7 +97,7 @@ pair-line e s first key value g some h k =
 
 -- ---- all lines
 
--- After n line ends, the text is read as these entries, and no LF is at its front.
+-- After n line endings, the text is read as these entries, and no LF is at its front.
 pub record IsTextReadAs (m n : ℕ) (x : List ℕ) (entries : List Entry) : Type 0 where
   pub read : entries_of m end (groups_of (lines_to_come n false [] x end) end) ≡ entries
   pub no_lf : begins_with_lf x ≡ false
@@ -107,7 +107,7 @@ pub joined-alone : (l : Line) → IsNotContinued l.text → joined (l ∷ []) �
 joined-alone l (inl m) = joined-comment_line l [] m
 joined-alone l (inr m) = joined-closed l m
 
--- A text that isn't empty and contains no line end doesn't begin with an LF, whatever follows.
+-- A text that isn't empty and contains no line ending doesn't begin with an LF, whatever follows.
 front-no_lf : (x y : List ℕ) → x ≢ [] → HoldsNoLineEnd x → begins_with_lf (x ++ y) ≡ false
 front-no_lf [] y some h = absurd (some refl)
 front-no_lf (c ∷ x) y some h = plain-no_lf (c ∷ x) h

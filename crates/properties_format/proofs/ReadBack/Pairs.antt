@@ -48,7 +48,7 @@ key-printed e only first key h =
 
 -- ---- separators
 
--- A quiet text: it contains no backslash and no line end.
+-- A quiet text: it contains no backslash and no line ending.
 pub record IsQuiet (x : List ℕ) : Type 0 where
   pub slashes : HoldsNoBackslash x
   pub plain : HoldsNoLineEnd x
@@ -61,7 +61,7 @@ quiet-append x y h k = record { slashes = go x y h.slashes k.slashes; plain = pl
     go [] y h k = k
     go (c ∷ x) y h k = (h.0, go x y h.1 k)
 
--- Blanks contain no line end.
+-- Blanks contain no line ending.
 pub blanks-plain : (x : List ℕ) → AreBlanks x → HoldsNoLineEnd x
 blanks-plain [] h = tt
 blanks-plain (c ∷ x) h = (grind (arith), blanks-plain x h.1)

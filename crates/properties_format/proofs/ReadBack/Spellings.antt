@@ -26,7 +26,7 @@ pub record IsSafelyPrinted (x : List ℕ) (c : ℕ) : Type 0 where
   pub character : spelling_character spelling ≡ c
   pub safe : IsSafe spelling
 
--- x is a safe spelling of c, or c itself, which isn't a backslash or a line end; and it keeps blanks.
+-- x is a safe spelling of c, or c itself, which isn't a backslash or a line ending; and it keeps blanks.
 pub record IsPlainlyPrinted (x : List ℕ) (c : ℕ) : Type 0 where
   pub spelling : Spelling
   pub text : x ≡ spelling_text spelling
@@ -108,7 +108,7 @@ unicode-plainly c h b =
 
 -- ---- unescaped characters, and escapes of a backslash and one character
 
--- A backslash and a character that isn't u or a line end are a safe spelling of what they mean.
+-- A backslash and a character that isn't u or a line ending are a safe spelling of what they mean.
 escape-printed : (c d : ℕ) → (d == letter_u) ≡ false → is_line_end d ≡ false → escaped_character d ≡ c → IsSafelyPrinted (backslash ∷ d ∷ []) c
 escape-printed c d u l e = record { spelling = escaped d; text = refl; character = e; safe = (u, l) }
 
@@ -169,7 +169,8 @@ at-character_plainly c d x e s = rw (eqb-true c d e) s
 escaped-full : (e : Encoding) (only : Bool) (c : ℕ) → may_be_unescaped e only c ≡ false → is_blank c ≡ false
 escaped-full e only c h = elim (cases_Bool (is_blank c)) [ inl b ↦ (let k = may_be_unescaped-ascii e only c (blank-ascii c b) in cc) | inr b ↦ b ]
 
--- Unescaped if that is allowed, otherwise escaped, a character that isn't a backslash or a line end is plainly spelt.
+-- Unescaped if that is allowed, otherwise escaped, a character that isn't a backslash or a line ending is plainly
+-- spelt.
 pub literal-plainly : (e : Encoding) (only : Bool) (c : ℕ) → scalar c → (c == backslash) ≡ false → is_line_end c ≡ false → IsPlainlyPrinted (literal e only c) c
 literal-plainly e only c h b l =
     cond_both (may_be_unescaped e only c) (c ∷ []) (unicode_escape c) (λ x. IsPlainlyPrinted x c)

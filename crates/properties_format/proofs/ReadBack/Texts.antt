@@ -1,4 +1,4 @@
--- What is printed for a text means that text, contains no line end, and doesn't end in an open backslash.
+-- What is printed for a text means that text, contains no line ending, and doesn't end in an open backslash.
 use Rattle.std.proofs.Common.{◌≡◌, ℕ, ◌==◌, Bool, true, false, List, [], ◌∷◌, ◌++◌, map, refl, ap, sym, ◌∙◌, inl, inr, append_assoc, append-nil, arith, eqb-true, ap₂}
 use Rattle.std.specs.List.{AllByRecursion}
 use Rattle.std.proofs.lemmas.Bool.{cases_Bool, and_parts}
@@ -55,9 +55,9 @@ are_safe-whole (p ∷ ps) h = (safe-whole p h.0, are_safe-whole ps h.1)
 pub printed-means : (x y : List ℕ) → AreSafelyPrinted x y → meaning_of x ≡ means y
 printed-means x y s = ap meaning_of s.text ∙ meaning_of-all s.spellings (are_safe-whole s.spellings s.safe) ∙ ap means s.characters
 
--- ---- no line end
+-- ---- no line ending
 
--- A hexadecimal digit isn't a line end.
+-- A hexadecimal digit isn't a line ending.
 digit-plain : (c : ℕ) → is_hexadecimal c ≡ true → is_line_end c ≡ false
 digit-plain c h = grind (arith)
 
@@ -65,20 +65,20 @@ digit-plain c h = grind (arith)
 four-digits : (d : Four) → are_hexadecimal d ≡ true → (is_hexadecimal d.first ≡ true) × (is_hexadecimal d.second ≡ true) × (is_hexadecimal d.third ≡ true) × (is_hexadecimal d.fourth ≡ true)
 four-digits d h = grind (arith, and_parts)
 
--- A `\u` escape contains no line end.
+-- A `\u` escape contains no line ending.
 unit-plain : (d : Four) → are_hexadecimal d ≡ true → HoldsNoLineEnd (backslash ∷ letter_u ∷ four_text d)
 unit-plain d h = let f = four-digits d h in (refl, (refl, (digit-plain d.first f.0, (digit-plain d.second f.1, (digit-plain d.third f.2, (digit-plain d.fourth f.3, tt))))))
 
--- A safe spelling contains no line end.
+-- A safe spelling contains no line ending.
 pub safe-plain : (p : Spelling) → IsSafe p → HoldsNoLineEnd (spelling_text p)
 safe-plain p h = grind (arith, unit-plain)
 
--- Safe spellings contain no line end.
+-- Safe spellings contain no line ending.
 are_safe-plain : (ps : List Spelling) → AreSafe ps → HoldsNoLineEnd (spellings_before ps [])
 are_safe-plain [] h = tt
 are_safe-plain (p ∷ ps) h = plain-append (spelling_text p) (spellings_before ps []) (safe-plain p h.0) (are_safe-plain ps h.1)
 
--- A safely spelt text contains no line end.
+-- A safely spelt text contains no line ending.
 pub printed-plain : (x y : List ℕ) → AreSafelyPrinted x y → HoldsNoLineEnd x
 printed-plain x y s = rw s.text (are_safe-plain s.spellings s.safe)
 

@@ -20,7 +20,7 @@ use Rattle.properties_format.proofs.ReadBack.Texts.{safe-plain, safe-closed, saf
 
 -- ---- spellings that may be used in such a value
 
--- a loose spelling: a safe one, or a character as itself, which isn't a backslash or a line end
+-- a loose spelling: a safe one, or a character as itself, which isn't a backslash or a line ending
 abbrev IsLoose : Spelling → Type 0
 IsLoose p = IsSafe p ⊎ ((c : ℕ) × (p ≡ itself c) × ((c == backslash) ≡ false) × (is_line_end c ≡ false))
 
@@ -72,16 +72,16 @@ are_loose-whole (p ∷ ps) h = (loose-whole p h.0, are_loose-whole ps h.1)
 pub loose-means : (x y : List ℕ) → AreLooselyPrinted x y → meaning_of x ≡ means y
 loose-means x y s = ap meaning_of s.text ∙ meaning_of-all s.spellings (are_loose-whole s.spellings s.loose) ∙ ap means s.characters
 
--- A loose spelling contains no line end.
+-- A loose spelling contains no line ending.
 loose-plain : (p : Spelling) → IsLoose p → HoldsNoLineEnd (spelling_text p)
 loose-plain p h = grind (arith, safe-plain)
 
--- Loose spellings contain no line end.
+-- Loose spellings contain no line ending.
 are_loose-plain : (ps : List Spelling) → AreLoose ps → HoldsNoLineEnd (spellings_before ps [])
 are_loose-plain [] h = tt
 are_loose-plain (p ∷ ps) h = plain-append (spelling_text p) (spellings_before ps []) (loose-plain p h.0) (are_loose-plain ps h.1)
 
--- A loosely spelt text contains no line end.
+-- A loosely spelt text contains no line ending.
 pub loosely-plain : (x y : List ℕ) → AreLooselyPrinted x y → HoldsNoLineEnd x
 loosely-plain x y s = rw s.text (are_loose-plain s.spellings s.loose)
 

@@ -9,7 +9,7 @@ use Rattle.properties_format.specs.Computed.Settings.{holds_no_line_end, is_good
 use Rattle.properties_format.specs.Writing.{tail_of}
 use Rattle.properties_format.proofs.Split.Unique.{sign-full, separator-full}
 
--- ---- blanks, and texts without a line end
+-- ---- blanks, and texts without a line ending
 
 -- A text that passes the test is blanks.
 pub AreBlanks-from_test : (x : List ℕ) → is_blanks x ≡ true → AreBlanks x
@@ -21,12 +21,12 @@ pub is_blanks-from : (x : List ℕ) → AreBlanks x → is_blanks x ≡ true
 is_blanks-from [] h = refl
 is_blanks-from (c ∷ x) h = and_from (is_blank c) (is_blanks x) h.0 (is_blanks-from x h.1)
 
--- A text that passes the test contains no line end.
+-- A text that passes the test contains no line ending.
 pub HoldsNoLineEnd-from_test : (x : List ℕ) → holds_no_line_end x ≡ true → HoldsNoLineEnd x
 HoldsNoLineEnd-from_test [] h = tt
 HoldsNoLineEnd-from_test (c ∷ x) h = let p = and_parts (not (is_line_end c)) (holds_no_line_end x) h in (not-true (is_line_end c) p.0, HoldsNoLineEnd-from_test x p.1)
 
--- A text without line ends passes the test.
+-- A text without line endings passes the test.
 pub holds_no_line_end-from : (x : List ℕ) → HoldsNoLineEnd x → holds_no_line_end x ≡ true
 holds_no_line_end-from [] h = refl
 holds_no_line_end-from (c ∷ x) h = and_from (not (is_line_end c)) (holds_no_line_end x) (not_from_false (is_line_end c) h.0) (holds_no_line_end-from x h.1)
@@ -54,7 +54,7 @@ IsGoodPrefix-from_test (c ∷ cs) h = elim (cases_Bool (is_blank c)) [
       record { indent = []; sign = c; tail = cs; division = refl; indented = tt; signed = p.0; one_line = HoldsNoLineEnd-from_test cs p.1 }
 ]
 
--- Blanks, a comment sign and a text without a line end pass the test.
+-- Blanks, a comment sign and a text without a line ending pass the test.
 divided-is_good : (indent : List ℕ) (sign : ℕ) (tail : List ℕ) → AreBlanks indent → is_comment_sign sign ≡ true → HoldsNoLineEnd tail → is_good_prefix (indent ++ (sign ∷ tail)) ≡ true
 divided-is_good [] sign tail h m p = rw (sign-full sign m) (and_from (is_comment_sign sign) (holds_no_line_end tail) m (holds_no_line_end-from tail p))
 divided-is_good (c ∷ indent) sign tail h m p = rw h.0 (divided-is_good indent sign tail h.1 m p)

@@ -262,7 +262,7 @@ changed-lined e before kept line more (i ∷ after) bytes h plain some whole =
 
 -- ---- the bytes of lines
 
--- the bytes of the lines contain no line end
+-- the bytes of the lines contain no line ending
 abbrev pub ArePlain : List HeldLine → Type 0
 ArePlain [] = Unit {0}
 ArePlain (h ∷ hs) = HoldsNoLineEnd h.bytes × ArePlain hs

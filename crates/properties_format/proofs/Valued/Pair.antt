@@ -48,7 +48,7 @@ missing-closed : (x between : List ℕ) → is_open x ≡ false → is_open (x +
 missing-closed x [] h = is_open-other x equals_sign refl
 missing-closed x (c ∷ cs) h = ap is_open (append-nil x) ∙ h
 
--- It contains no line end.
+-- It contains no line ending.
 missing-plain : (between : List ℕ) → HoldsNoLineEnd (missing between)
 missing-plain [] = (refl, tt)
 missing-plain (c ∷ cs) = tt

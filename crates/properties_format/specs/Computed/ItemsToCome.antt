@@ -12,11 +12,11 @@ use Rattle.properties_format.specs.Items.{last_entries}
 use Rattle.properties_format.specs.ItemsToCome.{ReaderState, in_force}
 use Rattle.properties_format.specs.Computed.Items.{outcome_of, followed, entries_of}
 
--- the characters to come, without an LF that belongs to the line end before
+-- the characters to come, without an LF that belongs to the line ending before
 abbrev pub text_to_come : ReaderState → List ℕ → List ℕ
 text_to_come s d = rest_of_end s.after_cr (characters (pieces_of (in_force s d).encoding (in_force s d).body))
 
--- the entries of lines after n line ends
+-- the entries of lines after n line endings
 abbrev pub further_entries : ℕ → Lines → InputEnd → List Entry
 further_entries n lines ending = entries_of (n + line_ends lines) ending (groups_of (numbered n lines.ended lines.last ending) ending)
 

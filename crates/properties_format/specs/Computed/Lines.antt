@@ -30,7 +30,7 @@ abbrev pub cr_before : List Ended → List Ended
 cr_before [] = end_before cr []
 cr_before (l ∷ ls) = if is_lone_lf l.text l.by then end_before crlf ls else end_before cr (l ∷ ls)
 
--- the lines with a character that isn't a line end at the front
+-- the lines with a character that isn't a line ending at the front
 abbrev pub character_before : ℕ → List Ended → List ℕ → Lines
 character_before c [] last = record { ended = []; last = c ∷ last }
 character_before c (l ∷ ls) last = record { ended = record { text = c ∷ l.text; by = l.by } ∷ ls; last = last }
@@ -53,7 +53,7 @@ abbrev pub rest_of_end : Bool → List ℕ → List ℕ
 rest_of_end true y = without_leading_lf y
 rest_of_end false y = y
 
--- the numbered lines to come, if n line ends were passed, the character before may be a CR, and the beginning of the
+-- the numbered lines to come, if n line endings were passed, the character before may be a CR, and the beginning of the
 -- next line is held
 abbrev pub lines_to_come : ℕ → Bool → List ℕ → List ℕ → InputEnd → List Line
 lines_to_come n after_cr held y ending =

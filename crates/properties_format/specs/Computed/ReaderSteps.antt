@@ -27,7 +27,7 @@ abbrev pub after_decided : ReaderState → ReaderState
 after_decided s =
     let m = byte_order_mark s.encoding s.held in record s { encoding = m.encoding; is_decided = true; held = m.body }
 
--- the state after the whole of the line end before was passed, with these bytes left
+-- the state after the whole of the line ending before was passed, with these bytes left
 abbrev pub after_passed : ReaderState → List ℕ → ReaderState
 after_passed s rest = record s { held = rest; after_cr = false }
 
@@ -39,7 +39,7 @@ after_line s c rest = record s { held = rest; passed = s.passed + 1; after_cr = 
 abbrev pub next_line : ReaderState → List ℕ → Line
 next_line s l = record { number = s.passed + 1; text = decoded_line s.encoding l }
 
--- The bytes that are held are the line l, the line end c, and the rest.
+-- The bytes that are held are the line l, the line ending c, and the rest.
 pub record HoldsLine (s : ReaderState) (l : List ℕ) (c : ℕ) (rest : List ℕ) : Type 0 where
   pub going : s.is_done ≡ false
   pub decided : s.is_decided ≡ true
@@ -49,7 +49,7 @@ pub record HoldsLine (s : ReaderState) (l : List ℕ) (c : ℕ) (rest : List ℕ
   pub aligned : IsAligned s.encoding l
   pub none : HoldsNoLineEndUnit s.encoding l
 
--- The bytes that are held contain no line end.
+-- The bytes that are held contain no line ending.
 pub record HoldsNoEnd (s : ReaderState) : Type 0 where
   pub going : s.is_done ≡ false
   pub decided : s.is_decided ≡ true

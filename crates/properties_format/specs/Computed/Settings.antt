@@ -2,7 +2,7 @@
 use Rattle.std.specs.Prelude.{ℕ, ◌&&◌, ◌||◌, not, Bool, true, false, if◌then◌else◌, List, [], ◌∷◌}
 use Rattle.properties_format.specs.Text.{is_blank, is_blanks, is_line_end, is_comment_sign, is_separator}
 
--- whether the text contains no line end
+-- whether the text contains no line ending
 abbrev pub holds_no_line_end : List ℕ → Bool
 holds_no_line_end [] = true
 holds_no_line_end (c ∷ cs) = not (is_line_end c) && holds_no_line_end cs
