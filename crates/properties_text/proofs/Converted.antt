@@ -487,7 +487,7 @@ source-written t readable e source bytes k h =
     let r = written-text t (converted_of (encoding_in t) (only_in t) readable x) w in
     (subst (IsWell (line_in t)) (sym h) r.0, ap (text_in (line_in t)) h ∙ r.1)
 
--- Bytes that don't begin like a mark, and those that do.
+-- Bytes that don't begin like a byte order mark, and those that do.
 pub plain-source : (t : Repertoire) (readable : Bool) (e : Encoding) (source bytes : List ℕ) → All byte source
     → bytes ≡ encoded_text (encoding_in t) (converted_of (encoding_in t) (only_in t) readable (decoded_of e source)) → begins_like_bom bytes ≡ false
     → IsConverted e (encoding_in t) (only_in t) readable source bytes

@@ -25,7 +25,7 @@ use Rattle.byte_blocks.proofs.Marking.{fails-before}
 
 -- ---- one character
 
--- The two bytes of a character above ASCII.
+-- The two bytes of a non-ASCII character.
 pub two-bytes : (c : ℕ) → 0x80 ≤ c → c < 0x100 → encode_utf8 c ≡ lead_byte c ∷ last_byte c ∷ []
 two-bytes c l h = rw (encode-two c l (omega arith)) (grind (arith, nat_tests))
 

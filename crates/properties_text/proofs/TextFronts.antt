@@ -1,7 +1,7 @@
 -- Fronts of bytes that are valid text without being decoded.
-use Rattle.std.proofs.Common.{◌≡◌, ◌+◌, ◌-◌, ◌<◌, ◌≤◌, ℕ, true, List, [], ◌∷◌, ◌++◌, length, take, drop, refl, sym, ap, subst, inl, inr, ◌∙◌, arith, append-nil, append_assoc, take_all, take-add, take-take, take-append-drop}
+use Rattle.std.proofs.Common.{◌≡◌, ◌+◌, ◌-◌, ◌<◌, ◌≤◌, ℕ, true, List, [], ◌∷◌, ◌++◌, length, take, drop, refl, sym, ap, subst, inl, inr, ◌∙◌, arith, append-nil, append_assoc, take_all, take-add, take-take}
 use Rattle.std.specs.Prelude.{Result, Ok, Err, OnErr, encode_utf8_all}
-use Rattle.std.specs.Str.{IsUtf8, IsValidUpTo, chars}
+use Rattle.std.specs.Str.{IsUtf8, chars}
 use Rattle.std.proofs.Math.Utf8.{scalar as is_scalar, scalars}
 use Rattle.std.specs.Char.{IsScalar, encode_utf8}
 use Rattle.std.proofs.lemmas.Bool.{and_from, cases_lt}
@@ -25,11 +25,8 @@ no-whole_text bs n h few u =
     let most = h.longest (length bs) (omega arith) all in
     absurd (omega (arith, most, few))
 
--- A well-formed front, and what std finds of the bytes after it.
+-- A well-formed front, and the bytes after it.
 module _ (bs : List ℕ) (at : ℕ) (within : at ≤ length bs) (front : IsUtf8 (take at bs)) where
-  pub front-and_rest : IsUtf8 (drop at bs) → IsUtf8 bs
-  front-and_rest rest = subst IsUtf8 (take-append-drop at bs) (IsUtf8-append _ _ front rest)
-
   -- More well-formed bytes from the start on are more after that front.
   rest-of : (m : ℕ) → at ≤ m → m ≤ length bs → IsUtf8 (take m bs) → IsUtf8 (take (m - at) (drop at bs))
   rest-of m le short u =
@@ -38,23 +35,20 @@ module _ (bs : List ℕ) (at : ℕ) (within : at ≤ length bs) (front : IsUtf8 
       let e : at + (m - at) ≡ m = omega arith in
       rw (← drop-take at (m - at) bs, e) rest
 
-  -- No longer front is well-formed than both together.
-  pub longest-after : (n : ℕ) → IsValidUpTo (drop at bs) n → IsLongestText bs (at + n)
-  longest-after n v = record {
-    within = omega (arith, v.short, length-drop at bs);
-    text = rw take-add (IsUtf8-append _ _ front v.front);
-    longest = λ m le u. elim (cases_lt (at + n) m) [
-      | inl l ↦ absurd (v.longest (m - at) (omega arith) (rest-of m (omega arith) le u))
+  -- More well-formed bytes.
+  pub front-more : (n : ℕ) → n ≤ length (drop at bs) → IsUtf8 (take n (drop at bs)) → (at + n ≤ length bs) × IsUtf8 (take (at + n) bs)
+  front-more n short u = (omega (arith, short, within, length-drop at bs), rw take-add (IsUtf8-append _ _ front u))
+
+  -- No longer front is well-formed if no more bytes are.
+  pub longest-after : IsLongestText (drop at bs) 0 → IsLongestText bs at
+  longest-after h = record {
+    within = within;
+    text = front;
+    longest = λ m le u. elim (cases_lt at m) [
+      | inl l ↦ absurd (let most = h.longest (m - at) (omega (arith, length-drop at bs)) (rest-of m (omega arith) le u) in omega (arith, most, l))
       | inr h ↦ h
     ];
   }
-
-pub longest-whole : (bs : List ℕ) → IsUtf8 bs → IsLongestText bs (length bs)
-longest-whole bs u = record {
-  within = omega arith;
-  text = rw (take_all (length bs) bs (omega arith)) u;
-  longest = λ m le _. le;
-}
 
 whole-front : (e : Encoding) (d : List ℕ) → characters (pieces_of e (d ++ [])) ≡ chars d ++ characters (pieces_of e []) → chars d ≡ characters (pieces_of e d)
 whole-front e d h = sym (rw (append-nil d, pieces_of-nil e, append-nil (chars d)) at h)

@@ -40,7 +40,7 @@ printed_in e t escaped bytes = printed_by t (meaning_in e escaped bytes)
 
 -- ---- a text after some bytes that were copied, perhaps inside a character
 
--- whether bytes past ASCII are copied
+-- whether non-ASCII bytes are copied
 abbrev pub is_copied : LineEncoding → Repertoire → Bool
 is_copied Windows1252 repertoire.Windows1252 = true
 is_copied Windows1252 repertoire.Utf8 = false
@@ -80,7 +80,8 @@ rest_in e t escaped bytes = text_in_front (inside_in e t bytes) (printed_in e t 
 
 -- ---- what is put
 
--- What stops a run: control characters; and bytes past ASCII, unless they are copied. A backslash, if it begins an escape.
+-- What stops a run: control characters; and non-ASCII bytes, unless they are copied. A backslash, if it begins an
+-- escape.
 pub record StopsIn (holds : ℕ → Bool) (e : LineEncoding) (t : Repertoire) : Type 0 where
   pub controls : (b : ℕ) → b < 0x20 → holds b ≡ true
   pub past : (b : ℕ) → 0x80 ≤ b → holds b ≡ not (is_copied e t)

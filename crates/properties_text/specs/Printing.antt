@@ -71,7 +71,7 @@ last_run bs = if get_or bs (length bs - 1) 0 == space then take (length bs - 1) 
 
 -- ---- bytes of an output encoding
 
--- a byte of a key or a value as it is printed: bytes above ASCII are copied
+-- a byte of a key or a value as it is printed: non-ASCII bytes are copied
 abbrev pub printed_byte : ℕ → List ℕ
 printed_byte b =
     if format.is_special b then backslash ∷ b ∷ []

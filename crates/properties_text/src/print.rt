@@ -150,7 +150,7 @@ impl<'a> Part<'a> {
     }
 }
 
-// Where a run of bytes stops, by whether a backslash begins an escape, and by whether bytes past ASCII are copied.
+// Where a run of bytes stops, by whether a backslash begins an escape, and by whether non-ASCII bytes are copied.
 type Literal = Controls;
 
 type Escaped = Either<Controls, Byte<b'\\'>>;
@@ -159,7 +159,7 @@ type LiteralAscii = Either<Controls, PastAscii>;
 
 type EscapedAscii = Either<PastAscii, Either<Controls, Byte<b'\\'>>>;
 
-// Whether bytes past ASCII are copied.
+// Whether non-ASCII bytes are copied.
 #[inline(always)]
 fn is_copied(encoding: LineEncoding, repertoire: Repertoire) -> bool
     ensures { result ≡ is_copied encoding repertoire }

@@ -76,7 +76,7 @@ module _ (m : Meaning) (r : Repertoire) (first : Bool) (old : List ℕ) (at : �
   key-escaped out new mid h (Err (error.Malformed kind)) like same k = k
   key-escaped out new mid h (Err error.Memory) like same k = tt
 
--- What was put begins like a mark if the bytes of the text do.
+-- What was put begins like a byte order mark if the bytes of the text do.
 pub begins-put : (m : Meaning) (r : Repertoire) (old : List ℕ) (at : ℕ) (new slice : List ℕ) (end : ℕ) (h : IsPut m (puts_of r) old at new end) → at ≤ length old
     → slice ≡ new → begins_like_bom (puts_of r h.meant) ≡ begins_like_bom (take (end - at) (drop at slice))
 begins-put m r old at new slice end h room value =

@@ -6,7 +6,7 @@ use Rattle.std.proofs.lemmas.Bool.{cases_lt, not-true}
 use Rattle.std.proofs.lemmas.Grind.{common_steps}
 use Rattle.std.proofs.lemmas.Str.{IsUtf8-nil, chars-nil}
 use Rattle.std.proofs.Math.Seq.{take-append_seam}
-use Rattle.std.proofs.lemmas.List.{length-map, length-append, get_or-drop, get_or-take, length-take-le, take-take, drop-take, drop-drop, drop_more, drop_all, take-append-drop, length-drop}
+use Rattle.std.proofs.lemmas.List.{length-map, length-append, get_or-drop, get_or-take, length-take-le, take-take, drop-take, drop-drop, drop_more, drop_all, take-append-drop, drop-append-le, length-drop}
 use Rattle.std.proofs.lemmas.List.Elements.{All-append, All-weaker, All-nil, All-cons, All-from_get_or, All-take, All-drop}
 use Rattle.properties_format.specs.Text.{backslash, space}
 use Rattle.properties_format.specs.Escapes as format
@@ -247,6 +247,29 @@ run-none {holds} {old} {at = at} inside same = record {
   clear = All-nil (λ b. holds b ≡ false);
   printed = same ∙ sym (append-nil (take at old));
 }
+
+-- A run in a part of a text is one in the text.
+pub run-of-part : {holds : ℕ → Bool} {old new : List ℕ} {at from : ℕ} {put : Put} (part size : ℕ) (bytes : List ℕ) → part ≤ size → size ≤ length bytes
+    → from ≤ part → IsRunPut holds old at (take part bytes) from put new → IsRunPut holds old at (take size bytes) from put new
+run-of-part {from = from} {put = put} part size bytes within inside before run =
+    let front = take part bytes in
+    let others = drop part (take size bytes) in
+    let many : length front ≡ part = length-take-le part bytes (omega (arith, within, inside)) in
+    let whole : front ++ others ≡ take size bytes =
+    ap (λ v. v ++ others) (sym (take-take part size bytes within)) ∙ take-append-drop part (take size bytes) in
+    record {
+      bytes = run.bytes;
+      text_is = ap (drop from) (sym whole)
+          ∙ drop-append-le from front others (omega (arith, many, before))
+          ∙ ap (λ v. v ++ others) run.text_is
+          ∙ append_assoc run.bytes (drop put.read front) others
+          ∙ ap (λ v. run.bytes ++ v) (sym (drop-append-le put.read front others run.read) ∙ ap (drop put.read) whole);
+      read_is = run.read_is;
+      read = omega (arith, run.read, many, length-take-le size bytes inside, within);
+      few = run.few;
+      clear = run.clear;
+      printed = run.printed;
+    }
 
 -- the bytes of a block before a stop
 pub block-run : {holds : ℕ → Bool} {old new : List ℕ} {marks : List Bool} {so_far : Put} {end : ℕ} (bytes v : List ℕ) (size kept : ℕ) → size ≤ length bytes

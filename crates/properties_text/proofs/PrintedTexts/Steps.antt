@@ -37,7 +37,7 @@ use Rattle.properties_text.proofs.Spelt.First.{ascii-first}
 pub put-ascii : (t : Repertoire) (c : ℕ) → c < 0x80 → put_of t c ≡ printed_byte c
 put-ascii t c h = ascii-printed (encoding_in t) (only_in t) c h
 
--- In UTF-8, what is past ASCII is printed as it is.
+-- In UTF-8, what is non-ASCII is printed as it is.
 pub put-utf_8 : (c : ℕ) → 0x80 ≤ c → put_of repertoire.Utf8 c ≡ encode c
 put-utf_8 c h = rw (past-special c h, past-letter c h, past-control c h) (append-nil (encode c))
 
@@ -45,7 +45,7 @@ put-utf_8 c h = rw (past-special c h, past-letter c h, past-control c h) (append
 pub put_lacked : (c : ℕ) → 0x80 ≤ c → windows_1252_byte c ≡ None → put_of repertoire.Windows1252 c ≡ unicode_escape c
 put_lacked c h e = escaped-printed windows_1252 false c h (ap (λ o. is_some (one_byte o)) e)
 
--- In ASCII alone, what is past ASCII is.
+-- In ASCII only, what is non-ASCII is.
 pub put_escaped : (c : ℕ) → 0x80 ≤ c → put_of repertoire.Ascii c ≡ unicode_escape c
 put_escaped c h = escaped-printed utf_8 true c h (and_left (nat_lt c 0x80) (is_some (encoded utf_8 c)) (le-ltb c 0x80 h))
 
@@ -126,7 +126,7 @@ ascii-byte e t escaped b bs h w k =
     let a = ascii-first e b bs h own in
     whole-byte e t escaped b b bs own a.well a.characters k (put-ascii t b h)
 
--- ---- a byte past ASCII that is copied
+-- ---- a non-ASCII byte that is copied
 
 inside-all : (xs rest : List ℕ) → AreWide xs → AreInside xs → (inside (xs ++ rest) ≡ xs ++ inside rest) × (past (xs ++ rest) ≡ past rest)
 inside-all [] rest w h = (refl, refl)

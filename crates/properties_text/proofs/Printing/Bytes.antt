@@ -57,7 +57,7 @@ past-letter b h = rw (ne_eqb b 0x09 (omega arith), ne_eqb b 0x0a (omega arith), 
 pub past-control : (b : ℕ) → 0x80 ≤ b → nat_lt b space ≡ false
 past-control b h = le-ltb b space (omega arith)
 
--- A byte above ASCII is copied.
+-- A non-ASCII byte is copied.
 pub past-byte : (b : ℕ) → 0x80 ≤ b → printed_byte b ≡ b ∷ []
 past-byte b h = rw (past-special b h, past-letter b h, past-control b h) refl
 
@@ -70,7 +70,7 @@ place-past n (x ∷ xs) c b h = elim (cases_Bool (x == c)) [
   | inr e ↦ let more = place-past (n + 1) xs c b (rw e at h) in omega arith
 ]
 
--- The windows-1252 byte of a character above ASCII is above ASCII.
+-- The windows-1252 byte of a non-ASCII character is non-ASCII.
 pub byte-past : (c b : ℕ) → 0x80 ≤ c → windows_1252_byte c ≡ Some b → 0x80 ≤ b
 byte-past c b h e = elim (cases_Bool (nat_lt c 0x100 && not (is_in_table c))) [
   | inl k ↦ let same : Some c ≡ Some b = rw k at e in let is : c ≡ b = cc in omega arith
@@ -90,7 +90,7 @@ byte-printed c b e = elim (cases_lt c 0x80) [
       rw (past-special c h, past-letter c h, past-control c h, known) (rw known (sym (past-byte b (byte-past c b h e))))
 ]
 
--- A character above ASCII that may not be printed as it is, is escaped.
+-- A non-ASCII character that may not be printed as it is, is escaped.
 pub escaped-printed : (e : Encoding) (only : Bool) (c : ℕ) → 0x80 ≤ c → may_be_unescaped e only c ≡ false
     → encoded_text e (printed_character e only in_key_or_value c) ≡ unicode_escape c
 escaped-printed e only c h lacks = rw (past-special c h, past-letter c h, past-control c h, lacks) (encoded_escape e c)

@@ -19,7 +19,7 @@ abbrev pub AreInside : List ℕ → Type 0
 AreInside [] = Unit {0}
 AreInside (b ∷ bs) = (b < 192) × AreInside bs
 
--- A character is its own byte, or all of its bytes are above ASCII, those after the first below C0.
+-- A character is its own byte, or all of its bytes are non-ASCII, those after the first below C0.
 pub data IsEncoded (c : ℕ) (bytes : List ℕ) : Type 0 where
   one : c < 128 → bytes ≡ c ∷ [] → IsEncoded c bytes
   wide : 128 ≤ c → (b : ℕ) (bs : List ℕ) → bytes ≡ b ∷ bs → 128 ≤ b → AreWide bs → AreInside bs → IsEncoded c bytes
@@ -36,7 +36,7 @@ encoded c = elim (cases_lt c 0x80) [
   ]
 ]
 
--- ---- characters above ASCII have no special kind
+-- ---- non-ASCII characters have no special kind
 
 pub wide-no_backslash : (c : ℕ) → 128 ≤ c → (c == backslash) ≡ false
 wide-no_backslash c h = ne_eqb c backslash (λ e. absurd (omega arith))

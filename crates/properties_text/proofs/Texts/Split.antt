@@ -64,7 +64,7 @@ without_trailing_blanks-part = part_by without_trailing_blanks without_trailing_
 
 -- ---- keys
 
--- Bytes above ASCII, of which the first may follow a backslash, are of the key.
+-- Non-ASCII bytes, of which the first may follow a backslash, are of the key.
 cut-wide : (b : ℕ) (bs rest : List ℕ) (is_escaped : Bool) → 128 ≤ b → AreWide bs → cut_key (b ∷ bs ++ rest) is_escaped ≡ with_text (b ∷ bs) (cut_key rest false)
 cut-wide b [] rest true l w = refl
 cut-wide b [] rest false l w = rw (wide-no_backslash b l, wide-no_end b l) refl

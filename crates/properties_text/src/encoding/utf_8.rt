@@ -141,10 +141,42 @@ pub fn text_front(bytes: &[u8]) -> (&str, &[u8])
 pub fn well_formed_length(bytes: &[u8]) -> usize
     ensures { IsLongestText bytes.now result }
 {
-    let front = blocks_length(bytes);
-    match str::from_utf8(&bytes[front..]) {
-        Ok(_) => bytes.len(),
-        Err(error) => front + error.valid_up_to(),
+    let mut at = 0;
+    let mut blocks_from = 0;
+    loop {
+        if at >= blocks_from {
+            at += blocks_length(&bytes[at..]);
+            // Sequences pass what the blocks end before.
+            blocks_from = at + 16;
+        }
+        let length = sequence_length(&bytes[at..]);
+        if length == 0 {
+            return at;
+        }
+        at += length;
+    }
+}
+
+// The length of the well-formed sequence at the front, or 0 if there is none.
+#[inline(always)]
+fn sequence_length(bytes: &[u8]) -> usize
+    ensures within { result ≤ length bytes.now }
+    ensures text { IsUtf8 (take result bytes.now) }
+    ensures none { result ≡ 0 → IsLongestText bytes.now 0 }
+{
+    let Some((first, rest)) = bytes.split_first() else {
+        return 0;
+    };
+    if *first < 0x80 {
+        return 1;
+    }
+    let Some(ranges) = ranges_after(*first) else {
+        return 0;
+    };
+    if fitting_length(ranges, rest) == ranges.len() {
+        1 + ranges.len()
+    } else {
+        0
     }
 }
 

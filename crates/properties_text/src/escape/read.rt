@@ -56,7 +56,7 @@ pub fn read_escape(encoding: LineEncoding, text: &[u8]) -> Result<Spelt, Malform
     Ok(read_other(encoding, text))
 }
 
-// What a backslash means before a character past ASCII, and at the end of a text.
+// What a backslash means before a non-ASCII character, and at the end of a text.
 #[inline(never)]
 fn read_other(encoding: LineEncoding, text: &[u8]) -> Spelt
     requires some { 0 < length text.now }

@@ -19,6 +19,9 @@ use byte_blocks::ByteClass;
 use std::alloc::AllocError;
 use std::simd::prelude::*;
 
+// For how many bytes of a text room is made at once.
+const PART: usize = 4096;
+
 // The room beyond two bytes for each byte of a text: what a block may overwrite, or a character be printed as.
 const ROOM_FOR_BLOCK: usize = 32;
 
@@ -43,7 +46,7 @@ pub fn put_printed(out: &mut [u8], at: usize, repertoire: Repertoire, character:
     put_past(out, at, repertoire, character)
 }
 
-// Puts a character past ASCII as it is, or as a `\u` escape if the repertoire lacks it, and returns the index after it.
+// Puts a non-ASCII character as it is, or as a `\u` escape if the repertoire lacks it, and returns the index after it.
 #[inline(always)]
 #[tactic(auto, using(crate::proofs::PrintedTexts::Steps::put_lacked, crate::proofs::PrintedTexts::Steps::put_escaped))]
 fn put_past(out: &mut [u8], at: usize, repertoire: Repertoire, character: char) -> usize
@@ -119,7 +122,7 @@ fn begins_with_stop<Stops: ByteClass>(text: &[u8]) -> bool
     begins_escape::<Stops>(text) || Stops::contains(text[0])
 }
 
-// Puts the rest of a text, which begins with a stop. Kept out of line because most texts have no stops.
+// Puts the rest of a text. Kept out of line because most texts have no stops, and there is room for them.
 #[inline(never)]
 fn print_rest<Stops: ByteClass>(
     out: &mut Vec<u8>,
@@ -135,7 +138,6 @@ fn print_rest<Stops: ByteClass>(
     requires at { at ≤ length out.old.items }
     requires stops { StopsIn Stops.holds encoding repertoire }
     requires well { IsWell encoding (past_in encoding repertoire (drop from (take size bytes.now))) }
-    requires begins { from < size → Stops.holds (get_or (take size bytes.now) from 0) ≡ true }
     ensures printed { PrintsRest encoding repertoire (Stops.holds backslash) out.old.items at (take size bytes.now) from out.new.items result }
     ensures same { take at out.new.items ≡ take at out.old.items }
     ensures longer { length out.old.items ≤ length out.new.items }
@@ -149,21 +151,6 @@ fn print_rest<Stops: ByteClass>(
         put = print_run::<Stops>(out, put.end, bytes, size, put.read)?;
     }
     Ok(put.end)
-}
-
-// Makes room for two bytes for each byte of a text of this length, and for what a block may overwrite.
-#[inline(always)]
-fn make_room_for(out: &mut Vec<u8>, at: usize, size: usize) -> Result<(), AllocError>
-    requires at { at ≤ length out.old.items }
-    requires size { size < 0x8000_0000_0000_0000 }
-    ensures room { IfOk result (λ done. at + (2 * size + 32) ≤ length out.new.items) }
-    ensures same { take at out.new.items ≡ take at out.old.items }
-    ensures longer { length out.old.items ≤ length out.new.items }
-{
-    if (out.len() - at) / 2 >= size + ROOM_FOR_BLOCK / 2 {
-        return Ok(());
-    }
-    make_room(out, at, (2 * size).saturating_add(ROOM_FOR_BLOCK))
 }
 
 // Makes room for a character, and puts the characters at which a run stops, from index `from` on.
@@ -184,7 +171,8 @@ fn print_stops<Stops: ByteClass>(
     ensures same { take at out.new.items ≡ take at out.old.items }
     ensures longer { length out.old.items ≤ length out.new.items }
     ensures after { IfOk result (λ put. at ≤ put.end) }
-    ensures onwards { IfOk result (λ put. from < length text.now → Stops.holds (get_or text.now from 0) ≡ true → from < put.read) }
+    ensures onwards { IfOk result (λ put. from ≤ put.read) }
+    ensures past { IfOk result (λ put. from < length text.now → Stops.holds (get_or text.now from 0) ≡ true → from < put.read) }
     ensures far { IfOk result (λ put. GoesFar Stops.holds text.now put out.new.items) }
 {
     make_room(out, at, LONGEST)?;
@@ -210,7 +198,8 @@ fn put_stops<Stops: ByteClass>(
     ensures put { PutsStops encoding repertoire (Stops.holds backslash) out.old at text.now from out.new result }
     ensures same { take at out.new ≡ take at out.old }
     ensures after { IfOk result (λ put. at ≤ put.end) }
-    ensures onwards { IfOk result (λ put. from < length text.now → Stops.holds (get_or text.now from 0) ≡ true → from < put.read) }
+    ensures onwards { IfOk result (λ put. from ≤ put.read) }
+    ensures past { IfOk result (λ put. from < length text.now → Stops.holds (get_or text.now from 0) ≡ true → from < put.read) }
     ensures far { IfOk result (λ put. GoesFar Stops.holds text.now put out.new) }
 {
     let mut put = Put {
@@ -264,14 +253,32 @@ pub fn print_bytes<Stops: ByteClass>(
     ensures same { take at out.new.items ≡ take at out.old.items }
     ensures longer { length out.old.items ≤ length out.new.items }
 {
-    let put = print_run::<Stops>(out, at, bytes, size, 0)?;
+    let put = put_if_room::<Stops>(out, at, bytes, size);
     if put.read < size {
         return print_rest::<Stops>(out, put.end, repertoire, encoding, bytes, size, put.read);
     }
     Ok(put.end)
 }
 
-// Makes room for a text from index `from` on, and puts it up to a stop.
+// Puts a text up to a stop if there is room for two bytes for each of its bytes, and for what a block may overwrite.
+// Otherwise puts nothing.
+#[inline(always)]
+fn put_if_room<Stops: ByteClass>(out: &mut [u8], at: usize, bytes: &[u8], size: usize) -> Put
+    requires size { size ≤ length bytes.now }
+    requires at { at ≤ length out.old }
+    requires controls { (b : ℕ) → b < 0x20 → Stops.holds b ≡ true }
+    ensures same_room { length out.new ≡ length out.old }
+    ensures run { IsRunPut Stops.holds out.old at (take size bytes.now) 0 result out.new }
+    ensures within { result.end ≤ length out.new }
+{
+    if (out.len() - at) / 2 >= size + ROOM_FOR_BLOCK / 2 {
+        return put_run::<Stops>(out, at, bytes, size, 0);
+    }
+    Put { read: 0, end: at }
+}
+
+// Makes room for a part of a text from index `from` on, and puts it up to a stop. So a long text takes little more room
+// than it is printed in.
 #[inline(always)]
 fn print_run<Stops: ByteClass>(
     out: &mut Vec<u8>,
@@ -286,13 +293,14 @@ fn print_run<Stops: ByteClass>(
     requires controls { (b : ℕ) → b < 0x20 → Stops.holds b ≡ true }
     ensures run { IfOk result (λ put. IsRunPut Stops.holds out.old.items at (take size bytes.now) from put out.new.items) }
     ensures within { IfOk result (λ put. put.end ≤ length out.new.items) }
-    ensures stops { IfOk result (λ put. put.read < size → Stops.holds (get_or (take size bytes.now) put.read 0) ≡ true) }
+    ensures onwards { IfOk result (λ put. from < size → Stops.holds (get_or (take size bytes.now) from 0) ≡ false → from < put.read) }
     ensures refused { IsOkUnless result Memory }
     ensures same { take at out.new.items ≡ take at out.old.items }
     ensures longer { length out.old.items ≤ length out.new.items }
 {
-    make_room_for(out, at, size - from)?;
-    Ok(put_run::<Stops>(out, at, bytes, size, from))
+    let part = PART.min(size - from);
+    make_room(out, at, 2 * part + ROOM_FOR_BLOCK)?;
+    Ok(put_run::<Stops>(out, at, bytes, from + part, from))
 }
 
 // Puts the text from index `from` on, up to a stop.
@@ -310,6 +318,7 @@ fn put_run<Stops: ByteClass>(
     requires controls { (b : ℕ) → b < 0x20 → Stops.holds b ≡ true }
     ensures same_room { length out.new ≡ length out.old }
     ensures run { IsRunPut Stops.holds out.old at (take size bytes.now) from result out.new }
+    ensures within { result.end ≤ length out.new }
     ensures stops { result.read < size → Stops.holds (get_or (take size bytes.now) result.read 0) ≡ true }
 {
     let mut put = Put {

@@ -13,7 +13,6 @@ loop-put-preserved g c =
       front = kept.1 ∙ fewer-kept c.print_stops.new.out.items c.loop-put.out.items c.args.at c.loop-put.put.end h.room stops.same ∙ h.front;
       room = kept.0;
       longer = omega (arith, h.longer, stops.longer, run.longer);
-      stop = run.stops;
       put = put-run c.requires.stops (put-on h.put stops.put) run.within
           (small-take c.args.size c.args.bytes.now (λ i. omega (arith, c.type_inv.bytes i))) run.run;
     }

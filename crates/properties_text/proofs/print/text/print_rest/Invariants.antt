@@ -1,4 +1,4 @@
-use Rattle.std.proofs.Common.{◌≡◌, ◌-◌, ◌<◌, ◌≤◌, true, take, get_or, length}
+use Rattle.std.proofs.Common.{◌≡◌, ◌-◌, ◌≤◌, take, length}
 use Rattle.properties_format.specs.Text.{backslash}
 use Rattle.properties_text.specs.PrintedTexts.{ArePut, from_on}
 use Rattle.properties_text.proofs.print.text.print_rest.Given as goal
@@ -8,7 +8,6 @@ invariant-loop-put g l = record {
   front : take l.at l.out.items ≡ take l.at l.fn.out.items;
   room : l.at ≤ l.put.end;
   longer : length l.fn.out.items ≤ length l.out.items;
-  stop : l.put.read < l.size → g.Stops.ByteClass.holds (get_or (take l.size l.bytes) l.put.read 0) ≡ true;
   put : ArePut l.encoding l.repertoire (g.Stops.ByteClass.holds backslash) (from_on l.encoding l.repertoire (g.Stops.ByteClass.holds backslash) l.fn.out.items
       l.at (take l.size l.bytes) l.from) (take l.size l.bytes) l.put l.out.items;
 }
