@@ -1,4 +1,4 @@
--- What was written while ASCII alone was on is of ASCII alone.
+-- What was written while ASCII-only output was on is ASCII-only.
 use Rattle.std.proofs.Common.{◌≡◌, ◌++◌, List, [], ◌∷◌, ap, sym, ◌∙◌, inl, inr, subst}
 use Rattle.std.specs.Prelude.{◌<◌, Bool, Result, Ok, Err, true}
 use Rattle.std.proofs.lemmas.List.Elements.{All-nil}

@@ -48,7 +48,7 @@ repertoire-of repertoire.Utf8 line.Windows1252 same h = absurd (cc)
 repertoire-of repertoire.Utf8 line.Utf8 same h = refl
 repertoire-of repertoire.Ascii e same h = absurd (cc)
 
--- ASCII alone is the same bytes in each encoding
+-- ASCII only is the same bytes in each encoding
 alike : (e : Encoding) (x y : List ℕ) → AreAscii x → AreAscii y → x ≡ y → encoded_text utf_8 x ≡ encoded_text e y
 alike e x y h k same = encoded_text-ascii utf_8 x h ∙ same ∙ sym (encoded_text-ascii e y k)
 

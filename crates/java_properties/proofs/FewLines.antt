@@ -1,4 +1,4 @@
--- Bytes have no more line ends than there are of them, so a slice never has as many lines as there are numbers.
+-- Bytes have no more line endings than there are of them, so a slice never has as many lines as there are numbers.
 use Rattle.std.proofs.Common.{◌≡◌, ℕ, ◌+◌, ◌^◌, ◌≤◌, List, [], ◌∷◌, ◌++◌, length, refl, ap, inl, inr, append-nil, length-append, length-drop, arith}
 use Rattle.std.proofs.lemmas.Bool.{cases_Bool}
 use Rattle.properties_format.specs.Text.{LineEnding, lf, cr, crlf, line_ending_text}
@@ -16,14 +16,14 @@ use Rattle.properties_format.proofs.ItemsToCome.Unique.{rest_of_end-meets}
 use Rattle.properties_format.proofs.Lines.Meets.{lines_of-meets}
 use Rattle.java_properties.specs.PropertiesIter.{PassesAll}
 
--- ---- line ends and bytes
+-- ---- line endings and bytes
 
 ending-length : (by : LineEnding) → 1 ≤ length (line_ending_text by)
 ending-length lf = omega arith
 ending-length cr = omega arith
 ending-length crlf = omega arith
 
--- each line end is a character at least
+-- each line ending is a character at least
 ends-within : (ls : List Ended) (last : List ℕ) → length ls ≤ length (put_together ls last)
 ends-within [] last = omega arith
 ends-within (l ∷ ls) last =
@@ -80,7 +80,7 @@ few-held body =
 
 -- ---- the lines that a reader passes
 
--- Where a fault comes after so many line ends, there are as many bytes.
+-- Where a fault comes after so many line endings, there are as many bytes.
 ends-passed : (e : Encoding) (bytes : List ℕ) (n : ℕ) (lines : List Line) → AreFurtherLines (start e) (bytes ++ []) fault lines (last_entries n fault)
     → n ≤ length bytes
 ends-passed e bytes n lines h =

@@ -27,7 +27,7 @@ use Rattle.properties_lines.specs.LineJoiner.{IsLazyItems, Joins, JoinsError, Jo
 use Rattle.properties_lines.specs.declared.error.LineError.{LineError}
 use Rattle.properties_lines.specs.declared.error.LineError.TheVariants as why
 use Rattle.java_properties.specs.Borrowing.{ComeNext, IsSpelt}
-use Rattle.java_properties.specs.Private.GivenItems.{in_utf_8, GivesItem, Owns, Gives, BreaksOff, GivesEntry, GivesNone, GivesMalformed, GivesError}
+use Rattle.java_properties.specs.Private.GivenItems.{as_text, in_utf_8, GivesItem, Owns, Gives, BreaksOff, GivesEntry, GivesNone, GivesMalformed, GivesError}
 use Rattle.properties_items.specs.FoundItems.{IsNoItem}
 use Rattle.properties_items.specs.declared.error.ErrorKind.TheVariants.{Memory}
 use Rattle.properties_items.specs.declared.found.Found.{Found}
@@ -59,11 +59,23 @@ none-in-nil bytes (found.Comment text) none h = let last = none-last h.indent (h
 none-in-nil bytes (found.KVPair key value) none h = h.not_empty (none-last h.indent _ (sym none ∙ h.whole))
 
 -- Where an item was found, the line is in UTF-8.
-pub found-utf8 : (bytes : List ℕ) (found : Found) → IsFoundIn (in_utf_8 bytes) found → IsUtf8 bytes
+found-utf8 : (bytes : List ℕ) (found : Found) → IsFoundIn (in_utf_8 bytes) found → IsUtf8 bytes
 found-utf8 bytes found h = elim (cases_Bool (is_utf8 bytes)) [
   | inl k ↦ IsUtf8-from_is_utf8 bytes k
   | inr k ↦ absurd (none-in-nil (in_utf_8 bytes) found.content (ap chars (kept-none bytes k) ∙ chars-nil) h.slices)
 ]
+
+-- and it is the line that the reader shows.
+pub is-text : (lines seen : LineState) (found : Found) → as_text lines ≡ seen → IsFoundIn seen.line found → IsUtf8 lines.line
+is-text lines seen found same h =
+    let P : LineState → Type 0 = λ v. IsFoundIn v.line found in
+    found-utf8 lines.line found (subst P (sym same) h)
+
+pub shown : (lines seen : LineState) (found : Found) → as_text lines ≡ seen → IsFoundIn seen.line found → lines.line ≡ seen.line
+shown lines seen found same h =
+    sym (kept-utf8 lines.line (is-text lines seen found same h)) ∙ ap (λ v. let w : LineState = v in w.line) same
+
+pub ruleset shown_lines = (is-text, shown)
 
 -- ---- the lines that were passed
 

@@ -20,6 +20,8 @@ use Rattle.properties_format.specs.Computed.Lines.{lines_of}
 use Rattle.properties_format.specs.Groups.{joined, first_number}
 use Rattle.properties_format.specs.Computed.Groups.{groups_of}
 use Rattle.properties_format.specs.Entries.{comment, pair}
+use Rattle.properties_format.specs.Escapes as format
+use Rattle.properties_format.specs.Escapes.{not_enough_digits, not_hex, invalid_character}
 use Rattle.properties_format.specs.Items.{Outcome, ignored, given, broken}
 use Rattle.properties_format.specs.Computed.Items.{outcome_of}
 use Rattle.properties_format.specs.Computed.Parts.{outcome_key}
@@ -33,26 +35,27 @@ use Rattle.properties_format.proofs.Items.Unique.{outcome_of-meets, outcome_of-o
 use Rattle.properties_format.proofs.Changed.Maps.{other-test}
 use Rattle.properties_lines.specs.LineJoiner.{LineState, JoinsNext, JoinsError}
 use Rattle.properties_lines.specs.declared.error.LineError.{LineError}
-use Rattle.properties_items.specs.Errors.{IsBareError, IsLineError}
+use Rattle.properties_items.specs.Errors.{IsBareError, IsLineError, malformed_cause, malformed_kind}
 use Rattle.java_properties.specs.MalformedEscapes.{FailsToFind, StopsFinding}
 use Rattle.properties_items.specs.declared.error.ErrorKind.TheVariants as kind
 use Rattle.properties_items.specs.declared.error.PropertiesError.{PropertiesError}
+use Rattle.properties_text.specs.Escaping.{malformed_in}
 use Rattle.properties_text.specs.declared.escape.Malformed.{Malformed}
 use Rattle.properties_text.specs.declared.escape.UnescapeError.TheVariants as unescape
 use Rattle.properties_items.specs.BorrowedItems.{found_content}
-use Rattle.properties_items.specs.FoundItems.{FindsIn}
+use Rattle.properties_items.specs.FoundItems.{FindsIn, IsNoItem}
 use Rattle.properties_items.specs.declared.found.Found as found
 use Rattle.properties_items.proofs.FoundItems.{found-item}
 use Rattle.properties_items.proofs.TextMaps.Values.{at_chars-sorted, at_chars-updated}
 use Rattle.java_properties.specs.KeyLines.{KeyPlace, keys_from, AreKeysIn, AreKeys, HasNoKey, HasFirstNumber, KeyEntry, AreFirstsOf, AreKeyLines, key_line_entry, key_line_entries, FindsAllKeys}
 use Rattle.java_properties.specs.Private.LineByLine.{number_at, KeepsFirst, AddsKeyLine, AddsIfKey, PushesKey, Collected}
 use Rattle.properties_items.specs.declared.findings.KeyLine as code
-use Rattle.java_properties.proofs.MalformedEscapes.{collected-start, collected-next, collected-groups, found-error, found-lost, broken-in}
+use Rattle.java_properties.proofs.MalformedEscapes.{collected-start, collected-next, collected-groups, found-error, found-lost}
 
 -- ---- the keys, computed
 
 -- the key of a group, and those after it
-abbrev key_before : ℕ → Option (List ℕ) → List KeyPlace → List KeyPlace
+abbrev pub key_before : ℕ → Option (List ℕ) → List KeyPlace → List KeyPlace
 key_before number None rest = rest
 key_before number (Some key) rest = record { number = number; key = key } ∷ rest
 
@@ -80,7 +83,7 @@ keys_in-only (g ∷ gs) keys (outcome, rest, is, same, others) =
     ∙ ap₂ (λ v w. key_before (first_number g) (outcome_key v) w) (outcome_of-only (joined g) outcome is) (keys_in-only gs rest others)
 
 -- the groups of an input
-abbrev groups_in : Encoding → List ℕ → List (List Line)
+abbrev pub groups_in : Encoding → List ℕ → List (List Line)
 groups_in e bytes = groups_of (numbered_lines (lines_of (decoded_of e bytes)) end) end
 
 are_keys-meets : (e : Encoding) (bytes : List ℕ) → AreKeys e bytes (keys_in (groups_in e bytes))
@@ -198,6 +201,11 @@ key_lines_of-meets e bytes =
     let keys = keys_in (groups_in e bytes) in
     record { keys = keys; are_keys = are_keys-meets e bytes; are_firsts = entries-meets keys keys (among-all keys) }
 
+-- They are those of the groups.
+pub groups-key_lines : (e : Encoding) (bytes : List ℕ) (gs : List (List Line)) → gs ≡ groups_in e bytes → AreKeyLines e bytes (key_entries (keys_in gs))
+unfolding key_lines_of
+groups-key_lines e bytes gs is = subst (λ v. AreKeyLines e bytes (key_entries (keys_in v))) (sym is) (key_lines_of-meets e bytes)
+
 key_lines_of-only : (e : Encoding) (bytes : List ℕ) (entries : List KeyEntry) → AreKeyLines e bytes entries → entries ≡ key_lines_of e bytes
 unfolding key_lines_of
 key_lines_of-only e bytes entries h = entries-only h.keys h.keys entries h.are_firsts ∙ ap key_entries (are_keys-only e bytes h.keys h.are_keys)
@@ -259,7 +267,7 @@ entries-append keys [] ys = refl
 entries-append keys (x ∷ xs) ys = ap (λ v. entry_of keys x ∷ v) (entries-append keys xs ys)
 
 -- and the new one comes last
-entries-added : (ks : List KeyPlace) (k : KeyPlace)
+pub entries-added : (ks : List KeyPlace) (k : KeyPlace)
     → key_entries (ks ++ k ∷ []) ≡ key_entries ks ++ record { number = k.number; key = k.key; first = unwrap_or (first_place ks k.key) k.number } ∷ []
 entries-added ks k =
     entries-append (ks ++ k ∷ []) ks (k ∷ [])
@@ -300,12 +308,25 @@ pub outcome_key-found : (line : List ℕ) (number : ℕ) (f : found.Found) → F
 outcome_key-found line number f h = ap outcome_key (sym (found-item line f h.1))
 
 -- a malformed escape
+not_memory : (k : format.Malformed) → malformed_kind k ≡ kind.Memory → ⊥
+not_memory not_enough_digits h = cc
+not_memory not_hex h = cc
+not_memory invalid_character h = cc
+
 pub outcome_key-broken : (line : List ℕ) (number : ℕ) (how : Malformed) → FindsIn line number (Err (unescape.Malformed how)) → None ≡ outcome_key (outcome_of (chars line))
-outcome_key-broken line number how h = let b = broken-in line number how h in sym (ap outcome_key b.1)
+outcome_key-broken line number how h =
+    let k = malformed_in how in
+    by-reason (h number (record { kind = malformed_kind k; line_number = Some number; cause = malformed_cause k; refused = None })
+    (record { its_kind = refl; its_line = refl; its_cause = refl; its_text = refl }))
+  where
+    by-reason : IsNoItem number (chars line) (record { kind = malformed_kind (malformed_in how); line_number = Some number; cause = malformed_cause (malformed_in how); refused = None })
+        → None ≡ outcome_key (outcome_of (chars line))
+    by-reason (inl (k, o, is)) = sym (ap outcome_key o)
+    by-reason (inr is) = absurd (not_memory (malformed_in how) is.its_kind)
 
 -- ---- the reading
 
-keys_in-push : (gs : List (List Line)) (g : List Line)
+pub keys_in-push : (gs : List (List Line)) (g : List Line)
     → keys_in (gs ++ g ∷ []) ≡ keys_in gs ++ key_before (first_number g) (outcome_key (outcome_of (joined g))) []
 keys_in-push [] g = refl
 keys_in-push (h ∷ gs) g =

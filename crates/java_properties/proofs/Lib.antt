@@ -16,5 +16,6 @@ pub mod TextMaps
 pub mod WholeSources
 pub mod FewLines
 pub mod SliceReads
+pub mod SourceFindings
 pub mod SoughtValues
 pub mod SoughtPairs

@@ -9,14 +9,14 @@ use Rattle.properties_format.specs.Encoding.{Encoding}
 use Rattle.properties_format.specs.Lines.{InputEnd, end, fault, Line, line_ends, numbered_lines}
 use Rattle.properties_format.specs.Computed.Encoding.{decoded_of}
 use Rattle.properties_format.specs.Computed.Lines.{lines_of}
-use Rattle.properties_format.specs.Groups.{IsGroups, AreWhole, IsWhole, IsUnfinished, is_comment_line, lines_in, joined, first_number}
+use Rattle.properties_format.specs.Groups.{IsGroups, AreWhole, IsWhole, IsUnfinished, lines_in, joined, first_number}
 use Rattle.properties_format.specs.Computed.Groups.{groups_of}
-use Rattle.properties_format.specs.Escapes.{Malformed, means, not_enough_digits, not_hex, invalid_character}
+use Rattle.properties_format.specs.Escapes.{means}
 use Rattle.properties_format.specs.Split.{Logical, IsSplit}
 use Rattle.properties_format.specs.Computed.Escapes.{meaning_of}
 use Rattle.properties_format.specs.Computed.Split.{split_of}
 use Rattle.properties_format.proofs.Escapes.Laws.{meaning_of-plain}
-use Rattle.properties_format.proofs.Split.Unique.{split_of-meets}
+use Rattle.properties_format.proofs.Split.Unique.{split_of-meets, split_of-only}
 use Rattle.properties_format.specs.Items.{Outcome, ignored, given, broken}
 use Rattle.properties_format.specs.Entries.{Entry, read_fault}
 use Rattle.properties_format.specs.Computed.Items.{comment_outcome, outcome_of, pair_outcome, split_outcome, followed, entries_of}
@@ -35,19 +35,21 @@ use Rattle.properties_lines.specs.LineReader.{Passes}
 use Rattle.properties_lines.specs.LineJoiner.{LineState, JoinsNext, JoinsError, JoinsFault}
 use Rattle.properties_lines.specs.declared.error.LineError.{LineError}
 use Rattle.properties_lines.proofs.LineJoiner.{passes-start, passes-on, some-come, all-on}
-use Rattle.properties_text.specs.Escaping.{holds_backslash, malformed_in}
+use Rattle.properties_text.specs.Escaping.{holds_backslash}
+use Rattle.properties_text.specs.Parsing.{bytes_in, in_characters, spanned}
+use Rattle.properties_text.specs.Spelt.{Checks}
+use Rattle.properties_text.specs.declared.encoding.line.LineEncoding.TheVariants.{Utf8}
+use Rattle.properties_text.specs.declared.parse.ParsedSpans.{ParsedSpans}
+use Rattle.properties_text.specs.declared.parse.ParsedSpans.TheVariants as spans
+use Rattle.properties_text.specs.declared.parse.Span.{Span}
 use Rattle.properties_text.proofs.Texts.Resolving.{holds-part, no_backslash}
 use Rattle.properties_text.specs.declared.escape.Malformed as escape
-use Rattle.properties_text.specs.declared.escape.UnescapeError.TheVariants as unescape
-use Rattle.properties_items.specs.Errors.{IsBareError, IsLineError, malformed_kind, malformed_cause}
-use Rattle.properties_items.specs.FoundItems.{FindsIn, IsNoItem}
-use Rattle.properties_items.specs.declared.found.Found as code
+use Rattle.properties_items.specs.Errors.{IsBareError, IsLineError}
 use Rattle.java_properties.specs.MalformedEscapes.{escape_record, escape_records, FindsAll, FailsToFind, StopsFinding, BeginsEscapes, FindsFirst, CompletesNone, FindsFirstMalformed}
-use Rattle.java_properties.specs.Private.LineByLine.{FindsLineEscape, Collected, Found, FindsNextEscape}
+use Rattle.java_properties.specs.Private.LineByLine.{ChecksLine, Collected, Found, FindsNextEscape}
 use Rattle.properties_items.specs.declared.error.ErrorKind.TheVariants as kind
 use Rattle.properties_items.specs.declared.error.PropertiesError.{PropertiesError}
 use Rattle.properties_items.specs.declared.findings.MalformedEscape.{MalformedEscape}
-use Rattle.properties_items.proofs.FoundItems.{found-item}
 use Rattle.java_properties.proofs.StatedItems.{state-all}
 
 -- ---- groups
@@ -150,39 +152,29 @@ records-none (x ∷ xs) h = absurd (cc)
 
 -- ---- a logical line
 
-not_memory : (k : Malformed) → malformed_kind k ≡ kind.Memory → ⊥
-not_memory not_enough_digits h = cc
-not_memory not_hex h = cc
-not_memory invalid_character h = cc
+-- what its parts say of it
+outcome-parts : (line : List ℕ) (parts : Option ParsedSpans) → IsSplit (chars line) (in_characters (spanned line parts))
+    → outcome_of (chars line) ≡ split_outcome (in_characters (spanned line parts))
+outcome-parts line parts h = ap split_outcome (sym (split_of-only (chars line) (in_characters (spanned line parts)) h))
 
-none-in : (line : List ℕ) (number : ℕ) (found : Option code.Found) → FindsIn line number (Ok found)
-    → escapes_from number (chars line) (outcome_of (chars line)) [] ≡ []
-none-in line number None h = ap (λ v. escapes_from number (chars line) v []) h
-none-in line number (Some f) h = ap (λ v. escapes_from number (chars line) v []) (found-item line f h.1)
+pub blank-checked : (line : List ℕ) → IsSplit (chars line) Logical.blank → ChecksLine (chars line) (Ok tt)
+blank-checked line h = λ number. ap (λ v. escapes_from number (chars line) v []) (outcome-parts line None h)
 
--- It has none.
-pub line-none : (line : List ℕ) (number : ℕ) (found : Option code.Found) → FindsIn line number (Ok found) → FindsLineEscape number (chars line) (Ok None)
-line-none line number found h = sym (ap escape_records (none-in line number found h))
+pub comment-checked : (line : List ℕ) (text : Span) (result : Result Unit escape.Malformed) → IsSplit (chars line) (Logical.comment (chars (bytes_in line text)))
+    → Checks Utf8 (bytes_in line text) result → ChecksLine (chars line) result
+comment-checked line text (Ok done) h c =
+    λ number. ap (λ v. escapes_from number (chars line) v []) (outcome-parts line (Some (spans.Comment text)) h ∙ ap comment_outcome c.1)
+comment-checked line text (Err how) h c = outcome-parts line (Some (spans.Comment text)) h ∙ ap comment_outcome c
 
-pub broken-in : (line : List ℕ) (number : ℕ) (how : escape.Malformed) → FindsIn line number (Err (unescape.Malformed how))
-    → (k : Malformed) × (outcome_of (chars line) ≡ broken k) × (malformed_kind (malformed_in how) ≡ malformed_kind k)
-broken-in line number how h =
-    let k = malformed_in how in
-    by-reason (h number (record { kind = malformed_kind k; line_number = Some number; cause = malformed_cause k; refused = None })
-    (record { its_kind = refl; its_line = refl; its_cause = refl; its_text = refl }))
-  where
-    by-reason : IsNoItem number (chars line) (record { kind = malformed_kind (malformed_in how); line_number = Some number; cause = malformed_cause (malformed_in how); refused = None })
-        → (k : Malformed) × (outcome_of (chars line) ≡ broken k) × (malformed_kind (malformed_in how) ≡ malformed_kind k)
-    by-reason (inl (k, o, is)) = (k, o, is.its_kind)
-    by-reason (inr is) = absurd (not_memory (malformed_in how) is.its_kind)
+module _ (line : List ℕ) (key value : Span) (h : IsSplit (chars line) (Logical.pair (chars (bytes_in line key)) (chars (bytes_in line value)))) where
+  pub key-checked : (how : escape.Malformed) → Checks Utf8 (bytes_in line key) (Err how) → ChecksLine (chars line) (Err how)
+  key-checked how c = outcome-parts line (Some (spans.KVPair key value)) h ∙ ap (λ m. pair_outcome m (meaning_of (chars (bytes_in line value)))) c
 
--- It has this one.
-pub line-one : (line : List ℕ) (number : ℕ) (how : escape.Malformed) → FindsIn line number (Err (unescape.Malformed how))
-    → FindsLineEscape number (chars line) (Ok (Some (record { line_number = number; kind = malformed_kind (malformed_in how); in_comment = is_comment_line (chars line) })))
-line-one line number how h =
-    let b = broken-in line number how h in
-    ap (λ v. record { line_number = number; kind = v; in_comment = is_comment_line (chars line) } ∷ []) b.2
-    ∙ sym (ap (λ v. escape_records (escapes_from number (chars line) v [])) b.1)
+  pub value-checked : (result : Result Unit escape.Malformed) → Checks Utf8 (bytes_in line key) (Ok tt) → Checks Utf8 (bytes_in line value) result
+      → ChecksLine (chars line) result
+  value-checked (Ok done) k c =
+      λ number. ap (λ v. escapes_from number (chars line) v []) (outcome-parts line (Some (spans.KVPair key value)) h ∙ ap₂ pair_outcome k.1 c.1)
+  value-checked (Err how) k c = outcome-parts line (Some (spans.KVPair key value)) h ∙ ap₂ pair_outcome k.1 c
 
 -- Without a backslash it has none.
 pub plain-none : (number : ℕ) (x : List ℕ) → holds_backslash x ≡ false → escapes_from number x (outcome_of x) [] ≡ []

@@ -1,12 +1,15 @@
 -- What was read of a slice.
-use Rattle.std.proofs.Common.{◌≡◌, ℕ, ◌+◌, ◌^◌, ◌<◌, List, [], ◌++◌, ap, sym, ◌∙◌, length, length-append, arith}
+use Rattle.std.proofs.Common.{◌≡◌, ℕ, ◌+◌, ◌^◌, ◌<◌, List, [], ◌++◌, ap, refl, subst, sym, ◌∙◌, length, length-append, arith}
 use Rattle.std.specs.Prelude.{Some, ◌==◌, true}
 use Rattle.std.specs.Borrow.{Bor}
+use Rattle.std.specs.Io.KnownBytes.{Consumes}
 use Rattle.std.specs.declared.io.Error.{Error}
 use Rattle.std.proofs.lemmas.List.{nil_from_length, append-nil}
 use Rattle.counted_io.specs.Streams.{Reader, HasRead, HasFailed, has_ended}
 use Rattle.properties_format.specs.Encoding.{Encoding}
-use Rattle.properties_format.specs.ItemsToCome.{start}
+use Rattle.properties_format.specs.ItemsToCome.{ReaderState, start}
+use Rattle.properties_format.specs.Lines.{Line}
+use Rattle.java_properties.specs.Private.LineByLine.{Collected}
 use Rattle.java_properties.specs.PropertiesIter.{PassesAll}
 use Rattle.java_properties.proofs.FewLines.{few-passed}
 
@@ -46,3 +49,15 @@ slice-numbered e from to bytes small read passes =
     let whole : length from.now ≡ length (bytes ++ to.now) = ap length (slice-read read) in
     let parts = length-append bytes to.now in
     omega arith
+
+-- Where a slice is doesn't matter.
+pub collected-slice : {e : Encoding} {from to next : Bor (List ℕ)} {gs : List (List Line)} {s : ReaderState} → to.now ≡ next.now
+    → Collected slice_reader e from gs s to → Collected slice_reader e from gs s next
+collected-slice {from = from} same c = record {
+  bytes = c.bytes;
+  read = record { moved = subst (λ v. Consumes (Some from.now) (Some v) c.bytes) same c.read.moved; faultless = refl };
+  passes = c.passes;
+  whole = c.whole;
+  grouped = c.grouped;
+  ended = λ d. subst (λ v. has_ended slice_reader (slice_of v) ≡ true) same (c.ended d);
+}

@@ -5,7 +5,6 @@ use Rattle.std.specs.Borrow.{Bor}
 use Rattle.std.specs.Option.{option_map}
 use Rattle.std.specs.Str.{chars}
 use Rattle.std.specs.declared.string.String.{String}
-use Rattle.std.specs.Io.KnownBytes.{Consumes}
 use Rattle.counted_io.specs.Streams.{Reader, HasRead, has_ended}
 use Rattle.properties_format.specs.Encoding.{Encoding}
 use Rattle.properties_format.specs.Computed.Encoding.{decoded_of}
@@ -45,7 +44,7 @@ use Rattle.java_properties.specs.Values.{TellsPairValue}
 use Rattle.java_properties.specs.Private.LineByLine.{Collected}
 use Rattle.java_properties.specs.Private.SoughtValues.{TellsLineValue, value_after, value_through}
 use Rattle.java_properties.proofs.MalformedEscapes.{collected-start, collected-next, collected-on, collected-lines, collected-groups, found-error, found-lost}
-use Rattle.java_properties.proofs.SliceReads.{slice_of, slice_reader, slice-read, slice-whole, slice-faultless, slice-numbered}
+use Rattle.java_properties.proofs.SliceReads.{collected-slice, slice_reader, slice-read, slice-whole, slice-faultless, slice-numbered}
 
 -- ---- a logical line
 
@@ -246,21 +245,7 @@ module _ {R : Type 0} {reader : Reader R} {e : Encoding} {key : List ℕ} where
 -- Where a slice is doesn't matter.
 pub pairs-at : {e : Encoding} {from to next : Bor (List ℕ)} {key : List ℕ} {value : Option (List ℕ)} {s : ReaderState} → to.now ≡ next.now
     → HasSoughtPairs slice_reader e from key value s to → HasSoughtPairs slice_reader e from key value s next
-pairs-at {from = from} same h =
-    let c = h.collected in
-    record {
-      groups = h.groups;
-      collected = record {
-        bytes = c.bytes;
-        read = record { moved = subst (λ v. Consumes (Some from.now) (Some v) c.bytes) same c.read.moved; faultless = refl };
-        passes = c.passes;
-        whole = c.whole;
-        grouped = c.grouped;
-        ended = λ d. subst (λ v. has_ended slice_reader (slice_of v) ≡ true) same (c.ended d);
-      };
-      in_comments = h.in_comments;
-      is = h.is;
-    }
+pairs-at same h = record { groups = h.groups; collected = collected-slice same h.collected; in_comments = h.in_comments; is = h.is }
 
 -- What a slice says of a key: it fails only at a malformed escape of a pair, or if memory runs out.
 pub slice-tells_pairs : {Z : Type 0} (e : Encoding) (from to : Bor (List ℕ)) (key : List ℕ) (result : Result (Option (String Z)) PropertiesError) → length from.now + 1 < 2 ^ 64

@@ -18,6 +18,7 @@ pub mod Copying
 pub mod ReadLines
 pub mod MalformedEscapes
 pub mod KeyLines
+pub mod SourceFindings
 pub mod ReadInto
 pub mod Maps
 pub mod MapLines

@@ -1,36 +1,24 @@
 -- The iterator over items as contracts see it, and the results and effects of its calls. Page Private.GivenItems states
 -- them in terms of the items to come as they are computed.
-use Rattle.std.specs.Prelude.{◌≡◌, ◌⊎◌, ℕ, ◌+◌, ◌^◌, Bool, true, false, List, [], ◌∷◌, ◌++◌, Option, Some, None, Result, Ok, Err, string_bytes}
-use Rattle.std.specs.Str.{chars}
+use Rattle.std.specs.Prelude.{◌≡◌, ◌⊎◌, ℕ, ◌+◌, ◌^◌, Bool, true, false, List, [], ◌∷◌, ◌++◌, Option, Some, None, Result, Ok, Err}
 use Rattle.std.specs.declared.io.Error.{Error}
 use Rattle.counted_io.specs.Streams.{Reader, HasRead, HasFailed, IsSameReader, has_ended}
 use Rattle.properties_format.specs.Lines as format
 use Rattle.properties_format.specs.Lines.{InputEnd, end, fault, more}
-use Rattle.properties_format.specs.Entries as entry
-use Rattle.properties_format.specs.Entries.{Content, Entry, item, malformed, read_fault}
+use Rattle.properties_format.specs.Entries.{Entry, malformed, read_fault}
 use Rattle.properties_format.specs.Escapes.{Malformed}
 use Rattle.properties_format.specs.ItemsToCome.{ReaderState, IsItemsToCome, ComesFirst, LinesComeFirst}
 use Rattle.properties_items.specs.Errors.{IsBareError, IsMalformed, IsStreamError}
-use Rattle.properties_items.specs.Line.{number_of, content_of}
+pub use Rattle.properties_items.specs.Line.{format_content, entry_of}
 use Rattle.properties_items.specs.declared.error.ErrorKind.TheVariants as kind
 use Rattle.properties_items.specs.declared.error.PropertiesError.{PropertiesError}
 use Rattle.properties_items.specs.declared.line.Line.{Line}
-use Rattle.properties_items.specs.declared.line.LineContent.{LineContent}
-use Rattle.properties_items.specs.declared.line.LineContent.TheVariants.{Comment, KVPair}
 
 -- an iterator: its reader, its state, and the logical line that it read last, in UTF-8
 pub record Iteration (R : Type 0) : Type 0 where
   pub reader : R
   pub state : ReaderState
   pub line : List ℕ
-
--- the entry of a line
-abbrev pub format_content : LineContent → Content
-format_content (Comment text) = entry.comment (chars (string_bytes text))
-format_content (KVPair key value) = entry.pair (chars (string_bytes key)) (chars (string_bytes value))
-
-abbrev pub entry_of : Line → Entry
-entry_of line = item (number_of line) (format_content (content_of line))
 
 -- These bytes have some lines at their front. Whatever comes after them, the old state continues after those lines as
 -- the new one does.

@@ -17,6 +17,7 @@ mod last_value;
 mod malformed_lines;
 mod numbered_keys;
 mod read_into;
+mod source_findings;
 
 use crate::iter::items::ItemReader;
 pub use all_lines::{Stopped, read_lines};
@@ -29,6 +30,7 @@ use properties_items::error::PropertiesError;
 use properties_items::found::Found;
 use properties_items::line::Line;
 use properties_text::encoding::Encoding;
+pub use source_findings::{key_lines_of, malformed_escapes_of};
 use std::alloc::Global;
 use std::marker::Model;
 

@@ -1,9 +1,12 @@
--- Items as contracts see them: when two are equal, and how they are ordered.
+-- Items as contracts see them: their entries, when two are equal, and how they are ordered.
 use Rattle.std.specs.Prelude.{◌≡◌, ℕ, List, [], ◌∷◌}
+use Rattle.std.specs.Str.{chars}
 use Rattle.std.specs.String.{string_bytes}
 use Rattle.std.specs.Ordering.{nat_cmp, on, then_cmp}
 use Rattle.std.specs.declared.cmp.Ordering.{Ordering}
 use Rattle.std.specs.Cmp.Lexicographic.{slice_cmp}
+use Rattle.properties_format.specs.Entries as entry
+use Rattle.properties_format.specs.Entries.{Content, Entry, item}
 use Rattle.properties_items.specs.declared.line.LineContent.{LineContent}
 use Rattle.properties_items.specs.declared.line.LineContent.TheVariants.{Comment, KVPair}
 use Rattle.properties_items.specs.declared.line.Line.{Line}
@@ -16,6 +19,14 @@ number_of l = l.line_number
 
 abbrev pub content_of : Line → LineContent
 content_of l = l.content
+
+-- the entry of a line
+abbrev pub format_content : LineContent → Content
+format_content (Comment text) = entry.comment (chars (string_bytes text))
+format_content (KVPair key value) = entry.pair (chars (string_bytes key)) (chars (string_bytes value))
+
+abbrev pub entry_of : Line → Entry
+entry_of line = item (number_of line) (format_content (content_of line))
 
 -- the order of the kinds: 0 for a comment and 1 for a pair
 abbrev pub rank : LineContent → ℕ

@@ -77,20 +77,6 @@ impl<'a> LineRef<'a> {
     }
 }
 
-/// Converts a borrowed line into one with owned texts. Copies only the texts that are borrowed.
-pub fn into_line(alloc: Global, line: LineRef<'_>) -> Result<Line, PropertiesError>
-    ensures { IsLineOf line.entry result }
-{
-    let LineRef {
-        line_number,
-        content,
-    } = line;
-    match content.into_content(alloc) {
-        Ok(content) => Ok(Line::new(line_number, content)),
-        Err(error) => Err(error),
-    }
-}
-
 impl<'a> ContentRef<'a> {
     fn to_content(&self, alloc: Global) -> Result<LineContent, PropertiesError>
         ensures { IsContentOf self.now result }
@@ -103,22 +89,6 @@ impl<'a> ContentRef<'a> {
             ContentRef::KVPair(key, value) => {
                 let key = String::from_str(alloc, key.as_str())?;
                 let value = String::from_str(alloc, value.as_str())?;
-                Ok(LineContent::KVPair(key, value))
-            }
-        }
-    }
-
-    fn into_content(self, alloc: Global) -> Result<LineContent, PropertiesError>
-        ensures { IsContentOf self.entry result }
-    {
-        match self {
-            ContentRef::Comment(text) => {
-                let text = text.into_owned(alloc)?;
-                Ok(LineContent::Comment(text))
-            }
-            ContentRef::KVPair(key, value) => {
-                let key = key.into_owned(alloc)?;
-                let value = value.into_owned(alloc)?;
                 Ok(LineContent::KVPair(key, value))
             }
         }

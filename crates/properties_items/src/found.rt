@@ -7,6 +7,7 @@ ghost use Rattle.std.specs.Cow.{cow_str_bytes};
 ghost use Rattle.properties_text.specs.Parsing.{AreSpans, IsSpan, in_characters, spanned};
 ghost use Rattle.properties_format.specs.Items.{given};
 ghost use Rattle.properties_format.specs.Computed.Parts.{outcome_key};
+ghost use Rattle.properties_items.specs.Line.{entry_of};
 ghost use Rattle.properties_items.specs.Texts.{characters};
 ghost use Rattle.properties_items.specs.FoundItems.{pair_characters, outcome_pair, FindsItem, FindsText, FindsContent, FindsIn, FindsPlain};
 ghost use Rattle.properties_format.specs.Split.{IsSplit};
@@ -15,6 +16,7 @@ ghost use Rattle.properties_items.specs.BorrowedItems.{borrowed_entry, borrowed_
 
 use crate::borrowed::{ContentRef, LineRef};
 use crate::error::{PropertiesError, make};
+use crate::line::{Line, LineContent};
 use properties_text::escape::{UnescapeError, has_backslash, unescape};
 use properties_text::parse::{ParsedSpans, Span, parse_spans};
 use std::alloc::{AllocError, Global};
@@ -164,6 +166,26 @@ pub fn cut_item(found: Found, line: &str) -> LineRef<'_>
     LineRef::new(line_number, content.cut(line))
 }
 
+/// Returns the item with texts of its own.
+#[inline(always)]
+pub fn own_item(alloc: Global, found: Found, line: &str) -> Result<Line, AllocError>
+    requires { IsFoundIn line.now found }
+    ensures { IfOk result (λ owned. entry_of owned ≡ found_entry line.now found) }
+{
+    let Found {
+        line_number,
+        content,
+    } = found;
+    let content = match content {
+        FoundContent::Comment(text) => LineContent::Comment(text.into_owned(alloc, line)?),
+        FoundContent::KVPair(key, value) => {
+            let key = key.into_owned(alloc, line)?;
+            LineContent::KVPair(key, value.into_owned(alloc, line)?)
+        }
+    };
+    Ok(Line::new(line_number, content))
+}
+
 /// Returns whether the pair has this key, or `None` if the item is a comment.
 #[inline(always)]
 pub fn item_has_key(found: &Found, line: &str, key: &str) -> Option<bool>
@@ -176,31 +198,31 @@ pub fn item_has_key(found: &Found, line: &str, key: &str) -> Option<bool>
     }
 }
 
-/// Returns a copy of the key, or `None` if the item is a comment.
-pub fn item_key(alloc: Global, found: &Found, line: &str) -> Result<Option<String>, AllocError>
-    requires { IsFoundIn line.now found.now }
-    ensures { IfOk result (λ key. option_map characters key ≡ outcome_key (given (found_content line.now found.now.content))) }
+/// Returns the key, or `None` if the item is a comment.
+pub fn item_key(alloc: Global, found: Found, line: &str) -> Result<Option<String>, AllocError>
+    requires { IsFoundIn line.now found }
+    ensures { IfOk result (λ key. option_map characters key ≡ outcome_key (given (found_content line.now found.content))) }
 {
-    match &found.content {
+    match found.content {
         FoundContent::Comment(_) => Ok(None),
-        FoundContent::KVPair(text, _) => Ok(Some(text.copied(alloc, line)?)),
+        FoundContent::KVPair(key, _) => Ok(Some(key.into_owned(alloc, line)?)),
     }
 }
 
-/// Returns copies of the key and the value, or `None` if the item is a comment.
+/// Returns the key and the value, or `None` if the item is a comment.
 pub fn item_pair(
     alloc: Global,
-    found: &Found,
+    found: Found,
     line: &str,
 ) -> Result<Option<(String, String)>, AllocError>
-    requires { IsFoundIn line.now found.now }
-    ensures { IfOk result (λ pair. option_map pair_characters pair ≡ outcome_pair (given (found_content line.now found.now.content))) }
+    requires { IsFoundIn line.now found }
+    ensures { IfOk result (λ pair. option_map pair_characters pair ≡ outcome_pair (given (found_content line.now found.content))) }
 {
-    match &found.content {
+    match found.content {
         FoundContent::Comment(_) => Ok(None),
         FoundContent::KVPair(key, value) => {
-            let key = key.copied(alloc, line)?;
-            Ok(Some((key, value.copied(alloc, line)?)))
+            let key = key.into_owned(alloc, line)?;
+            Ok(Some((key, value.into_owned(alloc, line)?)))
         }
     }
 }
@@ -245,14 +267,16 @@ impl FoundText {
         }
     }
 
-    // Returns a copy of the text.
-    fn copied(&self, alloc: Global, line: &str) -> Result<String, AllocError>
-        requires { IsTextIn line.now self.now }
-        ensures { IfOk result (λ text. characters text ≡ chars (found_bytes line.now self.now)) }
+    // Returns the text as one of its own. Copies it only if no escape was resolved.
+    #[inline(always)]
+    fn into_owned(self, alloc: Global, line: &str) -> Result<String, AllocError>
+        requires { IsTextIn line.now self }
+        ensures { IfOk result (λ text. characters text ≡ chars (found_bytes line.now self)) }
     {
-        match &self.resolved {
-            None => String::from_str(alloc, self.span.cut(line)),
-            Some(resolved) => String::from_str(alloc, resolved.as_str()),
+        let FoundText { span, resolved } = self;
+        match resolved {
+            None => String::from_str(alloc, span.cut(line)),
+            Some(text) => Ok(text),
         }
     }
 

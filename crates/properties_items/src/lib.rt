@@ -1,8 +1,8 @@
 //! What the reader and the editor of `.properties` files share: errors, lines and what ends them, what a logical line
 //! is, and what is found about lines.
 //!
-//! `java_properties` hands on the types that its callers need. The functions here are for the crates above, and so are
-//! the modules: `java_properties` doesn't hand them on.
+//! `java_properties` re-exports the types that its callers need. The functions here are for the crates above, and so
+//! are the modules: `java_properties` doesn't re-export them.
 #![tactic(auto)]
 
 pub mod borrowed;

@@ -1,6 +1,6 @@
 // Documents and lists of edits, beside the calls on single keys made one after another, on sources and edits that a
-// seed gives. The bytes are those by which groups run into each other: blanks, separators, backslashes, line ends and
-// the bytes of a byte order mark.
+// seed gives. The bytes are those by which groups run into each other: blanks, separators, backslashes, line endings
+// and the bytes of a byte order mark.
 
 ghost use Rattle.std.specs.Prelude.{◌<◌};
 
@@ -82,7 +82,7 @@ fn check_edits(
     check_source(rt, alloc, &document, KEYS[numbers.below(7)])
 }
 
-// A document and a list give the same bytes in ASCII alone, which are ASCII if the source is. The document says what the
+// A document and a list give the same bytes in ASCII only, which are ASCII if the source is. The document says what the
 // other one says.
 fn check_ascii(
     rt: &impl Abort,

@@ -37,7 +37,7 @@ entry_content (KVPair key value) = format.pair (chars key.now) (chars value.now)
 abbrev pub writing : {W : Type 0} → Engine → W → Writing W
 writing engine sink = record { sink = sink; encoding = line_of engine.encoding; settings = engine.settings; lines = engine.lines; failed = engine.failed }
 
--- what a line of an encoding can contain without escapes, with ASCII alone or not
+-- what a line of an encoding can contain without escapes, with ASCII-only output or not
 abbrev pub repertoire_in : Bool → LineEncoding → Repertoire
 repertoire_in true e = repertoire.Ascii
 repertoire_in false line.Windows1252 = repertoire.Windows1252

@@ -8,12 +8,15 @@ use Rattle.counted_io.specs.Streams.{Reader, HasRead, has_ended}
 use Rattle.properties_format.specs.Encoding.{Encoding}
 use Rattle.properties_format.specs.Lines.{end, Line}
 use Rattle.properties_format.specs.Groups.{IsGroups, AreWhole, lines_in}
+use Rattle.properties_format.specs.Items.{broken}
 use Rattle.properties_format.specs.MalformedEscapes.{escapes_from}
 use Rattle.properties_format.specs.ItemsToCome.{ReaderState, start}
 use Rattle.properties_format.specs.Computed.Items.{outcome_of}
 use Rattle.properties_format.specs.Computed.MalformedEscapes.{escapes_in}
 use Rattle.properties_format.specs.Computed.Parts.{outcome_key}
 use Rattle.properties_lines.specs.LineReader.{Passes}
+use Rattle.properties_text.specs.Escaping.{malformed_in}
+use Rattle.properties_text.specs.declared.escape.Malformed.{Malformed}
 use Rattle.properties_items.specs.Errors.{IsBareError}
 use Rattle.properties_items.specs.Texts.{characters}
 use Rattle.java_properties.specs.MalformedEscapes.{escape_records, FindsAll, FailsToFind, StopsFinding, CompletesNone}
@@ -52,11 +55,15 @@ abbrev pub PushesKey : {Z : Type 0} → ℕ → List ℕ → List code.KeyLine �
 PushesKey number x old firsts (Ok done) new firsts' = AddsIfKey number (outcome_key (outcome_of x)) old new firsts firsts'
 PushesKey number x old firsts (Err error) new firsts' = IsBareError kind.Memory error
 
--- The malformed escape of such a line, if it has one; or memory ran out.
-abbrev pub FindsLineEscape : ℕ → List ℕ → Result (Option MalformedEscape) PropertiesError → Type 0
-FindsLineEscape number x (Ok None) = [] ≡ escape_records (escapes_from number x (outcome_of x) [])
-FindsLineEscape number x (Ok (Some escape)) = escape ∷ [] ≡ escape_records (escapes_from number x (outcome_of x) [])
-FindsLineEscape number x (Err error) = IsBareError kind.Memory error
+-- No escape of a logical line is malformed, or this is how the first one is.
+abbrev pub ChecksLine : List ℕ → Result Unit Malformed → Type 0
+ChecksLine x (Ok done) = (number : ℕ) → escapes_from number x (outcome_of x) [] ≡ []
+ChecksLine x (Err how) = outcome_of x ≡ broken (malformed_in how)
+
+-- The malformed escape of a line with this number and text, if it has one.
+abbrev pub FindsLineEscape : ℕ → List ℕ → Option MalformedEscape → Type 0
+FindsLineEscape number x None = [] ≡ escape_records (escapes_from number x (outcome_of x) [])
+FindsLineEscape number x (Some escape) = escape ∷ [] ≡ escape_records (escapes_from number x (outcome_of x) [])
 
 -- ---- the groups that came
 

@@ -11,9 +11,9 @@ ghost use Rattle.properties_items.specs.BorrowedItems.{borrowed_entry, found_ent
 ghost use Rattle.java_properties.specs.Private.GivenItems.{as_text, FindsItem, GivesItem, Owns};
 
 use counted_io::CountedRead;
-use properties_items::borrowed::{LineRef, into_line};
+use properties_items::borrowed::LineRef;
 use properties_items::error::{PropertiesError, make};
-use properties_items::found::{Found, cut_item, find_escaped, find_plain};
+use properties_items::found::{Found, cut_item, find_escaped, find_plain, own_item};
 use properties_items::line::Line;
 use properties_lines::joiner::LineJoiner;
 use properties_text::encoding::Encoding;
@@ -83,7 +83,8 @@ impl ItemReader {
         ensures item { borrowed_entry result ≡ found_entry self.now.line found }
         ensures borrowed { BorrowsPlain (chars self.now.line) result.content }
     {
-        cut_item(found, self.lines.line())
+        let line = self.line_of(&found);
+        cut_item(found, line)
     }
 
     /// Returns the next item with owned texts; an error; or `None` at the end.
@@ -106,10 +107,20 @@ impl ItemReader {
         requires { IsFoundIn self.old.line found }
         ensures { Owns self.old found result self.new }
     {
-        let line = into_line(self.alloc, self.get(found));
+        let line = self.line_of(&found);
+        let line = own_item(self.alloc, found, line);
         if line.is_err() {
             self.lines.end()
         }
-        line
+        Ok(line?)
+    }
+
+    // Returns the line that this item was found in.
+    #[tactic(auto, using(crate::proofs::Items::shown_lines))]
+    fn line_of(&self, found: &Found) -> &str
+        requires { IsFoundIn self.now.line found.now }
+        ensures { result.now ≡ self.now.line }
+    {
+        self.lines.line()
     }
 }

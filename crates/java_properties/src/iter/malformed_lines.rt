@@ -4,18 +4,21 @@ ghost use Rattle.std.specs.Prelude.{◌≡◌, ◌<◌, None, IfOk, OnSome};
 ghost use Rattle.std.specs.Str.{chars};
 ghost use Rattle.counted_io.specs.Streams.{IsSameReader};
 ghost use Rattle.properties_text.specs.Encoding.{encoding_of};
+ghost use Rattle.properties_text.specs.Parsing.{bytes_in, IsSpan};
+ghost use Rattle.properties_text.specs.Spelt.{Checks};
+ghost use Rattle.properties_text.specs.declared.encoding.line.LineEncoding.TheVariants.{Utf8};
 ghost use Rattle.properties_lines.specs.LineReader.{lines_left};
 ghost use Rattle.java_properties.specs.MalformedEscapes.{FindsFirstMalformed, FindsMalformed};
-ghost use Rattle.java_properties.specs.Private.LineByLine.{FindsLineEscape, FindsNextEscape};
+ghost use Rattle.java_properties.specs.Private.LineByLine.{ChecksLine, FindsLineEscape, FindsNextEscape};
 
 use counted_io::CountedRead;
 use properties_items::error::{PropertiesError, make};
 use properties_items::findings::MalformedEscape;
-use properties_items::found::find_escaped;
 use properties_lines::join::is_comment;
 use properties_lines::joiner::LineJoiner;
-use properties_text::encoding::Encoding;
-use properties_text::escape::UnescapeError;
+use properties_text::encoding::{Encoding, LineEncoding};
+use properties_text::escape::{Malformed, check_escapes};
+use properties_text::parse::{ParsedSpans, Span, parse_spans};
 use std::alloc::Global;
 
 /// Reads an input to its end and returns the first malformed escape of each logical line that has one, in order.
@@ -39,7 +42,7 @@ pub fn malformed_escapes<R: CountedRead>(
 {
     let mut lines = LineJoiner::new(alloc, encoding);
     let mut escapes = Vec::new(alloc);
-    while let Some(escape) = next_malformed(alloc, &mut lines, input)? {
+    while let Some(escape) = next_malformed(&mut lines, input)? {
         escapes.push(escape)?;
     }
     Ok(escapes)
@@ -67,13 +70,12 @@ pub fn first_malformed_escape<R: CountedRead>(
     ensures same_reader { IsSameReader R.CountedRead input.old input.new }
 {
     let mut lines = LineJoiner::new(alloc, encoding);
-    next_malformed(alloc, &mut lines, input)
+    next_malformed(&mut lines, input)
 }
 
 // Goes on to the next logical line that has a malformed escape and returns the first one. Returns `None` at the end.
 #[inline(always)]
 fn next_malformed<R: CountedRead>(
-    alloc: Global,
     lines: &mut LineJoiner,
     input: &mut R,
 ) -> Result<Option<MalformedEscape>, PropertiesError>
@@ -88,7 +90,7 @@ fn next_malformed<R: CountedRead>(
         if !lines.has_backslash() {
             continue;
         }
-        if let Some(escape) = malformed_in(alloc, number, lines.line())? {
+        if let Some(escape) = malformed_in(number, lines.line()) {
             return Ok(Some(escape));
         }
     }
@@ -100,22 +102,38 @@ fn next_malformed<R: CountedRead>(
 
 // Returns the first malformed escape of a logical line that begins in the line with this number, if it has one.
 #[inline(always)]
-fn malformed_in(
-    alloc: Global,
-    line_number: usize,
-    line: &str,
-) -> Result<Option<MalformedEscape>, PropertiesError>
+fn malformed_in(line_number: usize, line: &str) -> Option<MalformedEscape>
     ensures { FindsLineEscape line_number (chars line.now) result }
 {
-    let Err(error) = find_escaped(alloc, line_number, line) else {
-        return Ok(None);
+    let Err(malformed) = check_line(line) else {
+        return None;
     };
-    let UnescapeError::Malformed(malformed) = error else {
-        return Err(make::unresolved(line_number, UnescapeError::Memory));
-    };
-    Ok(Some(MalformedEscape {
+    Some(MalformedEscape {
         line_number,
         kind: make::malformed_kind(malformed),
         in_comment: is_comment(line.as_bytes()),
-    }))
+    })
+}
+
+// Returns how the first malformed escape of a logical line is malformed, if it has one. It makes no text. Kept out of
+// line so that lines without a backslash take no longer.
+#[inline(never)]
+fn check_line(line: &str) -> Result<(), Malformed>
+    ensures { ChecksLine (chars line.now) result }
+{
+    match parse_spans(line) {
+        None => Ok(()),
+        Some(ParsedSpans::Comment(text)) => check_part(line, text),
+        Some(ParsedSpans::KVPair(key, value)) => {
+            check_part(line, key)?;
+            check_part(line, value)
+        }
+    }
+}
+
+fn check_part(line: &str, part: Span) -> Result<(), Malformed>
+    requires { IsSpan line.now part }
+    ensures { Checks Utf8 (bytes_in line.now part) result }
+{
+    check_escapes(LineEncoding::Utf8, part.cut(line).as_bytes())
 }

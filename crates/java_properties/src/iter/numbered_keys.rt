@@ -80,7 +80,7 @@ fn key_in(alloc: Global, line_number: usize, line: &str) -> Result<Option<String
         }
     };
     match found {
-        Some(found) => Ok(item_key(alloc, &found, line)?),
+        Some(found) => Ok(item_key(alloc, found, line)?),
         None => Ok(None),
     }
 }

@@ -1,7 +1,7 @@
 // The keys of an input.
 
 use crate::same::same;
-use java_properties::{Encoding, key_lines};
+use java_properties::{Encoding, KeyLine, key_lines, key_lines_of};
 use std::alloc::Global;
 use std::process::Abort;
 use std::test::Fail;
@@ -24,7 +24,12 @@ fn check_keys(
     wanted: &[(usize, &str, usize)],
 ) -> Result<(), Fail> {
     let mut input = bytes;
-    let keys = key_lines(alloc, &mut input, Encoding::UTF_8)?;
+    same_keys(rt, &key_lines(alloc, &mut input, Encoding::UTF_8)?, wanted);
+    same_keys(rt, &key_lines_of(alloc, bytes, Encoding::UTF_8)?, wanted);
+    Ok(())
+}
+
+fn same_keys(rt: &impl Abort, keys: &[KeyLine], wanted: &[(usize, &str, usize)]) {
     same(rt, keys.len(), wanted.len());
     for (key, wanted) in keys.iter().zip(wanted) {
         same(
@@ -33,5 +38,4 @@ fn check_keys(
             *wanted,
         );
     }
-    Ok(())
 }

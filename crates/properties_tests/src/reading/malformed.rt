@@ -5,6 +5,7 @@ use crate::same::same;
 use counted_io::{ScriptedReader, Tail};
 use java_properties::{
     Encoding, ErrorKind, MalformedEscape, first_malformed_escape, malformed_escapes,
+    malformed_escapes_of,
 };
 use std::io;
 use std::test::Fail;
@@ -19,9 +20,8 @@ const fn escape(line_number: usize, kind: ErrorKind, in_comment: bool) -> Malfor
 
 #[test]
 fn malformed_escapes_are_found_to_the_end(rt: HostRuntime) -> Result<(), Fail> {
-    let mut input: &[u8] =
+    let source: &[u8] =
         b"# C:\\users\\n\na = \\u00e9\nb\\u12 = \\uzzzz\nc = d\\\n  \\ud83d\n! \\u1\\\n\\udc00 = 1";
-    let escapes = malformed_escapes(rt.alloc(), &mut input, Encoding::UTF_8)?;
     let wanted = [
         escape(1, ErrorKind::NotHex, true),
         escape(3, ErrorKind::NotEnoughDigits, false),
@@ -29,6 +29,10 @@ fn malformed_escapes_are_found_to_the_end(rt: HostRuntime) -> Result<(), Fail> {
         escape(6, ErrorKind::NotEnoughDigits, true),
         escape(7, ErrorKind::InvalidCharacter, false),
     ];
+    let mut input = source;
+    let escapes = malformed_escapes(rt.alloc(), &mut input, Encoding::UTF_8)?;
+    same(&rt, escapes.as_slice(), wanted.as_slice());
+    let escapes = malformed_escapes_of(rt.alloc(), source, Encoding::UTF_8)?;
     same(&rt, escapes.as_slice(), wanted.as_slice());
     Ok(())
 }

@@ -1,29 +1,12 @@
-use Rattle.std.proofs.Common.{◌≡◌, false, rules, ◌++◌, ◌∙◌, arith, ap, append-nil, sym, subst, inr}
-use Rattle.std.specs.Prelude.{Option, Ok}
-use Rattle.std.specs.Str.{chars}
-use Rattle.std.proofs.lemmas.Result.{err_from_is_err_and}
-use Rattle.properties_items.specs.Errors.{IsBareError}
-use Rattle.properties_items.specs.declared.error.ErrorKind.TheVariants.{Memory}
-use Rattle.properties_items.specs.declared.error.PropertiesError.{PropertiesError}
-use Rattle.properties_items.specs.declared.findings.MalformedEscape.{MalformedEscape}
+use Rattle.std.proofs.Common.{◌≡◌, false, rules, ◌++◌, ◌∙◌, arith, ap, append-nil, sym}
 use Rattle.java_properties.specs.MalformedEscapes.{escape_records}
-use Rattle.java_properties.specs.Private.LineByLine.{FindsLineEscape}
-use Rattle.java_properties.proofs.MalformedEscapes.{found-next, found-all, found-stops, found-lost, plain-none}
+use Rattle.java_properties.proofs.MalformedEscapes.{found-next, found-all, found-stops, plain-none}
 use Rattle.java_properties.proofs.Items.{stopped, ended}
 use Rattle.java_properties.proofs.iter.malformed_lines.next_malformed.Goals as goal
 
-pub returns-in_err-escape-clause-finds : goal.returns-in_err-escape-clause-finds
-returns-in_err-escape-clause-finds g c =
-    let error = err_from_is_err_and c.from_residual.result c.from_residual.ensures.1 in
-    let P : PropertiesError → Type 0 = λ v. IsBareError Memory v in
-    rw error.1
-    (λ e begin found before. inr (found-lost c.in-Some.number c.next_text.new.self.at (c.loop-number.invariant.finds e begin found before) c.in-Some.ensures.joins.0
-    (subst P (sym error.2) c.in_err-escape.ensures)))
-
-pub returns-in-Some-2-clause-finds : goal.returns-in-Some-2-clause-finds
-returns-in-Some-2-clause-finds g c =
-    let P : Option MalformedEscape → Type 0 = λ v. FindsLineEscape c.in-Some.number (chars c.line.result.now) (Ok v) in
-    let one = rw c.line.ensures at (subst P c.in-Some-2.is c.in_ok-escape.ensures) in
+pub returns-in-Some-malformed_in-clause-finds : goal.returns-in-Some-malformed_in-clause-finds
+returns-in-Some-malformed_in-clause-finds g c =
+    let one = rw c.line.ensures at c.in-Some-malformed_in.ensures in
     λ e begin found before. found-next c.in-Some.number c.next_text.new.self.at _ (c.loop-number.invariant.finds e begin found before) c.in-Some.ensures.joins.0
     (ap (λ v. found ++ v) one)
 
@@ -42,8 +25,7 @@ loop-number-preserved-then-not-has_backslash g c =
 
 pub loop-number-preserved : goal.loop-number-preserved
 loop-number-preserved g c =
-    let P : Option MalformedEscape → Type 0 = λ v. FindsLineEscape c.in-Some.number (chars c.line.result.now) (Ok v) in
-    let none = rw c.line.ensures at (subst P c.in_default-2.is c.in_ok-escape.ensures) in
+    let none = rw c.line.ensures at c.in_default-malformed_in.ensures in
     record {
       finds = λ e begin found before. found-next c.in-Some.number c.next_text.new.self.at found (c.loop-number.invariant.finds e begin found before) c.in-Some.ensures.joins.0
           (sym (append-nil found) ∙ ap (λ v. found ++ v) none);
