@@ -101,7 +101,7 @@ takes-line body old new w g =
       same = refl;
     }
 
--- A line of ASCII alone needs no decoding.
+-- An ASCII-only line needs no decoding.
 pub tells-line : (e : Encoding) (bytes : List ℕ) (line : RawLine) → HasRightFlags e bytes line → line.is_ascii ≡ true → TellsLine e bytes true
 tells-line e bytes line flags h = let ascii = flags.ascii.0 h in ascii-line e bytes ascii.0 ascii.1
 

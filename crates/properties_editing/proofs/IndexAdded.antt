@@ -30,7 +30,7 @@ use Rattle.properties_format.proofs.Valued.Separators.{new_separator-fit, added-
 use Rattle.std.proofs.Math.Seq.{drop-append_seam}
 use Rattle.std.proofs.lemmas.List.{length-take-le, take-append-drop}
 use Rattle.properties_text.specs.Encoding.{encoding_of}
-use Rattle.properties_editing.specs.Private.BodyIndex.{AppendsPair, Changes, GrowsIndex, IsIndex, IsKept, IsPairAppended, last_span, opened_bytes, stored_at}
+use Rattle.properties_editing.specs.Private.BodyIndex.{AppendsPair, Changes, GrowsIndex, IsIndex, IsKept, IsPairAppended, last_span, opened_bytes, spans_of, stored_at}
 use Rattle.properties_editing.specs.Private.BodyKeys.{IsKeyFound, IsPlace, closing_bytes, closing_of}
 use Rattle.properties_editing.specs.Private.BodyValues.{IsLayoutAfter, unended_pair}
 use Rattle.properties_items.specs.Texts.{characters}
@@ -164,7 +164,7 @@ pub found-none : (e : Encoding) (body key : List ℕ) (index : Index) → IsInde
 found-none e body key index h none =
     let gs = held_groups_of e body in
     record {
-      pair = subst (IsPlace key gs) (ap (last_span index.spans.items) none) (found-place h key);
+      pair = subst (IsPlace key gs) (ap (last_span (spans_of index)) none) (found-place h key);
       closing = λ ending. elim h.closing [
         | inl empty ↦ absurd (some-groups e body empty)
         | inr told ↦ separated ending (is_empty_line (final_group gs)) (is_left_open (final_group gs)) ∙ ap (closing_bytes ending) (sym told)

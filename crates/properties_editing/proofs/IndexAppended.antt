@@ -24,11 +24,10 @@ use Rattle.properties_format.proofs.Edited.AppendedPair as appended
 use Rattle.properties_format.proofs.Edited.Closed.{AreClosedBy, IsLeft, opened_by}
 use Rattle.properties_format.proofs.Edited.Steps.{final_group-push}
 use Rattle.properties_format.proofs.Valued.Added.{empty_line, outcomes-empty}
-use Rattle.properties_editing.specs.Private.BodyIndex.{GrowsIndex, IsIndex, IsListed, all_shifted, outcome, paired, pairs_from, shifted, span_of, stored_places, stored_value}
+use Rattle.properties_editing.specs.Private.BodyIndex.{GrowsIndex, IsIndex, IsListed, all_longer, longer, outcome, paired, pairs_from, span_of, spans_of, stored_places, stored_value}
 use Rattle.properties_items.specs.FoundItems.{outcome_pair}
 use Rattle.properties_editing.specs.Private.BodyKeys.{closing_of}
 use Rattle.properties_editing.specs.declared.edit.index.Index.{Index}
-use Rattle.properties_editing.specs.declared.edit.index.Shift.TheVariants as shift
 use Rattle.properties_editing.specs.declared.edit.find.BodySpan.{BodySpan}
 use Rattle.properties_editing.proofs.Comments.{sound-join}
 use Rattle.properties_editing.proofs.IndexListed.{IsShift, listed-as, listed-shifted, moved, shift-append}
@@ -66,8 +65,8 @@ module _ (e : Encoding) (by : LineEnding) (gs : List (List HeldLine)) (k : AreCl
       let none = ap (λ o. length (ending_bytes o)) k.unended in
       omega arith
 
-  before-kept : IsShift (shifted (shift.Lengthened place more)) (pairs_from 0 k.before) (pairs_from 0 k.before)
-  before-kept = shift-all (shifted (shift.Lengthened place more)) 0 0 k.before (λ g i j a b c.
+  before-kept : IsShift (longer place more) (pairs_from 0 k.before) (pairs_from 0 k.before)
+  before-kept = shift-all (longer place more) 0 0 k.before (λ g i j a b c.
       let size = group-size g in
       let same : i ≡ j = omega arith in
       let p = i + length (unended_bytes g) in
@@ -79,25 +78,25 @@ module _ (e : Encoding) (by : LineEnding) (gs : List (List HeldLine)) (k : AreCl
       ap Some (span-is _ _ j (j + length (unended_bytes g)) same (end-kept p place more none fits ∙ ap (λ n. n + length (unended_bytes g)) same)))
 
   -- The part of the last group is longer if it was left open.
-  pub closed-shift : IsShift (shifted (shift.Lengthened place more)) (pairs_from 0 gs) (pairs_from 0 (k.before ++ k.left))
+  pub closed-shift : IsShift (longer place more) (pairs_from 0 gs) (pairs_from 0 (k.before ++ k.left))
   closed-shift =
-      let f = shifted (shift.Lengthened place more) in
+      let f = longer place more in
       let n = length (groups_bytes k.before) in
       ap (λ v. map (moved f) (pairs_from 0 v)) k.division
       ∙ ap (map (moved f)) (pairs-join k.before (k.final ∷ []))
       ∙ shift-append f (pairs_from 0 k.before) (pairs_from n (k.final ∷ [])) (pairs_from 0 k.before) (pairs_from n k.left) before-kept last-part
       ∙ ap (map Some) (sym (pairs-join k.before k.left))
     where
-      last-part : IsShift (shifted (shift.Lengthened place more)) (pairs_from (length (groups_bytes k.before)) (k.final ∷ []))
+      last-part : IsShift (longer place more) (pairs_from (length (groups_bytes k.before)) (k.final ∷ []))
           (pairs_from (length (groups_bytes k.before)) k.left)
       last-part = elim k.is_left [
         | inl gone ↦
             let n = length (groups_bytes k.before) in
-            ap (map (moved (shifted (shift.Lengthened place more)))) (pairs-first n k.final [] None (ap outcome_pair gone.1))
+            ap (map (moved (longer place more))) (pairs-first n k.final [] None (ap outcome_pair gone.1))
             ∙ ap (λ v. map Some (pairs_from n v)) (sym gone.0)
         | inr is ↦
             let n = length (groups_bytes k.before) in
-            let f = shifted (shift.Lengthened place more) in
+            let f = longer place more in
             let longer = ap length is.bytes ∙ length-append (unended_bytes k.final) (opened_by (line_ending_text by) k.final) in
             let where_is = place-is in
             let own : f (span_of n k.final) ≡ Some (span_of n is.group) =
@@ -164,22 +163,22 @@ module _ (e : Encoding) (by second : LineEnding) (gs : List (List HeldLine)) (ke
   appended-index start more old new h more_is start_is behind fits grows =
       let span : BodySpan = record { start = start; end = start + length pb } in
       let place = length (groups_bytes gs) in
-      let f = shifted (shift.Lengthened place more) in
+      let f = longer place more in
       let keeps = grows.keeps in
       let entries = old.pairs.entries in
-      let closed_spans = all_shifted (shift.Lengthened place more) old.spans.items in
+      let closed_spans = all_longer place more (spans_of old) in
       let fits_by = subst (λ n. place + n < 2 ^ 64) more_is fits in
       let closes : IsListed (pairs_from 0 closed) (stored_places entries) (stored_value entries) closed_spans =
       listed-shifted f h.listed (pairs_from 0 closed)
-      (subst (λ n. IsShift (shifted (shift.Lengthened place n)) (pairs_from 0 gs) (pairs_from 0 closed)) (sym more_is) (closed-shift e by gs k fits_by)) in
+      (subst (λ n. IsShift (longer place n) (pairs_from 0 gs) (pairs_from 0 closed)) (sym more_is) (closed-shift e by gs k fits_by)) in
       let own : f span ≡ Some span =
       ap Some (span-is start _ start (start + length pb) refl (end-kept (start + length pb) place more (λ q. absurd (omega arith)) fits)) in
-      let spans_are : new.spans.items ≡ closed_spans ++ Some span ∷ [] =
-      grows.longer
-      ∙ ap (all_shifted (shift.Lengthened place more)) keeps.spans
-      ∙ map-append (option_and_then f) old.spans.items (Some span ∷ [])
+      let spans_are : spans_of new ≡ closed_spans ++ Some span ∷ [] =
+      grows.spans
+      ∙ ap (all_longer place more) keeps.spans
+      ∙ map-append (option_and_then f) (spans_of old) (Some span ∷ [])
       ∙ ap (λ v. closed_spans ++ v ∷ []) own in
-      let places = keeps.places ∙ ap (λ n. stored_places entries key ++ n ∷ []) (sym (length-map old.spans.items (option_and_then f))) in
+      let places = keeps.places ∙ ap (λ n. stored_places entries key ++ n ∷ []) (sym (length-map (spans_of old) (option_and_then f))) in
       let one = listed-stored entries closes grows.mid.pairs.entries key value span keeps.pair keeps.has_value keeps.stored places in
       let at : span_of (length (groups_bytes closed)) (line ∷ []) ≡ span =
       span-is _ _ start (start + length pb) (sym start_is) (ap (λ n. n + length pb) (sym start_is)) in

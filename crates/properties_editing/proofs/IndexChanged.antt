@@ -1,6 +1,6 @@
 -- The index of a body in which the last pair with a key gets another value.
 use Rattle.std.proofs.Common.{◌≡◌, ◌<◌, ℕ, ◌+◌, ◌^◌, ◌==◌, Bool, true, false, List, [], ◌∷◌, ◌++◌, Some, None, length, refl, ap, ap₂, sym, ◌∙◌, subst, inl, inr, arith}
-use Rattle.std.specs.Prelude.{◌⊎◌, if◌then◌else◌, map}
+use Rattle.std.specs.Prelude.{◌⊎◌, if◌then◌else◌, map, option_and_then}
 use Rattle.std.proofs.lemmas.Bool.{cond-true, cond-false}
 use Rattle.std.proofs.lemmas.Bool.Decides.{nat_tests}
 use Rattle.properties_format.specs.Text.{LineEnding, lf, cr, crlf, line_ending_text}
@@ -17,14 +17,15 @@ use Rattle.properties_format.specs.Computed.Parts.{unended_bytes}
 use Rattle.properties_format.proofs.InTurn.Lines.{ending-of}
 use Rattle.properties_format.proofs.InTurn.Merged.{AreInTurn}
 use Rattle.properties_items.specs.FoundItems.{outcome_pair}
-use Rattle.properties_editing.specs.Private.BodyIndex.{FollowsPair, IsIndex, outcome, paired, pairs_from, shifted, span_of}
+use Rattle.properties_editing.specs.Private.BodyIndex.{FollowsPair, IsEndMoved, IsIndex, carried_to, outcome, paired, pairs_from, span_of, spans_of, stored_at}
 use Rattle.properties_editing.specs.Private.BodyKeys.{closing_of}
 use Rattle.properties_editing.specs.declared.edit.index.Index.{Index}
-use Rattle.properties_editing.specs.declared.edit.index.Shift.TheVariants as shift
+use Rattle.properties_editing.specs.declared.edit.find.BodySpan.{BodySpan}
 use Rattle.properties_editing.specs.declared.edit.find.Closing.{Closing}
 use Rattle.properties_editing.specs.declared.edit.find.Closing.TheVariants.{OneEnding}
-use Rattle.properties_editing.proofs.IndexListed.{IsShift, listed-as, listed-revalued, listed-shifted, moved, shift-append}
-use Rattle.properties_editing.proofs.IndexSpans.{group-size, moved-before, moved-behind, moved-own, none-with, pairs-around, shift-option, size-around}
+use Rattle.properties_editing.proofs.IndexFound.{last-stored}
+use Rattle.properties_editing.proofs.IndexListed.{listed-as, listed-revalued}
+use Rattle.properties_editing.proofs.IndexSpans.{carried, carried-behind, end-moved, group-size, moved-behind, none-with, pairs-around, size-around}
 
 -- ---- how groups end
 
@@ -97,9 +98,9 @@ no-groups (x ∷ xs) g gs h = absurd (cc)
 module _ (before : List (List HeldLine)) (g h : List HeldLine) (after : List (List HeldLine)) (key was value : List ℕ)
     (g_is : outcome g ≡ given (pair key was))
     (h_is : outcome h ≡ given (pair key value)) (none : NoneHasKey key after) (ending : last_ending h ≡ last_ending g)
-    (some : 0 < length (unended_bytes g))
     (old_end new_end : ℕ) (old_is : old_end ≡ length (groups_bytes before) + length (unended_bytes g))
-    (new_is : new_end ≡ length (groups_bytes before) + length (unended_bytes h)) (fits : length (groups_bytes (before ++ h ∷ after)) < 2 ^ 64)
+    (new_is : new_end ≡ length (groups_bytes before) + length (unended_bytes h)) (from : old_end < 2 ^ 64)
+    (fits : length (groups_bytes (before ++ h ∷ after)) < 2 ^ 64)
     (full : is_empty_line h ≡ false) (closed : is_left_open h ≡ false) where
   pub changed-sound : AreSound (before ++ g ∷ after) → AreSound (before ++ h ∷ after)
   changed-sound k = sound-changed before g h after (inl (subst IsSound (sym h_is) tt)) k
@@ -122,27 +123,30 @@ module _ (before : List (List HeldLine)) (g h : List HeldLine) (after : List (Li
       → FollowsPair key value old_end new_end is_last old new
       → IsIndex (before ++ h ∷ after) new
   changed-index is_last old new told i k =
-      let f = shifted (shift.Moved old_end new_end) in
       let n = length (groups_bytes before) in
+      let p = paired (span_of n g) (key, was) in
       let front = pairs_from 0 before in
-      let back = pairs_from (n + length (group_bytes h)) after in
-      let p = paired (span_of n h) (key, was) in
+      let back = pairs_from (n + length (group_bytes g)) after in
+      let are = pairs-around before g after (Some (key, was)) (ap outcome_pair g_is) in
+      let later = none-with key (n + length (group_bytes g)) after none in
       let size = size-around before h after in
       let g_size = group-size g in
       let h_size = group-size h in
       let ends = ap (λ o. length (ending_bytes o)) ending in
-      let shift : IsShift f (pairs_from 0 (before ++ g ∷ after)) (front ++ p ∷ back) =
-      ap (map (moved f)) (pairs-around before g after (Some (key, was)) (ap outcome_pair g_is))
-      ∙ shift-append f front (paired (span_of n g) (key, was) ∷ pairs_from (n + length (group_bytes g)) after) front (p ∷ back)
-      (moved-before old_end new_end before 0 (omega arith))
-      (shift-option f (Some (key, was)) (span_of n g) (span_of n h) (pairs_from (n + length (group_bytes g)) after) back (moved-own old_end new_end n g h some old_is new_is (omega arith))
-      (moved-behind old_end new_end after (n + length (group_bytes g)) (n + length (group_bytes h)) (omega arith) (omega arith) (omega arith))) in
-      let listed =
-      listed-revalued (listed-shifted f i.listed (front ++ p ∷ back) shift) front p back value refl
-      (none-with key (n + length (group_bytes h)) after none) in
+      let end : carried_to old_end new_end (n + length (unended_bytes g)) ≡ n + length (unended_bytes h) =
+      carried-behind old_end new_end (n + length (unended_bytes g)) (n + length (unended_bytes h)) (omega arith) (omega arith) (omega arith) from in
+      let listed = listed-revalued (carried old_end new_end) i.listed front p back (pairs_from (n + length (group_bytes h)) after) (span_of n h) value
+      (spans_of new)
+      are later
+      (moved-behind old_end new_end after (n + length (group_bytes g)) (n + length (group_bytes h)) (omega arith) (omega arith) (omega arith) from)
+      (λ place earlier own xs ys at spans.
+      let stored = last-stored (stored_at old.pairs.entries key) earlier place own in
+      end-moved old_end new_end xs ys (span_of n g) old.spans.items new.spans.items
+      (subst (λ m. IsEndMoved m old_end new_end old.spans.items new.spans.items) (stored.2 ∙ at) (k.spans stored.0 stored.1)) spans
+      ∙ ap (λ m. xs ++ Some (let s : BodySpan = record { start = n; end = m } in s) ∷ map (option_and_then (carried old_end new_end)) ys) end) in
       let pairs = pairs-around before h after (Some (key, value)) (ap outcome_pair h_is) in
       record {
-        listed = listed-as listed pairs k.spans k.places k.values;
+        listed = listed-as listed pairs refl k.places k.values;
         closing = closes after is_last old.closing new.closing told k.closing i.closing;
         ordered = k.ordered;
       }

@@ -1,6 +1,6 @@
 -- The parts of pairs when a group is cut out.
-use Rattle.std.proofs.Common.{◌≡◌, ◌≢◌, ◌<◌, ◌≤◌, ◌==◌, ℕ, zero, suc, ◌+◌, ◌^◌, Bool, true, false, List, [], ◌∷◌, ◌++◌, Option, Some, None, length, refl, ap, sym, ◌∙◌, subst, length-append, arith}
-use Rattle.std.specs.Prelude.{bytes_eq, if◌then◌else◌, map, option_and_then}
+use Rattle.std.proofs.Common.{◌≡◌, ◌≢◌, ◌<◌, ◌≤◌, ◌==◌, ℕ, zero, suc, ◌+◌, ◌-◌, ◌^◌, Bool, true, false, List, [], ◌∷◌, ◌++◌, Option, Some, None, length, refl, ap, sym, ◌∙◌, subst, length-append, arith}
+use Rattle.std.specs.Prelude.{bytes_eq, if◌then◌else◌, map, min, nat_lt, option_and_then}
 use Rattle.std.specs.Option.{option_map}
 use Rattle.std.proofs.lemmas.Bool.{cond-true, cond-false}
 use Rattle.std.proofs.lemmas.Bool.Decides.{nat_tests}
@@ -10,10 +10,10 @@ use Rattle.properties_format.specs.Body.{HeldLine, NoneHasKey, group_bytes, grou
 use Rattle.properties_format.specs.Computed.Parts.{unended_bytes}
 use Rattle.properties_format.proofs.Body.Groups.{groups_bytes-append}
 use Rattle.properties_items.specs.FoundItems.{outcome_pair}
-use Rattle.properties_editing.specs.Private.BodyIndex.{IsListed, PairAt, last_value, live, moved_span, outcome, paired, pairs_from, part_of, place_if, places_with, span_at, span_of}
+use Rattle.properties_editing.specs.Private.BodyIndex.{IsListed, PairAt, last_value, live, outcome, paired, pairs_from, part_of, place_if, places_with, span_at, span_of}
 use Rattle.properties_editing.specs.declared.edit.find.BodySpan.{BodySpan}
 use Rattle.properties_editing.proofs.IndexListed.{IsShift, changed_at, listed-as, listed-cut, listed-first, moved}
-use Rattle.properties_editing.proofs.IndexSpans.{group-size, moved-high, moved-low, none-with, pairs-around, pairs-join, shift-all, shift-option, span-is}
+use Rattle.properties_editing.proofs.IndexSpans.{group-size, none-with, pairs-around, pairs-join, shift-all, shift-option, span-is}
 
 -- Each of the groups has bytes.
 abbrev pub HaveBytes : List (List HeldLine) → Type 0
@@ -21,6 +21,21 @@ HaveBytes [] = Unit {0}
 HaveBytes (g ∷ gs) = (0 < length (group_bytes g)) × HaveBytes gs
 
 -- ---- a part that is cut out
+
+-- a position, after what ended in one place ends in another
+abbrev moved_to : ℕ → ℕ → ℕ → ℕ
+moved_to old new p = if nat_lt p old then p else min (p - old + new) (2 ^ 64 - 1)
+
+moved-low : (old new p : ℕ) → p < old → moved_to old new p ≡ p
+moved-low old new p low = cond-true (nat_lt p old) p (min (p - old + new) (2 ^ 64 - 1)) (grind (arith, nat_tests))
+
+moved-high : (old new p q : ℕ) → old ≤ p → q + old ≡ p + new → q < 2 ^ 64 → moved_to old new p ≡ q
+moved-high old new p q high is fits =
+    cond-false (nat_lt p old) p (min (p - old + new) (2 ^ 64 - 1)) (grind (arith, nat_tests))
+    ∙ (let small : min (p - old + new) (2 ^ 64 - 1) ≡ q = omega arith in small)
+
+abbrev moved_span : ℕ → ℕ → BodySpan → BodySpan
+moved_span old new s = record { start = moved_to old new s.start; end = moved_to old new s.end }
 
 -- a part after the bytes from one place up to another were cut out, unless it starts there
 abbrev pub cut_from : ℕ → ℕ → BodySpan → Option BodySpan

@@ -110,7 +110,6 @@ module _ (e : Encoding) (opened : BodyStart) (old new key value : List ℕ) (pai
       let old_whole = ap length (sym all ∙ ap groups_bytes at.division) in
       let old_parts : length body ≡ _ = old_whole ∙ size-around p.before p.group p.after in
       let ending_size = ap (λ o. length (ending_bytes o)) ending in
-      let some = (regrouped f opened.ascii_only body key value p ok v m).old_size in
       let new_is : pair.end + length new - length old ≡ length (groups_bytes p.before) + length (unended_bytes group) = omega arith in
       let old_is : pair.end ≡ length (groups_bytes p.before) + length (unended_bytes p.group) = omega arith in
       let fits : length (groups_bytes next) < 2 ^ 64 = omega arith in
@@ -121,10 +120,12 @@ module _ (e : Encoding) (opened : BodyStart) (old new key value : List ℕ) (pai
       last-told f p.before p.group p.after (opened.start + pair.end) (length old) opened.start turn (omega arith) (omega arith) in
       let left = whole-closed group closed in (
         subst AreSound next_groups
-            (changed-sound p.before p.group group p.after key was_pair.0 value was_pair.1 is_pair m.no_later ending some pair.end (pair.end + length new - length old) old_is new_is fits full left
+            (changed-sound p.before p.group group p.after key was_pair.0 value was_pair.1 is_pair m.no_later ending
+            pair.end (pair.end + length new - length old) old_is new_is (omega arith) fits full left
             (subst AreSound at.division sound)),
         subst (λ w. IsIndex w is) next_groups
-            (changed-index p.before p.group group p.after key was_pair.0 value was_pair.1 is_pair m.no_later ending some pair.end (pair.end + length new - length old) old_is new_is fits full left
+            (changed-index p.before p.group group p.after key was_pair.0 value was_pair.1 is_pair m.no_later ending
+            pair.end (pair.end + length new - length old) old_is new_is (omega arith) fits full left
             (opened.start + pair.end == length old) was is told (subst (λ w. IsIndex w was) at.division index) follows),
       )
 

@@ -13,7 +13,7 @@ use Rattle.properties_format.proofs.Edited.Made as made
 use Rattle.properties_format.proofs.Edited.Made.{last_place-meets}
 use Rattle.properties_format.proofs.Items.Unique.{outcome_of-only}
 use Rattle.properties_items.specs.FoundItems.{outcome_pair}
-use Rattle.properties_editing.specs.Private.BodyIndex.{IsIndex, PairAt, found_span, last_live, last_span, live, outcome, paired, pairs_from, part_of, places_of, span_at, span_of, span_or, stored_at}
+use Rattle.properties_editing.specs.Private.BodyIndex.{IsIndex, PairAt, found_span, last_live, last_span, live, outcome, paired, pairs_from, part_of, places_of, span_at, span_of, span_or, spans_of, stored_at}
 use Rattle.properties_editing.specs.Private.BodyKeys.{IsPlace, IsPlaceOf}
 use Rattle.properties_editing.specs.Private.BodyValues.{IsLastPair}
 use Rattle.properties_editing.specs.declared.edit.index.Index.{Index}
@@ -47,10 +47,13 @@ no-places None h = refl
 no-places (Some p) h = absurd (no-end p.earlier.items p.place (sym h))
 
 -- What is stored has its last place.
+pub last-stored : (o : Option IndexedPair) (ns : List ℕ) (n : ℕ) → places_of o ≡ ns ++ n ∷ [] → (p : IndexedPair) × (o ≡ Some p) × (p.place ≡ n)
+last-stored None ns n h = absurd (no-end ns n h)
+last-stored (Some p) ns n h = (p, refl, same-last p.earlier.items ns p.place n h)
+
 some-places : (spans : List (Option BodySpan)) (o : Option IndexedPair) (ns : List ℕ) (n : ℕ) → places_of o ≡ ns ++ n ∷ []
     → last_span spans o ≡ span_at spans n
-some-places spans None ns n h = absurd (no-end ns n h)
-some-places spans (Some p) ns n h = ap (span_at spans) (same-last p.earlier.items ns p.place n h)
+some-places spans o ns n h = let s = last-stored o ns n h in ap (last_span spans) s.1 ∙ ap (span_at spans) s.2
 
 module _ {groups : List (List HeldLine)} {index : Index} (h : IsIndex groups index) (key : List ℕ) where
   -- A key that no group has isn't stored.
@@ -64,7 +67,7 @@ module _ {groups : List (List HeldLine)} {index : Index} (h : IsIndex groups ind
       of-place : (o : Option KeyPlace) → last_place key groups ≡ o → IsPlace key groups (found_span index key)
       of-place None none =
           let m = subst (made.IsPlace key groups) none (last_place-meets key groups) in
-          subst (IsPlace key groups) (sym (ap (last_span index.spans.items) (none-stored m))) none
+          subst (IsPlace key groups) (sym (ap (last_span (spans_of index)) (none-stored m))) none
       of-place (Some p) some =
           let m = subst (made.IsPlace key groups) some (last_place-meets key groups) in
           let n = length (groups_bytes p.before) in
@@ -74,7 +77,7 @@ module _ {groups : List (List HeldLine)} {index : Index} (h : IsIndex groups ind
           let next = n + length (group_bytes p.group) in
           let pairs = ap (pairs_from 0) m.division ∙ pairs-around p.before p.group p.after (Some (key, said.0)) (ap outcome_pair said.1) in
           let last = listed-last h.listed (pairs_from 0 p.before) pair (pairs_from next p.after) pairs (none-with key next p.after m.no_later) in
-          let is = some-places index.spans.items (stored_at index.pairs.entries key) last.0 last.1 last.2 ∙ last.3 in
+          let is = some-places (spans_of index) (stored_at index.pairs.entries key) last.0 last.1 last.2 ∙ last.3 in
           let place : IsPlaceOf key groups s = record { place = p; is = some; division = m.division; starts = refl; ends = refl } in
           subst (IsPlace key groups) (sym is) place
 
@@ -121,7 +124,7 @@ last-on done (g ∷ rest) h sound =
 
 -- The last part that is there is the last pair.
 pub found-last : (groups : List (List HeldLine)) (index : Index) → AreSound groups → IsIndex groups index
-    → IsLastPair groups (last_live index.spans.items)
+    → IsLastPair groups (last_live (spans_of index))
 found-last groups index sound h =
     subst (IsLastPair groups) (sym (ap last_live h.listed.are_spans ∙ live-last h.listed.slots ∙ ap last_of h.listed.are_pairs))
     (last-on [] groups refl sound)

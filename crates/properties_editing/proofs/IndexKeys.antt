@@ -24,7 +24,7 @@ use Rattle.properties_format.specs.Body.{HeldLine, group_bytes}
 use Rattle.properties_format.specs.Computed.Keys.{Has, ComesBefore, AreFirstOf}
 use Rattle.properties_format.specs.Computed.Parts.{outcome_key}
 use Rattle.properties_items.specs.FoundItems.{outcome_pair}
-use Rattle.properties_editing.specs.Private.BodyIndex.{IsListed, PairAt, live, outcome, paired, pairs_from, part_of, place_if, places_of, places_with, span_of, stored_at, stored_places}
+use Rattle.properties_editing.specs.Private.BodyIndex.{IsListed, PairAt, live, outcome, paired, pairs_from, part_of, place_if, places_of, places_with, span_in, span_of, stored_at, stored_places}
 use Rattle.properties_editing.specs.Private.BodyIndex.Keys.{AreFirsts, ArePlaced, IndexesSome, IsFirstIn, TellsKeys, group_keys, key_at}
 use Rattle.properties_editing.specs.Documents.{characters_of}
 use Rattle.properties_items.specs.Texts.{characters}
@@ -377,6 +377,7 @@ placing-next index rest firsts key stored i borrowed some h first is size =
     (head.0, ap places_of (entry-stored index.pairs h.done rest key stored some.is_index.ordered h.division) ∙ head.1) in
     let low = first-inside some.groups entries listed (characters key) i own in
     let mapped = length-map firsts key_at in
+    let parts = length-map index.spans.items (option_map span_in) in
     let placed : set (map key_at firsts) i (Some (characters key)) ≡ map key_at (set firsts i (Some borrowed)) =
     ap (λ v. set (map key_at firsts) i (Some (chars v))) (sym is) ∙ sym (map-set key_at firsts i (Some borrowed)) in (
       omega arith,

@@ -193,52 +193,28 @@ module _ {ps : List PairAt} {places : List ℕ → List ℕ} {values : List ℕ 
       either true value o = refl
       either false value o = refl
 
-  -- One pair has another value.
-  pub listed-revalued : (front : List PairAt) (p : PairAt) (back : List PairAt) (value : List ℕ) → ps ≡ front ++ p ∷ back → NoneWith p.key back
-      → IsListed (front ++ record p { value = value } ∷ back) places
-      (λ k. if bytes_eq p.key k then option_map (λ v. value) (values k) else values k) spans
-  listed-revalued front p back value are none =
-      let q : PairAt = record p { value = value } in
-      let s = divided h.slots front p back (h.are_pairs ∙ are) in
-      record {
-        slots = s.before ++ Some q ∷ s.after;
-        are_pairs = live-append s.before (Some q ∷ s.after) ∙ ap₂ (λ v w. v ++ q ∷ w) s.is_front s.is_back;
-        are_spans = h.are_spans ∙ ap (map part_of) s.division ∙ map-append part_of s.before (Some p ∷ s.after)
-            ∙ sym (map-append part_of s.before (Some q ∷ s.after));
-        are_places = λ k. h.are_places k ∙ ap (places_with k 0) s.division ∙ places-append k 0 s.before (Some p ∷ s.after)
-            ∙ sym (places-append k 0 s.before (Some q ∷ s.after));
-        are_values = λ k.
-            ap (λ o. if bytes_eq p.key k then option_map (λ v. value) o else o)
-            (h.are_values k ∙ ap (last_value k) are ∙ last-append k front (p ∷ back))
-            ∙ elim (cases_Bool (bytes_eq p.key k)) [
-              | inl b ↦
-                  let nothing : last_value k back ≡ None =
-                  ap (λ j. last_value j back) (sym ((bytes_eq-Decides p.key k).0 b)) ∙ none-value p.key back none in
-                  rw (b, nothing) refl
-              | inr b ↦ rw b refl
-            ]
-            ∙ sym (last-append k front (q ∷ back));
-      }
-
   -- The last pair with its key is in the last place of it.
+  last-places : (front : List PairAt) (p : PairAt) (back : List PairAt) (d : IsDivided h.slots front p back) → NoneWith p.key back
+      → places p.key ≡ places_with p.key 0 d.before ++ length d.before ∷ []
+  last-places front p back d none =
+      let later = none-places p.key (suc (0 + length d.before)) d.after (rw d.is_back none) in
+      let own : place_if (bytes_eq p.key p.key) (0 + length d.before) [] ≡ length d.before ∷ [] =
+      ap₂ (λ b n. place_if b n []) ((bytes_eq-Decides p.key p.key).1 refl) (omega arith) in
+      h.are_places p.key
+      ∙ ap (places_with p.key 0) d.division
+      ∙ places-append p.key 0 d.before (Some p ∷ d.after)
+      ∙ ap (λ v. places_with p.key 0 d.before ++ place_if (bytes_eq p.key p.key) (0 + length d.before) v) later
+      ∙ ap (λ v. places_with p.key 0 d.before ++ v) own
+
   pub listed-last : (front : List PairAt) (p : PairAt) (back : List PairAt) → ps ≡ front ++ p ∷ back → NoneWith p.key back
       → (before : List ℕ) × (n : ℕ) × (places p.key ≡ before ++ n ∷ []) × (span_at spans n ≡ Some p.span)
-  listed-last front p back are none = of-divided (divided h.slots front p back (h.are_pairs ∙ are))
-    where
-      of-divided : IsDivided h.slots front p back → (before : List ℕ) × (n : ℕ) × (places p.key ≡ before ++ n ∷ []) × (span_at spans n ≡ Some p.span)
-      of-divided d =
-          let later = none-places p.key (suc (0 + length d.before)) d.after (rw d.is_back none) in
-          let own : place_if (bytes_eq p.key p.key) (0 + length d.before) [] ≡ length d.before ∷ [] =
-          ap₂ (λ b n. place_if b n []) ((bytes_eq-Decides p.key p.key).1 refl) (omega arith) in (
-            places_with p.key 0 d.before,
-            length d.before,
-            h.are_places p.key
-                ∙ ap (places_with p.key 0) d.division
-                ∙ places-append p.key 0 d.before (Some p ∷ d.after)
-                ∙ ap (λ v. places_with p.key 0 d.before ++ place_if (bytes_eq p.key p.key) (0 + length d.before) v) later
-                ∙ ap (λ v. places_with p.key 0 d.before ++ v) own,
-            ap (λ v. span_at v (length d.before)) (h.are_spans ∙ ap (map part_of) d.division) ∙ part-at d.before p d.after,
-          )
+  listed-last front p back are none =
+      let d = divided h.slots front p back (h.are_pairs ∙ are) in (
+        places_with p.key 0 d.before,
+        length d.before,
+        last-places front p back d none,
+        ap (λ v. span_at v (length d.before)) (h.are_spans ∙ ap (map part_of) d.division) ∙ part-at d.before p d.after,
+      )
 
 -- ---- a change of parts
 
@@ -302,6 +278,44 @@ module _ {ps : List PairAt} {places : List ℕ → List ℕ} {values : List ℕ 
         are_spans = ap (map (option_and_then f)) h.are_spans ∙ m.parts;
         are_places = λ k. h.are_places k ∙ m.places k 0;
         are_values = λ k. h.are_values k ∙ ap (last_value k) (sym h.are_pairs) ∙ m.values k;
+      }
+
+  -- The last pair with its key has another part and another value, and those behind it have changed.
+  pub listed-revalued : (front : List PairAt) (p : PairAt) (back new_back : List PairAt) (span : BodySpan) (value : List ℕ) (parts : List (Option BodySpan))
+      → ps ≡ front ++ p ∷ back → NoneWith p.key back → IsShift f back new_back
+      → ((place : ℕ) (earlier : List ℕ) → places p.key ≡ earlier ++ place ∷ [] → (before after : List (Option BodySpan)) → place ≡ length before
+      → spans ≡ before ++ Some p.span ∷ after → parts ≡ before ++ Some span ∷ map (option_and_then f) after)
+      → IsListed (front ++ paired span (p.key, value) ∷ new_back) places
+      (λ k. if bytes_eq p.key k then option_map (λ v. value) (values k) else values k) parts
+  listed-revalued front p back new_back span value parts are none shift changed =
+      let q : PairAt = paired span (p.key, value) in
+      let s = divided h.slots front p back (h.are_pairs ∙ are) in
+      let n = shifted-slots f s.after new_back (ap (map (moved f)) s.is_back ∙ shift) in
+      let d = map (option_and_then (moved f)) s.after in
+      record {
+        slots = s.before ++ Some q ∷ d;
+        are_pairs = live-append s.before (Some q ∷ d) ∙ ap₂ (λ v w. v ++ q ∷ w) s.is_front n.are;
+        are_spans =
+            changed (length s.before) (places_with p.key 0 s.before) (last-places h front p back s none) (map part_of s.before) (map part_of s.after)
+            (sym (length-map s.before part_of)) (h.are_spans ∙ ap (map part_of) s.division ∙ map-append part_of s.before (Some p ∷ s.after))
+            ∙ ap (λ v. map part_of s.before ++ Some span ∷ v) n.parts
+            ∙ sym (map-append part_of s.before (Some q ∷ d));
+        are_places = λ k. h.are_places k ∙ ap (places_with k 0) s.division ∙ places-append k 0 s.before (Some p ∷ s.after)
+            ∙ ap (λ v. places_with k 0 s.before ++ place_if (bytes_eq p.key k) (0 + length s.before) v) (n.places k (suc (0 + length s.before)))
+            ∙ sym (places-append k 0 s.before (Some q ∷ d));
+        are_values = λ k.
+            ap (λ o. if bytes_eq p.key k then option_map (λ v. value) o else o)
+            (h.are_values k ∙ ap (last_value k) are ∙ last-append k front (p ∷ back))
+            ∙ elim (cases_Bool (bytes_eq p.key k)) [
+              | inl b ↦
+                  let nothing : last_value k back ≡ None =
+                  ap (λ j. last_value j back) (sym ((bytes_eq-Decides p.key k).0 b)) ∙ none-value p.key back none in
+                  rw (b, nothing) refl
+              | inr b ↦ rw b refl
+            ]
+            ∙ ap (λ o. first_value (first_value o (if bytes_eq p.key k then Some value else None)) (last_value k front))
+            (ap (last_value k) (sym s.is_back) ∙ n.values k)
+            ∙ sym (last-append k front (q ∷ new_back));
       }
 
   -- The first pair with its key is cut out.

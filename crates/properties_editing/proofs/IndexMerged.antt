@@ -23,11 +23,10 @@ use Rattle.properties_format.proofs.Edited.Fronts.{outcome-empty}
 use Rattle.properties_format.proofs.InTurn.Lines.{AreLinesBy, unended-some, with_ending, texts-with, unended-with}
 use Rattle.properties_format.proofs.InTurn.Merged.{AreInTurn, after-lf, merged, merged-groups, merged-one, merged-two, one-bytes, one-ending}
 use Rattle.properties_items.specs.FoundItems.{outcome_pair}
-use Rattle.properties_editing.specs.Private.BodyIndex.{outcome, paired, pairs_from, shifted, span_of}
-use Rattle.properties_editing.specs.declared.edit.index.Shift.TheVariants as shift
+use Rattle.properties_editing.specs.Private.BodyIndex.{outcome, paired, pairs_from, span_of}
 use Rattle.properties_editing.specs.declared.edit.find.BodySpan.{BodySpan}
 use Rattle.properties_editing.proofs.IndexListed.{IsShift}
-use Rattle.properties_editing.proofs.IndexSpans.{moved-behind, pairs-first}
+use Rattle.properties_editing.proofs.IndexSpans.{carried, moved-behind, pairs-first}
 
 -- ---- an LF alone
 
@@ -105,8 +104,8 @@ module _ (e : Encoding) where
 -- With a group of one byte that says nothing in front of others all parts move by one.
 pub front-shift : (g : List HeldLine) (gs : List (List HeldLine)) → outcome g ≡ ignored → length (group_bytes g) ≡ 1
     → 1 + length (groups_bytes gs) < 2 ^ 64
-    → IsShift (shifted (shift.Moved 0 1)) (pairs_from 0 gs) (pairs_from 0 (g ∷ gs))
+    → IsShift (carried 0 1) (pairs_from 0 gs) (pairs_from 0 (g ∷ gs))
 front-shift g gs none one fits =
     let next : 0 + length (group_bytes g) ≡ 1 = omega arith in
-    moved-behind 0 1 gs 0 1 (omega arith) (omega arith) fits
+    moved-behind 0 1 gs 0 1 (omega arith) (omega arith) fits (omega arith)
     ∙ ap (map Some) (sym (pairs-first 0 g gs None (ap outcome_pair none) ∙ ap (λ n. pairs_from n gs) next))

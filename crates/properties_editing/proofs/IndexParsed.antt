@@ -18,7 +18,7 @@ use Rattle.properties_format.specs.Computed.Parts.{unended_bytes}
 use Rattle.properties_format.proofs.Edited.Steps.{final_group-push}
 use Rattle.properties_text.specs.Encoding.{encoding_of}
 use Rattle.properties_editing.specs.Private.BodyGroups.{IsWithin, TakesGroup, text_of}
-use Rattle.properties_editing.specs.Private.BodyIndex.{AddsGroup, AddsPair, IsIndex, IsListed, KeepsNothing, ListsPairs, PairAt, outcome, paired, pairs_from, places_of, span_of, stored_at, stored_places, stored_value}
+use Rattle.properties_editing.specs.Private.BodyIndex.{AddsGroup, AddsPair, IsIndex, IsListed, KeepsNothing, ListsPairs, PairAt, outcome, paired, pairs_from, places_of, span_of, spans_in, stored_at, stored_places, stored_value}
 use Rattle.properties_items.specs.FoundItems.{outcome_pair}
 use Rattle.properties_editing.specs.Private.BodyKeys.{closing_of}
 use Rattle.properties_items.specs.Texts.{characters}
@@ -76,7 +76,7 @@ indexed-none comments body s index at passed going w empty ordered none = record
   read = read-none comments body s at passed going w;
   is_index =
       record {
-        listed = record { slots = []; are_pairs = refl; are_spans = none; are_places = λ k. rw empty refl; are_values = λ k. rw empty refl };
+        listed = record { slots = []; are_pairs = refl; are_spans = ap spans_in none; are_places = λ k. rw empty refl; are_values = λ k. rw empty refl };
         closing = inl refl;
         ordered = ordered;
       };
@@ -110,7 +110,7 @@ index-more groups g span old new told h said k at closing =
     by : (told : Option (List ℕ × List ℕ)) → AddsPair told span old new
         → ListsPairs (pairs_from 0 groups ++ cons_option (option_map (paired span) told) []) new × IsOrdered string_cmp new.pairs
     by None k = (
-      listed-as h.listed (append-nil (pairs_from 0 groups)) (ap (λ v. v.items) k.1)
+      listed-as h.listed (append-nil (pairs_from 0 groups)) (ap (λ v. spans_in v.items) k.1)
           (λ j. ap (λ m. stored_places m.entries j) k.0) (λ j. ap (λ m. stored_value m.entries j) k.0),
       subst (IsOrdered string_cmp) (sym k.0) h.ordered,
     )

@@ -28,14 +28,13 @@ use Rattle.properties_format.proofs.InTurn.Merged.{AreInTurn, IsEndedGroup, afte
 use Rattle.properties_format.proofs.Edited.Parts.{empty_group, empty-lines, empty-whole}
 use Rattle.properties_format.proofs.InTurn.Unmerged.{AreUnmerged, merged-unmerged}
 use Rattle.properties_text.specs.Encoding.{encoding_of}
-use Rattle.properties_editing.specs.Private.BodyIndex.{GuardsFront, IsIndex, IsKept, IsListed, KeepsNothing, ListsPairs, PutsFirst, ending_size, last_value, outcome, pairs_from, places_of, shifted, span_at, span_of, stored_at, stored_places, stored_value}
+use Rattle.properties_editing.specs.Private.BodyIndex.{GuardsFront, IsIndex, IsKept, IsListed, KeepsNothing, ListsPairs, PutsFirst, ending_size, last_value, outcome, pairs_from, places_of, span_at, span_of, spans_in, spans_of, stored_at, stored_places, stored_value}
 use Rattle.properties_items.specs.FoundItems.{outcome_pair}
 use Rattle.properties_editing.specs.Private.BodyKeys.{closing_of}
 use Rattle.properties_items.specs.Texts.{characters}
 use Rattle.properties_editing.specs.Private.Sources.{IsInForce}
 use Rattle.properties_editing.specs.declared.edit.index.Index.{Index}
 use Rattle.properties_editing.specs.declared.edit.index.IndexedPair.{IndexedPair}
-use Rattle.properties_editing.specs.declared.edit.index.Shift.TheVariants as shift
 use Rattle.properties_editing.specs.declared.edit.find.BodySpan.{BodySpan}
 use Rattle.properties_editing.specs.declared.edit.source.BodyStart.{BodyStart}
 use Rattle.properties_editing.specs.declared.edit.find.Closing.{Closing}
@@ -51,7 +50,7 @@ use Rattle.properties_editing.proofs.IndexFound.{said-of}
 use Rattle.properties_editing.proofs.IndexListed.{changed_at, listed-as, listed-shifted, none-value}
 use Rattle.properties_editing.proofs.IndexMerged.{empty-said, front-shift, held-merged, merged-pairs, merged-sound, pair-bytes}
 use Rattle.properties_editing.proofs.IndexParsed.{kept-index}
-use Rattle.properties_editing.proofs.IndexSpans.{group-size, listed-none, none-listed, none-with, pairs-around, pairs-join, size-around}
+use Rattle.properties_editing.proofs.IndexSpans.{carried, group-size, listed-none, none-listed, none-with, pairs-around, pairs-join, parts-moved, size-around}
 use Rattle.properties_editing.proofs.IndexStored.{put-after, update-made, update-own, update-same}
 
 -- ---- groups that end in line endings
@@ -410,7 +409,7 @@ pub cut-begin : (e : Encoding) (key : List ℕ) (start : ℕ) (source : List ℕ
     → stored_at old.pairs.entries key ≡ Some pair
     → ((j : List ℕ) → stored_at mid.pairs.entries j ≡ update bytes_eq (stored_at old.pairs.entries) key None j) → IsOrdered string_cmp mid.pairs
     → mid.spans ≡ old.spans → mid.closing ≡ old.closing
-    → (c : IsCutTo e key (held_groups_of e (drop start source)) (take start source) source mid.spans.items mid (places_of (Some pair))) × (c.kept ≡ [])
+    → (c : IsCutTo e key (held_groups_of e (drop start source)) (take start source) source (spans_of mid) mid (places_of (Some pair))) × (c.kept ≡ [])
 cut-begin e key start source old mid pair ok h sound stored updates ordered spans closing =
     let body = drop start source in
     let gs = held_groups_of e body in
@@ -424,7 +423,7 @@ cut-begin e key start source old mid pair ok h sound stored updates ordered span
         sound = sound;
         left = refl;
         bytes = sym (take-append-drop start source) ∙ ap (λ v. take start source ++ v) (sym rest.1);
-        listed = listed-as h.listed refl (ap (λ v. v.items) spans)
+        listed = listed-as h.listed refl (ap (λ v. spans_in v.items) spans)
             (taken places_of (places_of (Some pair)) (ap places_of stored))
             (taken (option_map (λ p. characters p.value)) (last_value key (pairs_from 0 gs)) (h.listed.are_values key));
         gone = updates key ∙ update-same (stored_at old.pairs.entries) key None;
@@ -465,7 +464,7 @@ turn-all e xs (g ∷ gs) h k = turn-join e xs g gs h k
 
 -- All pairs with the key were cut out.
 pub cut-whole : {e : Encoding} {key : List ℕ} {gs : List (List HeldLine)} {front source : List ℕ} {index : Index}
-    → IsCutTo e key gs front source index.spans.items index []
+    → IsCutTo e key gs front source (spans_of index) index []
     → IsCutWhole e key gs front source index
 cut-whole {e} {key} {gs} {front} {source} {index} h =
     let groups = h.kept ++ h.rest in
@@ -512,11 +511,12 @@ front-turn e [] mid new old is h k fits = absurd h.turn
 front-turn e (g ∷ gs) mid new old is h k fits =
     let first = empty_group (Some lf) in
     let said : outcome first ≡ ignored = empty-said e (Some lf) first (empty-lines e (Some lf)) refl in
-    let moved = listed-shifted (shifted (shift.Moved 0 1)) h.listed (pairs_from 0 (first ∷ g ∷ gs)) (front-shift first (g ∷ gs) said refl fits) in
+    let parts = parts-moved 0 1 old.spans.items is.spans.items k.spans.size (λ i low. k.spans.done i (omega arith) low) in
+    let moved = listed-shifted (carried 0 1) h.listed (pairs_from 0 (first ∷ g ∷ gs)) (front-shift first (g ∷ gs) said refl fits) in
     record {
       turn = ((lf, empty-lines e (Some lf), empty-whole (Some lf)), h.turn);
       sound = (inl (subst IsSound (sym said) tt), h.sound);
-      listed = listed-as moved refl k.spans (λ j. ap (λ m. stored_places m.entries j) k.pairs) (λ j. ap (λ m. stored_value m.entries j) k.pairs);
+      listed = listed-as moved refl parts (λ j. ap (λ m. stored_places m.entries j) k.pairs) (λ j. ap (λ m. stored_value m.entries j) k.pairs);
       closing = k.closing ∙ h.closing;
       ordered = subst (IsOrdered string_cmp) (sym k.pairs) h.ordered;
     }
@@ -553,7 +553,7 @@ module _ (e : Encoding) (opened : BodyStart) (old key : List ℕ) (force : IsInF
       removed-kept force ok (removed-bytes key new force bytes)
       (subst (λ v. AreSound (held_groups_of f v) × IsIndex (held_groups_of f v) is) (sym back) kept)
 
-  -- What is left is guarded if it begins like a mark.
+  -- What is left is guarded if it begins like a byte order mark.
   pub removal-ends : (mid new : List ℕ) (cut is : Index) → IsCutWhole f key (held_groups_of f body) front mid cut → length new < 2 ^ 64
       → GuardsFront (opened.start == 0 && begins_like_bom mid) mid cut new is → IsKept (IsKeyRemoved e old key new) e opened new is
   removal-ends mid new cut is w fits guards = elim (cases_Bool is_guarded) [

@@ -1,21 +1,17 @@
 -- A body in which a pair gets another value: its groups are those of the body with one replaced.
-use Rattle.std.proofs.Common.{◌≡◌, ◌≢◌, ◌<◌, ℕ, ◌+◌, Bool, true, false, List, [], ◌∷◌, ◌++◌, refl, ap, sym, ◌∙◌, append_assoc, subst, length, length-append, arith}
+use Rattle.std.proofs.Common.{◌≡◌, ℕ, Bool, true, false, List, [], ◌∷◌, ◌++◌, ap, sym, ◌∙◌, append_assoc, subst}
 use Rattle.std.specs.Prelude.{All}
 use Rattle.properties_format.specs.Text.{scalar}
 use Rattle.properties_format.specs.Encoding.{Encoding}
-use Rattle.properties_format.specs.Split.{AreBlanks}
-use Rattle.properties_format.specs.Computed.Cut.{decoded_line}
 use Rattle.properties_format.specs.Printing.{encoded_text}
 use Rattle.properties_format.specs.Body.{HeldLine, as_lines, AreGroupsOf, group_bytes, groups_bytes, ending_bytes, last_ending}
 use Rattle.properties_format.specs.Groups.{IsWhole}
 use Rattle.properties_format.specs.Edited.{is_editable, is_empty_line}
-use Rattle.properties_format.specs.Valued.{HasPair, IsFrontOf, value_text}
+use Rattle.properties_format.specs.Valued.{HasPair, value_text}
 use Rattle.properties_format.specs.Computed.Body.{held_groups_of}
 use Rattle.properties_format.specs.Computed.Edited.{KeyPlace}
 use Rattle.properties_format.specs.Computed.Parts.{unended_bytes}
 use Rattle.properties_format.specs.Computed.Valued.{front_of, between_of, revalued_at}
-use Rattle.properties_format.proofs.Cut.Byline.{decoded_line-only}
-use Rattle.properties_format.proofs.Body.Decoded.{decoded-nil}
 use Rattle.properties_format.proofs.Body.Groups.{IsLastFit, AreFit, held_groups_of-meets, held_groups_of-only}
 use Rattle.properties_format.proofs.Edited.Made as made
 use Rattle.properties_format.proofs.Edited.Made.{last_place-meets}
@@ -25,27 +21,8 @@ use Rattle.properties_format.proofs.Valued.Made.{group-decoded, raw-pair}
 use Rattle.properties_format.proofs.Valued.Lined.{AreLined, groups-lined, lined-groups, fit-parts, fit-first, changed-lined, plain-lines, group-plain}
 use Rattle.properties_format.proofs.Valued.Pair.{new_bytes, new_line, changed-pair}
 use Rattle.properties_format.proofs.Valued.Groups.{revalued-bytes}
-use Rattle.properties_format.proofs.Valued.Read.{front-unended}
 use Rattle.properties_format.proofs.Edited.Parts.{unended-kept}
 use Rattle.properties_format.proofs.Edited.Replaced.{push-full}
-
--- ---- sizes
-
-some-size : (x : List ℕ) → x ≢ [] → 0 < length x
-some-size [] h = absurd (h refl)
-some-size (c ∷ x) h = omega arith
-
--- The head of a pair isn't empty, so neither is the pair.
-pair-size : (e : Encoding) (group : List HeldLine) (between front : List ℕ) (f : IsFrontOf e group between front) → 0 < length (unended_bytes group)
-pair-size e group between front f =
-    let head : 0 < length f.head =
-    some-size f.head
-    (λ q. f.not_blank (subst AreBlanks (sym (decoded_line-only e f.head f.head_text f.is_head ∙ ap (decoded_line e) q ∙ decoded-nil e)) tt)) in
-    let rest = unended_bytes (record { bytes = f.tail; text = f.line.text; ending = f.line.ending } ∷ f.more) in
-    let whole : length (unended_bytes group) ≡ length front + length rest =
-    ap length (front-unended e group between front f) ∙ length-append front rest in
-    let front_size : length front ≡ length (group_bytes f.kept) + length f.head = ap length f.bytes ∙ length-append (group_bytes f.kept) f.head in
-    omega arith
 
 -- ---- the groups
 
@@ -56,7 +33,6 @@ pub record IsRegrouped (e : Encoding) (only : Bool) (key value : List ℕ) (p : 
   pub has_pair : HasPair key value group
   pub ending : last_ending group ≡ last_ending p.group
   pub bytes : unended_bytes group ≡ front_of e p.group ++ encoded_text e (value_text e only (between_of p.group) value)
-  pub old_size : 0 < length (unended_bytes p.group)
   pub full : is_empty_line group ≡ false
   pub whole : IsWhole (as_lines group)
 
@@ -97,7 +73,6 @@ regrouped e only body key value p ok v m =
           unended-kept f.kept line
           ∙ sym (append_assoc (group_bytes f.kept) f.head (encoded_text e (value_text e only between value)))
           ∙ ap (λ w. w ++ encoded_text e (value_text e only between value)) (sym f.bytes);
-      old_size = pair-size e p.group between front f;
       full = push-full f.kept line c.some;
       whole = c.whole;
     }

@@ -1,10 +1,11 @@
 -- The pairs of groups, and what changes of a body do to their parts.
-use Rattle.std.proofs.Common.{◌≡◌, ◌<◌, ◌≤◌, ℕ, ◌+◌, ◌-◌, ◌^◌, false, List, [], ◌∷◌, ◌++◌, Option, Some, None, refl, ap, ap₂, sym, ◌∙◌, subst, inl, inr, length, length-append, arith}
-use Rattle.std.specs.Prelude.{min, ◌==◌, nat_lt, if◌then◌else◌}
+use Rattle.std.proofs.Common.{◌≡◌, ◌<◌, ◌≤◌, ℕ, zero, suc, ◌+◌, ◌-◌, ◌%◌, ◌^◌, false, List, [], ◌∷◌, ◌++◌, Option, Some, None, refl, ap, ap₂, sym, ◌∙◌, subst, inl, inr, length, length-append, arith}
+use Rattle.std.specs.Prelude.{min, ◌==◌, if◌then◌else◌, map, option_and_then}
 use Rattle.std.specs.List.{cons_option}
 use Rattle.std.specs.Option.{option_map}
 use Rattle.std.proofs.lemmas.Bool.{cases_Bool, cond-true, cond-false}
 use Rattle.std.proofs.lemmas.Bool.Decides.{nat_tests}
+use Rattle.std.proofs.lemmas.List.{length-map}
 use Rattle.properties_format.specs.Entries.{comment, pair}
 use Rattle.properties_format.specs.Items.{Outcome, ignored, given, broken}
 use Rattle.properties_format.specs.Body.{HeldLine, NoneHasKey, group_bytes, groups_bytes, ending_bytes, last_ending}
@@ -14,8 +15,8 @@ use Rattle.properties_format.proofs.Body.Groups.{groups_bytes-append}
 use Rattle.properties_format.proofs.Edited.Made.{has_key-false, no_key-test}
 use Rattle.properties_format.proofs.InTurn.Lines.{bytes-unended}
 use Rattle.properties_items.specs.FoundItems.{outcome_pair}
-use Rattle.properties_editing.specs.Private.BodyIndex.{IsListed, PairAt, all_shifted, lengthened_span, moved_to, outcome, paired, pairs_from, shifted, span_of}
-use Rattle.properties_editing.specs.declared.edit.index.Shift.TheVariants as shift
+use Rattle.properties_editing.specs.Private.BodyIndex.{AreLongerTo, IsEndMoved, IsListed, PairAt, all_longer, carried_to, lengthened_span, longer, moved_part, outcome, paired, pairs_from, part_in, resized_part, span_at, span_in, span_of, spans_in}
+use Rattle.properties_editing.specs.declared.edit.index.BodyPart.{BodyPart}
 use Rattle.properties_editing.specs.declared.edit.find.BodySpan.{BodySpan}
 use Rattle.properties_editing.proofs.IndexListed.{IsShift, NoneWith, none-places, places-none}
 
@@ -132,51 +133,108 @@ shift-all f n m (g ∷ gs) each =
 
 -- ---- positions
 
-pub moved-low : (old new p : ℕ) → p < old → moved_to old new p ≡ p
-moved-low old new p low = cond-true (nat_lt p old) p (min (p - old + new) (2 ^ 64 - 1)) (grind (arith, nat_tests))
-
-pub moved-high : (old new p q : ℕ) → old ≤ p → q + old ≡ p + new → q < 2 ^ 64 → moved_to old new p ≡ q
-moved-high old new p q high is fits =
-    cond-false (nat_lt p old) p (min (p - old + new) (2 ^ 64 - 1)) (grind (arith, nat_tests))
-    ∙ (let small : min (p - old + new) (2 ^ 64 - 1) ≡ q = omega arith in small)
+-- A position behind a place moves with it.
+pub carried-behind : (old new p q : ℕ) → old ≤ p → q + old ≡ p + new → q < 2 ^ 64 → old < 2 ^ 64 → carried_to old new p ≡ q
+carried-behind old new p q high is fits from = let r : carried_to old new p ≡ q = omega arith in r
 
 pub span-is : (a b c d : ℕ) → a ≡ c → b ≡ d
     → (let s : BodySpan = record { start = a; end = b } in s) ≡ (let t : BodySpan = record { start = c; end = d } in t)
 span-is a b c d h k = ap₂ (λ v w. let s : BodySpan = record { start = v; end = w } in s) h k
 
--- Parts before a change stay,
-pub moved-before : (old new : ℕ) (gs : List (List HeldLine)) (n : ℕ) → n + length (groups_bytes gs) < old
-    → IsShift (shifted (shift.Moved old new)) (pairs_from n gs) (pairs_from n gs)
-moved-before old new gs n low = shift-all (shifted (shift.Moved old new)) n n gs (λ g i j a b c.
-    let size = group-size g in
-    let same : i ≡ j = omega arith in
-    let start : moved_to old new i ≡ j = moved-low old new i (omega arith) ∙ same in
-    let end : moved_to old new (i + length (unended_bytes g)) ≡ j + length (unended_bytes g) =
-    moved-low old new (i + length (unended_bytes g)) (omega arith) ∙ ap (λ v. v + length (unended_bytes g)) same in
-    ap Some (span-is _ _ j (j + length (unended_bytes g)) start end))
+-- a part that moves as far as one position is from another, around 2 ^ 64
+abbrev pub carried : ℕ → ℕ → BodySpan → Option BodySpan
+carried old new s = let t : BodySpan = record { start = carried_to old new s.start; end = carried_to old new s.end } in Some t
 
--- and parts behind it move.
+-- Parts behind a change move.
 pub moved-behind : (old new : ℕ) (gs : List (List HeldLine)) (n m : ℕ) → old ≤ n → m + old ≡ n + new → m + length (groups_bytes gs) < 2 ^ 64
-    → IsShift (shifted (shift.Moved old new)) (pairs_from n gs) (pairs_from m gs)
-moved-behind old new gs n m high is fits = shift-all (shifted (shift.Moved old new)) n m gs (λ g i j a b c.
+    → old < 2 ^ 64 → IsShift (carried old new) (pairs_from n gs) (pairs_from m gs)
+moved-behind old new gs n m high is fits from = shift-all (carried old new) n m gs (λ g i j a b c.
     let size = group-size g in
     ap Some (span-is _ _ j (j + length (unended_bytes g))
-    (moved-high old new i j (omega arith) (omega arith) (omega arith))
-    (moved-high old new (i + length (unended_bytes g)) (j + length (unended_bytes g)) (omega arith) (omega arith) (omega arith))))
+    (carried-behind old new i j (omega arith) (omega arith) (omega arith) from)
+    (carried-behind old new (i + length (unended_bytes g)) (j + length (unended_bytes g)) (omega arith) (omega arith) (omega arith) from)))
 
--- Where a group gets longer or shorter, its end moves.
-pub moved-own : (old new n : ℕ) (g h : List HeldLine) → 0 < length (unended_bytes g) → old ≡ n + length (unended_bytes g)
-    → new ≡ n + length (unended_bytes h) → new < 2 ^ 64
-    → shifted (shift.Moved old new) (span_of n g) ≡ Some (span_of n h)
-moved-own old new n g h some old_is new_is fits =
-    ap Some (span-is _ _ n (n + length (unended_bytes h))
-    (moved-low old new n (omega arith))
-    (moved-high old new (n + length (unended_bytes g)) (n + length (unended_bytes h)) (omega arith) (omega arith) (omega arith)))
+-- ---- parts in an array
+
+-- The part in a place of it.
+pub at-place : (parts : List (Option BodyPart)) (i : ℕ) → span_at (spans_in parts) i ≡ option_map span_in (part_in parts i)
+at-place [] i = refl
+at-place (p ∷ parts) zero = refl
+at-place (p ∷ parts) (suc i) = at-place parts i
+
+-- A part that moves is its part moved,
+pub part-moved : (old new : ℕ) (o : Option BodyPart)
+    → option_map span_in (option_map (moved_part old new) o) ≡ option_and_then (carried old new) (option_map span_in o)
+part-moved old new None = refl
+part-moved old new (Some p) =
+    let end : (carried_to old new p.start + p.size) % 2 ^ 64 ≡ carried_to old new ((p.start + p.size) % 2 ^ 64) = omega arith in
+    ap Some (span-is (carried_to old new p.start) _ (carried_to old new p.start) _ refl end)
+
+-- and one whose end moves ends there.
+pub part-resized : (old new : ℕ) (p : BodyPart) → (span_in (resized_part old new p)).end ≡ carried_to old new (span_in p).end
+part-resized old new p = let r : (p.start + carried_to old new p.size) % 2 ^ 64 ≡ carried_to old new ((p.start + p.size) % 2 ^ 64) = omega arith in r
+
+-- Parts that are each what a change makes of another are those after the change.
+pub all-changed : (f : BodySpan → Option BodySpan) (was is : List (Option BodySpan)) → length is ≡ length was
+    → ((i : ℕ) → i < length was → span_at is i ≡ option_and_then f (span_at was i)) → is ≡ map (option_and_then f) was
+all-changed f [] [] size each = refl
+all-changed f [] (n ∷ is) size each = absurd (omega arith)
+all-changed f (o ∷ was) [] size each = absurd (omega arith)
+all-changed f (o ∷ was) (n ∷ is) size each =
+    ap₂ (λ a b. a ∷ b) (each zero (omega arith)) (all-changed f was is (omega arith) (λ i low. each (suc i) (omega arith)))
+
+-- So they are after all of them moved,
+pub parts-moved : (old new : ℕ) (was is : List (Option BodyPart)) → length is ≡ length was
+    → ((i : ℕ) → i < length was → part_in is i ≡ option_map (moved_part old new) (part_in was i))
+    → spans_in is ≡ map (option_and_then (carried old new)) (spans_in was)
+parts-moved old new was is same each =
+    let size = length-map was (option_map span_in) in
+    all-changed (carried old new) (spans_in was) (spans_in is) (length-map is (option_map span_in) ∙ same ∙ sym size) (λ i low.
+    at-place is i ∙ ap (option_map span_in) (each i (omega arith)) ∙ part-moved old new (part_in was i)
+    ∙ ap (option_and_then (carried old new)) (sym (at-place was i)))
+
+-- or got longer.
+pub parts-longer : (place more : ℕ) {count : ℕ} (was is : List (Option BodyPart)) → AreLongerTo place more count was is → length was ≤ count
+    → spans_in is ≡ all_longer place more (spans_in was)
+parts-longer place more was is h most =
+    let size = length-map was (option_map span_in) in
+    all-changed (longer place more) (spans_in was) (spans_in is) (length-map is (option_map span_in) ∙ h.size ∙ sym size) (λ i low.
+    at-place is i ∙ h.done i (omega arith) ∙ ap (option_and_then (longer place more)) (sym (at-place was i)))
+
+-- Where the end of one part moved, it and those behind it are changed so.
+pub end-moved : (old new : ℕ) (front back : List (Option BodySpan)) (s : BodySpan) (was is : List (Option BodyPart))
+    → IsEndMoved (length front) old new was is → spans_in was ≡ front ++ Some s ∷ back
+    → spans_in is ≡ front ++ Some (record { start = s.start; end = carried_to old new s.end }) ∷ map (option_and_then (carried old new)) back
+end-moved old new [] back s [] is h at = absurd (cc)
+end-moved old new [] back s (None ∷ was) is h at = absurd (cc)
+end-moved old new [] back s (Some p ∷ was) [] h at = absurd (let size = h.size in omega arith)
+end-moved old new [] back s (Some p ∷ was) (q ∷ is) h at =
+    let same : span_in p ≡ s = cc in
+    let rest : spans_in was ≡ back = cc in
+    let own : q ≡ Some (resized_part old new p) = h.own in
+    let size = h.size in
+    ap₂ (λ a b. a ∷ b)
+    (ap (option_map span_in) own
+    ∙ ap Some (span-is p.start _ s.start _ (ap (λ v. v.start) same) (part-resized old new p ∙ ap (λ v. carried_to old new v.end) same)))
+    (parts-moved old new was is (omega arith) (λ i low. h.behind (suc i) (omega arith) (omega arith)) ∙ ap (map (option_and_then (carried old new))) rest)
+end-moved old new (o ∷ front) back s [] is h at = absurd (cc)
+end-moved old new (o ∷ front) back s (p ∷ was) [] h at = absurd (let size = h.size in omega arith)
+end-moved old new (o ∷ front) back s (p ∷ was) (q ∷ is) h at =
+    let first : option_map span_in p ≡ o = cc in
+    let rest : spans_in was ≡ front ++ Some s ∷ back = cc in
+    let size = h.size in
+    ap₂ (λ a b. a ∷ b) (ap (option_map span_in) (h.before zero (omega arith)) ∙ first)
+    (end-moved old new front back s was is (record {
+      size = omega arith;
+      before = λ i low. h.before (suc i) (omega arith);
+      own = h.own;
+      behind = λ i high low. h.behind (suc i) (omega arith) (omega arith);
+    }) rest)
 
 -- ---- parts that get no longer
 
 -- A part that gets longer by nothing stays.
-pub none-longer : (place : ℕ) → place < 2 ^ 64 → (spans : List (Option BodySpan)) → all_shifted (shift.Lengthened place 0) spans ≡ spans
+pub none-longer : (place : ℕ) → place < 2 ^ 64 → (spans : List (Option BodySpan)) → all_longer place 0 spans ≡ spans
 none-longer place fits [] = refl
 none-longer place fits (None ∷ spans) = ap (λ v. None ∷ v) (none-longer place fits spans)
 none-longer place fits (Some s ∷ spans) = ap₂ (λ v w. Some v ∷ w) (same s) (none-longer place fits spans)

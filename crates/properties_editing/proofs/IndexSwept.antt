@@ -1,8 +1,9 @@
 -- The pairs with a key, cut out of a source and its index in one sweep: between two cuts the bytes before and behind it
 -- are, in thought, those from which the pairs so far were cut out one after the other.
-use Rattle.std.proofs.Common.{◌≡◌, ◌<◌, ◌≤◌, ◌==◌, ℕ, zero, suc, ◌+◌, ◌-◌, ◌^◌, true, List, [], ◌∷◌, ◌++◌, Option, Some, None, take, drop, length, refl, ap, ap₂, sym, ◌∙◌, subst, inl, inr, length-append, length-drop, arith}
+use Rattle.std.proofs.Common.{◌≡◌, ◌<◌, ◌≤◌, ◌==◌, ℕ, zero, suc, ◌+◌, ◌-◌, ◌%◌, ◌^◌, true, List, [], ◌∷◌, ◌++◌, Option, Some, None, take, drop, length, refl, ap, ap₂, sym, ◌∙◌, subst, inl, inr, length-append, length-drop, arith}
 use Rattle.std.specs.Prelude.{if◌then◌else◌, map, nat_lt, option_and_then}
 use Rattle.std.specs.List.{copy_within}
+use Rattle.std.specs.Option.{option_map}
 use Rattle.std.proofs.Math.Seq.{take-append-add, drop-append-add}
 use Rattle.std.proofs.lemmas.Bool.{cases_Bool}
 use Rattle.std.proofs.lemmas.Bool.Decides.{nat_tests}
@@ -14,8 +15,9 @@ use Rattle.properties_format.specs.Computed.Parts.{unended_bytes}
 use Rattle.properties_format.proofs.Body.Groups.{groups_bytes-append}
 use Rattle.std.specs.BTreeMap.{IsOrdered}
 use Rattle.std.specs.String.{string_cmp}
-use Rattle.properties_editing.specs.Private.BodyIndex.{ending_size, last_value, pairs_from, span_at, span_of, stored_at, stored_places, stored_value}
+use Rattle.properties_editing.specs.Private.BodyIndex.{ending_size, last_value, pairs_from, part_in, span_at, span_in, span_of, spans_in, spans_of, stored_at, stored_places, stored_value}
 use Rattle.properties_editing.specs.Private.BodySweep.{AreLowered, CutsNext, IsAhead, IsNextCut, lowered}
+use Rattle.properties_editing.specs.declared.edit.index.BodyPart.{BodyPart}
 use Rattle.properties_editing.specs.declared.edit.index.Index.{Index}
 use Rattle.properties_editing.specs.declared.edit.index.sweep.Sweep.{Sweep}
 use Rattle.properties_editing.specs.declared.edit.find.BodySpan.{BodySpan}
@@ -24,7 +26,7 @@ use Rattle.properties_editing.proofs.IndexCut.{AreFrom, HasCut, all_cut, cut-own
 use Rattle.properties_editing.proofs.IndexListed.{changed_at, listed-as}
 use Rattle.properties_editing.proofs.IndexRemoved.{IsCutTo, after, cut-end, cut-step, end, first, g, left_bytes, n, skip, some-bytes, some-first, whole-size}
 use Rattle.properties_editing.proofs.IndexKeys.{some-inside}
-use Rattle.properties_editing.proofs.IndexSpans.{group-size, size-around, span-is}
+use Rattle.properties_editing.proofs.IndexSpans.{at-place, group-size, size-around, span-is}
 
 -- ---- parts up and down
 
@@ -33,21 +35,39 @@ raised-none None k h = refl
 raised-none (Some s) k h = ap Some (span-is _ _ s.start s.end (omega arith) (omega arith))
 
 -- Down by nothing all parts are as they were.
-pub none-lowered : (by from to : ℕ) → by ≡ 0 → (spans : List (Option BodySpan)) → AreLowered by from to spans spans
+pub none-lowered : (by from to : ℕ) → by ≡ 0 → (spans : List (Option BodyPart)) → AreLowered by from to spans spans
 none-lowered by from to none spans =
-    record { size = refl; done = λ i low high. own (span_at spans i); before = λ i low. refl; behind = λ i high. refl }
+    record { size = refl; done = λ i low high. own (part_in spans i); before = λ i low. refl; behind = λ i high. refl }
   where
-    own : (o : Option BodySpan) → o ≡ lowered by o
+    own : (o : Option BodyPart) → o ≡ lowered by o
     own None = refl
-    own (Some s) = ap Some (span-is s.start s.end _ _ (omega arith) (omega arith))
+    own (Some p) =
+        let same : p.start ≡ p.start - by = omega arith in
+        ap (λ v. let q : BodyPart = record { start = v; size = p.size } in Some q) same
 
-lowered-raised : (k : ℕ) (o : Option BodySpan) → lowered k (raised k o) ≡ o
-lowered-raised k None = refl
-lowered-raised k (Some s) = ap Some (span-is _ _ s.start s.end (omega arith) (omega arith))
+-- and what was up is where it was.
+lowered-raised : (k : ℕ) (part : Option BodyPart) (o : Option BodySpan) → option_map span_in part ≡ raised k o → option_map span_in (lowered k part) ≡ o
+lowered-raised k None None h = refl
+lowered-raised k None (Some s) h = absurd (cc)
+lowered-raised k (Some p) None h = absurd (cc)
+lowered-raised k (Some p) (Some s) h =
+    let same : span_in p ≡ raised_span k s = cc in
+    let start : p.start ≡ s.start + k = ap (λ v. v.start) same in
+    let end : (p.start + p.size) % 2 ^ 64 ≡ s.end + k = ap (λ v. v.end) same in
+    ap Some (span-is (p.start - k) ((p.start - k + p.size) % 2 ^ 64) s.start s.end (omega arith) (omega arith))
 
 raised-more : (j k m : ℕ) (o : Option BodySpan) → m ≡ j + k → raised m o ≡ raised j (raised k o)
 raised-more j k m None h = refl
 raised-more j k m (Some s) h = ap Some (span-is _ _ (s.start + k + j) (s.end + k + j) (omega arith) (omega arith))
+
+-- What is the same in an array is the same part, and what is down is the part that was up.
+same-place : (old new : List (Option BodyPart)) (i : ℕ) → part_in new i ≡ part_in old i → span_at (spans_in new) i ≡ span_at (spans_in old) i
+same-place old new i same = at-place new i ∙ ap (option_map span_in) same ∙ sym (at-place old i)
+
+down-place : (k : ℕ) (old new : List (Option BodyPart)) (i : ℕ) {o : Option BodySpan} → part_in new i ≡ lowered k (part_in old i)
+    → span_at (spans_in old) i ≡ raised k o → span_at (spans_in new) i ≡ o
+down-place k old new i {o} down up =
+    at-place new i ∙ ap (option_map span_in) down ∙ lowered-raised k (part_in old i) o (sym (at-place old i) ∙ up)
 
 -- ---- a source with a gap
 
@@ -140,25 +160,25 @@ pub record IsSweptTo (e : Encoding) (key : List ℕ) (gs : List (List HeldLine))
   pub within : sweep.read ≤ length source
   pub size : length index.spans.items ≡ length spans
   pub inside : sweep.place ≤ length spans
-  pub done : (i : ℕ) → i < sweep.place → span_at index.spans.items i ≡ span_at spans i
-  pub left : (i : ℕ) → sweep.place ≤ i → span_at index.spans.items i ≡ raised (sweep.read - sweep.write) (span_at spans i)
+  pub done : (i : ℕ) → i < sweep.place → span_at (spans_of index) i ≡ span_at spans i
+  pub left : (i : ℕ) → sweep.place ≤ i → span_at (spans_of index) i ≡ raised (sweep.read - sweep.write) (span_at spans i)
   pub later : AreFrom sweep.place places
 
 -- A sweep begins at the front of the body.
 pub swept-begin : {e : Encoding} {key : List ℕ} {gs : List (List HeldLine)} {source : List ℕ} {index : Index} {places : List ℕ} (start : ℕ)
-    → start ≤ length source → (h : IsCutTo e key gs (take start source) source index.spans.items index places) → h.kept ≡ [] → AreFrom 0 places
+    → start ≤ length source → (h : IsCutTo e key gs (take start source) source (spans_of index) index places) → h.kept ≡ [] → AreFrom 0 places
     → IsSweptTo e key gs (take start source) (record { write = start; read = start; place = 0 }) source index places
 swept-begin {e} {key} {gs} {source} {index} {places} start within h none from =
     record {
-      spans = index.spans.items;
+      spans = spans_of index;
       cut = same-bytes (around start start source) (take-append-drop start source) h;
       write = let a = length-take-le start source within in let b = ap (λ v. length (groups_bytes v)) none in omega arith;
       order = omega arith;
       within = within;
-      size = refl;
+      size = sym (length-map index.spans.items (option_map span_in));
       inside = omega arith;
       done = λ i low. refl;
-      left = λ i low. sym (raised-none (span_at index.spans.items i) (start - start) (omega arith));
+      left = λ i low. sym (raised-none (span_at (spans_of index) i) (start - start) (omega arith));
       later = from;
     }
 
@@ -206,7 +226,7 @@ module _ {e : Encoding} {key : List ℕ} {gs : List (List HeldLine)} {front : Li
   abbrev stop : ℕ
   stop = end start start_is h.cut thought-fits
 
-  part : span_at index.spans.items place ≡ Some (raised_span gap (span_of own group))
+  part : span_at (spans_of index) place ≡ Some (raised_span gap (span_of own group))
   part = h.left place h.later.0 ∙ ap (raised gap) (first start start_is h.cut thought-fits).0
 
   kept-low : length (groups_bytes h.cut.kept) ≤ own
@@ -228,7 +248,7 @@ module _ {e : Encoding} {key : List ℕ} {gs : List (List HeldLine)} {front : Li
   text-high = let c = group-size group in omega arith
 
   -- The pair is ahead.
-  pub swept-ahead : IsAhead start sweep source (span_at index.spans.items place)
+  pub swept-ahead : IsAhead start sweep source (span_at (spans_of index) place)
   swept-ahead =
       let a = own-low in let b = own-high in let c = text-high in let d = thought-size in let k = h.order in
       subst (IsAhead start sweep source) (sym part) ((omega arith), (omega arith), (omega arith))
@@ -240,7 +260,7 @@ module _ {e : Encoding} {key : List ℕ} {gs : List (List HeldLine)} {front : Li
       ap ending_size (ap (λ v. drop v source) at ∙ sym (around-drop sweep.write sweep.read source h.order h.within (start + (own + text)) (omega arith)))
 
   -- What is known goes on with the pair cut out, and the gap is wider.
-  pub swept-step : (next : Sweep) (new : List ℕ) (is : Index) → CutsNext start sweep place (span_at index.spans.items place) source index next new is
+  pub swept-step : (next : Sweep) (new : List ℕ) (is : Index) → CutsNext start sweep place (span_at (spans_of index) place) source index next new is
       → IsSweptTo e key gs front next new is places × (next.write < next.read)
   swept-step next new is cuts =
       let k : IsNextCut start sweep place (raised_span gap (span_of own group)) source index next new is =
@@ -285,7 +305,7 @@ module _ {e : Encoding} {key : List ℕ} {gs : List (List HeldLine)} {front : Li
           inside = omega arith;
           done = λ i before. by-place i (omega arith) k parts found.0 some ∙ sym (at-shifted f h.spans i);
           left = λ i behind.
-              k.spans.behind i (omega arith) ∙ h.left i (let a = h.later.0 in omega arith)
+              same-place index.spans.items is.spans.items i (k.spans.behind i (omega arith)) ∙ h.left i (let a = h.later.0 in omega arith)
               ∙ ap (raised gap) (sym (parts.behind i (omega arith)))
               ∙ sym (raised-more gap (length (group_bytes group)) (next.read - next.write) (option_and_then f (span_at h.spans i)) (omega arith))
               ∙ ap (raised (next.read - next.write)) (sym (at-shifted f h.spans i));
@@ -298,7 +318,7 @@ module _ {e : Encoding} {key : List ℕ} {gs : List (List HeldLine)} {front : Li
           → IsNextCut start sweep place (raised_span gap (span_of own group)) source index next new is
           → HasCut (cut_from own stop) (length (group_bytes group)) place places h.spans
           → span_at h.spans place ≡ Some (span_of own group) → 0 < length (group_bytes group)
-          → span_at is.spans.items i ≡ option_and_then (cut_from own stop) (span_at h.spans i)
+          → span_at (spans_of is) i ≡ option_and_then (cut_from own stop) (span_at h.spans i)
       by-place i most k parts found some =
           let f = cut_from own stop in
           elim (cases_Bool (nat_lt i place)) [
@@ -307,14 +327,14 @@ module _ {e : Encoding} {key : List ℕ} {gs : List (List HeldLine)} {front : Li
                 elim (cases_Bool (nat_lt i sweep.place)) [
                   | inl u ↦
                       let before : i < sweep.place = grind (arith, nat_tests) in
-                      k.spans.before i before ∙ h.done i before ∙ sym (parts.before i low)
+                      same-place index.spans.items is.spans.items i (k.spans.before i before) ∙ h.done i before ∙ sym (parts.before i low)
                   | inr u ↦
                       let from : sweep.place ≤ i = grind (arith, nat_tests) in
-                      k.spans.done i from low ∙ ap (lowered gap) (h.left i from) ∙ lowered-raised gap (span_at h.spans i) ∙ sym (parts.before i low)
+                      down-place gap index.spans.items is.spans.items i (k.spans.done i from low) (h.left i from) ∙ sym (parts.before i low)
                 ]
             | inr t ↦
                 let at : i ≡ place = grind (arith, nat_tests) in
-                ap (span_at is.spans.items) at ∙ k.spans.own
+                ap (span_at (spans_of is)) at ∙ at-place is.spans.items place ∙ ap (option_map span_in) k.spans.own
                 ∙ sym (ap (λ j. option_and_then f (span_at h.spans j)) at ∙ ap (option_and_then f) found
                 ∙ cut-own own stop (let a = some in omega arith) (span_of own group) refl)
           ]
@@ -326,17 +346,18 @@ pub swept-ends : {e : Encoding} {key : List ℕ} {gs : List (List HeldLine)} {fr
     → (h : IsSweptTo e key gs front sweep source index []) → (new : List ℕ) (is : Index)
     → new ≡ take sweep.write source ++ drop sweep.read source
     → AreLowered (sweep.read - sweep.write) sweep.place (length index.spans.items) index.spans.items is.spans.items
-    → is.pairs ≡ index.pairs → is.closing ≡ index.closing → IsCutTo e key gs front new is.spans.items is []
+    → is.pairs ≡ index.pairs → is.closing ≡ index.closing → IsCutTo e key gs front new (spans_of is) is []
 swept-ends {key = key} {sweep = sweep} {source} {index} h new is bytes spans pairs closing =
     let c = h.cut in
-    let parts : is.spans.items ≡ h.spans = same-parts h.spans is.spans.items (spans.size ∙ h.size) (λ i inside.
+    let parts : spans_of is ≡ h.spans = same-parts h.spans (spans_of is) (length-map is.spans.items (option_map span_in) ∙ spans.size ∙ h.size) (λ i inside.
     elim (cases_Bool (nat_lt i sweep.place)) [
-      | inl t ↦ let before : i < sweep.place = grind (arith, nat_tests) in spans.before i before ∙ h.done i before
+      | inl t ↦
+          let before : i < sweep.place = grind (arith, nat_tests) in
+          same-place index.spans.items is.spans.items i (spans.before i before) ∙ h.done i before
       | inr t ↦
           let from : sweep.place ≤ i = grind (arith, nat_tests) in
           let size = h.size in
-          spans.done i from (omega arith) ∙ ap (lowered (sweep.read - sweep.write)) (h.left i from)
-          ∙ lowered-raised (sweep.read - sweep.write) (span_at h.spans i)
+          down-place (sweep.read - sweep.write) index.spans.items is.spans.items i (spans.done i from (omega arith)) (h.left i from)
     ]) in
     record {
       kept = c.kept;

@@ -1,4 +1,4 @@
--- What a repertoire prints is what is meant in an encoding, in ASCII alone or not.
+-- What a repertoire prints is what is meant in an encoding, in ASCII only or not.
 use Rattle.std.proofs.Common.{true}
 use Rattle.properties_format.specs.Encoding.{Encoding, utf_8}
 use Rattle.properties_format.specs.Printing.{in_key_or_value}

@@ -9,7 +9,7 @@ use Rattle.properties_editing.specs.Editing.{AreMade, HasValueSet, IsRefusal, Is
 use Rattle.properties_items.specs.declared.error.PropertiesError.{PropertiesError}
 
 -- A document as its callers see it: the requested encoding, the document's bytes, and whether what is put in is written
--- in ASCII alone.
+-- in ASCII only.
 pub record OpenDocument : Type 0 where
   pub encoding : Encoding
   pub bytes : List ℕ
@@ -20,7 +20,7 @@ abbrev pub OpensDocument : Encoding → List ℕ → Result OpenDocument Propert
 OpensDocument e source (Ok d) = (d ≡ record { encoding = e; bytes = source; ascii_only = false }) × AreMade e false source [] source
 OpensDocument e source (Err error) = IsRefusal (IsEditAllResult e false source []) error
 
--- What the edits after this put in is written in ASCII alone, or not. All else is as it was.
+-- What the edits after this put in is written in ASCII only, or not. All else is as it was.
 abbrev pub TurnsAsciiOnly : Bool → OpenDocument → OpenDocument → Type 0
 TurnsAsciiOnly only old new = new ≡ record old { ascii_only = only }
 

@@ -35,8 +35,8 @@ pub record IsEdit (IsMeant : EditResult → Type 0) (Reads : List ℕ → Type 0
 
 -- ---- a key
 
--- The source with a key set, in ASCII alone or not: its result, how it reads, that it keeps every group but the last pair
--- with the key, and that in ASCII alone only ASCII is put in.
+-- The source with a key set, in ASCII only or not: its result, how it reads, that it keeps every group but the last
+-- pair with the key, and that in ASCII-only form nothing else is put in.
 pub record IsSet (e : Encoding) (only : Bool) (source key value bytes : List ℕ) : Type 0 where
   pub edit : IsEdit (IsSetKeyResult e only source key value) (ReadsAfter (IsSetIn key value) (map_edited (put key value)) e source) bytes
   pub keeps : KeepsOthers (AreOthersThanLast key) e source bytes
@@ -49,9 +49,9 @@ MakesSet e only source key value (Err error) = IsRefusal (IsSetKeyResult e only 
 abbrev pub SetsKey : Encoding → List ℕ → List ℕ → List ℕ → Result (Vec ℕ) PropertiesError → Type 0
 SetsKey e source key value result = MakesSet e false source key value result
 
--- The source with the value of a key set, in ASCII alone or not: its result, how it reads, that it keeps every group but
--- the last pair with the key, that it keeps every byte outside that pair's value, and that in ASCII alone only ASCII is
--- put in.
+-- The source with the value of a key set, in ASCII only or not: its result, how it reads, that it keeps every group but
+-- the last pair with the key, that it keeps every byte outside that pair's value, and that in ASCII-only form nothing
+-- else is put in.
 pub record HasValueSet (e : Encoding) (only : Bool) (source key value bytes : List ℕ) : Type 0 where
   pub edit : IsEdit (IsSetValueResult e only source key value) (ReadsAfter (IsSetIn key value) (map_edited (put key value)) e source) bytes
   pub keeps : KeepsOthers (AreOthersThanLast key) e source bytes
@@ -84,8 +84,8 @@ edit_in (SetValue key value) = set_value (chars (string_bytes key)) (chars (stri
 abbrev pub edits_in : List Edit → List format.Edit
 edits_in edits = map edit_in edits
 
--- The source after edits, in ASCII alone or not: its result, how it reads, that each edit keeps the rest of what the one
--- before it gave, and that in ASCII alone only ASCII is put in.
+-- The source after edits, in ASCII only or not: its result, how it reads, that each edit keeps the rest of what the one
+-- before it gave, and that in ASCII-only form nothing else is put in.
 pub record AreMade (e : Encoding) (only : Bool) (source : List ℕ) (edits : List format.Edit) (bytes : List ℕ) : Type 0 where
   pub edit : IsEdit (IsEditAllResult e only source edits) (ReadsAfter (AreEditedIn edits) (map_after edits) e source) bytes
   pub keeps : AreKept e only source edits bytes
@@ -103,7 +103,8 @@ EditsAllAscii e source edits result = MakesEdits e true source edits result
 
 -- The source after edits that ask nothing of comments: its result and that there is no other, that its pairs, their map
 -- and its logical lines are those of the source after the same edits, that its malformed escapes are in comments as
--- well, that each edit keeps the rest of what the one before it gave, and that in ASCII alone only ASCII is put in.
+-- well, that each edit keeps the rest of what the one before it gave, and that in ASCII-only form nothing else is put
+-- in.
 pub record ArePairsMade (e : Encoding) (only : Bool) (source : List ℕ) (edits : List format.Edit) (bytes : List ℕ) : Type 0 where
   pub result : IsEditPairsResult e only source edits (edited bytes)
   pub only_one : (other : EditResult) → IsEditPairsResult e only source edits other → other ≡ edited bytes

@@ -68,7 +68,7 @@ pub fn set_key(
     set_key_with(alloc, source, encoding, false, Comments::Read, key, value)
 }
 
-// Returns the source with a key set to a value, which are written in ASCII alone or not.
+// Returns the source with a key set to a value, which are written in ASCII only or not.
 fn set_key_with(
     alloc: Global,
     source: &[u8],
@@ -137,7 +137,7 @@ pub fn set_value(
     set_value_with(alloc, source, encoding, false, Comments::Read, key, value)
 }
 
-// Returns the source with the value of a key set, which is written in ASCII alone or not.
+// Returns the source with the value of a key set, which is written in ASCII only or not.
 fn set_value_with(
     alloc: Global,
     source: &[u8],
@@ -247,12 +247,12 @@ pub fn edit_all(
     edit_all_with(alloc, source, encoding, false, Comments::Read, edits)
 }
 
-/// Returns the source after these edits, as [`edit_all`] does, and writes ASCII alone: in a key or a value that an edit
+/// Returns the source after these edits, as [`edit_all`] does, and writes ASCII only: in a key or a value that an edit
 /// puts in, every character past U+007F becomes a `\u` escape, or two above U+FFFF.
 ///
-/// What stands in the source and isn't replaced stays as it is, also past ASCII. If the source is ASCII, so is the
-/// result, and it has the same items in windows-1252 and in UTF-8. If Java reads the file by `Properties.load`, from an
-/// `InputStream`, characters past U+00FF need such escapes, and in UTF-8 all past U+007F.
+/// What stands in the source and isn't replaced stays as it is, also if it isn't ASCII. If the source is ASCII, so is
+/// the result, and it has the same items in windows-1252 and in UTF-8. If Java reads the file by `Properties.load`,
+/// from an `InputStream`, characters past U+00FF need such escapes, and in UTF-8 all past U+007F.
 ///
 /// ```text
 /// let edits = vec![in alloc; Edit::SetValue(price, value)]?;
@@ -301,7 +301,7 @@ pub fn edit_pairs(
     )
 }
 
-// Returns the source after these edits, which are written in ASCII alone or not.
+// Returns the source after these edits, which are written in ASCII only or not.
 fn edit_all_with(
     alloc: Global,
     source: &[u8],

@@ -14,14 +14,14 @@ ghost use Rattle.properties_format.specs.EditLaws.{SettingAValueAgainChangesNoth
 ghost use Rattle.properties_format.specs.EditLaws.{NoEditsChangeNothing, OneEditIsItsCall, ListsOfEditsFollow};
 ghost use Rattle.properties_format.specs.EditLaws.{PassingOverIsReading, ValueIsAmongPairs};
 
-/// The effects of edits, for every source, in ASCII alone or not. Removing a key that no pair has changes no byte.
+/// The effects of edits, for every source, in ASCII only or not. Removing a key that no pair has changes no byte.
 /// Setting a key twice is the same as setting it once, to the later value. After a key is set, the map has its value;
 /// after a key is removed, the map has no value for it. Every other key keeps its value.
 ///
 /// A value that is set with its layout kept is in the map as well. Setting the value that a key has changes no byte,
 /// nor does setting a value again. Setting a value twice is the same as setting it once, to the later value, if the
 /// source doesn't have the later value already. Setting the value of a pair in what a writer wrote, with readable output
-/// on, gives what the writer writes with that value, if no later pair has its key. The edit is in ASCII alone exactly if
+/// on, gives what the writer writes with that value, if no later pair has its key. The edit is in ASCII only exactly if
 /// the writer printed the pair so.
 ///
 /// An empty list of edits returns the source. A list of one edit is the same as the call for that edit. Two lists of

@@ -1,6 +1,6 @@
 -- Which pair a logical line is, and what an index of a body's pairs says.
 pub mod Keys
-use Rattle.std.specs.Prelude.{◌≡◌, ◌⊎◌, bytes_eq, nat_lt, ◌==◌, ℕ, ◌+◌, ◌-◌, ◌^◌, ◌≤◌, ◌<◌, min, Bool, true, false, if◌then◌else◌, List, [], ◌∷◌, ◌++◌, map, length, take, drop, get_or, filter_map, suc, Option, Some, None, option_and_then, Result, Ok, Err}
+use Rattle.std.specs.Prelude.{◌≡◌, ◌⊎◌, bytes_eq, nat_lt, ◌==◌, ℕ, ◌+◌, ◌-◌, ◌%◌, ◌^◌, ◌≤◌, ◌<◌, min, Bool, true, false, if◌then◌else◌, List, [], ◌∷◌, ◌++◌, map, length, take, drop, get_or, filter_map, suc, Option, Some, None, option_and_then, Result, Ok, Err}
 use Rattle.std.specs.List.{cons_option}
 use Rattle.std.specs.Option.{is_some, option_map}
 use Rattle.std.specs.Map.{lookup, update}
@@ -31,8 +31,7 @@ use Rattle.properties_editing.specs.declared.edit.source.Comments.{Comments}
 use Rattle.properties_editing.specs.declared.edit.groups.Group.{Group}
 use Rattle.properties_editing.specs.declared.edit.index.Index.{Index}
 use Rattle.properties_editing.specs.declared.edit.index.IndexedPair.{IndexedPair}
-use Rattle.properties_editing.specs.declared.edit.index.Shift.{Shift}
-use Rattle.properties_editing.specs.declared.edit.index.Shift.TheVariants as shift
+use Rattle.properties_editing.specs.declared.edit.index.BodyPart.{BodyPart}
 use Rattle.properties_editing.specs.declared.edit.find.BodySpan.{BodySpan}
 use Rattle.properties_editing.specs.declared.edit.find.Closing.{Closing}
 use Rattle.properties_editing.specs.declared.edit.find.Closing.TheVariants as closing
@@ -100,13 +99,28 @@ stored_places entries key = places_of (stored_at entries key)
 abbrev pub span_at : List (Option BodySpan) → ℕ → Option BodySpan
 span_at spans place = get_or spans place None
 
+-- the part that is stored so
+abbrev pub span_in : BodyPart → BodySpan
+span_in p = record { start = p.start; end = (p.start + p.size) % 2 ^ 64 }
+
+-- the parts that are
+abbrev pub spans_in : List (Option BodyPart) → List (Option BodySpan)
+spans_in parts = map (option_map span_in) parts
+
+abbrev pub spans_of : Index → List (Option BodySpan)
+spans_of index = spans_in index.spans.items
+
+-- what is in a place of an array
+abbrev pub part_in : List (Option BodyPart) → ℕ → Option BodyPart
+part_in parts place = get_or parts place None
+
 -- where the last pair with a key is
 abbrev pub last_span : List (Option BodySpan) → Option IndexedPair → Option BodySpan
 last_span spans None = None
 last_span spans (Some p) = span_at spans p.place
 
 abbrev pub found_span : Index → List ℕ → Option BodySpan
-found_span index key = last_span index.spans.items (stored_at index.pairs.entries key)
+found_span index key = last_span (spans_of index) (stored_at index.pairs.entries key)
 
 -- the first if there is one, otherwise the second
 abbrev pub span_or : Option BodySpan → Option BodySpan → Option BodySpan
@@ -123,14 +137,14 @@ pub record KeepsPair (key value : List ℕ) (span : BodySpan) (old new : Index) 
   pub pair : IndexedPair
   pub has_value : characters pair.value ≡ value
   pub stored : (k : List ℕ) → stored_at new.pairs.entries k ≡ update bytes_eq (stored_at old.pairs.entries) key (Some pair) k
-  pub places : places_of (Some pair) ≡ places_of (stored_at old.pairs.entries key) ++ length old.spans.items ∷ []
-  pub spans : new.spans.items ≡ old.spans.items ++ Some span ∷ []
+  pub places : places_of (Some pair) ≡ places_of (stored_at old.pairs.entries key) ++ length (spans_of old) ∷ []
+  pub spans : spans_of new ≡ spans_of old ++ Some span ∷ []
   pub ordered : IsOrdered string_cmp new.pairs
 
 -- What is stored is as it was. There may be a place more that is empty.
 pub record KeepsNothing (old new : Index) : Type 0 where
   pub stored : (k : List ℕ) → stored_at new.pairs.entries k ≡ stored_at old.pairs.entries k
-  pub spans : (new.spans.items ≡ old.spans.items) ⊎ (new.spans.items ≡ old.spans.items ++ None ∷ [])
+  pub spans : (spans_of new ≡ spans_of old) ⊎ (spans_of new ≡ spans_of old ++ None ∷ [])
   pub closing : new.closing ≡ old.closing
   pub ordered : IsOrdered string_cmp new.pairs
 
@@ -175,7 +189,7 @@ pub record IsListed (pairs : List PairAt) (places : List ℕ → List ℕ) (valu
 
 -- So it is of pairs and of what is stored,
 abbrev pub ListsPairs : List PairAt → Index → Type 0
-ListsPairs pairs index = IsListed pairs (stored_places index.pairs.entries) (stored_value index.pairs.entries) index.spans.items
+ListsPairs pairs index = IsListed pairs (stored_places index.pairs.entries) (stored_value index.pairs.entries) (spans_of index)
 
 -- and so of groups and their index, which also says what separates a new pair from the last group.
 pub record IsIndex (groups : List (List HeldLine)) (index : Index) : Type 0 where
@@ -191,43 +205,61 @@ ParsesIndex comments e body (Err error) = IsErrorOfGroups comments (held_groups_
 
 -- ---- parts that change
 
--- a position, after what ended in one place ends in another
-abbrev pub moved_to : ℕ → ℕ → ℕ → ℕ
-moved_to old new p = if nat_lt p old then p else min (p - old + new) (2 ^ 64 - 1)
+-- a position, moved as far as one is from another, around 2 ^ 64
+abbrev pub carried_to : ℕ → ℕ → ℕ → ℕ
+carried_to old new p = (p + (new + (2 ^ 64 - old)) % 2 ^ 64) % 2 ^ 64
 
-abbrev pub moved_span : ℕ → ℕ → BodySpan → BodySpan
-moved_span old new s = record { start = moved_to old new s.start; end = moved_to old new s.end }
+-- a part that moves so, and one whose end alone does
+abbrev pub moved_part : ℕ → ℕ → BodyPart → BodyPart
+moved_part old new p = record { start = carried_to old new p.start; size = p.size }
+
+abbrev pub resized_part : ℕ → ℕ → BodyPart → BodyPart
+resized_part old new p = record { start = p.start; size = carried_to old new p.size }
+
+-- The parts from the first of these places up to the second moved, and no others.
+pub record AreMovedFrom (first count old_at new_at : ℕ) (old new : List (Option BodyPart)) : Type 0 where
+  pub size : length new ≡ length old
+  pub done : (i : ℕ) → first ≤ i → i < count → part_in new i ≡ option_map (moved_part old_at new_at) (part_in old i)
+  pub before : (i : ℕ) → i < first → part_in new i ≡ part_in old i
+  pub left : (i : ℕ) → count ≤ i → part_in new i ≡ part_in old i
+
+-- The end of the part in this place moved, and the parts behind it did.
+pub record IsEndMoved (place old_end new_end : ℕ) (old new : List (Option BodyPart)) : Type 0 where
+  pub size : length new ≡ length old
+  pub before : (i : ℕ) → i < place → part_in new i ≡ part_in old i
+  pub own : part_in new place ≡ option_map (resized_part old_end new_end) (part_in old place)
+  pub behind : (i : ℕ) → place < i → i < length old → part_in new i ≡ option_map (moved_part old_end new_end) (part_in old i)
 
 -- a part, after what ended in this place is so much longer
 abbrev pub lengthened_span : ℕ → ℕ → BodySpan → BodySpan
 lengthened_span place more s = record { start = s.start; end = if s.end == place then min (place + more) (2 ^ 64 - 1) else s.end }
 
--- a part after a change
-abbrev pub shifted : Shift → BodySpan → Option BodySpan
-shifted (shift.Moved old new) s = Some (moved_span old new s)
-shifted (shift.Lengthened place more) s = Some (lengthened_span place more s)
+abbrev pub longer : ℕ → ℕ → BodySpan → Option BodySpan
+longer place more s = Some (lengthened_span place more s)
 
--- all parts after a change
-abbrev pub all_shifted : Shift → List (Option BodySpan) → List (Option BodySpan)
-all_shifted change spans = map (option_and_then (shifted change)) spans
+-- all parts after that
+abbrev pub all_longer : ℕ → ℕ → List (Option BodySpan) → List (Option BodySpan)
+all_longer place more spans = map (option_and_then (longer place more)) spans
 
--- The first so many parts were changed, and the others are not yet.
-pub record AreShiftedTo (change : Shift) (count : ℕ) (old new : List (Option BodySpan)) : Type 0 where
+-- The first so many parts are those after it, and the others are as they were.
+pub record AreLongerTo (place more count : ℕ) (old new : List (Option BodyPart)) : Type 0 where
   pub size : length new ≡ length old
-  pub done : (i : ℕ) → i < count → span_at new i ≡ option_and_then (shifted change) (span_at old i)
-  pub left : (i : ℕ) → count ≤ i → span_at new i ≡ span_at old i
+  pub done : (i : ℕ) → i < count
+      → option_map span_in (part_in new i) ≡ option_and_then (longer place more) (option_map span_in (part_in old i))
+  pub left : (i : ℕ) → count ≤ i → part_in new i ≡ part_in old i
 
 -- A pair was stored that was appended, where what ended in this place is so much longer.
 pub record GrowsIndex (key value : List ℕ) (span : BodySpan) (place more : ℕ) (old new : Index) : Type 0 where
   pub mid : Index
   pub keeps : KeepsPair key value span old mid
   pub pairs : new.pairs ≡ mid.pairs
-  pub longer : new.spans.items ≡ all_shifted (shift.Lengthened place more) mid.spans.items
+  pub spans : spans_of new ≡ all_longer place more (spans_of mid)
   pub closing : new.closing ≡ closing.Nothing
 
 -- The last pair with a key has another value and ends in another place.
 pub record FollowsPair (key value : List ℕ) (old_end new_end : ℕ) (is_last : Bool) (old new : Index) : Type 0 where
-  pub spans : new.spans.items ≡ all_shifted (shift.Moved old_end new_end) old.spans.items
+  pub spans : (pair : IndexedPair) → stored_at old.pairs.entries key ≡ Some pair
+      → IsEndMoved pair.place old_end new_end old.spans.items new.spans.items
   pub closing : new.closing ≡ (if is_last then closing.OneEnding else old.closing)
   pub places : (k : List ℕ) → places_of (stored_at new.pairs.entries k) ≡ places_of (stored_at old.pairs.entries k)
   pub values : (k : List ℕ) → stored_value new.pairs.entries k
@@ -291,7 +323,7 @@ ending_size (b ∷ bs) = if b == carriage_return then (if begins_with_lf bs then
 -- An LF was put before the source.
 pub record PutsFirst (old : List ℕ) (was : Index) (new : List ℕ) (is : Index) : Type 0 where
   pub bytes : new ≡ line_feed ∷ old
-  pub spans : is.spans.items ≡ all_shifted (shift.Moved 0 1) was.spans.items
+  pub spans : AreMovedFrom 0 (length was.spans.items) 0 1 was.spans.items is.spans.items
   pub pairs : is.pairs ≡ was.pairs
   pub closing : is.closing ≡ was.closing
 

@@ -2,22 +2,23 @@
 use Rattle.std.specs.Prelude.{◌≡◌, ◌==◌, ℕ, ◌+◌, ◌-◌, ◌≤◌, ◌<◌, if◌then◌else◌, List, drop, length, Option, Some, None}
 use Rattle.std.specs.List.{copy_within}
 use Rattle.std.specs.Option.{option_map}
-use Rattle.properties_editing.specs.Private.BodyIndex.{ending_size, span_at}
+use Rattle.properties_editing.specs.Private.BodyIndex.{ending_size, part_in}
+use Rattle.properties_editing.specs.declared.edit.index.BodyPart.{BodyPart}
 use Rattle.properties_editing.specs.declared.edit.index.Index.{Index}
 use Rattle.properties_editing.specs.declared.edit.index.sweep.Sweep.{Sweep}
 use Rattle.properties_editing.specs.declared.edit.find.BodySpan.{BodySpan}
 use Rattle.properties_editing.specs.declared.edit.find.Closing.TheVariants as closing
 
 -- a part after so many bytes before it were cut out
-abbrev pub lowered : ℕ → Option BodySpan → Option BodySpan
-lowered n span = option_map (λ s. let t : BodySpan = record { start = s.start - n; end = s.end - n } in t) span
+abbrev pub lowered : ℕ → Option BodyPart → Option BodyPart
+lowered n part = option_map (λ p. let q : BodyPart = record { start = p.start - n; size = p.size } in q) part
 
 -- The parts in the places from one up to another were moved down, and no others.
-pub record AreLowered (by from to : ℕ) (old new : List (Option BodySpan)) : Type 0 where
+pub record AreLowered (by from to : ℕ) (old new : List (Option BodyPart)) : Type 0 where
   pub size : length new ≡ length old
-  pub done : (i : ℕ) → from ≤ i → i < to → span_at new i ≡ lowered by (span_at old i)
-  pub before : (i : ℕ) → i < from → span_at new i ≡ span_at old i
-  pub behind : (i : ℕ) → to ≤ i → span_at new i ≡ span_at old i
+  pub done : (i : ℕ) → from ≤ i → i < to → part_in new i ≡ lowered by (part_in old i)
+  pub before : (i : ℕ) → i < from → part_in new i ≡ part_in old i
+  pub behind : (i : ℕ) → to ≤ i → part_in new i ≡ part_in old i
 
 -- The part is one of the body that starts here, and wasn't gone over.
 abbrev pub IsAhead : ℕ → Sweep → List ℕ → Option BodySpan → Type 0
@@ -25,12 +26,12 @@ IsAhead start sweep source None = Unit {0}
 IsAhead start sweep source (Some span) = (sweep.read ≤ start + span.start) × (span.start ≤ span.end) × (start + span.end ≤ length source)
 
 -- Of the parts, those up to this place were moved down, and the one there is gone.
-pub record AreSweptTo (by from place : ℕ) (old new : List (Option BodySpan)) : Type 0 where
+pub record AreSweptTo (by from place : ℕ) (old new : List (Option BodyPart)) : Type 0 where
   pub size : length new ≡ length old
-  pub done : (i : ℕ) → from ≤ i → i < place → span_at new i ≡ lowered by (span_at old i)
-  pub own : span_at new place ≡ None
-  pub before : (i : ℕ) → i < from → span_at new i ≡ span_at old i
-  pub behind : (i : ℕ) → place < i → span_at new i ≡ span_at old i
+  pub done : (i : ℕ) → from ≤ i → i < place → part_in new i ≡ lowered by (part_in old i)
+  pub own : part_in new place ≡ None
+  pub before : (i : ℕ) → i < from → part_in new i ≡ part_in old i
+  pub behind : (i : ℕ) → place < i → part_in new i ≡ part_in old i
 
 -- The bytes up to a part were moved down, and the sweep goes on behind the line ending after it.
 pub record IsNextCut (start : ℕ) (sweep : Sweep) (place : ℕ) (span : BodySpan) (old : List ℕ) (was : Index) (next : Sweep) (new : List ℕ) (is : Index) : Type 0 where

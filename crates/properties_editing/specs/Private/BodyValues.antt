@@ -68,7 +68,7 @@ pub record IsPairAlone (e : Encoding) (bytes : List ℕ) : Type 0 where
   pub value : List ℕ
   pub is_pair : outcome_of (joined (as_lines group)) ≡ given (pair key value)
 
--- The bytes are one group, which doesn't have the value. It gets the value, in ASCII alone or not, if these bytes come
+-- The bytes are one group, which doesn't have the value. It gets the value, in ASCII only or not, if these bytes come
 -- after its front.
 pub record IsNewValue (e : Encoding) (only : Bool) (bytes value : List ℕ) (new : NewValue) : Type 0 where
   pub group : List HeldLine
@@ -126,7 +126,7 @@ IsLastEnding body by =
     (e : Encoding) (groups : List (List HeldLine)) → is_editable e ≡ true → AreGroupsOf e body groups
     → ending_of by ≡ ending_among text.lf (held_in groups)
 
--- the bytes of a new pair without its line ending, in ASCII alone or not, which is the first of the body or not
+-- the bytes of a new pair without its line ending, in ASCII only or not, which is the first of the body or not
 abbrev pub unended_pair : Encoding → Bool → Bool → List ℕ → List ℕ → List ℕ → List ℕ
 unended_pair e only first key separator value =
     encoded_text e (printed_key e only first key ++ (separator ++ printed_value e only (is_blanks separator) value))

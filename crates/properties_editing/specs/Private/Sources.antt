@@ -16,12 +16,12 @@ pub record IsInForce (source : List ℕ) (e : format.Encoding) (opened : BodySta
   pub in_force : format.byte_order_mark e source ≡ record { encoding = encoding_of opened.encoding; body = drop opened.start source }
   pub within : opened.start ≤ length source
 
--- A source was opened, for texts in ASCII alone or not; or its encoding can't be edited.
+-- A source was opened, for texts in ASCII only or not; or its encoding can't be edited.
 abbrev pub OpensSource : List ℕ → format.Encoding → Bool → Result BodyStart PropertiesError → Type 0
 OpensSource source e only (Ok opened) = IsInForce source e opened × (is_editable (encoding_of opened.encoding) ≡ true) × (opened.ascii_only ≡ only)
 OpensSource source e only (Err error) = (is_editable (format.byte_order_mark e source).encoding ≡ false) × IsBareError kind.Unsupported error
 
--- Keys and values are printed in this encoding, in ASCII alone or not, as with this repertoire.
+-- Keys and values are printed in this encoding, in ASCII only or not, as with this repertoire.
 pub record PrintsIn (e : format.Encoding) (only : Bool) (r : Repertoire) : Type 0 where
   pub keys : (first : Bool) (key : List ℕ) → key_bytes r first key ≡ encoded_text e (printed_key e only first key)
   pub texts : (text : List ℕ) → puts_of r text ≡ encoded_text e (printed_characters e only in_key_or_value text)

@@ -36,7 +36,7 @@ pub struct Document {
     source: Vec<u8>,
     // The requested encoding.
     encoding: Encoding,
-    // The encoding in force, where the body starts, and whether new texts are written in ASCII alone.
+    // The encoding in force, where the body starts, and whether new texts are written in ASCII only.
     opened: BodyStart,
     // Where its pairs are.
     index: Index,
@@ -117,7 +117,7 @@ impl Document {
         self.index.keys(self.alloc)
     }
 
-    /// Sets whether the calls after this one write ASCII alone, as [`edit_all_ascii`](crate::edit_all_ascii) does. They
+    /// Sets whether the calls after this one write ASCII only, as [`edit_all_ascii`](crate::edit_all_ascii) does. They
     /// don't at the start. No byte changes.
     ///
     /// ```text

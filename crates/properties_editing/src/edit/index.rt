@@ -1,6 +1,6 @@
 // Where the pairs of a body are, by their keys.
 
-ghost use Rattle.std.specs.Prelude.{◌≡◌, ◌==◌, ◌<◌, ◌-◌, if◌then◌else◌, None, Some, OnOk, OnErr, IfOk, option_and_then};
+ghost use Rattle.std.specs.Prelude.{◌≡◌, if◌then◌else◌, length, None, OnOk, OnErr, option_and_then};
 ghost use Rattle.std.specs.Option.{option_map};
 ghost use Rattle.std.specs.BTreeMap.{IsOrdered};
 ghost use Rattle.std.specs.String.{string_cmp};
@@ -8,8 +8,7 @@ ghost use Rattle.properties_lines.specs.LineSearch.{unit_size};
 ghost use Rattle.properties_items.specs.Texts.{characters};
 ghost use Rattle.std.specs.Str.{chars};
 ghost use Rattle.properties_text.specs.Encoding.{encoding_of};
-ghost use Rattle.properties_editing.specs.declared.edit.index.Shift.TheVariants as shift;
-ghost use Rattle.properties_editing.specs.Private.BodyIndex.{AddsGroup, FindsPairOfLine, FollowsPair, GrowsIndex, KeepsNothing, KeepsPair, ParsesIndex, all_shifted, found_span, last_live, lengthened_span, moved_span, moved_to, places_of, shifted, span_at, stored_at};
+ghost use Rattle.properties_editing.specs.Private.BodyIndex.{AddsGroup, AreMovedFrom, FindsPairOfLine, FollowsPair, GrowsIndex, IsEndMoved, KeepsNothing, KeepsPair, ParsesIndex, all_longer, found_span, last_live, lengthened_span, longer, moved_part, resized_part, span_at, span_in, spans_in, spans_of, stored_at};
 ghost use Rattle.properties_items.specs.FoundItems.{pair_characters};
 
 use crate::edit::find::{BodySpan, Closing, closing_after};
@@ -44,18 +43,18 @@ pub struct Index {
     pub pairs: BTreeMap<String, IndexedPair>,
     /// The parts of the body that are pairs, in order and without their last line endings. A pair that was removed
     /// leaves its place empty.
-    pub spans: Vec<Option<BodySpan>>,
+    pub spans: Vec<Option<BodyPart>>,
     /// What separates a new pair from the last group.
     pub closing: Closing,
 }
 
-/// How the parts of a body change.
+/// A part of a body. It has its size, and not its end, so that only one number changes when it moves.
 #[derive(Clone, Copy)]
-pub enum Shift {
-    /// What ended in one place ends in another.
-    Moved(usize, usize),
-    /// What ended in this place is so much longer.
-    Lengthened(usize, usize),
+pub struct BodyPart {
+    /// Where it starts.
+    pub start: usize,
+    /// How many bytes it has.
+    pub size: usize,
 }
 
 impl Index {
@@ -133,7 +132,7 @@ impl Index {
                 });
             }
         }
-        self.spans[place] = Some(span);
+        self.spans[place] = Some(part_of(span));
         Ok(())
     }
 
@@ -167,12 +166,12 @@ impl Index {
 
     // Returns where the last pair of the body is, whatever its key.
     fn last_pair(&self) -> Option<BodySpan>
-        ensures { result ≡ last_live self.now.spans.items }
+        ensures { result ≡ last_live (spans_of self.now) }
     {
         let mut place = self.spans.len();
         while place > 0 {
             place -= 1;
-            if let Some(span) = self.spans[place] {
+            if let Some(span) = span_at(&self.spans, place) {
                 return Some(span);
             }
         }
@@ -192,10 +191,10 @@ impl Index {
         requires { IsOrdered string_cmp self.old.pairs }
         ensures { FollowsPair (chars key.now) (characters value) old_end new_end is_last self.old self.new }
     {
-        shift_spans(&mut self.spans, Shift::Moved(old_end, new_end));
         self.closing = closing_if(is_last, Closing::OneEnding, self.closing);
         if let Some(pair) = self.pairs.get_mut(key) {
             pair.value = value;
+            move_end(self.spans.as_mut_slice(), pair.place, old_end, new_end);
         }
     }
 }
@@ -221,38 +220,27 @@ fn pair_of(
         return Ok(None);
     }
     match find_item(alloc, number, line)? {
-        Some(found) => Ok(item_pair(alloc, &found, line)?),
+        Some(found) => Ok(item_pair(alloc, found, line)?),
         None => Ok(None),
     }
 }
 
 // Makes the parts that end in this place so much longer. Where that is nothing, no part is looked at.
-fn lengthen_spans(spans: &mut Vec<Option<BodySpan>>, place: usize, more: usize)
-    ensures { spans.new.items ≡ all_shifted (shift.Lengthened place more) spans.old.items }
+fn lengthen_spans(spans: &mut Vec<Option<BodyPart>>, place: usize, more: usize)
+    ensures { spans_in spans.new.items ≡ all_longer place more (spans_in spans.old.items) }
 {
     if more > 0 {
-        shift_spans(spans, Shift::Lengthened(place, more));
+        for i in 0..spans.len() {
+            spans[i] = longer(spans[i], place, more);
+        }
     }
 }
 
-// Changes the parts of a body.
-fn shift_spans(spans: &mut Vec<Option<BodySpan>>, change: Shift)
-    ensures { spans.new.items ≡ all_shifted change spans.old.items }
+// Returns a part of a body, longer if it ends in this place.
+fn longer(part: Option<BodyPart>, place: usize, more: usize) -> Option<BodyPart>
+    ensures { option_map span_in result ≡ option_and_then (longer place more) (option_map span_in part) }
 {
-    for place in 0..spans.len() {
-        spans[place] = shifted(spans[place], change);
-    }
-}
-
-// Returns a part of a body after a change.
-fn shifted(span: Option<BodySpan>, change: Shift) -> Option<BodySpan>
-    ensures { result ≡ option_and_then (shifted change) span }
-{
-    let span = span?;
-    match change {
-        Shift::Moved(old_end, new_end) => Some(moved(span, old_end, new_end)),
-        Shift::Lengthened(place, more) => Some(lengthened(span, place, more)),
-    }
+    Some(part_of(lengthened(span_in(part?), place, more)))
 }
 
 // Returns a part of a body, longer if it ends in this place.
@@ -270,32 +258,70 @@ fn lengthened(span: BodySpan, place: usize, more: usize) -> BodySpan
     }
 }
 
-// Returns where a part of a body is after what ended in one place ends in another.
-fn moved(span: BodySpan, old_end: usize, new_end: usize) -> BodySpan
-    ensures { result ≡ moved_span old_end new_end span }
+// Moves the end of the part in this place, and the parts behind it, as far as one position is from another.
+fn move_end(spans: &mut [Option<BodyPart>], place: usize, old_end: usize, new_end: usize)
+    ensures { IsEndMoved place old_end new_end spans.old spans.new }
 {
-    BodySpan {
-        start: moved_to(span.start, old_end, new_end),
-        end: moved_to(span.end, old_end, new_end),
+    if place < spans.len() {
+        resize_part(&mut spans[place], old_end, new_end);
+        move_parts(spans, place + 1, old_end, new_end);
     }
 }
 
-fn moved_to(position: usize, old_end: usize, new_end: usize) -> usize
-    ensures { result ≡ moved_to old_end new_end position }
+// Moves its end so far, if there is a part.
+fn resize_part(part: &mut Option<BodyPart>, old_end: usize, new_end: usize)
+    ensures { part.new ≡ option_map (resized_part old_end new_end) part.old }
 {
-    if position < old_end {
-        position
-    } else {
-        (position - old_end).saturating_add(new_end)
+    if let Some(part) = part {
+        part.size = part.size.wrapping_add(new_end.wrapping_sub(old_end));
+    }
+}
+
+// Moves the parts from this place on as far as one position is from another. It takes a slice, since a loop over a
+// `Vec` looks up at each place where its elements are.
+fn move_parts(spans: &mut [Option<BodyPart>], first: usize, old: usize, new: usize)
+    ensures { AreMovedFrom first (length spans.old) old new spans.old spans.new }
+{
+    for place in first..spans.len() {
+        move_part(&mut spans[place], old, new);
+    }
+}
+
+// Moves it so far, if there is a part. Sums around 2^64 serve both directions.
+fn move_part(part: &mut Option<BodyPart>, old: usize, new: usize)
+    ensures { part.new ≡ option_map (moved_part old new) part.old }
+{
+    if let Some(part) = part {
+        part.start = part.start.wrapping_add(new.wrapping_sub(old));
+    }
+}
+
+// Returns a part with its size.
+fn part_of(span: BodySpan) -> BodyPart
+    ensures { span_in result ≡ span }
+{
+    BodyPart {
+        start: span.start,
+        size: span.end.wrapping_sub(span.start),
+    }
+}
+
+// Returns a part with its end.
+fn span_in(part: BodyPart) -> BodySpan
+    ensures { result ≡ span_in part }
+{
+    BodySpan {
+        start: part.start,
+        end: part.start.wrapping_add(part.size),
     }
 }
 
 // Returns the part in a place, if there is one.
-fn span_at(spans: &[Option<BodySpan>], place: usize) -> Option<BodySpan>
-    ensures { result ≡ span_at spans.now place }
+fn span_at(spans: &[Option<BodyPart>], place: usize) -> Option<BodySpan>
+    ensures { result ≡ span_at (spans_in spans.now) place }
 {
     if place < spans.len() {
-        spans[place]
+        Some(span_in(spans[place]?))
     } else {
         None
     }

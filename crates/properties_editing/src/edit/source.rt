@@ -40,7 +40,7 @@ pub struct BodyStart {
     pub encoding: Encoding,
     /// The position where the body starts, after any byte order mark.
     pub start: usize,
-    /// Whether they are written in ASCII alone: every other character as escapes.
+    /// Whether they are written in ASCII only: every other character as escapes.
     pub ascii_only: bool,
 }
 

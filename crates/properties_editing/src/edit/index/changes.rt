@@ -21,7 +21,7 @@ use crate::edit::append::{layout_at, print_new_pair};
 use crate::edit::endings::{opened_size, push_closing, push_ending, safe_ending_after};
 use crate::edit::find::BodySpan;
 use crate::edit::index::sweep::{Sweep, close_up, cut_out_pair};
-use crate::edit::index::{Index, Shift, shift_spans};
+use crate::edit::index::{Index, move_parts};
 use crate::edit::new_value::new_value;
 use crate::edit::replace::{concatenated, is_first, print_new, with_pair_replaced};
 use crate::edit::source::BodyStart;
@@ -116,7 +116,7 @@ fn put_lf_first(source: &mut Vec<u8>, index: &mut Index)
     ensures { PutsFirst source.old.items index.old source.new.items index.new }
 {
     match source.insert(0, b'\n') {
-        Ok(()) => shift_spans(&mut index.spans, Shift::Moved(0, 1)),
+        Ok(()) => move_parts(index.spans.as_mut_slice(), 0, 0, 1),
         Err(_) => unreachable!(),
     }
 }

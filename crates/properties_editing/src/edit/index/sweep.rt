@@ -2,12 +2,12 @@
 
 ghost use Rattle.std.specs.Prelude.{◌≡◌, ◌≤◌, ◌-◌, ◌++◌, take, drop, length, vec_capacity};
 ghost use Rattle.std.specs.List.{copy_within};
-ghost use Rattle.properties_editing.specs.Private.BodyIndex.{span_at};
+ghost use Rattle.properties_editing.specs.Private.BodyIndex.{span_at, spans_of};
 ghost use Rattle.properties_editing.specs.Private.BodySweep.{AreLowered, CutsNext, IsAhead, lowered};
 
 use crate::edit::endings::ending_size;
-use crate::edit::find::{BodySpan, Closing};
-use crate::edit::index::{Index, closing_if, span_at};
+use crate::edit::find::Closing;
+use crate::edit::index::{BodyPart, Index, closing_if, span_at};
 
 /// How far a sweep has come. Bytes before `write` and parts in places before `place` are where they will be. Bytes from
 /// `read` on and parts from `place` on are where they were.
@@ -31,8 +31,8 @@ pub fn cut_out_pair(
 ) -> Sweep
     requires order { sweep.write ≤ sweep.read }
     requires later { sweep.place ≤ place }
-    requires ahead { IsAhead start sweep source.old.items (span_at index.old.spans.items place) }
-    ensures cuts { CutsNext start sweep place (span_at index.old.spans.items place) source.old.items index.old result source.new.items index.new }
+    requires ahead { IsAhead start sweep source.old.items (span_at (spans_of index.old) place) }
+    ensures cuts { CutsNext start sweep place (span_at (spans_of index.old) place) source.old.items index.old result source.new.items index.new }
     ensures capacity { vec_capacity source.new ≡ vec_capacity source.old }
 {
     let Some(pair) = span_at(&index.spans, place) else {
@@ -93,25 +93,23 @@ fn move_down(source: &mut Vec<u8>, from: usize, to: usize, dest: usize)
 }
 
 // Moves the parts in the places from one up to another down by so many bytes. If these are none, it looks at no part.
-fn lower_spans(spans: &mut Vec<Option<BodySpan>>, from: usize, to: usize, by: usize)
+fn lower_spans(spans: &mut Vec<Option<BodyPart>>, from: usize, to: usize, by: usize)
     requires order { from ≤ to }
     requires within { to ≤ length spans.old.items }
     ensures { AreLowered by from to spans.old.items spans.new.items }
 {
     if by > 0 {
         for place in from..to {
-            spans[place] = lowered(spans[place], by);
+            lower_part(&mut spans[place], by);
         }
     }
 }
 
-// Returns a part of a body after so many bytes before it were cut out.
-fn lowered(span: Option<BodySpan>, by: usize) -> Option<BodySpan>
-    ensures { result ≡ lowered by span }
+// Moves it down by so many bytes, if there is a part.
+fn lower_part(part: &mut Option<BodyPart>, by: usize)
+    ensures { part.new ≡ lowered by part.old }
 {
-    let span = span?;
-    Some(BodySpan {
-        start: span.start.saturating_sub(by),
-        end: span.end.saturating_sub(by),
-    })
+    if let Some(part) = part {
+        part.start = part.start.saturating_sub(by);
+    }
 }

@@ -1,8 +1,7 @@
 use Rattle.std.proofs.Common.{◌≡◌, ◌<◌, ◌≤◌, ◌-◌, ℕ, suc, List, [], ◌∷◌, ◌++◌, take, length, refl, ap, sym, ◌∙◌, arith}
 use Rattle.std.specs.Prelude.{Option, Some, None, get_or}
 use Rattle.std.proofs.Math.Seq.{take-suc}
-use Rattle.std.proofs.lemmas.List.{get_or_default}
-use Rattle.properties_editing.specs.Private.BodyIndex.{last_live, span_or}
+use Rattle.properties_editing.specs.Private.BodyIndex.{last_live, span_at, span_or, spans_in, spans_of}
 use Rattle.properties_editing.specs.declared.edit.find.BodySpan.{BodySpan}
 use Rattle.properties_editing.proofs.edit.index.Index.last_pair.Goals as goal
 
@@ -21,25 +20,26 @@ last-more xs n low = ap last_live (take-suc xs n None low) ∙ last-push (take n
 
 -- One place less is left when the part in it was read.
 step : (spans : List (Option BodySpan)) (m : ℕ) (now : Option BodySpan) → 0 < m → m ≤ length spans
-    → now ≡ get_or spans (m - 1) now → last_live spans ≡ last_live (take m spans)
+    → now ≡ span_at spans (m - 1) → last_live spans ≡ last_live (take m spans)
     → last_live spans ≡ span_or now (last_live (take (m - 1) spans))
 step spans m now some low read h =
     let n = m - 1 in
     let size : m ≡ suc n = omega arith in
     let inside : n < length spans = omega arith in
-    let at : now ≡ get_or spans n None = read ∙ get_or_default spans n now None inside in
-    h ∙ ap (λ i. last_live (take i spans)) size ∙ last-more spans n inside ∙ ap (λ o. span_or o (last_live (take n spans))) (sym at)
+    h ∙ ap (λ i. last_live (take i spans)) size ∙ last-more spans n inside ∙ ap (λ o. span_or o (last_live (take n spans))) (sym read)
 
 pub returns-in-Some : goal.returns-in-Some
 returns-in-Some c =
-    let spans = c.args.self.now.spans.items in
+    let spans = spans_of c.args.self.now in
     let inv = c.loop-place.invariant in
-    let known = step spans c.loop-place.place c.index.result.now c.loop-place-test.true inv.0 c.index.ensures inv.1 in
+    let read = c.span_at.ensures ∙ ap (λ v. span_at (spans_in v) (c.loop-place.place - 1)) c.deref.ensures.value in
+    let known = step spans c.loop-place.place c.span_at.result c.loop-place-test.true inv.0 read inv.1 in
     sym (known ∙ ap (λ o. span_or o (last_live (take (c.loop-place.place - 1) spans))) c.in-Some.is)
 
 pub loop-place-preserved : goal.loop-place-preserved
 loop-place-preserved c =
-    let spans = c.args.self.now.spans.items in
+    let spans = spans_of c.args.self.now in
     let inv = c.loop-place.invariant in
-    let known = step spans c.loop-place.place c.index.result.now c.loop-place-test.true inv.0 c.index.ensures inv.1 in
+    let read = c.span_at.ensures ∙ ap (λ v. span_at (spans_in v) (c.loop-place.place - 1)) c.deref.ensures.value in
+    let known = step spans c.loop-place.place c.span_at.result c.loop-place-test.true inv.0 read inv.1 in
     ((omega arith), known ∙ ap (λ o. span_or o (last_live (take (c.loop-place.place - 1) spans))) c.in_default.is)

@@ -2,22 +2,24 @@ use Rattle.std.proofs.Common.{◌≡◌, ◌++◌, ◌∷◌, [], ℕ, List, len
 use Rattle.std.specs.BTreeMap.{IsOrdered, Updates}
 use Rattle.std.specs.String.{string_cmp}
 use Rattle.std.specs.Prelude.{Option, Some, None, string_bytes}
+use Rattle.std.specs.Option.{option_map}
 use Rattle.std.proofs.Math.ListN.{set}
+use Rattle.std.proofs.lemmas.List.{length-map, map-append}
 use Rattle.std.proofs.lemmas.Str.{IsUtf8-string_bytes}
 use Rattle.properties_text.proofs.TextFronts.{at-error}
-use Rattle.properties_editing.specs.Private.BodyIndex.{places_of, stored_at}
+use Rattle.properties_editing.specs.Private.BodyIndex.{places_of, span_in, spans_in, spans_of, stored_at}
 use Rattle.properties_items.specs.Texts.{characters}
 use Rattle.properties_editing.specs.declared.edit.index.IndexedPair.{IndexedPair}
-use Rattle.properties_editing.specs.declared.edit.find.BodySpan.{BodySpan}
+use Rattle.properties_editing.specs.declared.edit.index.BodyPart.{BodyPart}
 use Rattle.properties_items.proofs.TextMaps.Values.{at_chars-sorted, at_chars-updated}
 use Rattle.std.specs.BTreeMap.Entry.{entry_value}
 use Rattle.properties_editing.proofs.edit.index.Index.store_last_pair.Goals as goal
 use Rattle.properties_editing.proofs.edit.index.Index.store_last_pair.Goals.{in-Occupied+in_ok-push-in-Occupied, in-Vacant}
 
-set-end : (spans : List (Option BodySpan)) (n : ℕ) (s : Option BodySpan) → n ≡ length spans → set (spans ++ None ∷ []) n s ≡ spans ++ s ∷ []
-set-end spans n s is = ap (λ m. set (spans ++ None ∷ []) m s) is ∙ at-length spans
+set-end : (parts : List (Option BodyPart)) (n : ℕ) (p : Option BodyPart) → n ≡ length parts → set (parts ++ None ∷ []) n p ≡ parts ++ p ∷ []
+set-end parts n p is = ap (λ m. set (parts ++ None ∷ []) m p) is ∙ at-length parts
   where
-    at-length : (xs : List (Option BodySpan)) → set (xs ++ None ∷ []) (length xs) s ≡ xs ++ s ∷ []
+    at-length : (xs : List (Option BodyPart)) → set (xs ++ None ∷ []) (length xs) p ≡ xs ++ p ∷ []
     at-length [] = refl
     at-length (x ∷ xs) = ap (λ v. x ∷ v) (at-length xs)
 
@@ -36,9 +38,14 @@ returns-clause-kept c =
     let key = c.args.key in
     let bytes = string_bytes key in
     let utf8 = IsUtf8-string_bytes key in
-    let size : c.len-place.result ≡ length old.spans.items = c.len-place.ensures ∙ old.spans.ok.0 in
-    let spans = ap (λ v. set v c.len-place.result (Some c.args.span)) c.in_ok-push.ensures.items
-    ∙ set-end old.spans.items c.len-place.result (Some c.args.span) size in
+    let parts = old.spans.items in
+    let own = c.part_of.result in
+    let end : c.len-place.result ≡ length parts = c.len-place.ensures ∙ old.spans.ok.0 in
+    let size : c.len-place.result ≡ length (spans_of old) = end ∙ sym (length-map parts (option_map span_in)) in
+    let spans = ap (λ v. spans_in (set v c.len-place.result (Some own))) c.in_ok-push.ensures.items
+    ∙ ap spans_in (set-end parts c.len-place.result (Some own) end)
+    ∙ map-append (option_map span_in) parts (Some own ∷ [])
+    ∙ ap (λ s. spans_of old ++ Some s ∷ []) c.part_of.ensures in
     let at = at_chars-sorted old.pairs bytes utf8 ∙ sym c.in_ok-entry.ensures.value in
     elim c.match-branch-3.branch [
       | in-Occupied+in_ok-push-in-Occupied w ↦

@@ -1,5 +1,7 @@
-use Rattle.std.proofs.Common.{refl, sym, ◌∙◌, ap, subst}
+use Rattle.std.proofs.Common.{◌≡◌, refl, sym, ◌∙◌, ap, subst}
+use Rattle.std.specs.Prelude.{Some}
 use Rattle.std.specs.BTreeMap.{IsOrdered}
+use Rattle.std.proofs.lemmas.List.{with_items_is}
 use Rattle.std.specs.Str.{chars}
 use Rattle.std.specs.String.{string_cmp}
 use Rattle.properties_editing.specs.Private.BodyIndex.{places_of, stored_at, stored_value}
@@ -8,6 +10,9 @@ use Rattle.properties_editing.specs.declared.edit.index.IndexedPair.{IndexedPair
 use Rattle.properties_editing.proofs.IndexStored.{missing-values, written-places, written-values}
 use Rattle.properties_items.proofs.TextMaps.Values.{at_chars-sorted}
 use Rattle.properties_editing.proofs.edit.index.Index.update_last_pair.Goals as goal
+
+same-pair : (p q : IndexedPair) → Some p ≡ Some q → p ≡ q
+same-pair p q h = cc
 
 pub returns-in-Some : goal.returns-in-Some
 returns-in-Some c =
@@ -19,7 +24,10 @@ returns-in-Some c =
     let written = c.get_mut.follows.holds next in
     let found = sym c.in-Some.ensures.value in
     record {
-      spans = c.shift_spans.ensures;
+      spans = λ p stored.
+          let same = same-pair pair p (sym (at_chars-sorted old key c.utf8.key ∙ sym c.in-Some.ensures.value) ∙ stored) in
+          let back = with_items_is c.args.self.now.spans c.move_end.new.spans (c.move_end.ensures.size ∙ c.as_mut_slice.ensures.len) in
+          rw (← same, back) (rw c.as_mut_slice.ensures.value at c.move_end.ensures);
       closing = c.closing_if-self.ensures;
       places = written-places old new key c.utf8.key pair next found written refl refl;
       values = written-values old new key c.utf8.key pair next found written;
@@ -32,7 +40,7 @@ returns-in_default c =
     let same = c.get_mut.follows.holds-at-none in
     let none = at_chars-sorted old c.args.key.now c.utf8.key ∙ sym c.in_default.ensures.value in
     record {
-      spans = c.shift_spans.ensures;
+      spans = λ p stored. let no = sym none ∙ stored in absurd (cc);
       closing = c.closing_if-self.ensures;
       places = λ k. ap (λ m. places_of (stored_at m.entries k)) same;
       values = λ k. ap (λ m. stored_value m.entries k) same ∙ missing-values old.entries (chars c.args.key.now) (characters c.args.value) none k;
