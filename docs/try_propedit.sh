@@ -94,9 +94,9 @@ is "$(awk 'length > 80' ../usage)" ''
 run -h
 gives 0 "$(cat ../usage)\n" ''
 run --version
-gives 0 'propedit 1.9.0\n' ''
+gives 0 'propedit 1.10.0\n' ''
 run -V
-gives 0 'propedit 1.9.0\n' ''
+gives 0 'propedit 1.10.0\n' ''
 run -f nowhere --help get
 gives 0 "$(cat ../usage)\n" ''
 for words in 'check --help' 'check a -h' 'convert --help' 'convert ascii -h'; do
@@ -380,7 +380,7 @@ gives 0 'é\n' ''
 run -e utf-16le set b 1
 gives 0 '\xef\xbb\xbfa=\xc3\xa9\nb=1\n' ''
 
-# ASCII alone
+# ASCII only
 
 given 'host = a\n# \xc5\xbc\n'
 for option in -a --ascii; do

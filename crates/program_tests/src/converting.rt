@@ -83,7 +83,7 @@ const TO_OTHERS: &[Row] = &[
         b"\\ufeffa",
         "",
     ),
-    // What would begin like a mark is escaped.
+    // What would begin like a byte order mark is escaped.
     (
         &["-r", "convert", "utf-8"],
         b"\\ufeffa=1\nb=\\ufeff",

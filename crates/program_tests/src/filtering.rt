@@ -33,7 +33,7 @@ fn write_failed(line_number: usize, how: SinkFault) -> Ending {
     Some((ErrorKind::Io, Some(line_number), cause))
 }
 
-/// Filters in this encoding, to ASCII alone or not.
+/// Filters in this encoding, to ASCII only or not.
 pub fn filter_by<W: CountedWrite>(
     alloc: Global,
     input: &mut ScriptedReader,
@@ -48,7 +48,7 @@ pub fn filter_by<W: CountedWrite>(
     }
 }
 
-// An encoding, whether ASCII alone is asked for, an input, and what is written.
+// An encoding, whether ASCII-only output is asked for, an input, and what is written.
 const FILTERED: &[(Encoding, bool, &[u8], &[u8])] = &[
     (Encoding::WINDOWS_1252, false, b"", b""),
     // Comments are dropped, and lines joined.

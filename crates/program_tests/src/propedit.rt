@@ -271,7 +271,7 @@ const EDITS: &[Row] = &[
         b"a = 1\r\nb: 2\r\nc: 3\r\n",
         "",
     ),
-    // In ASCII alone, characters are put in as escapes, and those that are there stay.
+    // In ASCII only, characters are put in as escapes, and those that are there stay.
     (
         &["-a", "set", "a", "5 \u{20ac} \u{e9} \u{1f41e}"],
         b"a = 1\n",
@@ -506,8 +506,8 @@ fn files_are_asked_for(rt: HostRuntime) -> Result<(), Fail> {
 }
 
 const THE_VERSION: &[Row] = &[
-    (&["--version"], b"", 0, b"propedit 1.9.0\n", ""),
-    (&["-i", "x", "-V"], b"", 0, b"propedit 1.9.0\n", ""),
+    (&["--version"], b"", 0, b"propedit 1.10.0\n", ""),
+    (&["-i", "x", "-V"], b"", 0, b"propedit 1.10.0\n", ""),
 ];
 
 #[test]

@@ -1,4 +1,4 @@
--- What filtering with ASCII alone on writes.
+-- What filtering with ASCII-only output on writes.
 use Rattle.std.proofs.Common.{◌++◌, true, List, [], ◌∷◌, refl, inl, inr, subst, append-nil}
 use Rattle.std.specs.Prelude.{Result, Ok, Err}
 use Rattle.counted_io.specs.Streams.{Reader, Sink}

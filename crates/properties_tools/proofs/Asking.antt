@@ -9,7 +9,7 @@ pub named_alone : (name : List ℕ) (o : Option (Encoding × Bool)) → IsNamedW
 named_alone name None h = λ e only k. h e k.0
 named_alone name (Some asked) h = h
 
--- and with the word for ASCII alone after it
+-- and with the word for ASCII-only output after it
 pub named_ascii : (name word : List ℕ) (o : Option (Encoding × Bool)) → word ≡ ascii_word → IsNamedWith name true o → IsAsked (name ∷ word ∷ []) o
 named_ascii name word None is h = λ e only k. h e k.0
 named_ascii name word (Some asked) is h = (h.0, is, h.1)

@@ -1,13 +1,14 @@
 -- The lines of a body that have a flaw, found one after another.
-use Rattle.std.proofs.Common.{◌≡◌, ◌≢◌, ℕ, suc, ◌+◌, ◌<◌, ◌≤◌, ◌==◌, Bool, true, false, List, [], ◌∷◌, ◌++◌, length, get_or}
-use Rattle.std.proofs.Common.{refl, sym, ap, subst, ◌∙◌, inl, inr, length-append, arith}
+use Rattle.std.proofs.Common.{◌≡◌, ◌≢◌, ℕ, suc, ◌+◌, ◌<◌, ◌≤◌, ◌==◌, Bool, true, false, List, [], ◌∷◌, ◌++◌, length, get_or, take, drop}
+use Rattle.std.proofs.Common.{refl, sym, ap, subst, ◌∙◌, inl, inr, length-append, take_all, arith}
 use Rattle.std.specs.Prelude.{if◌then◌else◌, not, Option, Some, None, Result, Ok, Err}
 use Rattle.std.specs.Option.{is_some}
 use Rattle.std.specs.Result.{is_ok, MatchResult}
 use Rattle.std.specs.Str.{is_utf8, IsUtf8}
 use Rattle.std.proofs.lemmas.Bool.{cases_Bool, or_from, or_parts, false_from_ne_true}
 use Rattle.std.proofs.lemmas.List.Folds.{list_any-append, list_any_at}
-use Rattle.std.proofs.lemmas.Str.{IsUtf8-from_is_utf8, is_utf8-from_IsUtf8, IsUtf8-from_ascii}
+use Rattle.std.proofs.Math.Seq.{take-append_seam}
+use Rattle.std.proofs.lemmas.Str.{IsCharBoundary-after_ascii, IsCharBoundary-before_ascii, IsUtf8-drop, IsUtf8-from_is_utf8, is_utf8-from_IsUtf8, IsUtf8-from_ascii, IsUtf8-take}
 use Rattle.memchr.specs.Find.{IsFirstByte, is_byte}
 use Rattle.properties_format.specs.Text.{LineEnding, lf, cr, crlf}
 use Rattle.properties_format.specs.Encoding.{Encoding, windows_1252, utf_8, utf_16le, utf_16be, byte_order_mark}
@@ -20,6 +21,7 @@ use Rattle.properties_format.specs.Computed.Body.{held_of, held_lines_of}
 use Rattle.properties_format.proofs.Cut.Meets.{cut_of-meets}
 use Rattle.properties_format.proofs.Cut.Only.{cut_of-only}
 use Rattle.properties_format.proofs.Encodings.WellFormed.{IsUtf8-from_well_formed, well_formed-from_IsUtf8}
+use Rattle.properties_text.specs.Decoding.{IsLongestText}
 use Rattle.properties_text.specs.Encoding.{encoding_of}
 use Rattle.properties_text.specs.declared.encoding.Encoding as code
 use Rattle.properties_text.specs.declared.encoding.Encoding.TheVariants.{WINDOWS_1252, UTF_8, UTF_16LE, UTF_16BE}
@@ -212,6 +214,49 @@ pub none-zero : (body : List ℕ) → holds_zero body ≡ false → HasFlawedIn 
 none-zero body h =
     let lines = cut_of utf_8 body in
     subst (HasFlawedIn Zero utf_8 body) (none-held 0 lines.ended lines.last (ap holds_zero (sym (cut_of-meets utf_8 body).bytes) ∙ h)) (has-flawed Zero utf_8 body)
+
+-- What comes before an ASCII character of a text is a text, and so is what comes after it.
+around-ascii : (x : List ℕ) (b : ℕ) (y : List ℕ) → b < 128 → IsUtf8 (x ++ b ∷ y) → IsUtf8 x × IsUtf8 y
+around-ascii x b y ascii is =
+    let bytes = x ++ b ∷ y in
+    let long = length-append x (b ∷ y) in
+    let within : length x < length bytes = omega arith in
+    let small : get_or bytes (length x) 0 < 128 = subst (λ v. v < 128) (sym (at x)) ascii in (
+      subst IsUtf8 (take-append_seam x (b ∷ y)) (IsUtf8-take bytes (length x) is (IsCharBoundary-before_ascii bytes (length x) within small)),
+      subst IsUtf8 (ap (λ n. drop n bytes) next ∙ after x) (IsUtf8-drop bytes (length x + 1) is (IsCharBoundary-after_ascii bytes (length x) is within small)),
+    )
+  where
+    at : (z : List ℕ) → get_or (z ++ b ∷ y) (length z) 0 ≡ b
+    at [] = refl
+    at (c ∷ z) = at z
+
+    next : length x + 1 ≡ suc (length x)
+    next = omega arith
+
+    after : (z : List ℕ) → drop (suc (length z)) (z ++ b ∷ y) ≡ y
+    after [] = refl
+    after (c ∷ z) = after z
+
+around-ending : (x : List ℕ) (by : LineEnding) (y : List ℕ) → IsUtf8 (x ++ (line_ending_bytes utf_8 by ++ y)) → IsUtf8 x × IsUtf8 y
+around-ending x lf y is = around-ascii x 10 y (omega arith) is
+around-ending x cr y is = around-ascii x 13 y (omega arith) is
+around-ending x crlf y is =
+    let parts = around-ascii x 13 (10 ∷ y) (omega arith) is in
+    (parts.0, (around-ascii [] 10 y (omega arith) parts.1).1)
+
+-- So no line of a text is ill-formed in UTF-8.
+well-held : (n : ℕ) (ls : List Ended) (last : List ℕ) → IsUtf8 (bytes_together utf_8 ls last) → numbers_from IllFormed utf_8 n (held_of utf_8 ls last) ≡ []
+well-held n [] last is = let well = is_utf8-from_IsUtf8 last is in rw well refl
+well-held n (l ∷ ls) last is =
+    let parts = around-ending l.text l.by (bytes_together utf_8 ls last) is in
+    let well = is_utf8-from_IsUtf8 l.text parts.0 in
+    rw well (well-held (n + 1) ls last parts.1)
+
+pub none-ill_formed_utf_8 : (body : List ℕ) (n : ℕ) → IsLongestText body n → n ≡ length body → HasFlawedIn IllFormed utf_8 body []
+none-ill_formed_utf_8 body n longest all =
+    let lines = cut_of utf_8 body in
+    let text : IsUtf8 body = subst IsUtf8 (take_all n body (omega arith)) longest.text in
+    subst (HasFlawedIn IllFormed utf_8 body) (well-held 0 lines.ended lines.last (subst IsUtf8 (cut_of-meets utf_8 body).bytes text)) (has-flawed IllFormed utf_8 body)
 
 -- ---- the number of lines
 

@@ -6,7 +6,6 @@ use Rattle.std.specs.BTreeMap.{BTreeMap, UpdatesBy, get_by_text}
 use Rattle.std.specs.Borrow.{Bor}
 use Rattle.std.specs.Cmp.Lexicographic.{slice_cmp}
 use Rattle.std.specs.Global.{Global, Vec}
-use Rattle.std.specs.Io.KnownBytes.{Consumes}
 use Rattle.std.specs.Map.{update}
 use Rattle.std.specs.Option.{option_map}
 use Rattle.std.specs.Ordering.{nat_cmp}
@@ -57,7 +56,7 @@ use Rattle.counted_io.specs.Streams.{Reader, HasRead, has_ended}
 use Rattle.java_properties.specs.MalformedEscapes.{FailsToFind, StopsFinding}
 use Rattle.java_properties.specs.Private.LineByLine.{Collected}
 use Rattle.java_properties.proofs.MalformedEscapes.{collected-start, collected-next, collected-lines, collected-groups, found-lost}
-use Rattle.java_properties.proofs.SliceReads.{slice_of, slice_reader, slice-whole}
+use Rattle.java_properties.proofs.SliceReads.{collected-slice, slice_reader, slice-whole}
 use Rattle.java_properties.proofs.SoughtPairs.{HasSoughtPairs, StopsAtPair, pairs-refused, pairs-error, slice-tells_pairs}
 use Rattle.properties_tools.specs.Propedit.Pairs.{keys_of, AreLastPairs}
 use Rattle.properties_tools.specs.Private.LastPairs.{pair_of, pairs_of, place_of, with_line, with_pair, FindsLastPairs, HasPlaces, PutsLine}
@@ -472,18 +471,4 @@ slice-pairs e from to (Err error) small h =
 -- Where a slice is doesn't matter.
 pub collected-at : {e : Encoding} {from to next : Bor (List ℕ)} {ps : List Pair} {s : ReaderState} → to.now ≡ next.now
     → HasCollected slice_reader e from ps s to → HasCollected slice_reader e from ps s next
-collected-at {from = from} same h =
-    let c = h.collected in
-    record {
-      groups = h.groups;
-      collected = record {
-        bytes = c.bytes;
-        read = record { moved = subst (λ v. Consumes (Some from.now) (Some v) c.bytes) same c.read.moved; faultless = refl };
-        passes = c.passes;
-        whole = c.whole;
-        grouped = c.grouped;
-        ended = λ d. subst (λ v. has_ended slice_reader (slice_of v) ≡ true) same (c.ended d);
-      };
-      in_comments = h.in_comments;
-      last = h.last;
-    }
+collected-at same h = record { groups = h.groups; collected = collected-slice same h.collected; in_comments = h.in_comments; last = h.last }

@@ -7,8 +7,9 @@ use Rattle.properties_format.specs.Encoding.{Encoding}
 use Rattle.properties_format.specs.MalformedEscapes as format
 use Rattle.properties_format.specs.MalformedEscapes.{AreMalformedEscapes}
 use Rattle.java_properties.specs.MalformedEscapes.{escape_record, escape_records}
+use Rattle.java_properties.specs.SourceFindings.{HasMalformed}
 use Rattle.properties_items.specs.declared.findings.MalformedEscape.{MalformedEscape}
-use Rattle.properties_tools.specs.Propedit.Sources.{first_in_pair, HasMalformed, HasSoundBytes, IsFirstMalformed, IsSound}
+use Rattle.properties_tools.specs.Propedit.Sources.{first_in_pair, HasSoundBytes, IsFirstMalformed, IsSound}
 
 -- what is said of the first escape of a pair
 record Begins (escapes : List format.MalformedEscape) (found : MalformedEscape) : Type 0 where

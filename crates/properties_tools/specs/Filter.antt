@@ -28,7 +28,7 @@ pair_calls entries = calls_of (pairs_in entries)
 abbrev pub pair_count : List Entry → ℕ
 pair_count entries = length (pair_calls entries)
 
--- the settings of a new writer, with ASCII alone on or off
+-- the settings of a new writer, with ASCII-only output on or off
 abbrev pub settings_with : Bool → Settings
 settings_with only = record default_settings { ascii_only = only }
 
@@ -162,9 +162,10 @@ abbrev pub Settles : {R W : Type 0} → Reader R → Sink W → Encoding → R �
 Settles reader sink e input output (Ok done) input' output' = HasSettled reader sink e input output input' output'
 Settles reader sink e input output (Err error) input' output' = HasSettledBefore reader sink e input output error input' output'
 
--- ---- with ASCII alone on
+-- ---- with ASCII-only output on
 
--- The sink took bytes of ASCII alone, which have the same items in windows-1252 and in UTF-8: the pairs of the input, one a line and under its number.
+-- The sink took ASCII-only bytes, which have the same items in windows-1252 and in UTF-8: the pairs of the input, one a
+-- line and under its number.
 pub record HasFilteredAscii {R W : Type 0} (reader : Reader R) (sink : Sink W) (e : Encoding) (input : R) (output : W) (input' : R) (output' : W) : Type 0 where
   pub items : List Entry
   pub reads : ReadsWhole reader e input items input'
@@ -173,7 +174,7 @@ pub record HasFilteredAscii {R W : Type 0} (reader : Reader R) (sink : Sink W) (
   pub ascii : AreAsciiBytes bytes
   pub in_both : AreItemsInBoth bytes (items_after 0 (pairs_in items))
 
--- What filtering says of ASCII where it is on. At an error, too, the sink took ASCII alone.
+-- What filtering says of ASCII where it is on. At an error, too, the sink took ASCII only.
 abbrev pub FiltersToAscii : {R W : Type 0} → Reader R → Sink W → Encoding → R → W → Result Unit PropertiesError → R → W → Type 0
 FiltersToAscii reader sink e input output (Ok done) input' output' = HasFilteredAscii reader sink e input output input' output'
 FiltersToAscii reader sink e input output (Err error) input' output' = TakesAscii sink output output'

@@ -19,18 +19,19 @@ not_utf_8 = codes "propfilter: an argument is not UTF-8"
 
 -- ---- arguments
 
--- the word that asks for ASCII alone
+-- the word that asks for ASCII-only output
 abbrev pub ascii_word : List ℕ
 ascii_word = codes "ascii"
 
--- the arguments ask for this encoding, and for ASCII alone or not: none for windows-1252, and one by its name, which the word for ASCII alone may follow
+-- the arguments ask for this encoding, and for ASCII-only output or not: none for windows-1252, and one by its name,
+-- which the word for ASCII only may follow
 abbrev pub Asks : List (List ℕ) → Encoding → Bool → Type 0
 Asks [] e only = (e ≡ windows_1252) × (only ≡ false)
 Asks (name ∷ []) e only = (name ≡ name_of e) × (only ≡ false)
 Asks (name ∷ (word ∷ [])) e only = (name ≡ name_of e) × (word ≡ ascii_word) × (only ≡ true)
 Asks (name ∷ (word ∷ (other ∷ others))) e only = ⊥
 
--- an encoding, and whether ASCII alone is asked for
+-- an encoding, and whether ASCII-only output is asked for
 abbrev pub asked_of : Asked → Encoding × Bool
 asked_of asked = (encoding_of asked.encoding, asked.ascii_only)
 
@@ -39,7 +40,7 @@ abbrev pub IsAsked : List (List ℕ) → Option (Encoding × Bool) → Type 0
 IsAsked arguments None = (e : Encoding) (only : Bool) → Asks arguments e only → ⊥
 IsAsked arguments (Some asked) = Asks arguments asked.0 asked.1
 
--- the encoding of this name, where it is one, with ASCII alone beside it, or not
+-- the encoding of this name, where it is one, with ASCII-only output beside it, or not
 abbrev pub IsNamedWith : List ℕ → Bool → Option (Encoding × Bool) → Type 0
 IsNamedWith name only None = (e : Encoding) → name ≡ name_of e → ⊥
 IsNamedWith name only (Some asked) = (name ≡ name_of asked.0) × (asked.1 ≡ only)
@@ -51,7 +52,8 @@ abbrev pub status_of : Result Unit PropertiesError → ℕ
 status_of (Ok done) = 0
 status_of (Err error) = 1
 
--- The input was filtered to the output in the encoding that was asked for, to ASCII alone where that was asked for, and an error was printed on `errors`.
+-- The input was filtered to the output in the encoding that was asked for, to ASCII only where that was asked for, and
+-- an error was printed on `errors`.
 pub record HasRun {R W E : Type 0} (reader : Reader R) (sink : Sink W) (error_sink : Sink E) (arguments : List (List ℕ)) (input : R) (output : W) (errors : E)
     (status : ℕ) (input' : R) (output' : W) (errors' : E) : Type 0 where
   pub encoding : Encoding

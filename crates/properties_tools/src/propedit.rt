@@ -5,11 +5,12 @@ pub mod asked;
 pub mod change;
 pub mod check;
 pub mod error;
+mod first_keys;
 pub mod get;
 pub mod in_place;
+mod line_findings;
 pub mod lines;
 pub mod list;
-mod listed;
 pub mod pairs;
 pub mod printed;
 pub mod source;
@@ -136,7 +137,7 @@ pub fn exit_status<E: CountedWrite>(
 ///
 /// ```text
 /// let mut output = Counted::new(Vec::new(alloc));
-/// propedit::print_text(alloc, "propedit 1.9.0\n", &mut output, &mut errors); // 0, and the output holds the text
+/// propedit::print_text(alloc, "propedit 1.10.0\n", &mut output, &mut errors); // 0, and the output holds the text
 /// ```
 pub fn print_text<W: CountedWrite, E: CountedWrite>(
     alloc: Global,

@@ -1,43 +1,17 @@
--- What is found in a source that is held whole, and when it is refused.
+-- When a source that is held whole is refused.
 use Rattle.std.specs.Prelude.{◌≡◌, ◌⊎◌, ℕ, Bool, true, false, if◌then◌else◌, List, [], ◌∷◌, ◌++◌, Option, Some, None, Result, Ok, Err}
-use Rattle.std.specs.Global.{Vec}
 use Rattle.properties_format.specs.EditedPairs.{AreInComments, EscapesAre}
 use Rattle.properties_format.specs.Encoding.{Encoding, byte_order_mark}
 use Rattle.properties_format.specs.MalformedEscapes as format
 use Rattle.properties_format.specs.MalformedEscapes.{AreMalformedEscapes}
 use Rattle.java_properties.specs.Errors.{IsBareError}
-use Rattle.java_properties.specs.KeyLines.{AreKeyLines, KeyEntry, key_line_entries}
-use Rattle.java_properties.specs.MalformedEscapes.{escape_record, escape_records}
+use Rattle.java_properties.specs.MalformedEscapes.{escape_record}
 use Rattle.properties_items.specs.declared.error.ErrorKind.TheVariants as kind
-use Rattle.properties_items.specs.declared.error.PropertiesError.{PropertiesError}
-use Rattle.properties_items.specs.declared.findings.KeyLine.{KeyLine}
 use Rattle.properties_items.specs.declared.findings.MalformedEscape.{MalformedEscape}
 use Rattle.properties_tools.specs.Propedit.Lines.{is_utf_16, starts_with_mark, AreFlawedLines, IsFirstFlawed}
 use Rattle.properties_tools.specs.declared.propedit.error.Failure.{Failure}
 use Rattle.properties_tools.specs.declared.propedit.error.Failure.TheVariants.{Absent, HoldsZero, NotUtf8, NotUtf8ByMark, NotUtf16, Malformed, Input, Output}
 use Rattle.properties_tools.specs.declared.propedit.lines.Flaw.TheVariants.{IllFormed, Zero}
-
--- These are the malformed escapes of a source, and the only ones.
-pub record HasMalformed (e : Encoding) (source : List ℕ) (found : List MalformedEscape) : Type 0 where
-  pub escapes : List format.MalformedEscape
-  pub are : AreMalformedEscapes e source escapes
-  pub only : (others : List format.MalformedEscape) → AreMalformedEscapes e source others → others ≡ escapes
-  pub is : found ≡ escape_records escapes
-
--- What finding them returns. It fails only if memory runs out.
-abbrev pub FindsMalformedIn : Encoding → List ℕ → Result (Vec MalformedEscape) PropertiesError → Type 0
-FindsMalformedIn e source (Ok found) = HasMalformed e source found.items
-FindsMalformedIn e source (Err error) = IsBareError kind.Memory error
-
--- These are the keys of a source, each with its line and the line in which it comes first, and the only ones.
-pub record HasKeys (e : Encoding) (source : List ℕ) (found : List KeyLine) : Type 0 where
-  pub are : AreKeyLines e source (key_line_entries found)
-  pub only : (others : List KeyEntry) → AreKeyLines e source others → others ≡ key_line_entries found
-
--- What finding them returns. It fails only if memory runs out.
-abbrev pub FindsKeysIn : Encoding → List ℕ → Result (Vec KeyLine) PropertiesError → Type 0
-FindsKeysIn e source (Ok found) = HasKeys e source found.items
-FindsKeysIn e source (Err error) = IsBareError kind.Memory error
 
 -- ---- refusals for bytes
 

@@ -1,30 +1,28 @@
 // What is wrong in a source, as lines.
 
-ghost use Rattle.std.specs.Prelude.{◌≡◌, ◌++◌, map, OnOk};
-ghost use Rattle.std.specs.List.{flat_map};
-ghost use Rattle.std.specs.Str.{chars};
+ghost use Rattle.std.specs.Prelude.{◌≡◌, ◌++◌, OnOk};
 ghost use Rattle.std.specs.String.{string_bytes};
-ghost use Rattle.java_properties.specs.KeyLines.{key_line_entry, key_line_entries};
 ghost use Rattle.properties_text.specs.Encoding.{encoding_of};
-ghost use Rattle.properties_tools.specs.Propedit.Check.{comment_words, escape_finding, finding_line, finding_lines, first_words, has_replacement, ill_formed_findings, ill_formed_text, repeat_findings, words_after, zero_findings, ArrangesByLine, Reports};
+ghost use Rattle.properties_tools.specs.Propedit.Check.{comment_words, finding_line, finding_lines, first_words, ill_formed_findings, ill_formed_text, words_after, zero_findings, ArrangesByLine, Reports};
 
 use crate::messages::Escaped;
 use crate::propedit::error::{HOLDS_ZERO, NOT_UTF_8, NOT_UTF_8_BY_MARK, NOT_UTF_16};
+use crate::propedit::line_findings::line_findings;
 use crate::propedit::lines::{Flaw, first_flawed_line, has_mark, ill_formed_lines};
-use crate::propedit::source::{in_utf_16, keys_in, malformed_in};
-use java_properties::{Encoding, KeyLine, MalformedEscape, PropertiesError};
+use crate::propedit::source::in_utf_16;
+use java_properties::{Encoding, MalformedEscape, PropertiesError};
 use std::alloc::{AllocError, Global};
 use std::fmt;
 
 // What is wrong in a line.
 #[derive(Clone, Copy)]
-struct Finding {
-    line_number: usize,
-    fault: Fault,
+pub(crate) struct Finding {
+    pub line_number: usize,
+    pub fault: Fault,
 }
 
 #[derive(Clone, Copy)]
-enum Fault {
+pub(crate) enum Fault {
     // U+0000, in the first line that has it.
     HoldsZero,
     IllFormedLine(Words),
@@ -35,7 +33,7 @@ enum Fault {
 
 // What is said of an ill-formed line.
 #[derive(Clone, Copy)]
-enum Words {
+pub(crate) enum Words {
     // It is not UTF-8, and another encoding reads it.
     WithEncoding,
     // It is not UTF-8, though a byte order mark says so, and no option helps.
@@ -71,12 +69,9 @@ pub fn report(
     push_zero(&mut findings, zero)?;
     let words = words_for(source, encoding, zero.is_some());
     push_ill_formed(&mut findings, &numbers, words)?;
-    push_malformed(&mut findings, &malformed_in(alloc, source, encoding)?)?;
-    push_repeats(
-        &mut findings,
-        &keys_in(alloc, source, encoding)?,
-        numbers.is_empty(),
-    )?;
+    let in_lines = line_findings(alloc, source, encoding, numbers.is_empty())?;
+    findings.extend_from_slice(&in_lines.escapes)?;
+    findings.extend_from_slice(&in_lines.repeats)?;
     sort(&mut findings)?;
     let mut text = String::new(alloc);
     push_lines(&mut text, name, &findings)?;
@@ -136,66 +131,6 @@ fn push_ill_formed(
         words = words_after(words);
     }
     Ok(())
-}
-
-fn push_malformed(
-    findings: &mut Vec<Finding>,
-    escapes: &[MalformedEscape],
-) -> Result<(), AllocError>
-    ensures { OnOk result (findings.new.items ≡ findings.old.items ++ map escape_finding escapes.now) }
-{
-    for escape in escapes {
-        findings.push(Finding {
-            line_number: escape.line_number,
-            fault: Fault::Escape(*escape),
-        })?;
-    }
-    Ok(())
-}
-
-fn push_repeats(
-    findings: &mut Vec<Finding>,
-    keys: &[KeyLine],
-    is_well_formed: bool,
-) -> Result<(), AllocError>
-    ensures { let repeats = flat_map (repeat_findings is_well_formed) (key_line_entries keys.now) in
-        OnOk result (findings.new.items ≡ findings.old.items ++ repeats) }
-{
-    for key in keys {
-        push_repeat(findings, key, is_well_formed)?;
-    }
-    Ok(())
-}
-
-fn push_repeat(
-    findings: &mut Vec<Finding>,
-    key: &KeyLine,
-    is_well_formed: bool,
-) -> Result<(), AllocError>
-    ensures { let repeats = repeat_findings is_well_formed (key_line_entry key.now) in
-        OnOk result (findings.new.items ≡ findings.old.items ++ repeats) }
-{
-    if key.first_line_number == key.line_number {
-        return Ok(());
-    }
-    if !is_well_formed && may_stand_for_bytes(key.key.as_str()) {
-        return Ok(());
-    }
-    Ok(findings.push(Finding {
-        line_number: key.line_number,
-        fault: Fault::Repeats(key.first_line_number),
-    })?)
-}
-
-fn may_stand_for_bytes(key: &str) -> bool
-    ensures { result ≡ has_replacement (chars key.now) }
-{
-    for character in key.chars() {
-        if character == '\u{fffd}' {
-            return true;
-        }
-    }
-    false
 }
 
 // Sorts the findings by line. Those of one line keep their order.

@@ -23,9 +23,9 @@ use std::alloc::{AllocError, Global};
 /// without a byte order mark. It refuses a malformed escape in a pair too.
 ///
 /// ```text
-/// let keys = vec![in alloc; b, a]?;
+/// // If `keys` are `b` and `a`:
 /// let answer = get(alloc, b"b = 1\na = 2\nb = 3", Encoding::UTF_8, &keys, None, TextEnd::LineFeed)?;
-/// // For the keys `b` and `a` the text is `3` and `2`, each ended by a line feed, and the status is 0.
+/// // The text is `3` and `2`, each ended by a line feed, and the status is 0.
 /// ```
 pub fn get(
     alloc: Global,

@@ -13,6 +13,7 @@ use java_properties::{Encoding, PropertiesError};
 use memchr::memchr;
 use properties_lines::scanner::{RawLine, Scan, Scanner};
 use properties_text::encoding::byte_order_mark::encoding_in_force;
+use properties_text::encoding::well_formed_length;
 use std::alloc::Global;
 
 /// What the bytes of a line may have that a text doesn't.
@@ -79,9 +80,11 @@ fn body_to_decode(source: &[u8], encoding: Encoding) -> (Encoding, &[u8])
     ensures { HasLinesOf IllFormed (encoding_of encoding) source.now (encoding_of result.0) result.1.now }
 {
     let (in_force, start) = encoding_in_force(source, encoding);
+    let body = &source[start..];
     match in_force {
         Encoding::WINDOWS_1252 => (in_force, &[]),
-        _ => (in_force, &source[start..]),
+        Encoding::UTF_8 if well_formed_length(body) == body.len() => (in_force, &[]),
+        _ => (in_force, body),
     }
 }
 

@@ -8,11 +8,12 @@ ghost use Rattle.properties_format.specs.Items.{given};
 ghost use Rattle.properties_items.specs.BorrowedItems.{borrowed_content};
 ghost use Rattle.properties_text.specs.Encoding.{encoding_of};
 ghost use Rattle.properties_tools.specs.Propedit.Listing.{is_key_listed, Lists};
-ghost use Rattle.properties_tools.specs.Private.ListedKeys.{FindsListed, IndexesSome, ListsKey, ListsLine};
+ghost use Rattle.properties_tools.specs.Private.FirstKeys.{IndexesSome};
+ghost use Rattle.properties_tools.specs.Private.ListedKeys.{FindsListed, ListsKey, ListsLine};
 
 use crate::propedit::asked::TextEnd;
 use crate::propedit::error::Failure;
-use crate::propedit::listed::ListedKeys;
+use crate::propedit::first_keys::FirstKeys;
 use crate::propedit::printed::Answer;
 use crate::propedit::source::{refuse_bytes, refuse_unsound};
 use java_properties::{ContentRef, Encoding, LineRef, PropertiesError};
@@ -66,7 +67,7 @@ fn listed(
 {
     let mut input = source;
     let mut lines = LineJoiner::new(alloc, encoding);
-    let mut keys = ListedKeys::new(alloc, source.len() / 16 + 1)?;
+    let mut keys = FirstKeys::for_source(alloc, source.len())?;
     while let Some(number) = lines.next_text(&mut input) {
         add_line(alloc, &mut keys, number, lines.line(), prefix, end)?;
     }
@@ -80,7 +81,7 @@ fn listed(
 #[inline(always)]
 fn add_line(
     alloc: Global,
-    keys: &mut ListedKeys,
+    keys: &mut FirstKeys,
     line_number: usize,
     line: &str,
     prefix: &str,
@@ -102,7 +103,7 @@ fn add_line(
 #[inline(always)]
 fn add_item(
     alloc: Global,
-    keys: &mut ListedKeys,
+    keys: &mut FirstKeys,
     line: LineRef<'_>,
     prefix: &str,
     end: TextEnd,
@@ -117,7 +118,8 @@ fn add_item(
             if !is_listed(key, prefix) {
                 return Ok(());
             }
-            keys.add(alloc, key.as_str(), end)
+            keys.first_line(alloc, key.as_str(), line.line_number(), end)?;
+            Ok(())
         }
     }
 }

@@ -101,7 +101,7 @@ fn pair_in(
         return Ok(None);
     }
     match find_item(alloc, line_number, line)? {
-        Some(found) => Ok(item_pair(alloc, &found, line)?),
+        Some(found) => Ok(item_pair(alloc, found, line)?),
         None => Ok(None),
     }
 }

@@ -2,13 +2,11 @@
 
 ghost use Rattle.std.specs.Prelude.{◌≡◌};
 ghost use Rattle.properties_text.specs.Encoding.{encoding_of};
-ghost use Rattle.properties_tools.specs.Propedit.Sources.{is_in_utf_16, first_in_pair, FindsKeysIn, FindsMalformedIn, IsIllFormedLine, IsNotUtf8, RefusesBytes, RefusesUnsound};
+ghost use Rattle.properties_tools.specs.Propedit.Sources.{is_in_utf_16, first_in_pair, IsIllFormedLine, IsNotUtf8, RefusesBytes, RefusesUnsound};
 
 use crate::propedit::error::Failure;
 use crate::propedit::lines::{Flaw, first_flawed_line, has_mark};
-use java_properties::{
-    Encoding, KeyLine, MalformedEscape, PropertiesError, key_lines, malformed_escapes,
-};
+use java_properties::{Encoding, MalformedEscape, malformed_escapes_of};
 use properties_text::encoding::byte_order_mark::encoding_in_force;
 use std::alloc::Global;
 
@@ -17,7 +15,7 @@ pub fn refuse_unsound(alloc: Global, source: &[u8], encoding: Encoding) -> Resul
     ensures { RefusesUnsound (encoding_of encoding) source.now result }
 {
     refuse_bytes(source, encoding)?;
-    let escapes = malformed_in(alloc, source, encoding)?;
+    let escapes = malformed_escapes_of(alloc, source, encoding)?;
     match first_in_pair(&escapes) {
         Some(escape) => Err(Failure::Malformed(escape)),
         None => Ok(()),
@@ -82,29 +80,4 @@ fn not_utf_8(source: &[u8], number: usize) -> Failure
     } else {
         Failure::NotUtf8(number)
     }
-}
-
-/// Returns the first malformed escape of each logical line that has one, in order. Fails only if memory runs out.
-pub fn malformed_in(
-    alloc: Global,
-    source: &[u8],
-    encoding: Encoding,
-) -> Result<Vec<MalformedEscape>, PropertiesError>
-    ensures { FindsMalformedIn (encoding_of encoding) source.now result }
-{
-    let mut input = source;
-    malformed_escapes(alloc, &mut input, encoding)
-}
-
-/// Returns the key of each pair, in order, with its line and the line of the first pair with it. A pair with a
-/// malformed escape is left out. Fails only if memory runs out.
-pub fn keys_in(
-    alloc: Global,
-    source: &[u8],
-    encoding: Encoding,
-) -> Result<Vec<KeyLine>, PropertiesError>
-    ensures { FindsKeysIn (encoding_of encoding) source.now result }
-{
-    let mut input = source;
-    key_lines(alloc, &mut input, encoding)
 }

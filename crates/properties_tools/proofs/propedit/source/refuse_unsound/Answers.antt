@@ -1,5 +1,4 @@
 use Rattle.std.proofs.Common.{◌∙◌, sym}
-use Rattle.std.proofs.lemmas.Result.{err_from_is_err_and}
 use Rattle.properties_tools.proofs.Unsound.{first-malformed, none-malformed}
 use Rattle.properties_tools.proofs.propedit.source.refuse_unsound.Goals as goal
 

@@ -5,7 +5,7 @@ use Rattle.std.specs.Str.Iter.{chars_rest}
 use Rattle.std.proofs.lemmas.Str.{IsUtf8-past_char}
 use Rattle.java_properties.proofs.Settings.Tests.{past_first, past_last}
 use Rattle.properties_tools.specs.Propedit.Check.{has_replacement}
-use Rattle.properties_tools.proofs.propedit.check.may_stand_for_bytes.Goals as goal
+use Rattle.properties_tools.proofs.propedit.line_findings.may_stand_for_bytes.Goals as goal
 
 pub returns-then-character-eq65533 : goal.returns-then-character-eq65533
 returns-then-character-eq65533 c =

@@ -2,7 +2,7 @@ use Rattle.std.proofs.Common.{◌≡◌}
 use Rattle.std.specs.Str.{IsUtf8, chars}
 use Rattle.std.specs.Str.Iter.{chars_rest}
 use Rattle.properties_tools.specs.Propedit.Check.{has_replacement}
-use Rattle.properties_tools.proofs.propedit.check.may_stand_for_bytes.Given as goal
+use Rattle.properties_tools.proofs.propedit.line_findings.may_stand_for_bytes.Given as goal
 
 abbrev pub invariant-loop-character : goal.invariant-loop-character
 invariant-loop-character l = record {

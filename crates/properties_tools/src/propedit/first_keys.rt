@@ -1,10 +1,10 @@
-// The keys that are listed, each held once.
+// The keys that came, each held once.
 
 ghost use Rattle.std.specs.Prelude.{◌≡◌, ◌+◌, ◌≤◌, ◌<◌, bytes_eq, length, IfOk, OnOk, []};
 ghost use Rattle.std.specs.BTreeMap.{IsOrdered};
 ghost use Rattle.std.specs.Str.{chars};
 ghost use Rattle.std.specs.String.{string_cmp};
-ghost use Rattle.properties_tools.specs.Private.ListedKeys.{bytes_at, hash_after, slot_for, AddsKey, IndexesSome, IsIndexed, KeepsKey, TellsHas};
+ghost use Rattle.properties_tools.specs.Private.FirstKeys.{bytes_at, hash_after, none_held, slot_for, AddsKey, IndexesSome, IsIndexed, KeepsKey, TellsFirst};
 
 use crate::propedit::asked::TextEnd;
 use crate::propedit::printed::push_ended;
@@ -14,68 +14,84 @@ use std::collections::BTreeMap;
 // The factor of the hash.
 const FACTOR: u64 = 6_364_136_223_846_793_005;
 
-/// Where a key is in the text.
+/// Where a key is in the text, and the number of the line in which it came first.
 #[derive(Clone, Copy)]
 pub(crate) struct Place {
     pub start: usize,
     pub length: usize,
+    pub line_number: usize,
 }
 
-/// The keys that are listed. A key is held once, in the text that is printed.
+/// The keys that came, each held once, in one text, and with the number of the line in which it came first.
 ///
 /// Each key has one of the slots, by its hash. A slot has the place of one key. The others with this slot are in a sorted
 /// map, so that no choice of keys makes it slow.
 #[derive(Drop)]
-pub(crate) struct ListedKeys {
+pub(crate) struct FirstKeys {
     /// The keys, each with the byte that ends it.
     pub text: Vec<u8>,
     pub slots: Vec<Option<Place>>,
     pub others: BTreeMap<String, usize>,
 }
 
-impl ListedKeys {
-    /// Has no keys, and so many slots.
-    pub fn new(alloc: Global, slots: usize) -> Result<ListedKeys, AllocError>
-        requires { 0 < slots }
-        ensures indexed { IfOk result (IsIndexed []) }
+impl FirstKeys {
+    /// Has no keys. There are slots for as many keys as a source of this length often has.
+    pub fn for_source(alloc: Global, length: usize) -> Result<FirstKeys, AllocError>
+        ensures indexed { IfOk result (IsIndexed none_held) }
         ensures empty { IfOk result (λ keys. keys.text.items ≡ []) }
     {
-        Ok(ListedKeys {
+        let slots = length / 16 + 1;
+        Ok(FirstKeys {
             text: Vec::new(alloc),
             slots: vec![in alloc; None; slots]?,
             others: BTreeMap::new(alloc),
         })
     }
 
-    /// Adds a key and the byte that ends it, if it isn't there.
+    /// Returns the number of the line in which the key came first. If it didn't come before, that is this line, and the
+    /// key is added with the byte that ends it.
     #[inline(always)]
-    pub fn add(&mut self, alloc: Global, key: &str, end: TextEnd) -> Result<(), AllocError>
+    pub fn first_line(
+        &mut self,
+        alloc: Global,
+        key: &str,
+        line_number: usize,
+        end: TextEnd,
+    ) -> Result<usize, AllocError>
         requires { IndexesSome self.old }
-        ensures { OnOk result (AddsKey end (chars key.now) self.old self.new) }
+        ensures { IfOk result (λ first. AddsKey end (chars key.now) line_number self.old first self.new) }
     {
         let slot = slot_of(key, self.slots.len());
-        if self.has(slot, key) {
-            return Ok(());
+        if let Some(first) = self.held_line(slot, key) {
+            return Ok(first);
         }
         let place = Place {
             start: self.text.len(),
             length: key.len(),
+            line_number,
         };
         push_ended(&mut self.text, key, end)?;
-        self.keep(alloc, slot, key, place)
+        self.keep(alloc, slot, key, place)?;
+        Ok(line_number)
     }
 
-    // Returns whether the key is there, which has this slot.
+    // Returns the number of the line in which a key with this slot came first, if it came.
     #[inline(always)]
-    fn has(&self, slot: usize, key: &str) -> bool
+    fn held_line(&self, slot: usize, key: &str) -> Option<usize>
         requires indexed { IndexesSome self.now }
         requires slot { slot ≡ slot_for (length self.now.slots.items) key.now }
-        ensures { TellsHas (chars key.now) self.now result }
+        ensures { TellsFirst (chars key.now) self.now result }
     {
         let Some(place) = self.slots[slot] else {
-            return false;
+            return None;
         };
-        is_at(&self.text, place, key) || self.others.get(key).is_some()
+        if is_at(&self.text, place, key) {
+            return Some(place.line_number);
+        }
+        match self.others.get(key) {
+            Some(line_number) => Some(*line_number),
+            None => None,
+        }
     }
 
     // Keeps the place of a key, which has this slot: in the slot if nothing is there, and otherwise among the others.
@@ -94,7 +110,7 @@ impl ListedKeys {
     {
         if let Some(_) = self.slots[slot] {
             self.others
-                .insert(String::from_str(alloc, key)?, place.start)?;
+                .insert(String::from_str(alloc, key)?, place.line_number)?;
             return Ok(());
         }
         self.slots[slot] = Some(place);
