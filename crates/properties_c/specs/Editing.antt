@@ -12,7 +12,7 @@ use Rattle.properties_c.specs.Inputs.{InEncoding, WithFlags, WithText, for_edits
 use Rattle.properties_c.specs.PackedLists.{edits, WithList}
 use Rattle.properties_c.specs.declared.encoding.Flags.{Flags}
 
--- The result of edits, given whether comments are read, and whether what is put in is ASCII alone.
+-- The result of edits, given whether comments are read, and whether what is put in is ASCII-only.
 abbrev pub EditsAs : Bool → Bool → Encoding → List ℕ → List Edit → Result (Vec ℕ) PropertiesError → Type 0
 EditsAs true only e source edits result = MakesEdits e only source edits result
 EditsAs false only e source edits result = EditsPairs e only source edits result

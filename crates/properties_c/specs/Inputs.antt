@@ -45,7 +45,7 @@ are_among f taken =
     && ((taken.readable || not f.readable)
     && ((taken.read_comments || not f.read_comments) && ((taken.crlf || not f.crlf) && (taken.cr || not f.cr))))
 
--- what the flags of a number ask for: 1 is ASCII alone, 2 is readable values, 4 is comments that are read, 8 is lines
+-- what the flags of a number ask for: 1 is ASCII-only, 2 is readable values, 4 is comments that are read, 8 is lines
 -- that end in CR LF, 16 is lines that end in CR, and a sum is each of its parts
 abbrev pub flags_in : ℕ → Flags
 flags_in n = flagged (n % 2 == 1) (n / 2 % 2 == 1) (n / 4 % 2 == 1) (n / 8 % 2 == 1) (n / 16 == 1)

@@ -6,11 +6,12 @@ ghost use Rattle.std.specs.List.{flat_map};
 ghost use Rattle.java_properties.specs.KeyLines.{key_line_entry, key_line_entries};
 ghost use Rattle.properties_text.specs.Encoding.{encoding_of};
 ghost use Rattle.properties_c.specs.PackedFindings.{finding_bytes, repeat_bytes};
-ghost use Rattle.properties_c.specs.Private.Findings.{found_bytes, kind_of_finding, FindsAll, FindsKeysIn, FindsMalformedIn};
+ghost use Rattle.properties_c.specs.Private.Findings.{found_bytes, kind_of_finding, FindsAll};
 
 use crate::numbers::push_number;
 use java_properties::{
-    Encoding, ErrorKind, KeyLine, MalformedEscape, PropertiesError, key_lines, malformed_escapes,
+    Encoding, ErrorKind, KeyLine, MalformedEscape, PropertiesError, key_lines_of,
+    malformed_escapes_of,
 };
 use std::alloc::{AllocError, Global};
 
@@ -26,34 +27,12 @@ pub fn findings_in(
 ) -> Result<Vec<u8>, PropertiesError>
     ensures { FindsAll (encoding_of encoding) source.now result }
 {
-    let escapes = escapes_in(alloc, source, encoding)?;
-    let keys = keys_in(alloc, source, encoding)?;
+    let escapes = malformed_escapes_of(alloc, source, encoding)?;
+    let keys = key_lines_of(alloc, source, encoding)?;
     let mut bytes = Vec::new(alloc);
     push_escapes(&mut bytes, &escapes)?;
     push_repeats(&mut bytes, &keys)?;
     Ok(bytes)
-}
-
-fn escapes_in(
-    alloc: Global,
-    source: &[u8],
-    encoding: Encoding,
-) -> Result<Vec<MalformedEscape>, PropertiesError>
-    ensures { FindsMalformedIn (encoding_of encoding) source.now result }
-{
-    let mut input = source;
-    malformed_escapes(alloc, &mut input, encoding)
-}
-
-fn keys_in(
-    alloc: Global,
-    source: &[u8],
-    encoding: Encoding,
-) -> Result<Vec<KeyLine>, PropertiesError>
-    ensures { FindsKeysIn (encoding_of encoding) source.now result }
-{
-    let mut input = source;
-    key_lines(alloc, &mut input, encoding)
 }
 
 fn push_escapes(bytes: &mut Vec<u8>, escapes: &[MalformedEscape]) -> Result<(), AllocError>

@@ -1,6 +1,6 @@
 //! The library for programs in C, and through them for other languages.
 //!
-//! Each export hands on what the function of `java_properties` for its task returns. A slice is a pointer and a length,
+//! Each export returns what the function of `java_properties` for its task gives. A slice is a pointer and a length,
 //! which for `out` is the room there. Texts are UTF-8. Each call sets `length` and `line` and returns a status:
 //!
 //! - at 0, `length` bytes were written to `out`;

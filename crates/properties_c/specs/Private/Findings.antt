@@ -5,12 +5,10 @@ use Rattle.properties_format.specs.Encoding.{Encoding}
 use Rattle.properties_format.specs.MalformedEscapes as format
 use Rattle.properties_format.specs.MalformedEscapes.{AreMalformedEscapes}
 use Rattle.java_properties.specs.Errors.{IsBareError}
-use Rattle.java_properties.specs.KeyLines.{AreKeyLines, KeyEntry, key_line_entries}
-use Rattle.java_properties.specs.MalformedEscapes.{escape_records}
+use Rattle.java_properties.specs.KeyLines.{AreKeyLines, KeyEntry}
 use Rattle.properties_items.specs.declared.error.ErrorKind.{ErrorKind}
 use Rattle.properties_items.specs.declared.error.ErrorKind.TheVariants as kind
 use Rattle.properties_items.specs.declared.error.PropertiesError.{PropertiesError}
-use Rattle.properties_items.specs.declared.findings.KeyLine.{KeyLine}
 use Rattle.properties_items.specs.declared.findings.MalformedEscape.{MalformedEscape}
 use Rattle.properties_c.specs.PackedFindings.{finding_bytes, packed_findings}
 
@@ -22,26 +20,6 @@ kind_of_finding other = 3
 
 abbrev pub found_bytes : MalformedEscape → List ℕ
 found_bytes escape = finding_bytes (kind_of_finding escape.kind) escape.line_number (if escape.in_comment then 1 else 0) []
-
--- These are the malformed escapes of a source, and the only ones.
-pub record HasMalformed (e : Encoding) (source : List ℕ) (found : List MalformedEscape) : Type 0 where
-  pub escapes : List format.MalformedEscape
-  pub are : AreMalformedEscapes e source escapes
-  pub only : (others : List format.MalformedEscape) → AreMalformedEscapes e source others → others ≡ escapes
-  pub is : found ≡ escape_records escapes
-
-abbrev pub FindsMalformedIn : Encoding → List ℕ → Result (Vec MalformedEscape) PropertiesError → Type 0
-FindsMalformedIn e source (Ok found) = HasMalformed e source found.items
-FindsMalformedIn e source (Err error) = IsBareError kind.Memory error
-
--- These are the keys of a source, each with its line and the line in which it comes first, and the only ones.
-pub record HasKeys (e : Encoding) (source : List ℕ) (found : List KeyLine) : Type 0 where
-  pub are : AreKeyLines e source (key_line_entries found)
-  pub only : (others : List KeyEntry) → AreKeyLines e source others → others ≡ key_line_entries found
-
-abbrev pub FindsKeysIn : Encoding → List ℕ → Result (Vec KeyLine) PropertiesError → Type 0
-FindsKeysIn e source (Ok found) = HasKeys e source found.items
-FindsKeysIn e source (Err error) = IsBareError kind.Memory error
 
 -- These are the bytes of what is wrong in a source.
 pub record HasFindings (e : Encoding) (source bytes : List ℕ) : Type 0 where
