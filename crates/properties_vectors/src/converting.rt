@@ -1,10 +1,10 @@
 // A source, and what it is converted to.
 
+use crate::items::error_text;
+use crate::notation::{Clause, Halt, quoted};
+use crate::outcome::Outcome;
 use java_properties::{Encoding, Repertoire, Spelling, convert};
 use std::alloc::Global;
-use vector_notation::notation::{Clause, Halt, quoted};
-use vector_notation::outcome::Outcome;
-use vector_notation::shown::{compare, error_text};
 
 /// The source is converted as the clause after it says: `to ascii`, or `readable to utf-8`.
 pub fn check_converting(
@@ -28,7 +28,7 @@ pub fn check_converting(
         Ok(bytes) => quoted(alloc, bytes.as_slice())?,
         Err(error) => error_text(alloc, &error)?,
     };
-    compare(alloc, outcome, "converted", came.as_str())?;
+    outcome.compare(alloc, "converted", came.as_str())?;
     Ok(())
 }
 

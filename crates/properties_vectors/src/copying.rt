@@ -1,14 +1,14 @@
 // Pairs that are copied, by `copy_pairs` and by the calls that it replaces.
 
+use crate::items::error_text;
+use crate::notation::{Clause, Halt, quoted};
+use crate::outcome::Outcome;
+use crate::script::{SIZES, Script};
+use crate::sinks::{FAULTS, ROOMY, Sink, front_sink};
 use crate::writing::{call, writer_to};
 use counted_io::{CountedRead, CountedWrite, Tail};
 use java_properties::{ContentRef, CopyError, Encoding, PropertiesIter, PropertiesWriter};
 use std::alloc::{AllocError, Global};
-use vector_notation::notation::{Clause, Halt, quoted};
-use vector_notation::outcome::Outcome;
-use vector_notation::script::{SIZES, Script};
-use vector_notation::shown::{compare, error_text};
-use vector_notation::sinks::{FAULTS, ROOMY, Sink, front_sink};
 
 // What pairs are copied to: a writer in this encoding, to this sink, after these calls.
 #[derive(Clone, Copy)]
@@ -58,7 +58,7 @@ pub fn check_copying(
     for size in SIZES {
         let script = Script::of_bytes(alloc, bytes, size, Tail::End)?;
         let came = copy_in_both_ways(alloc, encoding, &script, target, outcome)?;
-        compare(alloc, outcome, "copied", came.text.as_str())?;
+        outcome.compare(alloc, "copied", came.text.as_str())?;
         writes = came.writes;
     }
     if named.is_none() {

@@ -1,13 +1,12 @@
 // Items and errors, as a right side has them.
 
+use crate::notation::shown;
 use counted_io::CountedRead;
 use java_properties::{
-    Encoding, ErrorKind, Line, LineContent, PropertiesError, Stopped, read_lines,
+    Cause, Encoding, ErrorKind, Line, LineContent, PropertiesError, Stopped, read_lines,
 };
 use std::alloc::{AllocError, Global};
 use std::io;
-use vector_notation::notation::shown;
-use vector_notation::shown::error_text;
 
 /// What is made of an input.
 #[derive(Clone, Copy)]
@@ -103,6 +102,20 @@ impl Item {
             text: String::from_str(alloc, self.text.as_str())?,
         })
     }
+}
+
+/// Returns all that an error says, as `Io in line 2 by StorageFull`.
+pub fn error_text(alloc: Global, error: &PropertiesError) -> Result<String, AllocError> {
+    let mut text = format!(in alloc; "{:?}", error.kind())?;
+    if let Some(number) = error.line_number() {
+        text.push_str(format!(in alloc; " in line {number}")?.as_str())?;
+    }
+    match error.cause() {
+        Cause::None => {}
+        Cause::Io(fault) => text.push_str(format!(in alloc; " by {:?}", fault.kind())?.as_str())?,
+        Cause::NotHex => text.push_str(" by NotHex")?,
+    }
+    Ok(text)
 }
 
 /// The items, one after another; where pairs are wanted, these alone and without their numbers.

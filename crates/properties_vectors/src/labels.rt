@@ -1,9 +1,9 @@
 // Labels of encodings.
 
+use crate::notation::{Clause, Halt, text};
+use crate::outcome::Outcome;
 use java_properties::Encoding;
 use std::alloc::Global;
-use vector_notation::notation::{Clause, Halt};
-use vector_notation::outcome::Outcome;
 
 /// Whether a text is a label of the encoding.
 pub fn check_label(
@@ -15,13 +15,10 @@ pub fn check_label(
     let [clause] = clauses else {
         return Err(Halt::Unreadable);
     };
-    let ("", [text]) = (clause.word.as_str(), clause.texts.as_slice()) else {
+    let ("", [label]) = (clause.word.as_str(), clause.texts.as_slice()) else {
         return Err(Halt::Unreadable);
     };
-    let Ok(text) = str::from_utf8(text) else {
-        return Err(Halt::Unreadable);
-    };
-    let came = if Encoding::for_label(text) == Some(encoding) {
+    let came = if Encoding::for_label(text(label)?) == Some(encoding) {
         "yes"
     } else {
         "no"

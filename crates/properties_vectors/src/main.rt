@@ -7,6 +7,7 @@
 //! "a\\\n"; fault TimedOut           | Io in line 2 by TimedOut
 //! write utf-8
 //! prefix "!"; comment "x"           | "!x\n"
+//! sink 3 fault 2 Other; comment "x" | 1: Io in line 1 by Other; "# x"; faults 1
 //! edit windows-1252 utf-8
 //! "a=1\na=2\n"; put "a" "9"         | "a=1\na=9\n"
 //! ```
@@ -24,7 +25,11 @@ mod copying;
 mod editing;
 mod items;
 mod labels;
+mod notation;
+mod outcome;
 mod reading;
+mod script;
+mod sinks;
 mod table;
 mod writing;
 

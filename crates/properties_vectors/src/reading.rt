@@ -7,6 +7,9 @@ mod ways;
 
 use crate::copying::check_into_both_encodings;
 use crate::items::{Kind, Reading, joined, whole_items};
+use crate::notation::{Clause, Halt};
+use crate::outcome::Outcome;
+use crate::script::{SIZES, Script};
 use before_fault::items_before_fault;
 pub use compared::check_compared;
 use counted_io::Tail;
@@ -14,9 +17,6 @@ use java_properties::Encoding;
 pub use printed::check_printed;
 use std::alloc::Global;
 use std::{io, slice};
-use vector_notation::notation::{Clause, Halt};
-use vector_notation::outcome::Outcome;
-use vector_notation::script::{SIZES, Script};
 use ways::{Way, read_by};
 
 // The fault that comes after each byte of an input.

@@ -6,13 +6,13 @@ use crate::editing::check_edit;
 use crate::editing::pairs::{check_edit_pairs, check_get_pairs};
 use crate::items::Reading;
 use crate::labels::check_label;
+use crate::notation::{Clause, Halt, clauses};
+use crate::outcome::Outcome;
 use crate::reading::{Pace, check_compared, check_printed, check_reading};
 use crate::writing::maps::check_maps;
 use crate::writing::{check_printing, check_writing};
 use java_properties::Encoding;
 use std::alloc::{AllocError, Global};
-use vector_notation::notation::{Clause, Halt, clauses};
-use vector_notation::outcome::Outcome;
 
 /// How many rows were run, each counted in each encoding, and what doesn't hold or isn't understood.
 #[derive(Drop)]

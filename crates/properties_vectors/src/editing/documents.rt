@@ -1,11 +1,10 @@
 // Documents that stay open while they are changed.
 
-use crate::items::items_after;
+use crate::items::{error_text, items_after};
+use crate::notation::{Clause, Halt, quoted, reading_of, text};
+use crate::outcome::Outcome;
 use java_properties::{Document, Encoding, LineContent, read_lines, read_sorted};
 use std::alloc::{AllocError, Global};
-use vector_notation::notation::{Clause, Halt, quoted, text};
-use vector_notation::outcome::Outcome;
-use vector_notation::shown::{compare, error_text, reading_of};
 
 /// The document is its source, and then what its changes make of it. Returns what is seen of it besides its bytes: the
 /// values that are asked for, and what is read of the bytes.
@@ -20,7 +19,7 @@ pub fn check_document(
     match Document::parse(alloc, source, encoding) {
         Err(error) => {
             let came = error_text(alloc, &error)?;
-            compare(alloc, outcome, "by a document", came.as_str())?;
+            outcome.compare(alloc, "by a document", came.as_str())?;
         }
         Ok(mut document) => {
             if document.to_bytes()?.as_slice() != source {
@@ -39,7 +38,7 @@ pub fn check_document(
                 }
             }
             let came = format!(in alloc; "{}{seen}", quoted(alloc, bytes.as_slice())?)?;
-            compare(alloc, outcome, "by a document", came.as_str())?;
+            outcome.compare(alloc, "by a document", came.as_str())?;
         }
     }
     Ok(seen)

@@ -1,14 +1,14 @@
 // Edits that pass over comments, and values that are looked up among the pairs of a source.
 
 use crate::editing::{Run, edited, runs};
+use crate::items::error_text;
+use crate::notation::{Clause, Halt, quoted, text};
+use crate::outcome::Outcome;
 use java_properties::{
     Edit, Encoding, PropertiesError, edit_all, edit_pairs, value_among_pairs, value_of,
 };
 use std::alloc::{AllocError, Global};
 use std::slice;
-use vector_notation::notation::{Clause, Halt, quoted, text};
-use vector_notation::outcome::Outcome;
-use vector_notation::shown::{compare, error_text};
 
 /// The edits are made as lists and one at a time, and what is got is looked up in what came. Where comments can be
 /// read, edits that read them give the same.
@@ -23,14 +23,14 @@ pub fn check_edit_pairs(
     let runs = runs.as_slice();
     let lists = by_lists(alloc, source, encoding, runs);
     let came = shown(alloc, encoding, lists, steps)?;
-    compare(alloc, outcome, "by lists of edits", came.as_str())?;
+    outcome.compare(alloc, "by lists of edits", came.as_str())?;
     let single = one_at_a_time(alloc, source, encoding, runs);
     let came = shown(alloc, encoding, single, steps)?;
-    compare(alloc, outcome, "one edit at a time", came.as_str())?;
+    outcome.compare(alloc, "one edit at a time", came.as_str())?;
     if edit_all(alloc, source, encoding, &[]).is_ok() {
         let read = edited(alloc, source, encoding, runs);
         let came = shown(alloc, encoding, read, steps)?;
-        compare(alloc, outcome, "where comments are read", came.as_str())?;
+        outcome.compare(alloc, "where comments are read", came.as_str())?;
     }
     Ok(())
 }
@@ -61,12 +61,12 @@ pub fn check_get_pairs(
             }
             Err(error) => {
                 let came = error_text(alloc, &error)?;
-                compare(alloc, outcome, "looked up", came.as_str())?;
+                outcome.compare(alloc, "looked up", came.as_str())?;
             }
         }
     }
     if !came.is_empty() {
-        compare(alloc, outcome, "looked up", came.as_str())?;
+        outcome.compare(alloc, "looked up", came.as_str())?;
     }
     Ok(())
 }

@@ -1,10 +1,10 @@
 // Lines as values: which of two comes first, and what copies of one are.
 
+use crate::notation::{Clause, Halt};
+use crate::outcome::Outcome;
 use java_properties::{Encoding, Line, read_lines};
 use std::alloc::Global;
 use std::cmp::Ordering;
-use vector_notation::notation::{Clause, Halt};
-use vector_notation::outcome::Outcome;
 
 /// The first lines of two inputs are compared, and their contents, and copies of both.
 pub fn check_compared(

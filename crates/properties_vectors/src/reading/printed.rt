@@ -1,10 +1,10 @@
 // Items, and the errors that end them, as they are printed.
 
+use crate::notation::{Clause, Halt};
+use crate::outcome::Outcome;
+use crate::script::Script;
 use java_properties::{Encoding, Line, Stopped, read_lines};
 use std::alloc::{AllocError, Global};
-use vector_notation::notation::{Clause, Halt};
-use vector_notation::outcome::Outcome;
-use vector_notation::script::Script;
 
 /// What the script gives is printed, each item as a line and as the content of one.
 pub fn check_printed(

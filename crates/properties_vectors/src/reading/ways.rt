@@ -1,11 +1,11 @@
 // The ways to read an input.
 
 use crate::items::{Item, whole_items};
+use crate::notation::Halt;
 use counted_io::CountedRead;
 use java_properties::{Encoding, Line, PropertiesError, PropertiesIter, read, read_sorted};
 use std::alloc::{AllocError, Global};
 use std::collections::BTreeMap;
-use vector_notation::notation::Halt;
 
 /// How an input is read.
 #[derive(Clone, Copy, Debug)]

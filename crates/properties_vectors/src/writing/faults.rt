@@ -2,13 +2,12 @@
 
 use super::lists::{check_lists, copied};
 use super::{Words, Written, shown_calls, write};
+use crate::notation::{Clause, Halt, reading_of};
+use crate::outcome::Outcome;
+use crate::sinks::{Cut, FAULTS, Sink, cut_at, fault_text};
 use counted_io::SinkFault;
 use java_properties::Encoding;
 use std::alloc::{AllocError, Global};
-use vector_notation::notation::{Clause, Halt};
-use vector_notation::outcome::Outcome;
-use vector_notation::shown::reading_of;
-use vector_notation::sinks::{Cut, FAULTS, Sink, cut_at, fault_text};
 
 /// The line in which a write fails is named, and after it no call touches the sink.
 pub fn check_faults(

@@ -1,12 +1,12 @@
 // Calls as a list, which goes on after a refusal and ends at a fault.
 
 use super::{Written, line_ending, shown_calls, writer_to};
+use crate::items::error_text;
+use crate::notation::{Clause, Halt, owned, reading_of};
+use crate::outcome::Outcome;
+use crate::sinks::Sink;
 use java_properties::{Call, Encoding, run_calls};
 use std::alloc::{AllocError, Global};
-use vector_notation::notation::{Clause, Halt, owned};
-use vector_notation::outcome::Outcome;
-use vector_notation::shown::{error_text, reading_of};
-use vector_notation::sinks::Sink;
 
 /// The list comes to what its calls came to one by one. Where it ends at a fault, the calls after that are run as the
 /// next list.

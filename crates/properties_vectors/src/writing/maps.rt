@@ -1,16 +1,16 @@
 // Maps that are written whole, each pair a clause.
 
 use super::{call, shown_calls, writer_to};
+use crate::items::error_text;
+use crate::notation::{Clause, Halt, owned};
+use crate::outcome::Outcome;
+use crate::sinks::{FAULTS, ROOMY, Sink, cut_at, fault_text, front_sink};
 use counted_io::ScriptedSink;
 use java_properties::{
     Encoding, PropertiesError, PropertiesWriter, read, read_sorted, write, write_sorted,
 };
 use std::alloc::{AllocError, Global};
 use std::collections::{BTreeMap, HashMap};
-use vector_notation::notation::{Clause, Halt, owned};
-use vector_notation::outcome::Outcome;
-use vector_notation::shown::{compare, error_text};
-use vector_notation::sinks::{FAULTS, ROOMY, Sink, cut_at, fault_text, front_sink};
 
 // How a map is written.
 #[derive(Clone, Copy, Debug, PartialEq, Eq)]
@@ -78,7 +78,7 @@ fn check_map(
 ) -> Result<(), Halt> {
     let (came, sink) = written(alloc, given, named.unwrap_or(ROOMY), way)?;
     let name = format!(in alloc; "by {way:?}")?;
-    compare(alloc, outcome, name.as_str(), came.as_str())?;
+    outcome.compare(alloc, name.as_str(), came.as_str())?;
     if named.is_none() {
         if !is_read_back(alloc, given, sink.bytes(), way)? {
             outcome.fail(format!(in alloc; "{name}: another map is read back")?);

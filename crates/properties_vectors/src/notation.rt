@@ -1,9 +1,10 @@
-// The left side of a row: clauses, which `;` separates, each a word and texts in quotes, of which either may be
-// missing.
+// The notation of rows. A left side is clauses, which `;` separates, each a word and texts in quotes, of which either
+// may be missing. A right side has texts and bytes in quotes.
 //
 // Texts have `\n`, `\r`, `\t`, `\f`, `\0`, `\\`, `\xHH` for a byte and `\u{..}` for a character. A quote in a text is
 // `\x22`, and a bar `\x7c`.
 
+use java_properties::Encoding;
 use std::alloc::{AllocError, AllocFailed, Global};
 use std::str;
 
@@ -153,6 +154,11 @@ fn push_character(alloc: Global, bytes: &mut Vec<u8>, character: char) -> Result
     let mut text = String::new(alloc);
     text.push(character)?;
     bytes.extend_from_slice(text.as_bytes())
+}
+
+/// Returns the encoding in which a clause, as `read utf-8`, has bytes read.
+pub fn reading_of(word: &str) -> Option<Encoding> {
+    Encoding::from_name(word.strip_prefix("read ")?)
 }
 
 /// Returns the text in quotes, as a right side has it. A thousand equal characters or more at its front are counted.
