@@ -485,7 +485,7 @@ static void try_edits(void) {
     request.value = T("");
     check("set_key of nothing", request, TODRENVAL_OK, 0, T("=\n"));
 
-    /* ASCII alone, and each encoding. What was there stays. */
+    /* ASCII only, and each encoding. What was there stays. */
     request = request_of(SET_VALUE, T("# \xe9\n\xe9 = \xe9\n"), TODRENVAL_WINDOWS_1252);
     request.key = T("\xc3\xa9");
     request.value = T("\xc3\xa8\xe2\x82\xac\xe3\x81\x82");
@@ -508,7 +508,7 @@ static void try_edits(void) {
     request = request_of(SET_KEY, T(""), TODRENVAL_UTF_8);
     request.key = T("\xef\xbb\xbf\x01");
     request.value = T("\n\xef\xbb\xbf");
-    check("set_key like a mark", request, TODRENVAL_OK, 0, T("\\ufeff\\u0001=\\n\xef\xbb\xbf\n"));
+    check("set_key like a byte order mark", request, TODRENVAL_OK, 0, T("\\ufeff\\u0001=\\n\xef\xbb\xbf\n"));
     request = request_of(REMOVE_KEY, T("k=v\n\xef\xbb\xbf" "a=1\n"), TODRENVAL_UTF_8);
     check("remove_key before a mark", request, TODRENVAL_OK, 0, T("\n\xef\xbb\xbf" "a=1\n"));
     request = request_of(SET_VALUE, T("  a  :  1\r\n"), TODRENVAL_UTF_8);
@@ -686,7 +686,7 @@ static void try_convert(void) {
     converts("convert after two marks", T("\xef\xbb\xbf\xef\xbb\xbfk=1"), TODRENVAL_UTF_8, text, text, text, text,
              text);
     text = T("\\u00ef\xbb\xbfk=1");
-    converts("convert like a mark", T("\xc3\xaf\xc2\xbb\xc2\xbfk=1"), TODRENVAL_UTF_8, text, text,
+    converts("convert like a byte order mark", T("\xc3\xaf\xc2\xbb\xc2\xbfk=1"), TODRENVAL_UTF_8, text, text,
              T("\xc3\xaf\xc2\xbb\xc2\xbfk=1"), T("\xc3\xaf\xc2\xbb\xc2\xbfk=1"), T("\\u00ef\\u00bb\\u00bfk=1"));
 
     /* Malformed escapes, and bytes that aren't text. */

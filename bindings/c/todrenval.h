@@ -96,7 +96,7 @@ enum todrenval_target {
 /* What a call does otherwise than without flags: 0, one of these, or several, as in TODRENVAL_ASCII_ONLY |
  * TODRENVAL_READABLE. A call that has no use for a flag refuses it, as it refuses flags that there are not. */
 enum todrenval_flag {
-    /* Each character past ASCII that is put in is an escape: todrenval_set_value, _set_key, _edit, _write. */
+    /* Each non-ASCII character that is put in is an escape: todrenval_set_value, _set_key, _edit, _write. */
     TODRENVAL_ASCII_ONLY = 1,
     /* Values are written as people write them: todrenval_write. */
     TODRENVAL_READABLE = 2,
@@ -216,8 +216,8 @@ int todrenval_findings(uint8_t const *source, size_t source_length, uint32_t enc
  * separator of the last pair and the last line ending of the source, but with no indent. Every other line stays as it
  * is, but for a line ending that a new pair needs before it.
  *
- * With TODRENVAL_ASCII_ONLY, what is new is written in ASCII alone, with an escape for each other character. Without
- * it, a character past ASCII is an escape only if the encoding lacks it, or if it is the first one of a key at the
+ * With TODRENVAL_ASCII_ONLY, what is new is written in ASCII only, with an escape for each other character. Without
+ * it, a non-ASCII character is an escape only if the encoding lacks it, or if it is the first one of a key at the
  * front of the source that would begin like a byte order mark.
  *
  * A malformed escape of any pair is an error, and with TODRENVAL_READ_COMMENTS one in a comment is too.
@@ -277,7 +277,7 @@ int todrenval_convert(uint8_t const *source, size_t source_length, uint32_t enco
  * separator of no bytes is the usual one, "# " or "=". Lines end in a line feed if no flag asks for another ending. If
  * the prefix has a backslash, what is read back of comments may differ.
  *
- * With TODRENVAL_ASCII_ONLY, each character past ASCII is an escape; without it, it is one where it is in
+ * With TODRENVAL_ASCII_ONLY, each non-ASCII character is an escape; without it, it is one where it is in
  * todrenval_set_value. Without TODRENVAL_READABLE, each space, `=`, `:`, `#` and `!` of a value gets a backslash. With
  * it, values are written as todrenval_set_value writes them: a space at the end is \u0020, even if it is the whole
  * value, one at the front gets a backslash, and all others of these are as they are. Keys are written alike in both. A

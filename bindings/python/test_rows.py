@@ -484,7 +484,7 @@ def try_arguments(count):
         count.check(todrenval.loads("a=\u20ac".encode(name), encoding=label) == {"a": "\u20ac"}, label)
     count.check(todrenval.loads("a=\u20ac".encode()) == {"a": "\u20ac"}, "the default encoding")
     count.check(todrenval.loads(b"a=\x80", encoding="iso-8859-1") == {"a": "\u20ac"}, "iso-8859-1")
-    count.check(todrenval.set_key(b"", "a", "\u20ac") == b"a=\\u20ac\n", "ASCII alone")
+    count.check(todrenval.set_key(b"", "a", "\u20ac") == b"a=\\u20ac\n", "ASCII only")
     calls = [
         (todrenval.loads, []),
         (todrenval.items, []),
@@ -880,7 +880,7 @@ def try_round_trips(count):
             written = written_in(encoding)
             count.check(todrenval.loads(data, encoding=written) == dict(pairs), f"a round trip in {encoding}")
             count.check(todrenval.dumps(todrenval.items(data, encoding=written), **named) == data, encoding)
-            count.check(not ascii_only or data.isascii(), "ASCII alone")
+            count.check(not ascii_only or data.isascii(), "ASCII only")
     blanks = b"a\n" * 5000
     count.check(len(todrenval.items(blanks)) == 5000, "items of short lines")
 

@@ -21,8 +21,8 @@ from 80 to 9F. Bytes that aren't text of the encoding raise a PropertiesError wi
 are read as U+FFFD. U+0000 in UTF-8 without a byte order mark raises one too, since UTF-16 looks so, unless errors is
 "replace".
 
-What is written is ASCII alone, with escapes for other characters, as Java's `Properties.store` and `json.dumps` write it, so
-it reads the same in iso-8859-1 and utf-8. With ascii_only=False a character past ASCII is an escape only if the encoding
+What is written is ASCII-only, with escapes for other characters, as Java's `Properties.store` and `json.dumps` write it, so
+it reads the same in iso-8859-1 and utf-8. With ascii_only=False a non-ASCII character is an escape only if the encoding
 lacks it, or if it is the first one of a key at the front of a file that would begin like a byte order mark.
 
 Java passes over comments, and so do all functions but `items`, so that a comment may be `# C:\users`. With comments="read" a
