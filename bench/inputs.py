@@ -7,7 +7,7 @@ NAMES = {
     # name: (argument of the program, what it is)
     "pairs": ("windows-1252", "pairs in ASCII, with blanks, escapes, comments, joins and blank lines"),
     "pairs-crlf": ("windows-1252", "the same with CR LF"),
-    "pairs-latin-1": ("windows-1252", "the same with words past ASCII, one byte a character"),
+    "pairs-latin-1": ("windows-1252", "the same with non-ASCII words, one byte a character"),
     "pairs-utf-8": ("utf-8", "the same in UTF-8, with words of three bytes a character"),
     "pairs-utf-16le": ("utf-16le", "the same as in Latin-1, in UTF-16LE"),
     "short-lines": ("windows-1252", "lines a=b"),
@@ -18,7 +18,7 @@ NAMES = {
     "escapes": ("windows-1252", "a value of escapes alone"),
     "escaped-when-written": ("windows-1252", "a value of characters that are all escaped when they are written"),
     "shipped": ("windows-1252", "lines in the shares that files have which are shipped in programs"),
-    "windows-1252": ("windows-1252", "pairs with letters past ASCII, dashes, quotes and the euro sign"),
+    "windows-1252": ("windows-1252", "pairs with non-ASCII letters, dashes, quotes and the euro sign"),
     "escapes-in-lines": ("windows-1252", "a pair a line, its value of escapes alone"),
     "blanks": ("windows-1252", "one line of blanks around ="),
 }

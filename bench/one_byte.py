@@ -1,7 +1,7 @@
 #!/usr/bin/env python3
 """Counts the instructions of propfilter where each read gives one byte: one_byte.py PROGRAM, as crates/propfilter/out/propfilter.
 
-Each input is one logical line, or one line end after another, of two sizes. The number for a byte must not grow with the size.
+Each input is one logical line, or one line ending after another, of two sizes. The number for a byte must not grow with the size.
 It needs valgrind.
 """
 import array
