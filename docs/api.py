@@ -24,8 +24,8 @@ ABOUT = {
     "counted_io": "Readers and writers that count their I/O errors. `Counted` makes one of any reader or writer.",
     "properties_tools": "What the programs `propfilter` and `propedit` do, over any streams.",
     "propedit_arguments": "What the arguments of `propedit` ask for, and what is printed if they ask for nothing.",
-    "properties_items": "What reader, writer and editor share. `java_properties` hands on the types that its callers need.",
-    "properties_editing": "The editor. `java_properties` hands all of it on but for its laws, which its own `laws` hands on.",
+    "properties_items": "What reader, writer and editor share. `java_properties` re-exports the types that its callers need.",
+    "properties_editing": "The editor. `java_properties` re-exports all of it but for its laws, which its own `laws` re-exports.",
     "properties_text": "Calls for a single line, in the modules `encoding`, `escape`, `parse` and others.",
     "properties_lines": "The natural and the logical lines of a reader.",
     "byte_blocks": "Classes of bytes, and searches for them, sixteen bytes at once.",
@@ -49,7 +49,7 @@ def files(crate):
 
 
 def uses(path):
-    """The names that a file hands on, each with the file of the module that it has them from."""
+    """The names that a file re-exports, each with the file of the module that it has them from."""
     source = source_of(path)
     folder = source if path.stem == "lib" else path.with_suffix("")
     for use in re.findall(r"^pub use ([^;]+);", path.read_text(), re.M):
@@ -65,7 +65,7 @@ def uses(path):
 
 
 def exported(crate):
-    """The module from which a caller has each name that the root of the crate and its public modules hand on, by the
+    """The module from which a caller has each name that the root of the crate and its public modules re-export, by the
     name and its file, and the module of each of their files. The root is the empty text."""
     source = TOP / "crates" / crate / "src"
     names, pages, left = {}, {}, [(source / "lib.rt", "")]
@@ -73,7 +73,7 @@ def exported(crate):
         path, module = left.pop(0)
         pages[path] = module
         for name, of in uses(path):
-            # A module may hand on what it has from another.
+            # A module may re-export what it has from another.
             while of and of.exists():
                 names.setdefault((name, of), module)
                 of = dict(uses(of)).get(name)

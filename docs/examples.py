@@ -21,13 +21,13 @@ use byte_blocks::{Byte, Either, LineEnds, find};
 use counted_io::{Counted, CountedRead, CountedWrite, ScriptedReader, ScriptedSink, SinkFault, Tail, send};
 use java_properties::{
     Call, Cause, ContentRef, Document, Edit, Encoding, LineContent, LineEnding, PropertiesError, PropertiesIter,
-    PropertiesWriter, Spelling, convert, edit_all, edit_all_ascii, edit_pairs, first_malformed_escape, key_lines, laws, malformed_escapes, read, read_lines, read_sorted, read_source, remove_key, run_calls,
+    PropertiesWriter, Spelling, convert, edit_all, edit_all_ascii, edit_pairs, first_malformed_escape, key_lines, key_lines_of, laws, malformed_escapes, malformed_escapes_of, read, read_lines, read_sorted, read_source, remove_key, run_calls,
     set_key, set_value, value_among_pairs, value_of, write, write_sorted, write_source,
 };
 use properties_text::encoding::TextBuffer;
 use properties_text::escape::unescape;
 use properties_text::print::{LineBuffer, Pair, Place, Repertoire, print_pair, print_readable_pair, print_readable_texts, print_text, print_texts, print_value};
-use propedit_arguments::{asked_for, explain, explain_not_utf_8};
+use propedit_arguments::{asked_for, explain, explain_name, explain_not_utf_8, marked_words, name_of_marked};
 use properties_tools::arguments::words;
 use properties_tools::filter::{filter, filter_ascii};
 use properties_tools::messages::{Escaped, print_error, print_line};
@@ -36,7 +36,7 @@ use properties_tools::propedit::asked::{Change, Command, Conversion, Edits, File
 use properties_tools::propedit::error::{Failure, print_failure};
 use properties_tools::propedit::in_place::{Target, edit_file};
 use properties_tools::propedit::lines::ill_formed_lines;
-use properties_tools::propedit::{self, change::change, check::report, exit_status, get::get, list::list, replacement};
+use properties_tools::propedit::{self, change::change, check::report, exit_status, get::get, list::list, pairs::list_values, replacement};
 use properties_tools::propfilter;
 use single_lines::decode::decode_line;
 use single_lines::parse::{ParsedLine, parse_line};
@@ -72,6 +72,7 @@ GIVEN = {
     "writer": f"let mut writer = PropertiesWriter::new(alloc, {SINK})?;",
     "repertoire": "let repertoire = Repertoire::Utf8;",
     "line": "let mut line = LineBuffer::new(alloc);",
+    "keys": "let keys: Vec<String> = Vec::new(alloc);",
     "key": 'let key = String::from_str(alloc, "k")?;',
     "source": 'let source: &[u8] = b"port=80";',
     "port": 'let port = String::from_str(alloc, "port")?;',
@@ -81,7 +82,7 @@ GIVEN = {
 }
 EDITED_FILE = (
     'let file = FileChange { path: String::from_str(alloc, "my.properties")?, encoding: Encoding::UTF_8, '
-    "change: Change::Edits(Edits { list: Vec::new(alloc), ascii_only: false }), missing: Missing::Refuse };"
+    "change: Change::Edits(Edits { list: Vec::new(alloc), ascii_only: false, existing: false }), missing: Missing::Refuse };"
 )
 
 

@@ -21,8 +21,8 @@ import os, re, sys
 
 FORMAT = 'properties_format'
 # Crates that promise nothing: examples, tests and tables.
-NO_PROMISES = ('calling', 'properties_tests', 'program_tests', 'properties_vectors', 'vector_notation')
-# The crates whose contracts callers read, with what these hand on from others.
+NO_PROMISES = ('calling', 'properties_tests', 'program_tests', 'properties_vectors')
+# The crates whose contracts callers read, with what these re-export from others.
 READ = ('java_properties', 'properties_tools')
 HEADING = '### What public pages take from the others'
 IMPORT = r'Rattle\.([\w.]+?)(?:\.\{([^}]*)\}| as ([\w-]+))?'
@@ -187,7 +187,7 @@ class Repository:
             for item in content:
                 if item.kind == 'impl' and re.search(r'\bModel\s+for\b', item.head):
                     self.models[crate, type_of(item.head)] = (file, item)
-        # What a crate hands on from another: (the crate, the other, the name).
+        # What a crate re-exports from another: (the crate, the other, the name).
         self.handed_items = set()
         self.roots = []
         for crate in self.crates:
@@ -196,7 +196,7 @@ class Repository:
     # ---- pages
 
     def resolved(self, page):
-        """The page of an import that may be handed on, and may end in a name of the page."""
+        """The page of an import that may be re-exported, and may end in a name of the page."""
         for _ in range(4):
             for name, target in self.handed.items():
                 if page == name or page.startswith(name + '.'):
@@ -244,7 +244,7 @@ class Repository:
         return None
 
     def exported(self, crate, file, seen):
-        """Marks what a module shows: its public items, and those that it hands on."""
+        """Marks what a module shows: its public items, and those that it re-exports."""
         if file is None or (crate, file) in seen:
             return
         seen.add((crate, file))
