@@ -1,34 +1,31 @@
 -- The laws of edits.
-use Rattle.std.proofs.Common.{◌≡◌, ◌↔◌, ℕ, ◌+◌, true, false, List, [], ◌∷◌, ◌++◌, length, Option, Some, None, refl, ap, sym, ◌∙◌, inl, inr, subst, Bool}
-use Rattle.std.specs.Prelude.{bytes_eq}
-use Rattle.std.proofs.lemmas.Bool.{false_from_ne_true, cases_Bool}
+use Rattle.std.proofs.Common.{◌≡◌, ◌↔◌, ℕ, ◌+◌, true, false, List, [], ◌∷◌, ◌++◌, length, Option, Some, None, refl, sym, ◌∙◌, inl, inr, subst, arith, ap}
 use Rattle.std.proofs.lemmas.Slice.Eq.{bytes_eq-Decides}
-use Rattle.properties_format.specs.Encoding.{Encoding, InForce, byte_order_mark, begins_like_bom}
+use Rattle.properties_format.specs.Encoding.{Encoding, byte_order_mark, begins_like_bom}
+use Rattle.properties_format.specs.Repertoire.{Repertoire}
 use Rattle.properties_format.specs.Lines.{end}
 use Rattle.properties_format.specs.Groups.{joined}
-use Rattle.properties_format.specs.Entries.{pair, Entry, AreItems}
-use Rattle.properties_format.specs.Items.{Outcome, given, broken, IsItems}
+use Rattle.properties_format.specs.Entries.{Entry, AreItems}
+use Rattle.properties_format.specs.Items.{Outcome, IsItems}
 use Rattle.properties_format.specs.Computed.Items.{outcome_of, followed, items_of}
 use Rattle.properties_format.specs.Maps.{HasNoPair, IsMap}
-use Rattle.properties_format.specs.Body.{HeldLine, as_lines, NoneHasKey, group_bytes, groups_bytes}
-use Rattle.properties_format.specs.Edited.{EditResult, bom_of, guarding_lf, is_editable, edited, IsSetKeyResult}
-use Rattle.properties_format.specs.Edits.{Edit, put, remove, set_value, IsEditAllResult}
+use Rattle.properties_format.specs.Body.{HeldLine, as_lines, NoneHasKey, groups_bytes}
+use Rattle.properties_format.specs.Edited.{EditResult, guarding_lf, is_editable, edited, IsSetKeyResult}
+use Rattle.properties_format.specs.Edits.{Edit, put, remove, IsEditAllResult}
 use Rattle.properties_format.specs.Changed.{map_edited}
-use Rattle.properties_format.specs.Computed.Body.{held_groups_of, is_pair_with, has_key, entries_in}
-use Rattle.properties_format.specs.Computed.Edited.{without, key_set, result_of, set_key_result, remove_key_result}
+use Rattle.properties_format.specs.Computed.Body.{held_groups_of, is_pair_with, entries_in}
+use Rattle.properties_format.specs.Computed.Edited.{without, result_of, set_key_result}
 use Rattle.properties_format.specs.Computed.Edits.{edit_made, edits_made, edit_all_result}
-use Rattle.properties_format.specs.EditLaws.{RemovingNoPairChangesNothing, SettingTwiceIsSettingOnce, HasMap, DiffersAt, SettingGivesTheValue, RemovingTakesTheValue, NoEditsChangeNothing, OneEditIsItsCall, ListsOfEditsFollow}
+use Rattle.properties_format.specs.EditLaws.{RemovingNoPairChangesNothing, SettingTwiceIsSettingOnce, HasMap, DiffersAt, SettingGivesTheValue, RemovingTakesTheValue, ListsOfEditsFollow}
 use Rattle.properties_format.specs.Laws.{HasOne}
-use Rattle.properties_format.specs.Computed.Valued.{set_value_result}
 use Rattle.properties_format.proofs.Laws.{one}
 use Rattle.properties_format.proofs.Items.Unique.{items_of-only}
 use Rattle.properties_format.proofs.Maps.{map-only}
 use Rattle.properties_format.proofs.Body.Groups.{held_groups_of-meets, held-body}
 use Rattle.properties_format.proofs.Body.Numbers.{items_of-groups}
-use Rattle.properties_format.proofs.Edited.Made.{has_key-true, has_key-false, key_set-only, key_removed-only}
-use Rattle.properties_format.proofs.Edited.Results.{set_key_result-meets, set_key_result-only, remove_key_result-meets, remove_key_result-only, result_by-edited, result-editable}
+use Rattle.properties_format.proofs.Edited.Made.{has_key-false, key_set-only, key_removed-only, no_key-test}
+use Rattle.properties_format.proofs.Edited.Results.{set_key_result-meets, set_key_result-only, result_by-edited}
 use Rattle.properties_format.proofs.Edits.Results.{edits_made-only, edit_all_result-meets, edit_all_result-only}
-use Rattle.properties_format.proofs.Valued.Made.{set_value_result-meets, set_value_result-only}
 use Rattle.properties_format.proofs.Edited.ByteOrderMarks.{has_bom, source-whole}
 use Rattle.properties_format.proofs.Changed.Maps.{other-test, same-test}
 use Rattle.properties_format.proofs.Edited.Twice.{set-twice}
@@ -42,10 +39,7 @@ use Rattle.properties_format.proofs.Changed.Read.{readable, set_key-reads, remov
 -- entries contain none.
 followed-none : (key : List ℕ) (n : ℕ) (o : Outcome) (entries : List Entry) → AreItems (followed n o entries) → HasNoPair key (followed n o entries)
     → (is_pair_with key o ≡ false) × AreItems entries × HasNoPair key entries
-followed-none key n (given (pair l v)) entries h k =
-    (false_from_ne_true (bytes_eq l key) (λ t. k.0 ((bytes_eq-Decides l key).0 t)), h, k.1)
-followed-none key n (broken kind) entries h k = absurd h
-followed-none key n o entries h k = (refl, h, k)
+followed-none key n o entries h k = grind (arith, bytes_eq-Decides)
 
 -- If no item is a pair with the key, no group is one.
 none-have : (key : List ℕ) (n : ℕ) (gs : List (List HeldLine)) → AreItems (entries_in n gs) → HasNoPair key (entries_in n gs) → NoneHasKey key gs
@@ -57,21 +51,14 @@ none-have key n (g ∷ gs) h k =
 -- If no group is a pair with the key, all bytes are left.
 without-none : (key : List ℕ) (gs : List (List HeldLine)) → NoneHasKey key gs → without key gs ≡ groups_bytes gs
 without-none key [] h = refl
-without-none key (g ∷ gs) h = elim (cases_Bool (has_key key g)) [
-  | inl k ↦ absurd (h.0 (has_key-true key g k))
-  | inr k ↦ rw k (ap (λ v. group_bytes g ++ v) (without-none key gs h.1))
-]
+without-none key (g ∷ gs) h = rw (no_key-test key g h.0, without-none key gs h.1)
 
 -- The body of a source needs no LF in front of it.
 body-unguarded : (e : Encoding) (source : List ℕ) → is_editable (byte_order_mark e source).encoding ≡ true
     → guarding_lf source (byte_order_mark e source).body ≡ []
 body-unguarded e source ok = elim (has_bom e source ok) [
-  | inl m ↦
-      let b : begins_like_bom source ≡ true = ap begins_like_bom (source-whole e source ∙ ap (λ v. v ++ (byte_order_mark e source).body) m.0) in
-      rw b refl
-  | inr m ↦
-      let b : begins_like_bom (byte_order_mark e source).body ≡ false = ap (λ v. let w : InForce = v in begins_like_bom w.body) m.2 ∙ m.0 in
-      rw (m.0, b) refl
+  | inl m ↦ let b : begins_like_bom source ≡ true = rw (source-whole e source, m.0) refl in rw b refl
+  | inr m ↦ rw (m.0, m.2, m.0) refl
 ]
 
 -- Removing a key that no pair of the source has changes no byte.
@@ -79,21 +66,16 @@ pub removing-no_pair : (e : Encoding) (source key : List ℕ) → RemovingNoPair
 removing-no_pair e source key entries is none result h =
     let f = byte_order_mark e source in
     let gs = held_groups_of f.encoding f.body in
-    let r = readable e source h.0 h.1 in
     let all = items_of-only e source end entries is ∙ items_of-groups e source in
-    let left : without key gs ≡ f.body =
-    without-none key gs (none-have key 1 gs (subst AreItems (items_of-groups e source) r.no_fault) (subst (HasNoPair key) all none))
-    ∙ held-body f.encoding f.body gs h.0 (held_groups_of-meets f.encoding f.body) in
-    key_removed-only e source key result h.2
-    ∙ ap (λ v. bom_of source ++ (guarding_lf source v ++ v)) left
-    ∙ ap (λ v. bom_of source ++ (v ++ f.body)) (body-unguarded e source h.0)
-    ∙ sym (source-whole e source)
+    let left = without-none key gs (none-have key 1 gs (rw items_of-groups at (readable e source h.0 h.1).no_fault) (rw all at none)) in
+    let body = held-body f.encoding f.body gs h.0 (held_groups_of-meets f.encoding f.body) in
+    rw (key_removed-only e source key result h.2, left, body, body-unguarded e source h.0) (sym (source-whole e source))
 
 -- ---- a key that is set twice
 
 -- The result of a source that can be edited.
 pub result-made : (e : Encoding) (source made : List ℕ) → IsReadable e source → result_of e source made ≡ edited made
-result-made e source made r = result-editable e source made r.editable ∙ result_by-edited (items_of e source end) made r.no_fault
+result-made e source made r = rw (r.editable, result_by-edited (items_of e source end) made r.no_fault)
 
 -- If two edits have one result each, and these are equal, they have the same results.
 pub same-results : (First Second : EditResult → Type 0) (one : HasOne First) (two : HasOne Second) → one.value ≡ two.value
@@ -102,25 +84,21 @@ same-results First Second one two same result =
     ((λ h. subst Second (sym (one.only result h ∙ same)) two.meets), (λ h. subst First (sym (two.only result h ∙ sym same)) one.meets))
 
 -- Setting a key has one result,
-abbrev pub one-set : (e : Encoding) (only : Bool) (source key value : List ℕ) → HasOne (IsSetKeyResult e only source key value)
-one-set e only source key value =
-    one (set_key_result e only source key value) (set_key_result-meets e only source key value) (set_key_result-only e only source key value)
+abbrev pub one-set : (r : Repertoire) (source key value : List ℕ) → HasOne (IsSetKeyResult r source key value)
+one-set r source key value = one (set_key_result r source key value) (set_key_result-meets r source key value) (set_key_result-only r source key value)
 
 -- and so does a list of edits.
-abbrev pub one-edit_all : (e : Encoding) (only : Bool) (source : List ℕ) (edits : List Edit) → HasOne (IsEditAllResult e only source edits)
-one-edit_all e only source edits =
-    one (edit_all_result e only source edits) (edit_all_result-meets e only source edits) (edit_all_result-only e only source edits)
+abbrev pub one-edit_all : (r : Repertoire) (source : List ℕ) (edits : List Edit) → HasOne (IsEditAllResult r source edits)
+one-edit_all r source edits = one (edit_all_result r source edits) (edit_all_result-meets r source edits) (edit_all_result-only r source edits)
 
 -- Setting a key twice equals setting it once, to the later value.
-pub setting-twice : (e : Encoding) (only : Bool) (source key first second : List ℕ) → SettingTwiceIsSettingOnce e only source key first second
-setting-twice e only source key first second k v w between h result =
-    let r = readable e source h.0 h.1 in
-    let next = (key_set-contents e only source key first between r k v h.2).readable in
-    let bytes : key_set e only between key second ≡ key_set e only source key second =
-    ap (λ x. key_set e only x key second) (key_set-only e only source key first between h.2) ∙ set-twice e only source key first second h.0 k v in
-    let same : set_key_result e only between key second ≡ set_key_result e only source key second =
-    result-made e between (key_set e only between key second) next ∙ ap edited bytes ∙ sym (result-made e source (key_set e only source key second) r) in
-    same-results _ _ (one-set e only between key second) (one-set e only source key second) same result
+pub setting-twice : (t : Repertoire) (source key first second : List ℕ) → SettingTwiceIsSettingOnce t source key first second
+setting-twice t source key first second k v w between h result =
+    let r = readable t.encoding source h.0 h.1 in
+    let next = (key_set-contents t source key first between r k v h.2).readable in
+    let bytes = rw (← key_set-only t source key first between h.2) at (set-twice t source key first second h.0 k v) in
+    let same = result-made t.encoding between _ next ∙ ap edited bytes ∙ sym (result-made t.encoding source _ r) in
+    same-results _ _ (one-set t between key second) (one-set t source key second) same result
 
 -- ---- the map
 
@@ -139,52 +117,32 @@ maps-differ e source result key edit value old new reads differs (before, items,
 pub set-differs : (key value : List ℕ) (value_at : List ℕ → Option (List ℕ)) → DiffersAt key (Some value) value_at (map_edited (put key value) value_at)
 set-differs key value value_at = (rw (same-test key key refl), (λ other n. rw (other-test other key n)))
 
--- The map with a key removed has no value for it, and for every other key what it had before.
-removed-differs : (key : List ℕ) (value_at : List ℕ → Option (List ℕ)) → DiffersAt key None value_at (map_edited (remove key) value_at)
-removed-differs key value_at = (rw (same-test key key refl), (λ other n. rw (other-test other key n)))
-
 -- After a key is set, the map has the value for it, and for every other key what it had before.
-pub setting-gives : (e : Encoding) (only : Bool) (source key value : List ℕ) → SettingGivesTheValue e only source key value
-setting-gives e only source key value k v result h old new =
-    maps-differ e source result key (put key value) (Some value) old new
-    (λ before after i j m. (set_key-reads e only source key value result k v h before after i j).mapped old m) (set-differs key value)
+pub setting-gives : (r : Repertoire) (source key value : List ℕ) → SettingGivesTheValue r source key value
+setting-gives r source key value k v result h old new =
+    maps-differ r.encoding source result key (put key value) (Some value) old new
+    (λ before after i j m. (set_key-reads r source key value result k v h before after i j).mapped old m) (set-differs key value)
 
 -- After a key is removed, the map has no value for it, and for every other key what it had before.
 pub removing-takes : (e : Encoding) (source key : List ℕ) → RemovingTakesTheValue e source key
 removing-takes e source key result h old new =
     maps-differ e source result key (remove key) None old new
-    (λ before after i j m. (remove_key-reads e source key result h before after i j).mapped old m) (removed-differs key)
+    (λ before after i j m. (remove_key-reads e source key result h before after i j).mapped old m)
+    (λ value_at. (rw (same-test key key refl), (λ other n. rw (other-test other key n))))
 
 -- ---- lists of edits
 
--- An empty list of edits changes no byte.
-pub no_edits-nothing : (e : Encoding) (only : Bool) (source : List ℕ) → NoEditsChangeNothing e only source
-no_edits-nothing e only source result h = h.2
-
--- A list of one edit has the same results as the call for that edit.
-pub one_edit-call : (e : Encoding) (only : Bool) (source : List ℕ) (edit : Edit) → OneEditIsItsCall e only source edit
-one_edit-call e only source (put key value) =
-    same-results _ _ (one-edit_all e only source (put key value ∷ [])) (one-set e only source key value) refl
-one_edit-call e only source (remove key) =
-    same-results _ _ (one-edit_all e only source (remove key ∷ []))
-    (one (remove_key_result e source key) (remove_key_result-meets e source key) (remove_key_result-only e source key)) refl
-one_edit-call e only source (set_value key value) =
-    same-results _ _ (one-edit_all e only source (set_value key value ∷ []))
-    (one (set_value_result e only source key value) (set_value_result-meets e only source key value) (set_value_result-only e only source key value)) refl
-
 -- Two lists of edits, joined into one, make the same as the second list on the result of the first.
-edits_made-append : (e : Encoding) (only : Bool) (source : List ℕ) (first second : List Edit)
-    → edits_made e only source (first ++ second) ≡ edits_made e only (edits_made e only source first) second
-edits_made-append e only source [] second = refl
-edits_made-append e only source (edit ∷ first) second = edits_made-append e only (edit_made e only source edit) first second
+edits_made-append : (r : Repertoire) (source : List ℕ) (first second : List Edit)
+    → edits_made r source (first ++ second) ≡ edits_made r (edits_made r source first) second
+edits_made-append r source [] second = refl
+edits_made-append r source (edit ∷ first) second = edits_made-append r (edit_made r source edit) first second
 
 -- Two lists of edits, joined into one, have the same results as the second list on the result of the first.
-pub lists-follow : (e : Encoding) (only : Bool) (source : List ℕ) (first second : List Edit) → ListsOfEditsFollow e only source first second
-lists-follow e only source first second scalars between h result =
-    let r = readable e source h.0 h.1 in
-    let next = (edits-contents e only source first between r scalars h.2).readable in
-    let same : edit_all_result e only source (first ++ second) ≡ edit_all_result e only between second =
-    result-made e source (edits_made e only source (first ++ second)) r
-    ∙ ap edited (edits_made-append e only source first second ∙ ap (λ v. edits_made e only v second) (sym (edits_made-only e only source first between h.0 h.2)))
-    ∙ sym (result-made e between (edits_made e only between second) next) in
-    same-results _ _ (one-edit_all e only source (first ++ second)) (one-edit_all e only between second) same result
+pub lists-follow : (t : Repertoire) (source : List ℕ) (first second : List Edit) → ListsOfEditsFollow t source first second
+lists-follow t source first second scalars between h result =
+    let r = readable t.encoding source h.0 h.1 in
+    let next = (edits-contents t source first between r scalars h.2).readable in
+    let same : edit_all_result t source (first ++ second) ≡ edit_all_result t between second =
+    rw (result-made t.encoding source _ r, result-made t.encoding between _ next, edits_made-append t source first second, edits_made-only t source first between h.0 h.2) in
+    same-results _ _ (one-edit_all t source (first ++ second)) (one-edit_all t between second) same result

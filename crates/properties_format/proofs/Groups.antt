@@ -1,3 +1,4 @@
+pub mod Input
 pub mod Joined
 pub mod Logical
 pub mod Meets

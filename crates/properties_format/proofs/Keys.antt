@@ -57,8 +57,8 @@ value-key key value n (malformed kind m ∷ before) after = value-key key value 
 value-key key value n (read_fault m ∷ before) after = value-key key value n before after
 
 -- One more entry at the front keeps the order of two keys, if it isn't a pair with the later one.
-pair_before-on : (entry : Entry) {entries : List Entry} {key other : List ℕ} → ((others : List Entry) → HasNoPair other others → HasNoPair other (entry ∷ others))
-    → PairComesBefore entries key other → PairComesBefore (entry ∷ entries) key other
+pair_before-on : (entry : Entry) {entries : List Entry} {key other : List ℕ}
+    → ((others : List Entry) → HasNoPair other others → HasNoPair other (entry ∷ others)) → PairComesBefore entries key other → PairComesBefore (entry ∷ entries) key other
 pair_before-on entry none p =
     record {
       before = entry ∷ p.before;
@@ -81,9 +81,9 @@ pair_before (item m (pair k v) ∷ entries) (x ∷ xs) ys key other e n a =
     let same : x ≡ k = cc in
     let rest : pair_keys entries ≡ xs ++ key ∷ ys = cc in
     pair_before-on (item m (pair k v)) (λ others none. ((λ q. n.0 (same ∙ q)), none)) (pair_before entries xs ys key other rest n.1 a)
-pair_before (item m (comment text) ∷ entries) xs ys key other e n a = pair_before-on (item m (comment text)) (λ others none. none) (pair_before entries xs ys key other e n a)
-pair_before (malformed kind m ∷ entries) xs ys key other e n a = pair_before-on (malformed kind m) (λ others none. none) (pair_before entries xs ys key other e n a)
-pair_before (read_fault m ∷ entries) xs ys key other e n a = pair_before-on (read_fault m) (λ others none. none) (pair_before entries xs ys key other e n a)
+pair_before (item m (comment text) ∷ entries) xs ys key other e n a = pair_before-on _ (λ others none. none) (pair_before entries xs ys key other e n a)
+pair_before (malformed kind m ∷ entries) xs ys key other e n a = pair_before-on _ (λ others none. none) (pair_before entries xs ys key other e n a)
+pair_before (read_fault m ∷ entries) xs ys key other e n a = pair_before-on _ (λ others none. none) (pair_before entries xs ys key other e n a)
 
 -- The keys of the pairs, each once in the order of their first pairs, are the keys of the entries.
 pub are-keys : (entries : List Entry) (all keys : List (List ℕ)) → pair_keys entries ≡ all → AreFirstOf all keys → AreKeys entries keys

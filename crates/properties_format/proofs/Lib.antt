@@ -6,6 +6,7 @@ pub mod Groups
 pub mod Split
 pub mod Escapes
 pub mod Items
+pub mod Found
 pub mod MalformedEscapes
 pub mod ItemsToCome
 pub mod Settings

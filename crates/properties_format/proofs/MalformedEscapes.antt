@@ -1,69 +1,43 @@
 -- The malformed escapes of an input exist and are unique.
-use Rattle.std.proofs.Common.{◌≡◌, ℕ, ◌+◌, List, [], ◌∷◌, ◌++◌, refl, ap, ap₂, sym, ◌∙◌, zero-add}
-use Rattle.std.specs.Prelude.{None}
+use Rattle.std.proofs.Common.{◌≡◌, ℕ, ◌+◌, List, [], ◌∷◌, ◌++◌, refl, ap, sym, ◌∙◌, zero-add}
 use Rattle.properties_format.specs.Encoding.{Encoding}
 use Rattle.properties_format.specs.Computed.Encoding.{decoded_of}
 use Rattle.properties_format.specs.Lines.{InputEnd, end, fault, Line, line_ends, numbered_lines}
 use Rattle.properties_format.specs.Computed.Lines.{lines_of}
-use Rattle.properties_format.specs.Groups.{IsGroups, joined, first_number}
-use Rattle.properties_format.specs.Computed.Groups.{groups_of}
+use Rattle.properties_format.specs.Groups.{HasGroups}
 use Rattle.properties_format.specs.Items.{Entry, read_fault, Outcome, ignored}
 use Rattle.properties_format.specs.Computed.Items.{outcome_of, followed}
 use Rattle.properties_format.specs.ItemsToCome.{ReaderState, start}
-use Rattle.properties_format.specs.Computed.ItemsToCome.{items_to_come, natural_to_come, last_to_come, entries_of_logical, logical_pending, entries_pending}
-use Rattle.properties_format.specs.MalformedEscapes.{MalformedEscape, escapes_from, AreEscapesIn, AreMalformedEscapes, IsCutLine}
+use Rattle.properties_format.specs.Computed.ItemsToCome.{items_to_come, natural_to_come, last_to_come, entries_of_logical, entries_pending}
+use Rattle.properties_format.specs.MalformedEscapes.{MalformedEscape, escapes_from, AreMalformedEscapes, IsCutLine}
+use Rattle.properties_format.specs.EditedPairs.{EscapesAre}
 use Rattle.properties_format.specs.Computed.MalformedEscapes.{escapes_in, malformed_escapes_of}
-use Rattle.properties_format.proofs.Encodings.Pieces.{decoded_of-meets, decoded_of-only}
+use Rattle.properties_format.proofs.Encodings.Pieces.{decoded_of-meets}
 use Rattle.properties_format.proofs.Lines.Meets.{lines_of-meets}
-use Rattle.properties_format.proofs.Lines.Only.{lines_of-only}
-use Rattle.properties_format.proofs.Groups.Meets.{groups_of-meets}
-use Rattle.properties_format.proofs.Groups.Only.{groups_of-only}
-use Rattle.properties_format.proofs.Items.Unique.{outcome_of-meets, outcome_of-only}
+use Rattle.properties_format.proofs.Groups.Input.{groups_in-only}
+use Rattle.properties_format.proofs.Found.{found-in_groups, found-meets, found-only, found_in-append}
 use Rattle.properties_format.proofs.ItemsToCome.Entries.{items_to_come-pending}
-
--- The computed escapes are the malformed escapes of the groups.
-pub escapes_in-meets : (gs : List (List Line)) → AreEscapesIn gs (escapes_in gs)
-escapes_in-meets [] = refl
-escapes_in-meets (g ∷ gs) = (outcome_of (joined g), escapes_in gs, outcome_of-meets (joined g), refl, escapes_in-meets gs)
-
--- The groups have no others.
-escapes_in-only : (gs : List (List Line)) (escapes : List MalformedEscape) → AreEscapesIn gs escapes → escapes ≡ escapes_in gs
-escapes_in-only [] escapes h = h
-escapes_in-only (g ∷ gs) escapes (outcome, rest, is, same, others) =
-    same ∙ ap₂ (λ v w. escapes_from (first_number g) (joined g) v w) (outcome_of-only (joined g) outcome is) (escapes_in-only gs rest others)
 
 -- The computed escapes are the malformed escapes of the input.
 pub malformed_escapes_of-meets : (e : Encoding) (bytes : List ℕ) → AreMalformedEscapes e bytes (malformed_escapes_of e bytes)
 unfolding malformed_escapes_of
-malformed_escapes_of-meets e bytes =
-    let text = decoded_of e bytes in
-    let lines = lines_of text in
-    let groups = groups_of (numbered_lines lines end) end in
-    record {
-      text = text;
-      lines = lines;
-      groups = groups;
-      decoded = decoded_of-meets e bytes;
-      divided = lines_of-meets text;
-      grouped = groups_of-meets (numbered_lines lines end) end;
-      are_escapes = escapes_in-meets groups;
-    }
+malformed_escapes_of-meets e bytes = found-meets escapes_from e bytes end
 
 -- The malformed escapes of the input are the computed ones.
 pub malformed_escapes_of-only : (e : Encoding) (bytes : List ℕ) (escapes : List MalformedEscape) → AreMalformedEscapes e bytes escapes
     → escapes ≡ malformed_escapes_of e bytes
 unfolding malformed_escapes_of
-malformed_escapes_of-only e bytes escapes h =
-    escapes_in-only h.groups escapes h.are_escapes
-    ∙ ap escapes_in (groups_of-only (numbered_lines h.lines end) end h.groups h.grouped)
-    ∙ ap (λ v. escapes_in (groups_of (numbered_lines v end) end)) (lines_of-only h.text h.lines h.divided)
-    ∙ ap (λ v. escapes_in (groups_of (numbered_lines (lines_of v) end) end)) (decoded_of-only e bytes h.text h.decoded)
+malformed_escapes_of-only e bytes escapes h = found-only escapes_from e bytes end escapes h
 
 -- The malformed escapes of the input are those of its groups.
-pub escapes_in-groups : (e : Encoding) (bytes : List ℕ) (gs : List (List Line)) → IsGroups (numbered_lines (lines_of (decoded_of e bytes)) end) end gs
-    → escapes_in gs ≡ malformed_escapes_of e bytes
+pub escapes_in-groups : (e : Encoding) (bytes : List ℕ) (gs : List (List Line)) → HasGroups e bytes end gs → escapes_in gs ≡ malformed_escapes_of e bytes
 unfolding malformed_escapes_of
-escapes_in-groups e bytes gs h = ap escapes_in (groups_of-only (numbered_lines (lines_of (decoded_of e bytes)) end) end gs h)
+escapes_in-groups e bytes gs h = ap escapes_in (groups_in-only e bytes end gs h)
+
+-- They have this property if those of its groups have it.
+pub escapes-are : {e : Encoding} {bytes : List ℕ} {gs : List (List Line)} (Such : List MalformedEscape → Type 0) → HasGroups e bytes end gs → Such (escapes_in gs)
+    → EscapesAre e bytes Such
+escapes-are {gs = gs} Such h such = (escapes_in gs, found-in_groups escapes_from h, such)
 
 -- ---- what comes at the start
 
@@ -86,8 +60,7 @@ logical-fault (l ∷ ls) last n h = logical-fault ls last n (followed-fault l.nu
 -- If only the failed read is left to come, it comes last.
 pub fault-last : (s : ReaderState) (d : List ℕ) (n : ℕ) → items_to_come s d fault ≡ read_fault n ∷ [] → last_to_come s d fault ≡ read_fault n ∷ []
 unfolding entries_pending
-fault-last s d n h =
-    logical-fault (logical_pending None (natural_to_come s d fault) fault) (last_to_come s d fault) n (sym (items_to_come-pending s d fault) ∙ h)
+fault-last s d n h = logical-fault _ _ n (sym (items_to_come-pending s d fault) ∙ h)
 
 -- If these lines come before the failed read, the line with its number is cut off.
 pub cut-line : (e : Encoding) (d : List ℕ) (n : ℕ) → last_to_come (start e) d fault ≡ read_fault n ∷ [] → IsCutLine e d n
@@ -109,5 +82,4 @@ from-append number x ignored rest others = refl
 from-append number x outcome rest others = refl
 
 pub escapes_in-append : (gs hs : List (List Line)) → escapes_in (gs ++ hs) ≡ escapes_in gs ++ escapes_in hs
-escapes_in-append [] hs = refl
-escapes_in-append (g ∷ gs) hs = simp (from-append, escapes_in-append gs hs)
+escapes_in-append gs hs = found_in-append escapes_from from-append gs hs

@@ -1,5 +1,5 @@
 -- The map of an input exists and is unique.
-use Rattle.std.proofs.Common.{◌≡◌, ℕ, Bool, true, false, if◌then◌else◌, List, [], ◌∷◌, ◌++◌, refl, ap, sym, ◌∙◌, subst}
+use Rattle.std.proofs.Common.{rules, arith, ◌≡◌, ℕ, Bool, true, false, if◌then◌else◌, List, [], ◌∷◌, ◌++◌, refl, ap, sym, ◌∙◌, subst}
 use Rattle.std.specs.Prelude.{Option, Some, None, bytes_eq}
 use Rattle.std.proofs.lemmas.Bool.{cond-true, cond-false, false_from_ne_true}
 use Rattle.std.proofs.lemmas.Slice.Eq.{bytes_eq-Decides}
@@ -15,15 +15,9 @@ abbrev IsValueBy : List ℕ → Entry → Option (List ℕ) → Type 0
 IsValueBy key entry None = (entries : List Entry) → HasNoPair key entries → HasNoPair key (entry ∷ entries)
 IsValueBy key entry (Some value) = IsPairOf key value entry
 
--- Texts that fail the comparison are different.
-not_same : (x y : List ℕ) → bytes_eq x y ≡ false → x ≡ y → ⊥
-not_same x y e q = let t = (bytes_eq-Decides x y).1 q in cc
-
 -- A pair gives its key its value, and no other key.
 pair-says : (n : ℕ) (k v key : List ℕ) (b : Bool) → bytes_eq k key ≡ b → IsValueBy key (item n (pair k v)) (value_of (item n (pair k v)) key)
-pair-says n k v key true e =
-    rw e (n, ap (λ x. item n (pair x v)) ((bytes_eq-Decides k key).0 e))
-pair-says n k v key false e = rw e (λ entries h. ((λ q. not_same k key e q), h))
+pair-says n k v key b h1 = search (rules, bytes_eq-Decides)
 
 -- The computed value of an entry is the one that it gives.
 says : (entry : Entry) (key : List ℕ) → IsValueBy key entry (value_of entry key)
@@ -31,12 +25,12 @@ says (item n (pair k v)) key = pair-says n k v key (bytes_eq k key) refl
 says entry key = λ entries h. h
 
 -- The value of a key in entries with one more at the front.
-with_front : (entry : Entry) (entries : List Entry) (key : List ℕ) (r o : Option (List ℕ)) → IsValue entries key r → IsValueBy key entry o → IsValue (entry ∷ entries) key (first_value r o)
+with_front : (entry : Entry) (entries : List Entry) (key : List ℕ) (r o : Option (List ℕ)) → IsValue entries key r → IsValueBy key entry o
+    → IsValue (entry ∷ entries) key (first_value r o)
 with_front entry entries key (Some v) o g s =
     record { before = entry ∷ g.before; number = g.number; after = g.after; division = ap (λ x. entry ∷ x) g.division; no_later = g.no_later }
 with_front entry entries key None None h s = s entries h
-with_front entry entries key None (Some v) h s =
-    record { before = []; number = s.0; after = entries; division = ap (λ x. x ∷ entries) s.1; no_later = h }
+with_front entry entries key None (Some v) h s = record { before = []; number = s.0; after = entries; division = ap (λ x. x ∷ entries) s.1; no_later = h }
 
 -- The computed value is the value of the key.
 pub value_in-meets : (entries : List Entry) (key : List ℕ) → IsValue entries key (value_in entries key)
@@ -46,23 +40,20 @@ value_in-meets (entry ∷ entries) key = with_front entry entries key (value_in 
 -- If no entry is a pair with the key, there is no value.
 none-in : (entries : List Entry) (key : List ℕ) → HasNoPair key entries → value_in entries key ≡ None
 none-in [] key h = refl
-none-in (item n (pair k v) ∷ entries) key h =
-    ap (λ r. first_value r (value_of (item n (pair k v)) key)) (none-in entries key h.1)
-    ∙ cond-false (bytes_eq k key) (Some v) None (false_from_ne_true (bytes_eq k key) (λ t. h.0 ((bytes_eq-Decides k key).0 t)))
+none-in (item n (pair k v) ∷ entries) key h = grind (arith, none-in entries key h.1, cond-false, false_from_ne_true, bytes_eq-Decides)
 none-in (item n (comment text) ∷ entries) key h = ap (λ r. first_value r None) (none-in entries key h)
 none-in (malformed kind n ∷ entries) key h = ap (λ r. first_value r None) (none-in entries key h)
 none-in (read_fault n ∷ entries) key h = ap (λ r. first_value r None) (none-in entries key h)
 
 -- the last pair with the key gives the value
-last-in : (before : List Entry) (n : ℕ) (key value : List ℕ) (after : List Entry) → HasNoPair key after → value_in (before ++ (item n (pair key value) ∷ after)) key ≡ Some value
-last-in [] n key value after h =
-    rw (none-in after key h, cond-true (bytes_eq key key) (Some value) None ((bytes_eq-Decides key key).1 refl))
+last-in : (before : List Entry) (n : ℕ) (key value : List ℕ) (after : List Entry) → HasNoPair key after
+    → value_in (before ++ (item n (pair key value) ∷ after)) key ≡ Some value
+last-in [] n key value after h = grind (arith, none-in, cond-true, bytes_eq-Decides)
 last-in (entry ∷ before) n key value after h = ap (λ r. first_value r (value_of entry key)) (last-in before n key value after h)
 
 -- A value of the key is the computed one.
 pub value_in-only : (entries : List Entry) (key : List ℕ) (r : Option (List ℕ)) → IsValue entries key r → r ≡ value_in entries key
-value_in-only entries key None h = sym (none-in entries key h)
-value_in-only entries key (Some value) g = sym (ap (λ x. value_in x key) g.division ∙ last-in g.before g.number key value g.after g.no_later)
+value_in-only entries key r h1 = grind (arith, none-in, last-in)
 
 -- The computed values are a map of the entries.
 pub map-meets : (entries : List Entry) → IsMap entries (value_in entries)
@@ -76,13 +67,11 @@ map-only entries value_at h key = value_in-only entries key (value_at key) (h ke
 
 -- Choosing the first of three values is associative.
 pub first-assoc : (a b c : Option (List ℕ)) → first_value (first_value a b) c ≡ first_value a (first_value b c)
-first-assoc None b c = refl
-first-assoc (Some v) b c = refl
+first-assoc a b c = grind (arith)
 
 -- Without a second value, the first is chosen.
 pub first-none : (o : Option (List ℕ)) → first_value o None ≡ o
-first-none None = refl
-first-none (Some v) = refl
+first-none o = grind (arith)
 
 -- In two lists of entries, the value is that in the second, or else that in the first.
 pub value_in-append : (xs ys : List Entry) (key : List ℕ) → value_in (xs ++ ys) key ≡ first_value (value_in ys key) (value_in xs key)
@@ -101,13 +90,13 @@ map-none f empty = same-map [] f empty
 pub map-comment : (entries : List Entry) (number : ℕ) (text : List ℕ) (f : List ℕ → Option (List ℕ)) → IsMap entries f
     → IsMap (entries ++ item number (comment text) ∷ []) f
 map-comment entries number text f h =
-    same-map (entries ++ item number (comment text) ∷ []) f (λ key. map-only entries f h key ∙ sym (value_in-append entries (item number (comment text) ∷ []) key))
+    same-map (entries ++ item number (comment text) ∷ []) f (λ key. map-only entries f h key ∙ sym (value_in-append entries _ key))
 
 -- A pair sets the value of its key.
 pub map-pair : (entries : List Entry) (number : ℕ) (key value : List ℕ) (f g : List ℕ → Option (List ℕ)) → IsMap entries f
     → ((k : List ℕ) → g k ≡ (if bytes_eq key k then Some value else f k)) → IsMap (entries ++ item number (pair key value) ∷ []) g
 map-pair entries number key value f g h puts =
-    same-map (entries ++ item number (pair key value) ∷ []) g (λ k. puts k ∙ chosen (bytes_eq key k) k ∙ sym (value_in-append entries (item number (pair key value) ∷ []) k))
+    same-map (entries ++ item number (pair key value) ∷ []) g (λ k. puts k ∙ chosen (bytes_eq key k) k ∙ sym (value_in-append entries _ k))
   where
     chosen : (b : Bool) (k : List ℕ) → (if b then Some value else f k) ≡ first_value (if b then Some value else None) (value_in entries k)
     chosen true k = refl

@@ -1,32 +1,28 @@
 -- What looks at no non-ASCII character sees the same in bytes of windows-1252 and in their characters.
-use Rattle.std.proofs.Common.{◌≡◌, ℕ, zero, suc, ◌<◌, ◌≤◌, ◌==◌, ◌%◌, Bool, true, false, List, [], ◌∷◌, ◌++◌, length, map, reverse, refl, sym, ap, ap₂, ◌∙◌, inl, inr, arith}
+use Rattle.std.proofs.Common.{rules, ◌≡◌, ℕ, suc, ◌<◌, ◌≤◌, ◌==◌, ◌%◌, Bool, true, false, List, [], ◌∷◌, ◌++◌, length, map, reverse, refl, sym, ap, ap₂, ◌∙◌, inl, inr, arith}
 use Rattle.std.proofs.lemmas.Bool.{cases_Bool}
 use Rattle.std.proofs.lemmas.List.{map-append, take-map, drop-map}
 use mathlib.Core.List.{reverse_aux}
 use Rattle.properties_format.specs.Text.{backslash, is_blank, is_separator, is_comment_sign, without_leading_blanks}
 use Rattle.properties_format.specs.Windows1252.{windows_1252_character}
-use Rattle.properties_format.specs.Groups.{leading_backslashes, ending_backslashes, is_open, begins_with_comment_sign, is_comment_line, without_last, without_open_backslash, addition, joined_after, joined, last_group}
+use Rattle.properties_format.specs.Groups.{leading_backslashes, ending_backslashes, is_open, begins_with_comment_sign, is_comment_line, without_last, without_open_backslash, addition, joined_after, last_group}
 use Rattle.properties_format.specs.Lines.{Line, InputEnd}
 use Rattle.properties_format.specs.Split.{comment, pair}
 use Rattle.properties_format.specs.Encoding.{windows_1252}
 use Rattle.properties_format.specs.Pieces.{characters}
 use Rattle.properties_format.specs.Computed.Encoding.{pieces_within, pieces_of}
 use Rattle.properties_format.specs.Computed.Cut.{decoded_line}
-use Rattle.properties_format.specs.Computed.Split.{without_trailing_blanks, unless_last_blank, trimmed, Cut, with_front, ends_key, cut_key, past_separator, pair_of, split_full, split_of}
-use Rattle.properties_format.specs.Computed.Groups.{closes, groups_after}
+use Rattle.properties_format.specs.Computed.Split.{without_trailing_blanks, unless_last_blank, trimmed, Cut, with_front, cut_key, past_separator, pair_of, split_full, split_of}
+use Rattle.properties_format.specs.Computed.Groups.{groups_after}
 use Rattle.properties_format.proofs.Encodings.Windows1252.{windows_1252-ascii}
 use Rattle.properties_format.proofs.Split.Unique.{split_of-meets, split_of-only}
 use Rattle.properties_format.specs.Computed.Undecoded.{characters_of, decoded, in_text, LineCommutes, JoiningCommutes, SplittingCommutes}
 
 -- ---- one character
 
--- a non-ASCII byte is a non-ASCII character
-pub past-character : (b : ℕ) → 0x80 ≤ b → 0x80 ≤ windows_1252_character b
-past-character b h = grind (arith, windows_1252-ascii)
-
 -- a byte is this character of ASCII, or not, as its character is
 pub same : (k : ℕ) → k < 0x80 → (b : ℕ) → (windows_1252_character b == k) ≡ (b == k)
-same k s b = grind (arith, past-character)
+same k s b = search (rules, windows_1252-ascii)
 
 pub same-backslash : (b : ℕ) → (windows_1252_character b == backslash) ≡ (b == backslash)
 same-backslash = same backslash (omega arith)
@@ -40,15 +36,11 @@ same-separator b = rw (same 0x3d (omega arith) b, same 0x3a (omega arith) b) ref
 pub same-comment_sign : (b : ℕ) → is_comment_sign (windows_1252_character b) ≡ is_comment_sign b
 same-comment_sign b = rw (same 0x23 (omega arith) b, same 0x21 (omega arith) b) refl
 
-same-end : (b : ℕ) → ends_key (windows_1252_character b) ≡ ends_key b
-same-end b = rw (same-blank b, same-separator b) refl
-
 -- ---- decoding
 
 within : (n : ℕ) (d : List ℕ) → length d ≤ n → characters (pieces_within windows_1252 n d) ≡ characters_of d
-within n [] h = refl
-within zero (b ∷ d) h = absurd (omega arith)
 within (suc n) (b ∷ d) h = ap (λ v. windows_1252_character b ∷ v) (within n d (omega arith))
+within n d h1 = grind (arith)
 
 pub decodes : (d : List ℕ) → decoded_line windows_1252 d ≡ characters_of d
 unfolding pieces_of
@@ -60,12 +52,9 @@ pub leading-blanks : (d : List ℕ) → without_leading_blanks (characters_of d)
 leading-blanks [] = refl
 leading-blanks (b ∷ d) = grind (arith, same-blank, leading-blanks d)
 
-unless : (b : ℕ) (d : List ℕ) → unless_last_blank (windows_1252_character b) (characters_of d) ≡ characters_of (unless_last_blank b d)
-unless b d = grind (arith, same-blank)
-
 trailing-blanks : (d : List ℕ) → without_trailing_blanks (characters_of d) ≡ characters_of (without_trailing_blanks d)
 trailing-blanks [] = refl
-trailing-blanks (b ∷ d) = ap (unless_last_blank (windows_1252_character b)) (trailing-blanks d) ∙ unless b (without_trailing_blanks d)
+trailing-blanks (b ∷ d) = ap (unless_last_blank (windows_1252_character b)) (trailing-blanks d) ∙ search (rules, same-blank)
 
 trims : (d : List ℕ) → trimmed (characters_of d) ≡ characters_of (trimmed d)
 trims d = ap without_trailing_blanks (leading-blanks d) ∙ trailing-blanks (without_leading_blanks d)
@@ -86,11 +75,8 @@ ending d = ap leading_backslashes (reversed-onto d []) ∙ leading (reverse d)
 pub opens : (d : List ℕ) → is_open (characters_of d) ≡ is_open d
 opens d = ap (λ n. n % 2 == 1) (ending d)
 
-sign : (d : List ℕ) → begins_with_comment_sign (characters_of d) ≡ begins_with_comment_sign d
-sign d = grind (arith, same-comment_sign)
-
 pub comments : (d : List ℕ) → is_comment_line (characters_of d) ≡ is_comment_line d
-comments d = ap begins_with_comment_sign (leading-blanks d) ∙ sign (without_leading_blanks d)
+comments d = ap begins_with_comment_sign (leading-blanks d) ∙ search (rules, same-comment_sign)
 
 last-off : (d : List ℕ) → without_last (characters_of d) ≡ characters_of (without_last d)
 last-off (b ∷ c ∷ d) = ap (λ v. windows_1252_character b ∷ v) (last-off (c ∷ d))
@@ -102,12 +88,8 @@ closed d = grind (arith, opens, last-off)
 pub adds : (d : List ℕ) → addition (characters_of d) ≡ characters_of (addition d)
 adds d = ap without_open_backslash (leading-blanks d) ∙ closed (without_leading_blanks d)
 
-joins : (d next : List ℕ) → decoded_line windows_1252 (without_open_backslash d ++ addition next)
-    ≡ without_open_backslash (decoded_line windows_1252 d) ++ addition (decoded_line windows_1252 next)
-joins d next = simp (decodes, map-append, closed, adds)
-
 pub line-commutes : (d : List ℕ) → LineCommutes d
-line-commutes d = grind (arith, decodes, leading-blanks, ending, comments, closed, joins)
+line-commutes d = search (rules, decodes, leading-blanks, ending, comments, closed, map-append, adds)
 
 -- ---- groups
 
@@ -115,22 +97,15 @@ after : (ls : List Line) → joined_after (map decoded ls) ≡ characters_of (jo
 after [] = refl
 after (l ∷ ls) = ap₂ (λ x y. x ++ y) (adds l.text) (after ls) ∙ sym (map-append windows_1252_character (addition l.text) (joined_after ls))
 
-joined-group : (ls : List Line) → joined (map decoded ls) ≡ characters_of (joined ls)
-joined-group ls = grind (arith, comments, closed, after, map-append)
-
-closing : (p : List Line) (l : Line) → closes (map decoded p) (decoded l) ≡ closes p l
-closing p l = grind (arith, comments, opens)
-
 last-one : (p : List Line) (e : InputEnd) → last_group (map decoded p) e ≡ map (map decoded) (last_group p e)
 last-one p e = grind (arith)
 
 after-group : (p ls : List Line) (e : InputEnd) → groups_after (map decoded p) (map decoded ls) e ≡ map (map decoded) (groups_after p ls e)
 after-group p [] e = last-one p e
-after-group p (l ∷ ls) e =
-    grind (arith, closing, map-append, after-group [] ls e, after-group (p ++ l ∷ []) ls e)
+after-group p (l ∷ ls) e = search (rules, map-append, after-group [] ls e, after-group (p ++ l ∷ []) ls e, comments, opens)
 
 pub joining-commutes : (ls : List Line) → JoiningCommutes ls
-joining-commutes ls = record { joined_is = joined-group ls; groups_are = λ e. after-group [] ls e }
+joining-commutes ls = record { joined_is = search (rules, comments, closed, after, map-append); groups_are = λ e. after-group [] ls e }
 
 -- ---- splitting
 
@@ -141,14 +116,11 @@ cuts : (d : List ℕ) (is_escaped : Bool) → cut_key (characters_of d) is_escap
 unfolding cut_text
 cuts [] is_escaped = refl
 cuts (b ∷ d) true = ap (with_front (windows_1252_character b)) (cuts d false)
-cuts (b ∷ d) false = grind (arith, same-backslash, same-end, cuts d true, cuts d false)
-
-past : (d : List ℕ) → past_separator (characters_of d) ≡ characters_of (past_separator d)
-past d = grind (arith, same-separator, leading-blanks)
+cuts (b ∷ d) false = search (rules, same-backslash, cuts d true, cuts d false, same-blank, same-separator)
 
 pairs : (c : Cut) → pair_of (cut_text c) ≡ in_text (pair_of c)
 unfolding cut_text
-pairs c = ap (pair (characters_of c.key)) (ap past_separator (leading-blanks c.rest) ∙ past (without_leading_blanks c.rest))
+pairs c = ap (pair (characters_of c.key)) (ap past_separator (leading-blanks c.rest) ∙ search (rules, same-separator, leading-blanks))
 
 full : (d : List ℕ) → split_full (characters_of d) ≡ in_text (split_full d)
 full [] = refl

@@ -10,7 +10,8 @@ settings_after-append s [] ys = refl
 settings_after-append s (x ∷ xs) ys = settings_after-append (settings_after_call s x) xs ys
 
 -- The number of lines after two lists of calls.
-pub line_count_after-append : (s : Settings) (n : ℕ) (xs ys : List Call) → line_count_after s n (xs ++ ys) ≡ line_count_after (settings_after s xs) (line_count_after s n xs) ys
+pub line_count_after-append : (s : Settings) (n : ℕ) (xs ys : List Call)
+    → line_count_after s n (xs ++ ys) ≡ line_count_after (settings_after s xs) (line_count_after s n xs) ys
 line_count_after-append s n [] ys = refl
 line_count_after-append s n (x ∷ xs) ys = line_count_after-append (settings_after_call s x) (lines_with n (written_line s x)) xs ys
 
@@ -20,7 +21,7 @@ answers-append s [] ys = refl
 answers-append s (x ∷ xs) ys = ap (λ v. is_accepted s x ∷ v) (answers-append (settings_after_call s x) xs ys)
 
 -- The bytes that two lists of calls write.
-pub wrote-append : (e : Encoding) (s : Settings) (n : ℕ) (xs ys : List Call) → wrote e s n (xs ++ ys) ≡ wrote e s n xs ++ wrote e (settings_after s xs) (line_count_after s n xs) ys
+pub wrote-append : (e : Encoding) (s : Settings) (n : ℕ) (xs ys : List Call)
+    → wrote e s n (xs ++ ys) ≡ wrote e s n xs ++ wrote e (settings_after s xs) (line_count_after s n xs) ys
 wrote-append e s n [] ys = refl
-wrote-append e s n (x ∷ xs) ys =
-    simp (append_assoc, wrote-append e (settings_after_call s x) (lines_with n (written_line s x)) xs ys)
+wrote-append e s n (x ∷ xs) ys = simp (append_assoc, wrote-append e (settings_after_call s x) (lines_with n (written_line s x)) xs ys)

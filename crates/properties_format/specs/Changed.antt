@@ -1,7 +1,8 @@
 -- What an edit changes: in a source's contents, in its map and in its bytes.
 -- Source: java.util.Properties of Java SE 7, setProperty and load (a later pair takes the place of an earlier one).
-use Rattle.std.specs.Prelude.{◌≡◌, ◌≢◌, ◌⊎◌, bytes_eq, ℕ, if◌then◌else◌, Bool, List, [], ◌∷◌, ◌++◌, Option, Some, None}
+use Rattle.std.specs.Prelude.{◌≡◌, ◌≢◌, ◌⊎◌, bytes_eq, ℕ, if◌then◌else◌, List, [], ◌∷◌, ◌++◌, Option, Some, None}
 use Rattle.properties_format.specs.Encoding.{Encoding, byte_order_mark}
+use Rattle.properties_format.specs.Repertoire.{Repertoire}
 use Rattle.properties_format.specs.Lines.{end}
 use Rattle.properties_format.specs.Entries.{Content, comment, pair, Entry, item, malformed, read_fault, AreItems}
 use Rattle.properties_format.specs.Items.{IsItems}
@@ -114,7 +115,7 @@ KeepsRest e source (remove key) result = KeepsOthers (AreOthers key) e source re
 KeepsRest e source (set_value key value) result = KeepsOthers (AreOthersThanLast key) e source result × KeepsFront e source key result
 
 -- The result is the source after these edits, each of which keeps the rest of what the one before it gave.
-abbrev pub AreKept : Encoding → Bool → List ℕ → List Edit → List ℕ → Type 0
-AreKept e only source [] result = result ≡ source
-AreKept e only source (edit ∷ edits) result =
-    (next : List ℕ) × IsEdited e only source edit next × KeepsRest e source edit next × AreKept e only next edits result
+abbrev pub AreKept : Repertoire → List ℕ → List Edit → List ℕ → Type 0
+AreKept r source [] result = result ≡ source
+AreKept r source (edit ∷ edits) result =
+    (next : List ℕ) × IsEdited r source edit next × KeepsRest r.encoding source edit next × AreKept r next edits result

@@ -9,6 +9,7 @@ pub mod Logical
 pub mod Split
 pub mod Escapes
 pub mod Items
+pub mod Found
 pub mod MalformedEscapes
 pub mod ItemsToCome
 pub mod ReaderSteps

@@ -6,8 +6,9 @@
 use Rattle.std.specs.Prelude.{◌≡◌, ◌↔◌, All, ℕ, nat_lt, Bool, true, false, if◌then◌else◌, List, [], ◌∷◌, ◌++◌}
 use Rattle.properties_format.specs.Text.{backslash, byte, LineEnding}
 use Rattle.properties_format.specs.Encoding.{Encoding, utf_8, output_encoding, begins_like_bom, IsDecoded}
-use Rattle.properties_format.specs.Lines.{InputEnd, Line, Ended, Lines, IsLines, numbered_lines}
-use Rattle.properties_format.specs.Groups.{IsGroups, joined, first_number}
+use Rattle.properties_format.specs.Repertoire.{Repertoire, ascii_in, all_of}
+use Rattle.properties_format.specs.Lines.{InputEnd, Line, Ended, Lines, IsLines}
+use Rattle.properties_format.specs.Groups.{HasGroups, joined, first_number}
 use Rattle.properties_format.specs.Items.{Outcome, ignored, given, broken, IsOutcome, IsItems}
 use Rattle.properties_format.specs.Laws.{HasOne}
 use Rattle.properties_format.specs.AsciiOnly.{AreAsciiBytes, AreItemsInBoth}
@@ -51,22 +52,22 @@ is_unicode last = false
 -- What becomes of a spelling. The spelling of an ASCII character stays. A character that the output has is written as
 -- itself if the result is to be readable; otherwise its spelling stays. A character that the output lacks is written as
 -- a `\u` escape, if it isn't already.
-abbrev pub respelt : Encoding → Bool → Bool → Spelling → List ℕ
-respelt e only readable p =
+abbrev pub respelt : Repertoire → Bool → Spelling → List ℕ
+respelt r readable p =
     let c = spelling_character p in
     if nat_lt c 0x80 then spelling_text p
-    else (if may_be_unescaped e only c then (if readable then c ∷ [] else spelling_text p)
+    else (if may_be_unescaped r c then (if readable then c ∷ [] else spelling_text p)
     else (if is_unicode p then spelling_text p else unicode_escape c))
 
 -- what becomes of a unit
-abbrev pub converted_unit : Encoding → Bool → Bool → TextUnit → List ℕ
-converted_unit e only readable (spelt p) = respelt e only readable p
-converted_unit e only readable stray = backslash ∷ letter_u ∷ []
+abbrev pub converted_unit : Repertoire → Bool → TextUnit → List ℕ
+converted_unit r readable (spelt p) = respelt r readable p
+converted_unit r readable stray = backslash ∷ letter_u ∷ []
 
 -- what becomes of units, one after another
-abbrev pub converted_units : Encoding → Bool → Bool → List TextUnit → List ℕ
-converted_units e only readable [] = []
-converted_units e only readable (u ∷ us) = converted_unit e only readable u ++ converted_units e only readable us
+abbrev pub converted_units : Repertoire → Bool → List TextUnit → List ℕ
+converted_units r readable [] = []
+converted_units r readable (u ∷ us) = converted_unit r readable u ++ converted_units r readable us
 
 -- a text with its first character escaped
 abbrev pub first_escaped : List ℕ → List ℕ
@@ -77,15 +78,15 @@ first_escaped (c ∷ cs) = unicode_escape c ++ cs
 abbrev pub at_front : Encoding → List ℕ → List ℕ
 at_front e x = if begins_like_bom (encoded_text e x) then first_escaped x else x
 
--- The result is the source, read in the first encoding, converted to the second: ASCII-only or not, readable or not.
+-- The result is the source, read in this encoding, converted to this repertoire, readable or not.
 -- A byte order mark is dropped, and malformed bytes become U+FFFD, as when the source is read.
-pub record IsConverted (e to : Encoding) (only readable : Bool) (source result : List ℕ) : Type 0 where
+pub record IsConverted (e : Encoding) (to : Repertoire) (readable : Bool) (source result : List ℕ) : Type 0 where
   pub text : List ℕ
   pub units : List TextUnit
   pub decoded : IsDecoded e source text
   pub whole : text ≡ units_before units []
   pub each : AreUnits units []
-  pub bytes : result ≡ encoded_text to (at_front to (converted_units to only readable units))
+  pub bytes : result ≡ encoded_text to.encoding (at_front to.encoding (converted_units to readable units))
 
 -- The entries are the same, except that an escape may be malformed in another way.
 abbrev pub AreSameEntries : List Entry → List Entry → Type 0
@@ -121,27 +122,25 @@ AreSameGroups gs hs = ⊥
 -- The result of a conversion, read in its own encoding, has the items of the source, with the same numbers, up to the
 -- first malformed escape, however the input ends. That escape stays malformed in the same line, and if there is none,
 -- the items are equal.
-abbrev pub ConvertingKeepsItems : Encoding → Encoding → Bool → Bool → List ℕ → InputEnd → Type 0
-ConvertingKeepsItems e to only readable source ending =
-    All byte source → output_encoding to ≡ to → (result : List ℕ) → IsConverted e to only readable source result
-    → (old new : List Entry) → IsItems e source ending old → IsItems to result ending new
+abbrev pub ConvertingKeepsItems : Encoding → Repertoire → Bool → List ℕ → InputEnd → Type 0
+ConvertingKeepsItems e to readable source ending =
+    All byte source → output_encoding to.encoding ≡ to.encoding → (result : List ℕ) → IsConverted e to readable source result
+    → (old new : List Entry) → IsItems e source ending old → IsItems to.encoding result ending new
     → AreSameEntries old new × (HoldNoMalformed old → old ≡ new)
 
 -- Each logical line of the result has the number and the outcome of that of the source, to the end of the input: also
 -- behind a malformed escape.
-abbrev pub ConvertingKeepsLogicalLines : Encoding → Encoding → Bool → Bool → List ℕ → InputEnd → Type 0
-ConvertingKeepsLogicalLines e to only readable source ending =
-    All byte source → output_encoding to ≡ to → (result : List ℕ) → IsConverted e to only readable source result
-    → (x y : List ℕ) (old new : Lines) → IsDecoded e source x → IsLines x old → IsDecoded to result y → IsLines y new
-    → (gs hs : List (List Line)) → IsGroups (numbered_lines old ending) ending gs → IsGroups (numbered_lines new ending) ending hs
-    → AreSameGroups gs hs
+abbrev pub ConvertingKeepsLogicalLines : Encoding → Repertoire → Bool → List ℕ → InputEnd → Type 0
+ConvertingKeepsLogicalLines e to readable source ending =
+    All byte source → output_encoding to.encoding ≡ to.encoding → (result : List ℕ) → IsConverted e to readable source result
+    → (gs hs : List (List Line)) → HasGroups e source ending gs → HasGroups to.encoding result ending hs → AreSameGroups gs hs
 
 -- Each byte of an ASCII-only result is below 80 hexadecimal. So the result has the same items in windows-1252 and in
 -- UTF-8. It is the same whatever the output encoding.
 abbrev pub ConvertingGivesAscii : Encoding → Encoding → Bool → List ℕ → Type 0
 ConvertingGivesAscii e to readable source =
-    (result : List ℕ) → IsConverted e to true readable source result
-    → AreAsciiBytes result × ((entries : List Entry) × AreItemsInBoth result entries) × ((other : Encoding) → IsConverted e other true readable source result)
+    (result : List ℕ) → IsConverted e (ascii_in to) readable source result
+    → AreAsciiBytes result × ((entries : List Entry) × AreItemsInBoth result entries) × ((other : Encoding) → IsConverted e (ascii_in other) readable source result)
 
 -- the line endings of lines
 abbrev pub endings : List Ended → List LineEnding
@@ -149,32 +148,32 @@ endings [] = []
 endings (l ∷ ls) = l.by ∷ endings ls
 
 -- The result of a conversion has as many lines as the source, with the same line endings.
-abbrev pub ConvertingKeepsEndings : Encoding → Encoding → Bool → Bool → List ℕ → Type 0
-ConvertingKeepsEndings e to only readable source =
-    All byte source → output_encoding to ≡ to → (result : List ℕ) → IsConverted e to only readable source result
-    → (x y : List ℕ) (old new : Lines) → IsDecoded e source x → IsLines x old → IsDecoded to result y → IsLines y new → endings old.ended ≡ endings new.ended
+abbrev pub ConvertingKeepsEndings : Encoding → Repertoire → Bool → List ℕ → Type 0
+ConvertingKeepsEndings e to readable source =
+    All byte source → output_encoding to.encoding ≡ to.encoding → (result : List ℕ) → IsConverted e to readable source result
+    → (x y : List ℕ) (old new : Lines) → IsDecoded e source x → IsLines x old → IsDecoded to.encoding result y → IsLines y new → endings old.ended ≡ endings new.ended
 
 -- Each source has exactly one result.
-abbrev pub ConvertsToOne : Encoding → Encoding → Bool → Bool → List ℕ → Type 0
-ConvertsToOne e to only readable source = HasOne (IsConverted e to only readable source)
+abbrev pub ConvertsToOne : Encoding → Repertoire → Bool → List ℕ → Type 0
+ConvertsToOne e to readable source = HasOne (IsConverted e to readable source)
 
 -- Converting the result again, in the same way, changes no byte.
-abbrev pub ConvertingTwiceIsConvertingOnce : Encoding → Encoding → Bool → Bool → List ℕ → Type 0
-ConvertingTwiceIsConvertingOnce e to only readable source =
-    All byte source → output_encoding to ≡ to → (result : List ℕ) → IsConverted e to only readable source result → IsConverted to to only readable result result
+abbrev pub ConvertingTwiceIsConvertingOnce : Encoding → Repertoire → Bool → List ℕ → Type 0
+ConvertingTwiceIsConvertingOnce e to readable source =
+    All byte source → output_encoding to.encoding ≡ to.encoding → (result : List ℕ) → IsConverted e to readable source result → IsConverted to.encoding to readable result result
 
 -- Converting to readable UTF-8 gives the same bytes for a source and for any conversion of it.
-abbrev pub ReadableAnyway : Encoding → Encoding → Bool → Bool → List ℕ → Type 0
-ReadableAnyway e to only readable source =
-    All byte source → output_encoding to ≡ to → (between : List ℕ) → IsConverted e to only readable source between
-    → (result : List ℕ) → IsConverted to utf_8 false true between result ↔ IsConverted e utf_8 false true source result
+abbrev pub ReadableAnyway : Encoding → Repertoire → Bool → List ℕ → Type 0
+ReadableAnyway e to readable source =
+    All byte source → output_encoding to.encoding ≡ to.encoding → (between : List ℕ) → IsConverted e to readable source between
+    → (result : List ℕ) → IsConverted to.encoding (all_of utf_8) true between result ↔ IsConverted e (all_of utf_8) true source result
 
 -- If spellings are kept, a source in its own encoding that is well-formed and has no byte order mark is its own result.
 abbrev pub KeptIsItself : Encoding → List ℕ → Type 0
 KeptIsItself e source =
     All byte source → output_encoding e ≡ e → begins_like_bom source ≡ false
-    → (text : List ℕ) → IsDecoded e source text → source ≡ encoded_text e text → IsConverted e e false false source source
+    → (text : List ℕ) → IsDecoded e source text → source ≡ encoded_text e text → IsConverted e (all_of e) false source source
 
--- If spellings are kept, an ASCII source is its own result in every output encoding, ASCII-only or not.
-abbrev pub AsciiIsItself : Encoding → Encoding → Bool → List ℕ → Type 0
-AsciiIsItself e to only source = AreAsciiBytes source → output_encoding e ≡ e → IsConverted e to only false source source
+-- If spellings are kept, an ASCII source is its own result in every repertoire.
+abbrev pub AsciiIsItself : Encoding → Repertoire → List ℕ → Type 0
+AsciiIsItself e to source = AreAsciiBytes source → output_encoding e ≡ e → IsConverted e to false source source

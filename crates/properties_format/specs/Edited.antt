@@ -3,6 +3,7 @@
 use Rattle.std.specs.Prelude.{◌≡◌, ◌⊎◌, ℕ, ◌&&◌, not, Bool, true, false, if◌then◌else◌, List, [], ◌∷◌, ◌++◌}
 use Rattle.properties_format.specs.Text.{line_feed, equals_sign, lf, cr, line_ending_text, is_empty}
 use Rattle.properties_format.specs.Encoding.{Encoding, windows_1252, utf_8, utf_16le, utf_16be, byte_order_mark, begins_with, begins_like_bom, utf_8_bom, utf_16be_bom, utf_16le_bom}
+use Rattle.properties_format.specs.Repertoire.{Repertoire, in_force}
 use Rattle.properties_format.specs.Lines.{end, ends_in_cr}
 use Rattle.properties_format.specs.Groups.{is_open, is_comment_line}
 use Rattle.properties_format.specs.Escapes.{Malformed}
@@ -13,21 +14,20 @@ use Rattle.properties_format.specs.Body.{AreGroupsOf, HasKey, HeldLine, NoneHasK
 
 -- ---- A key is set.
 
--- the bytes of a pair without a line ending, with ASCII-only output on or off; at the front of a body, a key that
--- begins like a byte order mark has its first character escaped
-abbrev pub pair_bytes : Encoding → Bool → Bool → List ℕ → List ℕ → List ℕ
-pair_bytes e only first key value = encoded_text e (printed_key e only first key ++ (equals_sign ∷ printed_characters e only in_key_or_value value))
+-- the bytes of a pair without a line ending; at the front of a body, a key that begins like a byte order mark has its
+-- first character escaped
+abbrev pub pair_bytes : Repertoire → Bool → List ℕ → List ℕ → List ℕ
+pair_bytes r first key value = encoded_text r.encoding (printed_key r first key ++ (equals_sign ∷ printed_characters r in_key_or_value value))
 
--- The last pair with the key is replaced by the printed pair, which keeps the line ending. The flag says whether the
--- pair is printed with ASCII-only output on.
-pub record IsReplaced (e : Encoding) (only : Bool) (groups : List (List HeldLine)) (key value result : List ℕ) : Type 0 where
+-- The last pair with the key is replaced by the printed pair, which keeps the line ending.
+pub record IsReplaced (r : Repertoire) (groups : List (List HeldLine)) (key value result : List ℕ) : Type 0 where
   pub before : List (List HeldLine)
   pub group : List HeldLine
   pub after : List (List HeldLine)
   pub division : groups ≡ before ++ group ∷ after
   pub has_key : HasKey key group
   pub no_later : NoneHasKey key after
-  pub bytes : result ≡ groups_bytes before ++ (pair_bytes e only (is_empty (groups_bytes before)) key value ++ (ending_bytes (last_ending group) ++ groups_bytes after))
+  pub bytes : result ≡ groups_bytes before ++ (pair_bytes r (is_empty (groups_bytes before)) key value ++ (ending_bytes (last_ending group) ++ groups_bytes after))
 
 -- the last of the groups
 abbrev pub final_group : List (List HeldLine) → List HeldLine
@@ -62,10 +62,10 @@ added_ending source = line_ending_text (if ends_in_cr source then cr else lf)
 abbrev pub separation : List ℕ → List HeldLine → List ℕ
 separation source group = if is_empty_line group then [] else (if is_left_open group then added_ending source ++ added_ending source else added_ending source)
 
--- No pair has the key, and the pair, printed with ASCII-only output on or off, is appended at the end, with an LF.
-pub record IsAppended (e : Encoding) (only : Bool) (source : List ℕ) (groups : List (List HeldLine)) (key value result : List ℕ) : Type 0 where
+-- No pair has the key, and the printed pair is appended at the end, with an LF.
+pub record IsAppended (r : Repertoire) (source : List ℕ) (groups : List (List HeldLine)) (key value result : List ℕ) : Type 0 where
   pub no_pair : NoneHasKey key groups
-  pub bytes : let front : List ℕ = groups_bytes groups ++ separation source (final_group groups) in result ≡ front ++ (pair_bytes e only (is_empty front) key value ++ line_feed ∷ [])
+  pub bytes : let front : List ℕ = groups_bytes groups ++ separation source (final_group groups) in result ≡ front ++ (pair_bytes r (is_empty front) key value ++ line_feed ∷ [])
 
 -- the byte order mark at the front of the bytes, or nothing if there is none
 abbrev pub bom_of : List ℕ → List ℕ
@@ -73,13 +73,14 @@ bom_of b =
     if begins_with utf_8_bom b then utf_8_bom
     else (if begins_with utf_16be_bom b then utf_16be_bom else (if begins_with utf_16le_bom b then utf_16le_bom else []))
 
--- The result is the source with the key set to the value, with ASCII-only output on or off: the byte order mark stays,
--- and in the body the last pair with the key is replaced, or a new pair is appended if no pair has the key.
-pub record IsKeySet (e : Encoding) (only : Bool) (source key value result : List ℕ) : Type 0 where
+-- The result is the source with the key set to the value: the byte order mark stays, and in the body the last pair with
+-- the key is replaced, or a new pair is appended if no pair has the key. The repertoire has the encoding that is
+-- requested, and says what may stand unescaped in the pair.
+pub record IsKeySet (r : Repertoire) (source key value result : List ℕ) : Type 0 where
   pub groups : List (List HeldLine)
-  pub held : AreGroupsOf (byte_order_mark e source).encoding (byte_order_mark e source).body groups
+  pub held : AreGroupsOf (byte_order_mark r.encoding source).encoding (byte_order_mark r.encoding source).body groups
   pub body : List ℕ
-  pub edited : IsReplaced (byte_order_mark e source).encoding only groups key value body ⊎ IsAppended (byte_order_mark e source).encoding only source groups key value body
+  pub edited : IsReplaced (in_force r source) groups key value body ⊎ IsAppended (in_force r source) source groups key value body
   pub whole : result ≡ bom_of source ++ body
 
 -- ---- A key is removed.
@@ -137,9 +138,9 @@ IsEditResult e source Makes unsupported = is_editable (byte_order_mark e source)
 IsEditResult e source Makes (unreadable kind n) = (is_editable (byte_order_mark e source).encoding ≡ true) × ItemsAre e source (IsFirstMalformed kind n)
 IsEditResult e source Makes (edited result) = (is_editable (byte_order_mark e source).encoding ≡ true) × ItemsAre e source AreItems × Makes result
 
--- the results of setting a key, with ASCII-only output on or off, and of removing it
-abbrev pub IsSetKeyResult : Encoding → Bool → List ℕ → List ℕ → List ℕ → EditResult → Type 0
-IsSetKeyResult e only source key value result = IsEditResult e source (IsKeySet e only source key value) result
+-- the results of setting a key, and of removing it
+abbrev pub IsSetKeyResult : Repertoire → List ℕ → List ℕ → List ℕ → EditResult → Type 0
+IsSetKeyResult r source key value result = IsEditResult r.encoding source (IsKeySet r source key value) result
 
 abbrev pub IsRemoveKeyResult : Encoding → List ℕ → List ℕ → EditResult → Type 0
 IsRemoveKeyResult e source key result = IsEditResult e source (IsKeyRemoved e source key) result

@@ -1,12 +1,13 @@
 -- The result of edits that ask nothing of comments: a source is refused for a malformed escape in a pair alone.
 -- Source: java.util.Properties of Java SE 7, load (comment lines are passed over) and setProperty.
-use Rattle.std.specs.Prelude.{◌≡◌, ◌⊎◌, ℕ, Bool, true, false, List, [], ◌∷◌, Option}
-use Rattle.properties_format.specs.Encoding.{Encoding, IsDecoded, byte_order_mark}
-use Rattle.properties_format.specs.Lines.{end, Line, Lines, IsLines, numbered_lines}
-use Rattle.properties_format.specs.Groups.{IsGroups, joined, first_number}
+use Rattle.std.specs.Prelude.{◌≡◌, ◌⊎◌, ℕ, true, false, List, [], ◌∷◌, Option}
+use Rattle.properties_format.specs.Encoding.{Encoding, byte_order_mark}
+use Rattle.properties_format.specs.Repertoire.{Repertoire}
+use Rattle.properties_format.specs.Lines.{end}
 use Rattle.properties_format.specs.Escapes.{Malformed}
 use Rattle.properties_format.specs.Entries.{pair, Entry, item}
-use Rattle.properties_format.specs.Items.{Outcome, given, IsOutcome}
+use Rattle.properties_format.specs.Items.{Outcome, given}
+use Rattle.properties_format.specs.Found.{AreFound}
 use Rattle.properties_format.specs.Maps.{IsValue}
 use Rattle.properties_format.specs.MalformedEscapes.{MalformedEscape, AreMalformedEscapes}
 use Rattle.properties_format.specs.Edited.{EditResult, edited, unsupported, unreadable, is_editable}
@@ -42,9 +43,9 @@ IsPairsResult e source Makes (unreadable kind n) =
 IsPairsResult e source Makes (edited result) =
     (is_editable (byte_order_mark e source).encoding ≡ true) × EscapesAre e source AreInComments × Makes result
 
--- the results of edits in turn that ask nothing of comments, with ASCII-only output on or off
-abbrev pub IsEditPairsResult : Encoding → Bool → List ℕ → List Edit → EditResult → Type 0
-IsEditPairsResult e only source edits result = IsPairsResult e source (AreEdited e only source edits) result
+-- the results of edits in turn that ask nothing of comments
+abbrev pub IsEditPairsResult : Repertoire → List ℕ → List Edit → EditResult → Type 0
+IsEditPairsResult r source edits result = IsPairsResult r.encoding source (AreEdited r source edits) result
 
 -- ---- the value of a key
 
@@ -53,21 +54,9 @@ abbrev pub pair_from : ℕ → Outcome → List Entry → List Entry
 pair_from n (given (pair key value)) rest = item n (pair key value) ∷ rest
 pair_from n outcome rest = rest
 
--- These are the pairs of the groups, in order.
-abbrev pub ArePairsIn : List (List Line) → List Entry → Type 0
-ArePairsIn [] pairs = pairs ≡ []
-ArePairsIn (group ∷ groups) pairs =
-    (outcome : Outcome) × (rest : List Entry) × IsOutcome (joined group) outcome × (pairs ≡ pair_from (first_number group) outcome rest) × ArePairsIn groups rest
-
 -- These are the pairs of an input in an encoding.
-pub record ArePairs (e : Encoding) (bytes : List ℕ) (pairs : List Entry) : Type 0 where
-  pub text : List ℕ
-  pub lines : Lines
-  pub groups : List (List Line)
-  pub decoded : IsDecoded e bytes text
-  pub divided : IsLines text lines
-  pub grouped : IsGroups (numbered_lines lines end) end groups
-  pub are : ArePairsIn groups pairs
+abbrev pub ArePairs : Encoding → List ℕ → List Entry → Type 0
+ArePairs e bytes pairs = AreFound (λ number x. pair_from number) e bytes end pairs
 
 -- The value of a key in a source whose malformed escapes are all in comments.
 pub record HasPairValue (e : Encoding) (source key : List ℕ) (value : Option (List ℕ)) : Type 0 where

@@ -3,7 +3,8 @@
 -- lines, where a backslash escapes the line terminator; a comment line can not be extended so.
 use Rattle.std.specs.Prelude.{◌≡◌, ℕ, suc, ◌%◌, ◌==◌, ◌⊎◌, Bool, true, false, if◌then◌else◌, List, [], ◌∷◌, ◌++◌, reverse}
 use Rattle.properties_format.specs.Text.{backslash, is_comment_sign, without_leading_blanks}
-use Rattle.properties_format.specs.Lines.{Line, InputEnd, end, fault, more}
+use Rattle.properties_format.specs.Encoding.{Encoding, IsDecoded}
+use Rattle.properties_format.specs.Lines.{Line, Lines, IsLines, numbered_lines, InputEnd, end, fault, more}
 
 -- the number of backslashes at the front of the text
 abbrev pub leading_backslashes : List ℕ → ℕ
@@ -73,6 +74,15 @@ pub record IsGroups (lines : List Line) (ending : InputEnd) (groups : List (List
   pub are_whole : AreWhole whole
   pub is_unfinished : IsUnfinished unfinished
   pub are_groups : groups ≡ whole ++ last_group unfinished ending
+
+-- The groups of an input in an encoding, up to this ending: the input is decoded to a text, the text has lines, and the
+-- lines have these groups.
+pub record HasGroups (e : Encoding) (bytes : List ℕ) (ending : InputEnd) (groups : List (List Line)) : Type 0 where
+  pub text : List ℕ
+  pub lines : Lines
+  pub decoded : IsDecoded e bytes text
+  pub divided : IsLines text lines
+  pub grouped : IsGroups (numbered_lines lines ending) ending groups
 
 -- the text without its last character
 abbrev pub without_last : List ℕ → List ℕ

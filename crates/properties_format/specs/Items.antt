@@ -1,9 +1,9 @@
 -- The items of an input: its contents from the first line to the last, or to the first error.
 -- Source: java.util.Properties of Java SE 7, load.
 use Rattle.std.specs.Prelude.{◌≡◌, ◌⊎◌, ℕ, ◌+◌, List, [], ◌∷◌}
-use Rattle.properties_format.specs.Encoding.{Encoding, IsDecoded}
-use Rattle.properties_format.specs.Lines.{InputEnd, end, fault, more, Line, Lines, IsLines, line_ends, numbered_lines}
-use Rattle.properties_format.specs.Groups.{IsGroups, joined, first_number}
+use Rattle.properties_format.specs.Encoding.{Encoding}
+use Rattle.properties_format.specs.Lines.{InputEnd, end, fault, more, Line, line_ends}
+use Rattle.properties_format.specs.Groups.{HasGroups, joined, first_number}
 use Rattle.properties_format.specs.Split.{Logical, IsSplit}
 use Rattle.properties_format.specs.Escapes.{Malformed, Means, Breaks}
 pub use Rattle.properties_format.specs.Entries.{Content, comment, pair, Entry, item, malformed, read_fault, number_of, NumbersAscend}
@@ -77,13 +77,8 @@ AreEntries n ending [] entries = entries ≡ last_entries n ending
 AreEntries n ending (group ∷ groups) entries =
     (outcome : Outcome) × IsOutcome (joined group) outcome × IsFollowed (first_number group) outcome (AreEntries n ending groups) entries
 
--- The items of an input in an encoding, up to this ending: the input is decoded to a text, the text has lines, the
--- lines have groups, and these are their entries.
+-- The items of an input in an encoding, up to this ending: the input has groups, and these are their entries.
 pub record IsItems (e : Encoding) (bytes : List ℕ) (ending : InputEnd) (entries : List Entry) : Type 0 where
-  pub text : List ℕ
-  pub lines : Lines
   pub groups : List (List Line)
-  pub decoded : IsDecoded e bytes text
-  pub divided : IsLines text lines
-  pub grouped : IsGroups (numbered_lines lines ending) ending groups
-  pub are_entries : AreEntries (line_ends lines) ending groups entries
+  pub has_groups : HasGroups e bytes ending groups
+  pub are_entries : AreEntries (line_ends has_groups.lines) ending groups entries

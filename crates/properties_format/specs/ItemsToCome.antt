@@ -1,10 +1,10 @@
 -- The items that a reader will still return, at any point between two of its calls.
 -- Source: java.util.Properties of Java SE 7, load.
-use Rattle.std.specs.Prelude.{◌≡◌, ◌≢◌, ◌⊎◌, ℕ, ◌+◌, Bool, true, false, if◌then◌else◌, List, [], ◌∷◌, ◌++◌}
+use Rattle.std.specs.Prelude.{◌≡◌, ◌≢◌, ◌⊎◌, ℕ, ◌+◌, ◌^◌, Bool, true, false, if◌then◌else◌, List, [], ◌∷◌, ◌++◌}
 use Rattle.properties_format.specs.Text.{line_feed}
 use Rattle.properties_format.specs.Pieces.{Piece, characters}
 use Rattle.properties_format.specs.Encoding.{Encoding, InForce, byte_order_mark, IsPieces}
-use Rattle.properties_format.specs.Lines.{InputEnd, Line, Lines, IsLines, line_ends, numbered}
+use Rattle.properties_format.specs.Lines.{InputEnd, more, Line, Lines, IsLines, line_ends, numbered}
 use Rattle.properties_format.specs.Groups.{IsGroups}
 use Rattle.properties_format.specs.Items.{Entry, AreEntries, last_entries}
 
@@ -76,3 +76,19 @@ pub record ComesFirst (old : ReaderState) (bytes : List ℕ) (entry : Entry) (ne
 pub record LinesComeFirst (old : ReaderState) (bytes : List ℕ) (lines : List Line) (new : ReaderState) : Type 0 where
   pub others : (d : List ℕ) (ending : InputEnd) (further : List Line) (last : List Entry)
       → AreLinesToCome new d ending further last → AreLinesToCome old (bytes ++ d) ending (lines ++ further) last
+
+-- These bytes have some lines at their front. Whatever comes after them, the old state continues after those lines as
+-- the new one does.
+pub record PassesSome (old : ReaderState) (bytes : List ℕ) (new : ReaderState) : Type 0 where
+  pub lines : List Line
+  pub first : LinesComeFirst old bytes lines new
+
+-- The bytes hold so many lines that no number is left for another: as many are passed as there are numbers.
+pub record PassesAll (old : ReaderState) (bytes : List ℕ) : Type 0 where
+  pub last : ReaderState
+  pub passes : PassesSome old bytes last
+  pub passed : last.passed + 1 ≡ 2 ^ 64
+
+-- Nothing was read; or the bytes already held determined no item, so a read was needed.
+abbrev pub IsLazyItems : {R : Type 0} → ReaderState → R → List ℕ → R → Type 0
+IsLazyItems old from bytes to = ((to ≡ from) × (bytes ≡ [])) ⊎ IsItemsToCome old [] more []

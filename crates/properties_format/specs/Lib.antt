@@ -15,9 +15,11 @@ pub mod Hexadecimal
 pub mod Escapes
 pub mod Entries
 pub mod Items
+pub mod Found
 pub mod MalformedEscapes
 pub mod ItemsToCome
 pub mod Settings
+pub mod Repertoire
 pub mod Printing
 pub mod Writing
 pub mod AsciiOnly

@@ -5,6 +5,7 @@
 use Rattle.std.specs.Prelude.{◌≡◌, ◌⊎◌, ℕ, ◌&&◌, Bool, true, false, if◌then◌else◌, List, [], ◌∷◌, ◌++◌, None, unwrap_or}
 use Rattle.properties_format.specs.Text.{LineEnding, lf, line_ending_text, equals_sign, is_blank, is_blanks, is_empty}
 use Rattle.properties_format.specs.Encoding.{Encoding, byte_order_mark}
+use Rattle.properties_format.specs.Repertoire.{Repertoire, in_force}
 use Rattle.properties_format.specs.Cut.{IsDecodedLine}
 use Rattle.properties_format.specs.Groups.{is_open, joined}
 use Rattle.properties_format.specs.Split.{AreBlanks, IsPair}
@@ -17,9 +18,9 @@ use Rattle.properties_format.specs.Edited.{bom_of, final_group, is_empty_line, i
 -- ---- How a value is spelt.
 
 -- what follows the front of a pair: the value, preceded by an equals sign if nothing separated the key from its value
-abbrev pub value_text : Encoding → Bool → List ℕ → List ℕ → List ℕ
-value_text e only [] value = equals_sign ∷ printed_value e only false value
-value_text e only (c ∷ cs) value = printed_value e only (is_blanks (c ∷ cs)) value
+abbrev pub value_text : Repertoire → List ℕ → List ℕ → List ℕ
+value_text r [] value = equals_sign ∷ printed_value r false value
+value_text r (c ∷ cs) value = printed_value r (is_blanks (c ∷ cs)) value
 
 -- ---- A pair gets another value.
 
@@ -62,9 +63,9 @@ pub record IsThere (groups : List (List HeldLine)) (key value result : List ℕ)
   pub no_later : NoneHasKey key after
   pub bytes : result ≡ groups_bytes groups
 
--- The last pair with the key has another value. What `value_text` prints, with ASCII-only output on or off, replaces
--- everything between the pair's front and its line ending.
-pub record IsRevalued (e : Encoding) (only : Bool) (groups : List (List HeldLine)) (key value result : List ℕ) : Type 0 where
+-- The last pair with the key has another value. What `value_text` prints replaces everything between the
+-- pair's front and its line ending.
+pub record IsRevalued (r : Repertoire) (groups : List (List HeldLine)) (key value result : List ℕ) : Type 0 where
   pub before : List (List HeldLine)
   pub group : List HeldLine
   pub after : List (List HeldLine)
@@ -74,9 +75,9 @@ pub record IsRevalued (e : Encoding) (only : Bool) (groups : List (List HeldLine
   pub no_later : NoneHasKey key after
   pub between : List ℕ
   pub front : List ℕ
-  pub is_front : IsFrontOf e group between front
+  pub is_front : IsFrontOf r.encoding group between front
   pub bytes : result
-      ≡ groups_bytes before ++ (front ++ (encoded_text e (value_text e only between value) ++ (ending_bytes (last_ending group) ++ groups_bytes after)))
+      ≡ groups_bytes before ++ (front ++ (encoded_text r.encoding (value_text r between value) ++ (ending_bytes (last_ending group) ++ groups_bytes after)))
 
 -- ---- A new pair.
 
@@ -126,38 +127,39 @@ ending_in groups = line_ending_text (ending_among lf (held_in groups))
 abbrev pub separation_by : List ℕ → List HeldLine → List ℕ
 separation_by ending group = if is_empty_line group then [] else (if is_left_open group then ending ++ ending else ending)
 
--- the bytes of a new pair after these bytes, with its line ending, with ASCII-only output on or off
-abbrev pub new_pair_bytes : Encoding → Bool → List ℕ → List ℕ → List ℕ → List ℕ → List ℕ → List ℕ
-new_pair_bytes e only front key separator value ending =
-    encoded_text e (printed_key e only (is_empty front) key ++ (separator ++ printed_value e only (is_blanks separator) value)) ++ ending
+-- the bytes of a new pair after these bytes, with its line ending
+abbrev pub new_pair_bytes : Repertoire → List ℕ → List ℕ → List ℕ → List ℕ → List ℕ → List ℕ
+new_pair_bytes r front key separator value ending =
+    encoded_text r.encoding (printed_key r (is_empty front) key ++ (separator ++ printed_value r (is_blanks separator) value)) ++ ending
 
 -- No pair has the key, and a new pair is added at the end.
-pub record IsAdded (e : Encoding) (only : Bool) (groups : List (List HeldLine)) (key value result : List ℕ) : Type 0 where
+pub record IsAdded (r : Repertoire) (groups : List (List HeldLine)) (key value result : List ℕ) : Type 0 where
   pub no_pair : NoneHasKey key groups
   pub separator : List ℕ
   pub is_separator : IsNewSeparator groups key separator
   pub bytes : let front : List ℕ = groups_bytes groups ++ separation_by (ending_in groups) (final_group groups) in
-      result ≡ front ++ new_pair_bytes e only front key separator value (ending_in groups)
+      result ≡ front ++ new_pair_bytes r front key separator value (ending_in groups)
 
 -- ---- The value of a key is set.
 
 -- the body of these groups, with the value set
-abbrev pub IsBodyValued : Encoding → Bool → List (List HeldLine) → List ℕ → List ℕ → List ℕ → Type 0
-IsBodyValued e only groups key value body = IsThere groups key value body ⊎ (IsRevalued e only groups key value body ⊎ IsAdded e only groups key value body)
+abbrev pub IsBodyValued : Repertoire → List (List HeldLine) → List ℕ → List ℕ → List ℕ → Type 0
+IsBodyValued r groups key value body = IsThere groups key value body ⊎ (IsRevalued r groups key value body ⊎ IsAdded r groups key value body)
 
--- The result is the source with the value of the key set, with ASCII-only output on or off. The byte order mark stays.
--- In the body, nothing changes if the last pair with the key has the value already; otherwise that pair gets the value,
--- or a new pair is added if no pair has the key.
-pub record IsValueSet (e : Encoding) (only : Bool) (source key value result : List ℕ) : Type 0 where
+-- The result is the source with the value of the key set. The byte order mark stays. In the body, nothing changes if
+-- the last pair with the key has the value already; otherwise that pair gets the value, or a new pair is added if no
+-- pair has the key. The repertoire has the encoding that is requested, and says what may stand unescaped in what is put
+-- in.
+pub record IsValueSet (r : Repertoire) (source key value result : List ℕ) : Type 0 where
   pub groups : List (List HeldLine)
-  pub held : AreGroupsOf (byte_order_mark e source).encoding (byte_order_mark e source).body groups
+  pub held : AreGroupsOf (byte_order_mark r.encoding source).encoding (byte_order_mark r.encoding source).body groups
   pub body : List ℕ
-  pub edited : IsBodyValued (byte_order_mark e source).encoding only groups key value body
+  pub edited : IsBodyValued (in_force r source) groups key value body
   pub whole : result ≡ bom_of source ++ body
 
--- the results of setting a value, with ASCII-only output on or off
-abbrev pub IsSetValueResult : Encoding → Bool → List ℕ → List ℕ → List ℕ → EditResult → Type 0
-IsSetValueResult e only source key value result = IsEditResult e source (IsValueSet e only source key value) result
+-- the results of setting a value
+abbrev pub IsSetValueResult : Repertoire → List ℕ → List ℕ → List ℕ → EditResult → Type 0
+IsSetValueResult r source key value result = IsEditResult r.encoding source (IsValueSet r source key value) result
 
 -- ---- What stays unchanged.
 

@@ -1,15 +1,14 @@
 -- What groups of lines of parts give, on either side alike.
-use Rattle.std.proofs.Common.{◌≡◌, ℕ, Bool, true, false, List, [], ◌∷◌, ◌++◌, map, refl, ap, ap₂, subst, sym, ◌∙◌, inl, inr}
+use Rattle.std.proofs.Common.{rules, arith, ◌≡◌, ℕ, Bool, true, false, List, [], ◌∷◌, ◌++◌, map, refl, ap, ap₂}
 use Rattle.std.specs.Prelude.{not, ◌||◌}
-use Rattle.std.proofs.lemmas.Bool.{cases_Bool}
 use Rattle.std.proofs.lemmas.List.{map-append}
-use Rattle.properties_format.specs.Lines.{Line, InputEnd, end, fault, more}
+use Rattle.properties_format.specs.Lines.{InputEnd, end, fault, more}
 use Rattle.properties_format.specs.Groups.{joined, last_group, first_number}
 use Rattle.properties_format.specs.Computed.Groups.{closes, groups_after}
 use Rattle.properties_format.specs.Escapes.{Malformed, Meaning}
 use Rattle.properties_format.specs.Computed.Escapes.{meaning_of}
-use Rattle.properties_format.specs.Entries.{comment, pair, Entry, item, malformed, read_fault}
-use Rattle.properties_format.specs.Items.{Outcome, ignored, given, broken, last_entries}
+use Rattle.properties_format.specs.Entries.{comment, pair, Entry, item, read_fault}
+use Rattle.properties_format.specs.Items.{Outcome, ignored, given, broken}
 use Rattle.properties_format.specs.Computed.Items.{comment_outcome, pair_outcome, split_outcome, outcome_of, followed, entries_of}
 use Rattle.properties_format.specs.Converting.{AreSameEntries, HoldNoMalformed, AreSameOutcomes, AreSameGroups}
 use Rattle.properties_format.proofs.Items.Unique.{outcome_of-only}
@@ -37,8 +36,7 @@ pair-alike _ _ _ _ (both_break k l) h = both_broken k l
 split-alike : (what : LogicalParts) → AreLogical what → GiveAlike (split_outcome (logical_on false what)) (split_outcome (logical_on true what))
 split-alike nothing h = same_outcome ignored
 split-alike (a_comment ps) h = comment-alike (meaning_of (text false ps)) (meaning_of (text true ps)) (mean-alike ps h)
-split-alike (a_pair ps qs) h =
-    pair-alike (meaning_of (text false ps)) (meaning_of (text true ps)) (meaning_of (text false qs)) (meaning_of (text true qs)) (mean-alike ps h.0) (mean-alike qs h.1)
+split-alike (a_pair ps qs) h = grind (arith, pair-alike, mean-alike)
 
 outcome-alike : (ps : List Part) → AreParts ps → GiveAlike (outcome_of (text false ps)) (outcome_of (text true ps))
 outcome-alike ps h = rw (splits false ps h, splits true ps h) (split-alike (split_parts ps) (split-parts ps h))
@@ -64,18 +62,10 @@ groups_parts before (l ∷ ls) ending = elim (closes_parts before l) [
 ]
 
 closing : (side : Bool) (ps : List PartLine) (l : PartLine) → AreParts l.parts → closes (map (line_on side) ps) (line_on side l) ≡ closes_parts ps l
-closing side [] l h = rw (comments side l.parts h, opens side l.parts h) refl
-closing side (p ∷ ps) l h = ap not (opens side l.parts h)
+closing side ps l h1 = grind (arith, comments, opens)
 
 last-one : (side : Bool) (ps : List PartLine) (e : InputEnd) → last_group (map (line_on side) ps) e ≡ map (map (line_on side)) (last_parts ps e)
-last-one side [] e = refl
-last-one side (p ∷ ps) end = refl
-last-one side (p ∷ ps) fault = refl
-last-one side (p ∷ ps) more = refl
-
-group-step : (before : List Line) (l : Line) (ls : List Line) (e : InputEnd) (b : Bool) → closes before l ≡ b
-    → groups_after before (l ∷ ls) e ≡ elim b [ true ↦ (before ++ l ∷ []) ∷ groups_after [] ls e | false ↦ groups_after (before ++ l ∷ []) ls e ]
-group-step before l ls e b h = rw (← h) refl
+last-one side ps e = grind (arith)
 
 parts-step : (before : List PartLine) (l : PartLine) (ls : List PartLine) (e : InputEnd) (b : Bool) → closes_parts before l ≡ b
     → groups_parts before (l ∷ ls) e ≡ elim b [ true ↦ (before ++ l ∷ []) ∷ groups_parts [] ls e | false ↦ groups_parts (before ++ l ∷ []) ls e ]
@@ -84,14 +74,7 @@ parts-step before l ls e b h = rw (← h) refl
 pub groups : (side : Bool) (before ls : List PartLine) (e : InputEnd) → AreLinesOfParts ls
     → groups_after (map (line_on side) before) (map (line_on side) ls) e ≡ map (map (line_on side)) (groups_parts before ls e)
 groups side before [] e h = last-one side before e
-groups side before (l ∷ ls) e h = elim (cases_Bool (closes_parts before l)) [
-  | inl k ↦ group-step (map (line_on side) before) (line_on side l) (map (line_on side) ls) e true (closing side before l h.0 ∙ k)
-      ∙ ap₂ (λ x y. x ∷ y) (sym (map-append (line_on side) before (l ∷ []))) (groups side [] ls e h.1)
-      ∙ ap (map (map (line_on side))) (sym (parts-step before l ls e true k))
-  | inr k ↦ group-step (map (line_on side) before) (line_on side l) (map (line_on side) ls) e false (closing side before l h.0 ∙ k)
-      ∙ ap (λ v. groups_after v (map (line_on side) ls) e) (sym (map-append (line_on side) before (l ∷ []))) ∙ groups side (before ++ l ∷ []) ls e h.1
-      ∙ ap (map (map (line_on side))) (sym (parts-step before l ls e false k))
-]
+groups side before (l ∷ ls) e h = search (rules, closing, map-append, groups side [] ls e h.1, parts-step, groups side (before ++ l ∷ []) ls e h.1)
 
 abbrev pub AreGroupsOfParts : List (List PartLine) → Type 0
 AreGroupsOfParts [] = Unit {0}
@@ -101,18 +84,10 @@ lines-append : (ls ms : List PartLine) → AreLinesOfParts ls → AreLinesOfPart
 lines-append [] ms h k = k
 lines-append (l ∷ ls) ms h k = (h.0, lines-append ls ms h.1 k)
 
-last-parts : (ls : List PartLine) (e : InputEnd) → AreLinesOfParts ls → AreGroupsOfParts (last_parts ls e)
-last-parts [] e h = tt
-last-parts (l ∷ ls) end h = (h, tt)
-last-parts (l ∷ ls) fault h = tt
-last-parts (l ∷ ls) more h = tt
-
 pub groups-parts : (before ls : List PartLine) (e : InputEnd) → AreLinesOfParts before → AreLinesOfParts ls → AreGroupsOfParts (groups_parts before ls e)
-groups-parts before [] e h k = last-parts before e h
-groups-parts before (l ∷ ls) e h k = elim (cases_Bool (closes_parts before l)) [
-  | inl c ↦ subst AreGroupsOfParts (sym (parts-step before l ls e true c)) (lines-append before (l ∷ []) h (k.0, tt), groups-parts [] ls e tt k.1)
-  | inr c ↦ subst AreGroupsOfParts (sym (parts-step before l ls e false c)) (groups-parts (before ++ l ∷ []) ls e (lines-append before (l ∷ []) h (k.0, tt)) k.1)
-]
+groups-parts before [] e h k = search (rules)
+groups-parts before (l ∷ ls) e h k =
+    grind (arith, parts-step, lines-append, groups-parts [] ls e tt k.1, groups-parts (before ++ l ∷ []) ls e (lines-append before (l ∷ []) h (k.0, tt)) k.1)
 
 -- ---- entries
 
@@ -120,16 +95,9 @@ first-number : (side : Bool) (g : List PartLine) → first_number (map (line_on 
 first-number side [] = refl
 first-number side (l ∷ ls) = refl
 
-followed-alike : (n m : ℕ) (o p : Outcome) (es fs : List Entry) → n ≡ m → GiveAlike o p → AreSameEntries es fs → AreSameEntries (followed n o es) (followed m p fs)
-followed-alike n m _ _ es fs e (same_outcome ignored) h = h
-followed-alike n m _ _ es fs e (same_outcome (given c)) h = (e, refl, h)
-followed-alike n m _ _ es fs e (same_outcome (broken k)) h = (e, tt)
-followed-alike n m _ _ es fs e (both_broken k l) h = (e, tt)
-
-last-alike : (n : ℕ) (e : InputEnd) → AreSameEntries (last_entries n e) (last_entries n e)
-last-alike n end = tt
-last-alike n fault = (refl, tt)
-last-alike n more = tt
+followed-alike : (n m : ℕ) (o p : Outcome) (es fs : List Entry) → n ≡ m → GiveAlike o p → AreSameEntries es fs
+    → AreSameEntries (followed n o es) (followed m p fs)
+followed-alike n m o p es fs h1 h2 h3 = grind (arith)
 
 group-alike : (g : List PartLine) → AreLinesOfParts g → GiveAlike (outcome_of (joined (map (line_on false) g))) (outcome_of (joined (map (line_on true) g)))
 group-alike g h = rw (joins false g h, joins true g h) (outcome-alike (joined_parts g) (joined-parts g h))
@@ -137,40 +105,21 @@ group-alike g h = rw (joins false g h, joins true g h) (outcome-alike (joined_pa
 -- The groups of either side give the same entries.
 pub entries-alike : (n : ℕ) (e : InputEnd) (gs : List (List PartLine)) → AreGroupsOfParts gs
     → AreSameEntries (entries_of n e (map (map (line_on false)) gs)) (entries_of n e (map (map (line_on true)) gs))
-entries-alike n e [] h = last-alike n e
-entries-alike n e (g ∷ gs) h =
-    followed-alike (first_number (map (line_on false) g)) (first_number (map (line_on true) g)) (outcome_of (joined (map (line_on false) g))) (outcome_of (joined (map (line_on true) g)))
-    (entries_of n e (map (map (line_on false)) gs)) (entries_of n e (map (map (line_on true)) gs)) (sym (first-number true g)) (group-alike g h.0) (entries-alike n e gs h.1)
+entries-alike n e [] h = search (rules)
+entries-alike n e (g ∷ gs) h = grind (arith, followed-alike, first-number, group-alike, entries-alike n e gs h.1)
 
 -- If no escape is malformed, the entries are the same.
 pub same-items : (es fs : List Entry) → HoldNoMalformed es → AreSameEntries es fs → es ≡ fs
-same-items [] [] h k = refl
 same-items (item n c ∷ es) (item m d ∷ fs) h k = ap₂ (λ x y. x ∷ y) (ap₂ item k.0 k.1) (same-items es fs h k.2)
-same-items [] (f ∷ fs) h k = absurd k
-same-items (item n c ∷ es) [] h k = absurd k
-same-items (item n c ∷ es) (malformed l m ∷ fs) h k = absurd k
-same-items (item n c ∷ es) (read_fault m ∷ fs) h k = absurd k
-same-items (malformed l n ∷ es) fs h k = absurd h
 same-items (read_fault n ∷ es) (read_fault m ∷ fs) h k = ap₂ (λ x y. x ∷ y) (ap read_fault k.0) (same-items es fs h k.1)
-same-items (read_fault n ∷ es) [] h k = absurd k
-same-items (read_fault n ∷ es) (item m d ∷ fs) h k = absurd k
-same-items (read_fault n ∷ es) (malformed l m ∷ fs) h k = absurd k
+same-items es fs h1 h2 = grind (arith)
 
 -- ---- groups, past malformed escapes
 
 same-outcomes : (o p : Outcome) → GiveAlike o p → AreSameOutcomes o p
-same-outcomes _ _ (same_outcome ignored) = refl
-same-outcomes _ _ (same_outcome (given c)) = refl
-same-outcomes _ _ (same_outcome (broken k)) = (k, refl)
-same-outcomes _ _ (both_broken k l) = (l, refl)
+same-outcomes o p h1 = grind (arith)
 
 -- The groups of either side are the same.
 pub groups-alike : (gs : List (List PartLine)) → AreGroupsOfParts gs → AreSameGroups (map (map (line_on false)) gs) (map (map (line_on true)) gs)
 groups-alike [] h = tt
-groups-alike (g ∷ gs) h =
-    let x = joined (map (line_on false) g) in
-    let y = joined (map (line_on true) g) in (
-      sym (first-number true g),
-      λ old new i j. rw (outcome_of-only x old i, outcome_of-only y new j) (same-outcomes (outcome_of x) (outcome_of y) (group-alike g h.0)),
-      groups-alike gs h.1,
-    )
+groups-alike (g ∷ gs) h = grind (arith, first-number, outcome_of-only, same-outcomes, group-alike, groups-alike gs h.1)

@@ -37,12 +37,9 @@ groups_of-alike ps e h = rw (groups-on false ps e h, groups-on true ps e h) (gro
 
 items-on : (side : Bool) (ps : List Part) (e : InputEnd) → AreParts ps
     → items_of_lines (lines_of (text side ps)) e ≡ entries_of (length (lines_parts ps).ended) e (map (map (line_on side)) (all_groups ps e))
-items-on side ps e h =
-    ap₂ (λ n v. entries_of n e v)
-    (ap line_ends (lines-alike side ps h) ∙ same-count side (lines_parts ps).ended)
-    (groups-on side ps e h)
+items-on side ps e h = ap₂ (λ n v. entries_of n e v) (ap line_ends (lines-alike side ps h) ∙ same-count side (lines_parts ps).ended) (groups-on side ps e h)
 
 -- Both texts of parts have the same items.
-pub items-alike : (ps : List Part) (e : InputEnd) → AreParts ps → AreSameEntries (items_of_lines (lines_of (text false ps)) e) (items_of_lines (lines_of (text true ps)) e)
-items-alike ps e h =
-    rw (items-on false ps e h, items-on true ps e h) (entries-alike (length (lines_parts ps).ended) e (all_groups ps e) (all-parts ps e h))
+pub items-alike : (ps : List Part) (e : InputEnd) → AreParts ps
+    → AreSameEntries (items_of_lines (lines_of (text false ps)) e) (items_of_lines (lines_of (text true ps)) e)
+items-alike ps e h = rw (items-on false ps e h, items-on true ps e h) (entries-alike (length (lines_parts ps).ended) e (all_groups ps e) (all-parts ps e h))

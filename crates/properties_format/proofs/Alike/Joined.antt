@@ -1,12 +1,12 @@
 -- Lines of parts: which are open, which are comment lines, and what they make together, on either side alike.
-use Rattle.std.proofs.Common.{◌≡◌, ℕ, suc, ◌==◌, ◌≤◌, Bool, true, false, List, [], ◌∷◌, ◌++◌, map, refl, ap, ap₂, sym, ◌∙◌, inl, inr, append_assoc, arith}
-use Rattle.std.specs.Prelude.{if◌then◌else◌, ◌%◌, reverse, ◌&&◌}
+use Rattle.std.proofs.Common.{rules, ◌≡◌, ℕ, ◌==◌, Bool, true, false, List, [], ◌∷◌, ◌++◌, map, refl, ap, ◌∙◌, inl, inr, append_assoc, arith}
+use Rattle.std.specs.Prelude.{if◌then◌else◌, ◌%◌, reverse}
 use Rattle.std.proofs.lemmas.Bool.{cases_Bool, eqb-true, and_parts}
 use Rattle.std.proofs.lemmas.List.{reverse-append}
 use Rattle.properties_format.specs.Text.{backslash, is_blank, is_comment_sign, without_leading_blanks}
 use Rattle.properties_format.specs.Lines.{Line}
-use Rattle.properties_format.specs.Groups.{leading_backslashes, is_open, begins_with_comment_sign, is_comment_line, without_last, without_open_backslash, addition, joined_after, joined}
-use Rattle.properties_format.specs.Escapes.{letter_u, Spelling, itself, escaped, unicode, surrogates, last, spelling_text, spelling_character, is_hexadecimal, Four, are_hexadecimal, four_text}
+use Rattle.properties_format.specs.Groups.{leading_backslashes, is_open, begins_with_comment_sign, is_comment_line, without_open_backslash, joined_after, joined}
+use Rattle.properties_format.specs.Escapes.{letter_u, Spelling, itself, escaped, unicode, surrogates, last, spelling_text, Four, are_hexadecimal, four_text}
 use Rattle.properties_format.proofs.Escapes.Laws.{IsWhole}
 use Rattle.properties_format.proofs.Escapes.Digits.{hexadecimal-plain}
 use Rattle.properties_format.proofs.Groups.Open.{is_open-after, without_last-push}
@@ -22,16 +22,10 @@ ends_open (after_backslash c ∷ ps) = ends_open ps
 ends_open (past p q ∷ ps) = ends_open ps
 ends_open (lone ∷ ps) = true
 
-odd-next : (n m : ℕ) → (n % 2 == 1) ≡ (m % 2 == 1) → (suc n % 2 == 1) ≡ (suc m % 2 == 1)
-odd-next n m h = grind (arith)
-
 -- Two more backslashes at the end of a text that is reversed.
 leading-two : (z : List ℕ) → (leading_backslashes (z ++ backslash ∷ backslash ∷ []) % 2 == 1) ≡ (leading_backslashes z % 2 == 1)
 leading-two [] = refl
-leading-two (d ∷ z) = elim (cases_Bool (d == backslash)) [
-  | inl e ↦ rw e (odd-next (leading_backslashes (z ++ backslash ∷ backslash ∷ [])) (leading_backslashes z) (leading-two z))
-  | inr e ↦ rw e refl
-]
+leading-two (d ∷ z) = search (rules, leading-two z)
 
 -- Two more backslashes at the front.
 open-two : (y : List ℕ) → is_open (backslash ∷ backslash ∷ y) ≡ is_open y
@@ -45,10 +39,7 @@ open-escaped c y = elim (cases_Bool (c == backslash)) [
 ]
 
 fourth-plain : (d : Four) → are_hexadecimal d ≡ true → (d.fourth == backslash) ≡ false
-fourth-plain d h =
-    let p = and_parts (is_hexadecimal d.first && is_hexadecimal d.second) (is_hexadecimal d.third && is_hexadecimal d.fourth) h in
-    let q = and_parts (is_hexadecimal d.third) (is_hexadecimal d.fourth) p.1 in
-    (hexadecimal-plain d.fourth q.1).0
+fourth-plain d h = grind (arith, and_parts, hexadecimal-plain)
 
 -- A whole spelling at the front.
 open-spelling : (s : Spelling) (y : List ℕ) → IsWhole s → is_open (spelling_text s ++ y) ≡ is_open y
@@ -60,11 +51,10 @@ open-spelling (surrogates high low) y h =
 open-spelling last y h = absurd h
 
 pub opens : (side : Bool) (ps : List Part) → AreParts ps → is_open (text side ps) ≡ ends_open ps
-opens side [] h = refl
 opens side (same c ∷ ps) h = is_open-after [] c (text side ps) h.0 ∙ opens side ps h.1
 opens side (after_backslash c ∷ ps) h = open-escaped c (text side ps) ∙ opens side ps h.1
 opens side (past p q ∷ ps) h = open-spelling (on side p q) (text side ps) (on-whole side p q h.0) ∙ opens side ps h.1
-opens side (lone ∷ ps) h = rw h.0 refl
+opens side ps h1 = grind (arith)
 
 -- ---- without the open backslash
 
@@ -77,47 +67,38 @@ closed (past p q ∷ ps) = past p q ∷ closed ps
 closed (lone ∷ ps) = []
 
 closed-none : (ps : List Part) → ends_open ps ≡ false → closed ps ≡ ps
-closed-none [] h = refl
 closed-none (same c ∷ ps) h = ap (λ v. same c ∷ v) (closed-none ps h)
 closed-none (after_backslash c ∷ ps) h = ap (λ v. after_backslash c ∷ v) (closed-none ps h)
 closed-none (past p q ∷ ps) h = ap (λ v. past p q ∷ v) (closed-none ps h)
-closed-none (lone ∷ ps) h = absurd (cc)
+closed-none ps h1 = grind (arith)
 
 closed-some : (side : Bool) (ps : List Part) → AreParts ps → ends_open ps ≡ true → text side ps ≡ text side (closed ps) ++ backslash ∷ []
-closed-some side [] k h = absurd (cc)
 closed-some side (same c ∷ ps) k h = ap (λ v. c ∷ v) (closed-some side ps k.1 h)
 closed-some side (after_backslash c ∷ ps) k h = ap (λ v. backslash ∷ c ∷ v) (closed-some side ps k.1 h)
-closed-some side (past p q ∷ ps) k h =
-    ap (λ v. spelling_text (on side p q) ++ v) (closed-some side ps k.1 h) ∙ sym (append_assoc (spelling_text (on side p q)) (text side (closed ps)) (backslash ∷ []))
-closed-some side (lone ∷ ps) k h = rw k.0 refl
+closed-some side (past p q ∷ ps) k h = grind (arith, closed-some side ps k.1 h, append_assoc)
+closed-some side ps h1 h2 = grind (arith)
 
 pub closes-text : (side : Bool) (ps : List Part) → AreParts ps → without_open_backslash (text side ps) ≡ text side (closed ps)
-closes-text side ps k = elim (cases_Bool (ends_open ps)) [
-  | inl e ↦ rw (opens side ps k, e) (ap without_last (closed-some side ps k e) ∙ without_last-push (text side (closed ps)) backslash)
-  | inr e ↦ rw (opens side ps k, e) (ap (text side) (sym (closed-none ps e)))
-]
+closes-text side ps k = grind (arith, opens, closed-some, without_last-push, closed-none)
 
 pub closed-parts : (ps : List Part) → AreParts ps → AreParts (closed ps)
-closed-parts [] h = tt
 closed-parts (same c ∷ ps) h = (h.0, closed-parts ps h.1)
 closed-parts (after_backslash c ∷ ps) h = (h.0, closed-parts ps h.1)
 closed-parts (past p q ∷ ps) h = (h.0, closed-parts ps h.1)
-closed-parts (lone ∷ ps) h = tt
+closed-parts ps h1 = grind (arith)
 
 pub closed-closed : (ps : List Part) → ends_open (closed ps) ≡ false
-closed-closed [] = refl
 closed-closed (same c ∷ ps) = closed-closed ps
 closed-closed (after_backslash c ∷ ps) = closed-closed ps
 closed-closed (past p q ∷ ps) = closed-closed ps
-closed-closed (lone ∷ ps) = refl
+closed-closed ps = grind (arith)
 
 -- Parts before parts, if no backslash by itself is between.
 pub parts-append : (ps qs : List Part) → AreParts ps → ends_open ps ≡ false → AreParts qs → AreParts (ps ++ qs)
-parts-append [] qs h e k = k
 parts-append (same c ∷ ps) qs h e k = (h.0, parts-append ps qs h.1 e k)
 parts-append (after_backslash c ∷ ps) qs h e k = (tt, parts-append ps qs h.1 e k)
 parts-append (past p q ∷ ps) qs h e k = (h.0, parts-append ps qs h.1 e k)
-parts-append (lone ∷ ps) qs h e k = absurd (cc)
+parts-append ps qs h1 h2 h3 = grind (arith)
 
 -- ---- without leading blanks
 
@@ -129,32 +110,13 @@ skip (after_backslash c ∷ ps) = after_backslash c ∷ ps
 skip (past p q ∷ ps) = past p q ∷ ps
 skip (lone ∷ ps) = lone ∷ ps
 
-spelling-full : (s : Spelling) (y : List ℕ) → 0x80 ≤ spelling_character s → without_leading_blanks (spelling_text s ++ y) ≡ spelling_text s ++ y
-spelling-full (itself c) y h = let e : is_blank c ≡ false = grind (arith) in rw e refl
-spelling-full (escaped c) y h = refl
-spelling-full (unicode d) y h = refl
-spelling-full (surrogates high low) y h = refl
-spelling-full last y h = refl
-
 pub skips : (side : Bool) (ps : List Part) → AreParts ps → without_leading_blanks (text side ps) ≡ text side (skip ps)
-skips side [] h = refl
-skips side (same c ∷ ps) h = elim (cases_Bool (is_blank c)) [
-  | inl e ↦ rw e (skips side ps h.1)
-  | inr e ↦ rw e refl
-]
-skips side (after_backslash c ∷ ps) h = refl
-skips side (past p q ∷ ps) h = spelling-full (on side p q) (text side ps) (on-beyond side p q h.0)
-skips side (lone ∷ ps) h = refl
+skips side (same c ∷ ps) h = grind (arith, skips side ps h.1)
+skips side ps h1 = search (rules, on-beyond)
 
 pub skip-parts : (ps : List Part) → AreParts ps → AreParts (skip ps)
-skip-parts [] h = tt
-skip-parts (same c ∷ ps) h = elim (cases_Bool (is_blank c)) [
-  | inl e ↦ rw e (skip-parts ps h.1)
-  | inr e ↦ rw e h
-]
-skip-parts (after_backslash c ∷ ps) h = h
-skip-parts (past p q ∷ ps) h = h
-skip-parts (lone ∷ ps) h = h
+skip-parts (same c ∷ ps) h = grind (arith, skip-parts ps h.1)
+skip-parts ps h1 = grind (arith)
 
 -- ---- comment lines
 
@@ -166,19 +128,8 @@ sign (after_backslash c ∷ ps) = false
 sign (past p q ∷ ps) = false
 sign (lone ∷ ps) = false
 
-spelling-sign : (s : Spelling) (y : List ℕ) → 0x80 ≤ spelling_character s → begins_with_comment_sign (spelling_text s ++ y) ≡ false
-spelling-sign (itself c) y h = grind (arith)
-spelling-sign (escaped c) y h = refl
-spelling-sign (unicode d) y h = refl
-spelling-sign (surrogates high low) y h = refl
-spelling-sign last y h = refl
-
 pub signs : (side : Bool) (ps : List Part) → AreParts ps → begins_with_comment_sign (text side ps) ≡ sign ps
-signs side [] h = refl
-signs side (same c ∷ ps) h = refl
-signs side (after_backslash c ∷ ps) h = refl
-signs side (past p q ∷ ps) h = spelling-sign (on side p q) (text side ps) (on-beyond side p q h.0)
-signs side (lone ∷ ps) h = refl
+signs side ps h1 = search (rules, on-beyond)
 
 abbrev pub comment_parts : List Part → Bool
 comment_parts ps = sign (skip ps)
@@ -211,29 +162,16 @@ abbrev pub joined_parts : List PartLine → List Part
 joined_parts [] = []
 joined_parts (l ∷ ls) = if comment_parts l.parts then l.parts else closed l.parts ++ after_parts ls
 
-adds : (side : Bool) (ps : List Part) → AreParts ps → addition (text side ps) ≡ text side (addition_parts ps)
-adds side ps h = ap without_open_backslash (skips side ps h) ∙ closes-text side (skip ps) (skip-parts ps h)
-
 adds-after : (side : Bool) (ls : List PartLine) → AreLinesOfParts ls → joined_after (map (line_on side) ls) ≡ text side (after_parts ls)
 adds-after side [] h = refl
-adds-after side (l ∷ ls) h = ap₂ (λ x y. x ++ y) (adds side l.parts h.0) (adds-after side ls h.1) ∙ sym (text-append side (addition_parts l.parts) (after_parts ls))
+adds-after side (l ∷ ls) h = search (rules, adds-after side ls h.1, text-append, skips, closes-text, skip-parts)
 
 pub joins : (side : Bool) (ls : List PartLine) → AreLinesOfParts ls → joined (map (line_on side) ls) ≡ text side (joined_parts ls)
-joins side [] h = refl
-joins side (l ∷ ls) h = elim (cases_Bool (comment_parts l.parts)) [
-  | inl e ↦ rw (comments side l.parts h.0, e) refl
-  | inr e ↦ rw (comments side l.parts h.0, e)
-      (ap₂ (λ x y. x ++ y) (closes-text side l.parts h.0) (adds-after side ls h.1) ∙ sym (text-append side (closed l.parts) (after_parts ls)))
-]
+joins side ls h1 = grind (arith, comments, closes-text, adds-after, text-append)
 
 after-parts : (ls : List PartLine) → AreLinesOfParts ls → AreParts (after_parts ls)
 after-parts [] h = tt
-after-parts (l ∷ ls) h =
-    parts-append (addition_parts l.parts) (after_parts ls) (closed-parts (skip l.parts) (skip-parts l.parts h.0)) (closed-closed (skip l.parts)) (after-parts ls h.1)
+after-parts (l ∷ ls) h = grind (arith, parts-append, closed-parts, skip-parts, closed-closed, after-parts ls h.1)
 
 pub joined-parts : (ls : List PartLine) → AreLinesOfParts ls → AreParts (joined_parts ls)
-joined-parts [] h = tt
-joined-parts (l ∷ ls) h = elim (cases_Bool (comment_parts l.parts)) [
-  | inl e ↦ rw e h.0
-  | inr e ↦ rw e (parts-append (closed l.parts) (after_parts ls) (closed-parts l.parts h.0) (closed-closed l.parts) (after-parts ls h.1))
-]
+joined-parts ls h1 = grind (arith, parts-append, closed-parts, closed-closed, after-parts)

@@ -1,16 +1,16 @@
 -- The lines of a text of parts, on either side alike.
-use Rattle.std.proofs.Common.{◌≡◌, ℕ, suc, ◌+◌, ◌==◌, ◌≤◌, Bool, true, false, List, [], ◌∷◌, ◌++◌, map, length, refl, ap, subst, sym, ◌∙◌, inl, inr, arith}
+use Rattle.std.proofs.Common.{rules, ◌≡◌, ℕ, suc, ◌+◌, ◌==◌, ◌≤◌, Bool, true, false, List, [], ◌∷◌, ◌++◌, map, length, refl, ap, sym, ◌∙◌, inl, inr, arith}
 use Rattle.std.specs.Prelude.{if◌then◌else◌}
 use Rattle.std.proofs.lemmas.Bool.{cases_Bool}
 use Rattle.properties_format.specs.Text.{backslash, line_feed, carriage_return, is_line_end, LineEnding, lf, cr, crlf}
 use Rattle.properties_format.specs.Lines.{Ended, Lines, InputEnd, end, fault, more, HoldsNoLineEnd, numbered}
 use Rattle.properties_format.specs.Computed.Lines.{is_lone_lf, cr_before, character_before, before, lines_of}
-use Rattle.properties_format.specs.Escapes.{letter_u, Spelling, itself, escaped, unicode, surrogates, last, spelling_text, spelling_character, is_hexadecimal, Four, are_hexadecimal, four_text}
+use Rattle.properties_format.specs.Escapes.{letter_u, Spelling, itself, escaped, unicode, surrogates, last, spelling_text, spelling_character, Four, are_hexadecimal, four_text}
 use Rattle.properties_format.proofs.Escapes.Laws.{IsWhole}
 use Rattle.properties_format.proofs.Lines.Meets.{before-plain}
 use Rattle.properties_format.proofs.Alike.Parts.{Part, same, after_backslash, past, lone, on, part_text, text, IsPart, AreParts, on-whole, on-beyond, escaped-beyond}
 use Rattle.properties_format.proofs.Alike.Joined.{PartLine, line_on, AreLinesOfParts}
-use Rattle.properties_format.proofs.Alike.Divided.{digits}
+use Rattle.properties_format.proofs.Escapes.Digits.{digits, digit-plain}
 
 -- a line of parts with its end
 pub record PartEnded : Type 0 where
@@ -67,23 +67,13 @@ abbrev text_before : List ℕ → List Ended → List ℕ → Lines
 text_before x [] tail = record { ended = []; last = x ++ tail }
 text_before x (l ∷ ls) tail = record { ended = record { text = x ++ l.text; by = l.by } ∷ ls; last = tail }
 
-text-nil : (ls : List Ended) (tail : List ℕ) → text_before [] ls tail ≡ record { ended = ls; last = tail }
-text-nil [] tail = refl
-text-nil (l ∷ ls) tail = refl
-
-text-cons : (c : ℕ) (x : List ℕ) (ls : List Ended) (tail : List ℕ) → (let m = text_before x ls tail in character_before c m.ended m.last) ≡ text_before (c ∷ x) ls tail
-text-cons c x [] tail = refl
-text-cons c x (l ∷ ls) tail = refl
+text-cons : (c : ℕ) (x : List ℕ) (ls : List Ended) (tail : List ℕ)
+    → (let m = text_before x ls tail in character_before c m.ended m.last) ≡ text_before (c ∷ x) ls tail
+text-cons c x ls tail = grind (arith)
 
 plain-front : (x y : List ℕ) → HoldsNoLineEnd x → lines_of (x ++ y) ≡ (let m = lines_of y in text_before x m.ended m.last)
-plain-front [] y h = sym (text-nil (lines_of y).ended (lines_of y).last)
-plain-front (c ∷ x) y h =
-    before-plain c (lines_of (x ++ y)) h.0
-    ∙ ap (λ v. let m : Lines = v in character_before c m.ended m.last) (plain-front x y h.1)
-    ∙ text-cons c x (lines_of y).ended (lines_of y).last
-
-digit-plain : (c : ℕ) → is_hexadecimal c ≡ true → is_line_end c ≡ false
-digit-plain c h = grind (arith)
+plain-front [] y h = sym (search (rules))
+plain-front (c ∷ x) y h = grind (arith, before-plain, plain-front x y h.1, text-cons)
 
 pub four-plain : (d : Four) (x : List ℕ) → are_hexadecimal d ≡ true → HoldsNoLineEnd x → HoldsNoLineEnd (four_text d ++ x)
 four-plain d x h k = let g = digits d h in (digit-plain d.first g.0, (digit-plain d.second g.1, (digit-plain d.third g.2, (digit-plain d.fourth g.3, k))))
@@ -143,11 +133,10 @@ lines-alike side (same c ∷ ps) h = elim (cases_Bool (is_line_end c)) [
   | inr e ↦ rw e (plain-part side (same c) (text side ps) (lines_parts ps) (e, tt) (lines-alike side ps h.1))
 ]
 lines-alike side (after_backslash c ∷ ps) h = elim (cases_Bool (is_line_end c)) [
-  | inl e ↦ rw e (plain-part side lone (c ∷ text side ps) (end_parts c (lines_parts ps)) (refl, tt) (ap (before c) (lines-alike side ps h.1) ∙ end-on side c (lines_parts ps) e))
+  | inl e ↦ rw e (plain-part side lone (c ∷ text side ps) _ (refl, tt) (ap (before c) (lines-alike side ps h.1) ∙ end-on side c (lines_parts ps) e))
   | inr e ↦ rw e (plain-part side (after_backslash c) (text side ps) (lines_parts ps) (refl, (e, tt)) (lines-alike side ps h.1))
 ]
-lines-alike side (past p q ∷ ps) h =
-    plain-part side (past p q) (text side ps) (lines_parts ps) (spelling-plain (on side p q) (on-whole side p q h.0) (on-beyond side p q h.0)) (lines-alike side ps h.1)
+lines-alike side (past p q ∷ ps) h = plain-part side _ _ _ (spelling-plain _ (on-whole side p q h.0) (on-beyond side p q h.0)) (lines-alike side ps h.1)
 lines-alike side (lone ∷ ps) h = plain-part side lone (text side ps) (lines_parts ps) (refl, tt) (lines-alike side ps h.1)
 
 -- ---- the parts of each line
@@ -193,16 +182,13 @@ end-empty c lines = elim (cases_Bool (c == line_feed)) [
 ]
 
 -- A part that doesn't care for what follows, at the front.
-front-parts : (p : Part) (ls : List PartEnded) (tail : List Part) → ((ps : List Part) → IsPart p ps) → AreEndedParts ls → AreParts tail → AreLineParts (front_part p ls tail)
-front-parts p [] tail h k m = record { ended = tt; last = (h tail, m) }
-front-parts p (l ∷ ls) tail h k m = record { ended = ((h l.parts, k.0), k.1); last = m }
+front-parts : (p : Part) (ls : List PartEnded) (tail : List Part) → ((ps : List Part) → IsPart p ps) → AreEndedParts ls → AreParts tail
+    → AreLineParts (front_part p ls tail)
+front-parts p ls tail h1 h2 h3 = grind (arith)
 
 -- a backslash by itself at the front of an empty line
 lone-front : (lines : PartLines) → AreLineParts lines → BeginsEmpty lines → AreLineParts (front_part lone lines.ended lines.last)
-lone-front lines h k =
-    let g : AreEndedParts (empty_line k.by k.more) = subst AreEndedParts k.ended h.ended in
-    let f : AreLineParts (front_part lone (empty_line k.by k.more) lines.last) = record { ended = ((refl, tt), g.1); last = h.last } in
-    subst (λ v. AreLineParts (front_part lone v lines.last)) (sym k.ended) f
+lone-front lines h k = grind (arith)
 
 pub line-parts : (ps : List Part) → AreParts ps → AreLineParts (lines_parts ps)
 line-parts [] h = record { ended = tt; last = tt }
@@ -233,25 +219,13 @@ numbered_parts n (l ∷ ls) tail ending = record { number = n + 1; parts = l.par
 
 pub numbers : (side : Bool) (n : ℕ) (ls : List PartEnded) (tail : List Part) (e : InputEnd)
     → numbered n (map (ended_on side) ls) (text side tail) e ≡ map (line_on side) (numbered_parts n ls tail e)
-numbers side n [] tail end = refl
-numbers side n [] tail fault = refl
-numbers side n [] tail more = refl
 numbers side n (l ∷ ls) tail e = ap (λ v. line_on side (record { number = n + 1; parts = l.parts }) ∷ v) (numbers side (n + 1) ls tail e)
+numbers side n ls tail e = grind (arith)
 
-pub numbered-parts : (n : ℕ) (ls : List PartEnded) (tail : List Part) (e : InputEnd) → AreEndedParts ls → AreParts tail → AreLinesOfParts (numbered_parts n ls tail e)
-numbered-parts n [] tail end h k = (k, tt)
-numbered-parts n [] tail fault h k = tt
-numbered-parts n [] tail more h k = tt
+pub numbered-parts : (n : ℕ) (ls : List PartEnded) (tail : List Part) (e : InputEnd) → AreEndedParts ls → AreParts tail
+    → AreLinesOfParts (numbered_parts n ls tail e)
 numbered-parts n (l ∷ ls) tail e h k = (h.0, numbered-parts (n + 1) ls tail e h.1 k)
-
--- The two texts have as many line endings, and the same ones.
-abbrev pub ends_of : List Ended → List LineEnding
-ends_of [] = []
-ends_of (l ∷ ls) = l.by ∷ ends_of ls
-
-pub same-ends : (ls : List PartEnded) → ends_of (map (ended_on false) ls) ≡ ends_of (map (ended_on true) ls)
-same-ends [] = refl
-same-ends (l ∷ ls) = ap (λ v. l.by ∷ v) (same-ends ls)
+numbered-parts n ls tail e h1 h2 = grind (arith)
 
 pub same-count : (side : Bool) (ls : List PartEnded) → length (map (ended_on side) ls) ≡ length ls
 same-count side [] = refl

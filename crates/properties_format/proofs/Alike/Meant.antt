@@ -1,16 +1,16 @@
 -- What parts mean, on either side alike.
-use Rattle.std.proofs.Common.{◌≡◌, ℕ, zero, suc, ◌==◌, ◌≤◌, Bool, true, false, List, [], ◌∷◌, ◌++◌, length, Option, Some, None, refl, ap, subst, sym, ◌∙◌, inl, inr, arith}
+use Rattle.std.proofs.Common.{rules, ◌≡◌, ℕ, zero, suc, ◌==◌, ◌≤◌, Bool, true, false, List, [], ◌∷◌, ◌++◌, length, Option, Some, None, refl, ap, subst, sym, ◌∙◌, inl, inr, arith}
 use Rattle.std.specs.Prelude.{not}
 use Rattle.std.proofs.lemmas.Bool.{cases_Bool, eqb-true}
 use Rattle.properties_format.specs.Text.{backslash}
 use Rattle.properties_format.specs.Surrogates.{is_high, is_low, is_surrogate}
-use Rattle.properties_format.specs.Escapes.{Malformed, letter_u, Spelling, itself, escaped, unicode, surrogates, last, spelling_text, spelling_character, IsSpelling, is_hexadecimal, Four, are_hexadecimal, four_text, code_unit, malformed_by, Meaning, means, breaks}
-use Rattle.properties_format.specs.Computed.Escapes.{first_spelling, in_front, meaning_of}
+use Rattle.properties_format.specs.Escapes.{Malformed, letter_u, Spelling, itself, escaped, unicode, surrogates, last, spelling_text, spelling_character, IsSpelling, is_hexadecimal, Four, are_hexadecimal, four_text, code_unit, Meaning, means, breaks}
+use Rattle.properties_format.specs.Computed.Escapes.{first_spelling, meaning_of}
 use Rattle.properties_format.proofs.Escapes.First.{spelling_of-none, first_spelling-found, IsFirst, IsFound}
 use Rattle.properties_format.proofs.Escapes.Laws.{IsWhole, IsWhole-spelling}
 use Rattle.properties_format.proofs.Escapes.Unique.{meaning_of-spelling, meaning_of-fault}
 use Rattle.properties_format.proofs.Alike.Parts.{Part, same, after_backslash, past, lone, on, text, IsPast, AreParts, on-whole, on-beyond, escaped-beyond}
-use Rattle.properties_format.proofs.Alike.Divided.{digits}
+use Rattle.properties_format.proofs.Escapes.Digits.{digits}
 
 -- What parts mean on the one side, they mean on the other.
 abbrev Carries : Meaning → Meaning → Type 0
@@ -18,11 +18,6 @@ Carries m n = (x : List ℕ) → m ≡ means x → n ≡ means x
 
 means≢breaks : (x : List ℕ) (k : Malformed) → breaks k ≡ means x → ⊥
 means≢breaks x k h = cc
-
--- One more character in front.
-carries-front : (c : ℕ) (m n : Meaning) → Carries m n → Carries (in_front c m) (in_front c n)
-carries-front c (means y) n h x e = ap (in_front c) (h y refl) ∙ e
-carries-front c (breaks k) n h x e = absurd (means≢breaks x k e)
 
 -- ---- which parts a text's front comes from
 
@@ -35,21 +30,11 @@ record Begins (side : Bool) (ps : List Part) (c : ℕ) (x : List ℕ) : Type 0 w
 head-is : (c d : ℕ) (x y : List ℕ) → c ∷ x ≡ d ∷ y → (c ≡ d) × (x ≡ y)
 head-is c d x y h = (cc, cc)
 
--- A digit isn't the first character of a spelling of a non-ASCII character.
-digit-spelling : (s : Spelling) (y : List ℕ) (c : ℕ) (x : List ℕ) → 0x80 ≤ spelling_character s → is_hexadecimal c ≡ true → spelling_text s ++ y ≡ c ∷ x → ⊥
-digit-spelling (itself d) y c x k h e = let f = (head-is d c y x e).0 in grind (arith)
-digit-spelling (escaped d) y c x k h e = let f = (head-is backslash c (d ∷ y) x e).0 in grind (arith)
-digit-spelling (unicode d) y c x k h e = let f = (head-is backslash c (letter_u ∷ four_text d ++ y) x e).0 in grind (arith)
-digit-spelling (surrogates high low) y c x k h e = let f = (head-is backslash c ((letter_u ∷ four_text high) ++ (backslash ∷ letter_u ∷ four_text low ++ y)) x e).0 in grind (arith)
-digit-spelling last y c x k h e = let f = (head-is backslash c y x e).0 in grind (arith)
-
 begins-digit : (side : Bool) (ps : List Part) (c : ℕ) (x : List ℕ) → AreParts ps → is_hexadecimal c ≡ true → text side ps ≡ c ∷ x → Begins side ps c x
 begins-digit side [] c x k h e = absurd (cc)
-begins-digit side (same d ∷ ps) c x k h e =
-    let p = head-is d c (text side ps) x e in
-    record { after = ps; parts = ap (λ v. same v ∷ ps) p.0; rest = sym p.1 }
+begins-digit side (same d ∷ ps) c x k h e = grind (arith, head-is, same)
 begins-digit side (after_backslash d ∷ ps) c x k h e = let f = (head-is backslash c (d ∷ text side ps) x e).0 in absurd (grind (arith))
-begins-digit side (past p q ∷ ps) c x k h e = absurd (digit-spelling (on side p q) (text side ps) c x (on-beyond side p q k.0) h e)
+begins-digit side (past p q ∷ ps) c x k h e = absurd (search (rules, head-is))
 begins-digit side (lone ∷ ps) c x k h e = let f = (head-is backslash c (text side ps) x e).0 in absurd (grind (arith))
 
 -- If the text begins with four digits, the first four parts are these digits.
@@ -61,7 +46,8 @@ record BeginsFour (side : Bool) (ps : List Part) (d : Four) (x : List ℕ) : Typ
 parts-after : (ps : List Part) (c : ℕ) (after : List Part) → ps ≡ same c ∷ after → AreParts ps → AreParts after
 parts-after ps c after e h = (subst AreParts e h).1
 
-begins-four : (side : Bool) (ps : List Part) (d : Four) (x : List ℕ) → AreParts ps → are_hexadecimal d ≡ true → text side ps ≡ four_text d ++ x → BeginsFour side ps d x
+begins-four : (side : Bool) (ps : List Part) (d : Four) (x : List ℕ) → AreParts ps → are_hexadecimal d ≡ true → text side ps ≡ four_text d ++ x
+    → BeginsFour side ps d x
 begins-four side ps d x k h e =
     let g = digits d h in
     let a = begins-digit side ps d.first (d.second ∷ d.third ∷ d.fourth ∷ x) k g.0 e in
@@ -71,25 +57,13 @@ begins-four side ps d x k h e =
     let c = begins-digit side b.after d.third (d.fourth ∷ x) kb g.2 (sym b.rest) in
     let kc = parts-after b.after d.third c.after c.parts kb in
     let f = begins-digit side c.after d.fourth x kc g.3 (sym c.rest) in
-    record {
-      after = f.after;
-      parts = a.parts ∙ ap (λ v. same d.first ∷ v) b.parts ∙ ap (λ v. same d.first ∷ same d.second ∷ v) c.parts ∙ ap (λ v. same d.first ∷ same d.second ∷ same d.third ∷ v) f.parts;
-      rest = f.rest;
-    }
+    grind (arith, same)
 
 -- If the text begins with the escape of a low surrogate, the first part is the `\u`.
 record BeginsLow (side : Bool) (ps : List Part) (x : List ℕ) : Type 0 where
   after : List Part
   parts : ps ≡ after_backslash letter_u ∷ after
   rest : x ≡ text side after
-
-four-is : (d e : Four) (x y : List ℕ) → four_text d ++ x ≡ four_text e ++ y → code_unit d ≡ code_unit e
-four-is d e x y h =
-    let a = head-is d.first e.first _ _ h in
-    let b = head-is d.second e.second _ _ a.1 in
-    let c = head-is d.third e.third _ _ b.1 in
-    let f = head-is d.fourth e.fourth _ _ c.1 in
-    rw (a.0, b.0, c.0, f.0) refl
 
 low≢high : (n : ℕ) → is_low n ≡ true → is_high n ≡ true → ⊥
 low≢high n h k = grind (arith)
@@ -99,35 +73,15 @@ low≢none n h k = grind (arith)
 
 low-spelling : (s : Spelling) (y : List ℕ) (low : Four) (x : List ℕ) → IsWhole s → 0x80 ≤ spelling_character s → is_low (code_unit low) ≡ true
     → spelling_text s ++ y ≡ backslash ∷ letter_u ∷ four_text low ++ x → ⊥
-low-spelling (itself d) y low x w k l e = let f = (head-is d backslash y (letter_u ∷ four_text low ++ x) e).0 in grind (arith)
-low-spelling (escaped d) y low x w k l e =
-    let f = (head-is d letter_u y (four_text low ++ x) (head-is backslash backslash (d ∷ y) (letter_u ∷ four_text low ++ x) e).1).0 in
-    let g = escaped-beyond d k in
-    grind (arith)
-low-spelling (unicode d) y low x w k l e =
-    let f = (head-is backslash backslash (letter_u ∷ four_text d ++ y) (letter_u ∷ four_text low ++ x) e).1 in
-    let g = (head-is letter_u letter_u (four_text d ++ y) (four_text low ++ x) f).1 in
-    low≢none (code_unit low) l (rw (← four-is d low y x g) w.1)
-low-spelling (surrogates a b) y low x w k l e =
-    let z = backslash ∷ letter_u ∷ four_text b ++ y in
-    let f = (head-is backslash backslash (letter_u ∷ four_text a ++ z) (letter_u ∷ four_text low ++ x) e).1 in
-    let g = (head-is letter_u letter_u (four_text a ++ z) (four_text low ++ x) f).1 in
-    low≢high (code_unit low) l (rw (← four-is a low z x g) w.1)
-low-spelling last y low x w k l e = absurd w
+low-spelling s y low x h1 h2 h3 h4 = search (rules, head-is, escaped-beyond, low≢none, low≢high)
 
 begins-low : (side : Bool) (ps : List Part) (low : Four) (x : List ℕ) → AreParts ps → is_low (code_unit low) ≡ true
     → text side ps ≡ backslash ∷ letter_u ∷ four_text low ++ x → BeginsLow side ps (four_text low ++ x)
 begins-low side [] low x k l e = absurd (cc)
 begins-low side (same d ∷ ps) low x k l e = let f = (head-is d backslash (text side ps) (letter_u ∷ four_text low ++ x) e).0 in absurd (grind (arith))
-begins-low side (after_backslash d ∷ ps) low x k l e =
-    let f = (head-is backslash backslash (d ∷ text side ps) (letter_u ∷ four_text low ++ x) e).1 in
-    let g = head-is d letter_u (text side ps) (four_text low ++ x) f in
-    record { after = ps; parts = ap (λ v. after_backslash v ∷ ps) g.0; rest = sym g.1 }
+begins-low side (after_backslash d ∷ ps) low x k l e = grind (arith, head-is)
 begins-low side (past p q ∷ ps) low x k l e = absurd (low-spelling (on side p q) (text side ps) low x (on-whole side p q k.0) (on-beyond side p q k.0) l e)
-begins-low side (lone ∷ ps) low x k l e =
-    let z : text side ps ≡ [] = ap (text side) k.0 in
-    let f = (head-is backslash backslash (text side ps) (letter_u ∷ four_text low ++ x) e).1 in
-    absurd (cc)
+begins-low side (lone ∷ ps) low x k l e = grind (arith, head-is)
 
 -- ---- a `\u` that is a part
 
@@ -135,24 +89,22 @@ begins-low side (lone ∷ ps) low x k l e =
 pub data AtUnit (ps : List Part) : Type 0 where
   one : (d : Four) (after : List Part) → are_hexadecimal d ≡ true → is_surrogate (code_unit d) ≡ false
       → ps ≡ same d.first ∷ same d.second ∷ same d.third ∷ same d.fourth ∷ after → AtUnit ps
-  two : (high low : Four) (after : List Part) → are_hexadecimal high ≡ true → is_high (code_unit high) ≡ true → are_hexadecimal low ≡ true → is_low (code_unit low) ≡ true
+  two : (high low : Four) (after : List Part) → are_hexadecimal high ≡ true → is_high (code_unit high) ≡ true → are_hexadecimal low ≡ true
+      → is_low (code_unit low) ≡ true
       → ps ≡ same high.first ∷ same high.second ∷ same high.third ∷ same high.fourth ∷ after_backslash letter_u ∷ same low.first ∷ same low.second ∷ same low.third ∷ same low.fourth ∷ after
       → AtUnit ps
 
 -- the first spelling of a text that a `\u` begins, in parts
 pub at-first : (side : Bool) (ps : List Part) (s : Spelling) → AreParts ps → IsFirst (backslash ∷ letter_u ∷ text side ps) s → AtUnit ps
-at-first side ps (itself c) k h = let f = (head-is backslash c (letter_u ∷ text side ps) h.rest h.whole).0 in let g : (c == backslash) ≡ false = h.is_spelling in absurd (grind (arith))
-at-first side ps (escaped c) k h =
-    let f = (head-is letter_u c (text side ps) h.rest (head-is backslash backslash (letter_u ∷ text side ps) (c ∷ h.rest) h.whole).1).0 in
-    let g : (c == letter_u) ≡ false = h.is_spelling in
-    absurd (grind (arith))
+at-first side ps (itself c) k h = grind (arith, head-is)
+at-first side ps (escaped c) k h = grind (arith, head-is)
 at-first side ps (unicode d) k h =
-    let f = (head-is letter_u letter_u (text side ps) (four_text d ++ h.rest) (head-is backslash backslash (letter_u ∷ text side ps) (letter_u ∷ four_text d ++ h.rest) h.whole).1).1 in
+    let f = (head-is letter_u letter_u _ _ (head-is backslash backslash (letter_u ∷ text side ps) (letter_u ∷ four_text d ++ h.rest) h.whole).1).1 in
     let b = begins-four side ps d h.rest k h.is_spelling.0 f in
     one d b.after h.is_spelling.0 h.is_spelling.1 b.parts
 at-first side ps (surrogates high low) k h =
     let z = backslash ∷ letter_u ∷ four_text low ++ h.rest in
-    let f = (head-is letter_u letter_u (text side ps) (four_text high ++ z) (head-is backslash backslash (letter_u ∷ text side ps) (letter_u ∷ four_text high ++ z) h.whole).1).1 in
+    let f = (head-is letter_u letter_u (text side ps) _ (head-is backslash backslash (letter_u ∷ text side ps) (letter_u ∷ four_text high ++ z) h.whole).1).1 in
     let b = begins-four side ps high z k h.is_spelling.0 f in
     let kb = four-after ps high b.after b.parts k in
     let c = begins-low side b.after low h.rest kb h.is_spelling.3 (sym b.rest) in
@@ -161,20 +113,17 @@ at-first side ps (surrogates high low) k h =
     two high low a.after h.is_spelling.0 h.is_spelling.1 h.is_spelling.2 h.is_spelling.3
     (b.parts ∙ ap (λ v. same high.first ∷ same high.second ∷ same high.third ∷ same high.fourth ∷ v) (c.parts ∙ ap (λ v. after_backslash letter_u ∷ v) a.parts))
   where
-    four-after : (ps : List Part) (d : Four) (after : List Part) → ps ≡ same d.first ∷ same d.second ∷ same d.third ∷ same d.fourth ∷ after → AreParts ps → AreParts after
+    four-after : (ps : List Part) (d : Four) (after : List Part) → ps ≡ same d.first ∷ same d.second ∷ same d.third ∷ same d.fourth ∷ after
+        → AreParts ps → AreParts after
     four-after ps d after e h = (subst AreParts e h).1.1.1.1
-at-first side ps last k h =
-    let f = (head-is backslash backslash (letter_u ∷ text side ps) h.rest h.whole).1 in
-    let g : h.rest ≡ [] = h.is_spelling in
-    absurd (cc)
+at-first side ps last k h = grind (arith, head-is)
 
 -- A text that a `\u` begins breaks, or what begins there is in parts.
 at-unit : (side : Bool) (ps : List Part) (x : List ℕ) → AreParts ps → meaning_of (backslash ∷ letter_u ∷ text side ps) ≡ means x → AtUnit ps
 at-unit side ps x k h = found (first_spelling backslash (letter_u ∷ text side ps)) refl
   where
     found : (o : Option Spelling) → first_spelling backslash (letter_u ∷ text side ps) ≡ o → AtUnit ps
-    found None e =
-        absurd (means≢breaks x (malformed_by (text side ps)) (sym (meaning_of-fault (text side ps) (spelling_of-none (backslash ∷ letter_u ∷ text side ps) e)) ∙ h))
+    found None e = grind (arith, means≢breaks, meaning_of-fault, spelling_of-none)
     found (Some s) e = at-first side ps s k (subst (IsFound (backslash ∷ letter_u ∷ text side ps)) e (first_spelling-found backslash (letter_u ∷ text side ps)))
 
 -- ---- all parts
@@ -185,15 +134,10 @@ carries-by m n k l e f h x g = f ∙ h x (sym e ∙ g)
 -- whole spellings of one character in front
 carries-spelling : (s t : Spelling) (x y : List ℕ) → IsSpelling s x → IsSpelling t y → spelling_character s ≡ spelling_character t
     → Carries (meaning_of x) (meaning_of y) → Carries (meaning_of (spelling_text s ++ x)) (meaning_of (spelling_text t ++ y))
-carries-spelling s t x y h k e c =
-    carries-by (meaning_of (spelling_text s ++ x)) (meaning_of (spelling_text t ++ y))
-    (in_front (spelling_character s) (meaning_of x)) (in_front (spelling_character s) (meaning_of y))
-    (meaning_of-spelling s x h) (meaning_of-spelling t y k ∙ ap (λ v. in_front v (meaning_of y)) (sym e))
-    (carries-front (spelling_character s) (meaning_of x) (meaning_of y) c)
+carries-spelling s t x y h k e c = search (rules, carries-by, meaning_of-spelling)
 
 on-alike : (side : Bool) (p q : Spelling) → IsPast p q → spelling_character (on side p q) ≡ spelling_character (on (not side) p q)
-on-alike false p q h = h.alike
-on-alike true p q h = sym h.alike
+on-alike side p q h1 = grind (arith)
 
 CarriesParts : Bool → List Part → Type 0
 CarriesParts side ps = Carries (meaning_of (text side ps)) (meaning_of (text (not side) ps))
@@ -202,29 +146,25 @@ carries : (n : ℕ) (side : Bool) (ps : List Part) → length ps ≤ n → ArePa
 unfolding CarriesParts
 carries n side [] z h = λ x e. e
 carries zero side (p ∷ ps) z h = absurd (omega arith)
-carries (suc n) side (same c ∷ ps) z h =
-    carries-spelling (itself c) (itself c) (text side ps) (text (not side) ps) h.0 h.0 refl (carries n side ps (omega arith) h.1)
-carries (suc n) side (past p q ∷ ps) z h =
-    carries-spelling (on side p q) (on (not side) p q) (text side ps) (text (not side) ps)
-    (IsWhole-spelling (on side p q) (text side ps) (on-whole side p q h.0)) (IsWhole-spelling (on (not side) p q) (text (not side) ps) (on-whole (not side) p q h.0))
-    (on-alike side p q h.0) (carries n side ps (omega arith) h.1)
+carries (suc n) side (same c ∷ ps) z h = carries-spelling (itself c) (itself c) (text side ps) _ h.0 h.0 refl (carries n side ps (omega arith) h.1)
+carries (suc n) side (past p q ∷ ps) z h = search (rules, carries-spelling, IsWhole-spelling, on-whole, on-alike, carries n side ps (omega arith) h.1)
 carries (suc n) side (lone ∷ ps) z h = rw h.0 (λ x e. e)
 carries (suc n) side (after_backslash c ∷ ps) z h = elim (cases_Bool (c == letter_u)) [
   | inl e ↦ rw (eqb-true c letter_u e) (λ x m. elim (at-unit side ps x h.1 m) [
     | one d after a b f ↦
-        let g : length ps ≡ length (same d.first ∷ same d.second ∷ same d.third ∷ same d.fourth ∷ after) = ap length f in
+        let g = ap length f in
         let k : AreParts after = (subst AreParts f h.1).1.1.1.1 in
         carries-by (meaning_of (backslash ∷ letter_u ∷ text side ps)) (meaning_of (backslash ∷ letter_u ∷ text (not side) ps))
         (meaning_of (spelling_text (unicode d) ++ text side after)) (meaning_of (spelling_text (unicode d) ++ text (not side) after))
         (ap (λ v. meaning_of (backslash ∷ letter_u ∷ text side v)) f) (ap (λ v. meaning_of (backslash ∷ letter_u ∷ text (not side) v)) f)
         (carries-spelling (unicode d) (unicode d) (text side after) (text (not side) after) (a, b) (a, b) refl (carries n side after (omega arith) k)) x m
     | two high low after a b c d f ↦
-        let g : length ps ≡ length (same high.first ∷ same high.second ∷ same high.third ∷ same high.fourth ∷ after_backslash letter_u ∷ same low.first ∷ same low.second ∷ same low.third ∷ same low.fourth ∷ after) = ap length f in
+        let g = ap length f in
         let k : AreParts after = (subst AreParts f h.1).1.1.1.1.1.1.1.1.1 in
         carries-by (meaning_of (backslash ∷ letter_u ∷ text side ps)) (meaning_of (backslash ∷ letter_u ∷ text (not side) ps))
         (meaning_of (spelling_text (surrogates high low) ++ text side after)) (meaning_of (spelling_text (surrogates high low) ++ text (not side) after))
         (ap (λ v. meaning_of (backslash ∷ letter_u ∷ text side v)) f) (ap (λ v. meaning_of (backslash ∷ letter_u ∷ text (not side) v)) f)
-        (carries-spelling (surrogates high low) (surrogates high low) (text side after) (text (not side) after) (a, b, c, d) (a, b, c, d) refl (carries n side after (omega arith) k)) x m
+        (carries-spelling (surrogates high low) (surrogates high low) _ _ (a, b, c, d) (a, b, c, d) refl (carries n side after (omega arith) k)) x m
   ])
   | inr e ↦ carries-spelling (escaped c) (escaped c) (text side ps) (text (not side) ps) e e refl (carries n side ps (omega arith) h.1)
 ]
@@ -242,4 +182,4 @@ alike-of (breaks a) (breaks b) h k = both_break a b
 -- The two texts of parts mean alike.
 pub mean-alike : (ps : List Part) → AreParts ps → MeanAlike (meaning_of (text false ps)) (meaning_of (text true ps))
 unfolding CarriesParts
-mean-alike ps h = alike-of (meaning_of (text false ps)) (meaning_of (text true ps)) (carries (length ps) false ps (omega arith) h) (carries (length ps) true ps (omega arith) h)
+mean-alike ps h = grind (arith, alike-of, carries)

@@ -1,11 +1,11 @@
 -- In an encoding that can be edited, a CR or an LF is one byte, so the lines of undecoded bytes are those of a text
 -- with these numbers.
-use Rattle.std.proofs.Common.{◌≡◌, ℕ, true, List, [], refl, ap, sym, ◌∙◌, subst}
+use Rattle.std.proofs.Common.{◌≡◌, ℕ, true, List, [], ap, arith}
 use Rattle.properties_format.specs.Pieces.{characters}
-use Rattle.properties_format.specs.Encoding.{Encoding, utf_16le, utf_16be}
+use Rattle.properties_format.specs.Encoding.{Encoding}
 use Rattle.properties_format.specs.Lines.{Lines, HoldsNoLineEnd, IsLines}
 use Rattle.properties_format.specs.Computed.Lines.{lines_of}
-use Rattle.properties_format.specs.Cut.{HoldsNoLineEndUnit, IsCut}
+use Rattle.properties_format.specs.Cut.{IsCut}
 use Rattle.properties_format.specs.Computed.Cut.{cut_of, decoded_line}
 use Rattle.properties_format.specs.Edited.{is_editable}
 use Rattle.properties_format.proofs.Encodings.Pieces.{pieces_of-nil}
@@ -17,22 +17,14 @@ use Rattle.properties_format.proofs.Cut.Byline.{no_end-undecoded}
 pub decoded-nil : (e : Encoding) → decoded_line e [] ≡ []
 decoded-nil e = ap characters (pieces_of-nil e)
 
--- Bytes without a line ending unit contain no CR and no LF.
-plain-unit : (e : Encoding) (d : List ℕ) → is_editable e ≡ true → HoldsNoLineEndUnit e d → HoldsNoLineEnd d
-plain-unit utf_16le d ok h = absurd (cc)
-plain-unit utf_16be d ok h = absurd (cc)
-plain-unit e d ok h = h
-
 -- If a text contains no line ending, its bytes contain none.
 pub plain-bytes : (e : Encoding) (d : List ℕ) → is_editable e ≡ true → HoldsNoLineEnd (decoded_line e d) → HoldsNoLineEnd d
-plain-bytes e d ok h = plain-unit e d ok (no_end-undecoded e d h)
+plain-bytes e d ok h = grind (arith, no_end-undecoded e d h)
 
 -- the lines of undecoded bytes
 pub cut_of-lines : (e : Encoding) (d : List ℕ) → is_editable e ≡ true → cut_of e d ≡ lines_of d
-cut_of-lines utf_16le d ok = absurd (cc)
-cut_of-lines utf_16be d ok = absurd (cc)
-cut_of-lines e d ok = refl
+cut_of-lines e d ok = grind (arith)
 
 -- Lines of undecoded bytes are lines of a text with these numbers.
 pub IsCut-lines : (e : Encoding) (d : List ℕ) (lines : Lines) → is_editable e ≡ true → IsCut e d lines → IsLines d lines
-IsCut-lines e d lines ok h = subst (IsLines d) (sym (cut_of-only e d lines h ∙ cut_of-lines e d ok)) (lines_of-meets d)
+IsCut-lines e d lines ok h = rw (cut_of-only e d lines h, cut_of-lines e d ok) (lines_of-meets d)

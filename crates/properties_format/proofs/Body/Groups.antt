@@ -1,15 +1,15 @@
 -- The groups of a body: the computed groups are groups of the body, and the only ones. All groups but the last end in a
 -- line ending, and are groups by themselves.
-use Rattle.std.proofs.Common.{◌≡◌, ◌≢◌, ◌<◌, ◌⊎◌, ℕ, true, false, List, [], ◌∷◌, ◌++◌, Some, None, refl, ap, ap₂, sym, ◌∙◌, inl, inr, append_assoc}
+use Rattle.std.proofs.Common.{◌≡◌, ◌≢◌, ◌<◌, ◌⊎◌, ℕ, true, false, List, [], ◌∷◌, ◌++◌, Some, None, refl, ap, ap₂, sym, ◌∙◌, inl, inr, append_assoc, arith}
 use Rattle.std.proofs.Common.{append-nil, subst, lit<}
 use Rattle.std.proofs.lemmas.Bool.{cases_Bool}
 use Rattle.properties_format.proofs.Encodings.PieceEnds.{none-right}
 use Rattle.properties_format.specs.Text.{line_feed, carriage_return, LineEnding, lf, cr, crlf, line_ending_text}
 use Rattle.properties_format.specs.Encoding.{Encoding}
-use Rattle.properties_format.specs.Lines.{Ended, Lines, end, Line, put_together, BeginsWithNoLoneLf, AreLines}
+use Rattle.properties_format.specs.Lines.{Ended, Lines, end, Line, put_together, AreLines}
 use Rattle.properties_format.specs.Computed.Lines.{lines_of}
 use Rattle.properties_format.specs.Groups.{IsWhole, AreWhole, IsUnfinished, last_group}
-use Rattle.properties_format.specs.Computed.Groups.{closes, groups_after, groups_of}
+use Rattle.properties_format.specs.Computed.Groups.{closes, groups_after}
 use Rattle.properties_format.specs.Body.{HeldLine, AreHeld, as_lines, as_groups, held_in, AreGroupsOf, group_bytes, groups_bytes, last_ending}
 use Rattle.properties_format.specs.Edited.{is_editable}
 use Rattle.properties_format.specs.Computed.Body.{held_of, held_lines_of, held_groups_after, held_groups_of}
@@ -33,9 +33,8 @@ held_of-meets e (l ∷ ls) last = (decoded_line e l.text, held_of e ls last, dec
 
 -- There are no other such lines.
 pub held_of-only : (e : Encoding) (ls : List Ended) (last : List ℕ) (held : List HeldLine) → AreHeld e ls last held → held ≡ held_of e ls last
-held_of-only e [] last held (x, h, s) = s ∙ ap (λ v. record { bytes = last; text = v; ending = None } ∷ []) (decoded_line-only e last x h)
-held_of-only e (l ∷ ls) last held (x, rest, h, s, k) =
-    s ∙ ap₂ (λ v w. record { bytes = l.text; text = v; ending = Some l.by } ∷ w) (decoded_line-only e l.text x h) (held_of-only e ls last rest k)
+held_of-only e [] last held (x, h, s) = rw (s, decoded_line-only e last x h)
+held_of-only e (l ∷ ls) last held (x, rest, h, s, k) = rw (s, decoded_line-only e l.text x h, held_of-only e ls last rest k)
 
 -- ---- their groups
 
@@ -58,25 +57,20 @@ groups-leave p h hs k = rw (k, held_groups_after) refl
 groups-texts : (p hs : List HeldLine) → as_groups (held_groups_after p hs) ≡ groups_after (as_lines p) (as_lines hs) end
 groups-texts [] [] = refl
 groups-texts (h ∷ p) [] = refl
-groups-texts p (h ∷ hs) = elim (cases_Bool (closes (as_lines p) (record { number = 0; text = h.text }))) [
-  | inl k ↦
-      ap as_groups (groups-close p h hs k)
-      ∙ ap₂ (λ v w. v ∷ w) (as_lines-append p (h ∷ [])) (groups-texts [] hs)
-      ∙ sym (groups_after-close (as_lines p) (record { number = 0; text = h.text }) (as_lines hs) end k)
-  | inr k ↦
-      ap as_groups (groups-leave p h hs k)
-      ∙ groups-texts (p ++ h ∷ []) hs
-      ∙ ap (λ v. groups_after v (as_lines hs) end) (as_lines-append p (h ∷ []))
-      ∙ sym (groups_after-leave (as_lines p) (record { number = 0; text = h.text }) (as_lines hs) end k)
-]
+groups-texts p (h ∷ hs) =
+    let l : Line = record { number = 0; text = h.text } in
+    elim (cases_Bool (closes (as_lines p) l)) [
+      | inl k ↦ rw (groups-close p h hs k, groups_after-close (as_lines p) l (as_lines hs) end k) (cc (as_lines-append p (h ∷ []), groups-texts [] hs))
+      | inr k ↦ rw (groups-leave p h hs k, groups_after-leave (as_lines p) l (as_lines hs) end k, ← as_lines-append p (h ∷ [])) (groups-texts (p ++ h ∷ []) hs)
+    ]
 
 -- The groups contain all of the lines.
 groups-lines : (p hs : List HeldLine) → held_in (held_groups_after p hs) ≡ p ++ hs
 groups-lines [] [] = refl
 groups-lines (h ∷ p) [] = refl
 groups-lines p (h ∷ hs) = elim (cases_Bool (closes (as_lines p) (record { number = 0; text = h.text }))) [
-  | inl k ↦ ap held_in (groups-close p h hs k) ∙ ap (λ v. (p ++ h ∷ []) ++ v) (groups-lines [] hs) ∙ append_assoc p (h ∷ []) hs
-  | inr k ↦ ap held_in (groups-leave p h hs k) ∙ groups-lines (p ++ h ∷ []) hs ∙ append_assoc p (h ∷ []) hs
+  | inl k ↦ rw (groups-close p h hs k, ← append_assoc p (h ∷ []) hs) (ap (λ v. (p ++ h ∷ []) ++ v) (groups-lines [] hs))
+  | inr k ↦ rw (groups-leave p h hs k, ← append_assoc p (h ∷ []) hs) (groups-lines (p ++ h ∷ []) hs)
 ]
 
 -- The computed groups are the groups of the body.
@@ -96,36 +90,28 @@ held_groups_of-meets e body =
 split-same : (g h x y : List HeldLine) → as_lines g ≡ as_lines h → g ++ x ≡ h ++ y → (g ≡ h) × (x ≡ y)
 split-same [] [] x y t s = (refl, s)
 split-same (a ∷ g) (b ∷ h) x y t s =
-    let q : as_lines g ≡ as_lines h = cc in
-    let r : g ++ x ≡ h ++ y = cc in
-    let p : a ≡ b = cc in
-    let m = split-same g h x y q r in
-    (ap₂ (λ v w. v ∷ w) p m.0, m.1)
+    let m = split-same g h x y (cc) (cc) in
+    (cc (m.0), m.1)
 split-same g h x y t s = absurd (cc)
 
 -- Groups with the same texts and the same lines are equal.
 groups-same : (gs hs : List (List HeldLine)) → as_groups gs ≡ as_groups hs → held_in gs ≡ held_in hs → gs ≡ hs
 groups-same [] [] t s = refl
 groups-same (g ∷ gs) (h ∷ hs) t s =
-    let q : as_lines g ≡ as_lines h = cc in
-    let r : as_groups gs ≡ as_groups hs = cc in
-    let m = split-same g h (held_in gs) (held_in hs) q s in
-    ap₂ (λ v w. v ∷ w) m.0 (groups-same gs hs r m.1)
+    let m = split-same g h (held_in gs) (held_in hs) (cc) s in
+    cc (m.0, groups-same gs hs (cc) m.1)
 groups-same gs hs t s = absurd (cc)
 
 -- The groups of a body have the lines of its bytes.
 held-lines : (e : Encoding) (body : List ℕ) (gs : List (List HeldLine)) → AreGroupsOf e body gs → held_in gs ≡ held_lines_of e body
-held-lines e body gs h =
-    held_of-only e h.cut.ended h.cut.last (held_in gs) h.are_held
-    ∙ ap (λ v. let w : Lines = v in held_of e w.ended w.last) (cut_of-only e body h.cut h.is_cut)
+held-lines e body gs h = cc (held_of-only e h.cut.ended h.cut.last (held_in gs) h.are_held, cut_of-only e body h.cut h.is_cut)
 
 -- The groups of a body are the computed ones.
 pub held_groups_of-only : (e : Encoding) (body : List ℕ) (gs : List (List HeldLine)) → AreGroupsOf e body gs → gs ≡ held_groups_of e body
 unfolding held_groups_of
 held_groups_of-only e body gs h =
     let same = held-lines e body gs h in
-    groups-same gs (held_groups_of e body)
-    (groups_of-only (as_lines (held_in gs)) end (as_groups gs) h.grouped ∙ ap (λ v. groups_of (as_lines v) end) same ∙ sym (groups-texts [] (held_lines_of e body)))
+    groups-same gs _ (rw (groups-texts [] _, ← same) (groups_of-only _ end (as_groups gs) h.grouped))
     (same ∙ sym (groups-lines [] (held_lines_of e body)))
 
 -- ---- all groups but the last are whole
@@ -152,10 +138,7 @@ fit (g ∷ []) [] (l ∷ ls) t h k = let q : as_lines g ≡ l ∷ ls = cc in inr
 fit (g ∷ []) (w ∷ whole) u t h k = let q : as_lines g ≡ w = cc in inl (rw q h.0)
 fit (g ∷ i ∷ gs) [] [] t h k = absurd (cc)
 fit (g ∷ i ∷ gs) [] (l ∷ ls) t h k = absurd (cc)
-fit (g ∷ i ∷ gs) (w ∷ whole) u t h k =
-    let q : as_lines g ≡ w = cc in
-    let r : as_groups (i ∷ gs) ≡ whole ++ last_group u end = cc in
-    (rw q h.0, fit (i ∷ gs) whole u r h.1 k)
+fit (g ∷ i ∷ gs) (w ∷ whole) u t h k = let q : as_lines g ≡ w = cc in (rw q h.0, fit (i ∷ gs) whole u (cc) h.1 k)
 
 -- ---- the bytes of a group
 
@@ -185,11 +168,7 @@ cut-off e (a ∷ g) rest (l ∷ ls) last some h =
 -- The first ended lines, with an empty last line, are lines of a text.
 pub lines-front : (ls ms : List Ended) (last : List ℕ) → AreLines (ls ++ ms) last → AreLines ls []
 lines-front [] ms last h = tt
-lines-front (l ∷ ls) ms last h = (h.0, (λ k. lone ls (h.1 k)), lines-front ls ms last h.2)
-  where
-    lone : (ls : List Ended) → BeginsWithNoLoneLf (ls ++ ms) → BeginsWithNoLoneLf ls
-    lone [] h = tt
-    lone (l ∷ ls) h = h
+lines-front (l ∷ ls) ms last h = grind (arith, lines-front ls ms last h.2)
 
 -- The ended lines after them, with the last line, are lines of a text.
 pub lines-back : (ls ms : List Ended) (last : List ℕ) → AreLines (ls ++ ms) last → AreLines ms last
@@ -199,12 +178,12 @@ lines-back (l ∷ ls) ms last h = lines-back ls ms last h.2
 -- The bytes of ended lines are the lines and their ends, put together.
 pub ended-bytes : (e : Encoding) (ls : List Ended) → group_bytes (held_ended e ls) ≡ put_together ls []
 ended-bytes e [] = refl
-ended-bytes e (l ∷ ls) = ap (λ v. l.text ++ (line_ending_text l.by ++ v)) (ended-bytes e ls)
+ended-bytes e (l ∷ ls) = rw (ended-bytes e ls)
 
 -- The texts of ended lines, each decoded by itself.
 ended-texts : (e : Encoding) (ls : List Ended) → ended_lines e ls ≡ as_lines (held_ended e ls)
 ended-texts e [] = refl
-ended-texts e (l ∷ ls) = ap (λ v. record { number = 0; text = decoded_line e l.text } ∷ v) (ended-texts e ls)
+ended-texts e (l ∷ ls) = cc (ended-texts e ls)
 
 -- The bytes of all lines of a body are the lines and their ends, put together.
 pub held-bytes : (e : Encoding) (ls : List Ended) (last : List ℕ) → group_bytes (held_of e ls last) ≡ put_together ls last
@@ -214,7 +193,7 @@ held-bytes e (l ∷ ls) last = ap (λ v. l.text ++ (line_ending_text l.by ++ v))
 -- The texts of all lines of a body, each decoded by itself.
 held-texts : (e : Encoding) (ls : List Ended) (last : List ℕ) → line_texts_in e (record { ended = ls; last = last }) ≡ as_lines (held_of e ls last)
 held-texts e [] last = refl
-held-texts e (l ∷ ls) last = ap (λ v. record { number = 0; text = decoded_line e l.text } ∷ v) (held-texts e ls last)
+held-texts e (l ∷ ls) last = cc (held-texts e ls last)
 
 -- The last line of a body has no line ending.
 pub held-last : (e : Encoding) (ls : List Ended) (last : List ℕ) → last_ending (held_of e ls last) ≡ None
@@ -268,11 +247,10 @@ AreHeldGroups e (g ∷ h ∷ gs) = IsHeldFront e g × AreHeldGroups e (h ∷ gs)
 front-of : (e : Encoding) (ls : List Ended) → AreLines ls [] → IsWhole (as_lines (held_ended e ls)) → IsHeldFront e (held_ended e ls)
 front-of e [] h k = absurd k
 front-of e (l ∷ ls) h k =
-    let same : lines_of (group_bytes (held_ended e (l ∷ ls))) ≡ record { ended = l ∷ ls; last = [] } = ap lines_of (ended-bytes e (l ∷ ls))
-    ∙ lines_of-together (l ∷ ls) [] h in
+    let same : lines_of (group_bytes (held_ended e (l ∷ ls))) ≡ record { ended = l ∷ ls; last = [] } = rw (ended-bytes e (l ∷ ls)) (lines_of-together (l ∷ ls) [] h) in
     let a = ended-last e l ls in
     record {
-      front = record { ended = ap (λ v. let w : Lines = v in w.last) same; texts = ap (λ v. let w : Lines = v in ended_lines e w.ended) same ∙ ended-texts e (l ∷ ls); whole = k };
+      front = record { ended = rw same; texts = rw same (ended-texts e (l ∷ ls)); whole = k };
       by = a.0;
       ending = a.1;
       ascii = line-ascii l.text l.by (group_bytes (held_ended e ls));
@@ -286,7 +264,7 @@ last-of : (e : Encoding) (ls : List Ended) (last : List ℕ) → AreLines ls las
 unfolding line_texts
 last-of e ls last h k =
     record {
-      texts = ap (λ v. line_texts_in e (lines_of v)) (held-bytes e ls last) ∙ ap (line_texts_in e) (lines_of-together ls last h) ∙ held-texts e ls last;
+      texts = rw (held-bytes e ls last, lines_of-together ls last h) (held-texts e ls last);
       fits = k;
       ending = held-last e ls last;
       lines = record { ended = ls; last = last };
@@ -296,10 +274,8 @@ last-of e ls last h k =
 
 -- If there is a group and all groups but the last are whole, they have lines.
 pub fit-some : (h : List HeldLine) (gs : List (List HeldLine)) → AreFit (h ∷ gs) → held_in (h ∷ gs) ≢ []
-fit-some [] [] (inl k) q = k
-fit-some [] [] (inr k) q = k
-fit-some [] (i ∷ gs) k q = k.0
 fit-some (a ∷ h) gs k q = cc
+fit-some h gs k q = grind (arith)
 
 -- Groups with all lines of a text, all of them whole except possibly the last, are groups of this kind.
 groups-fit : (e : Encoding) (gs : List (List HeldLine)) (ls : List Ended) (last : List ℕ) → AreLines ls last → held_in gs ≡ held_of e ls last → AreFit gs
@@ -337,12 +313,9 @@ groups_bytes-append (g ∷ gs) hs = simp (append_assoc, groups_bytes-append gs h
 -- The bytes of the groups are those of their lines.
 pub groups-bytes : (gs : List (List HeldLine)) → groups_bytes gs ≡ group_bytes (held_in gs)
 groups-bytes [] = refl
-groups-bytes (g ∷ gs) = ap (λ v. group_bytes g ++ v) (groups-bytes gs) ∙ sym (group_bytes-append g (held_in gs))
+groups-bytes (g ∷ gs) = rw (groups-bytes gs, group_bytes-append g (held_in gs))
 
 -- The bytes of the groups of a body are the body.
 pub held-body : (e : Encoding) (body : List ℕ) (gs : List (List HeldLine)) → is_editable e ≡ true → AreGroupsOf e body gs → groups_bytes gs ≡ body
 held-body e body gs ok h =
-    groups-bytes gs
-    ∙ ap group_bytes (held_of-only e h.cut.ended h.cut.last (held_in gs) h.are_held)
-    ∙ held-bytes e h.cut.ended h.cut.last
-    ∙ sym (IsCut-lines e body h.cut ok h.is_cut).text
+    let c = h.cut in rw (groups-bytes gs, held_of-only e c.ended c.last _ h.are_held, held-bytes e c.ended c.last) (sym (IsCut-lines e body c ok h.is_cut).text)

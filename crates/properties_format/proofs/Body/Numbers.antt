@@ -9,7 +9,6 @@ use Rattle.properties_format.specs.Computed.Lines.{lines_of}
 use Rattle.properties_format.specs.Computed.Cut.{cut_of, decoded_line, decoded_ended}
 use Rattle.properties_format.specs.Groups.{joined_after, joined, first_number}
 use Rattle.properties_format.specs.Computed.Groups.{closes, groups_after, groups_of}
-use Rattle.properties_format.specs.Entries.{Entry}
 use Rattle.properties_format.specs.Computed.Items.{outcome_of, followed, entries_of, items_of}
 use Rattle.properties_format.specs.Body.{HeldLine, as_lines}
 use Rattle.properties_format.specs.Computed.Body.{held_of, held_lines_of, held_groups_after, held_groups_of, entries_in}
@@ -24,7 +23,8 @@ numbered_from n [] = []
 numbered_from n (h ∷ hs) = record { number = n; text = h.text } ∷ numbered_from (n + 1) hs
 
 -- The decoded lines after n line endings are the lines of the body, numbered from n + 1 on.
-numbered-held : (e : Encoding) (n : ℕ) (ls : List Ended) (last : List ℕ) → numbered n (decoded_ended e ls) (decoded_line e last) end ≡ numbered_from (n + 1) (held_of e ls last)
+numbered-held : (e : Encoding) (n : ℕ) (ls : List Ended) (last : List ℕ)
+    → numbered n (decoded_ended e ls) (decoded_line e last) end ≡ numbered_from (n + 1) (held_of e ls last)
 numbered-held e n [] last = refl
 numbered-held e n (l ∷ ls) last = ap (λ v. record { number = n + 1; text = decoded_line e l.text } ∷ v) (numbered-held e (n + 1) ls last)
 
@@ -58,79 +58,60 @@ first-numbered n (g ∷ p) h = refl
 
 -- ---- folding the groups
 
--- what a function makes of groups, from the last one to the first: of a number, a logical line, and what it made so far
-abbrev pub folded : {A : Type 0} → (ℕ → List ℕ → A → A) → A → List (List Line) → A
-folded f z [] = z
-folded f z (g ∷ gs) = f (first_number g) (joined g) (folded f z gs)
-
--- the same of a body's groups, numbered from this number on
-abbrev pub folded_from : {A : Type 0} → (ℕ → List ℕ → A → A) → A → ℕ → List (List HeldLine) → A
-folded_from f z n [] = z
-folded_from f z n (g ∷ gs) = f n (joined (as_lines g)) (folded_from f z (n + length g) gs)
-
-module _ {A : Type 0} (f : ℕ → List ℕ → A → A) (z : A) where
+-- What one function makes of the groups of a text, from the last to the first, is what another makes of a body's
+-- groups, if both take a step alike: from a number, a logical line, and what was made so far.
+module _ {A : Type 0} (f : ℕ → List ℕ → A → A) (of_text : List (List Line) → A) (of_body : ℕ → List (List HeldLine) → A)
+    (text_step : (g : List Line) (gs : List (List Line)) → of_text (g ∷ gs) ≡ f (first_number g) (joined g) (of_text gs))
+    (body_step : (n : ℕ) (g : List HeldLine) (gs : List (List HeldLine)) → of_body n (g ∷ gs) ≡ f n (joined (as_lines g)) (of_body (n + length g) gs))
+    (none : (n : ℕ) → of_text [] ≡ of_body n []) where
   -- A group before others.
-  folded-group : (n : ℕ) (g : List HeldLine) (gs : List (List Line)) (rest : A) → first_number (numbered_from n g) ≡ n → folded f z gs ≡ rest
-      → folded f z (numbered_from n g ∷ gs) ≡ f n (joined (as_lines g)) rest
-  folded-group n g gs rest h k = simp (h, joined-numbered, k)
+  folded-group : (n : ℕ) (g : List HeldLine) (gs : List (List Line)) (rest : A) → first_number (numbered_from n g) ≡ n → of_text gs ≡ rest
+      → of_text (numbered_from n g ∷ gs) ≡ f n (joined (as_lines g)) rest
+  folded-group n g gs rest h k = simp (text_step, h, joined-numbered, k)
 
   -- Lines after those of a group that is still open.
   folded-after : (n k : ℕ) (p hs : List HeldLine) → k ≡ n + length p
-      → folded f z (groups_after (numbered_from n p) (numbered_from k hs) end) ≡ folded_from f z n (held_groups_after p hs)
-  folded-after n k [] [] s = refl
-  folded-after n k (h ∷ p) [] s = folded-group n (h ∷ p) [] z refl refl
+      → of_text (groups_after (numbered_from n p) (numbered_from k hs) end) ≡ of_body n (held_groups_after p hs)
+  folded-after n k [] [] s = none n
+  folded-after n k (h ∷ p) [] s = folded-group n (h ∷ p) [] (of_body (n + length (h ∷ p)) []) refl (none _) ∙ sym (body_step n (h ∷ p) [])
   folded-after n k p (h ∷ hs) s =
       let l : Line = record { number = k; text = h.text } in
-      let push : numbered_from n p ++ l ∷ [] ≡ numbered_from n (p ++ h ∷ []) =
-      ap (λ v. numbered_from n p ++ record { number = v; text = h.text } ∷ []) s ∙ sym (numbered-push n p h) in
+      let push : numbered_from n p ++ l ∷ [] ≡ numbered_from n (p ++ h ∷ []) = rw s (sym (numbered-push n p h)) in
       let size = length_push p h in
       let next : k + 1 ≡ n + length (p ++ h ∷ []) = omega arith in
       elim (cases_Bool (closes (as_lines p) (record { number = 0; text = h.text }))) [
         | inl c ↦
-            ap (folded f z) (groups_after-close (numbered_from n p) l (numbered_from (k + 1) hs) end (closes-numbered n k p h ∙ c))
-            ∙ ap (λ v. folded f z (v ∷ groups_of (numbered_from (k + 1) hs) end)) push
-            ∙ folded-group n (p ++ h ∷ []) (groups_of (numbered_from (k + 1) hs) end) (folded_from f z (k + 1) (held_groups_after [] hs)) (first-numbered n p h)
+            ap of_text (groups_after-close (numbered_from n p) l (numbered_from (k + 1) hs) end (closes-numbered n k p h ∙ c))
+            ∙ ap (λ v. of_text (v ∷ groups_of (numbered_from (k + 1) hs) end)) push
+            ∙ folded-group n (p ++ h ∷ []) (groups_of (numbered_from (k + 1) hs) end) (of_body (k + 1) (held_groups_after [] hs)) (first-numbered n p h)
             (folded-after (k + 1) (k + 1) [] hs (omega arith))
-            ∙ ap (λ v. f n (joined (as_lines (p ++ h ∷ []))) (folded_from f z v (held_groups_after [] hs))) next
-            ∙ ap (folded_from f z n) (sym (groups-close p h hs c))
+            ∙ ap (λ v. f n (joined (as_lines (p ++ h ∷ []))) (of_body v (held_groups_after [] hs))) next
+            ∙ sym (ap (of_body n) (groups-close p h hs c) ∙ body_step n (p ++ h ∷ []) (held_groups_after [] hs))
         | inr c ↦
-            ap (folded f z) (groups_after-leave (numbered_from n p) l (numbered_from (k + 1) hs) end (closes-numbered n k p h ∙ c))
-            ∙ ap (λ v. folded f z (groups_after v (numbered_from (k + 1) hs) end)) push
+            ap of_text (groups_after-leave (numbered_from n p) l (numbered_from (k + 1) hs) end (closes-numbered n k p h ∙ c))
+            ∙ ap (λ v. of_text (groups_after v (numbered_from (k + 1) hs) end)) push
             ∙ folded-after n (k + 1) (p ++ h ∷ []) hs next
-            ∙ ap (folded_from f z n) (sym (groups-leave p h hs c))
+            ∙ ap (of_body n) (sym (groups-leave p h hs c))
       ]
 
-  -- What is made of the groups of a source's text is made of its body's groups.
+  -- So it is of a source.
   pub folded-source : (e : Encoding) (source : List ℕ)
-      → folded f z (groups_of (numbered_lines (lines_of (decoded_of e source)) end) end)
-      ≡ folded_from f z 1 (held_groups_of (byte_order_mark e source).encoding (byte_order_mark e source).body)
+      → of_text (groups_of (numbered_lines (lines_of (decoded_of e source)) end) end)
+      ≡ of_body 1 (held_groups_of (byte_order_mark e source).encoding (byte_order_mark e source).body)
   unfolding held_groups_of
   folded-source e source =
       let i = byte_order_mark e source in
       let c = cut_of i.encoding i.body in
-      ap (λ v. let w : Lines = v in folded f z (groups_of (numbered_lines w end) end)) (sym (decoded_lines-cut i.encoding i.body))
-      ∙ ap (λ v. folded f z (groups_of v end)) (numbered-held i.encoding 0 c.ended c.last)
+      ap (λ v. let w : Lines = v in of_text (groups_of (numbered_lines w end) end)) (sym (decoded_lines-cut i.encoding i.body))
+      ∙ ap (λ v. of_text (groups_of v end)) (numbered-held i.encoding 0 c.ended c.last)
       ∙ folded-after 1 1 [] (held_lines_of i.encoding i.body) refl
 
 -- ---- items
-
--- an entry before those of the lines after it
-abbrev entry_before : ℕ → List ℕ → List Entry → List Entry
-entry_before n x rest = followed n (outcome_of x) rest
-
-entries-folded : (m : ℕ) (gs : List (List Line)) → entries_of m end gs ≡ folded entry_before [] gs
-entries-folded m [] = refl
-entries-folded m (g ∷ gs) = ap (followed (first_number g) (outcome_of (joined g))) (entries-folded m gs)
-
-entries-held : (n : ℕ) (gs : List (List HeldLine)) → folded_from entry_before [] n gs ≡ entries_in n gs
-entries-held n [] = refl
-entries-held n (g ∷ gs) = ap (followed n (outcome_of (joined (as_lines g)))) (entries-held (n + length g) gs)
 
 -- The items of a source are the contents of its body's groups.
 pub items_of-groups : (e : Encoding) (source : List ℕ)
     → items_of e source end ≡ entries_in 1 (held_groups_of (byte_order_mark e source).encoding (byte_order_mark e source).body)
 unfolding items_of
 items_of-groups e source =
-    let f = byte_order_mark e source in
-    let lines = lines_of (decoded_of e source) in
-    entries-folded (line_ends lines) (groups_of (numbered_lines lines end) end) ∙ folded-source entry_before [] e source ∙ entries-held 1 (held_groups_of f.encoding f.body)
+    folded-source (λ n x rest. followed n (outcome_of x) rest) (entries_of (line_ends (lines_of (decoded_of e source))) end) entries_in
+    (λ g gs. refl) (λ n g gs. refl) (λ n. refl) e source

@@ -1,10 +1,10 @@
 -- The contents among logical lines, and what edits do to them. Comments count or not, and no malformed line does.
-use Rattle.std.proofs.Common.{◌≡◌, ℕ, Bool, true, false, List, [], ◌∷◌, ◌++◌, refl, ap, sym, ◌∙◌, inl, inr, subst}
+use Rattle.std.proofs.Common.{◌≡◌, ℕ, Bool, true, false, List, [], ◌∷◌, ◌++◌, refl, ap, inl, inr, arith}
 use Rattle.properties_format.specs.Entries.{Content, comment, pair}
 use Rattle.properties_format.specs.Items.{Outcome, ignored, given, broken, IsOutcome}
 use Rattle.properties_format.specs.Edits.{Edit, put, remove, set_value}
 use Rattle.properties_format.specs.Changed.{IsSetIn, IsRemovedIn, HoldNoPair, IsEditedIn, AreEditedIn}
-use Rattle.properties_format.specs.LogicalLines.{AreLinesSet, AreLinesLeft, AreLinesEdited, AreLinesEditedInTurn, IsPairWith, NoneIsPair}
+use Rattle.properties_format.specs.LogicalLines.{AreLinesSet, AreLinesLeft, AreLinesEdited, AreLinesEditedInTurn, NoneIsPair}
 use Rattle.properties_format.specs.Computed.Items.{outcome_of}
 use Rattle.properties_format.proofs.Items.Unique.{outcome_of-meets, outcome_of-only}
 
@@ -22,82 +22,50 @@ contents_among b [] = []
 contents_among b (x ∷ xs) = content_before (outcome_of x) b (contents_among b xs)
 
 module _ (b : Bool) where
-  -- A content before two lists of contents.
-  before-append : (o : Outcome) (cs ds : List Content) → content_before o b (cs ++ ds) ≡ content_before o b cs ++ ds
-  before-append o cs ds = by b o
-    where
-      by : (c : Bool) (o : Outcome) → content_before o c (cs ++ ds) ≡ content_before o c cs ++ ds
-      by c ignored = refl
-      by true (given (comment text)) = refl
-      by false (given (comment text)) = refl
-      by c (given (pair key value)) = refl
-      by c (broken kind) = refl
-
   -- The contents among two lists of lines.
   contents-append : (xs ys : List (List ℕ)) → contents_among b (xs ++ ys) ≡ contents_among b xs ++ contents_among b ys
   contents-append [] ys = refl
-  contents-append (x ∷ xs) ys =
-      ap (content_before (outcome_of x) b) (contents-append xs ys) ∙ before-append (outcome_of x) (contents_among b xs) (contents_among b ys)
+  contents-append (x ∷ xs) ys = grind (arith, contents-append xs ys)
 
   -- A line that is a pair is a content.
-  contents-pair : (x key value : List ℕ) (xs : List (List ℕ)) → IsOutcome x (given (pair key value)) → contents_among b (x ∷ xs) ≡ pair key value ∷ contents_among b xs
-  contents-pair x key value xs h = ap (λ o. content_before o b (contents_among b xs)) (sym (outcome_of-only x (given (pair key value)) h))
-
-  -- A line that is no pair with the key.
-  other-line : (key x v : List ℕ) → ¬ (IsPairWith key x) → outcome_of x ≡ given (pair key v) → ⊥
-  other-line key x v n s = n (v, rw s at (outcome_of-meets x))
+  contents-pair : (x key value : List ℕ) (xs : List (List ℕ)) → IsOutcome x (given (pair key value))
+      → contents_among b (x ∷ xs) ≡ pair key value ∷ contents_among b xs
+  contents-pair x key value xs h = rw (← outcome_of-only x (given (pair key value)) h)
 
   -- A content that is no pair with the key, before others that contain none.
-  hold-before : (key : List ℕ) (o : Outcome) (cs : List Content) → ((v : List ℕ) → o ≡ given (pair key v) → ⊥) → HoldNoPair key cs → HoldNoPair key (content_before o b cs)
-  hold-before key o cs n h = by b o n
-    where
-      by : (c : Bool) (o : Outcome) → ((v : List ℕ) → o ≡ given (pair key v) → ⊥) → HoldNoPair key (content_before o c cs)
-      by c ignored n = h
-      by true (given (comment text)) n = h
-      by false (given (comment text)) n = h
-      by c (given (pair k v)) n = ((λ s. n v (ap (λ x. given (pair x v)) s)), h)
-      by c (broken kind) n = h
+  hold-before : (key : List ℕ) (o : Outcome) (cs : List Content) → ((v : List ℕ) → o ≡ given (pair key v) → ⊥) → HoldNoPair key cs
+      → HoldNoPair key (content_before o b cs)
+  hold-before key o cs n h = grind (arith)
 
   -- If no line is a pair with the key, no content is.
   none-contents : (key : List ℕ) (xs : List (List ℕ)) → NoneIsPair key xs → HoldNoPair key (contents_among b xs)
   none-contents key [] h = tt
-  none-contents key (x ∷ xs) h = hold-before key (outcome_of x) (contents_among b xs) (λ v s. other-line key x v h.0 s) (none-contents key xs h.1)
+  none-contents key (x ∷ xs) h = hold-before key (outcome_of x) (contents_among b xs) (λ v s. h.0 (v, rw s at (outcome_of-meets x))) (none-contents key xs h.1)
 
   -- Where a key is set in the lines, it is set in the contents,
-  set-contents : (key value : List ℕ) (old new : List (List ℕ)) → AreLinesSet key value old new → IsSetIn key value (contents_among b old) (contents_among b new)
+  set-contents : (key value : List ℕ) (old new : List (List ℕ)) → AreLinesSet key value old new
+      → IsSetIn key value (contents_among b old) (contents_among b new)
   set-contents key value old new (inl h) = inl (record {
     before = contents_among b h.before;
     old_value = h.has_key.0;
     after = contents_among b h.after;
-    was = ap (contents_among b) h.was ∙ contents-append h.before (h.line ∷ h.after) ∙ ap (λ v. contents_among b h.before ++ v) (contents-pair h.line key h.has_key.0 h.after h.has_key.1);
+    was = rw (h.was, contents-append, contents-pair h.line key h.has_key.0 h.after h.has_key.1);
     no_later = none-contents key h.after h.no_later;
-    now = ap (contents_among b) h.now ∙ contents-append h.before (h.changed ∷ h.after) ∙ ap (λ v. contents_among b h.before ++ v) (contents-pair h.changed key value h.after h.has_value);
+    now = rw (h.now, contents-append, contents-pair h.changed key value h.after h.has_value);
   })
-  set-contents key value old new (inr h) = inr (
-    none-contents key old h.0,
-    ap (contents_among b) h.2 ∙ contents-append old (h.1 ∷ []) ∙ ap (λ v. contents_among b old ++ v) (contents-pair h.1 key value [] h.3),
-  )
+  set-contents key value old new (inr h) = inr (none-contents key old h.0, rw (h.2, contents-append, contents-pair h.1 key value [] h.3))
 
   -- where a line is left that is no pair with the key, its content is,
   kept-contents : (key : List ℕ) (o : Outcome) (cs left : List Content) → ((v : List ℕ) → o ≡ given (pair key v) → ⊥) → IsRemovedIn key cs left
       → IsRemovedIn key (content_before o b cs) (content_before o b left)
-  kept-contents key o cs left n h = by b o n
-    where
-      by : (c : Bool) (o : Outcome) → ((v : List ℕ) → o ≡ given (pair key v) → ⊥) → IsRemovedIn key (content_before o c cs) (content_before o c left)
-      by c ignored n = h
-      by true (given (comment text)) n = (left, refl, h)
-      by false (given (comment text)) n = h
-      by c (given (pair k v)) n = inr ((λ s. n v (ap (λ x. given (pair x v)) s)), left, refl, h)
-      by c (broken kind) n = h
+  kept-contents key o cs left n h = grind (arith)
 
   -- and where a key is removed from the lines, it is removed from the contents.
   left-contents : (key : List ℕ) (old new : List (List ℕ)) → AreLinesLeft key old new → IsRemovedIn key (contents_among b old) (contents_among b new)
-  left-contents key [] new h = subst (λ w. IsRemovedIn key [] (contents_among b w)) (sym h) refl
-  left-contents key (x ∷ xs) new (inl h) =
-      subst (λ w. IsRemovedIn key w (contents_among b new)) (sym (contents-pair x key h.0.0 xs h.0.1)) (inl (refl, left-contents key xs new h.1))
+  left-contents key [] new h = rw h
+  left-contents key (x ∷ xs) new (inl h) = rw (contents-pair x key h.0.0 xs h.0.1) (inl (refl, left-contents key xs new h.1))
   left-contents key (x ∷ xs) new (inr h) =
-      subst (λ w. IsRemovedIn key (contents_among b (x ∷ xs)) (contents_among b w)) (sym h.2)
-      (kept-contents key (outcome_of x) (contents_among b xs) (contents_among b h.1) (λ v s. other-line key x v h.0 s) (left-contents key xs h.1 h.3))
+      rw h.2 (kept-contents key (outcome_of x) _ _ (λ v s. h.0 (v, rw s at (outcome_of-meets x))) (left-contents key xs h.1 h.3))
 
   -- After an edit, the contents are those of the lines before after the same edit.
   pub edit-among : (edit : Edit) (old new : List (List ℕ)) → AreLinesEdited edit old new → IsEditedIn edit (contents_among b old) (contents_among b new)
@@ -106,6 +74,7 @@ module _ (b : Bool) where
   edit-among (set_value key value) old new h = set-contents key value old new h
 
   -- After edits in turn, the contents are those of the lines before after the same edits.
-  pub edits-among : (edits : List Edit) (old new : List (List ℕ)) → AreLinesEditedInTurn edits old new → AreEditedIn edits (contents_among b old) (contents_among b new)
+  pub edits-among : (edits : List Edit) (old new : List (List ℕ)) → AreLinesEditedInTurn edits old new
+      → AreEditedIn edits (contents_among b old) (contents_among b new)
   edits-among [] old new h = ap (contents_among b) h
   edits-among (edit ∷ edits) old new h = (contents_among b h.0, edit-among edit old h.0 h.1, edits-among edits h.0 new h.2)

@@ -1,6 +1,7 @@
 -- The other groups of a source are in the edited source, in order.
-use Rattle.std.proofs.Common.{◌≡◌, ℕ, List, [], ◌∷◌, ◌++◌, refl, ap, sym, ◌∙◌, inl, inr, append_assoc, subst, Bool}
+use Rattle.std.proofs.Common.{◌≡◌, ℕ, List, [], ◌∷◌, ◌++◌, refl, ap, sym, ◌∙◌, inl, inr, append_assoc}
 use Rattle.properties_format.specs.Encoding.{Encoding, byte_order_mark}
+use Rattle.properties_format.specs.Repertoire.{Repertoire}
 use Rattle.properties_format.specs.Body.{AreGroupsOf, HasKey, HeldLine, NoneHasKey, group_bytes, groups_bytes}
 use Rattle.properties_format.specs.Edited.{bom_of, IsKeySet, IsWithout, guarding_lf, IsKeyRemoved}
 use Rattle.properties_format.specs.Changed.{OccurIn, AreOthersThanLast, AreOthers, KeepsOthers}
@@ -26,10 +27,9 @@ occur-alone [] = tt
 occur-alone (g ∷ gs) = ([], groups_bytes gs, refl, occur-alone gs)
 
 -- If other bytes come for the last pair with a key, every other group is unchanged.
-pub others-kept : (e : Encoding) (source key result : List ℕ) (groups before : List (List HeldLine)) (g : List HeldLine) (after : List (List HeldLine)) (rest : List ℕ)
-    → AreGroupsOf (byte_order_mark e source).encoding (byte_order_mark e source).body groups → groups ≡ before ++ g ∷ after
-    → HasKey key g → NoneHasKey key after → OccurIn after rest → result ≡ bom_of source ++ (groups_bytes before ++ rest)
-    → KeepsOthers (AreOthersThanLast key) e source result
+pub others-kept : (e : Encoding) (source key result : List ℕ) (groups before : List (List HeldLine)) (g : List HeldLine) (after : List (List HeldLine))
+    (rest : List ℕ) → AreGroupsOf (byte_order_mark e source).encoding (byte_order_mark e source).body groups → groups ≡ before ++ g ∷ after → HasKey key g
+    → NoneHasKey key after → OccurIn after rest → result ≡ bom_of source ++ (groups_bytes before ++ rest) → KeepsOthers (AreOthersThanLast key) e source result
 others-kept e source key result groups before g after rest held s has none occur is = (
   groups,
   before ++ after,
@@ -46,13 +46,13 @@ all-kept e source key result groups more held none is =
     (groups, groups, held, inl (none, refl), rw is (occur-after groups (bom_of source) _ (occur-all groups more)))
 
 -- If a key is set, every group but the last pair with the key is unchanged.
-pub key_set-keeps : (e : Encoding) (only : Bool) (source key value result : List ℕ) → IsKeySet e only source key value result
-    → KeepsOthers (AreOthersThanLast key) e source result
-key_set-keeps e only source key value result h = elim h.edited [
-  | inl r ↦ others-kept e source key result h.groups r.before r.group r.after _ h.held r.division r.has_key r.no_later
+pub key_set-keeps : (t : Repertoire) (source key value result : List ℕ) → IsKeySet t source key value result
+    → KeepsOthers (AreOthersThanLast key) t.encoding source result
+key_set-keeps t source key value result h = elim h.edited [
+  | inl r ↦ others-kept t.encoding source key result h.groups r.before r.group r.after _ h.held r.division r.has_key r.no_later
       (occur-after r.after _ _ (occur-after r.after _ (groups_bytes r.after) (occur-alone r.after)))
       (h.whole ∙ ap (λ v. bom_of source ++ v) r.bytes)
-  | inr r ↦ all-kept e source key result h.groups _ h.held r.no_pair
+  | inr r ↦ all-kept t.encoding source key result h.groups _ h.held r.no_pair
       (h.whole ∙ ap (λ v. bom_of source ++ v) (r.bytes ∙ append_assoc (groups_bytes h.groups) _ _))
 ]
 
@@ -66,10 +66,5 @@ others-occur key (g ∷ gs) rest (inr h) = let m = others-occur key gs h.1 h.3 i
 -- If a key is removed, every group that isn't a pair with the key is unchanged.
 pub key_removed-keeps : (e : Encoding) (source key result : List ℕ) → IsKeyRemoved e source key result → KeepsOthers (AreOthers key) e source result
 key_removed-keeps e source key result h =
-    let m = others-occur key h.groups h.rest h.without in (
-      h.groups,
-      m.0,
-      h.held,
-      m.1,
-      subst (OccurIn m.0) (sym h.whole) (occur-after m.0 (bom_of source) (guarding_lf source h.rest ++ h.rest) (occur-after m.0 (guarding_lf source h.rest) h.rest m.2)),
-    )
+    let m = others-occur key h.groups h.rest h.without in
+    (h.groups, m.0, h.held, m.1, rw h.whole (occur-after m.0 (bom_of source) _ (occur-after m.0 (guarding_lf source h.rest) h.rest m.2)))

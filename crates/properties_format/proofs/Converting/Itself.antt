@@ -1,5 +1,5 @@
 -- Sources that are their own results, and texts that stay.
-use Rattle.std.proofs.Common.{◌≡◌, ℕ, suc, ◌+◌, ◌<◌, ◌≤◌, Bool, true, false, List, [], ◌∷◌, ◌++◌, length, get_or, refl, ap, ap₂, subst, sym, ◌∙◌, inl, inr, append_assoc, ltb-false, lit<, arith}
+use Rattle.std.proofs.Common.{rules, ◌≡◌, ℕ, suc, ◌+◌, ◌<◌, ◌≤◌, Bool, true, false, List, [], ◌∷◌, ◌++◌, length, get_or, refl, ap, ap₂, subst, sym, ◌∙◌, inl, inr, append_assoc, ltb-false, lit<, arith}
 use Rattle.std.specs.Prelude.{All, is_some, unwrap_or, nat_lt, ◌&&◌, ◌⊎◌}
 use Rattle.std.specs.List.{AllByRecursion}
 use Rattle.std.proofs.lemmas.Bool.{cases_Bool}
@@ -7,7 +7,8 @@ use Rattle.std.proofs.lemmas.List.{length-append, get_or-append-add}
 use Rattle.std.proofs.lemmas.List.Elements.{recursion_from_All}
 use Rattle.properties_format.specs.Text.{backslash, byte}
 use Rattle.properties_format.specs.Pieces.{characters}
-use Rattle.properties_format.specs.Encoding.{Encoding, windows_1252, utf_8, utf_16le, utf_16be, output_encoding, one_byte, begins_like_bom}
+use Rattle.properties_format.specs.Encoding.{Encoding, windows_1252, utf_8, one_byte, begins_like_bom}
+use Rattle.properties_format.specs.Repertoire.{Repertoire, all_of}
 use Rattle.properties_format.specs.Printing.{may_be_unescaped, encoded_text}
 use Rattle.properties_format.specs.Escapes.{letter_u, is_hexadecimal, Four, four_text, are_hexadecimal, escaped_character, Spelling, itself, escaped, unicode, surrogates, last, spelling_text, spelling_character, NoSpelling}
 use Rattle.properties_format.specs.Computed.Encoding.{pieces_of, decoded_of}
@@ -19,116 +20,104 @@ use Rattle.properties_format.proofs.Encodings.Windows1252.{windows_1252_byte-cha
 use Rattle.properties_format.proofs.Printing.Characters.{AreAscii, AreEncodable-ascii, encoded_text-ascii, may_be_unescaped-ascii}
 use Rattle.properties_format.proofs.ReadBack.Bytes.{text-decoded, ascii-scalars}
 use Rattle.properties_format.proofs.Undecoded.{decodes}
-use Rattle.properties_format.specs.Converting.{TextUnit, spelt, stray, unit_text, units_before, IsUnit, AreUnits, respelt, converted_unit, converted_units, at_front, IsConverted, KeptIsItself, AsciiIsItself}
+use Rattle.properties_format.specs.Converting.{TextUnit, spelt, stray, unit_text, units_before, IsUnit, AreUnits, respelt, converted_units, at_front, IsConverted, KeptIsItself, AsciiIsItself}
 use Rattle.properties_format.specs.Computed.Converting.{units_of, converted_of}
-use Rattle.properties_format.proofs.Alike.Divided.{digits}
+use Rattle.properties_format.proofs.Escapes.Digits.{digits}
 use Rattle.properties_format.proofs.Alike.Parts.{escaped-beyond}
 use Rattle.properties_format.proofs.Converting.Again.{below-stays, respelt-unicode, respelt-kept}
 use Rattle.properties_format.proofs.Converting.One.{units-found}
 use Rattle.properties_format.proofs.Converting.Chunks.{units_of-meets, converted_of-unit, converted_of-is}
 
 -- The output has each of these characters.
-abbrev AllMay : Encoding → Bool → List ℕ → Type 0
-AllMay e only [] = Unit {0}
-AllMay e only (c ∷ cs) = (may_be_unescaped e only c ≡ true) × AllMay e only cs
+abbrev AllMay : Repertoire → List ℕ → Type 0
+AllMay r [] = Unit {0}
+AllMay r (c ∷ cs) = (may_be_unescaped r c ≡ true) × AllMay r cs
 
-may-rest : (e : Encoding) (only : Bool) (x y : List ℕ) → AllMay e only (x ++ y) → AllMay e only y
-may-rest e only [] y h = h
-may-rest e only (c ∷ x) y h = may-rest e only x y h.1
+may-rest : (r : Repertoire) (x y : List ℕ) → AllMay r (x ++ y) → AllMay r y
+may-rest r [] y h = h
+may-rest r (c ∷ x) y h = may-rest r x y h.1
 
 no : (b : Bool) → (b && false) ≡ false
-no true = refl
-no false = refl
+no b = grind (arith)
 
 -- A spelling of a non-ASCII character stays.
-past-stays : (e : Encoding) (only : Bool) (p : Spelling) (x : List ℕ) → 0x80 ≤ spelling_character p → AllMay e only (spelling_text p ++ x) → respelt e only false p ≡ spelling_text p
-past-stays e only (itself c) x k h = respelt-kept e only false (itself c) k h.0 refl
-past-stays e only (escaped c) x k h =
+past-stays : (r : Repertoire) (p : Spelling) (x : List ℕ) → 0x80 ≤ spelling_character p → AllMay r (spelling_text p ++ x) → respelt r false p ≡ spelling_text p
+past-stays r (itself c) x k h = respelt-kept r false (itself c) k h.0 refl
+past-stays r (escaped c) x k h =
     let b = escaped-beyond c k in
     let f : escaped_character c ≡ c = grind (arith) in
-    respelt-kept e only false (escaped c) k (ap (may_be_unescaped e only) f ∙ h.1.0) refl
-past-stays e only (unicode d) x k h = respelt-unicode e only false (unicode d) (may_be_unescaped e only (spelling_character (unicode d))) false k refl refl refl (no (may_be_unescaped e only (spelling_character (unicode d))))
-past-stays e only (surrogates high low) x k h = respelt-unicode e only false (surrogates high low) (may_be_unescaped e only (spelling_character (surrogates high low))) false k refl refl refl (no (may_be_unescaped e only (spelling_character (surrogates high low))))
-past-stays e only last x k h = absurd (grind (arith))
+    respelt-kept r false (escaped c) k (ap (may_be_unescaped r) f ∙ h.1.0) refl
+past-stays r (unicode d) x k h = respelt-unicode r false (unicode d) _ false k refl refl refl (no _)
+past-stays r (surrogates high low) x k h = respelt-unicode r false (surrogates high low) _ false k refl refl refl (no _)
+past-stays r last x k h = absurd (grind (arith))
 
-units-stay : (e : Encoding) (only : Bool) (us : List TextUnit) → AllMay e only (units_before us []) → converted_units e only false us ≡ units_before us []
-units-stay e only [] h = refl
-units-stay e only (stray ∷ us) h = ap (λ v. unit_text stray ++ v) (units-stay e only us (may-rest e only (unit_text stray) (units_before us []) h))
-units-stay e only (spelt p ∷ us) h = ap₂ (λ x y. x ++ y) own (units-stay e only us (may-rest e only (spelling_text p) (units_before us []) h))
+units-stay : (r : Repertoire) (us : List TextUnit) → AllMay r (units_before us []) → converted_units r false us ≡ units_before us []
+units-stay r [] h = refl
+units-stay r (stray ∷ us) h = ap (λ v. unit_text stray ++ v) (units-stay r us (may-rest r (unit_text stray) (units_before us []) h))
+units-stay r (spelt p ∷ us) h = ap₂ (λ x y. x ++ y) own (units-stay r us (may-rest r (spelling_text p) (units_before us []) h))
   where
-    own : respelt e only false p ≡ spelling_text p
+    own : respelt r false p ≡ spelling_text p
     own = elim (cases_Bool (nat_lt (spelling_character p) 0x80)) [
-      | inl k ↦ below-stays e only false p k
-      | inr k ↦ past-stays e only p (units_before us []) (ltb-false (spelling_character p) 0x80 k) h
+      | inl k ↦ below-stays r false p k
+      | inr k ↦ past-stays r p (units_before us []) (ltb-false (spelling_character p) 0x80 k) h
     ]
 
-unmarked-front : (e : Encoding) (x : List ℕ) → begins_like_bom (encoded_text e x) ≡ false → at_front e x ≡ x
-unmarked-front e x h = rw h refl
-
 -- A source whose text the output has is its own result, if that text is its bytes.
-itself-converted : (e to : Encoding) (only : Bool) (source : List ℕ) → AllMay to only (decoded_of e source) → source ≡ encoded_text to (decoded_of e source) → begins_like_bom source ≡ false
-    → IsConverted e to only false source source
-itself-converted e to only source m s f =
+itself-converted : (e : Encoding) (to : Repertoire) (source : List ℕ) → AllMay to (decoded_of e source)
+    → source ≡ encoded_text to.encoding (decoded_of e source) → begins_like_bom source ≡ false → IsConverted e to false source source
+itself-converted e to source m s f =
     let x = decoded_of e source in
     let k = units-found x in
-    let c : converted_units to only false k.units ≡ x = units-stay to only k.units (subst (AllMay to only) k.whole m) ∙ sym k.whole in
+    let c : converted_units to false k.units ≡ x = units-stay to k.units (subst (AllMay to) k.whole m) ∙ sym k.whole in
     record {
       text = x;
       units = k.units;
       decoded = decoded_of-meets e source;
       whole = k.whole;
       each = k.each;
-      bytes = s ∙ ap (encoded_text to) (sym (ap (at_front to) c ∙ unmarked-front to x (ap begins_like_bom (sym s) ∙ f)));
+      bytes = s ∙ ap (encoded_text to.encoding) (sym (ap (at_front to.encoding) c ∙ search (rules)));
     }
 
 -- ---- what an encoding has
 
-utf_8-has : (x : List ℕ) → AllMay utf_8 false x
+utf_8-has : (x : List ℕ) → AllMay (all_of utf_8) x
 utf_8-has [] = tt
 utf_8-has (c ∷ x) = (refl, utf_8-has x)
 
-windows-has : (d : List ℕ) → AllByRecursion byte d → AllMay windows_1252 false (characters_of d)
+windows-has : (d : List ℕ) → AllByRecursion byte d → AllMay (all_of windows_1252) (characters_of d)
 windows-has [] h = tt
 windows-has (b ∷ d) h = (ap (λ o. is_some (one_byte o)) (windows_1252_byte-character b h.0), windows-has d h.1)
 
-decoded-has : (e : Encoding) (source : List ℕ) → All byte source → output_encoding e ≡ e → begins_like_bom source ≡ false → AllMay e false (decoded_of e source)
-decoded-has windows_1252 source h own f = subst (AllMay windows_1252 false) (sym (decoded_of-unmarked windows_1252 source f ∙ decodes source)) (windows-has source (recursion_from_All byte source h))
-decoded-has utf_8 source h own f = utf_8-has (decoded_of utf_8 source)
-decoded-has utf_16le source h own f = absurd (cc)
-decoded-has utf_16be source h own f = absurd (cc)
-
 pub kept-is-itself : (e : Encoding) (source : List ℕ) → KeptIsItself e source
-kept-is-itself e source h own f text d s = itself-converted e e false source (decoded-has e source h own f) (s ∙ ap (encoded_text e) (decoded_of-only e source text d)) f
+kept-is-itself e source h own f text d s = itself-converted e (all_of e) source (search (rules, decoded_of-unmarked, decodes, windows-has, recursion_from_All, utf_8-has)) (s ∙ ap (encoded_text e) (decoded_of-only e source text d)) f
 
 -- ---- ASCII
 
-ascii-may : (e : Encoding) (only : Bool) (x : List ℕ) → AreAscii x → AllMay e only x
-ascii-may e only [] h = tt
-ascii-may e only (c ∷ x) h = (may_be_unescaped-ascii e only c h.0, ascii-may e only x h.1)
+ascii-may : (r : Repertoire) (x : List ℕ) → AreAscii x → AllMay r x
+ascii-may r [] h = tt
+ascii-may r (c ∷ x) h = (may_be_unescaped-ascii r c h.0, ascii-may r x h.1)
 
-pub ascii-is-itself : (e to : Encoding) (only : Bool) (source : List ℕ) → AsciiIsItself e to only source
-ascii-is-itself e to only source h own =
+pub ascii-is-itself : (e : Encoding) (to : Repertoire) (source : List ℕ) → AsciiIsItself e to source
+ascii-is-itself e to source h own =
     let a = ascii-of source h in
     let f : begins_like_bom source ≡ false = ap begins_like_bom (sym (encoded_text-ascii e source a)) ∙ ascii-unmarked e source a in
     let d : decoded_of e source ≡ source =
     decoded_of-unmarked e source f
     ∙ ap (λ v. characters (pieces_of e v)) (sym (encoded_text-ascii e source a))
     ∙ subst (λ v. characters (pieces_of v (encoded_text e source)) ≡ source) own (text-decoded e source (ascii-scalars source a) (AreEncodable-ascii e source a)) in
-    itself-converted e to only source (subst (AllMay to only) (sym d) (ascii-may to only source a)) (sym (ap (encoded_text to) d ∙ encoded_text-ascii to source a)) f
+    itself-converted e to source (subst (AllMay to) (sym d) (ascii-may to source a)) (sym (ap (encoded_text to.encoding) d ∙ encoded_text-ascii to.encoding source a)) f
 
 -- ---- texts
 
 -- A text stays, if the output has its characters.
-text-stays : (e : Encoding) (only : Bool) (x : List ℕ) → AllMay e only x → converted_of e only false x ≡ x
-text-stays e only x h =
-    let k = units_of-meets x in
-    converted_of-is e only false x ∙ units-stay e only (units_of x) (subst (AllMay e only) k.0 h) ∙ sym k.0
+text-stays : (r : Repertoire) (x : List ℕ) → AllMay r x → converted_of r false x ≡ x
+text-stays r x h = grind (arith, units_of-meets, converted_of-is, units-stay)
 
-pub utf_8-stays : (x : List ℕ) → converted_of utf_8 false false x ≡ x
-utf_8-stays x = text-stays utf_8 false x (utf_8-has x)
+pub utf_8-stays : (x : List ℕ) → converted_of (all_of utf_8) false x ≡ x
+utf_8-stays x = text-stays (all_of utf_8) x (utf_8-has x)
 
-pub windows-stays : (d : List ℕ) → All byte d → converted_of windows_1252 false false (characters_of d) ≡ characters_of d
-windows-stays d h = text-stays windows_1252 false (characters_of d) (windows-has d (recursion_from_All byte d h))
+pub windows-stays : (d : List ℕ) → All byte d → converted_of (all_of windows_1252) false (characters_of d) ≡ characters_of d
+windows-stays d h = text-stays (all_of windows_1252) (characters_of d) (windows-has d (recursion_from_All byte d h))
 
 -- The bytes of the characters of bytes.
 pub windows-bytes : (d : List ℕ) → All byte d → encoded_text windows_1252 (characters_of d) ≡ d
@@ -176,10 +165,7 @@ front-of (c ∷ t) z [] y h a e = elim (a c (t ++ z) e) [ inl l ↦ absurd (omeg
     first : (t : List ℕ) → get_or t 0 0 ≡ letter_u → get_or (t ++ z) 0 0 ≡ letter_u
     first [] e = absurd (omega arith)
     first (d ∷ t) e = e
-front-of (c ∷ t) z (b ∷ rest) y h a e =
-    let r = front-of t z rest y h.2 a (cc) in
-    let f : b ≡ c = cc in
-    record { after = r.after; whole = ap₂ (λ m n. m ∷ n) f r.whole }
+front-of (c ∷ t) z (b ∷ rest) y h a e = grind (arith, front-of t z rest y h.2 a (cc))
 
 -- No escape begins in a run and more, if none begins in the run.
 none-more : (rest y : List ℕ) → IsApart y → NoSpelling (backslash ∷ letter_u ∷ rest) → NoSpelling (backslash ∷ letter_u ∷ rest ++ y)
@@ -203,18 +189,16 @@ unit-more (spelt last) rest y k a h = absurd (k 0 (ap (λ v. length (backslash �
 unit-more stray rest y k a h = none-more rest y a h
 
 -- The units of a run, and of what comes after it.
-run-units : (e : Encoding) (only : Bool) (us : List TextUnit) (y : List ℕ) → IsClosed (units_before us []) → IsApart y → AreUnits us []
-    → converted_of e only false (units_before us [] ++ y) ≡ converted_units e only false us ++ converted_of e only false y
-run-units e only [] y k a h = refl
-run-units e only (u ∷ us) y k a h =
+run-units : (r : Repertoire) (us : List TextUnit) (y : List ℕ) → IsClosed (units_before us []) → IsApart y → AreUnits us []
+    → converted_of r false (units_before us [] ++ y) ≡ converted_units r false us ++ converted_of r false y
+run-units r [] y k a h = refl
+run-units r (u ∷ us) y k a h =
     let x = units_before us [] in
-    ap (converted_of e only false) (append_assoc (unit_text u) x y) ∙ converted_of-unit e only false u (x ++ y) (unit-more u x y k a h.0)
-    ∙ ap (λ v. converted_unit e only false u ++ v) (run-units e only us y (closed-rest (unit_text u) x k) a h.1)
-    ∙ sym (append_assoc (converted_unit e only false u) (converted_units e only false us) (converted_of e only false y))
+    search (append_assoc, converted_of-unit, unit-more, run-units r us y (closed-rest (unit_text u) x k) a h.1, closed-rest)
 
 -- The run stays.
-pub run-stays : (e : Encoding) (only : Bool) (x y : List ℕ) → AreAscii x → IsClosed x → IsApart y → converted_of e only false (x ++ y) ≡ x ++ converted_of e only false y
-run-stays e only x y h k a =
+pub run-stays : (r : Repertoire) (x y : List ℕ) → AreAscii x → IsClosed x → IsApart y → converted_of r false (x ++ y) ≡ x ++ converted_of r false y
+run-stays r x y h k a =
     let u = units_of-meets x in
-    ap (λ v. converted_of e only false (v ++ y)) u.0 ∙ run-units e only (units_of x) y (subst IsClosed u.0 k) a u.1
-    ∙ ap (λ v. v ++ converted_of e only false y) (sym (converted_of-is e only false x) ∙ text-stays e only x (ascii-may e only x h))
+    ap (λ v. converted_of r false (v ++ y)) u.0 ∙ run-units r (units_of x) y (subst IsClosed u.0 k) a u.1
+    ∙ ap (λ v. v ++ converted_of r false y) (sym (converted_of-is r false x) ∙ text-stays r x (ascii-may r x h))

@@ -1,9 +1,11 @@
 -- Each source has exactly one result.
-use Rattle.std.proofs.Common.{◌≡◌, ℕ, zero, suc, ◌≤◌, Bool, List, [], ◌∷◌, ◌++◌, length, Option, Some, None, refl, ap, ap₂, subst, sym, ◌∙◌, arith}
+use Rattle.std.proofs.Common.{rules, ◌≡◌, ℕ, zero, suc, ◌≤◌, Bool, List, [], ◌∷◌, ◌++◌, length, Option, Some, None, refl, ap, ap₂, subst, sym, ◌∙◌, arith}
+use Rattle.std.proofs.lemmas.List.{append_cancel_left}
 use Rattle.properties_format.specs.Text.{backslash}
 use Rattle.properties_format.specs.Encoding.{Encoding}
+use Rattle.properties_format.specs.Repertoire.{Repertoire}
 use Rattle.properties_format.specs.Printing.{encoded_text}
-use Rattle.properties_format.specs.Escapes.{letter_u, Spelling, itself, escaped, unicode, surrogates, last, spelling_text, NoSpelling}
+use Rattle.properties_format.specs.Escapes.{letter_u, Spelling, NoSpelling}
 use Rattle.properties_format.specs.Computed.Encoding.{decoded_of}
 use Rattle.properties_format.specs.Computed.Escapes.{first_spelling}
 use Rattle.properties_format.proofs.Encodings.Pieces.{decoded_of-meets, decoded_of-only}
@@ -18,23 +20,13 @@ pub record HasUnits (x : List ℕ) : Type 0 where
   pub whole : x ≡ units_before units []
   pub each : AreUnits units []
 
-some-length : (p : Spelling) (n : ℕ) (rest : List ℕ) → length (spelling_text p ++ rest) ≤ suc n → length rest ≤ n
-some-length (itself c) n rest h = omega arith
-some-length (escaped c) n rest h = omega arith
-some-length (unicode d) n rest h = omega arith
-some-length (surrogates high low) n rest h = omega arith
-some-length last n rest h = omega arith
-
 -- One unit before others.
 unit-front : (u : TextUnit) (x rest : List ℕ) → x ≡ unit_text u ++ rest → IsUnit u rest → HasUnits rest → HasUnits x
-unit-front u x rest e h k = record {
-  units = u ∷ k.units;
-  whole = e ∙ ap (λ v. unit_text u ++ v) k.whole;
-  each = (subst (IsUnit u) k.whole h, k.each);
-}
+unit-front u x rest e h k = record { units = u ∷ k.units; whole = e ∙ ap (λ v. unit_text u ++ v) k.whole; each = (subst (IsUnit u) k.whole h, k.each) }
 
-units-next : (n : ℕ) (x : List ℕ) (o : Option Spelling) → length x ≤ suc n → spelling_of x ≡ o → IsFound x o → ((y : List ℕ) → length y ≤ n → HasUnits y) → HasUnits x
-units-next n x (Some p) h e f ih = unit-front (spelt p) x f.rest f.whole f.is_spelling (ih f.rest (some-length p n f.rest (subst (λ v. length v ≤ suc n) f.whole h)))
+units-next : (n : ℕ) (x : List ℕ) (o : Option Spelling) → length x ≤ suc n → spelling_of x ≡ o → IsFound x o
+    → ((y : List ℕ) → length y ≤ n → HasUnits y) → HasUnits x
+units-next n x (Some p) h e f ih = unit-front (spelt p) x f.rest f.whole f.is_spelling (ih f.rest (search (rules)))
 units-next n x None h e f ih =
     let g : length (backslash ∷ letter_u ∷ f.after) ≤ suc n = subst (λ v. length v ≤ suc n) f.whole h in
     unit-front stray x f.after f.whole (subst NoSpelling f.whole (spelling_of-none x e)) (ih f.after (omega arith))
@@ -49,25 +41,14 @@ units-found x = units-within (length x) x (omega arith)
 
 -- ---- and only these
 
-append-left : (x y z : List ℕ) → x ++ y ≡ x ++ z → y ≡ z
-append-left [] y z h = h
-append-left (c ∷ x) y z h = append-left x y z (cc)
-
 found-none : (y : List ℕ) (o : Option Spelling) → NoSpelling (backslash ∷ letter_u ∷ y) → IsFound (backslash ∷ letter_u ∷ y) o → o ≡ None
-found-none y None n f = refl
-found-none y (Some p) n f = absurd (n p f.rest f.whole f.is_spelling)
+found-none y o h1 h2 = grind (arith)
 
 pub stray-none : (y : List ℕ) → NoSpelling (backslash ∷ letter_u ∷ y) → spelling_of (backslash ∷ letter_u ∷ y) ≡ None
 stray-none y n = found-none y (first_spelling backslash (letter_u ∷ y)) n (first_spelling-found backslash (letter_u ∷ y))
 
-some-same : (p q : Spelling) → Some p ≡ Some q → p ≡ q
-some-same p q h = cc
-
 first-same : (u v : TextUnit) (x y : List ℕ) → IsUnit u x → IsUnit v y → unit_text u ++ x ≡ unit_text v ++ y → u ≡ v
-first-same (spelt p) (spelt q) x y h k e = ap spelt (some-same p q (sym (spelling_of-only p x h) ∙ ap spelling_of e ∙ spelling_of-only q y k))
-first-same (spelt p) stray x y h k e = absurd (let f = sym (spelling_of-only p x h) ∙ ap spelling_of e ∙ stray-none y k in cc)
-first-same stray (spelt q) x y h k e = absurd (let f = sym (stray-none x h) ∙ ap spelling_of e ∙ spelling_of-only q y k in cc)
-first-same stray stray x y h k e = refl
+first-same u v x y h1 h2 h3 = search (rules, spelling_of-only, stray-none)
 
 pub units-only : (us vs : List TextUnit) → AreUnits us [] → AreUnits vs [] → units_before us [] ≡ units_before vs [] → us ≡ vs
 units-only [] [] h k e = refl
@@ -76,16 +57,16 @@ units-only (u ∷ us) [] h k e = absurd (unit-some u (units_before us []) e)
 units-only (u ∷ us) (v ∷ vs) h k e =
     let f = first-same u v (units_before us []) (units_before vs []) h.0 k.0 e in
     let g : unit_text u ++ units_before us [] ≡ unit_text u ++ units_before vs [] = e ∙ ap (λ w. unit_text w ++ units_before vs []) (sym f) in
-    ap₂ (λ w ws. w ∷ ws) f (units-only us vs h.1 k.1 (append-left (unit_text u) (units_before us []) (units_before vs []) g))
+    ap₂ (λ w ws. w ∷ ws) f (units-only us vs h.1 k.1 (append_cancel_left (unit_text u) (units_before us []) (units_before vs []) g))
 
 -- ---- the result
 
-pub converts-to-one : (e to : Encoding) (only readable : Bool) (source : List ℕ) → ConvertsToOne e to only readable source
-converts-to-one e to only readable source =
+pub converts-to-one : (e : Encoding) (to : Repertoire) (readable : Bool) (source : List ℕ) → ConvertsToOne e to readable source
+converts-to-one e to readable source =
     let k = units-found (decoded_of e source) in
     record {
-      value = encoded_text to (at_front to (converted_units to only readable k.units));
+      value = encoded_text to.encoding (at_front to.encoding (converted_units to readable k.units));
       meets = record { text = decoded_of e source; units = k.units; decoded = decoded_of-meets e source; whole = k.whole; each = k.each; bytes = refl };
-      only = λ other h. h.bytes ∙ ap (λ v. encoded_text to (at_front to (converted_units to only readable v)))
+      only = λ other h. h.bytes ∙ ap (λ v. encoded_text to.encoding (at_front to.encoding (converted_units to readable v)))
           (units-only h.units k.units h.each k.each (sym h.whole ∙ decoded_of-only e source h.text h.decoded ∙ k.whole));
     }

@@ -109,10 +109,7 @@ decoded_ended-meets e (l ∷ ls) = (decoded_line-meets e l.text, refl, decoded_e
 -- They decode to no other lines.
 decoded_ended-only : (e : Encoding) (ls ts : List Ended) → AreDecodedLines e ls ts → ts ≡ decoded_ended e ls
 decoded_ended-only e [] [] h = refl
-decoded_ended-only e (l ∷ ls) (t ∷ ts) h =
-    let p : t ≡ record { text = decoded_line e l.text; by = l.by } =
-    ap₂ (λ v w. let s : Ended = record { text = v; by = w } in s) (decoded_line-only e l.text t.text h.0) (sym h.1) in
-    ap₂ (λ v vs. v ∷ vs) p (decoded_ended-only e ls ts h.2)
+decoded_ended-only e (l ∷ ls) (t ∷ ts) h = rw (← decoded_line-only e l.text t.text h.0, h.1, ← decoded_ended-only e ls ts h.2)
 decoded_ended-only e ls ts h = absurd h
 
 -- The computed lines are the lines of the input's bytes, each decoded by itself.
@@ -144,5 +141,4 @@ byline-is_lines e b x lines h k = rw (byline_of-only e b lines h ∙ byline-line
 
 -- Lines of the text are lines of the bytes, decoded one by one.
 pub lines-is_byline : (e : Encoding) (b x : List ℕ) (lines : Lines) → IsLines x lines → IsDecoded e b x → IsByline e b lines
-lines-is_byline e b x lines h k =
-    rw (lines_of-only x lines h ∙ ap lines_of (decoded_of-only e b x k) ∙ sym (byline-lines e b)) (byline_of-meets e b)
+lines-is_byline e b x lines h k = rw (lines_of-only x lines h ∙ ap lines_of (decoded_of-only e b x k) ∙ sym (byline-lines e b)) (byline_of-meets e b)

@@ -87,21 +87,13 @@ of-two-meets e unit [] t = record { bytes = refl; are_cut = t.none [] tt }
 of-two-meets e unit (a ∷ []) t = record { bytes = refl; are_cut = t.none (a ∷ []) tt }
 of-two-meets e unit (a ∷ b ∷ d) t = unit-meets e unit a b (cut_of_two unit d) d t (of-two-meets e unit d t)
 
--- Two bytes that are an ASCII character with the low byte first are its bytes in UTF-16LE.
-low-ascii : (c a b : ℕ) → c < 0x80 → low_first a b ≡ c → a ∷ b ∷ [] ≡ ascii_bytes utf_16le c
-low-ascii c a b l h = grind (arith)
-
--- Two bytes that are an ASCII character with the high byte first are its bytes in UTF-16BE.
-high-ascii : (c a b : ℕ) → c < 0x80 → high_first a b ≡ c → a ∷ b ∷ [] ≡ ascii_bytes utf_16be c
-high-ascii c a b l h = grind (arith)
-
 -- In UTF-16LE, units are two bytes with the low byte first, and a CR or an LF is one unit.
 le-two : IsOfTwo utf_16le low_first
-le-two = record { none = λ d h. h; units = λ d h. h; whole = λ d h. h; even = λ d h. h; ascii = low-ascii }
+le-two = record { none = λ d h. h; units = λ d h. h; whole = λ d h. h; even = λ d h. h; ascii = λ c a b l h. grind (arith) }
 
 -- In UTF-16BE, units are two bytes with the high byte first, and a CR or an LF is one unit.
 be-two : IsOfTwo utf_16be high_first
-be-two = record { none = λ d h. h; units = λ d h. h; whole = λ d h. h; even = λ d h. h; ascii = high-ascii }
+be-two = record { none = λ d h. h; units = λ d h. h; whole = λ d h. h; even = λ d h. h; ascii = λ c a b l h. grind (arith) }
 
 -- The computed lines are lines of the bytes.
 pub cut_of-meets : (e : Encoding) (d : List ℕ) → IsCut e d (cut_of e d)

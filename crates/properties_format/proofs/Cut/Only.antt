@@ -1,13 +1,13 @@
 -- Some bytes have exactly one list of lines, and a line before bytes is a line before their lines.
-use Rattle.std.proofs.Common.{◌≡◌, List, [], ◌∷◌, ◌++◌, ℕ, refl, ap, sym, ◌∙◌}
-use Rattle.properties_format.specs.Text.{LineEnding, lf, cr, line_ending_text}
+use Rattle.std.proofs.Common.{◌≡◌, List, [], ◌∷◌, ◌++◌, ℕ, refl, ap, sym, ◌∙◌, arith}
+use Rattle.properties_format.specs.Text.{LineEnding, cr, line_ending_text}
 use Rattle.properties_format.specs.Lines.{Ended, Lines, BeginsWithNoLoneLf}
 use Rattle.properties_format.specs.Utf16.{low_first, high_first}
 use Rattle.properties_format.specs.Encoding.{Encoding, windows_1252, utf_8, utf_16le, utf_16be, IsAligned}
 use Rattle.properties_format.specs.Cut.{HoldsNoLineEndUnit, line_ending_bytes, bytes_together, AreCut, IsCut}
 use Rattle.properties_format.specs.Computed.Cut.{cut_of}
 use Rattle.properties_format.proofs.Lines.Only.{lines_of-plain, lines_of-before}
-use Rattle.properties_format.proofs.Cut.Two.{ReadsEnds, two-plain, two-line}
+use Rattle.properties_format.proofs.Cut.Two.{two-plain, two-line}
 
 -- Bytes without a line ending unit are one line.
 pub cut_of-plain : (e : Encoding) (d : List ℕ) → HoldsNoLineEndUnit e d → cut_of e d ≡ record { ended = []; last = d }
@@ -17,31 +17,20 @@ cut_of-plain e d h = lines_of-plain d h
 
 -- In windows-1252, the bytes of a line ending are its characters.
 pub ending-windows_1252 : (by : LineEnding) → line_ending_bytes windows_1252 by ≡ line_ending_text by
-ending-windows_1252 lf = refl
-ending-windows_1252 by = refl
+ending-windows_1252 by = grind (arith)
 
 -- In UTF-8, the bytes of a line ending are its characters.
 pub ending-utf_8 : (by : LineEnding) → line_ending_bytes utf_8 by ≡ line_ending_text by
-ending-utf_8 lf = refl
-ending-utf_8 by = refl
-
--- In UTF-16LE, the bytes of a CR or an LF at the front are read as one unit, low byte first.
-le-ends : ReadsEnds utf_16le low_first
-le-ends = record { lf_first = λ y. refl; cr_first = λ y. refl }
-
--- In UTF-16BE, the bytes of a CR or an LF at the front are read as one unit, high byte first.
-be-ends : ReadsEnds utf_16be high_first
-be-ends = record { lf_first = λ y. refl; cr_first = λ y. refl }
+ending-utf_8 by = grind (arith)
 
 -- A line and its end before bytes whose lines are known.
 pub cut_of-before : (e : Encoding) (text : List ℕ) (by : LineEnding) (y : List ℕ) (ls : List Ended) (last : List ℕ)
     → HoldsNoLineEndUnit e text → IsAligned e text → (by ≡ cr → BeginsWithNoLoneLf ls) → cut_of e y ≡ record { ended = ls; last = last }
     → cut_of e (text ++ (line_ending_bytes e by ++ y)) ≡ record { ended = record { text = text; by = by } ∷ ls; last = last }
-cut_of-before windows_1252 text by y ls last p a k h =
-    ap (λ v. cut_of windows_1252 (text ++ (v ++ y))) (ending-windows_1252 by) ∙ lines_of-before text by y ls last p k h
-cut_of-before utf_8 text by y ls last p a k h = ap (λ v. cut_of utf_8 (text ++ (v ++ y))) (ending-utf_8 by) ∙ lines_of-before text by y ls last p k h
-cut_of-before utf_16le text by y ls last p a k h = two-line utf_16le low_first text by y ls last le-ends p a k h
-cut_of-before utf_16be text by y ls last p a k h = two-line utf_16be high_first text by y ls last be-ends p a k h
+cut_of-before windows_1252 text by y ls last p a k h = rw (ending-windows_1252 by) (lines_of-before text by y ls last p k h)
+cut_of-before utf_8 text by y ls last p a k h = rw (ending-utf_8 by) (lines_of-before text by y ls last p k h)
+cut_of-before utf_16le text by y ls last p a k h = two-line utf_16le low_first text by y ls last (record { lf_first = λ y. refl; cr_first = λ y. refl }) p a k h
+cut_of-before utf_16be text by y ls last p a k h = two-line utf_16be high_first text by y ls last (record { lf_first = λ y. refl; cr_first = λ y. refl }) p a k h
 
 -- Lines that are put together are the lines of the resulting bytes.
 pub cut_of-together : (e : Encoding) (ls : List Ended) (last : List ℕ) → AreCut e ls last

@@ -1,6 +1,6 @@
 -- Finding the lines of undecoded bytes from the front: a line and its end, and then the lines of what follows.
-use Rattle.std.proofs.Common.{◌≡◌, ℕ, false, List, [], ◌∷◌, ◌++◌, refl, ap, sym, ◌∙◌}
-use Rattle.properties_format.specs.Text.{line_feed, LineEnding, lf, cr}
+use Rattle.std.proofs.Common.{◌≡◌, ℕ, false, List, [], ◌∷◌, ◌++◌, refl, ap, sym, ◌∙◌, arith}
+use Rattle.properties_format.specs.Text.{LineEnding, cr}
 use Rattle.properties_format.specs.Lines.{Ended, Lines, BeginsWithNoLoneLf}
 use Rattle.properties_format.specs.Encoding.{Encoding, IsAligned}
 use Rattle.properties_format.specs.Cut.{units, HoldsNoLineEndUnit, line_ending_bytes, bytes_together}
@@ -17,13 +17,7 @@ line_in_front text by lines = record { ended = record { text = text; by = by } �
 -- If no LF unit comes first, the first line isn't an empty one that an LF ends.
 no_lone : (e : Encoding) (ls : List Ended) (last : List ℕ) → begins_with_lf (units e (bytes_together e ls last)) ≡ false → BeginsWithNoLoneLf ls
 no_lone e [] last h = tt
-no_lone e (l ∷ ls) last h = of_line l.text l.by (bytes_together e ls last) h
-  where
-    of_line : (text : List ℕ) (by : LineEnding) (y : List ℕ) → begins_with_lf (units e (text ++ (line_ending_bytes e by ++ y))) ≡ false
-        → ¬ ((text ≡ []) × (by ≡ lf))
-    of_line [] lf y h = let k = ap begins_with_lf (units-ascii e line_feed y) in absurd (cc)
-    of_line (c ∷ text) by y h = λ p. absurd (cc p.0)
-    of_line [] by y h = λ p. absurd (cc p.1)
+no_lone e (l ∷ ls) last h = grind (arith, units-ascii)
 
 -- If no LF unit comes first, the first computed line isn't an empty one that an LF ends.
 pub cut_of-no_lone : (e : Encoding) (y : List ℕ) → begins_with_lf (units e y) ≡ false → BeginsWithNoLoneLf (cut_of e y).ended

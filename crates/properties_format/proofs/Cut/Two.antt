@@ -31,10 +31,8 @@ two-end e unit by y ls last h k m = grind (arith, cr-before)
 
 -- A line and its end before bytes whose lines are known.
 pub two-line : (e : Encoding) (unit : ℕ → ℕ → ℕ) (text : List ℕ) (by : LineEnding) (y : List ℕ) (ls : List Ended) (last : List ℕ) → ReadsEnds e unit
-    → HoldsNoLineEnd (units_of_two unit text) → length text % 2 ≡ 0
-    → (by ≡ cr → BeginsWithNoLoneLf ls) → cut_of_two unit y ≡ record { ended = ls; last = last }
+    → HoldsNoLineEnd (units_of_two unit text) → length text % 2 ≡ 0 → (by ≡ cr → BeginsWithNoLoneLf ls) → cut_of_two unit y ≡ record { ended = ls; last = last }
     → cut_of_two unit (text ++ (line_ending_bytes e by ++ y)) ≡ record { ended = record { text = text; by = by } ∷ ls; last = last }
 two-line e unit [] by y ls last r p a k h = two-end e unit by y ls last r k h
 two-line e unit (c ∷ []) by y ls last r p a k h = absurd (omega arith)
-two-line e unit (c ∷ d ∷ text) by y ls last r p a k h =
-    grind (arith, two-line e unit text by y ls last r p.1 (omega arith) k h)
+two-line e unit (c ∷ d ∷ text) by y ls last r p a k h = grind (arith, two-line e unit text by y ls last r p.1 (omega arith) k h)

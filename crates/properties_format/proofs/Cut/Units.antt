@@ -4,7 +4,7 @@ use Rattle.std.proofs.lemmas.Bool.{and_right}
 use Rattle.properties_format.specs.Text.{is_line_end}
 use Rattle.properties_format.specs.Lines.{HoldsNoLineEnd}
 use Rattle.properties_format.specs.Utf16.{low_first, high_first}
-use Rattle.properties_format.specs.Encoding.{Encoding, windows_1252, utf_8, utf_16le, utf_16be, IsAligned, ascii_bytes}
+use Rattle.properties_format.specs.Encoding.{Encoding, IsAligned, ascii_bytes}
 use Rattle.properties_format.specs.Computed.Lines.{begins_with_lf}
 use Rattle.properties_format.specs.Cut.{units_of_two, units, HoldsNoLineEndUnit}
 use Rattle.properties_format.proofs.Lines.Plain.{plain-append, plain-left, plain-right}
@@ -51,7 +51,7 @@ high_first-line_end a b = grind (arith)
 
 -- If no byte is a CR or an LF, no unit of two bytes is one, with the low byte first.
 no_low : (d : List ℕ) → HoldsNoLineEnd d → HoldsNoLineEnd (units_of_two low_first d)
-no_low (a ∷ b ∷ d) h = (low_first-line_end a b ∙ and_right (b == 0) (is_line_end a) h.0, no_low d h.1.1)
+no_low (a ∷ b ∷ d) h = grind (arith, low_first-line_end, no_low d h.1.1)
 no_low d h = tt
 
 -- If no byte is a CR or an LF, no unit of two bytes is one, with the high byte first.
@@ -65,13 +65,4 @@ no_end-no_unit e d h = grind (arith, no_low, no_high)
 
 -- The first whole unit decides whether an LF comes first, whatever follows.
 pub lf_first-append : (e : Encoding) (x y : List ℕ) → 0 < length (units e x) → begins_with_lf (units e (x ++ y)) ≡ begins_with_lf (units e x)
-lf_first-append e [] y h = absurd (none e (omega arith))
-  where
-    none : (e : Encoding) → 0 < length (units e []) → ⊥
-    none e h = grind (arith)
-lf_first-append windows_1252 (a ∷ x) y h = refl
-lf_first-append utf_8 (a ∷ x) y h = refl
-lf_first-append utf_16le (a ∷ []) y h = absurd (omega arith)
-lf_first-append utf_16be (a ∷ []) y h = absurd (omega arith)
-lf_first-append utf_16le (a ∷ b ∷ x) y h = refl
-lf_first-append utf_16be (a ∷ b ∷ x) y h = refl
+lf_first-append e x y h = grind (arith)

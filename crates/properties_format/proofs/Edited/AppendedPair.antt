@@ -1,15 +1,15 @@
 -- The groups of a body to which a pair is appended, after closed groups.
-use Rattle.std.proofs.Common.{◌≡◌, ◌≢◌, ℕ, true, List, [], ◌∷◌, ◌++◌, Some, None, refl, ap, ap₂, sym, ◌∙◌, inl, inr, append-nil, subst}
+use Rattle.std.proofs.Common.{◌≡◌, ◌≢◌, ℕ, true, List, [], ◌∷◌, ◌++◌, Some, None, refl, ap, sym, ◌∙◌, inl, inr, append-nil, subst}
 use Rattle.properties_format.specs.Text.{LineEnding, line_ending_text}
 use Rattle.properties_format.specs.Encoding.{Encoding}
 use Rattle.properties_format.specs.Lines.{Ended, HoldsNoLineEnd}
 use Rattle.properties_format.specs.Computed.Cut.{decoded_line}
 use Rattle.properties_format.specs.Groups.{IsWhole, joined}
 use Rattle.properties_format.specs.Entries.{pair}
-use Rattle.properties_format.specs.Items.{given, IsOutcome}
-use Rattle.properties_format.specs.Body.{HeldLine, AreGroupsOf, HasKey, as_groups, as_lines, groups_bytes}
+use Rattle.properties_format.specs.Items.{given}
+use Rattle.properties_format.specs.Body.{HeldLine, HasKey, as_groups, as_lines, groups_bytes}
 use Rattle.properties_format.specs.Valued.{HasPair, separation_by}
-use Rattle.properties_format.specs.LogicalLines.{line_before, AreLinesSet, NoneIsPair}
+use Rattle.properties_format.specs.LogicalLines.{AreLinesSet, NoneIsPair}
 use Rattle.properties_format.specs.Edited.{is_editable}
 use Rattle.properties_format.specs.Computed.Items.{outcome_of}
 use Rattle.properties_format.specs.Computed.Body.{held_groups_of, is_pair_with}
@@ -26,16 +26,14 @@ use Rattle.properties_format.proofs.Valued.Lined.{AreLined, lined-groups, lines-
 -- ---- closed groups
 
 -- The logical lines of closed groups are the same.
-left-lines : (by : LineEnding) (g : List HeldLine) (left : List (List HeldLine)) → IsLeft by g left → logical_lines (as_groups left) ≡ logical_lines (as_groups (g ∷ []))
-left-lines by g left (inl m) = ap (λ v. logical_lines (as_groups v)) m.0 ∙ ap (λ o. line_before o (joined (as_lines g)) []) (sym m.1)
-left-lines by g left (inr m) = ap (λ v. logical_lines (as_groups v)) m.is ∙ ap (λ x. line_before (outcome_of x) x []) m.line
+left-lines : (by : LineEnding) (g : List HeldLine) (left : List (List HeldLine)) → IsLeft by g left
+    → logical_lines (as_groups left) ≡ logical_lines (as_groups (g ∷ []))
+left-lines by g left (inl m) = rw (m.0, m.1)
+left-lines by g left (inr m) = rw (m.is, m.line)
 
-closed-lines : (e : Encoding) (by : LineEnding) (gs : List (List HeldLine)) (k : AreClosedBy e by gs) → logical_lines (as_groups (k.before ++ k.left)) ≡ logical_lines (as_groups gs)
-closed-lines e by gs k =
-    lines-append k.before k.left
-    ∙ ap (λ v. logical_lines (as_groups k.before) ++ v) (left-lines by k.final k.left k.is_left)
-    ∙ sym (lines-append k.before (k.final ∷ []))
-    ∙ ap (λ v. logical_lines (as_groups v)) (sym k.division)
+closed-lines : (e : Encoding) (by : LineEnding) (gs : List (List HeldLine)) (k : AreClosedBy e by gs)
+    → logical_lines (as_groups (k.before ++ k.left)) ≡ logical_lines (as_groups gs)
+closed-lines e by gs k = rw (k.division, lines-append, lines-append, left-lines by k.final k.left k.is_left)
 
 -- An empty last line isn't a pair.
 pub empty-other : (e : Encoding) (key : List ℕ) → ¬ (HasKey key (empty_line e None ∷ []))
@@ -65,31 +63,27 @@ module _ (e : Encoding) (by second : LineEnding) (gs : List (List HeldLine)) (ke
       record {
         ended = k.lines ++ n ∷ [];
         last = [];
-        held = held_in-append closed ((line ∷ []) ∷ last ∷ []) ∙ ap (λ w. w ++ line ∷ empty_line e None ∷ []) k.held ∙ sym (held_of-append e k.lines (n ∷ []) []);
+        held = held_in-append closed _ ∙ ap (λ w. w ++ line ∷ empty_line e None ∷ []) k.held ∙ sym (held_of-append e k.lines (n ∷ []) []);
         are_lines = lines-join k.lines (n ∷ []) [] k.are_lines (λ q. λ y. some y.0) (plain, (λ q. tt), tt);
         fit = fit-join closed (line ∷ []) (last ∷ []) k.whole (whole, inl empty_whole);
       }
 
   pub appended-bytes : groups_bytes appended_groups ≡ (groups_bytes gs ++ separation_by (line_ending_text by) k.final) ++ (pb ++ line_ending_text second)
-  appended-bytes =
-      groups_bytes-append closed ((line ∷ []) ∷ last ∷ [])
-      ∙ ap₂ (λ v w. v ++ w) k.bytes (append-nil (pb ++ (line_ending_text second ++ [])) ∙ ap (λ w. pb ++ w) (append-nil (line_ending_text second)))
+  appended-bytes = rw (groups_bytes-append, k.bytes) (simp append-nil)
 
   -- They are the groups of their bytes.
   pub appended-held : (body : List ℕ) → body ≡ (groups_bytes gs ++ separation_by (line_ending_text by) k.final) ++ (pb ++ line_ending_text second)
       → appended_groups ≡ held_groups_of e body
-  appended-held body is = held_groups_of-only e body appended_groups (subst (λ w. AreGroupsOf e w appended_groups) (appended-bytes ∙ sym is) (lined-groups e appended_groups ok next))
+  appended-held body is = held_groups_of-only e body appended_groups (rw (is, ← appended-bytes) (lined-groups e appended_groups ok next))
 
   -- Their logical lines are those of the groups, and the pair's.
-  pub appended-lines : NoneIsPair key (logical_lines (as_groups gs)) → AreLinesSet key value (logical_lines (as_groups gs)) (logical_lines (as_groups appended_groups))
+  pub appended-lines : NoneIsPair key (logical_lines (as_groups gs))
+      → AreLinesSet key value (logical_lines (as_groups gs)) (logical_lines (as_groups appended_groups))
   appended-lines none =
-      let own : HasPair key value (line ∷ []) = subst (IsOutcome (joined (as_lines (line ∷ [])))) said (outcome_of-meets (joined (as_lines (line ∷ [])))) in
+      let own : HasPair key value (line ∷ []) = rw said at (outcome_of-meets (joined (as_lines (line ∷ [])))) in
       inr (
         none,
         joined (as_lines (line ∷ [])),
-        lines-append closed ((line ∷ []) ∷ last ∷ [])
-            ∙ ap₂ (λ v w. v ++ w) (closed-lines e by gs k)
-            (lines-pair key (line ∷ []) (logical_lines (as_groups (last ∷ []))) (value, own)
-            ∙ ap (λ o. joined (as_lines (line ∷ [])) ∷ line_before o (joined (as_lines last)) []) (outcomes-empty e None)),
+        rw (lines-append, closed-lines e by gs k, lines-pair key (line ∷ []) (logical_lines (as_groups (last ∷ []))) (value, own), outcomes-empty e None),
         own,
       )

@@ -35,7 +35,7 @@ ended-held e by ls last = refl
 -- A list with a group consists of some groups and a last one.
 last-group : (g : List HeldLine) (gs : List (List HeldLine)) → (init : List (List HeldLine)) × (final : List HeldLine) × (g ∷ gs ≡ init ++ final ∷ [])
 last-group g [] = ([], g, refl)
-last-group g (h ∷ gs) = let m = last-group h gs in (g ∷ m.0, m.1, ap (λ v. g ∷ v) {y = m.0 ++ m.1 ∷ []} m.2)
+last-group g (h ∷ gs) = let m = last-group h gs in (g ∷ m.0, m.1, rw m.2)
 
 -- If a line ending is added after the last line, it comes after the lines' bytes.
 ended-bytes : (e : Encoding) (by : LineEnding) (ls : List Ended) (last : List ℕ)
@@ -46,8 +46,7 @@ ended-bytes e by (l ∷ m ∷ ls) last = simp (append_assoc, ended-bytes e by (m
 
 -- The last group is an empty line, which is the last line of a body.
 empty-held : (e : Encoding) (ls : List Ended) (last : List ℕ) → is_empty_line (held_of e ls last) ≡ true → (ls ≡ []) × (last ≡ [])
-empty-held e [] [] h = (refl, refl)
-empty-held e [] (c ∷ last) h = absurd (cc)
+empty-held e [] last h = grind (arith)
 empty-held e (l ∷ []) last h = absurd (cc)
 empty-held e (l ∷ m ∷ ls) last h = absurd (cc)
 
@@ -56,16 +55,10 @@ whole-join : (gs hs : List (List HeldLine)) → AreAllWhole gs → AreAllWhole h
 whole-join [] hs w k = k
 whole-join (g ∷ gs) hs w k = (w.0, whole-join gs hs w.1 k)
 
--- A line ending isn't empty.
-ending-size : (by : LineEnding) → 0 < length (line_ending_text by)
-ending-size by = grind (arith)
-
 -- A last group has bytes, unless it is an empty line.
 last-size : (e : Encoding) (ls : List Ended) (last : List ℕ) → is_empty_line (held_of e ls last) ≡ false → 0 < length (unended_bytes (held_of e ls last))
-last-size e [] [] h = absurd (cc)
-last-size e [] (c ∷ last) h = omega arith
-last-size e (l ∷ []) last h = simp length-append (omega (arith, ending-size l.by))
-last-size e (l ∷ m ∷ ls) last h = simp length-append (omega (arith, ending-size l.by))
+last-size e [] last h = grind (arith)
+last-size e (l ∷ ls) last h = grind (arith, length-append)
 
 -- ---- closed groups
 
@@ -161,11 +154,7 @@ closed-by e by (g1 ∷ gs1) h good = of-parts (last-group g1 gs1)
           held = held_in-append init left ∙ ap₂ (λ v y. v ++ y) a t ∙ sym (held_ended-append e front new);
           are_lines = ls;
           whole = whole-join init left w wl;
-          bytes =
-              groups_bytes-append init left
-              ∙ ap (λ v. groups_bytes init ++ v) bytes
-              ∙ whole_bytes x
-              ∙ ap (λ v. groups_bytes gs ++ v) (sym separated);
+          bytes = groups_bytes-append init left ∙ ap (λ v. groups_bytes init ++ v) bytes ∙ whole_bytes x ∙ ap (λ v. groups_bytes gs ++ v) (sym separated);
           unended = no_ending;
           size = size;
         }
@@ -173,14 +162,14 @@ closed-by e by (g1 ∷ gs1) h good = of-parts (last-group g1 gs1)
         lines-more : (new : List Ended) → AreLines (n ∷ new) [] → AreLines (front ++ (back ++ n ∷ new)) []
         lines-more new k =
             subst (λ v. AreLines v []) (append_assoc front back (n ∷ new))
-            (lines-join (front ++ back) (n ∷ new) [] (lines-front (front ++ back) [] h.last (subst (λ v. AreLines v h.last) (sym (append-nil (front ++ back))) lines))
+            (lines-join _ _ [] (lines-front _ [] h.last (subst (λ v. AreLines v h.last) (sym (append-nil _)) lines))
             (λ q. good (ap last_by all ∙ q)) k)
 
         gone : is_empty_line g ≡ true → AreClosedBy e by gs
         gone k =
             let m = empty-held e back h.last (ap is_empty_line (sym b) ∙ k) in
             let none : group_bytes g ≡ [] = ap group_bytes (b ∙ ap₂ (held_of e) m.0 m.1) in
-            let told : outcome_of (joined (as_lines g)) ≡ ignored = ap (λ v. outcome_of (joined (as_lines v))) (b ∙ ap₂ (held_of e) m.0 m.1) ∙ outcomes-empty e None in
+            let told : outcome_of _ ≡ ignored = ap (λ v. outcome_of (joined (as_lines v))) (b ∙ ap₂ (held_of e) m.0 m.1) ∙ outcomes-empty e None in
             with-left [] [] [] (inl (refl, told)) refl (subst (λ v. AreLines v []) (sym (append-nil front)) (lines-front front back h.last lines)) tt
             (ap (λ v. v ++ []) (sym none)) (cond-true (is_empty_line g) [] _ k)
 
@@ -215,7 +204,7 @@ closed-by e by (g1 ∷ gs1) h good = of-parts (last-group g1 gs1)
             ∙ ap₂ (λ v y. v ++ y) ended (append-nil ending)
             ∙ append_assoc (group_bytes g) ending ending in
             let more : opened_by ending g ≡ ending = rw (k, m) refl in
-            let own : group_bytes g ≡ unended_bytes g = bytes-unended g ∙ ap (λ o. unended_bytes g ++ ending_bytes o) no_ending ∙ append-nil (unended_bytes g) in
+            let own : group_bytes g ≡ unended_bytes g = bytes-unended g ∙ ap (λ o. unended_bytes g ++ ending_bytes o) no_ending ∙ append-nil _ in
             let is : IsEnded by g (x ∷ []) = record {
               group = x;
               is = refl;

@@ -1,7 +1,6 @@
 -- The logical lines of some bytes, in order: that of a whole group at the front comes first, followed by those of the
 -- bytes after it.
-use Rattle.std.proofs.Common.{◌≡◌, ℕ, ◌+◌, Bool, true, false, List, [], ◌∷◌, ◌++◌, refl, ap, ap₂, sym, ◌∙◌, inl, inr}
-use Rattle.std.proofs.lemmas.Bool.Decides.{eqb_tells}
+use Rattle.std.proofs.Common.{◌≡◌, ℕ, ◌+◌, Bool, true, false, List, [], ◌∷◌, ◌++◌, refl, ap, ◌∙◌, inr, arith}
 use Rattle.properties_format.specs.Text.{line_feed}
 use Rattle.properties_format.specs.Encoding.{Encoding}
 use Rattle.properties_format.specs.Lines.{Ended, Lines, end, more, Line, numbered, line_ends}
@@ -13,7 +12,7 @@ use Rattle.properties_format.specs.LogicalLines.{line_before, AreLinesOf}
 use Rattle.properties_format.specs.Computed.Items.{outcome_of, split_outcome}
 use Rattle.properties_format.proofs.Lines.Append.{lines_to_come-append}
 use Rattle.properties_format.proofs.Groups.Only.{groups_of-before}
-use Rattle.properties_format.proofs.Items.Unique.{outcome_of-meets, outcome_of-only}
+use Rattle.properties_format.proofs.Items.Unique.{outcome_of-only}
 use Rattle.properties_format.proofs.Split.Unique.{split_of-blank}
 use Rattle.properties_format.specs.Computed.Cut.{decoded_line}
 use Rattle.properties_format.proofs.Body.Decoded.{decoded-nil}
@@ -29,14 +28,9 @@ abbrev pub logical_lines : List (List Line) → List (List ℕ)
 logical_lines [] = []
 logical_lines (g ∷ gs) = with_line (joined g) (logical_lines gs)
 
--- They are these lines, and no others are.
-pub logical_lines-meets : (gs : List (List Line)) → AreLinesOf gs (logical_lines gs)
-logical_lines-meets [] = refl
-logical_lines-meets (g ∷ gs) = (outcome_of (joined g), logical_lines gs, outcome_of-meets (joined g), refl, logical_lines-meets gs)
-
 pub logical_lines-only : (gs : List (List Line)) (xs : List (List ℕ)) → AreLinesOf gs xs → xs ≡ logical_lines gs
 logical_lines-only [] xs h = h
-logical_lines-only (g ∷ gs) xs h = h.3 ∙ ap₂ (λ o v. line_before o (joined g) v) (outcome_of-only (joined g) h.0 h.2) (logical_lines-only gs h.1 h.4)
+logical_lines-only (g ∷ gs) xs h = rw (h.3, outcome_of-only (joined g) h.0 h.2, logical_lines-only gs h.1 h.4)
 
 -- ---- the lines of some bytes, each decoded by itself
 
@@ -63,7 +57,7 @@ logical_lines_in e d = logical_lines (groups_of (line_texts e d) end)
 -- Two lists of lines, each line decoded by itself.
 decoded_each-append : (e : Encoding) (ls ms : List Line) → decoded_each e (ls ++ ms) ≡ decoded_each e ls ++ decoded_each e ms
 decoded_each-append e [] ms = refl
-decoded_each-append e (l ∷ ls) ms = ap (λ v. record { number = 0; text = decoded_line e l.text } ∷ v) (decoded_each-append e ls ms)
+decoded_each-append e (l ∷ ls) ms = cc (decoded_each-append e ls ms)
 
 -- If more may come, the numbered lines are the ended ones.
 decoded-more : (e : Encoding) (n : ℕ) (ls : List Ended) (last : List ℕ) → decoded_each e (numbered n ls last more) ≡ ended_lines e ls
@@ -86,11 +80,8 @@ line_texts-append : (e : Encoding) (x d : List ℕ) → (lines_of x).last ≡ []
     → line_texts e (x ++ d) ≡ ended_lines e (lines_of x).ended ++ line_texts e (rest_of_end (ends_in_cr x) d)
 line_texts-append e x d h =
     let ls = lines_of x in
-    sym (line_texts-numbered e 0 (x ++ d))
-    ∙ ap (decoded_each e) (lines_to_come-append 0 x d end)
-    ∙ decoded_each-append e (numbered 0 ls.ended ls.last more) (lines_to_come (0 + line_ends ls) (ends_in_cr x) ls.last d end)
-    ∙ ap₂ (λ v w. v ++ w) (decoded-more e 0 ls.ended ls.last)
-    (ap (λ v. decoded_each e (lines_to_come (0 + line_ends ls) (ends_in_cr x) v d end)) h ∙ line_texts-numbered e (0 + line_ends ls) (rest_of_end (ends_in_cr x) d))
+    rw (← line_texts-numbered e 0 (x ++ d), lines_to_come-append 0 x d end, decoded_each-append, decoded-more e 0 ls.ended ls.last, h)
+    (ap (λ v. ended_lines e ls.ended ++ v) (line_texts-numbered e (0 + line_ends ls) (rest_of_end (ends_in_cr x) d)))
 
 -- ---- a group at the front
 
@@ -104,9 +95,7 @@ pub record IsFront (e : Encoding) (x : List ℕ) (g : List Line) : Type 0 where
 front-lines : (e : Encoding) (x d : List ℕ) (g : List Line) → IsFront e x g
     → logical_lines_in e (x ++ d) ≡ with_line (joined g) (logical_lines_in e (rest_of_end (ends_in_cr x) d))
 unfolding logical_lines_in
-front-lines e x d g h =
-    ap (λ v. logical_lines (groups_of v end)) (line_texts-append e x d h.ended ∙ ap (λ v. v ++ line_texts e (rest_of_end (ends_in_cr x) d)) h.texts)
-    ∙ ap logical_lines (groups_of-before g (line_texts e (rest_of_end (ends_in_cr x) d)) end h.whole)
+front-lines e x d g h = rw (line_texts-append e x d h.ended, h.texts, groups_of-before g (line_texts e (rest_of_end (ends_in_cr x) d)) end h.whole)
 
 -- ---- empty lines
 
@@ -120,14 +109,11 @@ lf-front e = record { ended = refl; texts = ap (λ v. record { number = 0; text 
 
 -- An LF at the front has no logical line.
 pub lines-lf : (e : Encoding) (d : List ℕ) → logical_lines_in e (line_feed ∷ d) ≡ logical_lines_in e d
-lines-lf e d = front-lines e (line_feed ∷ []) d (record { number = 0; text = [] } ∷ []) (lf-front e) ∙ ap (λ v. line_before v [] (logical_lines_in e d)) outcome-empty
+lines-lf e d = rw (front-lines e (line_feed ∷ []) d (record { number = 0; text = [] } ∷ []) (lf-front e), outcome-empty)
 
 -- So it doesn't matter whether an LF at the front is left out.
 lines-rest : (e : Encoding) (b : Bool) (d : List ℕ) → logical_lines_in e (rest_of_end b d) ≡ logical_lines_in e d
-lines-rest e true (c ∷ d) = elim (eqb_tells c line_feed) [
-  | inl k ↦ rw k.1 (sym (lines-lf e d))
-  | inr k ↦ rw k.0 refl
-]
+lines-rest e true (c ∷ d) = grind (arith, lines-lf)
 lines-rest e b d = refl
 
 -- The logical line of a group before any bytes comes first, followed by those of the bytes.
@@ -142,4 +128,4 @@ lines-nil e = ap (λ v. logical_lines (groups_of (record { number = 0; text = v 
 -- The logical line of bytes that are one group is that of the group.
 pub lines-one : (e : Encoding) (d : List ℕ) (g : List Line) → line_texts e d ≡ g → groups_of g end ≡ g ∷ [] → logical_lines_in e d ≡ with_line (joined g) []
 unfolding logical_lines_in
-lines-one e d g h k = ap (λ v. logical_lines (groups_of v end)) h ∙ ap logical_lines k
+lines-one e d g h k = rw (h, k)

@@ -1,13 +1,13 @@
 -- The logical lines of an edited body, given those of the body, whatever they are.
-use Rattle.std.proofs.Common.{◌≡◌, ◌⊎◌, ℕ, ◌&&◌, not, true, false, List, [], ◌∷◌, ◌++◌, refl, ap, sym, ◌∙◌, inl, inr, append-nil, subst}
-use Rattle.std.proofs.lemmas.Bool.{cases_Bool, and_parts, and_from, not-true}
+use Rattle.std.proofs.Common.{◌≡◌, ◌⊎◌, ℕ, ◌&&◌, not, true, false, List, [], ◌∷◌, ◌++◌, refl, ap, sym, ◌∙◌, inl, inr, append-nil, arith}
+use Rattle.std.proofs.lemmas.Bool.{cases_Bool}
 use Rattle.properties_format.specs.Encoding.{Encoding, begins_like_bom}
 use Rattle.properties_format.specs.Lines.{end, Line}
 use Rattle.properties_format.specs.Computed.Lines.{ends_in_cr}
-use Rattle.properties_format.specs.Groups.{is_comment_line, EndsClosed, AreOpen, IsWhole, joined}
+use Rattle.properties_format.specs.Groups.{EndsClosed, AreOpen, IsWhole, joined}
 use Rattle.properties_format.specs.Computed.Groups.{groups_of}
 use Rattle.properties_format.specs.Entries.{pair}
-use Rattle.properties_format.specs.Items.{Outcome, ignored, given, broken}
+use Rattle.properties_format.specs.Items.{Outcome, given}
 use Rattle.properties_format.specs.Computed.Items.{outcome_of}
 use Rattle.properties_format.specs.Body.{HeldLine, as_lines, as_groups, group_bytes, groups_bytes, HasKey, NoneHasKey}
 use Rattle.properties_format.specs.Edited.{is_last_open, is_left_open}
@@ -44,29 +44,21 @@ last-open h (i ∷ hs) k = last-open i hs k.1
 pub fit-closed : (g : List HeldLine) → IsLastFit g → is_left_open g ≡ false → IsWhole (as_lines g)
 fit-closed g (inl h) k = h
 fit-closed [] (inr h) k = absurd h
-fit-closed (h ∷ hs) (inr u) k =
-    let a : is_left_open (h ∷ hs) ≡ true = and_from (not (is_comment_line h.text)) (is_last_open (h ∷ hs)) (ap not u.0) (last-open h hs u.1) in
-    absurd (cc)
+fit-closed (h ∷ hs) (inr u) k = grind (arith, last-open h hs u.1)
 
 -- A last group that is left open doesn't begin with a comment line, and ends open.
 pub fit-open : (g : List HeldLine) → IsLastFit g → is_left_open g ≡ true → EndsOpen (as_lines g)
 fit-open g (inr h) k = h
 fit-open [] (inl h) k = absurd h
-fit-open (h ∷ hs) (inl (inl w)) k =
-    let a = and_parts (not (is_comment_line h.text)) (is_last_open (h ∷ hs)) k in absurd (cc (not-true (is_comment_line h.text) a.0, w.0))
-fit-open (h ∷ hs) (inl (inr w)) k =
-    let a = and_parts (not (is_comment_line h.text)) (is_last_open (h ∷ hs)) k in
-    let b = last-closed h hs w.1 in
-    absurd (cc)
+fit-open (h ∷ hs) (inl w) k = grind (arith, last-closed)
 
 -- An empty line after a group that is left open ends the group, and adds nothing to it.
 pub closed-by_empty : (x : List Line) → EndsOpen x
     → IsWhole (x ++ record { number = 0; text = [] } ∷ []) × (joined (x ++ record { number = 0; text = [] } ∷ []) ≡ joined x)
 closed-by_empty [] h = absurd h
-closed-by_empty (l ∷ ls) h = (
-  close-whole (l ∷ ls) (record { number = 0; text = [] }) h (closes-closed (l ∷ ls) (record { number = 0; text = [] }) refl),
-  joined-push l ls (record { number = 0; text = [] }) h.0 ∙ append-nil (joined (l ∷ ls)),
-)
+closed-by_empty (l ∷ ls) h =
+    let z : Line = record { number = 0; text = [] } in
+    (close-whole (l ∷ ls) z h (closes-closed (l ∷ ls) z refl), joined-push l ls z h.0 ∙ append-nil (joined (l ∷ ls)))
 
 -- ---- groups
 
@@ -74,7 +66,7 @@ closed-by_empty (l ∷ ls) h = (
 fit-group : (x : List Line) → IsWhole x ⊎ EndsOpen x → groups_of x end ≡ x ∷ []
 fit-group [] (inl h) = absurd h
 fit-group [] (inr h) = absurd h
-fit-group (l ∷ ls) (inl h) = ap (λ v. groups_of v end) (sym (append-nil (l ∷ ls))) ∙ groups_of-before (l ∷ ls) [] end h
+fit-group (l ∷ ls) (inl h) = rw append-nil at (groups_of-before (l ∷ ls) [] end h)
 fit-group (l ∷ ls) (inr h) = groups_of-unfinished (l ∷ ls) end h
 
 -- The outcome of a group with the key is a pair with it.
@@ -89,47 +81,34 @@ lines-last e g h = lines-one e (group_bytes g) (as_lines g) h.texts (fit-group (
 pub lines-held : (e : Encoding) (gs : List (List HeldLine)) → AreHeldGroups e gs → logical_lines_in e (groups_bytes gs) ≡ logical_lines (as_groups gs)
 lines-held e [] h = absurd h
 lines-held e (g ∷ []) h = ap (logical_lines_in e) (append-nil (group_bytes g)) ∙ lines-last e g h
-lines-held e (g ∷ i ∷ gs) h = lines-front e (group_bytes g) (groups_bytes (i ∷ gs)) (as_lines g) h.0.front ∙ ap (with_line (joined (as_lines g))) (lines-held e (i ∷ gs) h.1)
-
--- A line before two lists of lines.
-line_before-append : (o : Outcome) (x : List ℕ) (xs ys : List (List ℕ)) → line_before o x (xs ++ ys) ≡ line_before o x xs ++ ys
-line_before-append ignored x xs ys = refl
-line_before-append o x xs ys = refl
+lines-held e (g ∷ i ∷ gs) h = rw (lines-front e (group_bytes g) (groups_bytes (i ∷ gs)) (as_lines g) h.0.front, lines-held e (i ∷ gs) h.1)
 
 -- The logical lines of two lists of groups.
 pub lines-append : (gs hs : List (List HeldLine)) → logical_lines (as_groups (gs ++ hs)) ≡ logical_lines (as_groups gs) ++ logical_lines (as_groups hs)
 lines-append [] hs = refl
-lines-append (g ∷ gs) hs =
-    ap (with_line (joined (as_lines g))) (lines-append gs hs) ∙ line_before-append (outcome_of (joined (as_lines g))) (joined (as_lines g)) (logical_lines (as_groups gs)) (logical_lines (as_groups hs))
+lines-append (g ∷ gs) hs = grind (arith, lines-append gs hs)
 
 -- A pair has a logical line.
 pub lines-pair : (key : List ℕ) (g : List HeldLine) (xs : List (List ℕ)) → HasKey key g → with_line (joined (as_lines g)) xs ≡ joined (as_lines g) ∷ xs
-lines-pair key g xs h = ap (λ o. line_before o (joined (as_lines g)) xs) (key-outcome key g h).1
-
--- A line that is no pair with the key, before others of which none is.
-none-before : (key : List ℕ) (o : Outcome) (x : List ℕ) (xs : List (List ℕ)) → ¬ (IsPairWith key x) → NoneIsPair key xs → NoneIsPair key (line_before o x xs)
-none-before key ignored x xs n h = h
-none-before key (given content) x xs n h = (n, h)
-none-before key (broken kind) x xs n h = (n, h)
+lines-pair key g xs h = rw (key-outcome key g h).1
 
 -- If no group has the key, no logical line is a pair with it.
 pub none-lines : (key : List ℕ) (gs : List (List HeldLine)) → NoneHasKey key gs → NoneIsPair key (logical_lines (as_groups gs))
 none-lines key [] h = tt
-none-lines key (g ∷ gs) h = none-before key (outcome_of (joined (as_lines g))) (joined (as_lines g)) (logical_lines (as_groups gs)) h.0 (none-lines key gs h.1)
+none-lines key (g ∷ gs) h = grind (arith, none-lines key gs h.1)
 
 -- If the last pair with a key has a value, or gets it, the other logical lines are unchanged.
-pub pair-lines : (before : List (List HeldLine)) (g h : List HeldLine) (after : List (List HeldLine)) (key value : List ℕ)
-    → HasKey key g → NoneHasKey key after → HasPair key value h
-    → AreLinesSet key value (logical_lines (as_groups (before ++ g ∷ after))) (logical_lines (as_groups (before ++ h ∷ after)))
+pub pair-lines : (before : List (List HeldLine)) (g h : List HeldLine) (after : List (List HeldLine)) (key value : List ℕ) → HasKey key g → NoneHasKey key after
+    → HasPair key value h → AreLinesSet key value (logical_lines (as_groups (before ++ g ∷ after))) (logical_lines (as_groups (before ++ h ∷ after)))
 pair-lines before g h after key value k n p = inl (record {
   before = logical_lines (as_groups before);
   line = joined (as_lines g);
   after = logical_lines (as_groups after);
   changed = joined (as_lines h);
-  was = lines-append before (g ∷ after) ∙ ap (λ v. logical_lines (as_groups before) ++ v) (lines-pair key g (logical_lines (as_groups after)) k);
+  was = rw (lines-append, lines-pair key g (logical_lines (as_groups after)) k);
   has_key = k;
   no_later = none-lines key after n;
-  now = lines-append before (h ∷ after) ∙ ap (λ v. logical_lines (as_groups before) ++ v) (lines-pair key h (logical_lines (as_groups after)) (value, p));
+  now = rw (lines-append, lines-pair key h (logical_lines (as_groups after)) (value, p));
   has_value = p;
 })
 
@@ -138,32 +117,23 @@ pair-lines before g h after key value k n p = inl (record {
 -- A group without the key stays.
 kept-lines : (key : List ℕ) (o : Outcome) (x : List ℕ) (xs left : List (List ℕ)) → ¬ (IsPairWith key x) → AreLinesLeft key xs left
     → AreLinesLeft key (line_before o x xs) (line_before o x left)
-kept-lines key ignored x xs left n h = h
-kept-lines key (given content) x xs left n h = inr (n, left, refl, h)
-kept-lines key (broken kind) x xs left n h = inr (n, left, refl, h)
-
--- A group with the key is left out.
-out-lines : (key : List ℕ) (g : List HeldLine) (xs left : List (List ℕ)) → HasKey key g → AreLinesLeft key xs left → AreLinesLeft key (with_line (joined (as_lines g)) xs) left
-out-lines key g xs left k h = subst (λ v. AreLinesLeft key v left) (sym (lines-pair key g xs k)) (inl (k, h))
+kept-lines key o x xs left n h = grind (arith)
 
 -- The logical lines of the groups without the key are what is left of the lines.
 left-lines : (e : Encoding) (key : List ℕ) (gs : List (List HeldLine)) (rest : List ℕ) → AreHeldGroups e gs → IsWithout key gs rest
     → AreLinesLeft key (logical_lines (as_groups gs)) (logical_lines_in e rest)
 left-lines e key [] rest h w = absurd h
-left-lines e key (g ∷ []) rest h (inl w) = rw (w.1, lines-nil e) (out-lines key g [] [] w.0 refl)
+left-lines e key (g ∷ []) rest h (inl w) = rw (w.1, lines-nil e, lines-pair key g [] w.0) (inl (w.0, refl))
 left-lines e key (g ∷ []) rest h (inr w) =
-    let s : logical_lines_in e rest ≡ with_line (joined (as_lines g)) [] = ap (logical_lines_in e) (w.2 ∙ ap (λ v. group_bytes g ++ v) w.3 ∙ append-nil (group_bytes g)) ∙ lines-last e g h in
-    subst (AreLinesLeft key (with_line (joined (as_lines g)) [])) (sym s) (kept-lines key (outcome_of (joined (as_lines g))) (joined (as_lines g)) [] [] w.0 refl)
-left-lines e key (g ∷ i ∷ gs) rest h (inl w) = out-lines key g (logical_lines (as_groups (i ∷ gs))) (logical_lines_in e rest) w.0 (left-lines e key (i ∷ gs) rest h.1 w.1)
+    rw (w.2, w.3, append-nil, lines-last e g h) (kept-lines key (outcome_of (joined (as_lines g))) (joined (as_lines g)) [] [] w.0 refl)
+left-lines e key (g ∷ i ∷ gs) rest h (inl w) = rw (lines-pair key g _ w.0) (inl (w.0, left-lines e key (i ∷ gs) rest h.1 w.1))
 left-lines e key (g ∷ i ∷ gs) rest h (inr w) =
-    let s : logical_lines_in e rest ≡ with_line (joined (as_lines g)) (logical_lines_in e w.1) = ap (logical_lines_in e) w.2 ∙ lines-front e (group_bytes g) w.1 (as_lines g) h.0.front in
-    subst (AreLinesLeft key (with_line (joined (as_lines g)) (logical_lines (as_groups (i ∷ gs))))) (sym s)
-    (kept-lines key (outcome_of (joined (as_lines g))) (joined (as_lines g)) (logical_lines (as_groups (i ∷ gs))) (logical_lines_in e w.1) w.0 (left-lines e key (i ∷ gs) w.1 h.1 w.3))
+    rw (w.2, lines-front e (group_bytes g) w.1 (as_lines g) h.0.front) (search (kept-lines, w.0, left-lines e key (i ∷ gs) w.1 h.1 w.3))
 
 -- A body without the groups with the key has the same logical lines, without the pairs with the key.
 pub removed-lines : (e : Encoding) (source key : List ℕ) (gs : List (List HeldLine)) (rest : List ℕ) → AreHeldGroups e gs → IsWithout key gs rest
     → AreLinesLeft key (logical_lines (as_groups gs)) (logical_lines_in e (guarding_lf source rest ++ rest))
-removed-lines e source key gs rest h w = subst (AreLinesLeft key (logical_lines (as_groups gs))) (sym guarded) (left-lines e key gs rest h w)
-  where
-    guarded : logical_lines_in e (guarding_lf source rest ++ rest) ≡ logical_lines_in e rest
-    guarded = elim (cases_Bool (not (begins_like_bom source) && begins_like_bom rest)) [ inl k ↦ rw k (lines-lf e rest) | inr k ↦ rw k refl ]
+removed-lines e source key gs rest h w = elim (cases_Bool (not (begins_like_bom source) && begins_like_bom rest)) [
+  | inl k ↦ rw (k, lines-lf e rest) (left-lines e key gs rest h w)
+  | inr k ↦ rw k (left-lines e key gs rest h w)
+]

@@ -1,9 +1,10 @@
 -- Groups that are printed pairs, that have one line more, or that are empty lines.
-use Rattle.std.proofs.Common.{◌≡◌, ◌≢◌, ℕ, Bool, List, [], ◌∷◌, ◌++◌, Option, refl, ap, sym, ◌∙◌, inr, append_assoc, append-nil}
+use Rattle.std.proofs.Common.{◌≡◌, ◌≢◌, ℕ, Bool, List, [], ◌∷◌, ◌++◌, Option, refl, sym, inr, append_assoc, append-nil}
 use Rattle.properties_format.specs.Text.{LineEnding}
 use Rattle.properties_format.specs.Encoding.{Encoding}
+use Rattle.properties_format.specs.Repertoire.{Repertoire}
 use Rattle.properties_format.specs.Groups.{IsWhole}
-use Rattle.properties_format.specs.Body.{HeldLine, as_lines, ending_bytes, group_bytes}
+use Rattle.properties_format.specs.Body.{HeldLine, as_lines, group_bytes}
 use Rattle.properties_format.specs.Edited.{pair_bytes}
 use Rattle.properties_format.specs.Computed.Parts.{unended_bytes}
 use Rattle.properties_format.proofs.Body.Decoded.{decoded-nil}
@@ -11,8 +12,8 @@ use Rattle.properties_format.proofs.Edited.ByteOrderMarks.{pair-ascii}
 use Rattle.properties_format.proofs.InTurn.Lines.{AreLinesBy}
 
 -- A printed pair has bytes.
-pub pair-some : (e : Encoding) (only : Bool) (first : Bool) (key value : List ℕ) → pair_bytes e only first key value ≢ []
-pair-some e only first key value = let a = pair-ascii e only first key value in some (pair_bytes e only first key value) a.0 a.1 a.2 a.3
+pub pair-some : (r : Repertoire) (first : Bool) (key value : List ℕ) → pair_bytes r first key value ≢ []
+pair-some r first key value = let a = pair-ascii r first key value in some (pair_bytes r first key value) a.0 a.1 a.2 a.3
   where
     some : (x u : List ℕ) (c : ℕ) (v : List ℕ) → x ≡ u ++ c ∷ v → x ≢ []
     some x [] c v s q = cc
@@ -21,7 +22,7 @@ pair-some e only first key value = let a = pair-ascii e only first key value in 
 -- the bytes up to the last ending are those of the lines that are kept and of that line
 pub unended-kept : (kept : List HeldLine) (l : HeldLine) → unended_bytes (kept ++ l ∷ []) ≡ group_bytes kept ++ l.bytes
 unended-kept [] l = refl
-unended-kept (h ∷ []) l = ap (λ v. h.bytes ++ (v ++ l.bytes)) (sym (append-nil (ending_bytes h.ending))) ∙ sym (append_assoc h.bytes (ending_bytes h.ending ++ []) l.bytes)
+unended-kept (h ∷ []) l = simp (append_assoc, append-nil)
 unended-kept (h ∷ i ∷ kept) l = simp (append_assoc, unended-kept (i ∷ kept) l)
 
 -- an empty line, as a group

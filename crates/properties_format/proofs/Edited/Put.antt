@@ -1,9 +1,10 @@
 -- The groups of a body in which a key was set, and what they say.
-use Rattle.std.proofs.Common.{◌≡◌, ℕ, true, List, [], ◌∷◌, ◌++◌, All, Option, Some, None, refl, ap, sym, ◌∙◌, subst, Bool}
+use Rattle.std.proofs.Common.{◌≡◌, ℕ, true, List, [], ◌∷◌, ◌++◌, All, Option, Some, None, refl, ap, sym, ◌∙◌, subst}
 use Rattle.std.specs.Prelude.{if◌then◌else◌}
 use Rattle.std.proofs.lemmas.Bool.{cond-true}
 use Rattle.properties_format.specs.Text.{scalar, LineEnding, lf, cr, line_ending_text, is_empty}
 use Rattle.properties_format.specs.Encoding.{Encoding, byte_order_mark}
+use Rattle.properties_format.specs.Repertoire.{Repertoire, in_encoding}
 use Rattle.properties_format.specs.Computed.Lines.{ends_in_cr}
 use Rattle.properties_format.specs.Computed.Cut.{decoded_line}
 use Rattle.properties_format.specs.Groups.{IsWhole, joined}
@@ -33,41 +34,41 @@ use Rattle.properties_format.proofs.Valued.Added.{empty_line}
 use Rattle.properties_format.proofs.Valued.Lined.{groups-lined}
 
 -- Where a pair is appended, closed groups, its group and an empty last line are the groups.
-pub record IsPutLast (e : Encoding) (only : Bool) (source key value : List ℕ) (gs : List (List HeldLine)) : Type 0 where
+pub record IsPutLast (r : Repertoire) (source key value : List ℕ) (gs : List (List HeldLine)) : Type 0 where
   pub closed : List (List HeldLine)
   pub group : List HeldLine
-  pub is_groups : closed ++ group ∷ (empty_line e None ∷ []) ∷ [] ≡ held_groups_of e (set_at e only source gs key value None)
+  pub is_groups : closed ++ group ∷ (empty_line r.encoding None ∷ []) ∷ [] ≡ held_groups_of r.encoding (set_at r source gs key value None)
   pub has_pair : HasPair key value group
   pub ending : last_ending group ≡ Some lf
   pub bytes : groups_bytes closed ≡ groups_bytes gs ++ separation source (final_group gs)
   pub lines_set : NoneIsPair key (logical_lines (as_groups gs))
-      → AreLinesSet key value (logical_lines (as_groups gs)) (logical_lines (as_groups (held_groups_of e (set_at e only source gs key value None))))
+      → AreLinesSet key value (logical_lines (as_groups gs)) (logical_lines (as_groups (held_groups_of r.encoding (set_at r source gs key value None))))
 
-module _ (e : Encoding) (only : Bool) (source key value body : List ℕ) (ok : is_editable e ≡ true) (k : All scalar key)
+module _ (t : Repertoire) (source key value body : List ℕ) (ok : is_editable t.encoding ≡ true) (k : All scalar key)
     (v : All scalar value) (ends : ends_in_cr body ≡ true → ends_in_cr source ≡ true) where
   -- The groups of the body are closed, and the pair comes after them.
-  pub put-last : IsPutLast e only source key value (held_groups_of e body)
+  pub put-last : IsPutLast t source key value (held_groups_of t.encoding body)
   put-last =
-      let all = held_groups_of e body in
-      let lined = groups-lined e body all ok (held_groups_of-meets e body) in
-      let bytes : groups_bytes all ≡ body = held-body e body all ok (held_groups_of-meets e body) in
+      let all = held_groups_of t.encoding body in
+      let lined = groups-lined t.encoding body all ok (held_groups_of-meets t.encoding body) in
+      let bytes : groups_bytes all ≡ body = held-body t.encoding body all ok (held_groups_of-meets t.encoding body) in
       let by : LineEnding = if ends_in_cr source then cr else lf in
-      let seam = put-seam e all lined by (λ q. cond-true (ends_in_cr source) cr lf (ends (ap ends_in_cr (sym bytes) ∙ q))) in
-      let c = closed-by e by all lined seam in
+      let seam = put-seam t.encoding all lined by (λ q. cond-true (ends_in_cr source) cr lf (ends (ap ends_in_cr (sym bytes) ∙ q))) in
+      let c = closed-by t.encoding by all lined seam in
       let final : final_group all ≡ c.final = ap final_group c.division ∙ final_group-push c.before c.final in
       let front = groups_bytes all ++ separation source (final_group all) in
       let first = is_empty front in
-      let pb = pair_bytes e only first key value in
-      let text : pair_text e only first key value ≡ decoded_line e pb = sym (pair-decoded e only first key value ok k v) in
-      let whole : IsWhole (record { number = 0; text = decoded_line e pb } ∷ []) =
-      subst (λ w. IsWhole (record { number = 0; text = w } ∷ [])) text (pair-whole e only first key value k v) in
-      let said : outcome_of (joined (record { number = 0; text = decoded_line e pb } ∷ [])) ≡ given (pair key value) =
-      ap (λ w. outcome_of (joined (record { number = 0; text = w } ∷ []))) (sym text) ∙ pair-outcome e only first key value k v in
-      let plain = pair-plain e only first key value ok k v in
-      let some = pair-some e only first key value in
-      let own : List HeldLine = line e by lf all key value pb ok c plain some whole said ∷ [] in
+      let pb = pair_bytes t first key value in
+      let text : pair_text t first key value ≡ decoded_line t.encoding pb = sym (pair-decoded t first key value ok k v) in
+      let whole : IsWhole (record { number = 0; text = decoded_line t.encoding pb } ∷ []) =
+      subst (λ w. IsWhole (record { number = 0; text = w } ∷ [])) text (pair-whole t first key value k v) in
+      let said : outcome_of (joined (record { number = 0; text = decoded_line t.encoding pb } ∷ [])) ≡ given (pair key value) =
+      ap (λ w. outcome_of (joined (record { number = 0; text = w } ∷ []))) (sym text) ∙ pair-outcome t first key value k v in
+      let plain = pair-plain t first key value ok k v in
+      let some = pair-some t first key value in
+      let own : List HeldLine = line t.encoding by lf all key value pb ok c plain some whole said ∷ [] in
       let groups =
-      appended-held e by lf all key value pb ok c plain some whole said (set_at e only source all key value None)
+      appended-held t.encoding by lf all key value pb ok c plain some whole said (set_at t source all key value None)
       (ap (λ g. (groups_bytes all ++ separation source g) ++ (pb ++ line_ending_text lf)) final) in
       record {
         closed = c.before ++ c.left;
@@ -78,28 +79,25 @@ module _ (e : Encoding) (only : Bool) (source key value body : List ℕ) (ok : i
         bytes = c.bytes ∙ ap (λ g. groups_bytes all ++ separation source g) (sym final);
         lines_set = λ n.
             subst (λ w. AreLinesSet key value (logical_lines (as_groups all)) (logical_lines (as_groups w))) groups
-            (appended-lines e by lf all key value pb ok c plain some whole said n);
+            (appended-lines t.encoding by lf all key value pb ok c plain some whole said n);
       }
 
   -- The other logical lines are unchanged.
-  pub put-lines : (p : Option KeyPlace) → made.IsPlace key (held_groups_of e body) p
-      → AreLinesSet key value (logical_lines (as_groups (held_groups_of e body))) (logical_lines (as_groups (held_groups_of e (set_at e only source (held_groups_of e body) key value p))))
+  pub put-lines : (p : Option KeyPlace) → made.IsPlace key (held_groups_of t.encoding body) p
+      → let lines_of = λ (d : List ℕ). logical_lines (as_groups (held_groups_of t.encoding d)) in
+      AreLinesSet key value (lines_of body) (lines_of (set_at t source (held_groups_of t.encoding body) key value p))
   put-lines (Some p) m =
-      let r = reput-of e only source body key value p.before p.group p.after ok k v m.has m.division in
-      subst (λ w. AreLinesSet key value (logical_lines (as_groups (held_groups_of e body))) (logical_lines (as_groups w))) r.is_groups
-      (subst (λ w. AreLinesSet key value (logical_lines (as_groups w)) (logical_lines (as_groups (p.before ++ r.group ∷ p.after)))) (sym m.division)
-      (pair-lines p.before p.group r.group p.after key value m.has m.no_later r.has_pair))
-  put-lines None m = put-last.lines_set (none-lines key (held_groups_of e body) m)
+      let r = reput-of t source body key value p.before p.group p.after ok k v m.has m.division in
+      rw (← r.is_groups, m.division) (pair-lines p.before p.group r.group p.after key value m.has m.no_later r.has_pair)
+  put-lines None m = put-last.lines_set (none-lines key (held_groups_of t.encoding body) m)
 
 -- A CR at the end of the body is at the end of the source.
 pub ends-alike : (e : Encoding) (source : List ℕ) → ends_in_cr (byte_order_mark e source).body ≡ true → ends_in_cr source ≡ true
 ends-alike e source q = ap ends_in_cr (source-whole e source) ∙ ends-right (bom_of source) (byte_order_mark e source).body q
 
 -- After a key is set, the same encoding is in force, with the computed body.
-pub put-in_force : (e : Encoding) (only : Bool) (source key value : List ℕ) → is_editable (byte_order_mark e source).encoding ≡ true
-    → (let f = byte_order_mark e source in let gs = held_groups_of f.encoding f.body in
-    byte_order_mark e (key_set e only source key value)
-    ≡ record { encoding = f.encoding; body = set_at f.encoding only source gs key value (last_place key gs) })
-put-in_force e only source key value ok =
-    key_set-in_force e only source key value (key_set e only source key value) ok (key_set-meets e only source key value)
-    ∙ ap (λ b. record { encoding = (byte_order_mark e source).encoding; body = b }) (key_set-body e only source key value)
+pub put-in_force : (r : Repertoire) (source key value : List ℕ) → is_editable (byte_order_mark r.encoding source).encoding ≡ true
+    → (let f = byte_order_mark r.encoding source in let gs = held_groups_of f.encoding f.body in
+    byte_order_mark r.encoding (key_set r source key value)
+    ≡ record { encoding = f.encoding; body = set_at (in_encoding r f.encoding) source gs key value (last_place key gs) })
+put-in_force r source key value ok = rw (key_set-in_force r source key value (key_set r source key value) ok (key_set-meets r source key value), key_set-body)

@@ -1,7 +1,6 @@
 -- The groups of a body, and an edit of them, after the next line and after the next group.
-use Rattle.std.proofs.Common.{◌≡◌, ℕ, false, List, [], ◌∷◌, ◌++◌, refl, ap, ◌∙◌, append_assoc, ◌+◌, length-append, arith}
+use Rattle.std.proofs.Common.{◌≡◌, ℕ, false, List, [], ◌∷◌, ◌++◌, refl, ap, append_assoc, ◌+◌, length-append, arith}
 use Rattle.std.specs.Prelude.{◌&&◌, not, length, Option, Some, None}
-use Rattle.std.proofs.lemmas.Bool.{cond-false}
 use Rattle.properties_format.specs.Text.{LineEnding, cr}
 use Rattle.properties_format.specs.Encoding.{Encoding, IsAligned}
 use Rattle.properties_format.specs.Lines.{Lines}
@@ -12,7 +11,7 @@ use Rattle.properties_format.specs.Groups.{is_open, is_comment_line}
 use Rattle.properties_format.specs.Body.{HeldLine, HasKey, held_in, last_ending}
 use Rattle.properties_format.specs.Edited.{final_group, is_last_open, is_left_open, is_empty_line}
 use Rattle.properties_format.specs.Computed.Body.{held_of, held_lines_of, has_key, entries_in}
-use Rattle.properties_format.specs.Computed.Edited.{KeyPlace, place_after, last_place, without, AreSound, result_by}
+use Rattle.properties_format.specs.Computed.Edited.{KeyPlace, last_place, without, AreSound, result_by}
 use Rattle.properties_format.proofs.Cut.Steps.{cut_of-line}
 use Rattle.properties_format.proofs.Cut.Only.{cut_of-plain}
 use Rattle.properties_format.proofs.Edited.Made.{last_place-some}
@@ -37,11 +36,6 @@ abbrev pub with_after : List HeldLine → Option KeyPlace → Option KeyPlace
 with_after g None = None
 with_after g (Some p) = Some record { before = p.before; group = p.group; after = p.after ++ g ∷ [] }
 
--- Adding a group at the front and one at the end commutes.
-with_after-front : (key : List ℕ) (f g : List HeldLine) (gs : List (List HeldLine)) (o : Option KeyPlace)
-    → place_after key f (gs ++ g ∷ []) (with_after g o) ≡ with_after g (place_after key f gs o)
-with_after-front key f g gs o = grind (arith)
-
 -- A group with the key is the new last place with it.
 pub last_place-new : (key : List ℕ) (gs : List (List HeldLine)) (g : List HeldLine) → HasKey key g
     → last_place key (gs ++ g ∷ []) ≡ Some (record { before = gs; group = g; after = [] })
@@ -50,8 +44,8 @@ last_place-new key gs g h = last_place-some key gs g [] h tt
 -- Any other group leaves the last place unchanged.
 pub last_place-other : (key : List ℕ) (gs : List (List HeldLine)) (g : List HeldLine) → has_key key g ≡ false
     → last_place key (gs ++ g ∷ []) ≡ with_after g (last_place key gs)
-last_place-other key [] g h = cond-false (has_key key g) (Some (record { before = []; group = g; after = [] })) None h
-last_place-other key (f ∷ gs) g h = ap (place_after key f (gs ++ g ∷ [])) (last_place-other key gs g h) ∙ with_after-front key f g gs (last_place key gs)
+last_place-other key [] g h = rw h
+last_place-other key (f ∷ gs) g h = grind (arith, last_place-other key gs g h)
 
 -- What is left of two lists of groups.
 pub without-append : (key : List ℕ) (gs hs : List (List HeldLine)) → without key (gs ++ hs) ≡ without key gs ++ without key hs
@@ -90,5 +84,4 @@ is_empty_line-push i (j ∷ g) h = refl
 pub result-after : (n : ℕ) (gs hs : List (List HeldLine)) (made : List ℕ) → AreSound gs
     → result_by (entries_in n (gs ++ hs)) made ≡ result_by (entries_in (n + length (held_in gs)) hs) made
 result-after n [] hs made h = let same : n ≡ n + 0 = omega arith in ap (λ m. result_by (entries_in m hs) made) same
-result-after n (g ∷ gs) hs made h =
-    grind (arith, length-append, result-after (n + length g) gs hs made h.1)
+result-after n (g ∷ gs) hs made h = grind (arith, length-append, result-after (n + length g) gs hs made h.1)

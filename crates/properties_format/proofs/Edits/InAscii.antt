@@ -1,18 +1,17 @@
 -- With ASCII-only output on, an edit puts in no non-ASCII byte.
-use Rattle.std.proofs.Common.{◌≡◌, ℕ, true, cond, List, [], ◌∷◌, ◌++◌, refl, ap, sym, ◌∙◌, inl, inr, append_assoc, append-nil, not, ◌&&◌, if◌then◌else◌, lit<, lt-ltb, ltb-true, subst}
-use Rattle.std.specs.Prelude.{nat_lt, Option, Some, None}
-use Rattle.std.proofs.lemmas.Bool.{cases_Bool, cond_both}
-use Rattle.properties_format.specs.Text.{LineEnding, lf, cr, line_feed, is_empty}
+use Rattle.std.proofs.Common.{◌≡◌, ◌⊎◌, ℕ, true, cond, List, [], ◌∷◌, ◌++◌, refl, ap, sym, ◌∙◌, inl, inr, append_assoc, append-nil, not, ◌&&◌, lit<, lt-ltb, subst, arith}
+use Rattle.std.specs.Prelude.{Option}
+use Rattle.std.proofs.lemmas.Bool.{cond_both}
+use Rattle.properties_format.specs.Text.{LineEnding, lf, line_feed}
 use Rattle.properties_format.specs.Encoding.{Encoding, windows_1252, utf_8, byte_order_mark, begins_like_bom, characters}
-use Rattle.properties_format.specs.Lines.{end, ends_in_cr}
-use Rattle.properties_format.specs.Computed.Lines.{lines_of}
-use Rattle.properties_format.specs.Items.{IsItems}
+use Rattle.properties_format.specs.Repertoire.{ascii_in}
+use Rattle.properties_format.specs.Lines.{end}
 use Rattle.properties_format.specs.Computed.Encoding.{pieces_of, decoded_of}
-use Rattle.properties_format.specs.Computed.Items.{items_of, items_of_lines}
+use Rattle.properties_format.specs.Computed.Items.{items_of}
 use Rattle.properties_format.specs.Printing.{encoded_text}
 use Rattle.properties_format.specs.Body.{HeldLine, AreGroupsOf, held_in, ending_bytes, group_bytes, groups_bytes, last_ending}
-use Rattle.properties_format.specs.Edited.{pair_bytes, final_group, is_empty_line, is_left_open, added_ending, separation, bom_of, IsReplaced, IsAppended, IsKeySet, IsWithout, guarding_lf, IsKeyRemoved, is_editable, edited, IsSetKeyResult, IsRemoveKeyResult}
-use Rattle.properties_format.specs.Valued.{value_text, IsRevalued, ending_among, ending_in, separation_by, new_pair_bytes, IsAdded, IsBodyValued, IsValueSet, IsSetValueResult}
+use Rattle.properties_format.specs.Edited.{is_empty_line, is_left_open, bom_of, IsReplaced, IsAppended, IsKeySet, IsWithout, guarding_lf, IsKeyRemoved, is_editable, edited, IsSetKeyResult}
+use Rattle.properties_format.specs.Valued.{ending_among, ending_in, separation_by, IsBodyValued, IsValueSet, IsSetValueResult}
 use Rattle.properties_format.specs.Edits.{Edit, put, remove, set_value, IsEdited, AreEdited, IsEditAllResult}
 use Rattle.properties_format.specs.EditedPairs.{IsEditPairsResult}
 use Rattle.properties_format.specs.AsciiOnly.{AreAsciiBytes, AreItemsInBoth, beyond_ascii, IsSubsequence, PutsInAscii, IsInAscii}
@@ -63,23 +62,17 @@ sub-trans a b (z ∷ c) h (inr k) =
 -- Those of bytes and of others after them.
 beyond-append : (x y : List ℕ) → beyond_ascii (x ++ y) ≡ beyond_ascii x ++ beyond_ascii y
 beyond-append [] y = refl
-beyond-append (b ∷ x) y = elim (cases_Bool (nat_lt b 0x80)) [
-  | inl k ↦ rw k (beyond-append x y)
-  | inr k ↦ rw k (ap (λ v. b ∷ v) (beyond-append x y))
-]
+beyond-append (b ∷ x) y = grind (arith, beyond-append x y)
 
 -- ASCII bytes have none.
 beyond-ascii : (x : List ℕ) → AreAscii x → beyond_ascii x ≡ []
 beyond-ascii [] h = refl
-beyond-ascii (b ∷ x) h = let k : nat_lt b 0x80 ≡ true = lt-ltb b 0x80 h.0 in rw k (beyond-ascii x h.1)
+beyond-ascii (b ∷ x) h = rw (lt-ltb b 0x80 h.0) (beyond-ascii x h.1)
 
 -- Bytes that have none are ASCII.
 ascii-beyond : (x : List ℕ) → beyond_ascii x ≡ [] → AreAscii x
 ascii-beyond [] h = tt
-ascii-beyond (b ∷ x) h = elim (cases_Bool (nat_lt b 0x80)) [
-  | inl k ↦ (ltb-true b 0x80 k, ascii-beyond x (rw k at h))
-  | inr k ↦ let m : b ∷ beyond_ascii x ≡ [] = rw k at h in absurd (cc)
-]
+ascii-beyond (b ∷ x) h = grind (arith, ascii-beyond x)
 
 -- ---- what is put in
 
@@ -89,21 +82,15 @@ puts-nothing x = sub-all (beyond_ascii x)
 
 -- ASCII bytes replace any.
 pub puts-ascii : (x y : List ℕ) → AreAscii y → PutsInAscii x y
-puts-ascii x y h = subst (λ v. IsSubsequence v (beyond_ascii x)) (sym (beyond-ascii y h)) (sub-none (beyond_ascii x))
+puts-ascii x y h = rw (beyond-ascii y h) (sub-none (beyond_ascii x))
 
 -- Two parts, one after the other.
 pub puts-join : (a b c d : List ℕ) → PutsInAscii a b → PutsInAscii c d → PutsInAscii (a ++ c) (b ++ d)
-puts-join a b c d h k =
-    subst (λ v. IsSubsequence v (beyond_ascii (a ++ c))) (sym (beyond-append b d))
-    (subst (IsSubsequence (beyond_ascii b ++ beyond_ascii d)) (sym (beyond-append a c)) (sub-join (beyond_ascii b) (beyond_ascii a) (beyond_ascii d) (beyond_ascii c) h k))
+puts-join a b c d h k = rw (beyond-append b d, beyond-append a c) (sub-join (beyond_ascii b) (beyond_ascii a) (beyond_ascii d) (beyond_ascii c) h k)
 
 -- Two edits, one after the other.
 pub puts-trans : (a b c : List ℕ) → PutsInAscii a b → PutsInAscii b c → PutsInAscii a c
 puts-trans a b c h k = sub-trans (beyond_ascii c) (beyond_ascii b) (beyond_ascii a) k h
-
--- Bytes are left out at the front.
-puts-out : (a b c : List ℕ) → PutsInAscii b c → PutsInAscii (a ++ b) c
-puts-out a b c h = puts-join a [] b c (puts-ascii a [] tt) h
 
 -- ASCII bytes are put in at the front.
 puts-in : (a b c : List ℕ) → AreAscii a → PutsInAscii b c → PutsInAscii b (a ++ c)
@@ -115,8 +102,7 @@ puts-after a b c h = puts-join a a b c (puts-nothing a) h
 
 -- A line ending is ASCII, if there is one.
 ending-ascii : (o : Option LineEnding) → AreAscii (ending_bytes o)
-ending-ascii None = tt
-ending-ascii (Some by) = line_end-ascii by
+ending-ascii o = grind (arith)
 
 -- ---- an edit of a body
 
@@ -126,24 +112,16 @@ whole-puts : (e : Encoding) (source body result : List ℕ) (gs : List (List Hel
     → PutsInAscii source result
 whole-puts e source body result gs ok h k s =
     let f = byte_order_mark e source in
-    let old : source ≡ bom_of source ++ groups_bytes gs = source-whole e source ∙ ap (λ v. bom_of source ++ v) (sym (held-body f.encoding f.body gs ok h)) in
-    subst (PutsInAscii source) (sym s) (subst (λ v. PutsInAscii v (bom_of source ++ body)) (sym old) (puts-after (bom_of source) (groups_bytes gs) body k))
+    let old = rw (← held-body f.encoding f.body gs ok h) at (source-whole e source) in
+    rw s (subst (λ v. PutsInAscii v (bom_of source ++ body)) (sym old) (puts-after (bom_of source) (groups_bytes gs) body k))
 
--- A pair is replaced.
-replaced-puts : (e : Encoding) (gs : List (List HeldLine)) (key value body : List ℕ) → IsReplaced e true gs key value body → PutsInAscii (groups_bytes gs) body
-replaced-puts e gs key value body r =
-    let pair = pair_bytes e true (is_empty (groups_bytes r.before)) key value in
-    let after = groups_bytes r.after in
-    let old : groups_bytes gs ≡ groups_bytes r.before ++ (group_bytes r.group ++ after) = ap groups_bytes r.division ∙ groups_bytes-append r.before (r.group ∷ r.after) in
-    rw (old, r.bytes)
-    (puts-after (groups_bytes r.before) _ _
-    (puts-join (group_bytes r.group) pair after _ (puts-ascii (group_bytes r.group) pair (pair_bytes-ascii e (is_empty (groups_bytes r.before)) key value))
-    (puts-in (ending_bytes (last_ending r.group)) after after (ending-ascii (last_ending r.group)) (puts-nothing after))))
+-- ASCII bytes replace some, and the group's line ending stays before what is after it.
+puts-tail : (x y : List ℕ) (g : List HeldLine) (after : List ℕ) → AreAscii y → PutsInAscii (x ++ after) (y ++ (ending_bytes (last_ending g) ++ after))
+puts-tail x y g after h = puts-join x y after _ (puts-ascii x y h) (puts-in _ after after (ending-ascii (last_ending g)) (puts-nothing after))
 
--- The body and ASCII bytes after it.
-more-puts : (x more body : List ℕ) → AreAscii more → body ≡ x ++ more → PutsInAscii x body
-more-puts x more body h s =
-    subst (λ v. PutsInAscii v body) (append-nil x) (subst (PutsInAscii (x ++ [])) (sym s) (puts-after x [] more (puts-ascii [] more h)))
+-- The body stays, and ASCII bytes come after it.
+more-puts : (x more : List ℕ) → AreAscii more → PutsInAscii x (x ++ more)
+more-puts x more h = rw append-nil at (puts-after x [] more (puts-ascii [] more h))
 
 -- What separates a pair from the last group is ASCII, if the line ending is.
 separation_by-ascii : (ending : List ℕ) (g : List HeldLine) → AreAscii ending → AreAscii (separation_by ending g)
@@ -151,111 +129,74 @@ separation_by-ascii ending g one =
     cond_both (is_empty_line g) [] (cond (is_left_open g) (ending ++ ending) ending) AreAscii (λ k. tt)
     (λ k. cond_both (is_left_open g) (ending ++ ending) ending AreAscii (λ m. AreAscii-append ending ending one one) (λ m. one))
 
--- A pair is appended.
-appended-puts : (e : Encoding) (source : List ℕ) (gs : List (List HeldLine)) (key value body : List ℕ) → IsAppended e true source gs key value body
-    → PutsInAscii (groups_bytes gs) body
-appended-puts e source gs key value body r =
-    let parting = separation source (final_group gs) in
-    let front = groups_bytes gs ++ parting in
-    let pair = pair_bytes e true (is_empty front) key value ++ line_feed ∷ [] in
-    more-puts (groups_bytes gs) (parting ++ pair) body
-    (AreAscii-append parting pair (separation_by-ascii (added_ending source) (final_group gs) (line_end-ascii (if ends_in_cr source then cr else lf)))
-    (AreAscii-append (pair_bytes e true (is_empty front) key value) (line_feed ∷ []) (pair_bytes-ascii e (is_empty front) key value) (lit< tt, tt)))
-    (r.bytes ∙ append_assoc (groups_bytes gs) parting pair)
-
--- A pair gets another value.
-revalued-puts : (e : Encoding) (gs : List (List HeldLine)) (key value body : List ℕ) → IsRevalued e true gs key value body → PutsInAscii (groups_bytes gs) body
-revalued-puts e gs key value body r =
-    let f = r.is_front in
-    let x = f.tail ++ (ending_bytes f.line.ending ++ group_bytes f.more) in
-    let new = encoded_text e (value_text e true r.between value) in
-    let after = groups_bytes r.after in
-    let old : groups_bytes gs ≡ groups_bytes r.before ++ (r.front ++ (x ++ after)) =
-    ap groups_bytes r.division
-    ∙ groups_bytes-append r.before (r.group ∷ r.after)
-    ∙ ap (λ v. groups_bytes r.before ++ v) (ap (λ v. v ++ after) (front-bytes e r.group r.between r.front f) ∙ append_assoc r.front x after) in
-    rw (old, r.bytes)
-    (puts-after (groups_bytes r.before) _ _
-    (puts-after r.front _ _
-    (puts-join x new after _ (puts-ascii x new (encoded-in_ascii e (value_text e true r.between value) (value_text-ascii e r.between value)))
-    (puts-in (ending_bytes (last_ending r.group)) after after (ending-ascii (last_ending r.group)) (puts-nothing after)))))
-
--- A new pair is added.
-added-puts : (e : Encoding) (gs : List (List HeldLine)) (key value body : List ℕ) → IsAdded e true gs key value body → PutsInAscii (groups_bytes gs) body
-added-puts e gs key value body r =
-    let ending = ending_in gs in
-    let one : AreAscii ending = line_end-ascii (ending_among lf (held_in gs)) in
-    let parting = separation_by ending (final_group gs) in
-    let pair = new_pair_bytes e true (groups_bytes gs ++ parting) key r.separator value ending in
-    more-puts (groups_bytes gs) (parting ++ pair) body
-    (AreAscii-append parting pair (separation_by-ascii ending (final_group gs) one)
-    (new_pair_bytes-ascii e (groups_bytes gs ++ parting) key r.separator value ending (new_separator-fit gs key r.separator r.is_separator).good one))
-    (r.bytes ∙ append_assoc (groups_bytes gs) parting pair)
-
 -- A value is set.
-valued-puts : (e : Encoding) (gs : List (List HeldLine)) (key value body : List ℕ) → IsBodyValued e true gs key value body → PutsInAscii (groups_bytes gs) body
-valued-puts e gs key value body (inl r) = subst (PutsInAscii (groups_bytes gs)) (sym r.bytes) (puts-nothing (groups_bytes gs))
-valued-puts e gs key value body (inr (inl r)) = revalued-puts e gs key value body r
-valued-puts e gs key value body (inr (inr r)) = added-puts e gs key value body r
+valued-puts : (e : Encoding) (gs : List (List HeldLine)) (key value body : List ℕ) → IsBodyValued (ascii_in e) gs key value body
+    → PutsInAscii (groups_bytes gs) body
+valued-puts e gs key value body (inl r) = rw r.bytes (puts-nothing (groups_bytes gs))
+valued-puts e gs key value body (inr (inl r)) =
+    rw (r.division, groups_bytes-append r.before (r.group ∷ r.after), r.bytes, front-bytes e r.group r.between r.front r.is_front, append_assoc r.front)
+    (puts-after (groups_bytes r.before) _ _ (puts-after r.front _ _ (search (puts-tail, encoded-in_ascii, value_text-ascii))))
+valued-puts e gs key value body (inr (inr r)) =
+    let one : AreAscii (ending_in gs) = line_end-ascii (ending_among lf (held_in gs)) in
+    rw (r.bytes, append_assoc)
+    (more-puts (groups_bytes gs) _ (search (AreAscii-append, separation_by-ascii, new_pair_bytes-ascii, one, (new_separator-fit gs key r.separator r.is_separator).good)))
 
 -- Groups are left out.
 without-puts : (key : List ℕ) (gs : List (List HeldLine)) (rest : List ℕ) → IsWithout key gs rest → PutsInAscii (groups_bytes gs) rest
-without-puts key [] rest h = subst (PutsInAscii []) (sym h) (puts-nothing [])
-without-puts key (g ∷ gs) rest (inl h) = puts-out (group_bytes g) (groups_bytes gs) rest (without-puts key gs rest h.1)
-without-puts key (g ∷ gs) rest (inr h) =
-    subst (PutsInAscii (group_bytes g ++ groups_bytes gs)) (sym h.2) (puts-after (group_bytes g) (groups_bytes gs) h.1 (without-puts key gs h.1 h.3))
+without-puts key [] rest h = rw h (puts-nothing [])
+without-puts key (g ∷ gs) rest (inl h) = puts-join (group_bytes g) [] (groups_bytes gs) rest (puts-ascii (group_bytes g) [] tt) (without-puts key gs rest h.1)
+without-puts key (g ∷ gs) rest (inr h) = rw h.2 (puts-after (group_bytes g) (groups_bytes gs) h.1 (without-puts key gs h.1 h.3))
 
 -- ---- an edit of a source
 
--- A key that is set puts in ASCII only.
-pub key_set-puts : (e : Encoding) (source key value result : List ℕ) → is_editable (byte_order_mark e source).encoding ≡ true → IsKeySet e true source key value result
-    → PutsInAscii source result
-key_set-puts e source key value result ok h =
-    let f = byte_order_mark e source in
-    whole-puts e source h.body result h.groups ok h.held
-    (elim h.edited [
-      | inl r ↦ replaced-puts f.encoding h.groups key value h.body r
-      | inr r ↦ appended-puts f.encoding source h.groups key value h.body r
-    ])
-    h.whole
+module _ (e : Encoding) (source : List ℕ) (ok : is_editable (byte_order_mark e source).encoding ≡ true) where
+  -- A key that is set puts in ASCII only.
+  pub key_set-puts : (key value result : List ℕ) → IsKeySet (ascii_in e) source key value result → PutsInAscii source result
+  key_set-puts key value result h = whole-puts e source h.body result h.groups ok h.held (set-puts h.edited) h.whole
+    where
+      f : Encoding
+      f = (byte_order_mark e source).encoding
 
--- A key that is removed puts in an LF at most.
-pub key_removed-puts : (e : Encoding) (source key result : List ℕ) → is_editable (byte_order_mark e source).encoding ≡ true → IsKeyRemoved e source key result
-    → PutsInAscii source result
-key_removed-puts e source key result ok h =
-    whole-puts e source (guarding_lf source h.rest ++ h.rest) result h.groups ok h.held
-    (puts-in (guarding_lf source h.rest) (groups_bytes h.groups) h.rest
-    (cond_both (not (begins_like_bom source) && begins_like_bom h.rest) (line_feed ∷ []) [] AreAscii (λ k. (lit< tt, tt)) (λ k. tt))
-    (without-puts key h.groups h.rest h.without))
-    h.whole
+      set-puts : IsReplaced (ascii_in f) h.groups key value h.body ⊎ IsAppended (ascii_in f) source h.groups key value h.body
+          → PutsInAscii (groups_bytes h.groups) h.body
+      set-puts (inl r) =
+          rw (r.division, groups_bytes-append r.before _, r.bytes) (puts-after (groups_bytes r.before) _ _ (search (puts-tail, pair_bytes-ascii)))
+      set-puts (inr r) =
+          rw (r.bytes, append_assoc)
+          (more-puts (groups_bytes h.groups) _ (search (AreAscii-append, separation_by-ascii, line_end-ascii, line_end-ascii lf, pair_bytes-ascii)))
 
--- A value that is set puts in ASCII only.
-pub value_set-puts : (e : Encoding) (source key value result : List ℕ) → is_editable (byte_order_mark e source).encoding ≡ true → IsValueSet e true source key value result
-    → PutsInAscii source result
-value_set-puts e source key value result ok h =
-    whole-puts e source h.body result h.groups ok h.held (valued-puts (byte_order_mark e source).encoding h.groups key value h.body h.edited) h.whole
+  -- A key that is removed puts in an LF at most.
+  pub key_removed-puts : (key result : List ℕ) → IsKeyRemoved e source key result → PutsInAscii source result
+  key_removed-puts key result h =
+      whole-puts e source (guarding_lf source h.rest ++ h.rest) result h.groups ok h.held
+      (puts-in (guarding_lf source h.rest) (groups_bytes h.groups) h.rest
+      (cond_both (not (begins_like_bom source) && begins_like_bom h.rest) (line_feed ∷ []) [] AreAscii (λ k. (lit< tt, tt)) (λ k. tt))
+      (without-puts key h.groups h.rest h.without))
+      h.whole
 
--- So does each edit,
-pub edit-puts : (e : Encoding) (source : List ℕ) (edit : Edit) (result : List ℕ) → is_editable (byte_order_mark e source).encoding ≡ true → IsEdited e true source edit result
-    → PutsInAscii source result
-edit-puts e source (put key value) result ok h = key_set-puts e source key value result ok h
-edit-puts e source (remove key) result ok h = key_removed-puts e source key result ok h
-edit-puts e source (set_value key value) result ok h = value_set-puts e source key value result ok h
+  -- A value that is set puts in ASCII only.
+  pub value_set-puts : (key value result : List ℕ) → IsValueSet (ascii_in e) source key value result → PutsInAscii source result
+  value_set-puts key value result h =
+      whole-puts e source h.body result h.groups ok h.held (valued-puts (byte_order_mark e source).encoding h.groups key value h.body h.edited) h.whole
+
+  -- So does each edit,
+  pub edit-puts : (edit : Edit) (result : List ℕ) → IsEdited (ascii_in e) source edit result → PutsInAscii source result
+  edit-puts (put key value) result h = key_set-puts key value result h
+  edit-puts (remove key) result h = key_removed-puts key result h
+  edit-puts (set_value key value) result h = value_set-puts key value result h
 
 -- and each list of edits.
 pub edits-puts : (e : Encoding) (source : List ℕ) (edits : List Edit) (result : List ℕ) → is_editable (byte_order_mark e source).encoding ≡ true
-    → AreEdited e true source edits result → PutsInAscii source result
-edits-puts e source [] result ok h = subst (PutsInAscii source) (sym h) (puts-nothing source)
+    → AreEdited (ascii_in e) source edits result → PutsInAscii source result
+edits-puts e source [] result ok h = rw h (puts-nothing source)
 edits-puts e source (edit ∷ edits) result ok h =
-    puts-trans source h.0 result (edit-puts e source edit h.0 ok h.1) (edits-puts e h.0 edits result (edit-editable e true source edit h.0 ok h.1) h.2)
+    puts-trans source h.0 result (edit-puts e source ok edit h.0 h.1) (edits-puts e h.0 edits result (edit-editable (ascii_in e) source edit h.0 ok h.1) h.2)
 
 -- ---- what follows from that
 
 -- If the source is ASCII, so is the result.
 pub puts-ascii_bytes : (source result : List ℕ) → PutsInAscii source result → AreAsciiBytes source → AreAsciiBytes result
-puts-ascii_bytes source result h k =
-    bytes-ascii result
-    (ascii-beyond result (subst (IsSubsequence (beyond_ascii result)) (beyond-ascii source (ascii-of source k)) h))
+puts-ascii_bytes source result h k = bytes-ascii result (ascii-beyond result (rw (beyond-ascii source (ascii-of source k)) at h))
 
 -- ASCII bytes decode to themselves.
 ascii-decoded : (e : Encoding) (x : List ℕ) → is_editable e ≡ true → AreAscii x → decoded_of e x ≡ x
@@ -269,9 +210,8 @@ pub ascii-alike : (x : List ℕ) → AreAsciiBytes x → AreItemsInBoth x (items
 unfolding items_of
 ascii-alike x h =
     let k = ascii-of x h in
-    let same : items_of windows_1252 x end ≡ items_of utf_8 x end =
-    ap (λ v. items_of_lines (lines_of v) end) (ascii-decoded windows_1252 x refl k ∙ sym (ascii-decoded utf_8 x refl k)) in
-    record { in_windows_1252 = subst (IsItems windows_1252 x end) same (items_of-meets windows_1252 x end); in_utf_8 = items_of-meets utf_8 x end }
+    let same : items_of windows_1252 x end ≡ items_of utf_8 x end = rw (ascii-decoded windows_1252 x refl k, ascii-decoded utf_8 x refl k) in
+    record { in_windows_1252 = rw same at (items_of-meets windows_1252 x end); in_utf_8 = items_of-meets utf_8 x end }
 
 -- All of this together.
 pub puts-in_ascii : (source result : List ℕ) → PutsInAscii source result → IsInAscii source result
@@ -282,21 +222,21 @@ puts-in_ascii source result h = record {
 }
 
 -- It holds for each result of setting a key,
-pub set_key-in_ascii : (e : Encoding) (source key value result : List ℕ) → IsSetKeyResult e true source key value (edited result) → IsInAscii source result
-set_key-in_ascii e source key value result h = puts-in_ascii source result (key_set-puts e source key value result h.0 h.2)
-
--- of removing a key,
-pub remove_key-in_ascii : (e : Encoding) (source key result : List ℕ) → IsRemoveKeyResult e source key (edited result) → IsInAscii source result
-remove_key-in_ascii e source key result h = puts-in_ascii source result (key_removed-puts e source key result h.0 h.2)
+pub set_key-in_ascii : (e : Encoding) (source key value result : List ℕ) → IsSetKeyResult (ascii_in e) source key value (edited result)
+    → IsInAscii source result
+set_key-in_ascii e source key value result h = puts-in_ascii source result (key_set-puts e source h.0 key value result h.2)
 
 -- of setting a value,
-pub set_value-in_ascii : (e : Encoding) (source key value result : List ℕ) → IsSetValueResult e true source key value (edited result) → IsInAscii source result
-set_value-in_ascii e source key value result h = puts-in_ascii source result (value_set-puts e source key value result h.0 h.2)
+pub set_value-in_ascii : (e : Encoding) (source key value result : List ℕ) → IsSetValueResult (ascii_in e) source key value (edited result)
+    → IsInAscii source result
+set_value-in_ascii e source key value result h = puts-in_ascii source result (value_set-puts e source h.0 key value result h.2)
 
 -- of a list of edits,
-pub edit_all-in_ascii : (e : Encoding) (source : List ℕ) (edits : List Edit) (result : List ℕ) → IsEditAllResult e true source edits (edited result) → IsInAscii source result
+pub edit_all-in_ascii : (e : Encoding) (source : List ℕ) (edits : List Edit) (result : List ℕ) → IsEditAllResult (ascii_in e) source edits (edited result)
+    → IsInAscii source result
 edit_all-in_ascii e source edits result h = puts-in_ascii source result (edits-puts e source edits result h.0 h.2)
 
 -- and of such a list that passes over comments.
-pub edit_pairs-in_ascii : (e : Encoding) (source : List ℕ) (edits : List Edit) (result : List ℕ) → IsEditPairsResult e true source edits (edited result) → IsInAscii source result
+pub edit_pairs-in_ascii : (e : Encoding) (source : List ℕ) (edits : List Edit) (result : List ℕ) → IsEditPairsResult (ascii_in e) source edits (edited result)
+    → IsInAscii source result
 edit_pairs-in_ascii e source edits result h = puts-in_ascii source result (edits-puts e source edits result h.0 h.2)

@@ -1,7 +1,8 @@
 -- The logical lines of a source after edits in turn. Nothing is asked of the lines: any of them may be malformed.
-use Rattle.std.proofs.Common.{◌≡◌, ℕ, Bool, true, List, [], ◌∷◌, ◌++◌, ap, sym, ◌∙◌, inl, inr, subst, All}
+use Rattle.std.proofs.Common.{◌≡◌, ℕ, true, List, [], ◌∷◌, ◌++◌, ap, sym, inl, inr, subst, All}
 use Rattle.properties_format.specs.Text.{scalar}
 use Rattle.properties_format.specs.Encoding.{Encoding, InForce, byte_order_mark}
+use Rattle.properties_format.specs.Repertoire.{Repertoire, in_encoding}
 use Rattle.properties_format.specs.Entries.{pair}
 use Rattle.properties_format.specs.Items.{given, IsOutcome}
 use Rattle.properties_format.specs.Body.{as_groups}
@@ -15,7 +16,7 @@ use Rattle.properties_format.proofs.Body.Groups.{held-groups, held-body, held_gr
 use Rattle.properties_format.proofs.Edited.ByteOrderMarks.{key_removed-in_force}
 use Rattle.properties_format.proofs.Edited.Made.{key_set-only, last_place-meets}
 use Rattle.properties_format.proofs.Edited.Put.{ends-alike, put-lines, put-in_force}
-use Rattle.properties_format.proofs.Edited.Fronts.{logical_lines, logical_lines-meets, logical_lines-only, logical_lines_in}
+use Rattle.properties_format.proofs.Edited.Fronts.{logical_lines, logical_lines-only}
 use Rattle.properties_format.proofs.Edited.LogicalLines.{lines-held, removed-lines}
 use Rattle.properties_format.proofs.Edits.Results.{edit-editable}
 use Rattle.properties_format.proofs.Valued.Groups.{body-valued}
@@ -31,31 +32,21 @@ lines_in f = logical_lines (as_groups (held_groups_of f.encoding f.body))
 abbrev pub logical_lines_of : Encoding → List ℕ → List (List ℕ)
 logical_lines_of e source = lines_in (byte_order_mark e source)
 
--- They are its logical lines, and no others are.
-pub logical_lines_of-meets : (e : Encoding) (source : List ℕ) → AreLogicalLines e source (logical_lines_of e source)
-logical_lines_of-meets e source =
-    let f = byte_order_mark e source in
-    let gs = held_groups_of f.encoding f.body in
-    record { groups = gs; held = held_groups_of-meets f.encoding f.body; are = logical_lines-meets (as_groups gs) }
-
+-- No other lines are its logical lines.
 pub logical_lines_of-only : (e : Encoding) (source : List ℕ) (xs : List (List ℕ)) → AreLogicalLines e source xs → xs ≡ logical_lines_of e source
 logical_lines_of-only e source xs h =
-    let f = byte_order_mark e source in
-    logical_lines-only (as_groups h.groups) xs h.are ∙ ap (λ v. logical_lines (as_groups v)) (held_groups_of-only f.encoding f.body h.groups h.held)
+    let f = byte_order_mark e source in rw (logical_lines-only (as_groups h.groups) xs h.are, held_groups_of-only f.encoding f.body h.groups h.held)
 
 -- ---- one edit
 
 -- After a key is set, the last pair with it is another line, or there is a new last one.
-key_set-lines : (e : Encoding) (only : Bool) (source key value result : List ℕ) → is_editable (byte_order_mark e source).encoding ≡ true
-    → All scalar key → All scalar value → IsKeySet e only source key value result
-    → AreLinesSet key value (logical_lines_of e source) (logical_lines_of e result)
-key_set-lines e only source key value result ok k v h =
-    let f = byte_order_mark e source in
+key_set-lines : (r : Repertoire) (source key value result : List ℕ) → is_editable (byte_order_mark r.encoding source).encoding ≡ true → All scalar key
+    → All scalar value → IsKeySet r source key value result → AreLinesSet key value (logical_lines_of r.encoding source) (logical_lines_of r.encoding result)
+key_set-lines r source key value result ok k v h =
+    let f = byte_order_mark r.encoding source in
     let gs = held_groups_of f.encoding f.body in
-    let place = last_place key gs in
-    subst (λ w. AreLinesSet key value (logical_lines_of e source) (logical_lines_of e w)) (sym (key_set-only e only source key value result h))
-    (subst (λ w. AreLinesSet key value (logical_lines_of e source) (lines_in w)) (sym (put-in_force e only source key value ok))
-    (put-lines f.encoding only source key value f.body ok k v (ends-alike e source) place (last_place-meets key gs)))
+    rw (key_set-only r source key value result h, put-in_force r source key value ok)
+    (put-lines (in_encoding r f.encoding) source key value f.body ok k v (ends-alike r.encoding source) (last_place key gs) (last_place-meets key gs))
 
 -- After a key is removed, the pairs with it are gone.
 key_removed-lines : (e : Encoding) (source key result : List ℕ) → is_editable (byte_order_mark e source).encoding ≡ true → IsKeyRemoved e source key result
@@ -63,46 +54,38 @@ key_removed-lines : (e : Encoding) (source key result : List ℕ) → is_editabl
 key_removed-lines e source key result ok h =
     let f = byte_order_mark e source in
     let body = guarding_lf source h.rest ++ h.rest in
-    let old : logical_lines (as_groups h.groups) ≡ logical_lines_of e source = ap (λ v. logical_lines (as_groups v)) (held_groups_of-only f.encoding f.body h.groups h.held) in
-    let own = held_groups_of f.encoding body in
     let are = held_groups_of-meets f.encoding body in
-    let new : logical_lines_in f.encoding body ≡ logical_lines (as_groups own) =
-    ap (logical_lines_in f.encoding) (sym (held-body f.encoding body own ok are)) ∙ lines-held f.encoding own (held-groups f.encoding body own ok are) in
-    subst (λ w. AreLinesLeft key (logical_lines_of e source) (lines_in w)) (sym (key_removed-in_force e source key result ok h))
-    (subst (AreLinesLeft key (logical_lines_of e source)) new
-    (subst (λ w. AreLinesLeft key w (logical_lines_in f.encoding body)) old
-    (removed-lines f.encoding source key h.groups h.rest (held-groups f.encoding f.body h.groups ok h.held) h.without)))
+    let new = lines-held f.encoding _ (held-groups f.encoding body _ ok are) in
+    rw (key_removed-in_force e source key result ok h, ← new, held-body f.encoding body _ ok are, ← held_groups_of-only f.encoding f.body h.groups h.held)
+    (removed-lines f.encoding source key h.groups h.rest (held-groups f.encoding f.body h.groups ok h.held) h.without)
 
 -- After a value is set, the last pair with its key is another line, or there is a new last one.
-value_set-lines : (e : Encoding) (only : Bool) (source key value result : List ℕ) → is_editable (byte_order_mark e source).encoding ≡ true
-    → All scalar key → All scalar value → IsValueSet e only source key value result
-    → AreLinesSet key value (logical_lines_of e source) (logical_lines_of e result)
-value_set-lines e only source key value result ok k v h =
-    let f = byte_order_mark e source in
-    let m = body-valued f.encoding only f.body h.groups key value h.body ok k v h.held h.edited in
-    subst (λ w. AreLinesSet key value (logical_lines_of e source) (lines_in w)) (sym (value_set-in_force e only source key value result ok h))
-    (subst (λ w. AreLinesSet key value (logical_lines_of e source) (logical_lines (as_groups w))) (held_groups_of-only f.encoding h.body m.groups m.held)
-    (subst (λ w. AreLinesSet key value (logical_lines (as_groups w)) (logical_lines (as_groups m.groups))) (held_groups_of-only f.encoding f.body h.groups h.held) m.lines_set))
+value_set-lines : (r : Repertoire) (source key value result : List ℕ) → is_editable (byte_order_mark r.encoding source).encoding ≡ true → All scalar key
+    → All scalar value → IsValueSet r source key value result → AreLinesSet key value (logical_lines_of r.encoding source) (logical_lines_of r.encoding result)
+value_set-lines r source key value result ok k v h =
+    let f = byte_order_mark r.encoding source in
+    let m = body-valued (in_encoding r f.encoding) f.body h.groups key value h.body ok k v h.held h.edited in
+    let old = held_groups_of-only f.encoding f.body h.groups h.held in
+    rw (value_set-in_force r source key value result ok h, ← held_groups_of-only f.encoding h.body m.groups m.held, ← old) m.lines_set
 
 -- After an edit, the logical lines are those of the source after the same edit.
-pub edit-lines : (e : Encoding) (only : Bool) (source : List ℕ) (edit : Edit) (result : List ℕ) → is_editable (byte_order_mark e source).encoding ≡ true
-    → IsScalarEdit edit → IsEdited e only source edit result
-    → AreLinesEdited edit (logical_lines_of e source) (logical_lines_of e result)
-edit-lines e only source (put key value) result ok k h = key_set-lines e only source key value result ok k.0 k.1 h
-edit-lines e only source (remove key) result ok k h = key_removed-lines e source key result ok h
-edit-lines e only source (set_value key value) result ok k h = value_set-lines e only source key value result ok k.0 k.1 h
+pub edit-lines : (r : Repertoire) (source : List ℕ) (edit : Edit) (result : List ℕ) → is_editable (byte_order_mark r.encoding source).encoding ≡ true
+    → IsScalarEdit edit → IsEdited r source edit result → AreLinesEdited edit (logical_lines_of r.encoding source) (logical_lines_of r.encoding result)
+edit-lines r source (put key value) result ok k h = key_set-lines r source key value result ok k.0 k.1 h
+edit-lines r source (remove key) result ok k h = key_removed-lines r.encoding source key result ok h
+edit-lines r source (set_value key value) result ok k h = value_set-lines r source key value result ok k.0 k.1 h
 
 -- ---- edits in turn
 
 -- After edits in turn, the logical lines are those of the source after the same edits, whatever they are.
-pub edits-lines : (e : Encoding) (only : Bool) (source : List ℕ) (edits : List Edit) (result : List ℕ) → is_editable (byte_order_mark e source).encoding ≡ true
-    → AreScalarEdits edits → AreEdited e only source edits result
-    → AreLinesEditedInTurn edits (logical_lines_of e source) (logical_lines_of e result)
-edits-lines e only source [] result ok k h = ap (logical_lines_of e) h
-edits-lines e only source (edit ∷ edits) result ok k h = (
-  logical_lines_of e h.0,
-  edit-lines e only source edit h.0 ok k.0 h.1,
-  edits-lines e only h.0 edits result (edit-editable e only source edit h.0 ok h.1) k.1 h.2,
+pub edits-lines : (r : Repertoire) (source : List ℕ) (edits : List Edit) (result : List ℕ) → is_editable (byte_order_mark r.encoding source).encoding ≡ true
+    → AreScalarEdits edits → AreEdited r source edits result
+    → AreLinesEditedInTurn edits (logical_lines_of r.encoding source) (logical_lines_of r.encoding result)
+edits-lines r source [] result ok k h = ap (logical_lines_of r.encoding) h
+edits-lines r source (edit ∷ edits) result ok k h = (
+  logical_lines_of r.encoding h.0,
+  edit-lines r source edit h.0 ok k.0 h.1,
+  edits-lines r h.0 edits result (edit-editable r source edit h.0 ok h.1) k.1 h.2,
 )
 
 -- ---- what holds of all lines
@@ -127,15 +110,15 @@ module _ (P : List ℕ → Type 0) (of_pair : (x key value : List ℕ) → IsOut
   -- A key is set.
   set-each : (key value : List ℕ) (old new : List (List ℕ)) → AreLinesSet key value old new → OfEach P old → OfEach P new
   set-each key value old new (inl h) r =
-      let parts = each-parts h.before (h.line ∷ h.after) (subst (OfEach P) h.was r) in
-      subst (OfEach P) (sym h.now) (each-join h.before (h.changed ∷ h.after) parts.0 (of_pair h.changed key value h.has_value, parts.1.1))
-  set-each key value old new (inr h) r = subst (OfEach P) (sym h.2) (each-join old (h.1 ∷ []) r (of_pair h.1 key value h.3, tt))
+      let parts = each-parts h.before (h.line ∷ h.after) (rw h.was at r) in
+      rw h.now (each-join h.before (h.changed ∷ h.after) parts.0 (of_pair h.changed key value h.has_value, parts.1.1))
+  set-each key value old new (inr h) r = rw h.2 (each-join old (h.1 ∷ []) r (of_pair h.1 key value h.3, tt))
 
   -- A key is removed.
   left-each : (key : List ℕ) (old new : List (List ℕ)) → AreLinesLeft key old new → OfEach P old → OfEach P new
-  left-each key [] new h r = subst (OfEach P) (sym h) tt
+  left-each key [] new h r = rw h tt
   left-each key (x ∷ xs) new (inl h) r = left-each key xs new h.1 r.1
-  left-each key (x ∷ xs) new (inr h) r = subst (OfEach P) (sym h.2) (r.0, left-each key xs h.1 h.3 r.1)
+  left-each key (x ∷ xs) new (inr h) r = rw h.2 (r.0, left-each key xs h.1 h.3 r.1)
 
   -- One edit is made,
   pub edit-each : (edit : Edit) (old new : List (List ℕ)) → AreLinesEdited edit old new → OfEach P old → OfEach P new

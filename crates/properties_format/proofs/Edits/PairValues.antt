@@ -1,7 +1,8 @@
 -- The pairs of a source: they exist and are unique, and their map changes as the edits say, whatever the comments are.
-use Rattle.std.proofs.Common.{◌≡◌, ℕ, Bool, false, List, [], ◌∷◌, ◌++◌, Option, refl, ap, ap₂, sym, ◌∙◌, subst}
+use Rattle.std.proofs.Common.{◌≡◌, ℕ, false, List, [], ◌∷◌, ◌++◌, Option, refl, ap, sym, ◌∙◌, subst}
 use Rattle.properties_format.specs.Encoding.{Encoding}
-use Rattle.properties_format.specs.Lines.{end, Line, line_ends, numbered_lines}
+use Rattle.properties_format.specs.Repertoire.{Repertoire}
+use Rattle.properties_format.specs.Lines.{end, Line, line_ends}
 use Rattle.properties_format.specs.Groups.{joined, first_number}
 use Rattle.properties_format.specs.Entries.{comment, pair, Entry, item, AreItems}
 use Rattle.properties_format.specs.Items.{Outcome, ignored, given, broken}
@@ -10,20 +11,17 @@ use Rattle.properties_format.specs.Edited.{edited}
 use Rattle.properties_format.specs.Edits.{Edit, AreScalarEdits}
 use Rattle.properties_format.specs.Changed.{AreEditedIn, contents, map_after}
 use Rattle.properties_format.specs.LogicalLines.{line_before}
-use Rattle.properties_format.specs.EditedPairs.{AreInComments, pair_from, ArePairsIn, ArePairs, IsEditPairsResult}
+use Rattle.properties_format.specs.EditedPairs.{AreInComments, pair_from, ArePairs, IsEditPairsResult}
 use Rattle.properties_format.specs.EditLaws.{ValueIsAmongPairs}
 use Rattle.properties_format.specs.Computed.Encoding.{decoded_of}
 use Rattle.properties_format.specs.Computed.Lines.{lines_of}
-use Rattle.properties_format.specs.Computed.Groups.{groups_of}
+use Rattle.properties_format.specs.Computed.Groups.{groups_in}
 use Rattle.properties_format.specs.Computed.Items.{outcome_of, followed, entries_of, items_of}
+use Rattle.properties_format.specs.Computed.Found.{found_in}
 use Rattle.properties_format.specs.Computed.MalformedEscapes.{malformed_escapes_of}
 use Rattle.properties_format.specs.Computed.Maps.{value_of, first_value, value_in}
-use Rattle.properties_format.proofs.Encodings.Pieces.{decoded_of-meets, decoded_of-only}
-use Rattle.properties_format.proofs.Lines.Meets.{lines_of-meets}
-use Rattle.properties_format.proofs.Lines.Only.{lines_of-only}
-use Rattle.properties_format.proofs.Groups.Meets.{groups_of-meets}
-use Rattle.properties_format.proofs.Groups.Only.{groups_of-only}
-use Rattle.properties_format.proofs.Items.Unique.{items_of-only, outcome_of-meets, outcome_of-only}
+use Rattle.properties_format.proofs.Items.Unique.{items_of-only}
+use Rattle.properties_format.proofs.Found.{found-meets, found-only, found_in-append}
 use Rattle.properties_format.proofs.MalformedEscapes.{malformed_escapes_of-meets}
 use Rattle.properties_format.proofs.Maps.{first-none, value_in-meets, value_in-only}
 use Rattle.properties_format.proofs.Changed.Contents.{content_before, contents_among, edits-among}
@@ -35,17 +33,7 @@ use Rattle.properties_format.proofs.Edits.PairResults.{no-escapes}
 
 -- the pairs of the groups
 abbrev pub pairs_in : List (List Line) → List Entry
-pairs_in [] = []
-pairs_in (g ∷ gs) = pair_from (first_number g) (outcome_of (joined g)) (pairs_in gs)
-
-pairs_in-meets : (gs : List (List Line)) → ArePairsIn gs (pairs_in gs)
-pairs_in-meets [] = refl
-pairs_in-meets (g ∷ gs) = (outcome_of (joined g), pairs_in gs, outcome_of-meets (joined g), refl, pairs_in-meets gs)
-
-pairs_in-only : (gs : List (List Line)) (pairs : List Entry) → ArePairsIn gs pairs → pairs ≡ pairs_in gs
-pairs_in-only [] pairs h = h
-pairs_in-only (g ∷ gs) pairs (outcome, rest, is, same, others) =
-    same ∙ ap₂ (λ v w. pair_from (first_number g) v w) (outcome_of-only (joined g) outcome is) (pairs_in-only gs rest others)
+pairs_in groups = found_in (λ number x. pair_from number) groups
 
 pair-append : (n : ℕ) (o : Outcome) (xs ys : List Entry) → pair_from n o (xs ++ ys) ≡ pair_from n o xs ++ ys
 pair-append n ignored xs ys = refl
@@ -55,36 +43,17 @@ pair-append n (broken kind) xs ys = refl
 
 -- those of one more group come last
 pub pairs_in-push : (gs : List (List Line)) (g : List Line) → pairs_in (gs ++ g ∷ []) ≡ pairs_in gs ++ pair_from (first_number g) (outcome_of (joined g)) []
-pairs_in-push [] g = refl
-pairs_in-push (h ∷ gs) g =
-    ap (pair_from (first_number h) (outcome_of (joined h))) (pairs_in-push gs g)
-    ∙ pair-append (first_number h) (outcome_of (joined h)) (pairs_in gs) (pair_from (first_number g) (outcome_of (joined g)) [])
+pairs_in-push gs g = found_in-append (λ number x. pair_from number) (λ n x o xs ys. pair-append n o xs ys) gs (g ∷ [])
 
 -- the pairs of an input
 abbrev pub pairs_of : Encoding → List ℕ → List Entry
-pairs_of e bytes = pairs_in (groups_of (numbered_lines (lines_of (decoded_of e bytes)) end) end)
+pairs_of e bytes = pairs_in (groups_in e bytes end)
 
 pub pairs_of-meets : (e : Encoding) (bytes : List ℕ) → ArePairs e bytes (pairs_of e bytes)
-pairs_of-meets e bytes =
-    let text = decoded_of e bytes in
-    let lines = lines_of text in
-    let groups = groups_of (numbered_lines lines end) end in
-    record {
-      text = text;
-      lines = lines;
-      groups = groups;
-      decoded = decoded_of-meets e bytes;
-      divided = lines_of-meets text;
-      grouped = groups_of-meets (numbered_lines lines end) end;
-      are = pairs_in-meets groups;
-    }
+pairs_of-meets e bytes = found-meets (λ number x. pair_from number) e bytes end
 
 pub pairs_of-only : (e : Encoding) (bytes : List ℕ) (pairs : List Entry) → ArePairs e bytes pairs → pairs ≡ pairs_of e bytes
-pairs_of-only e bytes pairs h =
-    pairs_in-only h.groups pairs h.are
-    ∙ ap pairs_in (groups_of-only (numbered_lines h.lines end) end h.groups h.grouped)
-    ∙ ap (λ v. pairs_in (groups_of (numbered_lines v end) end)) (lines_of-only h.text h.lines h.divided)
-    ∙ ap (λ v. pairs_in (groups_of (numbered_lines (lines_of v) end) end)) (decoded_of-only e bytes h.text h.decoded)
+pairs_of-only e bytes pairs h = found-only (λ number x. pair_from number) e bytes end pairs h
 
 -- Their contents are the pairs among the logical lines.
 contents-step : (n : ℕ) (x : List ℕ) (o : Outcome) (rest : List Entry) (xs : List (List ℕ)) → o ≡ outcome_of x → contents rest ≡ contents_among false xs
@@ -102,19 +71,19 @@ source-pairs : (e : Encoding) (source : List ℕ) → contents (pairs_of e sourc
 source-pairs e source = contents-pairs _ ∙ ap (contents_among false) (lines-of-text e source)
 
 -- The pairs of the result are those of the source after the same edits, and so is their map.
-pub edit_pairs-reads : (e : Encoding) (only : Bool) (source : List ℕ) (edits : List Edit) (result : List ℕ) → AreScalarEdits edits
-    → IsEditPairsResult e only source edits (edited result) → (old new : List Entry) → ArePairs e source old → ArePairs e result new
+pub edit_pairs-reads : (r : Repertoire) (source : List ℕ) (edits : List Edit) (result : List ℕ) → AreScalarEdits edits
+    → IsEditPairsResult r source edits (edited result) → (old new : List Entry) → ArePairs r.encoding source old → ArePairs r.encoding result new
     → AreEditedIn edits (contents old) (contents new)
-edit_pairs-reads e only source edits result k h old new o n =
-    let p = edits-among false edits (logical_lines_of e source) (logical_lines_of e result) (edits-lines e only source edits result h.0 k h.2) in
-    let was : contents old ≡ contents_among false (logical_lines_of e source) = ap contents (pairs_of-only e source old o) ∙ source-pairs e source in
-    let is : contents new ≡ contents_among false (logical_lines_of e result) = ap contents (pairs_of-only e result new n) ∙ source-pairs e result in
-    subst (λ v. AreEditedIn edits v (contents new)) (sym was) (subst (AreEditedIn edits (contents_among false (logical_lines_of e source))) (sym is) p)
+edit_pairs-reads r source edits result k h old new o n =
+    let p = edits-among false edits (logical_lines_of r.encoding source) (logical_lines_of r.encoding result) (edits-lines r source edits result h.0 k h.2) in
+    let was : contents old ≡ contents_among false _ = ap contents (pairs_of-only r.encoding source old o) ∙ source-pairs r.encoding source in
+    let is : contents new ≡ contents_among false _ = ap contents (pairs_of-only r.encoding result new n) ∙ source-pairs r.encoding result in
+    subst (λ v. AreEditedIn edits v (contents new)) (sym was) (subst (AreEditedIn edits (contents_among false (logical_lines_of r.encoding source))) (sym is) p)
 
-pub edit_pairs-map : (e : Encoding) (only : Bool) (source : List ℕ) (edits : List Edit) (result : List ℕ) → AreScalarEdits edits
-    → IsEditPairsResult e only source edits (edited result) → (old new : List Entry) → ArePairs e source old → ArePairs e result new
+pub edit_pairs-map : (r : Repertoire) (source : List ℕ) (edits : List Edit) (result : List ℕ) → AreScalarEdits edits
+    → IsEditPairsResult r source edits (edited result) → (old new : List Entry) → ArePairs r.encoding source old → ArePairs r.encoding result new
     → (value_at : List ℕ → Option (List ℕ)) → IsMap old value_at → IsMap new (map_after edits value_at)
-edit_pairs-map e only source edits result k h old new o n = map-after edits old new (edit_pairs-reads e only source edits result k h old new o n)
+edit_pairs-map r source edits result k h old new o n = map-after edits old new (edit_pairs-reads r source edits result k h old new o n)
 
 -- ---- sources without malformed escapes
 
@@ -132,9 +101,7 @@ values-same n (g ∷ gs) key h = value-step (first_number g) (outcome_of (joined
 
 items-values : (e : Encoding) (source key : List ℕ) → AreItems (items_of e source end) → value_in (pairs_of e source) key ≡ value_in (items_of e source end) key
 unfolding items_of
-items-values e source key h =
-    let lines = lines_of (decoded_of e source) in
-    values-same (line_ends lines) (groups_of (numbered_lines lines end) end) key h
+items-values e source key h = values-same (line_ends (lines_of (decoded_of e source))) _ key h
 
 -- The value of a key in such a source is the same where comments are passed over.
 pub value-among_pairs : (e : Encoding) (source key : List ℕ) (value : Option (List ℕ)) → ValueIsAmongPairs e source key value

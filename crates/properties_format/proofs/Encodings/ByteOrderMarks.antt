@@ -22,5 +22,6 @@ pub decoded_of-unmarked : (e : Encoding) (b : List ℕ) → begins_like_bom b �
 decoded_of-unmarked e b h = ap (λ v. characters (pieces_of v.encoding v.body)) (byte_order_mark-none e b h)
 
 -- Bytes that don't wait for a byte order mark, followed by others.
-pub decoded_of-append : (e : Encoding) (b d : List ℕ) → awaits_bom b ≡ false → decoded_of e (b ++ d) ≡ characters (pieces_of (byte_order_mark e b).encoding ((byte_order_mark e b).body ++ d))
+pub decoded_of-append : (e : Encoding) (b d : List ℕ) → awaits_bom b ≡ false
+    → decoded_of e (b ++ d) ≡ characters (pieces_of (byte_order_mark e b).encoding ((byte_order_mark e b).body ++ d))
 decoded_of-append e b d h = ap (λ v. characters (pieces_of v.encoding v.body)) (byte_order_mark-append e b d h)

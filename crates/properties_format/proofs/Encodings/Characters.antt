@@ -1,7 +1,6 @@
 -- The characters of pieces: each is a scalar value, an ASCII character has its own bytes, and an encoded character is a
 -- piece.
-use Rattle.std.proofs.Common.{◌≡◌, ℕ, ◌<◌, true, false, List, [], ◌∷◌, ◌++◌, Option, Some, None, All, refl, sym, ap, ap₂, inl, arith}
-use Rattle.std.specs.Char.{encode_utf8}
+use Rattle.std.proofs.Common.{rules, ◌≡◌, ℕ, ◌<◌, true, false, List, [], ◌∷◌, ◌++◌, Option, Some, None, All, refl, sym, ap, ap₂, inl, arith}
 use Rattle.std.specs.List.{AllByRecursion}
 use Rattle.std.proofs.lemmas.List.Elements.{recursion_from_All, All-nil, All-cons}
 use Rattle.std.proofs.lemmas.Option.{none-some, same_Some}
@@ -21,17 +20,12 @@ use Rattle.properties_format.proofs.Encodings.Pieces.{pieces_of-meets, pieces_of
 -- In windows-1252, the byte of a character is a piece of it.
 windows_1252-encoded : (c : ℕ) (bs y : List ℕ) (o : Option ℕ) → windows_1252_byte c ≡ o → one_byte o ≡ Some bs → IsPiece windows_1252 (piece bs c) y
 windows_1252-encoded c bs y None e h = absurd (none-some bs h)
-windows_1252-encoded c bs y (Some b) e h =
-    (b, ap₂ piece (sym (same_Some (b ∷ []) bs h)) (sym (windows_1252_character-byte c b e).0))
-
--- In UTF-8, the bytes of a scalar value are a piece of it.
-utf_8-encoded : (c : ℕ) (bs y : List ℕ) → scalar c → ◌≡◌ {A = Option (List ℕ)} (Some (encode_utf8 c)) (Some bs) → IsPiece utf_8 (piece bs c) y
-utf_8-encoded c bs y h e = grind (arith, encode-is_sequence)
+windows_1252-encoded c bs y (Some b) e h = (b, ap₂ piece (sym (same_Some (b ∷ []) bs h)) (sym (windows_1252_character-byte c b e).0))
 
 -- In the encoding that is written, the bytes of a scalar value are a piece of it, whatever follows.
 pub encoded-piece : (e : Encoding) (c : ℕ) (bs y : List ℕ) → scalar c → encoded e c ≡ Some bs → IsPiece (output_encoding e) (piece bs c) y
 encoded-piece windows_1252 c bs y h k = windows_1252-encoded c bs y (windows_1252_byte c) refl k
-encoded-piece e c bs y h k = utf_8-encoded c bs y h k
+encoded-piece e c bs y h k = search (rules, encode-is_sequence)
 
 -- Decoding inverts encoding: an encoded character at the front is its piece, whatever follows.
 pub pieces_of-encoded : (e : Encoding) (c : ℕ) (bs y : List ℕ) → scalar c → encoded e c ≡ Some bs
@@ -71,10 +65,6 @@ piece-ascii e p rest h k = grind (arith, windows_1252-ascii)
 pub pair-scalar : (u v : ℕ) → is_high u ≡ true → is_low v ≡ true → scalar (pair_character u v)
 pair-scalar u v h k = grind (arith)
 
--- In each encoding, the character of a piece that consists of bytes is a scalar value.
-pub piece-scalar : (e : Encoding) (p : Piece) (rest : List ℕ) → IsPiece e p rest → AllByRecursion byte p.bytes → scalar p.character
-piece-scalar e p rest h k = grind (arith, windows_1252-scalar)
-
 -- The front of a list of bytes is a list of bytes.
 front-bytes : (xs ys : List ℕ) → AllByRecursion byte (xs ++ ys) → AllByRecursion byte xs
 front-bytes [] ys h = tt
@@ -90,7 +80,7 @@ pieces-scalar : (e : Encoding) (d : List ℕ) (ps : List Piece) → IsPieces e d
 pieces-scalar e d [] h l = All-nil scalar
 pieces-scalar e d (p ∷ ps) (rest, s, h, k) l =
     let m : AllByRecursion byte (p.bytes ++ rest) = rw s at l in
-    All-cons scalar p.character (characters ps) (piece-scalar e p rest h (front-bytes p.bytes rest m)) (pieces-scalar e rest ps k (back-bytes p.bytes rest m))
+    All-cons scalar p.character (characters ps) (search (rules, windows_1252-scalar)) (pieces-scalar e rest ps k (back-bytes p.bytes rest m))
 
 -- The characters of the computed pieces are scalar values.
 pub pieces_of-scalar : (e : Encoding) (d : List ℕ) → All byte d → All scalar (characters (pieces_of e d))

@@ -1,5 +1,5 @@
 -- Where bytes may be cut so that their pieces are the pieces of the parts.
-use Rattle.std.proofs.Common.{◌≡◌, ℕ, ◌<◌, List, [], ◌∷◌, ◌++◌, length, refl, sym, ap, ap₂, ◌∙◌, subst, arith, append_assoc, append-nil}
+use Rattle.std.proofs.Common.{rules, ◌≡◌, ℕ, ◌<◌, List, [], ◌∷◌, ◌++◌, length, refl, sym, ap, ap₂, ◌∙◌, subst, arith, append_assoc, append-nil}
 use Rattle.properties_format.specs.Pieces.{Piece, piece, characters}
 use Rattle.properties_format.specs.Encoding.{Encoding, IsPiece, IsPieces, IsAligned, ascii_bytes}
 use Rattle.properties_format.specs.Computed.Encoding.{pieces_of}
@@ -21,7 +21,8 @@ pieces-length e d p ps (rest, s, h, k) = grind (arith)
 
 -- If the last piece stays a piece before the bytes after it, the pieces of both are the pieces of the first followed by
 -- those of the second.
-pub pieces-append : (e : Encoding) (x y : List ℕ) (ps qs : List Piece) → IsPieces e x ps → LastStaysPiece e ps y → IsPieces e y qs → IsPieces e (x ++ y) (ps ++ qs)
+pub pieces-append : (e : Encoding) (x y : List ℕ) (ps qs : List Piece) → IsPieces e x ps → LastStaysPiece e ps y → IsPieces e y qs
+    → IsPieces e (x ++ y) (ps ++ qs)
 pieces-append e x y [] qs h l k = rw h k
 pieces-append e x y (p ∷ []) qs (rest, s, h, m) l k = grind (arith, append-nil)
 pieces-append e x y (p ∷ q ∷ ps) qs (rest, s, h, m) l k =
@@ -29,8 +30,7 @@ pieces-append e x y (p ∷ q ∷ ps) qs (rest, s, h, m) l k =
 
 -- The pieces of bytes that end in such a piece, followed by those of the bytes after them.
 pub pieces_of-append : (e : Encoding) (x y : List ℕ) → LastStaysPiece e (pieces_of e x) y → pieces_of e (x ++ y) ≡ pieces_of e x ++ pieces_of e y
-pieces_of-append e x y h =
-    sym (pieces_of-only e (x ++ y) (pieces_of e x ++ pieces_of e y) (pieces-append e x y (pieces_of e x) (pieces_of e y) (pieces_of-meets e x) h (pieces_of-meets e y)))
+pieces_of-append e x y h = sym (pieces_of-only e (x ++ y) _ (pieces-append e x y (pieces_of e x) (pieces_of e y) (pieces_of-meets e x) h (pieces_of-meets e y)))
 
 -- A last piece stays one before bytes that begin anew.
 last-anew : (e : Encoding) (x y : List ℕ) (ps : List Piece) → BeginsAnew e y → IsAligned e x → IsPieces e x ps → LastStaysPiece e ps y
@@ -56,18 +56,12 @@ pub record IsCut (e : Encoding) (d x y : List ℕ) (ps qs : List Piece) : Type 0
 abbrev pub Cut : Encoding → List ℕ → List Piece → List Piece → Type 0
 Cut e d ps qs = (x : List ℕ) × (y : List ℕ) × IsCut e d x y ps qs
 
--- One more piece before a cut.
-cut-more : (e : Encoding) (d rest x y : List ℕ) (p q : Piece) (ps qs : List Piece) → d ≡ p.bytes ++ rest → IsPiece e p rest → IsCut e rest x y ps (q ∷ qs)
-    → IsCut e d (p.bytes ++ x) y (p ∷ ps) (q ∷ qs)
-cut-more e d rest x y p q ps qs s h c =
-    grind (arith, append_assoc, piece-less)
-
 -- Bytes may be cut before any of their pieces.
 pub pieces-cut : (e : Encoding) (d : List ℕ) (ps : List Piece) (q : Piece) (qs : List Piece) → IsPieces e d (ps ++ q ∷ qs) → Cut e d ps (q ∷ qs)
 pieces-cut e d [] q qs h = ([], d, record { joins = refl; aligned = aligned-nil e; front = refl; back = h })
 pieces-cut e d (p ∷ ps) q qs (rest, s, h, k) =
     let c = pieces-cut e rest ps q qs k in
-    (p.bytes ++ c.0, c.1, cut-more e d rest c.0 c.1 p q ps qs s h c.2)
+    (p.bytes ++ c.0, c.1, search (rules, append_assoc, piece-less))
 
 -- ---- A cut at an ASCII character, such as a line ending.
 
@@ -112,7 +106,8 @@ pub record IsCutAt (e : Encoding) (d : List ℕ) (t : List ℕ) (c : ℕ) (s : L
   pub back : characters (pieces_of e y) ≡ s
 
 -- A decoded ASCII character was decoded from its own bytes, at a unit's boundary, and from nothing else.
-pub cut-at_ascii : (e : Encoding) (d t : List ℕ) (c : ℕ) (s : List ℕ) → c < 0x80 → characters (pieces_of e d) ≡ t ++ c ∷ s → (x : List ℕ) × (y : List ℕ) × IsCutAt e d t c s x y
+pub cut-at_ascii : (e : Encoding) (d t : List ℕ) (c : ℕ) (s : List ℕ) → c < 0x80 → characters (pieces_of e d) ≡ t ++ c ∷ s
+    → (x : List ℕ) × (y : List ℕ) × IsCutAt e d t c s x y
 cut-at_ascii e d t c s l h = found (place-of (pieces_of e d) t c s h)
   where
     at-cut : (x y : List ℕ) (qs : List Piece) (p : Piece) (rs : List Piece) → characters qs ≡ t → p.character ≡ c → characters rs ≡ s

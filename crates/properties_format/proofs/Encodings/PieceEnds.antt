@@ -1,5 +1,5 @@
 -- How far a piece depends on what follows it.
-use Rattle.std.proofs.Common.{◌≡◌, ℕ, ◌%◌, ◌<◌, true, false, List, [], ◌∷◌, ◌++◌, length, refl, ap, arith, length-append}
+use Rattle.std.proofs.Common.{rules, ◌≡◌, ℕ, ◌%◌, ◌<◌, true, false, List, [], ◌∷◌, ◌++◌, length, refl, ap, arith, length-append}
 use Rattle.properties_format.specs.Text.{replacement}
 use Rattle.properties_format.specs.Pieces.{Piece, piece}
 use Rattle.properties_format.specs.Utf8.{tail, IsIn, NextBreaks, IsUtf8Piece, whole, stray, broken}
@@ -40,15 +40,11 @@ piece-more utf_16be p (b ∷ rest) y l h = utf_16-more high_first p b rest y h
 
 -- ---- Fewer bytes after the piece.
 
--- Bytes that break a sequence off still do if fewer of them follow.
-breaks-less : (bs rest z : List ℕ) → NextBreaks bs (rest ++ z) → NextBreaks bs rest
-breaks-less bs rest z h = grind (arith)
-
 -- In UTF-8, a piece stays one if fewer bytes follow it.
 utf_8-less : (p : Piece) (rest z : List ℕ) → IsUtf8Piece p (rest ++ z) → IsUtf8Piece p rest
 utf_8-less p rest z (whole h e) = whole h e
 utf_8-less p rest z (stray a e h) = stray a e h
-utf_8-less p rest z (broken a bs e h k) = broken a bs e h (breaks-less (a ∷ bs) rest z k)
+utf_8-less p rest z (broken a bs e h k) = broken a bs e h (search (rules))
 
 -- The front of an empty list is empty.
 pub no-front : {A : Type 0} (rest z : List A) → rest ++ z ≡ [] → rest ≡ []
@@ -61,8 +57,8 @@ none-right [] y h = h
 none-right (c ∷ x) y h = absurd (cc)
 
 -- A high surrogate before a unit that isn't low stays unpaired if fewer units follow it.
-alone-less : (unit : ℕ → ℕ → ℕ) (a b c d : ℕ) (more rest z : List ℕ) → IsEven rest → is_high (unit a b) ≡ true → rest ++ z ≡ c ∷ d ∷ more → is_low (unit c d) ≡ false
-    → IsUtf16Piece unit (piece (a ∷ b ∷ []) replacement) rest
+alone-less : (unit : ℕ → ℕ → ℕ) (a b c d : ℕ) (more rest z : List ℕ) → IsEven rest → is_high (unit a b) ≡ true → rest ++ z ≡ c ∷ d ∷ more
+    → is_low (unit c d) ≡ false → IsUtf16Piece unit (piece (a ∷ b ∷ []) replacement) rest
 alone-less unit a b c d more [] z l h s k = high_last a b refl h refl
 alone-less unit a b c d more (x1 ∷ []) z l h s k = absurd (omega arith)
 alone-less unit a b c d more (x1 ∷ x2 ∷ rest) z l h s k =
@@ -93,13 +89,9 @@ piece-less utf_16be p rest z l h = utf_16-less high_first p rest z l h
 pub aligned-nil : (e : Encoding) → IsAligned e []
 aligned-nil e = grind (arith)
 
--- If the whole and its first part are even in number, so is the second part.
-even-back : (x y : List ℕ) → IsEven x → IsEven (x ++ y) → IsEven y
-even-back x y h k = let l = length-append x y in omega arith
-
 -- If whole units come first and the whole ends at a unit's boundary, so does the second part.
 pub aligned-back : (e : Encoding) (x y : List ℕ) → IsAligned e x → IsAligned e (x ++ y) → IsAligned e y
-aligned-back e x y h k = grind (arith, even-back)
+aligned-back e x y h k = search (rules, length-append)
 
 -- A piece that a byte follows ends at a unit's boundary.
 pub piece-aligned : (e : Encoding) (p : Piece) (rest : List ℕ) → 0 < length rest → IsPiece e p rest → IsAligned e p.bytes

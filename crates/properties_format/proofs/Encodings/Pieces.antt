@@ -1,5 +1,5 @@
 -- The pieces of some bytes are the computed ones, and no others.
-use Rattle.std.proofs.Common.{◌≡◌, ℕ, zero, suc, ◌<◌, ◌≤◌, List, [], ◌∷◌, ◌++◌, length, drop, refl, sym, ap, ◌∙◌, arith, length-append}
+use Rattle.std.proofs.Common.{rules, ◌≡◌, ℕ, zero, suc, ◌<◌, ◌≤◌, List, [], ◌∷◌, ◌++◌, length, refl, sym, ap, ◌∙◌, arith, length-append}
 use Rattle.std.proofs.Math.Seq.{drop-append_seam}
 use Rattle.properties_format.specs.Pieces.{Piece, characters}
 use Rattle.properties_format.specs.Utf16.{low_first, high_first}
@@ -27,10 +27,6 @@ piece-read utf_16be p rest h = utf_16-read high_first p rest h
 
 -- ---- All pieces.
 
--- The computed pieces are a piece followed by those of the rest.
-read-piece : (e : Encoding) (n : ℕ) (p : Piece) (rest : List ℕ) → IsPiece e p rest → pieces_within e (suc n) (p.bytes ++ rest) ≡ p ∷ pieces_within e n rest
-read-piece e n p rest h = grind (arith, piece-read, drop-append_seam)
-
 -- A piece isn't empty.
 pub piece-length : (e : Encoding) (p : Piece) (rest : List ℕ) → IsPiece e p rest → length rest < length (p.bytes ++ rest)
 piece-length e p rest h = grind (arith, length-append)
@@ -43,7 +39,7 @@ within-only e (suc n) d (p ∷ ps) l (rest, s, h, k) =
     let m = piece-length e p rest h in
     let q : length d ≡ length (p.bytes ++ rest) = ap length s in
     let t : length rest ≤ n = omega arith in
-    ap (pieces_within e (suc n)) s ∙ read-piece e n p rest h ∙ ap (λ v. p ∷ v) (within-only e n rest ps t k)
+    ap (pieces_within e (suc n)) s ∙ search (rules, piece-read, drop-append_seam) ∙ ap (λ v. p ∷ v) (within-only e n rest ps t k)
 
 -- The computed pieces are pieces of the bytes.
 within-meets : (e : Encoding) (n : ℕ) (d : List ℕ) → length d ≤ n → IsPieces e d (pieces_within e n d)
@@ -54,9 +50,7 @@ within-meets e (suc n) (b ∷ d) l =
     let r = piece-length e (first_piece e b d) m.0 m.2 in
     let q : length (b ∷ d) ≡ length ((first_piece e b d).bytes ++ m.0) = ap length m.1 in
     let t : length m.0 ≤ n = omega arith in
-    let s : drop (length (first_piece e b d).bytes) (b ∷ d) ≡ m.0 =
-    ap (drop (length (first_piece e b d).bytes)) m.1 ∙ drop-append_seam (first_piece e b d).bytes m.0 in
-    (m.0, m.1, m.2, rw s (within-meets e n m.0 t))
+    grind (arith, drop-append_seam, within-meets e n m.0 t)
 
 -- The computed pieces are pieces of the bytes, and there are no others.
 pub pieces_of-meets : (e : Encoding) (d : List ℕ) → IsPieces e d (pieces_of e d)
@@ -70,7 +64,7 @@ pieces_of-only e d ps h = sym (within-only e (length d) d ps (omega arith) h)
 
 -- Some bytes decode to the computed text, and to no other.
 pub decoded_of-meets : (e : Encoding) (b : List ℕ) → IsDecoded e b (decoded_of e b)
-decoded_of-meets e b = (pieces_of (byte_order_mark e b).encoding (byte_order_mark e b).body, pieces_of-meets (byte_order_mark e b).encoding (byte_order_mark e b).body, refl)
+decoded_of-meets e b = grind (arith, pieces_of-meets)
 
 -- A text that some bytes decode to is the computed one.
 pub decoded_of-only : (e : Encoding) (b x : List ℕ) → IsDecoded e b x → x ≡ decoded_of e b

@@ -1,5 +1,5 @@
 -- The first piece of UTF-16 is the computed one, and no other.
-use Rattle.std.proofs.Common.{◌≡◌, ℕ, true, false, nat_le, nat_lt, List, [], ◌∷◌, refl, ◌∙◌, inl, inr}
+use Rattle.std.proofs.Common.{arith, ◌≡◌, ℕ, true, false, nat_le, nat_lt, List, [], ◌∷◌, refl, ◌∙◌, inl, inr}
 use Rattle.std.proofs.lemmas.Bool.{cond-true, cond-false, cases_Bool, and_parts, leb-true, le-ltb, and_right}
 use Rattle.properties_format.specs.Text.{replacement}
 use Rattle.properties_format.specs.Pieces.{Piece, piece}
@@ -10,9 +10,7 @@ use Rattle.properties_format.proofs.Encodings.FirstPieces.{Meets, IsRead}
 
 -- A low surrogate isn't a high one.
 pub low-not_high : (u : ℕ) → is_low u ≡ true → is_high u ≡ false
-low-not_high u h =
-    let k = and_parts (nat_le 0xdc00 u) (nat_lt u 0xe000) h in
-    and_right (nat_le 0xd800 u) (nat_lt u 0xdc00) (le-ltb u 0xdc00 (leb-true 0xdc00 u k.0))
+low-not_high u h = grind (arith, and_parts, nat_le, nat_lt, and_right, le-ltb, leb-true)
 
 module _ (unit : ℕ → ℕ → ℕ) where
   -- ---- The computed piece, by the kinds of the units.
@@ -23,7 +21,8 @@ module _ (unit : ℕ → ℕ → ℕ) where
   read-low : (a b : ℕ) (d : List ℕ) → is_low (unit a b) ≡ true → first_utf_16_piece unit a (b ∷ d) ≡ piece (a ∷ b ∷ []) replacement
   read-low a b d h = simp (cond-false, low-not_high, cond-true)
 
-  read-plain : (a b : ℕ) (d : List ℕ) → is_high (unit a b) ≡ false → is_low (unit a b) ≡ false → first_utf_16_piece unit a (b ∷ d) ≡ piece (a ∷ b ∷ []) (unit a b)
+  read-plain : (a b : ℕ) (d : List ℕ) → is_high (unit a b) ≡ false → is_low (unit a b) ≡ false
+      → first_utf_16_piece unit a (b ∷ d) ≡ piece (a ∷ b ∷ []) (unit a b)
   read-plain a b d h k = simp cond-false
 
   read-pair : (a b c d : ℕ) (more : List ℕ) → is_low (unit c d) ≡ true

@@ -1,9 +1,9 @@
 -- The characters of UTF-8 sequences.
-use Rattle.std.proofs.Common.{◌≡◌, ℕ, ◌+◌, ◌/◌, ◌%◌, ◌<◌, ◌≤◌, ◌⊎◌, nat_lt, List, [], ◌∷◌, ◌∙◌, arith, lt-ltb}
+use Rattle.std.proofs.Common.{rules, ◌≡◌, ℕ, ◌+◌, ◌/◌, ◌%◌, ◌<◌, ◌≤◌, nat_lt, List, [], ◌∷◌, ◌∙◌, arith, lt-ltb}
 use Rattle.std.proofs.lemmas.Bool.{cond-true, cond-false, le-ltb}
 use Rattle.std.specs.Char.{encode_utf8}
 use Rattle.properties_format.specs.Text.{scalar}
-use Rattle.properties_format.specs.Utf8.{tail, IsIn, IsWellFormed, sequence_character}
+use Rattle.properties_format.specs.Utf8.{IsWellFormed, sequence_character}
 
 -- ---- How a character is encoded.
 
@@ -34,20 +34,10 @@ encode-four c l = grind (arith)
 abbrev pub IsSequenceOf : List ℕ → ℕ → Type 0
 IsSequenceOf bs c = IsWellFormed bs × (c ≡ sequence_character bs)
 
--- A byte after the first is a tail byte.
-next-in : (c : ℕ) → IsIn tail (next c)
-next-in c = (omega arith, omega arith)
-
 -- From U+0800 on, the bytes of a scalar value are its sequence.
 is_sequence-long : (c : ℕ) → 0x800 ≤ c → scalar c → IsSequenceOf (encode_utf8 c) c
 is_sequence-long c l h = grind (arith, encode-three, encode-four)
-  where
-    low : c < 0x1_0000 → scalar c → c < 0xd800 ⊎ ((0xe000 ≤ c) × (c < 0x1_0000))
-    low h k = grind (arith)
-
-    high : scalar c → c < 0x11_0000
-    high h = grind (arith)
 
 -- The bytes of a character are its sequence.
 pub encode-is_sequence : (c : ℕ) → scalar c → IsSequenceOf (encode_utf8 c) c
-encode-is_sequence c h = grind (arith, encode-one, encode-two, next-in, is_sequence-long)
+encode-is_sequence c h = search (rules, encode-one, encode-two, is_sequence-long)

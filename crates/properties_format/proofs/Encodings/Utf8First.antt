@@ -1,5 +1,5 @@
 -- The first piece of UTF-8, by the number of bytes that fit the row of its first byte.
-use Rattle.std.proofs.Common.{◌≡◌, ◌≢◌, ℕ, suc, ◌==◌, false, List, [], ◌∷◌, length, take, Some, refl, sym, ap, ◌∙◌, subst, inl, inr, arith, eq-eqb, ne_eqb}
+use Rattle.std.proofs.Common.{◌≡◌, ◌≢◌, ℕ, suc, ◌==◌, false, List, ◌∷◌, length, take, Some, refl, sym, ap, ◌∙◌, subst, inl, inr, arith, eq-eqb, ne_eqb}
 use Rattle.std.proofs.Math.Dec.{eqb-suc-suc, eqb-zero-suc}
 use Rattle.std.proofs.Math.Seq.{take-append_seam}
 use Rattle.std.proofs.lemmas.Bool.{cases_Bool, cond-true, cond-false}
@@ -18,21 +18,19 @@ fitting-take rs d =
 
 -- If as many bytes fit as the row has, they don't wait for more.
 fits_short-whole : (rs : List Range) (d : List ℕ) → length (fitting rs d) ≡ length rs → fits_short rs d ≡ false
-fits_short-whole [] d h = refl
-fits_short-whole (r ∷ rs) [] h = absurd (omega arith)
 fits_short-whole (r ∷ rs) (b ∷ d) h = elim (cases_Bool (is_in r b)) [
   | inl k ↦ rw k (fits_short-whole rs d (let l = rw k at h in omega arith))
   | inr k ↦ rw k refl
 ]
+fits_short-whole rs d h1 = grind (arith)
 
 -- If fewer bytes fit than the row has, and they are all that there are, they wait for more.
 fits_short-all : (rs : List Range) (d : List ℕ) → length (fitting rs d) ≢ length rs → fits_short rs d ≡ (length (fitting rs d) == length d)
-fits_short-all [] d h = absurd (h refl)
-fits_short-all (r ∷ rs) [] h = refl
 fits_short-all (r ∷ rs) (b ∷ d) h = elim (cases_Bool (is_in r b)) [
   | inl k ↦ rw k (fits_short-all rs d (λ e. h (rw k (ap suc e))) ∙ sym (eqb-suc-suc (length (fitting rs d)) (length d)))
   | inr k ↦ rw k (sym (eqb-zero-suc (length d)))
 ]
+fits_short-all rs d h1 = grind (arith)
 
 -- As many bytes fit as the row of the first byte has, so they are a sequence.
 pub record IsWholeFirst (b : ℕ) (d : List ℕ) (n : ℕ) : Type 0 where
@@ -53,9 +51,7 @@ first_utf_8_piece-whole b rs d n e h k =
     let l : length (fitting rs d) ≡ length rs = sym h ∙ k in
     let P : List ℕ → Type 0 = λ v. scalar (sequence_character (b ∷ v)) in
     record {
-      whole = ap (λ o. (utf_8_piece_by o b d).character) e
-          ∙ cond-true (length (fitting rs d) == length rs) (sequence_character (b ∷ fitting rs d)) replacement (eq-eqb (length (fitting rs d)) (length rs) l)
-          ∙ ap (λ v. sequence_character (b ∷ v)) (sym t);
+      whole = grind (arith, cond-true, eq-eqb);
       bytes = ap (λ o. length (utf_8_piece_by o b d).bytes) e ∙ ap suc (sym h);
       is_scalar = subst P (sym t) (sequence-scalar (b ∷ fitting rs d) ((row-sequence b rs e).1 (fitting rs d) (fitted-row rs d l)));
       decided = ap (λ o. awaits_byte o d) e ∙ fits_short-whole rs d l;
@@ -70,11 +66,4 @@ pub record IsBrokenFirst (b : ℕ) (d : List ℕ) (n : ℕ) : Type 0 where
 -- The first piece is broken if the number of bytes that fit differs from the row's.
 pub first_utf_8_piece-broken : (b : ℕ) (rs : List Range) (d : List ℕ) (n : ℕ)
     → ranges_after well_formed_rows b ≡ Some rs → n ≡ length (fitting rs d) → n ≢ length rs → IsBrokenFirst b d n
-first_utf_8_piece-broken b rs d n e h k =
-    let l : length (fitting rs d) ≢ length rs = λ q. k (h ∙ q) in
-    record {
-      broken = ap (λ o. (utf_8_piece_by o b d).character) e
-          ∙ cond-false (length (fitting rs d) == length rs) (sequence_character (b ∷ fitting rs d)) replacement (ne_eqb (length (fitting rs d)) (length rs) l);
-      bytes = ap (λ o. length (utf_8_piece_by o b d).bytes) e ∙ ap suc (sym h);
-      waits = ap (λ o. awaits_byte o d) e ∙ fits_short-all rs d l ∙ ap (λ v. v == length d) (sym h);
-    }
+first_utf_8_piece-broken b rs d n e h k = grind (arith, cond-false, ne_eqb, fits_short-all)

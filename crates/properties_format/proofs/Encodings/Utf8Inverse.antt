@@ -1,15 +1,11 @@
 -- A character has exactly one well-formed sequence: its encoding.
-use Rattle.std.proofs.Common.{◌≡◌, ℕ, ◌%◌, ◌^◌, ◌≤◌, List, [], ◌∷◌, ap, ◌∙◌, arith}
+use Rattle.std.proofs.Common.{rules, ◌≡◌, ℕ, ◌≤◌, List, [], ◌∷◌, arith}
 use Rattle.std.specs.Char.{encode_utf8}
 use Rattle.properties_format.specs.Utf8.{tail, IsIn, IsWellFormed, sequence_character}
 use Rattle.properties_format.proofs.Encodings.Utf8Characters.{encode-one, encode-two, encode-three, encode-four}
 
 abbrev Inverts : List ℕ → Type 0
 Inverts bs = encode_utf8 (sequence_character bs) ≡ bs
-
--- Encoding the character of a one-byte sequence gives the sequence back.
-invert-one : (a : ℕ) → a ≤ 0x7f → Inverts (a ∷ [])
-invert-one a h = let e : a % 2 ^ 7 ≡ a = omega arith in encode-one (a % 2 ^ 7) (omega arith) ∙ ap (λ v. v ∷ []) e
 
 -- Encoding the character of a two-byte sequence gives the sequence back.
 invert-two : (a b : ℕ) → 0xc2 ≤ a → a ≤ 0xdf → IsIn tail b → Inverts (a ∷ b ∷ [])
@@ -20,9 +16,10 @@ invert-three : (a b c : ℕ) → 0xe0 ≤ a → a ≤ 0xef → IsIn tail b → I
 invert-three a b c h k l m n = grind (arith, encode-three)
 
 -- Encoding the character of a four-byte sequence gives the sequence back, if the character is U+10000 or above.
-invert-four : (a b c d : ℕ) → 0xf0 ≤ a → a ≤ 0xf4 → IsIn tail b → IsIn tail c → IsIn tail d → 0x1_0000 ≤ sequence_character (a ∷ b ∷ c ∷ d ∷ []) → Inverts (a ∷ b ∷ c ∷ d ∷ [])
+invert-four : (a b c d : ℕ) → 0xf0 ≤ a → a ≤ 0xf4 → IsIn tail b → IsIn tail c → IsIn tail d → 0x1_0000 ≤ sequence_character (a ∷ b ∷ c ∷ d ∷ [])
+    → Inverts (a ∷ b ∷ c ∷ d ∷ [])
 invert-four a b c d h k l m n o = grind (arith, encode-four)
 
 -- Encoding the character of a sequence gives the sequence back.
 pub encode-sequence : (bs : List ℕ) → IsWellFormed bs → encode_utf8 (sequence_character bs) ≡ bs
-encode-sequence bs h = grind (arith, invert-one, invert-two, invert-three, invert-four)
+encode-sequence bs h = search (rules, invert-two, invert-three, invert-four, encode-one)

@@ -1,12 +1,12 @@
 -- The first piece of UTF-8 is the computed one, and no other.
-use Rattle.std.proofs.Common.{◌≡◌, ℕ, ◌<◌, ◌==◌, true, false, List, [], ◌∷◌, ◌++◌, length, Option, Some, None, refl, sym, ap, ◌∙◌, subst, inl, inr, arith, eq-eqb, ne_eqb}
+use Rattle.std.proofs.Common.{rules, ◌≡◌, ℕ, ◌<◌, List, [], ◌∷◌, ◌++◌, length, Option, Some, None, refl, sym, ap, ◌∙◌, inl, inr, arith, eq-eqb, ne_eqb}
 use Rattle.std.proofs.lemmas.Bool.{cond-true, cond-false}
 use Rattle.std.proofs.lemmas.Option.{none-some, same_Some}
 use Rattle.properties_format.specs.Text.{replacement}
 use Rattle.properties_format.specs.Pieces.{Piece, piece}
-use Rattle.properties_format.specs.Utf8.{Range, well_formed_rows, IsWellFormed, Begins, BeginsLonger, NextBreaks, sequence_character, IsUtf8Piece, whole, stray, broken}
+use Rattle.properties_format.specs.Utf8.{Range, well_formed_rows, Begins, BeginsLonger, NextBreaks, IsUtf8Piece, whole, stray, broken}
 use Rattle.properties_format.specs.Computed.Utf8.{ranges_after, fitting, utf_8_piece, utf_8_piece_by, first_utf_8_piece}
-use Rattle.properties_format.proofs.Encodings.Utf8Rows.{FitsFront, Breaks, Fitted, front-of_row, length-row, shorter-than_row, row-of_front, longer-of_front, fitting-row, fitting-broken, fitting-fits, sequence-row, row-sequence, sequence-nonempty}
+use Rattle.properties_format.proofs.Encodings.Utf8Rows.{FitsFront, Fitted, front-of_row, length-row, shorter-than_row, row-of_front, longer-of_front, fitting-row, fitting-broken, fitting-fits, sequence-row, row-sequence, sequence-nonempty}
 use Rattle.properties_format.proofs.Encodings.FirstPieces.{Meets, IsRead}
 
 -- ---- Bytes begin a sequence exactly if they fit the front of the row of the first byte.
@@ -25,30 +25,21 @@ front-begins b bs rs e h = grind (arith, row-sequence, row-of_front)
 front-of-begins : (b : ℕ) (bs : List ℕ) (rs : List Range) → ranges_after well_formed_rows b ≡ Some rs → Begins (b ∷ bs) → FitsFront rs bs
 front-of-begins b bs rs e h =
     let f = begins-front b bs h in
-    let P : List Range → Type 0 = λ v. FitsFront v bs in
-    subst P (same_Some f.0 rs (sym f.1 ∙ e)) f.2
+    grind (arith, same_Some)
 
 -- ---- The computed piece is a piece.
 
--- If the next byte doesn't fit the row, it breaks the sequence off.
-breaks-next : (b : ℕ) (bs rest : List ℕ) (rs : List Range) → ranges_after well_formed_rows b ≡ Some rs → Breaks rs bs rest → NextBreaks (b ∷ bs) rest
-breaks-next b bs rest rs h k = grind (arith, front-of-begins)
-
--- If the next byte breaks the sequence off, it doesn't fit the row.
-next-breaks : (b : ℕ) (bs rest : List ℕ) (rs : List Range) → ranges_after well_formed_rows b ≡ Some rs → NextBreaks (b ∷ bs) rest → Breaks rs bs rest
-next-breaks b bs rest rs h k = grind (arith, front-begins)
-
 -- A byte with a row, with the bytes after it that fit, is a piece at the front.
-fitted-meets : (b : ℕ) (d bs : List ℕ) (rs : List Range) → ranges_after well_formed_rows b ≡ Some rs → Fitted rs d bs → Meets IsUtf8Piece (utf_8_piece b bs (length rs)) (b ∷ d)
-fitted-meets b d bs rs e (rest, s, inl k) =
-    (rest, ap (λ v. b ∷ v) s, whole ((row-sequence b rs e).1 bs k) (cond-true (length bs == length rs) (sequence_character (b ∷ bs)) replacement (eq-eqb (length bs) (length rs) (length-row rs bs k))))
+fitted-meets : (b : ℕ) (d bs : List ℕ) (rs : List Range) → ranges_after well_formed_rows b ≡ Some rs → Fitted rs d bs
+    → Meets IsUtf8Piece (utf_8_piece b bs (length rs)) (b ∷ d)
+fitted-meets b d bs rs e (rest, s, inl k) = search (rules, row-sequence, cond-true, eq-eqb, length-row)
 fitted-meets b d bs rs e (rest, s, inr k) =
     let l = longer-of_front rs bs (row-sequence b rs e).0 k.1 k.0 in
     let short : length bs < length rs = k.0 in (
       rest,
       ap (λ v. b ∷ v) s,
-      broken b bs (ap (λ v. piece (b ∷ bs) v) (cond-false (length bs == length rs) (sequence_character (b ∷ bs)) replacement (ne_eqb (length bs) (length rs) (λ q. omega arith))))
-          (l.0, l.1, (row-sequence b rs e).1 (bs ++ l.0 ∷ l.1) l.2) (breaks-next b bs rest rs e k.2),
+      broken b bs (ap (λ v. piece (b ∷ bs) v) (cond-false _ _ replacement (ne_eqb (length bs) (length rs) (λ q. omega arith))))
+          (l.0, l.1, (row-sequence b rs e).1 (bs ++ l.0 ∷ l.1) l.2) (search (rules, front-of-begins)),
     )
 
 -- The computed piece is a piece at the front, whether or not the byte has a row.
@@ -62,21 +53,6 @@ utf_8-meets b d = meets-by b d (ranges_after well_formed_rows b) refl
 
 -- ---- A piece is the computed one.
 
--- For a well-formed sequence.
-whole-read : (bytes : List ℕ) (c : ℕ) (rest : List ℕ) → IsWellFormed bytes → c ≡ sequence_character bytes → IsRead first_utf_8_piece (piece bytes c) rest
-whole-read [] c rest h e = absurd (sequence-nonempty h)
-whole-read (b ∷ bs) c rest h e =
-    let r = sequence-row b bs h in
-    let t : (length bs == length r.0) ≡ true = eq-eqb (length bs) (length r.0) (length-row r.0 bs r.2) in
-    record {
-      byte = b;
-      others = bs;
-      bytes = refl;
-      reads = ap (λ v. utf_8_piece_by v b (bs ++ rest)) r.1
-          ∙ ap (λ v. utf_8_piece b v (length r.0)) (fitting-row r.0 bs rest r.2)
-          ∙ ap (λ v. piece (b ∷ bs) v) (cond-true (length bs == length r.0) (sequence_character (b ∷ bs)) replacement t ∙ sym e);
-    }
-
 -- For a byte that begins no sequence.
 stray-read : (b : ℕ) (rest : List ℕ) → ¬ Begins (b ∷ []) → IsRead first_utf_8_piece (piece (b ∷ []) replacement) rest
 stray-read b rest h = record { byte = b; others = []; bytes = refl; reads = ap (λ v. utf_8_piece_by v b rest) (none (ranges_after well_formed_rows b) refl) }
@@ -89,17 +65,7 @@ stray-read b rest h = record { byte = b; others = []; bytes = refl; reads = ap (
 broken-read : (b : ℕ) (bs rest : List ℕ) → BeginsLonger (b ∷ bs) → NextBreaks (b ∷ bs) rest → IsRead first_utf_8_piece (piece (b ∷ bs) replacement) rest
 broken-read b bs rest h k =
     let r = sequence-row b (bs ++ h.0 ∷ h.1) h.2 in
-    let short : length bs < length r.0 = shorter-than_row r.0 bs h.0 h.1 r.2 in
-    let f : FitsFront r.0 bs = front-of_row r.0 bs (h.0 ∷ h.1) r.2 in
-    let t : (length bs == length r.0) ≡ false = ne_eqb (length bs) (length r.0) (λ q. omega arith) in
-    record {
-      byte = b;
-      others = bs;
-      bytes = refl;
-      reads = ap (λ v. utf_8_piece_by v b (bs ++ rest)) r.1
-          ∙ ap (λ v. utf_8_piece b v (length r.0)) (fitting-broken r.0 bs rest f (next-breaks b bs rest r.0 r.1 k))
-          ∙ ap (λ v. piece (b ∷ bs) v) (cond-false (length bs == length r.0) (sequence_character (b ∷ bs)) replacement t);
-    }
+    search (rules, shorter-than_row, front-of_row, ne_eqb, fitting-broken, cond-false, front-begins)
 
 -- A piece equal to the computed one is the computed one.
 read-at : (p q : Piece) (rest : List ℕ) → q ≡ p → IsRead first_utf_8_piece p rest → IsRead first_utf_8_piece q rest
@@ -107,6 +73,6 @@ read-at p q rest e h = rw e h
 
 -- Each piece is the computed one.
 pub utf_8-read : (p : Piece) (rest : List ℕ) → IsUtf8Piece p rest → IsRead first_utf_8_piece p rest
-utf_8-read p rest (whole h e) = whole-read p.bytes p.character rest h e
+utf_8-read p rest (whole h e) = search (rules, sequence-nonempty, sequence-row, eq-eqb, length-row, fitting-row, cond-true)
 utf_8-read p rest (stray b e h) = read-at (piece (b ∷ []) replacement) p rest e (stray-read b rest h)
 utf_8-read p rest (broken b bs e h k) = read-at (piece (b ∷ bs) replacement) p rest e (broken-read b bs rest h k)

@@ -64,8 +64,7 @@ row-of_front (r ∷ rs) [] filled h =
     (r.least ∷ m.0, ((omega arith, l), m.1))
 row-of_front (r ∷ rs) (b ∷ bs) filled h =
     let k = and_parts (nat_le r.least r.most) (are_filled rs) filled in
-    let m = row-of_front rs bs k.1 h.1 in
-    (m.0, (h.0, m.1))
+    grind (arith, row-of_front rs bs k.1 h.1)
 
 -- Bytes that fit a beginning and are fewer than the ranges can be completed with at least one byte.
 pub longer-of_front : (rs : List Range) (bs : List ℕ) → are_filled rs ≡ true → FitsFront rs bs → length bs < length rs
@@ -79,8 +78,7 @@ longer-of_front (r ∷ rs) [] filled h short =
     (r.least, m.0, ((omega arith, l), m.1))
 longer-of_front (r ∷ rs) (b ∷ bs) filled h short =
     let k = and_parts (nat_le r.least r.most) (are_filled rs) filled in
-    let m = longer-of_front rs bs k.1 h.1 (omega arith) in
-    (m.0, m.1, (h.0, m.2))
+    grind (arith, longer-of_front rs bs k.1 h.1 (omega arith))
 
 -- ---- The longest front that fits.
 
@@ -103,8 +101,7 @@ breaks-tail r rs b bs rest h k = grind (arith)
 pub fitting-broken : (rs : List Range) (bs rest : List ℕ) → FitsFront rs bs → Breaks rs bs rest → fitting rs (bs ++ rest) ≡ bs
 fitting-broken rs [] rest h k = fitting-none rs rest k
 fitting-broken [] (b ∷ bs) rest h k = absurd h
-fitting-broken (r ∷ rs) (b ∷ bs) rest h k =
-    rw (is_in-true r b h.0) (ap (λ v. b ∷ v) (fitting-broken rs bs rest h.1 (breaks-tail r rs b bs rest h.0 k)))
+fitting-broken (r ∷ rs) (b ∷ bs) rest h k = grind (arith, is_in-true, fitting-broken rs bs rest h.1 (breaks-tail r rs b bs rest h.0 k), breaks-tail)
 
 -- the bytes of d that fit, and the rest: all ranges are used, or the next byte doesn't fit
 abbrev pub Fitted : List Range → List ℕ → List ℕ → Type 0
@@ -112,11 +109,7 @@ Fitted rs d bs = (rest : List ℕ) × (d ≡ bs ++ rest) × (FitsRow rs bs ⊎ (
 
 -- One more byte at the front, and one more range.
 fitted-more : (r : Range) (rs : List Range) (b : ℕ) (d bs : List ℕ) → IsIn r b → Fitted rs d bs → Fitted (r ∷ rs) (b ∷ d) (b ∷ bs)
-fitted-more r rs b d bs h (rest, e, inl k) = (rest, ap (λ v. b ∷ v) e, inl (h, k))
-fitted-more r rs b d bs h (rest, e, inr k) = (rest, ap (λ v. b ∷ v) e, inr (omega arith, (h, k.1), breaks-on rest k.2))
-  where
-    breaks-on : (rest : List ℕ) → Breaks rs bs rest → Breaks (r ∷ rs) (b ∷ bs) rest
-    breaks-on rest h = grind (arith)
+fitted-more r rs b d bs h1 h2 = grind (arith)
 
 -- The computed bytes are the ones that fit.
 pub fitting-fits : (rs : List Range) (d : List ℕ) → Fitted rs d (fitting rs d)
@@ -162,9 +155,7 @@ row-of low ([] ∷ more) b bs h k = absurd (cc)
 row-of low ((r ∷ rs) ∷ more) b bs h (inl k) = (rs, cond-true (is_in r b) (Some rs) (ranges_after more b) (is_in-true r b k.0), k.1)
 row-of low ((r ∷ rs) ∷ more) b bs h (inr k) =
     let a = ascending-parts low r rs more h in
-    let l = above (suc r.most) more b bs a.others k in
-    let m = row-of (suc r.most) more b bs a.others k in
-    (m.0, cond-false (is_in r b) (Some rs) (ranges_after more b) (is_in-false r b (λ q. omega arith)) ∙ m.1, m.2)
+    grind (arith, above, row-of (suc r.most) more b bs a.others k, cond-false, is_in-false)
 
 -- Bytes that fit the ranges in the row of a first byte make a sequence with it, and none of the ranges is empty.
 row-fits : (low : ℕ) (table : List (List Range)) (b : ℕ) (rs : List Range) → are_ascending low table ≡ true → ranges_after table b ≡ Some rs
@@ -172,10 +163,7 @@ row-fits : (low : ℕ) (table : List (List Range)) (b : ℕ) (rs : List Range) �
 row-fits low [] b rs h k = absurd (none-some rs k)
 row-fits low ([] ∷ more) b rs h k = absurd (cc)
 row-fits low ((r ∷ qs) ∷ more) b rs h k = elim (cases_Bool (is_in r b)) [
-  | inl m ↦
-      let a = ascending-parts low r qs more h in
-      let e : qs ≡ rs = same_Some qs rs (sym (cond-true (is_in r b) (Some qs) (ranges_after more b) m) ∙ k) in
-      rw (← e) (a.filled, λ bs q. inl (in-range r b m, q))
+  | inl m ↦ grind (arith, ascending-parts, same_Some, cond-true, in-range)
   | inr m ↦
       let a = ascending-parts low r qs more h in
       let f = row-fits (suc r.most) more b rs a.others (sym (cond-false (is_in r b) (Some qs) (ranges_after more b) m) ∙ k) in
@@ -187,7 +175,8 @@ pub sequence-row : (b : ℕ) (bs : List ℕ) → FitsSome well_formed_rows (b �
 sequence-row b bs h = row-of 0 well_formed_rows b bs refl h
 
 -- Bytes that fit that row make a well-formed sequence with the first byte, and none of its ranges is empty.
-pub row-sequence : (b : ℕ) (rs : List Range) → ranges_after well_formed_rows b ≡ Some rs → (are_filled rs ≡ true) × ((bs : List ℕ) → FitsRow rs bs → FitsSome well_formed_rows (b ∷ bs))
+pub row-sequence : (b : ℕ) (rs : List Range) → ranges_after well_formed_rows b ≡ Some rs
+    → (are_filled rs ≡ true) × ((bs : List ℕ) → FitsRow rs bs → FitsSome well_formed_rows (b ∷ bs))
 row-sequence b rs h = row-fits 0 well_formed_rows b rs refl h
 
 -- If each row has a first byte, an empty list fits none.
@@ -209,13 +198,12 @@ each_row test ([] ∷ more) = each_row test more
 each_row test ((r ∷ rs) ∷ more) = test rs && each_row test more
 
 -- If each row passes the test, so do the ranges in the row of a first byte.
-row-passes : (test : List Range → Bool) (table : List (List Range)) (b : ℕ) (rs : List Range) → each_row test table ≡ true → ranges_after table b ≡ Some rs → test rs ≡ true
+row-passes : (test : List Range → Bool) (table : List (List Range)) (b : ℕ) (rs : List Range) → each_row test table ≡ true
+    → ranges_after table b ≡ Some rs → test rs ≡ true
 row-passes test [] b rs h k = absurd (none-some rs k)
 row-passes test ([] ∷ more) b rs h k = row-passes test more b rs h k
 row-passes test ((r ∷ qs) ∷ more) b rs h k = elim (cases_Bool (is_in r b)) [
-  | inl m ↦
-      let e : qs ≡ rs = same_Some qs rs (sym (cond-true (is_in r b) (Some qs) (ranges_after more b) m) ∙ k) in
-      ap test (sym e) ∙ (and_parts (test qs) (each_row test more) h).0
+  | inl m ↦ grind (arith, same_Some, cond-true, and_parts)
   | inr m ↦ row-passes test more b rs (and_parts (test qs) (each_row test more) h).1 (sym (cond-false (is_in r b) (Some qs) (ranges_after more b) m) ∙ k)
 ]
 

@@ -15,19 +15,14 @@ same-some o k h = grind (arith)
 
 -- a byte's character has that byte
 pub windows_1252_byte-character : (b : ℕ) → byte b → windows_1252_byte (windows_1252_character b) ≡ Some b
-windows_1252_byte-character b h =
-    same-some (windows_1252_byte (windows_1252_character b)) b (agree_below_at (λ k. is_some_of (windows_1252_byte (windows_1252_character k)) k) (λ k. true) 0x100 b refl h)
+windows_1252_byte-character b h = same-some _ b (agree_below_at (λ k. is_some_of (windows_1252_byte (windows_1252_character k)) k) (λ k. true) 0x100 b refl h)
 
 -- The character is found at the index that the search returns.
 place-found : (n : ℕ) (xs : List ℕ) (c b : ℕ) → place_from n xs c ≡ Some b → (n ≤ b) × (b < n + length xs) × ((k : ℕ) → n + k ≡ b → slice_index xs k ≡ c)
 place-found n [] c b h = absurd (none-some b h)
 place-found n (x ∷ xs) c b h = elim (cases_Bool (x == c)) [
-  | inl k ↦
-      let e : n ≡ b = same_Some n b (sym (cond-true (x == c) (Some n) (place_from (n + 1) xs c) k) ∙ h) in
-      (omega arith, omega arith, here e (eqb-true x c k))
-  | inr k ↦
-      let f = place-found (n + 1) xs c b (sym (cond-false (x == c) (Some n) (place_from (n + 1) xs c) k) ∙ h) in
-      (omega arith, omega arith, there f.0 f.2)
+  | inl k ↦ grind (arith, same_Some, cond-true, eqb-true)
+  | inr k ↦ grind (arith, place-found (n + 1) xs c b (sym (cond-false (x == c) (Some n) (place_from (n + 1) xs c) k) ∙ h), cond-false)
 ]
   where
     here : n ≡ b → x ≡ c → (k : ℕ) → n + k ≡ b → slice_index (x ∷ xs) k ≡ c
@@ -39,17 +34,12 @@ place-found n (x ∷ xs) c b h = elim (cases_Bool (x == c)) [
 -- The byte of a character has that character.
 pub windows_1252_character-byte : (c b : ℕ) → windows_1252_byte c ≡ Some b → (windows_1252_character b ≡ c) × byte b
 windows_1252_character-byte c b h = elim (cases_Bool (nat_lt c 0x100 && not (is_in_table c))) [
-  | inl k ↦
-      let p = and_parts (nat_lt c 0x100) (not (is_in_table c)) k in
-      let l : c < 0x100 = ltb-true c 0x100 p.0 in
-      let e : c ≡ b = same_Some c b (sym (cond-true (nat_lt c 0x100 && not (is_in_table c)) (Some c) (place_from 0x80 windows_1252_table c) k) ∙ h) in
-      (rw (← e) (cond-false (is_in_table c) _ c (not-true (is_in_table c) p.1)), omega arith)
+  | inl k ↦ grind (arith, and_parts, nat_lt, ltb-true, same_Some, cond-true, cond-false, not-true)
   | inr k ↦
-      let f = place-found 0x80 windows_1252_table c b (sym (cond-false (nat_lt c 0x100 && not (is_in_table c)) (Some c) (place_from 0x80 windows_1252_table c) k) ∙ h) in
+      let f = place-found 0x80 windows_1252_table c b (sym (cond-false _ (Some c) _ k) ∙ h) in
       let low : 0x80 ≤ b = f.0 in
       let high : b < 0xa0 = f.1 in (
-        cond-true (is_in_table b) (slice_index windows_1252_table (b - 0x80)) b (and_from (nat_le 0x80 b) (nat_lt b 0xa0) (le-leb 0x80 b low) (lt-ltb b 0xa0 high))
-            ∙ f.2 (b - 0x80) (omega arith),
+        cond-true (is_in_table b) _ b (and_from (nat_le 0x80 b) (nat_lt b 0xa0) (le-leb 0x80 b low) (lt-ltb b 0xa0 high)) ∙ f.2 (b - 0x80) (omega arith),
         omega arith,
       )
 ]

@@ -1,8 +1,8 @@
 -- The digits of a UTF-16 unit, and the value that they are read as.
 use Rattle.std.proofs.Common.{◌≡◌, ◌==◌, ℕ, ◌+◌, ◌*◌, ◌/◌, ◌%◌, ◌<◌, true, false, arith}
 use Rattle.std.specs.Char.{digit_char}
-use Rattle.std.proofs.lemmas.Bool.{and_from, le-leb, lt-ltb}
-use Rattle.properties_format.specs.Text.{backslash, is_blank, is_separator}
+use Rattle.std.proofs.lemmas.Bool.{and_from, and_parts, le-leb, lt-ltb}
+use Rattle.properties_format.specs.Text.{backslash, is_blank, is_line_end, is_separator}
 use Rattle.properties_format.specs.Escapes.{is_hexadecimal, hexadecimal_value, Four, are_hexadecimal, code_unit, is_high, is_low}
 use Rattle.properties_format.specs.Printing.{high_surrogate, low_surrogate}
 
@@ -20,6 +20,15 @@ hexadecimal-plain c h = (not_backslash c h, grind (arith), grind (arith))
   where
     not_backslash : (c : ℕ) → is_hexadecimal c ≡ true → (c == backslash) ≡ false
     not_backslash c h = grind (arith)
+
+-- A hexadecimal digit isn't a line ending.
+pub digit-plain : (c : ℕ) → is_hexadecimal c ≡ true → is_line_end c ≡ false
+digit-plain c h = grind (arith)
+
+-- Each of four hexadecimal digits is a hexadecimal digit.
+pub digits : (d : Four) → are_hexadecimal d ≡ true
+    → (is_hexadecimal d.first ≡ true) × (is_hexadecimal d.second ≡ true) × (is_hexadecimal d.third ≡ true) × (is_hexadecimal d.fourth ≡ true)
+digits d h = grind (arith, and_parts)
 
 -- the four lower-case digits of a unit
 abbrev pub unit_digits : ℕ → Four

@@ -1,9 +1,9 @@
 -- Which spelling a text begins with: at most one, and the computation finds it.
-use Rattle.std.proofs.Common.{◌≡◌, ℕ, ◌==◌, ◌&&◌, true, false, List, [], ◌∷◌, ◌++◌, Option, Some, None, refl, ap, ◌∙◌, inl, inr}
+use Rattle.std.proofs.Common.{rules, arith, ◌≡◌, ℕ, ◌==◌, ◌&&◌, true, false, List, [], ◌∷◌, ◌++◌, Option, Some, None, refl, ap, ◌∙◌, inl, inr}
 use Rattle.std.proofs.lemmas.Bool.{cases_Bool, eqb-true, and_parts, or_parts, or_from}
 use Rattle.properties_format.specs.Text.{backslash}
 use Rattle.properties_format.specs.Escapes.{letter_u, Four, four_text, are_hexadecimal, code_unit, is_high, is_low, is_surrogate, Spelling, unicode, surrogates, spelling_text, IsSpelling, NoSpelling}
-use Rattle.properties_format.specs.Computed.Escapes.{with_low, with_digits, after_u, after_backslash, first_spelling}
+use Rattle.properties_format.specs.Computed.Escapes.{with_low, with_digits, after_u, first_spelling}
 
 -- the spelling that the text begins with, if there is one
 abbrev pub spelling_of : List ℕ → Option Spelling
@@ -18,13 +18,9 @@ high-surrogate n e = (or_parts (is_high n) (is_low n) e).0
 low-surrogate : (n : ℕ) → is_surrogate n ≡ false → is_low n ≡ false
 low-surrogate n e = (or_parts (is_high n) (is_low n) e).1
 
--- Four digits whose value isn't a surrogate are one escape.
-digits-unicode : (d : Four) (rest : List ℕ) → are_hexadecimal d ≡ true → is_surrogate (code_unit d) ≡ false → with_digits d rest ≡ Some (unicode d)
-digits-unicode d rest h k = rw h (rw (high-surrogate (code_unit d) k) (rw (low-surrogate (code_unit d) k) refl))
-
 -- The spelling at the front is found.
 pub spelling_of-only : (p : Spelling) (rest : List ℕ) → IsSpelling p rest → spelling_of (spelling_text p ++ rest) ≡ Some p
-spelling_of-only (unicode d) rest h = digits-unicode d rest h.0 h.1
+spelling_of-only (unicode d) rest h = search (rules, high-surrogate, low-surrogate)
 spelling_of-only (surrogates high low) rest h = rw (h.0, h.1, h.2, h.3) refl
 spelling_of-only p rest h = rw h refl
 
@@ -56,11 +52,7 @@ escape-found after = record { after = after; whole = refl }
 -- What passes the test for the escape of a low surrogate is a `\u` and the digits of one.
 low-parts : (x y : ℕ) (low : Four) → ((x == backslash && y == letter_u) && (are_hexadecimal low && is_low (code_unit low))) ≡ true
     → (x ≡ backslash) × (y ≡ letter_u) × (are_hexadecimal low ≡ true) × (is_low (code_unit low) ≡ true)
-low-parts x y low e =
-    let p = and_parts (x == backslash && y == letter_u) (are_hexadecimal low && is_low (code_unit low)) e in
-    let q = and_parts (x == backslash) (y == letter_u) p.0 in
-    let r = and_parts (are_hexadecimal low) (is_low (code_unit low)) p.1 in
-    (eqb-true x backslash q.0, eqb-true y letter_u q.1, r.0, r.1)
+low-parts x y low e = grind (arith, and_parts, eqb-true)
 
 -- What is found at the digits of a high surrogate is there; or nothing is found, and the text begins with a `\u`.
 low-found : (high : Four) (rest : List ℕ) → are_hexadecimal high ≡ true → is_high (code_unit high) ≡ true
@@ -68,12 +60,7 @@ low-found : (high : Four) (rest : List ℕ) → are_hexadecimal high ≡ true �
 low-found high (x ∷ y ∷ a ∷ b ∷ c ∷ d ∷ rest) h k =
     let low : Four = record { first = a; second = b; third = c; fourth = d } in
     elim (cases_Bool ((x == backslash && y == letter_u) && (are_hexadecimal low && is_low (code_unit low)))) [
-      | inl e ↦ rw e (let p = low-parts x y low e in record {
-        rest = rest;
-        whole = ap (λ v. backslash ∷ letter_u ∷ four_text high ++ (v ∷ y ∷ four_text low ++ rest)) p.0
-            ∙ ap (λ v. backslash ∷ letter_u ∷ four_text high ++ (backslash ∷ v ∷ four_text low ++ rest)) p.1;
-        is_spelling = (h, k, p.2, p.3);
-      })
+      | inl e ↦ rw e (let p = low-parts x y low e in record { rest = rest; whole = grind (arith); is_spelling = (h, k, p.2, p.3) })
       | inr e ↦ rw e (escape-found (four_text high ++ (x ∷ y ∷ a ∷ b ∷ c ∷ d ∷ rest)))
     ]
 low-found high rest h k = escape-found (four_text high ++ rest)
@@ -96,17 +83,6 @@ u-found : (after : List ℕ) → IsFound (backslash ∷ letter_u ∷ after) (aft
 u-found (a ∷ b ∷ c ∷ d ∷ rest) = digits-found record { first = a; second = b; third = c; fourth = d } rest
 u-found after = escape-found after
 
--- What is found after a backslash is there; or nothing is found, and the text begins with a `\u`.
-backslash-found : (cs : List ℕ) → IsFound (backslash ∷ cs) (after_backslash cs)
-backslash-found [] = record { rest = []; whole = refl; is_spelling = refl }
-backslash-found (c ∷ cs) = elim (cases_Bool (c == letter_u)) [
-  | inl e ↦ rw e (rw (eqb-true c letter_u e) (u-found cs))
-  | inr e ↦ rw e (record { rest = cs; whole = refl; is_spelling = e })
-]
-
 -- What is found at any character is there; or nothing is found, and the text begins with a `\u`.
 pub first_spelling-found : (c : ℕ) (cs : List ℕ) → IsFound (c ∷ cs) (first_spelling c cs)
-first_spelling-found c cs = elim (cases_Bool (c == backslash)) [
-  | inl e ↦ rw e (rw (eqb-true c backslash e) (backslash-found cs))
-  | inr e ↦ rw e (record { rest = cs; whole = refl; is_spelling = e })
-]
+first_spelling-found c cs = grind (arith, eqb-true, u-found)

@@ -49,7 +49,8 @@ AreWhole-spellings [] rest h = tt
 AreWhole-spellings (p ∷ ps) rest h = (IsWhole-spelling p (spellings_before ps rest) h.0, AreWhole-spellings ps rest h.1)
 
 -- whole spellings before any text
-pub meaning_of-whole : (ps : List Spelling) (rest : List ℕ) → AreWhole ps → meaning_of (spellings_before ps rest) ≡ text_in_front (map spelling_character ps) (meaning_of rest)
+pub meaning_of-whole : (ps : List Spelling) (rest : List ℕ) → AreWhole ps
+    → meaning_of (spellings_before ps rest) ≡ text_in_front (map spelling_character ps) (meaning_of rest)
 meaning_of-whole ps rest h = meaning_of-spellings ps rest (AreWhole-spellings ps rest h)
 
 -- whole spellings by themselves

@@ -1,7 +1,7 @@
 -- A text of scalar values means a text of scalar values.
 use Rattle.std.proofs.Common.{◌≡◌, ℕ, ◌<◌, All, true, false, List, [], ◌∷◌, ◌++◌, map, sym, inl, subst, arith, lit<}
 use Rattle.std.proofs.lemmas.Bool.{and_parts}
-use Rattle.std.proofs.lemmas.List.Elements.{All-nil, All-head, All-tail, All-cons}
+use Rattle.std.proofs.lemmas.List.Elements.{All-nil, All-head, All-tail}
 use Rattle.properties_format.specs.Text.{backslash, scalar}
 use Rattle.properties_format.specs.Escapes.{Four, is_hexadecimal, hexadecimal_value, are_hexadecimal, code_unit, is_surrogate, escaped_character, Spelling, itself, escaped, unicode, surrogates, last, spelling_text, spelling_character, IsSpelling, spellings_before, AreSpellings, Means}
 use Rattle.properties_format.proofs.Encodings.Characters.{pair-scalar}
@@ -15,7 +15,7 @@ pub code_unit-below : (d : Four) → are_hexadecimal d ≡ true → code_unit d 
 code_unit-below d h = grind (arith, and_parts, digit-below)
 
 -- A unit that isn't a surrogate is a scalar value.
-unit-scalar : (n : ℕ) → n < 0x1_0000 → is_surrogate n ≡ false → scalar n
+pub unit-scalar : (n : ℕ) → n < 0x1_0000 → is_surrogate n ≡ false → scalar n
 unit-scalar n h k = grind (arith)
 
 -- The character that a backslash and a scalar value mean is a scalar value.
@@ -36,12 +36,11 @@ spelling-scalar (surrogates high low) rest h k = pair-scalar (code_unit high) (c
 spelling-scalar last rest h k = inl (lit< tt)
 
 -- The characters of spellings in a text of scalar values are scalar values.
-pub spellings-scalars : (ps : List Spelling) (rest : List ℕ) → AreSpellings ps rest → All scalar (spellings_before ps rest) → All scalar (map spelling_character ps)
+pub spellings-scalars : (ps : List Spelling) (rest : List ℕ) → AreSpellings ps rest → All scalar (spellings_before ps rest)
+    → All scalar (map spelling_character ps)
 spellings-scalars [] rest h k = All-nil scalar
 spellings-scalars (p ∷ ps) rest h k =
-    All-cons scalar (spelling_character p) (map spelling_character ps)
-    (spelling-scalar p (spellings_before ps rest) h.0 k)
-    (spellings-scalars ps rest h.1 (rest-scalars (spelling_text p) (spellings_before ps rest) k))
+    grind (arith, spelling-scalar, spellings-scalars ps rest h.1 (rest-scalars (spelling_text p) (spellings_before ps rest) k), rest-scalars)
 
 -- A text of scalar values means a text of scalar values.
 pub means-scalars : (text meant : List ℕ) → Means text meant → All scalar text → All scalar meant

@@ -85,17 +85,19 @@ past-keep (p ∷ ps) h = cond_both (is_blank (spelling_character p)) (past ps) (
 -- ---- at the end
 
 -- A character that isn't a blank stays at the front.
-full-last : (c : ℕ) (y : List ℕ) → is_blank c ≡ false → unless_last_blank c y ≡ c ∷ y
+pub full-last : (c : ℕ) (y : List ℕ) → is_blank c ≡ false → unless_last_blank c y ≡ c ∷ y
 full-last c [] b = rw b refl
 full-last c (d ∷ y) b = refl
 
 -- A text that doesn't end with a blank stays at the front.
-without_trailing_blanks-front : (c : ℕ) (t y : List ℕ) → ends is_blank (c ∷ t) ≡ false → without_trailing_blanks (c ∷ t ++ y) ≡ c ∷ t ++ without_trailing_blanks y
+without_trailing_blanks-front : (c : ℕ) (t y : List ℕ) → ends is_blank (c ∷ t) ≡ false
+    → without_trailing_blanks (c ∷ t ++ y) ≡ c ∷ t ++ without_trailing_blanks y
 without_trailing_blanks-front c [] y e = full-last c (without_trailing_blanks y) e
 without_trailing_blanks-front c (d ∷ t) y e = ap (unless_last_blank c) (without_trailing_blanks-front d t y e)
 
 -- A spelling that doesn't end with a blank stays at the front.
-without_trailing_blanks-spelling : (p : Spelling) (y : List ℕ) → ends is_blank (spelling_text p) ≡ false → without_trailing_blanks (spelling_text p ++ y) ≡ spelling_text p ++ without_trailing_blanks y
+without_trailing_blanks-spelling : (p : Spelling) (y : List ℕ) → ends is_blank (spelling_text p) ≡ false
+    → without_trailing_blanks (spelling_text p ++ y) ≡ spelling_text p ++ without_trailing_blanks y
 without_trailing_blanks-spelling (itself c) y e = without_trailing_blanks-front c [] y e
 without_trailing_blanks-spelling (escaped c) y e = without_trailing_blanks-front _ (c ∷ []) y e
 without_trailing_blanks-spelling (unicode d) y e = without_trailing_blanks-front _ (spelling_tail (unicode d)) y e
@@ -131,7 +133,8 @@ without_trailing_blanks-text (p ∷ ps) k = elim (cases_Bool (is_blank (spelling
 ]
 
 -- A character at the front stays if its spelling does.
-unless-characters : (p : Spelling) (qs : List Spelling) → unless_last_blank (spelling_character p) (map spelling_character qs) ≡ map spelling_character (unless_last p qs)
+unless-characters : (p : Spelling) (qs : List Spelling)
+    → unless_last_blank (spelling_character p) (map spelling_character qs) ≡ map spelling_character (unless_last p qs)
 unfolding unless_last
 unless-characters p [] = elim (cases_Bool (is_blank (spelling_character p))) [ inl b ↦ rw b refl | inr b ↦ rw b refl ]
 unless-characters p (q ∷ qs) = refl
@@ -139,7 +142,7 @@ unless-characters p (q ∷ qs) = refl
 -- The characters without trailing blanks are those of the spellings without theirs.
 without_trailing_blanks-characters : (ps : List Spelling) → without_trailing_blanks (map spelling_character ps) ≡ map spelling_character (before ps)
 without_trailing_blanks-characters [] = refl
-without_trailing_blanks-characters (p ∷ ps) = ap (unless_last_blank (spelling_character p)) (without_trailing_blanks-characters ps) ∙ unless-characters p (before ps)
+without_trailing_blanks-characters (p ∷ ps) = ap (unless_last_blank (spelling_character p)) (without_trailing_blanks-characters ps) ∙ unless-characters p _
 
 -- With or without one more at the front, the spellings are whole if all were.
 unless-whole : (p : Spelling) (qs : List Spelling) → AreWhole (p ∷ qs) → AreWhole (unless_last p qs)
@@ -156,12 +159,13 @@ before-whole (p ∷ ps) h = unless-whole p (before ps) (h.0, before-whole ps h.1
 
 -- The text of whole spellings that keep blanks, without the blanks at its ends, means their characters without the
 -- blanks at their ends.
-pub meaning_of-trimmed : (ps : List Spelling) → AreWhole ps → AllKeepBlanks ps → meaning_of (trimmed (spellings_before ps [])) ≡ means (trimmed (map spelling_character ps))
+pub meaning_of-trimmed : (ps : List Spelling) → AreWhole ps → AllKeepBlanks ps
+    → meaning_of (trimmed (spellings_before ps [])) ≡ means (trimmed (map spelling_character ps))
 meaning_of-trimmed ps h k =
     let e : trimmed (spellings_before ps [])
-    ≡ spellings_before (before (past ps)) [] = ap without_trailing_blanks (without_leading_blanks-text ps k) ∙ without_trailing_blanks-text (past ps) (past-keep ps k) in
+    ≡ spellings_before _ [] = ap without_trailing_blanks (without_leading_blanks-text ps k) ∙ without_trailing_blanks-text (past ps) (past-keep ps k) in
     let f : trimmed (map spelling_character ps)
-    ≡ map spelling_character (before (past ps)) = ap without_trailing_blanks (without_leading_blanks-characters ps) ∙ without_trailing_blanks-characters (past ps) in
+    ≡ map spelling_character _ = ap without_trailing_blanks (without_leading_blanks-characters ps) ∙ without_trailing_blanks-characters (past ps) in
     ap meaning_of e ∙ meaning_of-all (before (past ps)) (before-whole (past ps) (past-whole ps h)) ∙ ap means (sym f)
 
 -- ---- which spellings keep blanks
@@ -186,5 +190,6 @@ pub KeepsBlanks-unicode : (d : Four) → are_hexadecimal d ≡ true → is_blank
 KeepsBlanks-unicode d h f = record { at_front = sym f; at_end = fourth-full d h ∙ sym f }
 
 -- two `\u` escapes of surrogates
-pub KeepsBlanks-surrogates : (high low : Four) → are_hexadecimal low ≡ true → is_blank (pair_character (code_unit high) (code_unit low)) ≡ false → KeepsBlanks (surrogates high low)
+pub KeepsBlanks-surrogates : (high low : Four) → are_hexadecimal low ≡ true → is_blank (pair_character (code_unit high) (code_unit low)) ≡ false
+    → KeepsBlanks (surrogates high low)
 KeepsBlanks-surrogates high low h f = record { at_front = sym f; at_end = fourth-full low h ∙ sym f }

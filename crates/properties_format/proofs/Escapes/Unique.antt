@@ -1,5 +1,5 @@
 -- Each text means one text, or is malformed in one way.
-use Rattle.std.proofs.Common.{◌≡◌, ℕ, pred, length, List, [], ◌∷◌, ◌++◌, map, Option, Some, None, refl, ap, sym, ◌∙◌, subst, append-nil}
+use Rattle.std.proofs.Common.{rules, arith, ◌≡◌, ℕ, pred, length, List, [], ◌∷◌, ◌++◌, map, Option, Some, None, refl, ap, sym, ◌∙◌, subst, append-nil}
 use Rattle.properties_format.specs.Text.{backslash}
 use Rattle.properties_format.specs.Escapes.{letter_u, Malformed, four_text, Spelling, itself, escaped, unicode, surrogates, last, spelling_text, spelling_character, IsSpelling, spellings_before, AreSpellings, Means, NoSpelling, malformed_by, Breaks, Meaning, means, breaks, IsMeaning}
 use Rattle.properties_format.specs.Computed.Escapes.{first_spelling, in_front, text_in_front, fault_of, meaning_past, meaning_of}
@@ -27,14 +27,11 @@ past-none c cs e = rw (e, meaning_past) refl
 -- A spelling at the front that the computation has found.
 past-front : (p : Spelling) (rest : List ℕ) → spelling_of (spelling_text p ++ rest) ≡ Some p
     → meaning_past (spelling_text p ++ rest) 0 ≡ in_front (spelling_character p) (meaning_past rest 0)
-past-front (itself c) rest e = past-spelling c rest (itself c) e
-past-front (escaped c) rest e = past-spelling backslash (c ∷ rest) (escaped c) e
-past-front (unicode d) rest e = past-spelling backslash (letter_u ∷ four_text d ++ rest) (unicode d) e
-past-front (surrogates high low) rest e = past-spelling backslash (letter_u ∷ four_text high ++ (backslash ∷ letter_u ∷ four_text low ++ rest)) (surrogates high low) e
-past-front last rest e = past-spelling backslash rest last e
+past-front p rest h1 = grind (arith, past-spelling)
 
 -- A spelling at the front, before what may follow it.
-pub meaning_of-spelling : (p : Spelling) (rest : List ℕ) → IsSpelling p rest → meaning_of (spelling_text p ++ rest) ≡ in_front (spelling_character p) (meaning_of rest)
+pub meaning_of-spelling : (p : Spelling) (rest : List ℕ) → IsSpelling p rest
+    → meaning_of (spelling_text p ++ rest) ≡ in_front (spelling_character p) (meaning_of rest)
 unfolding meaning_of
 meaning_of-spelling p rest h = past-front p rest (spelling_of-only p rest h)
 
@@ -52,7 +49,7 @@ text_in_front-breaks (c ∷ x) kind = ap (in_front c) (text_in_front-breaks x ki
 pub meaning_of-spellings : (ps : List Spelling) (rest : List ℕ) → AreSpellings ps rest
     → meaning_of (spellings_before ps rest) ≡ text_in_front (map spelling_character ps) (meaning_of rest)
 meaning_of-spellings [] rest h = refl
-meaning_of-spellings (p ∷ ps) rest h = meaning_of-spelling p (spellings_before ps rest) h.0 ∙ ap (in_front (spelling_character p)) (meaning_of-spellings ps rest h.1)
+meaning_of-spellings (p ∷ ps) rest h = search (meaning_of-spelling, meaning_of-spellings ps rest h.1)
 
 -- An empty text means an empty text.
 pub meaning_of-empty : meaning_of [] ≡ means []
@@ -63,42 +60,30 @@ meaning_of-empty = refl
 
 -- What a text means is the computed meaning.
 pub means-only : (text meant : List ℕ) → Means text meant → means meant ≡ meaning_of text
-means-only text meant m = sym (
-    ap meaning_of m.whole
-    ∙ meaning_of-spellings m.spellings [] m.each
-    ∙ ap (text_in_front (map spelling_character m.spellings)) meaning_of-empty
-    ∙ text_in_front-means (map spelling_character m.spellings) []
-    ∙ ap means (append-nil (map spelling_character m.spellings) ∙ sym m.characters))
+means-only text meant m = grind (arith, meaning_of-spellings, meaning_of-empty, text_in_front-means, append-nil)
 
 -- If no spelling begins a text, none is found.
 none-found : (c : ℕ) (cs : List ℕ) (o : Option Spelling) → NoSpelling (c ∷ cs) → IsFound (c ∷ cs) o → o ≡ None
-none-found c cs None n f = refl
-none-found c cs (Some p) n f = absurd (n p f.rest f.whole f.is_spelling)
+none-found c cs o h1 h2 = grind (arith)
 
 -- A `\u` that begins no spelling.
 pub meaning_of-fault : (after : List ℕ) → NoSpelling (backslash ∷ letter_u ∷ after) → meaning_of (backslash ∷ letter_u ∷ after) ≡ breaks (malformed_by after)
 unfolding meaning_of
-meaning_of-fault after n =
-    past-none backslash (letter_u ∷ after) (none-found backslash (letter_u ∷ after) (first_spelling backslash (letter_u ∷ after)) n (first_spelling-found backslash (letter_u ∷ after)))
+meaning_of-fault after n = search (past-none, none-found, first_spelling-found)
 
 -- How a text is malformed is the computed meaning.
 pub breaks-only : (text : List ℕ) (kind : Malformed) → Breaks text kind → breaks kind ≡ meaning_of text
-breaks-only text kind b = sym (
-    ap meaning_of b.whole
-    ∙ meaning_of-spellings b.spellings (backslash ∷ letter_u ∷ b.after) b.each
-    ∙ ap (text_in_front (map spelling_character b.spellings)) (meaning_of-fault b.after b.no_spelling)
-    ∙ text_in_front-breaks (map spelling_character b.spellings) (malformed_by b.after)
-    ∙ ap breaks (sym b.fault))
+breaks-only text kind b = grind (arith, meaning_of-spellings, meaning_of-fault, text_in_front-breaks)
 
 -- What a text resolves to is the computed meaning.
 pub meaning_of-only : (text : List ℕ) (m : Meaning) → IsMeaning text m → m ≡ meaning_of text
-meaning_of-only text (means meant) h = means-only text meant h
-meaning_of-only text (breaks kind) h = breaks-only text kind h
+meaning_of-only text m h1 = grind (arith, means-only, breaks-only)
 
 -- ---- a text resolves to the computed meaning
 
 -- A spelling at the front adds its character to the front of the meaning.
-front-meets : (p : Spelling) (x rest : List ℕ) (m : Meaning) → x ≡ spelling_text p ++ rest → IsSpelling p rest → IsMeaning rest m → IsMeaning x (in_front (spelling_character p) m)
+front-meets : (p : Spelling) (x rest : List ℕ) (m : Meaning) → x ≡ spelling_text p ++ rest → IsSpelling p rest → IsMeaning rest m
+    → IsMeaning x (in_front (spelling_character p) m)
 front-meets p x rest (means meant) e h k = record {
   spellings = p ∷ k.spellings;
   whole = e ∙ ap (λ v. spelling_text p ++ v) k.whole;
@@ -114,15 +99,9 @@ front-meets p x rest (breaks kind) e h k = record {
   fault = k.fault;
 }
 
--- After its first character, a text continues with the rest of its first spelling.
-after-front : (p : Spelling) (c : ℕ) (cs rest : List ℕ) → c ∷ cs ≡ spelling_text p ++ rest → cs ≡ spelling_tail p ++ rest
-after-front (itself d) c cs rest e = cc
-after-front p c cs rest e = cc
-
 -- That rest is one character shorter than the spelling.
 length-tail : (p : Spelling) → length (spelling_tail p) ≡ pred (length (spelling_text p))
-length-tail (itself c) = refl
-length-tail p = refl
+length-tail p = grind (arith)
 
 -- A text resolves to its computed meaning if the text after its first character does.
 next-meets : (c : ℕ) (cs : List ℕ) (o : Option Spelling) → first_spelling c cs ≡ o → IsFound (c ∷ cs) o
@@ -138,7 +117,7 @@ next-meets c cs None e f ih = subst (IsMeaning (c ∷ cs)) (sym (past-none c cs 
 next-meets c cs (Some p) e f ih =
     subst (IsMeaning (c ∷ cs)) (sym (past-spelling c cs p e))
     (front-meets p (c ∷ cs) f.rest (meaning_past cs (pred (length (spelling_text p)))) f.whole f.is_spelling
-    (subst (λ n. IsMeaning f.rest (meaning_past cs n)) (length-tail p) (ih (spelling_tail p) f.rest (after-front p c cs f.rest f.whole))))
+    (subst (λ n. IsMeaning f.rest (meaning_past cs n)) (length-tail p) (ih (spelling_tail p) f.rest (search (rules)))))
 
 -- A text resolves to its computed meaning after a spelling that was read.
 past-meets : (text skipped rest : List ℕ) → text ≡ skipped ++ rest → IsMeaning rest (meaning_past text (length skipped))

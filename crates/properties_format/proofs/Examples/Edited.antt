@@ -1,8 +1,9 @@
 -- Sources with keys set and removed.
-use Rattle.std.proofs.Common.{◌≡◌, ℕ, true, false, List, [], ◌∷◌, refl}
+use Rattle.std.proofs.Common.{◌≡◌, ℕ, List, [], ◌∷◌, refl}
 use Rattle.std.specs.Prelude.{map, codes}
 use Rattle.std.specs.Char.{encode_utf8}
 use Rattle.properties_format.specs.Encoding.{Encoding, windows_1252, utf_8, utf_16le, utf_16be}
+use Rattle.properties_format.specs.Repertoire.{ascii_in, all_of}
 use Rattle.properties_format.specs.Computed.Encoding.{pieces_of}
 use Rattle.properties_format.specs.Lines.{end}
 use Rattle.properties_format.specs.Computed.Split.{split_of}
@@ -71,7 +72,7 @@ set =
     ∷ (windows_1252, codes "a=1\n\\u1=x", codes "a", codes "b", unreadable not_enough_digits 2)
     ∷ []
 
-each_set : map (λ (e, source, key, value, result). set_key_result e false source key value) set ≡ map (λ (e, source, key, value, result). result) set
+each_set : map (λ (e, source, key, value, result). set_key_result (all_of e) source key value) set ≡ map (λ (e, source, key, value, result). result) set
 unfolding items_of pieces_of split_of meaning_of held_groups_of encode_utf8
 each_set = refl
 
@@ -87,7 +88,7 @@ set_in_ascii =
     ∷ (windows_1252, [], codes "þÿ", codes "x", edited (codes "\\u00fe\\u00ff=x\n"))
     ∷ []
 
-each_set_in_ascii : map (λ (e, source, key, value, result). set_key_result e true source key value) set_in_ascii ≡ map (λ (e, source, key, value, result). result) set_in_ascii
+each_set_in_ascii : map (λ (e, source, key, value, result). set_key_result (ascii_in e) source key value) set_in_ascii ≡ map (λ (e, source, key, value, result). result) set_in_ascii
 unfolding items_of pieces_of split_of meaning_of held_groups_of encode_utf8
 each_set_in_ascii = refl
 
@@ -144,6 +145,6 @@ edits =
     ∷ (windows_1252, codes "x\ra\n\nb", remove (codes "a") ∷ remove (codes "x") ∷ [], edited (codes "b"))
     ∷ []
 
-each_edited : map (λ (e, source, edits, result). edit_all_result e false source edits) edits ≡ map (λ (e, source, edits, result). result) edits
+each_edited : map (λ (e, source, edits, result). edit_all_result (all_of e) source edits) edits ≡ map (λ (e, source, edits, result). result) edits
 unfolding items_of pieces_of split_of meaning_of held_groups_of
 each_edited = refl

@@ -33,7 +33,8 @@ around =
     ∷ ([], codes " ", line 1 [] ∷ line 2 (codes " ") ∷ [])
     ∷ []
 
-each_around : (t : LineEnding) → map (λ (before, after, divided). read (before ++ (line_ending_text t ++ after))) around ≡ map (λ (before, after, divided). divided) around
+each_around : (t : LineEnding)
+    → map (λ (before, after, divided). read (before ++ (line_ending_text t ++ after))) around ≡ map (λ (before, after, divided). divided) around
 each_around lf = refl
 each_around cr = refl
 each_around crlf = refl

@@ -1,8 +1,9 @@
 -- Sources with a value set in place.
-use Rattle.std.proofs.Common.{◌≡◌, ℕ, true, false, List, [], ◌∷◌, refl}
+use Rattle.std.proofs.Common.{◌≡◌, ℕ, List, [], ◌∷◌, refl}
 use Rattle.std.specs.Prelude.{map, codes}
 use Rattle.std.specs.Char.{encode_utf8}
 use Rattle.properties_format.specs.Encoding.{Encoding, windows_1252, utf_8}
+use Rattle.properties_format.specs.Repertoire.{ascii_in, all_of}
 use Rattle.properties_format.specs.Computed.Encoding.{pieces_of}
 use Rattle.properties_format.specs.Computed.Split.{split_of}
 use Rattle.properties_format.specs.Computed.Escapes.{meaning_of}
@@ -67,7 +68,7 @@ rows =
     ∷ (windows_1252, codes "a 1", [], codes "v", edited (codes "a 1\n=v\n"))
     ∷ []
 
-each : map (λ (e, source, key, value, result). set_value_result e false source key value) rows ≡ map (λ (e, source, key, value, result). result) rows
+each : map (λ (e, source, key, value, result). set_value_result (all_of e) source key value) rows ≡ map (λ (e, source, key, value, result). result) rows
 unfolding items_of pieces_of split_of meaning_of held_groups_of encode_utf8
 each = refl
 
@@ -84,6 +85,6 @@ rows_in_ascii =
     ∷ (windows_1252, codes "k=é", codes "k", codes "é", edited (codes "k=é"))
     ∷ []
 
-each_in_ascii : map (λ (e, source, key, value, result). set_value_result e true source key value) rows_in_ascii ≡ map (λ (e, source, key, value, result). result) rows_in_ascii
+each_in_ascii : map (λ (e, source, key, value, result). set_value_result (ascii_in e) source key value) rows_in_ascii ≡ map (λ (e, source, key, value, result). result) rows_in_ascii
 unfolding items_of pieces_of split_of meaning_of held_groups_of encode_utf8
 each_in_ascii = refl

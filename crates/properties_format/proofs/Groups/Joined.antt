@@ -1,6 +1,5 @@
 -- The logical line of a group, line by line, and the number of the group.
-use Rattle.std.proofs.Common.{◌≡◌, true, false, List, [], ◌∷◌, ◌++◌, refl, ap, sym, ◌∙◌, inl, inr, append_assoc, append-nil}
-use Rattle.std.proofs.lemmas.Bool.{cases_Bool}
+use Rattle.std.proofs.Common.{arith, ◌≡◌, true, false, List, [], ◌∷◌, ◌++◌, refl, ◌∙◌, append_assoc, append-nil}
 use Rattle.properties_format.specs.Text.{without_leading_blanks}
 use Rattle.properties_format.specs.Lines.{Line}
 use Rattle.properties_format.specs.Groups.{is_open, is_comment_line, without_open_backslash, joined_after, joined}
@@ -23,10 +22,7 @@ joined-one l h = joined-unmarked l [] h ∙ append-nil (without_open_backslash l
 
 -- A line that isn't open is its own logical line, whether or not it is a comment line.
 pub joined-closed : (l : Line) → is_open l.text ≡ false → joined (l ∷ []) ≡ l.text
-joined-closed l h = elim (cases_Bool (is_comment_line l.text)) [
-  | inl k ↦ joined-comment_line l [] k
-  | inr k ↦ joined-one l k ∙ without_open_backslash-closed l.text h
-]
+joined-closed l h = grind (arith, joined-comment_line, joined-one, without_open_backslash-closed)
 
 -- What two lists of lines add is what the first adds followed by what the second adds.
 pub joined_after-append : (ls ms : List Line) → joined_after (ls ++ ms) ≡ joined_after ls ++ joined_after ms
@@ -36,8 +32,4 @@ joined_after-append (l ∷ ls) ms = simp (append_assoc, joined_after-append ls m
 -- One more line in a group that doesn't begin with a comment line.
 pub joined-push : (l : Line) (ls : List Line) (m : Line) → is_comment_line l.text ≡ false
     → joined (l ∷ ls ++ m ∷ []) ≡ joined (l ∷ ls) ++ without_open_backslash (without_leading_blanks m.text)
-joined-push l ls m h =
-    joined-unmarked l (ls ++ m ∷ []) h
-    ∙ ap (λ v. without_open_backslash l.text ++ v) (joined_after-append ls (m ∷ []) ∙ ap (λ v. joined_after ls ++ v) (append-nil (without_open_backslash (without_leading_blanks m.text))))
-    ∙ sym (append_assoc (without_open_backslash l.text) (joined_after ls) (without_open_backslash (without_leading_blanks m.text)))
-    ∙ ap (λ v. v ++ without_open_backslash (without_leading_blanks m.text)) (sym (joined-unmarked l ls h))
+joined-push l ls m h = grind (arith, joined-unmarked, joined_after-append, append-nil, append_assoc)

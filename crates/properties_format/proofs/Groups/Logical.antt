@@ -1,6 +1,5 @@
 -- The logical lines, given the next natural line.
-use Rattle.std.proofs.Common.{◌≡◌, ℕ, ◌+◌, ◌⊎◌, true, false, List, [], ◌∷◌, ◌++◌, refl, ap, sym, ◌∙◌, inl, inr}
-use Rattle.std.proofs.lemmas.Bool.{cases_Bool}
+use Rattle.std.proofs.Common.{arith, ◌≡◌, ℕ, ◌+◌, ◌⊎◌, true, false, List, [], ◌∷◌, ◌++◌, refl, inl, inr}
 use Rattle.properties_format.specs.Text.{LineEnding, cr, line_ending_text}
 use Rattle.properties_format.specs.Lines.{HoldsNoLineEnd, Line, InputEnd, end, fault, more}
 use Rattle.properties_format.specs.Computed.Lines.{begins_with_lf, lines_to_come}
@@ -9,7 +8,7 @@ use Rattle.properties_format.specs.Computed.Groups.{groups_after, groups_of}
 use Rattle.properties_format.specs.Computed.Logical.{logical, logical_lines, joins_after}
 use Rattle.properties_format.proofs.Lines.Steps.{lines_to_come-line}
 use Rattle.properties_format.proofs.Groups.Steps.{groups_of-comment_line, groups_of-closed, groups_of-open, groups_after-closed, groups_after-open}
-use Rattle.properties_format.proofs.Groups.Joined.{joined-comment_line, joined-one, joined-closed, joined-push}
+use Rattle.properties_format.proofs.Groups.Joined.{joined-one, joined-push}
 
 -- One more open line continues the logical line.
 pub joins_after-open : (number : ℕ) (text : List ℕ) (l : Line) (ls : List Line) (e : InputEnd) → is_open l.text ≡ true
@@ -27,25 +26,8 @@ pub logical-after : (m : Line) (ms ls : List Line) (e : InputEnd) → is_comment
 logical-after m ms [] end h = refl
 logical-after m ms [] fault h = refl
 logical-after m ms [] more h = refl
-logical-after m ms (l ∷ ls) e h = elim (cases_Bool (is_open l.text)) [
-  | inl k ↦
-      ap logical (groups_after-open m ms l ls e k)
-      ∙ logical-after m (ms ++ l ∷ []) ls e h
-      ∙ ap (λ v. joins_after m.number v ls e) (joined-push m ms l h)
-      ∙ sym (joins_after-open m.number (joined (m ∷ ms)) l ls e k)
-  | inr k ↦
-      ap logical (groups_after-closed (m ∷ ms) l ls e k)
-      ∙ ap (λ v. record { number = m.number; text = v } ∷ logical_lines ls e) (joined-push m ms l h)
-      ∙ sym (joins_after-closed m.number (joined (m ∷ ms)) l ls e k)
-]
-
--- a comment line is a logical line
-pub logical_lines-comment_line : (l : Line) (ls : List Line) (e : InputEnd) → is_comment_line l.text ≡ true → logical_lines (l ∷ ls) e ≡ l ∷ logical_lines ls e
-logical_lines-comment_line l ls e h = simp (groups_of-comment_line, joined-comment_line)
-
--- A line that isn't open is a logical line.
-pub logical_lines-closed : (l : Line) (ls : List Line) (e : InputEnd) → is_open l.text ≡ false → logical_lines (l ∷ ls) e ≡ l ∷ logical_lines ls e
-logical_lines-closed l ls e h = simp (groups_of-closed, joined-closed)
+logical-after m ms (l ∷ ls) e h =
+    grind (arith, groups_after-open, logical-after m (ms ++ l ∷ []) ls e h, joined-push, joins_after-open, groups_after-closed, joins_after-closed)
 
 -- An open line that isn't a comment line begins a logical line that continues.
 pub logical_lines-open : (l : Line) (ls : List Line) (e : InputEnd) → is_comment_line l.text ≡ false → is_open l.text ≡ true
@@ -59,12 +41,9 @@ abbrev pub IsNotContinued : List ℕ → Type 0
 IsNotContinued x = (is_comment_line x ≡ true) ⊎ (is_open x ≡ false)
 
 -- Such a line is a group.
-pub groups-line : (n : ℕ) (text : List ℕ) (by : LineEnding) (y : List ℕ) (e : InputEnd) → HoldsNoLineEnd text → (by ≡ cr → begins_with_lf y ≡ false) → IsNotContinued text
+pub groups-line : (n : ℕ) (text : List ℕ) (by : LineEnding) (y : List ℕ) (e : InputEnd) → HoldsNoLineEnd text → (by ≡ cr → begins_with_lf y ≡ false)
+    → IsNotContinued text
     → groups_of (lines_to_come n false [] (text ++ (line_ending_text by ++ y)) e) e
     ≡ (record { number = n + 1; text = text } ∷ []) ∷ groups_of (lines_to_come (n + 1) false [] y e) e
-groups-line n text by y e h k (inl m) =
-    ap (λ v. groups_of v e) (lines_to_come-line n [] text by y e tt h k)
-    ∙ groups_of-comment_line (record { number = n + 1; text = text }) (lines_to_come (n + 1) false [] y e) e m
-groups-line n text by y e h k (inr m) =
-    ap (λ v. groups_of v e) (lines_to_come-line n [] text by y e tt h k)
-    ∙ groups_of-closed (record { number = n + 1; text = text }) (lines_to_come (n + 1) false [] y e) e m
+groups-line n text by y e h k (inl m) = search (lines_to_come-line, groups_of-comment_line)
+groups-line n text by y e h k (inr m) = search (lines_to_come-line, groups_of-closed)

@@ -1,5 +1,5 @@
 -- The number of backslashes at the end of a text, and which lines are open.
-use Rattle.std.proofs.Common.{◌≡◌, ℕ, suc, ◌==◌, ◌⊎◌, Bool, true, false, List, [], ◌∷◌, ◌++◌, refl, ap, sym, ◌∙◌, inl, inr, append_assoc, arith}
+use Rattle.std.proofs.Common.{rules, ◌≡◌, ℕ, suc, ◌==◌, ◌⊎◌, Bool, true, false, List, [], ◌∷◌, ◌++◌, refl, ap, sym, ◌∙◌, inl, inr, append_assoc, arith}
 use Rattle.std.specs.Prelude.{reverse, not, ◌%◌, if◌then◌else◌}
 use Rattle.std.proofs.lemmas.Bool.Decides.{eqb_tells}
 use Rattle.std.proofs.lemmas.List.{reverse-append}
@@ -27,17 +27,13 @@ ending_backslashes-after x c y h =
 
 -- ---- open lines
 
--- A number is odd exactly if the number before it isn't.
-odd-next : (n : ℕ) → (suc n % 2 == 1) ≡ not (n % 2 == 1)
-odd-next n = grind (arith)
-
 -- A backslash at the end makes a line open if it wasn't, and not open if it was.
 pub is_open-backslash : (x : List ℕ) → is_open (x ++ backslash ∷ []) ≡ not (is_open x)
-is_open-backslash x = ap (λ v. v % 2 == 1) (ending_backslashes-push x backslash) ∙ odd-next (ending_backslashes x)
+is_open-backslash x = ap (λ v. v % 2 == 1) (ending_backslashes-push x backslash) ∙ search (rules)
 
 -- two backslashes change nothing
 pub is_open-two : (x : List ℕ) → is_open (x ++ backslash ∷ backslash ∷ []) ≡ is_open x
-is_open-two x = ap is_open (sym (append_assoc x (backslash ∷ []) (backslash ∷ []))) ∙ is_open-backslash (x ++ backslash ∷ []) ∙ ap not (is_open-backslash x) ∙ not-not (is_open x)
+is_open-two x = ap is_open (sym (append_assoc x _ _)) ∙ is_open-backslash (x ++ backslash ∷ []) ∙ ap not (is_open-backslash x) ∙ not-not _
   where
     not-not : (b : Bool) → not (not b) ≡ b
     not-not b = grind (arith)
@@ -74,9 +70,7 @@ pub open-ends : (x : List ℕ) → is_open x ≡ true → x ≡ without_last x +
 open-ends x h = elim (last_character x) [
   | inl k ↦ let f : is_open [] ≡ true = rw k at h in absurd (cc)
   | inr k ↦ elim (eqb_tells k.1 backslash) [
-    | inl m ↦
-        let e : x ≡ k.0 ++ backslash ∷ [] = k.2 ∙ ap (λ v. k.0 ++ v ∷ []) m.1 in
-        e ∙ ap (λ v. v ++ backslash ∷ []) (sym (ap without_last e ∙ without_last-push k.0 backslash))
+    | inl m ↦ grind (arith, without_last-push)
     | inr m ↦ let f : is_open (k.0 ++ k.1 ∷ []) ≡ true = rw k.2 at h in absurd (cc (is_open-other k.0 k.1 m.0, f))
   ]
 ]

@@ -1,6 +1,5 @@
 -- The groups, given the next line, both at the start of a group and in an open group.
-use Rattle.std.proofs.Common.{◌≡◌, Bool, true, false, List, [], ◌∷◌, ◌++◌, refl}
-use Rattle.std.specs.Prelude.{◌||◌}
+use Rattle.std.proofs.Common.{arith, ◌≡◌, true, false, List, [], ◌∷◌, ◌++◌, refl}
 use Rattle.properties_format.specs.Lines.{Line, InputEnd}
 use Rattle.properties_format.specs.Groups.{is_open, is_comment_line}
 use Rattle.properties_format.specs.Computed.Groups.{closes, groups_after, groups_of}
@@ -23,12 +22,7 @@ closes-comment_line l h = rw h refl
 
 -- A line that isn't open finishes every group.
 pub closes-closed : (p : List Line) (l : Line) → is_open l.text ≡ false → closes p l ≡ true
-closes-closed [] l h = rw h (or-true (is_comment_line l.text))
-  where
-    or-true : (b : Bool) → (b || true) ≡ true
-    or-true true = refl
-    or-true false = refl
-closes-closed (m ∷ ms) l h = rw h refl
+closes-closed p l h1 = grind (arith)
 
 -- An open line leaves an open group open.
 pub closes-goes_on : (m : Line) (ms : List Line) (l : Line) → is_open l.text ≡ true → closes (m ∷ ms) l ≡ false
@@ -37,13 +31,11 @@ closes-goes_on m ms l h = rw h refl
 -- ---- the groups by the next line
 
 -- At the start of a group: a comment line is a group.
-pub groups_of-comment_line : (l : Line) (ls : List Line) (e : InputEnd) → is_comment_line l.text ≡ true
-    → groups_of (l ∷ ls) e ≡ (l ∷ []) ∷ groups_of ls e
+pub groups_of-comment_line : (l : Line) (ls : List Line) (e : InputEnd) → is_comment_line l.text ≡ true → groups_of (l ∷ ls) e ≡ (l ∷ []) ∷ groups_of ls e
 groups_of-comment_line l ls e h = groups_after-close [] l ls e (closes-comment_line l h)
 
 -- At the start of a group: a line that isn't open is a group.
-pub groups_of-closed : (l : Line) (ls : List Line) (e : InputEnd) → is_open l.text ≡ false
-    → groups_of (l ∷ ls) e ≡ (l ∷ []) ∷ groups_of ls e
+pub groups_of-closed : (l : Line) (ls : List Line) (e : InputEnd) → is_open l.text ≡ false → groups_of (l ∷ ls) e ≡ (l ∷ []) ∷ groups_of ls e
 groups_of-closed l ls e h = groups_after-close [] l ls e (closes-closed [] l h)
 
 -- At the start of a group: an open line that isn't a comment line begins a group that continues.

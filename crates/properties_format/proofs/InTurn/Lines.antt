@@ -29,12 +29,11 @@ AreLinesBy e o (h ∷ i ∷ hs) =
 -- A line is its bytes, their text and its ending.
 line-made : (e : Encoding) (h : HeldLine) (o : Option LineEnding) → h.text ≡ decoded_line e h.bytes → h.ending ≡ o
     → record { bytes = h.bytes; text = decoded_line e h.bytes; ending = o } ≡ h
-line-made e h o s t = ap₂ (λ v w. record { bytes = h.bytes; text = v; ending = w }) (sym s) (sym t)
+line-made e h o s t = rw (← s, ← t)
 
 -- An ended line before any bytes.
 lines-next : (e : Encoding) (h : HeldLine) (by : LineEnding) (y : List ℕ) → is_editable e ≡ true → HoldsNoLineEnd h.bytes → h.text ≡ decoded_line e h.bytes
-    → h.ending ≡ Some by → (by ≡ cr → begins_with_lf y ≡ false)
-    → held_lines_of e (h.bytes ++ (ending_bytes h.ending ++ y)) ≡ h ∷ held_lines_of e y
+    → h.ending ≡ Some by → (by ≡ cr → begins_with_lf y ≡ false) → held_lines_of e (h.bytes ++ (ending_bytes h.ending ++ y)) ≡ h ∷ held_lines_of e y
 lines-next e h by y ok p s t k =
     ap (λ o. held_lines_of e (h.bytes ++ (ending_bytes o ++ y))) t
     ∙ ap (λ v. let w : Lines = v in held_of e w.ended w.last) (cut_of-lines e (h.bytes ++ (line_ending_text by ++ y)) ok ∙ lines_of-line h.bytes by y p k)
@@ -53,24 +52,18 @@ ended-some x by z k = cc
 -- A group that has a line ending has bytes.
 pub lines-some : (e : Encoding) (by : LineEnding) (g : List HeldLine) → AreLinesBy e (Some by) g → group_bytes g ≢ []
 lines-some e by [] a r = a
-lines-some e by (h ∷ []) (p, s, t) r = ended-some h.bytes by [] (ap (λ o. h.bytes ++ (ending_bytes o ++ [])) (sym t) ∙ r)
-lines-some e by (h ∷ i ∷ hs) (p, s, (own, t, n), a) r =
-    ended-some h.bytes own (group_bytes (i ∷ hs)) (ap (λ o. h.bytes ++ (ending_bytes o ++ group_bytes (i ∷ hs))) (sym t) ∙ r)
+lines-some e by (h ∷ []) (p, s, t) r = ended-some h.bytes by [] (rw t at r)
+lines-some e by (h ∷ i ∷ hs) (p, s, (own, t, n), a) r = ended-some h.bytes own (group_bytes (i ∷ hs)) (rw t at r)
 
 -- The lines of a group that has a line ending, before any bytes.
 pub lines-front : (e : Encoding) (by : LineEnding) (g : List HeldLine) (y : List ℕ) → is_editable e ≡ true → AreLinesBy e (Some by) g
-    → (by ≡ cr → begins_with_lf y ≡ false)
-    → held_lines_of e (group_bytes g ++ y) ≡ g ++ held_lines_of e y
+    → (by ≡ cr → begins_with_lf y ≡ false) → held_lines_of e (group_bytes g ++ y) ≡ g ++ held_lines_of e y
 lines-front e by [] y ok a k = absurd a
-lines-front e by (h ∷ []) y ok (p, s, t) k =
-    ap (λ v. held_lines_of e ((h.bytes ++ v) ++ y)) (append-nil (ending_bytes h.ending))
-    ∙ ap (held_lines_of e) (append_assoc h.bytes (ending_bytes h.ending) y)
-    ∙ lines-next e h by y ok p s t k
+lines-front e by (h ∷ []) y ok (p, s, t) k = rw (append-nil _, append_assoc h.bytes _ y) (lines-next e h by y ok p s t k)
 lines-front e by (h ∷ i ∷ hs) y ok (p, s, (own, t, n), a) k =
-    ap (held_lines_of e)
-    (append_assoc h.bytes (ending_bytes h.ending ++ group_bytes (i ∷ hs)) y ∙ ap (λ v. h.bytes ++ v) (append_assoc (ending_bytes h.ending) (group_bytes (i ∷ hs)) y))
-    ∙ lines-next e h own (group_bytes (i ∷ hs) ++ y) ok p s t (λ q. first-none (group_bytes (i ∷ hs)) y (n q) (λ r. absurd (lines-some e by (i ∷ hs) a r)))
-    ∙ ap (λ v. h ∷ v) (lines-front e by (i ∷ hs) y ok a k)
+    rw (append_assoc h.bytes (ending_bytes h.ending ++ group_bytes (i ∷ hs)) y, append_assoc (ending_bytes h.ending) (group_bytes (i ∷ hs)) y)
+    (lines-next e h own (group_bytes (i ∷ hs) ++ y) ok p s t (λ q. first-none (group_bytes (i ∷ hs)) y (n q) (λ r. absurd (lines-some e by (i ∷ hs) a r)))
+    ∙ ap (λ v. h ∷ v) (lines-front e by (i ∷ hs) y ok a k))
 
 -- The lines of a group that has no line ending.
 pub lines-last : (e : Encoding) (g : List HeldLine) → is_editable e ≡ true → AreLinesBy e None g → held_lines_of e (group_bytes g) ≡ g
@@ -80,8 +73,7 @@ lines-last e (h ∷ []) ok (p, s, t) =
     ∙ ap (held_lines_of e) (append-nil h.bytes)
     ∙ ap (λ v. let w : Lines = v in held_of e w.ended w.last) (cut_of-lines e h.bytes ok ∙ lines_of-plain h.bytes p)
     ∙ ap (λ v. v ∷ []) (line-made e h None s t)
-lines-last e (h ∷ i ∷ hs) ok (p, s, (own, t, n), a) =
-    lines-next e h own (group_bytes (i ∷ hs)) ok p s t n ∙ ap (λ v. h ∷ v) (lines-last e (i ∷ hs) ok a)
+lines-last e (h ∷ i ∷ hs) ok (p, s, (own, t, n), a) = lines-next e h own (group_bytes (i ∷ hs)) ok p s t n ∙ ap (λ v. h ∷ v) (lines-last e (i ∷ hs) ok a)
 
 -- ---- the last line ending
 
@@ -99,14 +91,13 @@ ending-of e o (h ∷ i ∷ hs) a = ending-of e o (i ∷ hs) a.3
 
 -- The group's bytes are those up to the ending, followed by the ending.
 pub bytes-of : (e : Encoding) (o : Option LineEnding) (g : List HeldLine) → AreLinesBy e o g → group_bytes g ≡ unended_bytes g ++ ending_bytes o
-bytes-of e o g a = bytes-unended g ∙ ap (λ v. unended_bytes g ++ ending_bytes v) (ending-of e o g a)
+bytes-of e o g a = rw (← ending-of e o g a) (bytes-unended g)
 
 -- A group with nothing before its last line ending is an empty line.
 pub unended-some : (e : Encoding) (o : Option LineEnding) (g : List HeldLine) → AreLinesBy e o g → unended_bytes g ≡ [] → is_empty_line g ≡ true
 unended-some e o [] a k = absurd a
 unended-some e o (h ∷ []) a k = rw k refl
-unended-some e o (h ∷ i ∷ hs) (p, s, (by, t, n), a) k =
-    absurd (ended-some h.bytes by (unended_bytes (i ∷ hs)) (ap (λ v. h.bytes ++ (ending_bytes v ++ unended_bytes (i ∷ hs))) (sym t) ∙ k))
+unended-some e o (h ∷ i ∷ hs) (p, s, (by, t, n), a) k = absurd (ended-some h.bytes by (unended_bytes (i ∷ hs)) (rw t at k))
 
 -- the group with another last line ending
 abbrev pub with_ending : Option LineEnding → List HeldLine → List HeldLine
@@ -130,22 +121,18 @@ unended-with o (h ∷ i ∷ j ∷ hs) = ap (λ v. h.bytes ++ (ending_bytes h.end
 unended-with o g = refl
 
 -- Its bytes are those, followed by those of the new line ending.
-pub bytes-with : (o : Option LineEnding) (h : HeldLine) (hs : List HeldLine)
-    → group_bytes (with_ending o (h ∷ hs)) ≡ unended_bytes (h ∷ hs) ++ ending_bytes o
-bytes-with o h hs = bytes-unended (with_ending o (h ∷ hs)) ∙ ap₂ (λ v w. v ++ ending_bytes w) (unended-with o (h ∷ hs)) (ending-with o h hs)
+pub bytes-with : (o : Option LineEnding) (h : HeldLine) (hs : List HeldLine) → group_bytes (with_ending o (h ∷ hs)) ≡ unended_bytes (h ∷ hs) ++ ending_bytes o
+bytes-with o h hs = rw (bytes-unended, unended-with, ending-with)
 
 -- A line before others.
 line-before : (e : Encoding) (o : Option LineEnding) (h : HeldLine) (by : LineEnding) (w : List HeldLine) → HoldsNoLineEnd h.bytes
-    → h.text ≡ decoded_line e h.bytes
-    → h.ending ≡ Some by
-    → (by ≡ cr → begins_with_lf (group_bytes w) ≡ false) → AreLinesBy e o w → AreLinesBy e o (h ∷ w)
+    → h.text ≡ decoded_line e h.bytes → h.ending ≡ Some by → (by ≡ cr → begins_with_lf (group_bytes w) ≡ false) → AreLinesBy e o w → AreLinesBy e o (h ∷ w)
 line-before e o h by [] p s t k a = absurd a
 line-before e o h by (i ∷ w) p s t k a = (p, s, (by, t, k), a)
 
 -- With another last line ending they are still such lines, if the ending forms no CR LF with what comes before it.
 pub lines-with : (e : Encoding) (o p : Option LineEnding) (g : List HeldLine) → AreLinesBy e o g
-    → (ends_in_cr (unended_bytes g) ≡ true → begins_with_lf (ending_bytes p) ≡ false)
-    → AreLinesBy e p (with_ending p g)
+    → (ends_in_cr (unended_bytes g) ≡ true → begins_with_lf (ending_bytes p) ≡ false) → AreLinesBy e p (with_ending p g)
 lines-with e o p [] a m = absurd a
 lines-with e o p (h ∷ []) (b, s, t) m = (b, s, refl)
 lines-with e o p (h ∷ i ∷ hs) (b, s, (by, t, k), a) m =
@@ -159,10 +146,8 @@ lines-with e o p (h ∷ i ∷ hs) (b, s, (by, t, k), a) m =
     first-left [] y h = refl
     first-left (c ∷ x) y h = h
 
-    ends : by ≡ cr → x ≡ [] → ends_in_cr (unended_bytes (h ∷ i ∷ hs)) ≡ true
-    ends q r = ends-right h.bytes (ending_bytes h.ending ++ x) (ap₂ (λ v w. ends_in_cr (ending_bytes v ++ w)) (t ∙ ap Some q) r)
-
     front : by ≡ cr → begins_with_lf (group_bytes (with_ending p (i ∷ hs))) ≡ false
     front q =
-        ap begins_with_lf (bytes-with p i hs)
-        ∙ first-none x (ending_bytes p) (first-left x (ending_bytes o) (ap begins_with_lf (sym (bytes-of e o (i ∷ hs) a)) ∙ k q)) (λ r. m (ends q r))
+        rw (bytes-with p i hs)
+        (first-none x (ending_bytes p) (first-left x (ending_bytes o) (rw (bytes-of e o (i ∷ hs) a) at (k q)))
+        (λ r. m (ends-right h.bytes (ending_bytes h.ending ++ x) (rw (t, q, r) refl))))

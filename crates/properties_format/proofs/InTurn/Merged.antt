@@ -1,13 +1,13 @@
 -- Groups in which a CR may come before a single LF: the groups of their bytes are these, with each such CR and LF made
 -- one line ending.
-use Rattle.std.proofs.Common.{◌≡◌, ◌≢◌, ℕ, ◌&&◌, true, false, List, [], ◌∷◌, ◌++◌, Option, Some, None, refl, ap, ap₂, sym, ◌∙◌, inl, inr, append_assoc, append-nil, subst, if◌then◌else◌}
-use Rattle.std.proofs.lemmas.Bool.{cases_Bool, and_parts}
-use Rattle.properties_format.specs.Text.{LineEnding, lf, cr, crlf, carriage_return, line_feed, is_empty}
+use Rattle.std.proofs.Common.{◌≡◌, ◌≢◌, ℕ, ◌&&◌, true, false, List, [], ◌∷◌, ◌++◌, Option, Some, None, refl, ap, sym, ◌∙◌, inl, inr, append_assoc, append-nil, if◌then◌else◌, arith}
+use Rattle.std.proofs.lemmas.Bool.{cases_Bool}
+use Rattle.properties_format.specs.Text.{LineEnding, lf, cr, crlf, line_feed, is_empty}
 use Rattle.properties_format.specs.Encoding.{Encoding}
 use Rattle.properties_format.specs.Lines.{Ended, AreLines}
 use Rattle.properties_format.specs.Computed.Lines.{begins_with_lf}
 use Rattle.properties_format.specs.Groups.{is_open, IsWhole}
-use Rattle.properties_format.specs.Body.{HeldLine, AreHeld, as_lines, held_in, AreGroupsOf, ending_bytes, group_bytes, groups_bytes, last_ending}
+use Rattle.properties_format.specs.Body.{HeldLine, as_lines, held_in, AreGroupsOf, ending_bytes, group_bytes, groups_bytes, last_ending}
 use Rattle.properties_format.specs.Edited.{is_editable, final_group}
 use Rattle.properties_format.specs.Computed.Cut.{cut_of, decoded_line}
 use Rattle.properties_format.specs.Computed.Body.{held_of, held_lines_of}
@@ -15,7 +15,7 @@ use Rattle.properties_format.specs.Computed.Parts.{unended_bytes, is_by_lf, is_b
 use Rattle.properties_format.proofs.Lines.Plain.{plain-no_lf, no_lf_first}
 use Rattle.properties_format.proofs.Cut.Meets.{cut_of-meets}
 use Rattle.properties_format.proofs.Body.Decoded.{decoded-nil}
-use Rattle.properties_format.proofs.Body.Groups.{held_of-meets, IsLastFit, AreFit, held_ended, ended-bytes, held-bytes, IsHeldFront, IsHeldLast, AreHeldGroups, held-groups}
+use Rattle.properties_format.proofs.Body.Groups.{held_of-meets, IsLastFit, AreFit, held_ended, ended-bytes, held-bytes, IsHeldFront, AreHeldGroups, held-groups}
 use Rattle.properties_format.proofs.Valued.Lined.{groups-fit}
 use Rattle.properties_format.proofs.InTurn.Lines.{AreLinesBy, first-none, lines-front, lines-last, bytes-unended, ending-of, with_ending, texts-with, bytes-with, lines-with}
 
@@ -57,18 +57,13 @@ ended-group : (e : Encoding) (g : List HeldLine) → IsHeldFront e g → IsEnded
 ended-group e g h = of-lines h.lines h.held h.are_lines
   where
     of-lines : (ls : List Ended) → g ≡ held_ended e ls → AreLines ls [] → IsEndedGroup e g
-    of-lines [] s a = absurd (subst (λ v. IsWhole (as_lines v)) s h.front.whole)
-    of-lines (l ∷ ls) s a =
-        let n = ended-lines e l ls a in (n.0, subst (AreLinesBy e (Some n.0)) (sym s) n.1, h.front.whole)
-
--- The last group of a body has no line ending, and is whole or ends open.
-last-group : (e : Encoding) (g : List HeldLine) → IsHeldLast e g → IsLastGroup e g
-last-group e g h = (subst (AreLinesBy e None) (sym h.held) (last-lines e h.lines.ended h.lines.last h.are_lines), h.fits)
+    of-lines [] s a = absurd (rw s at h.front.whole)
+    of-lines (l ∷ ls) s a = let n = ended-lines e l ls a in (n.0, rw s n.1, h.front.whole)
 
 -- The groups of a body, one by one, are in turn.
 held-turn : (e : Encoding) (gs : List (List HeldLine)) → AreHeldGroups e gs → AreInTurn e gs
 held-turn e [] h = absurd h
-held-turn e (g ∷ []) h = last-group e g h
+held-turn e (g ∷ []) h = (rw h.held (last-lines e h.lines.ended h.lines.last h.are_lines), h.fits)
 held-turn e (g ∷ i ∷ gs) h = (ended-group e g h.0, held-turn e (i ∷ gs) h.1)
 
 -- The groups of a body are in turn.
@@ -84,29 +79,16 @@ merged (g ∷ []) = g ∷ []
 merged (g ∷ h ∷ gs) = if are_one_ending g h then with_ending (Some crlf) g ∷ merged gs else g ∷ merged (h ∷ gs)
 
 -- A group that ends in a CR takes the single LF after it, and ends in CR LF.
-pub merged-one : (g h : List HeldLine) (gs : List (List HeldLine)) → are_one_ending g h ≡ true
-    → merged (g ∷ h ∷ gs) ≡ with_ending (Some crlf) g ∷ merged gs
+pub merged-one : (g h : List HeldLine) (gs : List (List HeldLine)) → are_one_ending g h ≡ true → merged (g ∷ h ∷ gs) ≡ with_ending (Some crlf) g ∷ merged gs
 merged-one g h gs k = rw k refl
 
 -- Any other group at the front is unchanged.
-pub merged-two : (g h : List HeldLine) (gs : List (List HeldLine)) → are_one_ending g h ≡ false
-    → merged (g ∷ h ∷ gs) ≡ g ∷ merged (h ∷ gs)
+pub merged-two : (g h : List HeldLine) (gs : List (List HeldLine)) → are_one_ending g h ≡ false → merged (g ∷ h ∷ gs) ≡ g ∷ merged (h ∷ gs)
 merged-two g h gs k = rw k refl
-
--- A line ending that passes the test for an LF is one.
-pub by_lf-is : (o : Option LineEnding) → is_by_lf o ≡ true → o ≡ Some lf
-by_lf-is (Some lf) k = refl
-by_lf-is o k = absurd (cc)
-
--- A line ending that passes the test for a CR is one.
-pub by_cr-is : (o : Option LineEnding) → is_by_cr o ≡ true → o ≡ Some cr
-by_cr-is (Some cr) k = refl
-by_cr-is o k = absurd (cc)
 
 -- A text that passes the test for an empty one is empty.
 pub empty-is : (x : List ℕ) → is_empty x ≡ true → x ≡ []
-empty-is [] k = refl
-empty-is (c ∷ x) k = absurd (cc)
+empty-is x k = grind (arith)
 
 -- The first group ends in a CR, and the second is a single LF.
 pub record IsOneEnding (g h : List HeldLine) : Type 0 where
@@ -116,42 +98,30 @@ pub record IsOneEnding (g h : List HeldLine) : Type 0 where
 
 -- Two groups are of this kind if they pass the test for one line ending.
 pub one-ending : (g h : List HeldLine) → are_one_ending g h ≡ true → IsOneEnding g h
-one-ending g h k =
-    let m = and_parts (is_by_cr (last_ending g)) (is_by_lf (last_ending h) && is_empty (unended_bytes h)) k in
-    let n = and_parts (is_by_lf (last_ending h)) (is_empty (unended_bytes h)) m.1 in
-    record { by_cr = by_cr-is (last_ending g) m.0; by_lf = by_lf-is (last_ending h) n.0; empty = empty-is (unended_bytes h) n.1 }
+one-ending g h k = grind (arith)
 
 -- Their bytes are those of the first group with a CR LF.
 pub one-bytes : (g h : List HeldLine) → IsOneEnding g h → group_bytes (with_ending (Some crlf) g) ≡ group_bytes g ++ group_bytes h
 one-bytes [] h k = let s = k.by_cr in absurd (cc)
-one-bytes (i ∷ is) h k =
-    let x = unended_bytes (i ∷ is) in
-    bytes-with (Some crlf) i is
-    ∙ sym (append_assoc x (carriage_return ∷ []) (line_feed ∷ []))
-    ∙ sym (ap₂ (λ u v. u ++ v) (bytes-unended (i ∷ is) ∙ ap (λ o. x ++ ending_bytes o) k.by_cr) (bytes-unended h ∙ ap₂ (λ u o. u ++ ending_bytes o) k.empty k.by_lf))
+one-bytes (i ∷ is) h k = rw (bytes-with _ i is, bytes-unended (i ∷ is), bytes-unended h, k.by_cr, k.empty, k.by_lf) (sym (append_assoc _ _ (line_feed ∷ [])))
 
 -- ---- which groups begin with an LF
 
 -- The first of several lines of a group is open.
 fit-open_line : (h i : HeldLine) (hs : List HeldLine) → IsLastFit (h ∷ i ∷ hs) → is_open h.text ≡ true
-fit-open_line h i hs (inl (inl w)) = absurd (cc (w.1))
-fit-open_line h i hs (inl (inr w)) = w.1.0
-fit-open_line h i hs (inr u) = u.1.0
+fit-open_line h i hs f = grind (arith)
 
 -- No LF comes before the last line ending of a group.
 unended-no_lf : (e : Encoding) (o : Option LineEnding) (g : List HeldLine) → AreLinesBy e o g → IsLastFit g → begins_with_lf (unended_bytes g) ≡ false
 unended-no_lf e o [] a f = absurd a
 unended-no_lf e o (h ∷ []) a f = plain-no_lf h.bytes a.0
 unended-no_lf e o (h ∷ i ∷ hs) a f =
+    let open_line : is_open h.text ≡ true = fit-open_line h i hs f in
     first-none h.bytes (ending_bytes h.ending ++ unended_bytes (i ∷ hs)) (plain-no_lf h.bytes a.0)
-    (λ r. absurd (closed (ap is_open (a.1 ∙ ap (decoded_line e) r ∙ decoded-nil e)) (fit-open_line h i hs f)))
-  where
-    closed : is_open h.text ≡ false → is_open h.text ≡ true → ⊥
-    closed p q = cc
+    (λ r. let closed = ap is_open (a.1 ∙ ap (decoded_line e) r ∙ decoded-nil e) in absurd (cc))
 
 -- After a CR, no LF comes first unless the two are one line ending.
-pub after-cr : (e : Encoding) (g h : List HeldLine) (gs : List (List HeldLine)) → AreInTurn e (h ∷ gs) → last_ending g ≡ Some cr
-    → are_one_ending g h ≡ false
+pub after-cr : (e : Encoding) (g h : List HeldLine) (gs : List (List HeldLine)) → AreInTurn e (h ∷ gs) → last_ending g ≡ Some cr → are_one_ending g h ≡ false
     → begins_with_lf (groups_bytes (h ∷ gs)) ≡ false
 after-cr e g h gs a s k = of-turn gs a
   where
@@ -188,14 +158,13 @@ merged-lines e (g ∷ []) ok a = ap (held_lines_of e) (append-nil (group_bytes g
 merged-lines e (g ∷ h ∷ gs) ok ((by, a, w), r) = elim (cases_Bool (are_one_ending g h)) [
   | inl k ↦
       let m = one-ending g h k in
-      ap (held_lines_of e) (sym (append_assoc (group_bytes g) (group_bytes h) (groups_bytes gs)) ∙ ap (λ v. v ++ groups_bytes gs) (sym (one-bytes g h m)))
-      ∙ lines-front e crlf (with_ending (Some crlf) g) (groups_bytes gs) ok (lines-with e (Some by) (Some crlf) g a (λ c. refl)) (λ q. absurd (cc))
-      ∙ ap (λ v. with_ending (Some crlf) g ++ v) (merged-lines e gs ok (after-lf e h gs r m.by_lf))
-      ∙ ap held_in (sym (merged-one g h gs k))
+      rw (k, ← append_assoc (group_bytes g) (group_bytes h) (groups_bytes gs), ← one-bytes g h m)
+      (lines-front e crlf (with_ending (Some crlf) g) (groups_bytes gs) ok (lines-with e (Some by) (Some crlf) g a (λ c. refl)) (λ q. absurd (cc))
+      ∙ ap (λ v. with_ending (Some crlf) g ++ v) (merged-lines e gs ok (after-lf e h gs r m.by_lf)))
   | inr k ↦
-      lines-front e by g (groups_bytes (h ∷ gs)) ok a (λ q. after-cr e g h gs r (ending-of e (Some by) g a ∙ ap Some q) k)
-      ∙ ap (λ v. g ++ v) (merged-lines e (h ∷ gs) ok r)
-      ∙ ap held_in (sym (merged-two g h gs k))
+      rw k
+      (lines-front e by g (groups_bytes (h ∷ gs)) ok a (λ q. after-cr e g h gs r (ending-of e (Some by) g a ∙ ap Some q) k)
+      ∙ ap (λ v. g ++ v) (merged-lines e (h ∷ gs) ok r))
 ]
 
 -- A whole group before groups, all of which but the last are whole.
@@ -208,23 +177,15 @@ merged-fit : (e : Encoding) (gs : List (List HeldLine)) → AreInTurn e gs → A
 merged-fit e [] a = absurd a
 merged-fit e (g ∷ []) a = a.1
 merged-fit e (g ∷ h ∷ gs) ((by, a, w), r) = elim (cases_Bool (are_one_ending g h)) [
-  | inl k ↦
-      let m = one-ending g h k in
-      subst AreFit (sym (merged-one g h gs k))
-      (fit-before (with_ending (Some crlf) g) (merged gs) (subst IsWhole (sym (texts-with (Some crlf) g)) w) (merged-fit e gs (after-lf e h gs r m.by_lf)))
-  | inr k ↦ subst AreFit (sym (merged-two g h gs k)) (fit-before g (merged (h ∷ gs)) w (merged-fit e (h ∷ gs) r))
+  | inl k ↦ rw k (fit-before (with_ending (Some crlf) g) (merged gs) (rw texts-with w) (merged-fit e gs (after-lf e h gs r (one-ending g h k).by_lf)))
+  | inr k ↦ rw k (fit-before g (merged (h ∷ gs)) w (merged-fit e (h ∷ gs) r))
 ]
 
 -- Groups in turn, with each CR and single LF made one line ending, are the groups of their bytes.
 pub merged-groups : (e : Encoding) (gs : List (List HeldLine)) → is_editable e ≡ true → AreInTurn e gs → AreGroupsOf e (groups_bytes gs) (merged gs)
 merged-groups e gs ok a =
-    let body = groups_bytes gs in
-    record {
-      cut = cut_of e body;
-      is_cut = cut_of-meets e body;
-      are_held = subst (AreHeld e (cut_of e body).ended (cut_of e body).last) (merged-lines e gs ok a) (held_of-meets e (cut_of e body).ended (cut_of e body).last);
-      grouped = groups-fit (merged gs) (merged-fit e gs a);
-    }
+    let c = cut_of e (groups_bytes gs) in
+    record { cut = c; is_cut = cut_of-meets e (groups_bytes gs); are_held = rw (← merged-lines e gs ok a) (held_of-meets e c.ended c.last); grouped = groups-fit (merged gs) (merged-fit e gs a) }
 
 -- ---- what else is unchanged
 
@@ -235,16 +196,12 @@ final-next g (h ∷ gs) n = refl
 
 -- If there is a group, there is one once line endings are made one.
 merged-some : (gs : List (List HeldLine)) → gs ≢ [] → merged gs ≢ []
-merged-some (g ∷ h ∷ gs) n = elim (cases_Bool (are_one_ending g h)) [
-  | inl k ↦ let s = merged-one g h gs k in λ q. cc
-  | inr k ↦ let s = merged-two g h gs k in λ q. cc
-]
-merged-some gs n = n
+merged-some gs n = grind (arith)
 
 -- Groups in turn are at least one.
 pub turn-some : (e : Encoding) (gs : List (List HeldLine)) → AreInTurn e gs → gs ≢ []
-turn-some e [] a q = a
 turn-some e (g ∷ gs) a q = cc
+turn-some e [] a q = a
 
 -- Once line endings are made one, the last group is the same.
 pub merged-final : (e : Encoding) (gs : List (List HeldLine)) → AreInTurn e gs → final_group (merged gs) ≡ final_group gs
@@ -253,10 +210,7 @@ merged-final e (g ∷ []) a = refl
 merged-final e (g ∷ h ∷ gs) a = elim (cases_Bool (are_one_ending g h)) [
   | inl k ↦
       let r = after-lf e h gs a.1 (one-ending g h k).by_lf in
-      ap final_group (merged-one g h gs k)
-      ∙ final-next (with_ending (Some crlf) g) (merged gs) (merged-some gs (turn-some e gs r))
-      ∙ merged-final e gs r
-      ∙ sym (final-next h gs (turn-some e gs r))
-  | inr k ↦
-      ap final_group (merged-two g h gs k) ∙ final-next g (merged (h ∷ gs)) (merged-some (h ∷ gs) (λ q. cc)) ∙ merged-final e (h ∷ gs) a.1
+      let some = turn-some e gs r in
+      rw (k, final-next (with_ending (Some crlf) g) (merged gs) (merged-some gs some), final-next h gs some) (merged-final e gs r)
+  | inr k ↦ rw (k, final-next g (merged (h ∷ gs)) (merged-some (h ∷ gs) (λ q. cc))) (merged-final e (h ∷ gs) a.1)
 ]

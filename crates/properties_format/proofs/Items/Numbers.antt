@@ -2,10 +2,10 @@
 use Rattle.std.proofs.Common.{ℕ, ◌+◌, ◌<◌, ◌≤◌, List, [], ◌∷◌, ◌++◌, length, arith, append_assoc, subst, zero-add}
 use Rattle.properties_format.specs.Encoding.{Encoding}
 use Rattle.properties_format.specs.Computed.Encoding.{decoded_of}
-use Rattle.properties_format.specs.Lines.{InputEnd, end, fault, more, Ended, Line, Lines, line_ends, numbered, numbered_lines}
+use Rattle.properties_format.specs.Lines.{InputEnd, end, fault, more, Ended, Line, Lines, line_ends, numbered}
 use Rattle.properties_format.specs.Computed.Lines.{lines_of}
 use Rattle.properties_format.specs.Groups.{AreWhole, lines_in, last_group, IsGroups, first_number}
-use Rattle.properties_format.specs.Computed.Groups.{groups_of}
+use Rattle.properties_format.specs.Computed.Groups.{groups_of, groups_in}
 use Rattle.properties_format.specs.Items.{Entry, NumbersAscend, last_entries}
 use Rattle.properties_format.specs.Computed.Items.{entries_of, items_of}
 use Rattle.properties_format.proofs.Groups.Meets.{groups_of-meets}
@@ -29,7 +29,8 @@ last_line more = 0
 -- ---- lines
 
 -- The numbers of the lines after n line endings ascend, start above n, and are at most n plus their count.
-numbered-within : (n : ℕ) (ls : List Ended) (last : List ℕ) (ending : InputEnd) (high : ℕ) → n + length ls + last_line ending ≤ high → LinesWithin n high (numbered n ls last ending)
+numbered-within : (n : ℕ) (ls : List Ended) (last : List ℕ) (ending : InputEnd) (high : ℕ) → n + length ls + last_line ending ≤ high
+    → LinesWithin n high (numbered n ls last ending)
 numbered-within n [] last end high h = (omega arith, omega arith)
 numbered-within n (l ∷ ls) last ending high h = (omega arith, numbered-within (n + 1) ls last ending high (omega arith))
 numbered-within n [] last ending high h = omega arith
@@ -60,15 +61,16 @@ firsts-of_last : (low high : ℕ) (ls : List Line) (ending : InputEnd) → Lines
 firsts-of_last low high ls ending h = grind (arith, lines-bounded)
 
 -- The numbers of whole groups and of a last one lie within those that their lines lie within.
-firsts-of : (low high : ℕ) (whole : List (List Line)) (unfinished : List Line) (ending : InputEnd) → AreWhole whole → LinesWithin low high (lines_in whole ++ unfinished)
-    → FirstsWithin low high (whole ++ last_group unfinished ending)
+firsts-of : (low high : ℕ) (whole : List (List Line)) (unfinished : List Line) (ending : InputEnd) → AreWhole whole
+    → LinesWithin low high (lines_in whole ++ unfinished) → FirstsWithin low high (whole ++ last_group unfinished ending)
 firsts-of low high [] unfinished ending w h = firsts-of_last low high unfinished ending h
 firsts-of low high ([] ∷ gs) unfinished ending w h = absurd w.0
 firsts-of low high ((l ∷ ls) ∷ gs) unfinished ending w h =
     (h.0, firsts-of l.number high gs unfinished ending w.1 (lines-behind_first l.number high ls (lines_in gs) unfinished h.1))
 
 -- The numbers of the groups of lines lie within those that the lines lie within.
-groups-within : (low high : ℕ) (ls : List Line) (ending : InputEnd) (gs : List (List Line)) → IsGroups ls ending gs → LinesWithin low high ls → FirstsWithin low high gs
+groups-within : (low high : ℕ) (ls : List Line) (ending : InputEnd) (gs : List (List Line)) → IsGroups ls ending gs → LinesWithin low high ls
+    → FirstsWithin low high gs
 groups-within low high ls ending gs g h = rw g.are_groups (firsts-of low high g.whole g.unfinished ending g.are_whole (rw g.are_lines at h))
 
 -- ---- entries
@@ -83,7 +85,8 @@ last-ascend : (low high n : ℕ) (ending : InputEnd) → high ≤ n + last_line 
 last-ascend low high n ending h k = grind (arith)
 
 -- The numbers of the entries of groups ascend if those of the groups' first lines do.
-entries-ascend : (low high n : ℕ) (ending : InputEnd) (gs : List (List Line)) → high ≤ n + last_line ending → FirstsWithin low high gs → NumbersAscend low (entries_of n ending gs)
+entries-ascend : (low high n : ℕ) (ending : InputEnd) (gs : List (List Line)) → high ≤ n + last_line ending → FirstsWithin low high gs
+    → NumbersAscend low (entries_of n ending gs)
 entries-ascend low high n ending [] h k = last-ascend low high n ending h k
 entries-ascend low high n ending (g ∷ gs) h k =
     grind (arith, ascend-lower, entries-ascend (first_number g) high n ending gs h k.1)
@@ -103,4 +106,4 @@ pub items_of-ascend : (e : Encoding) (bytes : List ℕ) (ending : InputEnd) → 
 unfolding items_of
 items_of-ascend e bytes ending =
     let lines = lines_of (decoded_of e bytes) in
-    subst (λ v. NumbersAscend 0 (entries_of v ending (groups_of (numbered_lines lines ending) ending))) (zero-add (line_ends lines)) (lines-ascend 0 lines ending)
+    subst (λ v. NumbersAscend 0 (entries_of v ending (groups_in e bytes ending))) (zero-add (line_ends lines)) (lines-ascend 0 lines ending)

@@ -1,10 +1,10 @@
 -- What comes as defined by divisions, and as computed, is the same.
-use Rattle.std.proofs.Common.{◌≡◌, ℕ, ◌+◌, false, List, ◌∷◌, ◌++◌, refl, ap, sym, ◌∙◌, inl, inr}
+use Rattle.std.proofs.Common.{arith, ◌≡◌, ℕ, ◌+◌, false, List, ◌∷◌, ◌++◌, refl, ap, sym, ◌∙◌, inl, inr}
 use Rattle.std.proofs.lemmas.Bool.{cases_Bool}
-use Rattle.properties_format.specs.Pieces.{Piece, characters}
+use Rattle.properties_format.specs.Pieces.{characters}
 use Rattle.properties_format.specs.Computed.Encoding.{pieces_of}
-use Rattle.properties_format.specs.Lines.{InputEnd, Line, Lines, line_ends, numbered}
-use Rattle.properties_format.specs.Computed.Lines.{rest_of_end, lines_of}
+use Rattle.properties_format.specs.Lines.{InputEnd, Line, line_ends, numbered}
+use Rattle.properties_format.specs.Computed.Lines.{lines_of}
 use Rattle.properties_format.specs.Items.{Entry, last_entries}
 use Rattle.properties_format.specs.ItemsToCome.{ReaderState, in_force, IsItemsToCome, AreLinesToCome, ComesFirst, LinesComeFirst}
 use Rattle.properties_format.specs.Computed.ItemsToCome.{text_to_come, items_to_come, natural_to_come, last_to_come}
@@ -18,18 +18,18 @@ use Rattle.properties_format.proofs.ItemsToCome.Lines.{natural-done}
 -- ---- items
 
 -- Entries equal to the computed ones are the items to come.
-pub are_to_come : {s : ReaderState} {d : List ℕ} {ending : InputEnd} {entries : List Entry} → items_to_come s d ending ≡ entries → IsItemsToCome s d ending entries
+pub are_to_come : {s : ReaderState} {d : List ℕ} {ending : InputEnd} {entries : List Entry} → items_to_come s d ending ≡ entries
+    → IsItemsToCome s d ending entries
 are_to_come {s} {d} {ending} h = rw (← h) (items_to_come-meets s d ending)
 
 -- The items to come are the computed ones.
-pub to_come_are : {s : ReaderState} {d : List ℕ} {ending : InputEnd} {entries : List Entry} → IsItemsToCome s d ending entries → items_to_come s d ending ≡ entries
+pub to_come_are : {s : ReaderState} {d : List ℕ} {ending : InputEnd} {entries : List Entry} → IsItemsToCome s d ending entries
+    → items_to_come s d ending ≡ entries
 to_come_are {s} {d} {ending} {entries} h = sym (items_to_come-only s d ending entries h)
 
 -- An entry that reading these bytes returns comes first of the items to come.
 pub comes_first : {old new : ReaderState} {bytes : List ℕ} {entry : Entry} → ReadsEntry old bytes entry new → ComesFirst old bytes entry new
-comes_first {entry = entry} h = record {
-  others = λ d ending entries k. are_to_come (h.items d ending ∙ ap (λ v. entry ∷ v) (to_come_are k));
-}
+comes_first {entry = entry} h = record { others = λ d ending entries k. are_to_come (h.items d ending ∙ ap (λ v. entry ∷ v) (to_come_are k)) }
 
 -- An entry that comes first of them is returned by reading these bytes.
 pub first_comes : {old new : ReaderState} {bytes : List ℕ} {entry : Entry} → ComesFirst old bytes entry new → ReadsEntry old bytes entry new
@@ -46,7 +46,8 @@ unfolding natural_to_come last_to_come
 natural-going s d ending h = (rw h refl, rw h refl)
 
 -- The computed lines are the lines to come.
-pub natural_to_come-meets : (s : ReaderState) (d : List ℕ) (ending : InputEnd) → AreLinesToCome s d ending (natural_to_come s d ending) (last_to_come s d ending)
+pub natural_to_come-meets : (s : ReaderState) (d : List ℕ) (ending : InputEnd)
+    → AreLinesToCome s d ending (natural_to_come s d ending) (last_to_come s d ending)
 natural_to_come-meets s d ending = elim (cases_Bool s.is_done) [
   | inl h ↦ inl (h, (natural-done s d ending h).0, (natural-done s d ending h).1)
   | inr h ↦ inr (
@@ -72,14 +73,7 @@ natural_to_come-only s d ending lines last (inr h) =
     let f = in_force s d in
     let k = h.1 in
     let going = natural-going s d ending h.0 in
-    let text : List Piece → List ℕ = λ v. rest_of_end s.after_cr (characters v) in
-    let all : k.all ≡ lines_of (text_to_come s d) =
-    lines_of-only k.text k.all k.divided
-    ∙ ap lines_of (rest_of_end-only s.after_cr (characters k.pieces) k.text k.after_end)
-    ∙ ap (λ v. lines_of (text v)) (pieces_of-only f.encoding f.body k.pieces k.are_pieces) in (
-      k.are_lines ∙ ap (λ (v : Lines). numbered s.passed v.ended v.last ending) all ∙ sym going.0,
-      k.are_last ∙ ap (λ (v : Lines). last_entries (s.passed + line_ends v) ending) all ∙ sym going.1,
-    )
+    grind (arith, lines_of-only, rest_of_end-only, pieces_of-only)
 
 -- Lines that reading these bytes returns come first of the lines to come.
 pub lines_come_first : {old new : ReaderState} {bytes : List ℕ} {lines : List Line} → ReadsLines old bytes lines new → LinesComeFirst old bytes lines new

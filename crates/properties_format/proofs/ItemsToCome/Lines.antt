@@ -1,8 +1,7 @@
 -- The natural lines to come, step by step: bytes are read, the byte order mark is determined, an LF is skipped, a line
 -- is taken, the input ends.
-use Rattle.std.proofs.Common.{◌≡◌, ◌==◌, ℕ, ◌+◌, ◌<◌, Bool, true, false, List, [], ◌∷◌, ◌++◌, length, refl, ap, ap₂, sym, ◌∙◌, inl, inr, lit<}
+use Rattle.std.proofs.Common.{rules, arith, ◌≡◌, ◌==◌, ℕ, ◌+◌, ◌<◌, Bool, true, false, List, [], ◌∷◌, ◌++◌, length, refl, ap, ap₂, sym, ◌∙◌, inl, inr}
 use Rattle.std.proofs.Common.{append_assoc, append-nil, eqb-true, add-zero}
-use Rattle.std.specs.Prelude.{if◌then◌else◌}
 use Rattle.std.proofs.lemmas.Bool.{or_cases}
 use Rattle.properties_format.specs.Text.{line_feed, carriage_return, is_line_end, LineEnding, lf}
 use Rattle.properties_format.specs.Pieces.{characters}
@@ -10,9 +9,9 @@ use Rattle.properties_format.specs.Encoding.{InForce, ascii_bytes, byte_order_ma
 use Rattle.properties_format.specs.Computed.Encoding.{pieces_of}
 use Rattle.properties_format.specs.Computed.Waiting.{awaits_bom}
 use Rattle.properties_format.specs.Computed.Cut.{decoded_line}
-use Rattle.properties_format.specs.Lines.{Lines, HoldsNoLineEnd, InputEnd, end, more, Line, line_ends, numbered}
+use Rattle.properties_format.specs.Lines.{HoldsNoLineEnd, InputEnd, end, more, numbered}
 use Rattle.properties_format.specs.Computed.Lines.{begins_with_lf, rest_of_end, lines_of}
-use Rattle.properties_format.specs.Items.{Entry, last_entries}
+use Rattle.properties_format.specs.Items.{last_entries}
 use Rattle.properties_format.specs.ItemsToCome.{ReaderState, in_force}
 use Rattle.properties_format.specs.Computed.ItemsToCome.{text_to_come, natural_to_come, last_to_come}
 use Rattle.properties_format.specs.Computed.ReaderSteps.{Gives, after_read, after_decided, after_passed, after_line, next_line, HoldsLine, HoldsNoEnd}
@@ -30,45 +29,25 @@ use Rattle.properties_format.proofs.Encodings.Characters.{pieces_of-ascii}
 
 -- ---- states with equal text to come
 
--- the numbered lines of a text, unless the reader is at its end
-abbrev lines_unless : Bool → ℕ → List ℕ → InputEnd → List Line
-lines_unless done n text ending = if done then [] else (let lines = lines_of text in numbered n lines.ended lines.last ending)
-
-abbrev last_unless : Bool → ℕ → List ℕ → InputEnd → List Entry
-last_unless done n text ending = if done then [] else last_entries (n + line_ends (lines_of text)) ending
-
 -- If the text to come is equal in two states, so is what the reader returns.
 gives-text : (s t : ReaderState) (x y : List ℕ) (ending : InputEnd) → s.is_done ≡ t.is_done → s.passed ≡ t.passed → text_to_come s x ≡ text_to_come t y
     → Gives s x [] t y ending
 unfolding natural_to_come last_to_come
-gives-text s t x y ending h k m = record {
-  natural =
-      ap (λ v. lines_unless v s.passed (text_to_come s x) ending) h
-      ∙ ap (λ v. lines_unless t.is_done v (text_to_come s x) ending) k
-      ∙ ap (λ v. lines_unless t.is_done t.passed v ending) m;
-  last =
-      ap (λ v. last_unless v s.passed (text_to_come s x) ending) h
-      ∙ ap (λ v. last_unless t.is_done v (text_to_come s x) ending) k
-      ∙ ap (λ v. last_unless t.is_done t.passed v ending) m;
-}
+gives-text s t x y ending h k m = grind (arith)
 
 -- the text of some bytes in an encoding, after a line ending
 abbrev text_of : Bool → InForce → List ℕ
 text_of after_cr m = rest_of_end after_cr (characters (pieces_of m.encoding m.body))
 
 -- The text to come once the encoding is determined.
-text-decided : (s : ReaderState) (d : List ℕ) → s.is_decided ≡ true
-    → text_to_come s d ≡ rest_of_end s.after_cr (decoded_line s.encoding (s.held ++ d))
+text-decided : (s : ReaderState) (d : List ℕ) → s.is_decided ≡ true → text_to_come s d ≡ rest_of_end s.after_cr (decoded_line s.encoding (s.held ++ d))
 text-decided s d h = rw h refl
 
 -- ---- reading, and the byte order mark
 
 -- Bytes that are read are held, and come before those to come.
 pub gives-read : (s : ReaderState) (r d : List ℕ) (ending : InputEnd) → Gives s (r ++ d) [] (after_read s r) d ending
-gives-read s r d ending =
-    let e : s.held ++ (r ++ d) ≡ (s.held ++ r) ++ d = sym (append_assoc s.held r d) in
-    let of : List ℕ → InForce = λ b. if s.is_decided then record { encoding = s.encoding; body = b } else byte_order_mark s.encoding b in
-    gives-text s (after_read s r) (r ++ d) d ending refl refl (ap (λ v. text_of s.after_cr (of v)) e)
+gives-read s r d ending = search (append_assoc, gives-text)
 
 -- Held bytes that don't wait for more determine the byte order mark.
 pub gives-decided : (s : ReaderState) (d : List ℕ) (ending : InputEnd) → s.is_decided ≡ false → awaits_bom s.held ≡ false
@@ -93,23 +72,18 @@ pub gives-passed_lf : (s : ReaderState) (rest d : List ℕ) (ending : InputEnd) 
     → s.held ≡ ascii_bytes s.encoding line_feed ++ rest → Gives s d [] (after_passed s rest) d ending
 gives-passed_lf s rest d ending h k m =
     let e : s.held ++ d ≡ ascii_bytes s.encoding line_feed ++ (rest ++ d) = ap (λ v. v ++ d) m ∙ append_assoc (ascii_bytes s.encoding line_feed) rest d in
-    let f : decoded_line s.encoding (s.held ++ d) ≡ line_feed ∷ decoded_line s.encoding (rest ++ d) =
-    ap (decoded_line s.encoding) e ∙ ap characters (pieces_of-ascii s.encoding line_feed (rest ++ d) (lit< tt)) in
+    let f : decoded_line s.encoding (s.held ++ d) ≡ line_feed ∷ decoded_line s.encoding (rest ++ d) = grind (arith, pieces_of-ascii) in
     let g : text_to_come s d ≡ decoded_line s.encoding (rest ++ d) = text-decided s d h ∙ ap₂ rest_of_end k f in
     gives-text s (after_passed s rest) d d ending refl refl (g ∙ sym (text-decided (after_passed s rest) d h))
 
 -- If no LF comes first, none is left out.
 rest_of_end-none : (after_cr : Bool) (x : List ℕ) → begins_with_lf x ≡ false → rest_of_end after_cr x ≡ x
-rest_of_end-none true x h = without_leading_lf-none x h
-rest_of_end-none false x h = refl
+rest_of_end-none after_cr x h1 = grind (arith, without_leading_lf-none)
 
 -- If no LF unit comes first, a CR before it doesn't matter.
 gives-passed : (s : ReaderState) (d : List ℕ) (ending : InputEnd) → s.is_decided ≡ true → begins_with_lf (units s.encoding (s.held ++ d)) ≡ false
     → Gives s d [] (after_passed s s.held) d ending
-gives-passed s d ending h k =
-    let text = decoded_line s.encoding (s.held ++ d) in
-    let e : rest_of_end s.after_cr text ≡ text = rest_of_end-none s.after_cr text (decoded-no_lf s.encoding (s.held ++ d) k) in
-    gives-text s (after_passed s s.held) d d ending refl refl (text-decided s d h ∙ e ∙ sym (text-decided (after_passed s s.held) d h))
+gives-passed s d ending h k = search (rest_of_end-none, decoded-no_lf, gives-text, text-decided)
 
 -- Bytes with a whole unit that isn't an LF show that none has to be skipped.
 pub gives-passed_none : (s : ReaderState) (d : List ℕ) (ending : InputEnd) → s.is_decided ≡ true → 0 < length (units s.encoding s.held)
@@ -134,16 +108,10 @@ lines_of-ended text c y h k = elim (or_cases (c == line_feed) (c == carriage_ret
 
 -- The first line of the text to come is known.
 gives-lines : (s t : ReaderState) (d : List ℕ) (ending : InputEnd) (text : List ℕ) (by : LineEnding) → s.is_done ≡ false → t.is_done ≡ false
-    → t.passed ≡ s.passed + 1
-    → lines_of (text_to_come s d) ≡ line_in_front text by (lines_of (text_to_come t d))
+    → t.passed ≡ s.passed + 1 → lines_of (text_to_come s d) ≡ line_in_front text by (lines_of (text_to_come t d))
     → Gives s d (record { number = s.passed + 1; text = text } ∷ []) t d ending
 unfolding natural_to_come last_to_come
-gives-lines s t d ending text by h k m e = rw (h, k, m) (record {
-  natural = ap (λ v. let w : Lines = v in numbered s.passed w.ended w.last ending) e;
-  last =
-      ap (λ v. last_entries (s.passed + line_ends v) ending) e
-      ∙ ap (λ v. last_entries v ending) (sym (one-more s.passed (length (lines_of (text_to_come t d)).ended)));
-})
+gives-lines s t d ending text by h k m e = grind (arith, one-more)
 
 -- The decoded line is known to contain no line ending.
 line-plain : (s : ReaderState) (l : List ℕ) (c : ℕ) (rest d : List ℕ) (ending : InputEnd) → HoldsLine s l c rest → HoldsNoLineEnd (decoded_line s.encoding l)
@@ -152,13 +120,8 @@ line-plain s l c rest d ending h plain =
     let text = decoded_line s.encoding l in
     let t : ReaderState = after_line s c rest in
     let y = decoded_line s.encoding (rest ++ d) in
-    let e : s.held ++ d ≡ l ++ (ascii_bytes s.encoding c ++ (rest ++ d)) =
-    ap (λ v. v ++ d) h.held ∙ append_assoc l (ascii_bytes s.encoding c ++ rest) d ∙ ap (λ v. l ++ v) (append_assoc (ascii_bytes s.encoding c) rest d) in
-    let f : text_to_come s d ≡ text ++ c ∷ y =
-    text-decided s d h.decided
-    ∙ ap (λ v. rest_of_end v (decoded_line s.encoding (s.held ++ d))) h.passed
-    ∙ ap (λ v. decoded_line s.encoding v) e
-    ∙ characters-cut_ascii s.encoding c l (rest ++ d) (end-ascii c h.ends) h.aligned in
+    let e : s.held ++ d ≡ l ++ (ascii_bytes s.encoding c ++ (rest ++ d)) = grind (arith, append_assoc) in
+    let f : text_to_come s d ≡ text ++ c ∷ y = grind (arith, text-decided, characters-cut_ascii, end-ascii) in
     let g : rest_of_end (c == carriage_return) y ≡ text_to_come t d = sym (text-decided t d h.decided) in
     let k = lines_of-ended text c y plain h.ends in
     gives-lines s t d ending text k.0 h.going h.going refl (ap lines_of f ∙ k.1 ∙ ap (λ v. line_in_front text k.0 (lines_of v)) g)
@@ -170,26 +133,11 @@ gives-line s l c rest d ending h = line-plain s l c rest d ending h (no_end-deco
 
 -- ---- nothing comes
 
--- The lines in a state that holds no line ending.
-last-plain : (s : ReaderState) → HoldsNoEnd s → HoldsNoLineEnd (decoded_line s.encoding s.held)
-    → lines_of (text_to_come s []) ≡ record { ended = []; last = (next_line s s.held).text }
-last-plain s h plain =
-    let text = decoded_line s.encoding s.held in
-    ap lines_of (
-    text-decided s [] h.decided
-    ∙ ap (λ v. rest_of_end s.after_cr (decoded_line s.encoding v)) (append-nil s.held)
-    ∙ rest_of_end-none s.after_cr text (plain-no_lf text plain)
-    )
-    ∙ lines_of-plain text plain
-
 -- What is returned if nothing more comes.
 at-last : (s : ReaderState) (ending : InputEnd) → HoldsNoEnd s → HoldsNoLineEnd (decoded_line s.encoding s.held)
     → (natural_to_come s [] ending ≡ numbered s.passed [] (next_line s s.held).text ending) × (last_to_come s [] ending ≡ last_entries s.passed ending)
 unfolding natural_to_come last_to_come
-at-last s ending h plain =
-    let k = last-plain s h plain in
-    let m : s.passed + line_ends (lines_of (text_to_come s [])) ≡ s.passed = ap (λ v. s.passed + line_ends v) k ∙ add-zero s.passed in
-    rw h.going (ap (λ v. let w : Lines = v in numbered s.passed w.ended w.last ending) k, ap (λ v. last_entries v ending) m)
+at-last s ending h plain = search (rules, add-zero, text-decided, append-nil, rest_of_end-none, plain-no_lf, lines_of-plain)
 
 -- If the reader is permanently at its end, no line comes.
 pub natural-done : (s : ReaderState) (d : List ℕ) (ending : InputEnd) → s.is_done ≡ true → (natural_to_come s d ending ≡ []) × (last_to_come s d ending ≡ [])

@@ -1,5 +1,5 @@
 -- Steps of a reader, one after the other, from natural lines to logical lines.
-use Rattle.std.proofs.Common.{◌≡◌, ℕ, true, false, List, [], ◌∷◌, ◌++◌, length, ◌<◌, Some, None, refl, ap, sym, ◌∙◌, subst, append_assoc}
+use Rattle.std.proofs.Common.{arith, ◌≡◌, ℕ, true, false, List, [], ◌∷◌, ◌++◌, length, ◌<◌, Some, None, refl, ap, ◌∙◌, append_assoc}
 use Rattle.properties_format.specs.Text.{line_feed}
 use Rattle.properties_format.specs.Encoding.{ascii_bytes}
 use Rattle.properties_format.specs.Cut.{units}
@@ -7,12 +7,11 @@ use Rattle.properties_format.specs.Computed.Lines.{begins_with_lf}
 use Rattle.properties_format.specs.Lines.{InputEnd, Line}
 use Rattle.properties_format.specs.Groups.{is_open, is_comment_line, without_open_backslash}
 use Rattle.properties_format.specs.Items.{Entry}
-use Rattle.properties_format.specs.Computed.Items.{outcome_of, followed}
 use Rattle.properties_format.specs.ItemsToCome.{ReaderState}
-use Rattle.properties_format.specs.Computed.ItemsToCome.{items_to_come, entries_pending}
-use Rattle.properties_format.specs.Computed.ReaderSteps.{Gives, after_read, after_passed, HoldsLine, next_line, after_line, ReadsLines, ReadsOn, ReadsLogical}
+use Rattle.properties_format.specs.Computed.ItemsToCome.{items_to_come}
+use Rattle.properties_format.specs.Computed.ReaderSteps.{after_read, after_passed, HoldsLine, next_line, after_line, ReadsLines, ReadsOn}
 use Rattle.properties_format.proofs.ItemsToCome.Lines.{gives-read, gives-passed_lf, gives-passed_none, gives-line}
-use Rattle.properties_format.proofs.ItemsToCome.Entries.{items_to_come-pending, gives-on, pending-comment_line, pending-closed, pending-open}
+use Rattle.properties_format.proofs.ItemsToCome.Entries.{items_to_come-pending, gives-on, pending-open}
 
 -- ---- natural lines
 
@@ -22,8 +21,7 @@ lines-start s = record { gives = λ d ending. record { natural = refl; last = re
 
 -- One step after another.
 pub lines-on : {s t u : ReaderState} {r q : List ℕ} {ls ms : List Line} → ReadsLines s r ls t → ReadsLines t q ms u → ReadsLines s (r ++ q) (ls ++ ms) u
-lines-on {s} {t} {u} {r} {q} {ls} {ms} h k =
-    record { gives = λ d ending. subst (λ v. Gives s v (ls ++ ms) u d ending) (sym (append_assoc r q d)) (gives-on (h.gives (q ++ d) ending) (k.gives d ending)) }
+lines-on {s} {t} {u} {r} {q} {ls} {ms} h k = grind (arith, append_assoc, gives-on)
 
 -- A step followed by one that reads nothing.
 pub lines-then : {s t u : ReaderState} {r : List ℕ} {ls ms : List Line} → ReadsLines s r ls t → ReadsLines t [] ms u → ReadsLines s r (ls ++ ms) u
@@ -60,31 +58,5 @@ regroup s r q d ending entries h = ap (λ v. items_to_come s v ending) (append_a
 
 -- An open line that isn't a comment line starts a logical line.
 pub on-open : {s t u : ReaderState} {r q : List ℕ} {l : Line} → ReadsOn s r None t → ReadsLines t q (l ∷ []) u → is_comment_line l.text ≡ false
-    → is_open l.text ≡ true
-    → ReadsOn s (r ++ q) (Some (record { number = l.number; text = without_open_backslash l.text })) u
+    → is_open l.text ≡ true → ReadsOn s (r ++ q) (Some (record { number = l.number; text = without_open_backslash l.text })) u
 on-open {s} {t} {u} {r} {q} h k m o = record { items = λ d ending. regroup s r q d ending _ (h.items (q ++ d) ending ∙ pending-open (k.gives d ending) m o) }
-
--- ---- logical lines that are completed
-
--- What follows a logical line, if no other has been started after it.
-none-open : (number : ℕ) (text : List ℕ) (s : ReaderState) (d : List ℕ) (ending : InputEnd)
-    → followed number (outcome_of text) (entries_pending None s d ending) ≡ followed number (outcome_of text) (items_to_come s d ending)
-none-open number text s d ending = ap (followed number (outcome_of text)) (sym (items_to_come-pending s d ending))
-
--- If no logical line has been started, a comment line is a logical line.
-pub logical-comment_line : {s t u : ReaderState} {r q : List ℕ} {l : Line} → ReadsOn s r None t → ReadsLines t q (l ∷ []) u → is_comment_line l.text ≡ true
-    → ReadsLogical s (r ++ q) l u
-logical-comment_line {s} {t} {u} {r} {q} {l} h k m =
-    record {
-      items = λ d ending. regroup s r q d ending _
-          (h.items (q ++ d) ending ∙ pending-comment_line (k.gives d ending) m ∙ none-open l.number l.text u d ending);
-    }
-
--- If no logical line has been started, a line that isn't open is a logical line.
-pub logical-closed : {s t u : ReaderState} {r q : List ℕ} {l : Line} → ReadsOn s r None t → ReadsLines t q (l ∷ []) u → is_open l.text ≡ false
-    → ReadsLogical s (r ++ q) l u
-logical-closed {s} {t} {u} {r} {q} {l} h k o =
-    record {
-      items = λ d ending. regroup s r q d ending _
-          (h.items (q ++ d) ending ∙ pending-closed (k.gives d ending) o ∙ none-open l.number l.text u d ending);
-    }

@@ -1,13 +1,12 @@
 -- The items to come exist and are unique; at the start, they are the items of the input.
-use Rattle.std.proofs.Common.{◌≡◌, ◌==◌, ℕ, ◌+◌, Bool, true, false, List, [], ◌∷◌, refl, ap, sym, ◌∙◌, inl, inr, zero-add}
+use Rattle.std.proofs.Common.{arith, ◌≡◌, ℕ, ◌+◌, Bool, true, false, List, [], refl, ap, sym, ◌∙◌, inl, inr, zero-add}
 use Rattle.std.proofs.lemmas.Bool.{cases_Bool}
 use Rattle.std.proofs.lemmas.Bool.Decides.{eqb_tells}
-use Rattle.properties_format.specs.Text.{line_feed}
 use Rattle.properties_format.specs.Pieces.{Piece, characters}
-use Rattle.properties_format.specs.Encoding.{Encoding, byte_order_mark}
+use Rattle.properties_format.specs.Encoding.{Encoding}
 use Rattle.properties_format.specs.Computed.Encoding.{pieces_of}
 use Rattle.properties_format.specs.Lines.{InputEnd, line_ends, numbered}
-use Rattle.properties_format.specs.Computed.Lines.{rest_of_end, without_leading_lf, lines_of}
+use Rattle.properties_format.specs.Computed.Lines.{rest_of_end, lines_of}
 use Rattle.properties_format.specs.Computed.Groups.{groups_of}
 use Rattle.properties_format.specs.Items.{Entry}
 use Rattle.properties_format.specs.Computed.Items.{entries_of, items_of}
@@ -24,22 +23,11 @@ use Rattle.properties_format.proofs.Items.Unique.{entries_of-meets, entries_of-o
 
 -- The computed text is the text after the line ending.
 pub rest_of_end-meets : (after_cr : Bool) (x : List ℕ) → IsAfterEnd after_cr x (rest_of_end after_cr x)
-rest_of_end-meets false x = refl
-rest_of_end-meets true [] = inr (refl, (λ y h. cc))
-rest_of_end-meets true (c ∷ cs) = elim (eqb_tells c line_feed) [
-  | inl k ↦ inl (rw k.1 refl)
-  | inr k ↦ rw k.0 (inr (refl, (λ y h. let e : (c == line_feed) ≡ true = cc in cc)))
-]
+rest_of_end-meets after_cr x = grind (arith, eqb_tells)
 
 -- No other text is.
 pub rest_of_end-only : (after_cr : Bool) (x text : List ℕ) → IsAfterEnd after_cr x text → text ≡ rest_of_end after_cr x
-rest_of_end-only false x text h = sym h
-rest_of_end-only true x text (inl h) = ap without_leading_lf (sym h)
-rest_of_end-only true [] text (inr h) = sym h.0
-rest_of_end-only true (c ∷ cs) text (inr h) = elim (eqb_tells c line_feed) [
-  | inl k ↦ absurd (h.1 cs (cc))
-  | inr k ↦ rw k.0 (sym h.0)
-]
+rest_of_end-only after_cr x text h1 = grind (arith, eqb_tells)
 
 -- ---- the items to come
 
@@ -103,6 +91,4 @@ items_to_come-only s d ending entries (inr h) = further-only s d ending entries 
 -- At the start the items to come are the items of the bytes to come.
 pub items_to_come-start : (e : Encoding) (d : List ℕ) (ending : InputEnd) → items_to_come (start e) d ending ≡ items_of e d ending
 unfolding items_to_come items_of
-items_to_come-start e d ending =
-    let lines = lines_of (characters (pieces_of (byte_order_mark e d).encoding (byte_order_mark e d).body)) in
-    ap (λ v. entries_of v ending (groups_of (numbered 0 lines.ended lines.last ending) ending)) (zero-add (line_ends lines))
+items_to_come-start e d ending = search (zero-add)

@@ -1,5 +1,5 @@
 -- The lines of two texts, one after the other: the lines that the first text ends stay.
-use Rattle.std.proofs.Common.{◌≡◌, ℕ, ◌+◌, ◌==◌, false, List, [], ◌∷◌, ◌++◌, length, refl, ap, sym, ◌∙◌, add-zero}
+use Rattle.std.proofs.Common.{arith, ◌≡◌, ℕ, ◌+◌, ◌==◌, false, List, [], ◌∷◌, ◌++◌, length, refl, ap, ◌∙◌, add-zero}
 use Rattle.properties_format.specs.Text.{line_feed, carriage_return, LineEnding, lf, cr, crlf, line_ending_text}
 use Rattle.properties_format.specs.Lines.{Ended, put_together, HoldsNoLineEnd, BeginsWithNoLoneLf, AreLines, InputEnd, more, line_ends, numbered}
 use Rattle.properties_format.specs.Computed.Lines.{begins_with_lf, ends_in_cr, lines_of, lines_to_come}
@@ -34,17 +34,16 @@ goes-line text by ls last h k m goes n y e =
 -- A CR at the end of the text.
 goes-cr : (text : List ℕ) → HoldsNoLineEnd text → Goes (record { text = text; by = cr } ∷ []) []
 unfolding Goes
-goes-cr text h n y e =
-    cc (regroup text cr [] y, lines_to_come-cr n false text y e h, ends_in_cr-append text carriage_return [])
+goes-cr text h n y e = cc (regroup text cr [] y, lines_to_come-cr n false text y e h, ends_in_cr-append text carriage_return [])
 
 -- A CR that no LF follows ends its line, before a text that isn't empty.
 goes-cr-on : (text : List ℕ) (ls : List Ended) (last : List ℕ) (c : ℕ) (x : List ℕ) → put_together ls last ≡ c ∷ x → (c == line_feed) ≡ false
     → HoldsNoLineEnd text → Goes ls last → Goes (record { text = text; by = cr } ∷ ls) last
-goes-cr-on text ls last c x is_some no_lf h goes =
-    goes-line text cr ls last h (λ y e. rw is_some no_lf) (rw is_some (ends-after text cr c x)) goes
+goes-cr-on text ls last c x is_some no_lf h goes = goes-line text cr ls last h (λ y e. rw is_some no_lf) (rw is_some (ends-after text cr c x)) goes
 
 -- This holds whether or not the rest is empty.
-goes-cr-rest : (text : List ℕ) (ls : List Ended) (last : List ℕ) → HoldsNoLineEnd text → AreLines ls last → BeginsWithNoLoneLf ls → Goes ls last → Goes (record { text = text; by = cr } ∷ ls) last
+goes-cr-rest : (text : List ℕ) (ls : List Ended) (last : List ℕ) → HoldsNoLineEnd text → AreLines ls last → BeginsWithNoLoneLf ls → Goes ls last
+    → Goes (record { text = text; by = cr } ∷ ls) last
 goes-cr-rest text [] [] h are none goes = goes-cr text h
 goes-cr-rest text [] (c ∷ cs) h are none goes = goes-cr-on text [] (c ∷ cs) c cs refl (no_lf_first [] (c ∷ cs) are none) h goes
 goes-cr-rest text (l ∷ ls) last h are none goes = of_line l.text l.by refl
@@ -53,17 +52,15 @@ goes-cr-rest text (l ∷ ls) last h are none goes = of_line l.text l.by refl
     k = no_lf_first (l ∷ ls) last are none
 
     of_line : (t : List ℕ) (by : LineEnding) → l ≡ record { text = t; by = by } → Goes (record { text = text; by = cr } ∷ l ∷ ls) last
-    of_line (c ∷ t) by e = goes-cr-on text (l ∷ ls) last c (t ++ (line_ending_text by ++ put_together ls last)) (ap (λ v. put_together (v ∷ ls) last) e) (rw e at k) h goes
+    of_line (c ∷ t) by e = goes-cr-on text (l ∷ ls) last c _ (ap (λ v. put_together (v ∷ ls) last) e) (rw e at k) h goes
     of_line [] lf e = goes-cr-on text (l ∷ ls) last line_feed (put_together ls last) (ap (λ v. put_together (v ∷ ls) last) e) (rw e at k) h goes
     of_line [] cr e = goes-cr-on text (l ∷ ls) last carriage_return (put_together ls last) (ap (λ v. put_together (v ∷ ls) last) e) (rw e at k) h goes
-    of_line [] crlf e = goes-cr-on text (l ∷ ls) last carriage_return (line_feed ∷ put_together ls last) (ap (λ v. put_together (v ∷ ls) last) e) (rw e at k) h goes
+    of_line [] crlf e = goes-cr-on text (l ∷ ls) last carriage_return _ (ap (λ v. put_together (v ∷ ls) last) e) (rw e at k) h goes
 
 -- Any line with its end, before lines for which this holds.
-goes-any : (text : List ℕ) (by : LineEnding) (ls : List Ended) (last : List ℕ) → HoldsNoLineEnd text → (by ≡ cr → BeginsWithNoLoneLf ls) → AreLines ls last → Goes ls last
-    → Goes (record { text = text; by = by } ∷ ls) last
-goes-any text lf ls last h k are goes = goes-line text lf ls last h (λ y e. absurd (cc)) (ends-lf text (put_together ls last)) goes
-goes-any text cr ls last h k are goes = goes-cr-rest text ls last h are (k refl) goes
-goes-any text crlf ls last h k are goes = goes-line text crlf ls last h (λ y e. absurd (cc)) (ends-crlf text (put_together ls last)) goes
+goes-any : (text : List ℕ) (by : LineEnding) (ls : List Ended) (last : List ℕ) → HoldsNoLineEnd text → (by ≡ cr → BeginsWithNoLoneLf ls) → AreLines ls last
+    → Goes ls last → Goes (record { text = text; by = by } ∷ ls) last
+goes-any text by ls last h1 h2 h3 h4 = grind (arith, goes-line, ends-lf, goes-cr-rest, ends-crlf)
 
 -- This holds for all lines of a text.
 goes : (ls : List Ended) (last : List ℕ) → AreLines ls last → Goes ls last
@@ -77,6 +74,4 @@ pub lines_to_come-append : (n : ℕ) (x y : List ℕ) (e : InputEnd)
 unfolding Goes
 lines_to_come-append n x y e =
     let m = lines_of-meets x in
-    ap (λ v. lines_to_come n false [] (v ++ y) e) m.text
-    ∙ goes (lines_of x).ended (lines_of x).last m.are_lines n y e
-    ∙ ap (λ v. lines_to_come n false [] x more ++ lines_to_come (n + line_ends (lines_of x)) (ends_in_cr v) (lines_of x).last y e) (sym m.text)
+    grind (arith, goes)

@@ -1,7 +1,7 @@
 -- Where a text may be cut so that the lines of the two parts are the lines of the whole: anywhere except between a CR
 -- and an LF.
-use Rattle.std.proofs.Common.{◌≡◌, ℕ, true, false, List, [], ◌∷◌, ◌++◌, refl, ap, ◌∙◌}
-use Rattle.properties_format.specs.Text.{carriage_return, LineEnding, cr, line_ending_text}
+use Rattle.std.proofs.Common.{arith, ◌≡◌, ℕ, true, false, List, [], ◌∷◌, ◌++◌, refl}
+use Rattle.properties_format.specs.Text.{LineEnding, cr, line_ending_text}
 use Rattle.properties_format.specs.Lines.{Ended, Lines, put_together, AreLines}
 use Rattle.properties_format.specs.Computed.Lines.{begins_with_lf, ends_in_cr, lines_of}
 use Rattle.properties_format.proofs.Lines.Meets.{lines_of-meets}
@@ -15,9 +15,7 @@ PartsNoEnd x y = ends_in_cr x ≡ true → begins_with_lf y ≡ false
 -- If a cut separates no CR from an LF, it still separates none without the first line and its end.
 after-line : (text : List ℕ) (by : LineEnding) (x y : List ℕ) → (by ≡ cr → begins_with_lf x ≡ false) → PartsNoEnd (text ++ (line_ending_text by ++ x)) y
     → (by ≡ cr → begins_with_lf (x ++ y) ≡ false) × PartsNoEnd x y
-after-line text cr [] y h k = ((λ e. k (ends_in_cr-append text carriage_return [])), (λ e. absurd (cc)))
-after-line text by (c ∷ x) y h k = (h, (λ e. k (ends-after text by c x ∙ e)))
-after-line text by [] y h k = ((λ e. absurd (cc)), (λ e. absurd (cc)))
+after-line text by x y h1 h2 = grind (arith, ends_in_cr-append, ends-after)
 
 -- the lines, followed by those of the last one and what follows it
 abbrev pub lines_on : List Ended → Lines → Lines
@@ -29,14 +27,11 @@ of-lines : (ls : List Ended) (last y : List ℕ) → AreLines ls last → PartsN
 of-lines [] last y h k = refl
 of-lines (l ∷ ls) last y h k =
     let both = after-line l.text l.by (put_together ls last) y (λ e. no_lf_first ls last h.2 (h.1 e)) k in
-    ap lines_of (regroup l.text l.by (put_together ls last) y)
-    ∙ lines_of-line l.text l.by (put_together ls last ++ y) h.0 both.0
-    ∙ ap (lines_on (l ∷ [])) (of-lines ls last y h.2 both.1)
+    search (regroup, lines_of-line, of-lines ls last y h.2 both.1)
 
 -- The lines of a whole, given those of its parts; the last line of the first part is the beginning of the second part's
 -- first line.
 pub lines_of-append : (x y : List ℕ) → PartsNoEnd x y → lines_of (x ++ y) ≡ lines_on (lines_of x).ended (lines_of ((lines_of x).last ++ y))
 lines_of-append x y h =
     let m = lines_of-meets x in
-    let k : PartsNoEnd (put_together (lines_of x).ended (lines_of x).last) y = λ e. h (ap ends_in_cr m.text ∙ e) in
-    ap (λ v. lines_of (v ++ y)) m.text ∙ of-lines (lines_of x).ended (lines_of x).last y m.are_lines k
+    grind (arith, of-lines)

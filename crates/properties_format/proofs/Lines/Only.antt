@@ -1,6 +1,6 @@
 -- A text has exactly one list of lines, and a line before a text is a line before its lines.
-use Rattle.std.proofs.Common.{◌≡◌, ℕ, List, [], ◌∷◌, ◌++◌, refl, ap, sym, ◌∙◌}
-use Rattle.properties_format.specs.Text.{line_feed, carriage_return, LineEnding, lf, cr, crlf, line_ending_text}
+use Rattle.std.proofs.Common.{arith, ◌≡◌, ℕ, List, [], ◌∷◌, ◌++◌, refl, ap, sym, ◌∙◌}
+use Rattle.properties_format.specs.Text.{LineEnding, lf, cr, line_ending_text}
 use Rattle.properties_format.specs.Lines.{Ended, Lines, put_together, HoldsNoLineEnd, BeginsWithNoLoneLf, AreLines, IsLines}
 use Rattle.properties_format.specs.Computed.Lines.{end_before, cr_before, before, lines_of}
 use Rattle.properties_format.proofs.Lines.Meets.{before-plain}
@@ -13,23 +13,19 @@ lines_of-plain (c ∷ l) h = ap (before c) (lines_of-plain l h.1) ∙ before-pla
 -- A CR ends an empty line, if the line after it isn't an empty one that an LF ends.
 cr-before-line : (text : List ℕ) (by : LineEnding) (ls : List Ended) → ¬ ((text ≡ []) × (by ≡ lf))
     → cr_before (record { text = text; by = by } ∷ ls) ≡ end_before cr (record { text = text; by = by } ∷ ls)
-cr-before-line [] lf ls h = absurd (h (refl, refl))
-cr-before-line text by ls h = refl
+cr-before-line text by ls h1 = grind (arith)
 
 -- A CR takes only the LF of an empty line that an LF ends.
 pub cr-before : (ls : List Ended) → BeginsWithNoLoneLf ls → cr_before ls ≡ end_before cr ls
-cr-before [] h = refl
-cr-before (l ∷ ls) h = cr-before-line l.text l.by ls h
+cr-before ls h1 = grind (arith, cr-before-line)
 
 -- A line and its end before a text whose lines are known.
 pub lines_of-before : (text : List ℕ) (by : LineEnding) (y : List ℕ) (ls : List Ended) (last : List ℕ)
     → HoldsNoLineEnd text → (by ≡ cr → BeginsWithNoLoneLf ls) → lines_of y ≡ record { ended = ls; last = last }
     → lines_of (text ++ (line_ending_text by ++ y)) ≡ record { ended = record { text = text; by = by } ∷ ls; last = last }
-lines_of-before [] lf y ls last h k e = ap (before line_feed) e
-lines_of-before [] cr y ls last h k e = ap (before carriage_return) e ∙ ap (λ v. let s : Lines = record { ended = v; last = last } in s) (cr-before ls (k refl))
-lines_of-before [] crlf y ls last h k e = ap (λ v. before carriage_return (before line_feed v)) e
 lines_of-before (c ∷ text) by y ls last h k e =
     ap (before c) (lines_of-before text by y ls last h.1 k e) ∙ before-plain c (record { ended = record { text = text; by = by } ∷ ls; last = last }) h.0
+lines_of-before text by y ls last h1 h2 h3 = grind (arith, cr-before)
 
 -- Lines that are put together are the lines of the resulting text.
 pub lines_of-together : (ls : List Ended) (last : List ℕ) → AreLines ls last → lines_of (put_together ls last) ≡ record { ended = ls; last = last }

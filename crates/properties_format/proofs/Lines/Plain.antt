@@ -1,7 +1,7 @@
 -- Texts without line endings, and what the lines of a text say about its first and its last character.
-use Rattle.std.proofs.Common.{◌≡◌, ℕ, ◌==◌, false, List, [], ◌∷◌, ◌++◌, refl, ap, sym, ◌∙◌, suc, ◌+◌, append_assoc, arith}
+use Rattle.std.proofs.Common.{rules, ◌≡◌, ℕ, false, List, [], ◌∷◌, ◌++◌, refl, ap, ◌∙◌, suc, ◌+◌, append_assoc, arith}
 use Rattle.std.proofs.lemmas.Bool.{or_parts}
-use Rattle.properties_format.specs.Text.{line_feed, carriage_return, LineEnding, lf, cr, crlf, line_ending_text}
+use Rattle.properties_format.specs.Text.{line_feed, carriage_return, LineEnding, line_ending_text}
 use Rattle.properties_format.specs.Lines.{Ended, put_together, HoldsNoLineEnd, BeginsWithNoLoneLf, AreLines}
 use Rattle.properties_format.specs.Computed.Lines.{begins_with_lf, ends_in_cr, without_leading_lf, lines_of}
 use Rattle.properties_format.proofs.Lines.Meets.{lines_of-meets}
@@ -35,35 +35,16 @@ plain-no_lf x h = grind (arith)
 
 -- A text without line endings doesn't end in a CR.
 pub plain-no_cr : (x : List ℕ) → HoldsNoLineEnd x → ends_in_cr x ≡ false
-plain-no_cr [] h = refl
-plain-no_cr (c ∷ []) h = (or_parts (c == line_feed) (c == carriage_return) h.0).1
 plain-no_cr (c ∷ d ∷ ds) h = plain-no_cr (d ∷ ds) h.1
-
--- If no LF comes first, the first line isn't an empty one that an LF ends.
-pub no_lone_lf : (ls : List Ended) (last : List ℕ) → begins_with_lf (put_together ls last) ≡ false → BeginsWithNoLoneLf ls
-no_lone_lf [] last h = tt
-no_lone_lf (l ∷ ls) last h = of_line l.text l.by (put_together ls last) h
-  where
-    of_line : (text : List ℕ) (by : LineEnding) (y : List ℕ) → begins_with_lf (text ++ (line_ending_text by ++ y)) ≡ false → ¬ ((text ≡ []) × (by ≡ lf))
-    of_line [] lf y h = absurd (cc)
-    of_line [] cr y h = λ p. absurd (cc p.1)
-    of_line [] crlf y h = λ p. absurd (cc p.1)
-    of_line (c ∷ text) by y h = λ p. absurd (cc p.0)
+plain-no_cr x h1 = grind (arith, or_parts)
 
 -- If the first line isn't an empty one that an LF ends, no LF comes first.
 pub no_lf_first : (ls : List Ended) (last : List ℕ) → AreLines ls last → BeginsWithNoLoneLf ls → begins_with_lf (put_together ls last) ≡ false
-no_lf_first [] last h k = plain-no_lf last h
-no_lf_first (l ∷ ls) last h k = of_line l.text l.by (put_together ls last) h.0 k
-  where
-    of_line : (text : List ℕ) (by : LineEnding) (y : List ℕ) → HoldsNoLineEnd text → ¬ ((text ≡ []) × (by ≡ lf)) → begins_with_lf (text ++ (line_ending_text by ++ y)) ≡ false
-    of_line [] lf y h k = absurd (k (refl, refl))
-    of_line [] cr y h k = refl
-    of_line [] crlf y h k = refl
-    of_line (c ∷ text) by y h k = plain-no_lf (c ∷ text) h
+no_lf_first ls last h1 h2 = grind (arith, plain-no_lf)
 
 -- If no LF comes first in a text, the first of its lines isn't an empty one that an LF ends.
 pub lines_of-no_lone_lf : (y : List ℕ) → begins_with_lf y ≡ false → BeginsWithNoLoneLf (lines_of y).ended
-lines_of-no_lone_lf y h = no_lone_lf (lines_of y).ended (lines_of y).last (sym (ap begins_with_lf (lines_of-meets y).text) ∙ h)
+lines_of-no_lone_lf y h = search (rules)
 
 -- A text that doesn't begin with an LF has none to lose.
 pub without_leading_lf-none : (y : List ℕ) → begins_with_lf y ≡ false → without_leading_lf y ≡ y
@@ -93,5 +74,6 @@ pub one-more : (n m : ℕ) → n + 1 + m ≡ n + suc m
 one-more n m = omega arith
 
 -- A line, its end and what follows, all before more text, are the line and its end before the rest.
-pub regroup : (text : List ℕ) (by : LineEnding) (whole y : List ℕ) → (text ++ (line_ending_text by ++ whole)) ++ y ≡ text ++ (line_ending_text by ++ (whole ++ y))
+pub regroup : (text : List ℕ) (by : LineEnding) (whole y : List ℕ)
+    → (text ++ (line_ending_text by ++ whole)) ++ y ≡ text ++ (line_ending_text by ++ (whole ++ y))
 regroup text by whole y = append_assoc text (line_ending_text by ++ whole) y ∙ ap (λ v. text ++ v) (append_assoc (line_ending_text by) whole y)

@@ -1,9 +1,9 @@
 -- The lines, given the next line ending or the next character.
-use Rattle.std.proofs.Common.{◌≡◌, ℕ, ◌+◌, Bool, true, false, List, [], ◌∷◌, ◌++◌, refl, ap, sym, ◌∙◌, inl, inr, append_assoc, append-nil}
+use Rattle.std.proofs.Common.{rules, arith, ◌≡◌, ℕ, ◌+◌, Bool, true, false, List, [], ◌∷◌, ◌++◌, refl, ap, sym, inl, inr, append_assoc, append-nil}
 use Rattle.std.specs.Prelude.{if◌then◌else◌}
 use Rattle.std.proofs.lemmas.Bool.Decides.{eqb_tells}
 use Rattle.properties_format.specs.Text.{line_feed, carriage_return, LineEnding, cr, crlf, line_ending_text}
-use Rattle.properties_format.specs.Lines.{Lines, HoldsNoLineEnd, Line, InputEnd, end, numbered}
+use Rattle.properties_format.specs.Lines.{HoldsNoLineEnd, InputEnd, end}
 use Rattle.properties_format.specs.Computed.Lines.{begins_with_lf, without_leading_lf, lines_of, lines_to_come}
 use Rattle.properties_format.proofs.Lines.Only.{lines_of-plain, lines_of-before}
 use Rattle.properties_format.proofs.Lines.Plain.{plain-append, lines_of-no_lone_lf, without_leading_lf-none}
@@ -29,21 +29,15 @@ lines_of-cr text (c ∷ y) h = elim (eqb_tells c line_feed) [
 
 -- ---- the numbered lines to come
 
--- Nothing comes.
-after-nothing : (n : ℕ) (after_cr : Bool) (held : List ℕ) (e : InputEnd) → HoldsNoLineEnd held → lines_to_come n after_cr held [] e ≡ numbered n [] held e
-after-nothing n true held e h = let g : Lines → List Line = λ v. numbered n v.ended v.last e in ap (λ v. g (lines_of v)) (append-nil held) ∙ ap g (lines_of-plain held h)
-after-nothing n false held e h = let g : Lines → List Line = λ v. numbered n v.ended v.last e in ap (λ v. g (lines_of v)) (append-nil held) ∙ ap g (lines_of-plain held h)
-
 -- If the input ends, the line that is held is the last one.
 pub lines_to_come-end : (n : ℕ) (after_cr : Bool) (held : List ℕ) → HoldsNoLineEnd held
     → lines_to_come n after_cr held [] end ≡ record { number = n + 1; text = held } ∷ []
-lines_to_come-end n after_cr held h = after-nothing n after_cr held end h
+lines_to_come-end n after_cr held h = search (rules, append-nil, lines_of-plain)
 
 -- If no LF comes first, a CR before it doesn't matter.
 pub lines_to_come-no_lf : (n : ℕ) (after_cr : Bool) (held y : List ℕ) (e : InputEnd) → begins_with_lf y ≡ false
     → lines_to_come n after_cr held y e ≡ lines_to_come n false held y e
-lines_to_come-no_lf n true held y e h = ap (λ v. lines_to_come n false held v e) (without_leading_lf-none y h)
-lines_to_come-no_lf n false held y e h = refl
+lines_to_come-no_lf n after_cr held y e h1 = grind (arith, without_leading_lf-none)
 
 -- Whether characters are held or still to come doesn't matter.
 pub lines_to_come-held : (n : ℕ) (held x y : List ℕ) (e : InputEnd) → lines_to_come n false held (x ++ y) e ≡ lines_to_come n false (held ++ x) y e
@@ -55,6 +49,7 @@ pub lines_to_come-cr : (n : ℕ) (after_cr : Bool) (held y : List ℕ) (e : Inpu
 lines_to_come-cr n after_cr held y e h = simp (lines_to_come-no_lf, lines_of-cr)
 
 -- A whole line ending ends the line that is held.
-pub lines_to_come-line : (n : ℕ) (held text : List ℕ) (by : LineEnding) (y : List ℕ) (e : InputEnd) → HoldsNoLineEnd held → HoldsNoLineEnd text → (by ≡ cr → begins_with_lf y ≡ false)
+pub lines_to_come-line : (n : ℕ) (held text : List ℕ) (by : LineEnding) (y : List ℕ) (e : InputEnd) → HoldsNoLineEnd held → HoldsNoLineEnd text
+    → (by ≡ cr → begins_with_lf y ≡ false)
     → lines_to_come n false held (text ++ (line_ending_text by ++ y)) e ≡ record { number = n + 1; text = held ++ text } ∷ lines_to_come (n + 1) false [] y e
 lines_to_come-line n held text by y e h k m = simp (lines_to_come-held, lines_of-line, plain-append)

@@ -1,11 +1,12 @@
 -- How printed lines are put together. They contain only characters that can be encoded.
-use Rattle.std.proofs.Common.{◌≡◌, ℕ, ◌+◌, ◌/◌, ◌%◌, ◌<◌, ◌==◌, ◌||◌, ◌&&◌, not, Bool, true, false, cond, List, [], ◌∷◌, ◌++◌, refl, ap, ◌∙◌, append_assoc, arith, lit<, lt-ltb}
+use Rattle.std.proofs.Common.{rules, ◌≡◌, ℕ, ◌/◌, ◌%◌, ◌<◌, ◌==◌, ◌||◌, ◌&&◌, Bool, true, false, cond, List, [], ◌∷◌, ◌++◌, refl, ap, ◌∙◌, append_assoc, arith, lit<, lt-ltb}
 use Rattle.std.specs.Prelude.{Some, is_some, unwrap_or, nat_lt}
 use Rattle.std.specs.Char.{digit_char}
 use Rattle.std.proofs.lemmas.Bool.{cond_both, and_from, and_parts}
 use Rattle.std.proofs.lemmas.Str.{encode_ascii}
-use Rattle.properties_format.specs.Text.{scalar, line_ending_text, LineEnding, is_blank, is_blanks, is_empty, is_separator, is_line_end, space, backslash}
+use Rattle.properties_format.specs.Text.{scalar, line_ending_text, LineEnding, is_blank, is_separator, is_line_end, space, backslash}
 use Rattle.properties_format.specs.Encoding.{Encoding, encoded}
+use Rattle.properties_format.specs.Repertoire.{Repertoire, repertoire_of}
 use Rattle.properties_format.specs.Entries.{Content, comment, pair}
 use Rattle.properties_format.specs.Split.{AreBlanks}
 use Rattle.properties_format.specs.Settings.{Settings, IsGoodSeparator}
@@ -20,27 +21,23 @@ encoded_text-append e [] y = refl
 encoded_text-append e (c ∷ x) y = simp (append_assoc, encoded_text-append e x y)
 
 -- What is printed for two texts.
-pub printed_characters-append : (e : Encoding) (only : Bool) (place : Place) (x y : List ℕ)
-    → printed_characters e only place (x ++ y) ≡ printed_characters e only place x ++ printed_characters e only place y
-printed_characters-append e only place [] y = refl
-printed_characters-append e only place (c ∷ x) y = simp (append_assoc, printed_characters-append e only place x y)
+pub printed_characters-append : (r : Repertoire) (place : Place) (x y : List ℕ)
+    → printed_characters r place (x ++ y) ≡ printed_characters r place x ++ printed_characters r place y
+printed_characters-append r place [] y = refl
+printed_characters-append r place (c ∷ x) y = simp (append_assoc, printed_characters-append r place x y)
 
 -- ---- printed lines, by their parts
 
--- the bytes of three texts
-three-parts : (e : Encoding) (x y z : List ℕ) → encoded_text e (x ++ (y ++ z)) ≡ encoded_text e x ++ (encoded_text e y ++ encoded_text e z)
-three-parts e x y z = encoded_text-append e x (y ++ z) ∙ ap (λ v. encoded_text e x ++ v) (encoded_text-append e y z)
-
 -- A comment: the bytes of the prefix, of the text and of the line ending.
 pub printed-comment : (e : Encoding) (s : Settings) (first : Bool) (text : List ℕ)
-    → printed e s first (comment text) ≡ encoded_text e (printed_characters e s.ascii_only in_prefix s.comment_prefix)
-    ++ (encoded_text e (printed_characters e s.ascii_only in_comment text) ++ encoded_text e (line_ending_text s.line_ending))
-printed-comment e s first text = three-parts e (printed_characters e s.ascii_only in_prefix s.comment_prefix) (printed_characters e s.ascii_only in_comment text) (line_ending_text s.line_ending)
+    → printed e s first (comment text) ≡ encoded_text e (printed_characters (repertoire_of e s) in_prefix s.comment_prefix)
+    ++ (encoded_text e (printed_characters (repertoire_of e s) in_comment text) ++ encoded_text e (line_ending_text s.line_ending))
+printed-comment e s first text = search (rules, encoded_text-append)
 
 -- A pair: the bytes of the key, of the separator, of the value and of the line ending.
 pub printed-pair : (e : Encoding) (s : Settings) (first : Bool) (key value : List ℕ)
     → printed e s first (pair key value)
-    ≡ encoded_text e (printed_key e s.ascii_only first key)
+    ≡ encoded_text e (printed_key (repertoire_of e s) first key)
     ++ (encoded_text e s.kv_separator ++ (encoded_text e (written_value e s value) ++ encoded_text e (line_ending_text s.line_ending)))
 printed-pair e s first key value = simp encoded_text-append
 
@@ -90,13 +87,9 @@ line_end-ascii by = grind (arith)
 
 -- ---- what is printed can be encoded
 
--- the digit of a number below 16 is an ASCII character
-digit-ascii : (d : ℕ) → d < 0x10 → digit_char d < 0x80
-digit-ascii d h = cond_both (nat_lt d 10) (48 + d) (87 + d) (λ v. v < 0x80) (λ k. omega arith) (λ k. omega arith)
-
 -- The digit of a remainder modulo 16 is an ASCII character.
 digit_of-ascii : (n : ℕ) → digit_char (n % 0x10) < 0x80
-digit_of-ascii n = digit-ascii (n % 0x10) (omega arith)
+digit_of-ascii n = search (rules, cond_both)
 
 -- the escape of a unit is an ASCII text
 unit_escape-ascii : (u : ℕ) → AreAscii (unit_escape u)
@@ -107,73 +100,63 @@ pub unicode_escape-ascii : (c : ℕ) → AreAscii (unicode_escape c)
 unicode_escape-ascii c =
     cond_both (nat_lt c 0x1_0000) (unit_escape c) (unit_escape (high_surrogate c) ++ unit_escape (low_surrogate c)) AreAscii
     (λ k. unit_escape-ascii c)
-    (λ k. AreAscii-append (unit_escape (high_surrogate c)) (unit_escape (low_surrogate c)) (unit_escape-ascii (high_surrogate c)) (unit_escape-ascii (low_surrogate c)))
+    (λ k. AreAscii-append (unit_escape _) (unit_escape (low_surrogate c)) (unit_escape-ascii _) (unit_escape-ascii (low_surrogate c)))
 
 -- A backslash with a letter is an ASCII text.
 pub letter_escape-ascii : (c : ℕ) → AreAscii (letter_escape c)
-letter_escape-ascii c = (lit< tt, (letter c, tt))
-  where
-    letter : (c : ℕ) → cond (c == 0x09) 0x74 (cond (c == 0x0a) 0x6e (cond (c == 0x0c) 0x66 0x72)) < 0x80
-    letter c = grind (arith)
+letter_escape-ascii c = grind (arith)
 
 -- A character that is escaped with a backslash is ASCII.
 pub special-ascii : (c : ℕ) → is_special c ≡ true → c < 0x80
 special-ascii c h = grind (arith)
 
--- A character that may be written unescaped can be encoded.
-may_be_unescaped-encodable : (e : Encoding) (only : Bool) (c : ℕ) → may_be_unescaped e only c ≡ true → is_some (encoded e c) ≡ true
-may_be_unescaped-encodable e only c h = (and_parts (not only || nat_lt c 0x80) (is_some (encoded e c)) h).1
-
--- With ASCII-only output on or off, every ASCII character may be written unescaped.
-pub may_be_unescaped-ascii : (e : Encoding) (only : Bool) (c : ℕ) → c < 0x80 → may_be_unescaped e only c ≡ true
-may_be_unescaped-ascii e true c h = and_from (nat_lt c 0x80) (is_some (encoded e c)) (lt-ltb c 0x80 h) (ap is_some (encoded-ascii e c h))
-may_be_unescaped-ascii e false c h = ap is_some (encoded-ascii e c h)
+-- Every ASCII character may be written unescaped.
+pub may_be_unescaped-ascii : (r : Repertoire) (c : ℕ) → c < 0x80 → may_be_unescaped r c ≡ true
+may_be_unescaped-ascii r c h = grind (arith, and_from, encoded-ascii, lt-ltb)
 
 -- A character that is unescaped if that is allowed, and escaped otherwise, is printed as an ASCII text or as itself.
-literal-either : (e : Encoding) (only : Bool) (c : ℕ) (P : List ℕ → Type 0) → ((x : List ℕ) → AreAscii x → P x) → (may_be_unescaped e only c ≡ true → P (c ∷ [])) → P (literal e only c)
-literal-either e only c P ascii as_it_is = cond_both (may_be_unescaped e only c) (c ∷ []) (unicode_escape c) P as_it_is (λ k. ascii (unicode_escape c) (unicode_escape-ascii c))
+literal-either : (r : Repertoire) (c : ℕ) (P : List ℕ → Type 0) → ((x : List ℕ) → AreAscii x → P x) → (may_be_unescaped r c ≡ true → P (c ∷ []))
+    → P (literal r c)
+literal-either r c P ascii as_it_is = search (rules, cond_both, unicode_escape-ascii)
 
 -- What is printed is an ASCII text; or it is the character itself, which may be written unescaped.
-pub printed-either : (e : Encoding) (only : Bool) (place : Place) (c : ℕ) (P : List ℕ → Type 0) → ((x : List ℕ) → AreAscii x → P x) → (may_be_unescaped e only c ≡ true → P (c ∷ []))
-    → P (printed_character e only place c)
-printed-either e only in_key_or_value c P ascii as_it_is =
-    cond_both (is_special c) (backslash ∷ c ∷ []) (cond (has_letter c) (letter_escape c) (cond (nat_lt c space) (unicode_escape c) (literal e only c))) P
+pub printed-either : (r : Repertoire) (place : Place) (c : ℕ) (P : List ℕ → Type 0) → ((x : List ℕ) → AreAscii x → P x)
+    → (may_be_unescaped r c ≡ true → P (c ∷ [])) → P (printed_character r place c)
+printed-either r in_key_or_value c P ascii as_it_is =
+    cond_both (is_special c) (backslash ∷ c ∷ []) (cond (has_letter c) (letter_escape c) (cond (nat_lt c space) (unicode_escape c) (literal r c))) P
     (λ k. ascii (backslash ∷ c ∷ []) (lit< tt, (special-ascii c k, tt)))
-    (λ k. cond_both (has_letter c) (letter_escape c) (cond (nat_lt c space) (unicode_escape c) (literal e only c)) P
+    (λ k. cond_both (has_letter c) (letter_escape c) (cond (nat_lt c space) (unicode_escape c) (literal r c)) P
     (λ k. ascii (letter_escape c) (letter_escape-ascii c))
-    (λ k. cond_both (nat_lt c space) (unicode_escape c) (literal e only c) P
+    (λ k. cond_both (nat_lt c space) (unicode_escape c) (literal r c) P
     (λ k. ascii (unicode_escape c) (unicode_escape-ascii c))
-    (λ k. literal-either e only c P ascii as_it_is)))
-printed-either e only in_comment c P ascii as_it_is =
-    cond_both (c == backslash) (backslash ∷ backslash ∷ []) (cond (c == 0x0a || c == 0x0d) (letter_escape c) (literal e only c)) P
+    (λ k. literal-either r c P ascii as_it_is)))
+printed-either r in_comment c P ascii as_it_is =
+    cond_both (c == backslash) (backslash ∷ backslash ∷ []) (cond (c == 0x0a || c == 0x0d) (letter_escape c) (literal r c)) P
     (λ k. ascii (backslash ∷ backslash ∷ []) (lit< tt, (lit< tt, tt)))
-    (λ k. cond_both (c == 0x0a || c == 0x0d) (letter_escape c) (literal e only c) P
+    (λ k. cond_both (c == 0x0a || c == 0x0d) (letter_escape c) (literal r c) P
     (λ k. ascii (letter_escape c) (letter_escape-ascii c))
-    (λ k. literal-either e only c P ascii as_it_is))
-printed-either e only in_prefix c P ascii as_it_is = literal-either e only c P ascii as_it_is
+    (λ k. literal-either r c P ascii as_it_is))
+printed-either r in_prefix c P ascii as_it_is = literal-either r c P ascii as_it_is
 
 -- what is printed for a character can be encoded
-pub printed-encodable : (e : Encoding) (only : Bool) (place : Place) (c : ℕ) → AreEncodable e (printed_character e only place c)
-printed-encodable e only place c = printed-either e only place c (AreEncodable e) (AreEncodable-ascii e) (λ k. (may_be_unescaped-encodable e only c k, tt))
+pub printed-encodable : (r : Repertoire) (place : Place) (c : ℕ) → AreEncodable r.encoding (printed_character r place c)
+printed-encodable r place c = printed-either r place c (AreEncodable r.encoding) (AreEncodable-ascii r.encoding) (λ k. (search (rules, and_parts), tt))
 
 -- What is printed for a text can be encoded.
-pub printed_characters-encodable : (e : Encoding) (only : Bool) (place : Place) (x : List ℕ) → AreEncodable e (printed_characters e only place x)
-printed_characters-encodable e only place [] = tt
-printed_characters-encodable e only place (c ∷ x) =
-    grind (arith, AreEncodable-append, printed-encodable, printed_characters-encodable e only place x)
+pub printed_characters-encodable : (r : Repertoire) (place : Place) (x : List ℕ) → AreEncodable r.encoding (printed_characters r place x)
+printed_characters-encodable r place [] = tt
+printed_characters-encodable r place (c ∷ x) = grind (arith, AreEncodable-append, printed-encodable, printed_characters-encodable r place x)
 
 -- A key with its first character escaped can be encoded.
-with_first_escaped-encodable : (e : Encoding) (only : Bool) (key : List ℕ) → AreEncodable e (with_first_escaped e only key)
-with_first_escaped-encodable e only [] = tt
-with_first_escaped-encodable e only (c ∷ cs) =
-    AreEncodable-append e (unicode_escape c) (printed_characters e only in_key_or_value cs)
-    (AreEncodable-ascii e (unicode_escape c) (unicode_escape-ascii c)) (printed_characters-encodable e only in_key_or_value cs)
+with_first_escaped-encodable : (r : Repertoire) (key : List ℕ) → AreEncodable r.encoding (with_first_escaped r key)
+with_first_escaped-encodable r [] = tt
+with_first_escaped-encodable r (c ∷ cs) = search (rules, AreEncodable-append, AreEncodable-ascii, unicode_escape-ascii, printed_characters-encodable)
 
 -- Any printed key can be encoded.
-pub printed_key-encodable : (e : Encoding) (only : Bool) (first : Bool) (key : List ℕ) → AreEncodable e (printed_key e only first key)
-printed_key-encodable e only first key =
-    cond_both (first && is_bom_like e only key) (with_first_escaped e only key) (printed_characters e only in_key_or_value key) (AreEncodable e)
-    (λ k. with_first_escaped-encodable e only key) (λ k. printed_characters-encodable e only in_key_or_value key)
+pub printed_key-encodable : (r : Repertoire) (first : Bool) (key : List ℕ) → AreEncodable r.encoding (printed_key r first key)
+printed_key-encodable r first key =
+    cond_both (first && is_bom_like r key) (with_first_escaped r key) (printed_characters r in_key_or_value key) (AreEncodable r.encoding)
+    (λ k. with_first_escaped-encodable r key) (λ k. printed_characters-encodable r in_key_or_value key)
 
 -- ---- values as people write them
 
@@ -186,38 +169,31 @@ pub first-special : (after_blanks : Bool) (c : ℕ) → (c == space || (after_bl
 first-special after_blanks c h = grind (arith)
 
 -- A character inside a value can be encoded,
-pub inside-encodable : (e : Encoding) (only : Bool) (c : ℕ) → AreEncodable e (printed_inside e only c)
-inside-encodable e only c =
-    cond_both (is_free c) (c ∷ []) (printed_character e only in_key_or_value c) (AreEncodable e)
-    (λ k. AreEncodable-ascii e (c ∷ []) ((free-plain c k).2, tt)) (λ k. printed-encodable e only in_key_or_value c)
+pub inside-encodable : (r : Repertoire) (c : ℕ) → AreEncodable r.encoding (printed_inside r c)
+inside-encodable r c =
+    cond_both (is_free c) (c ∷ []) (printed_character r in_key_or_value c) (AreEncodable r.encoding)
+    (λ k. AreEncodable-ascii r.encoding (c ∷ []) ((free-plain c k).2, tt)) (λ k. printed-encodable r in_key_or_value c)
 
 -- and so can the first one,
-first-encodable : (e : Encoding) (only : Bool) (after_blanks : Bool) (c : ℕ) → AreEncodable e (printed_first e only after_blanks c)
-first-encodable e only after_blanks c =
-    cond_both (c == space || (after_blanks && is_separator c)) (backslash ∷ c ∷ []) (printed_inside e only c) (AreEncodable e)
-    (λ k. AreEncodable-ascii e (backslash ∷ c ∷ []) (lit< tt, (special-ascii c (first-special after_blanks c k), tt))) (λ k. inside-encodable e only c)
+first-encodable : (r : Repertoire) (after_blanks : Bool) (c : ℕ) → AreEncodable r.encoding (printed_first r after_blanks c)
+first-encodable r after_blanks c =
+    cond_both (c == space || (after_blanks && is_separator c)) (backslash ∷ c ∷ []) (printed_inside r c) (AreEncodable r.encoding)
+    (λ k. AreEncodable-ascii r.encoding (backslash ∷ c ∷ []) (lit< tt, (special-ascii c (first-special after_blanks c k), tt))) (λ k. inside-encodable r c)
 
 -- those after the first,
-rest-encodable : (e : Encoding) (only : Bool) (cs : List ℕ) → AreEncodable e (printed_rest e only cs)
-rest-encodable e only [] = tt
-rest-encodable e only (c ∷ []) =
-    cond_both (c == space) (unit_escape space) (printed_inside e only c) (AreEncodable e)
-    (λ k. AreEncodable-ascii e (unit_escape space) (unicode_escape-ascii space)) (λ k. inside-encodable e only c)
-rest-encodable e only (c ∷ d ∷ cs) = AreEncodable-append e (printed_inside e only c) (printed_rest e only (d ∷ cs)) (inside-encodable e only c) (rest-encodable e only (d ∷ cs))
+rest-encodable : (r : Repertoire) (cs : List ℕ) → AreEncodable r.encoding (printed_rest r cs)
+rest-encodable r [] = tt
+rest-encodable r (c ∷ []) = grind (arith, cond_both, AreEncodable-ascii, unicode_escape-ascii, inside-encodable)
+rest-encodable r (c ∷ d ∷ cs) = AreEncodable-append r.encoding (printed_inside r c) (printed_rest r (d ∷ cs)) (inside-encodable r c) (rest-encodable r (d ∷ cs))
 
 -- and the whole value.
-pub printed_value-encodable : (e : Encoding) (only : Bool) (after_blanks : Bool) (value : List ℕ) → AreEncodable e (printed_value e only after_blanks value)
-printed_value-encodable e only after_blanks [] = tt
-printed_value-encodable e only after_blanks (c ∷ cs) =
-    cond_both (is_empty cs && c == space) (unit_escape space) (printed_first e only after_blanks c ++ printed_rest e only cs) (AreEncodable e)
-    (λ k. AreEncodable-ascii e (unit_escape space) (unicode_escape-ascii space))
-    (λ k. AreEncodable-append e (printed_first e only after_blanks c) (printed_rest e only cs) (first-encodable e only after_blanks c) (rest-encodable e only cs))
+pub printed_value-encodable : (r : Repertoire) (after_blanks : Bool) (value : List ℕ) → AreEncodable r.encoding (printed_value r after_blanks value)
+printed_value-encodable r after_blanks value =
+    grind (arith, cond_both, AreEncodable-ascii, unicode_escape-ascii, AreEncodable-append, first-encodable, rest-encodable)
 
 -- A value can be encoded, readable or not.
 pub written_value-encodable : (e : Encoding) (s : Settings) (value : List ℕ) → AreEncodable e (written_value e s value)
-written_value-encodable e s value =
-    cond_both s.readable (printed_value e s.ascii_only (is_blanks s.kv_separator) value) (printed_characters e s.ascii_only in_key_or_value value) (AreEncodable e)
-    (λ k. printed_value-encodable e s.ascii_only (is_blanks s.kv_separator) value) (λ k. printed_characters-encodable e s.ascii_only in_key_or_value value)
+written_value-encodable e s value = grind (arith, cond_both, printed_value-encodable, printed_characters-encodable)
 
 -- ---- whole lines
 
@@ -235,13 +211,8 @@ pub good_separator-ascii : (separator : List ℕ) → IsGoodSeparator separator 
 good_separator-ascii separator h = grind (arith, AreAscii-append, blanks-ascii)
 
 -- A printed line can be encoded if its separator is good.
-pub printed_text-encodable : (e : Encoding) (s : Settings) (first : Bool) (line : Content) → IsGoodSeparator s.kv_separator → AreEncodable e (printed_text e s first line)
-printed_text-encodable e s first (comment text) g =
-    grind (arith, AreEncodable-append, printed_characters-encodable)
+pub printed_text-encodable : (e : Encoding) (s : Settings) (first : Bool) (line : Content) → IsGoodSeparator s.kv_separator
+    → AreEncodable e (printed_text e s first line)
+printed_text-encodable e s first (comment text) g = grind (arith, AreEncodable-append, printed_characters-encodable)
 printed_text-encodable e s first (pair key value) g =
-    AreEncodable-append e (printed_key e s.ascii_only first key)
-    (s.kv_separator ++ (written_value e s value ++ line_ending_text s.line_ending)) (printed_key-encodable e s.ascii_only first key)
-    (AreEncodable-append e s.kv_separator (written_value e s value ++ line_ending_text s.line_ending)
-    (AreEncodable-ascii e s.kv_separator (good_separator-ascii s.kv_separator g))
-    (AreEncodable-append e (written_value e s value) (line_ending_text s.line_ending)
-    (written_value-encodable e s value) (AreEncodable-ascii e (line_ending_text s.line_ending) (line_end-ascii s.line_ending))))
+    search (rules, AreEncodable-append, printed_key-encodable, AreEncodable-ascii, good_separator-ascii, written_value-encodable, line_end-ascii)

@@ -33,7 +33,8 @@ output_encoding-own windows_1252 = refl
 output_encoding-own e = refl
 
 -- In an encoding that can be written, the bytes that are written decode to what was printed.
-pub wrote-decoded : (e : Encoding) (s : Settings) (calls : List Call) → output_encoding e ≡ e → AreGoodSettings s → AreOfScalars calls → decoded_of e (wrote e s 0 calls) ≡ wrote_text e s 0 calls
+pub wrote-decoded : (e : Encoding) (s : Settings) (calls : List Call) → output_encoding e ≡ e → AreGoodSettings s → AreOfScalars calls
+    → decoded_of e (wrote e s 0 calls) ≡ wrote_text e s 0 calls
 wrote-decoded e s calls own g h =
     let x = wrote_text e s 0 calls in
     let w = wrote_text-writable e s 0 calls g h in
@@ -42,13 +43,13 @@ wrote-decoded e s calls own g h =
     ∙ subst (λ a. characters (pieces_of a (encoded_text e x)) ≡ x) own (text-decoded e x w.scalars w.encodable)
 
 -- Starting with good settings and no lines, what a writer's calls wrote has the items that they wrote.
-pub items_of-wrote : (e : Encoding) (s : Settings) (calls : List Call) → output_encoding e ≡ e → AreGoodSettings s → ArePrefixesClean s calls → AreOfScalars calls
-    → items_of e (wrote e s 0 calls) end ≡ items_read_back s 0 calls
+pub items_of-wrote : (e : Encoding) (s : Settings) (calls : List Call) → output_encoding e ≡ e → AreGoodSettings s → ArePrefixesClean s calls
+    → AreOfScalars calls → items_of e (wrote e s 0 calls) end ≡ items_read_back s 0 calls
 unfolding items_of
 items_of-wrote e s calls own g c h =
     ap (λ x. items_of_lines (lines_of x) end) (wrote-decoded e s calls own g h) ∙ (text-read e (line_ends (lines_of (wrote_text e s 0 calls))) s 0 calls g c h).read
 
 -- What the calls wrote has these items by the definition of items.
-pub IsItems-wrote : (e : Encoding) (s : Settings) (calls : List Call) → output_encoding e ≡ e → AreGoodSettings s → ArePrefixesClean s calls → AreOfScalars calls
-    → IsItems e (wrote e s 0 calls) end (items_read_back s 0 calls)
+pub IsItems-wrote : (e : Encoding) (s : Settings) (calls : List Call) → output_encoding e ≡ e → AreGoodSettings s → ArePrefixesClean s calls
+    → AreOfScalars calls → IsItems e (wrote e s 0 calls) end (items_read_back s 0 calls)
 IsItems-wrote e s calls own g c h = subst (IsItems e (wrote e s 0 calls) end) (items_of-wrote e s calls own g c h) (items_of-meets e (wrote e s 0 calls) end)

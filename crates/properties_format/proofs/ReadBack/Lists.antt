@@ -39,14 +39,12 @@ module _ (e : Encoding) (s : Settings) (own : output_encoding e ≡ e) (good : A
   -- The pairs are those whose items the bytes have.
   pub pairs-of_items : (ps : List Pair) (entries : List Entry) → AreAccepted s ps → ArePairsOfScalars ps → IsItems e (wrote e s 0 (calls_of ps)) end entries
       → pairs_in entries ≡ ps
-  pairs-of_items ps entries a h is =
-      ap pairs_in (items_of-only e (wrote e s 0 (calls_of ps)) end entries is ∙ items_of-pairs ps a h) ∙ pairs_in-items 0 ps
+  pairs-of_items ps entries a h is = ap pairs_in (items_of-only e (wrote e s 0 (calls_of ps)) end entries is ∙ items_of-pairs ps a h) ∙ pairs_in-items 0 ps
 
   -- Lists of pairs that write equal bytes are equal.
   pub pairs-equal : (ps qs : List Pair) → AreAccepted s ps → ArePairsOfScalars ps → AreAccepted s qs → ArePairsOfScalars qs
       → wrote e s 0 (calls_of ps) ≡ wrote e s 0 (calls_of qs) → ps ≡ qs
-  pairs-equal ps qs a h b k same =
-      rw (← pairs_in-items 0 ps, ← items_of-pairs ps a h, same, items_of-pairs qs b k, pairs_in-items 0 qs)
+  pairs-equal ps qs a h b k same = rw (← pairs_in-items 0 ps, ← items_of-pairs ps a h, same, items_of-pairs qs b k, pairs_in-items 0 qs)
 
   -- Pairs that are read and written again, under the same settings, are the same bytes.
   pub pairs-settle : (ps : List Pair) (entries : List Entry) → AreAccepted s ps → ArePairsOfScalars ps → IsItems e (wrote e s 0 (calls_of ps)) end entries

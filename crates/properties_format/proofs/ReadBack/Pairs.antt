@@ -1,9 +1,9 @@
 -- A printed pair is a line of its own, and is read as that pair.
-use Rattle.std.proofs.Common.{◌≡◌, ◌≢◌, ℕ, ◌&&◌, Bool, false, List, [], ◌∷◌, ◌++◌, map, refl, ap, sym, ◌∙◌, inl, inr, append_assoc, ap₂, arith}
+use Rattle.std.proofs.Common.{rules, ◌≡◌, ◌≢◌, ℕ, ◌&&◌, Bool, false, List, [], ◌∷◌, ◌++◌, map, refl, ap, sym, ◌∙◌, inl, inr, append_assoc, ap₂, arith}
 use Rattle.std.specs.List.{AllByRecursion}
 use Rattle.std.proofs.lemmas.Bool.{cond_both}
 use Rattle.properties_format.specs.Text.{scalar, is_blanks}
-use Rattle.properties_format.specs.Encoding.{Encoding}
+use Rattle.properties_format.specs.Repertoire.{Repertoire}
 use Rattle.properties_format.specs.Lines.{HoldsNoLineEnd}
 use Rattle.properties_format.specs.Groups.{is_open}
 use Rattle.properties_format.specs.Split.{Logical, AreBlanks, IsBetween, blanks, separator}
@@ -12,8 +12,8 @@ use Rattle.properties_format.specs.Escapes.{Spelling, spelling_text, spelling_ch
 use Rattle.properties_format.specs.Entries.{Content, pair}
 use Rattle.properties_format.specs.Items.{given}
 use Rattle.properties_format.specs.Computed.Items.{pair_outcome, split_outcome, outcome_of}
-use Rattle.properties_format.specs.Settings.{IsGoodSeparator, IsSignedSeparator}
-use Rattle.properties_format.specs.Printing.{in_key_or_value, unicode_escape, printed_characters, is_bom_like, with_first_escaped, printed_key}
+use Rattle.properties_format.specs.Settings.{IsGoodSeparator}
+use Rattle.properties_format.specs.Printing.{in_key_or_value, printed_characters, is_bom_like, with_first_escaped, printed_key}
 use Rattle.properties_format.specs.Writing.{HoldsNoBackslash}
 use Rattle.properties_format.proofs.Lines.Plain.{plain-append}
 use Rattle.properties_format.proofs.Groups.Open.{is_open-after, blank-other}
@@ -36,15 +36,15 @@ pub record IsReadAs (text : List ℕ) (content : Content) : Type 0 where
 -- ---- keys
 
 -- A key with its first character escaped is safely spelt.
-with_first_escaped-printed : (e : Encoding) (only : Bool) (key : List ℕ) → AllByRecursion scalar key → AreSafelyPrinted (with_first_escaped e only key) key
-with_first_escaped-printed e only [] h = record { spellings = []; text = refl; characters = refl; safe = tt }
-with_first_escaped-printed e only (c ∷ cs) h = printed-cons (unicode_escape c) (printed_characters e only in_key_or_value cs) c cs (unicode-printed c h.0) (texts-printed e only cs h.1)
+with_first_escaped-printed : (r : Repertoire) (key : List ℕ) → AllByRecursion scalar key → AreSafelyPrinted (with_first_escaped r key) key
+with_first_escaped-printed r [] h = record { spellings = []; text = refl; characters = refl; safe = tt }
+with_first_escaped-printed r (c ∷ cs) h = search (rules, printed-cons, unicode-printed, texts-printed)
 
 -- Every printed key is safely spelt.
-pub key-printed : (e : Encoding) (only : Bool) (first : Bool) (key : List ℕ) → AllByRecursion scalar key → AreSafelyPrinted (printed_key e only first key) key
-key-printed e only first key h =
-    cond_both (first && is_bom_like e only key) (with_first_escaped e only key) (printed_characters e only in_key_or_value key) (λ x. AreSafelyPrinted x key)
-    (λ k. with_first_escaped-printed e only key h) (λ k. texts-printed e only key h)
+pub key-printed : (r : Repertoire) (first : Bool) (key : List ℕ) → AllByRecursion scalar key → AreSafelyPrinted (printed_key r first key) key
+key-printed r first key h =
+    cond_both (first && is_bom_like r key) (with_first_escaped r key) (printed_characters r in_key_or_value key) (λ x. AreSafelyPrinted x key)
+    (λ k. with_first_escaped-printed r key h) (λ k. texts-printed r key h)
 
 -- ---- separators
 
@@ -71,13 +71,9 @@ blanks-slashes : (x : List ℕ) → AreBlanks x → HoldsNoBackslash x
 blanks-slashes [] h = tt
 blanks-slashes (c ∷ x) h = (blank-other c h.0, blanks-slashes x h.1)
 
--- Blanks are quiet.
-blanks-quiet : (x : List ℕ) → AreBlanks x → IsQuiet x
-blanks-quiet x h = record { slashes = blanks-slashes x h; plain = blanks-plain x h }
-
 -- A good separator is quiet.
 pub separator-quiet : (x : List ℕ) → IsGoodSeparator x → IsQuiet x
-separator-quiet x h = grind (arith, quiet-append, blanks-quiet)
+separator-quiet x h = search (rules, quiet-append, blanks-slashes, blanks-plain)
 
 -- A text that contains a character isn't empty.
 pub cons-front : (x y : List ℕ) (c : ℕ) → x ++ (c ∷ y) ≢ []
@@ -96,10 +92,6 @@ closed-after x (c ∷ d ∷ sep) y h some o = is_open-after x c (d ∷ sep ++ y)
 
 -- ---- the line of a pair
 
--- A separator with a sign, followed by a value of safe spellings, is a pair with an empty key.
-split-empty_key : (vs : List Spelling) (sep : List ℕ) → AreSafe vs → IsSignedSeparator sep → split_of (sep ++ spellings_before vs []) ≡ Logical.pair [] (spellings_before vs [])
-split-empty_key vs sep v g = grind (arith, append_assoc, split_of-empty_key, are_safe-begin)
-
 -- A good separator may separate a key from a value of safe spellings.
 between-of : (vs : List Spelling) (sep : List ℕ) → AreSafe vs → IsGoodSeparator sep → IsBetween sep (spellings_before vs [])
 between-of vs sep v (inl g) = separator g.before g.sign g.after g.division g.blank_before g.signed g.blank_after (are_safe-begin vs v).no_blank
@@ -117,11 +109,11 @@ append-some x y z some q = cc
 -- A key and a value of safe spellings around a good separator, which isn't blanks only if the key is empty.
 split-pair : (ks vs : List Spelling) (sep : List ℕ) → AreSafe ks → AreSafe vs → IsGoodSeparator sep → (ks ≡ [] → is_blanks sep ≡ false)
     → split_of (spellings_before ks [] ++ (sep ++ spellings_before vs [])) ≡ Logical.pair (spellings_before ks []) (spellings_before vs [])
-split-pair [] vs sep k v (inl g) some = split-empty_key vs sep v g
+split-pair [] vs sep k v (inl g) some = search (rules, append_assoc, split_of-empty_key, are_safe-begin)
 split-pair [] vs sep k v (inr g) some = let a = some refl in let b = is_blanks-from sep g.blank in cc
 split-pair (p ∷ ps) vs sep k v g some =
     let b = some-after p ps (sep ++ spellings_before vs []) k in
-    split_of-pair [] (spellings_before (p ∷ ps) []) sep (spellings_before vs []) tt (append-some (spellings_before (p ∷ ps) []) sep (spellings_before vs []) (separator-some sep g))
+    split_of-pair [] _ sep _ tt (append-some _ sep _ (separator-some sep g))
     b.no_blank b.no_sign (are_safe-key (p ∷ ps) (sep ++ spellings_before vs []) k) (between-of vs sep v g)
 
 -- A key and a value, both safely spelt, around a good separator, which isn't blanks only if the key is empty.
@@ -152,10 +144,7 @@ good-between sep value (inr g) b = blanks g.some g.blank b.no_blank (b.no_separa
 -- the key is empty.
 split-loosely : (ks : List Spelling) (sep v : List ℕ) → AreSafe ks → BeginsAfter (is_blanks sep) v → IsGoodSeparator sep → (ks ≡ [] → is_blanks sep ≡ false)
     → split_of (spellings_before ks [] ++ (sep ++ v)) ≡ Logical.pair (spellings_before ks []) v
-split-loosely [] sep v k b (inl g) some =
-    ap (λ x. split_of (x ++ v)) g.division
-    ∙ ap split_of (append_assoc g.before (g.sign ∷ g.after) v)
-    ∙ split_of-empty_key g.before g.sign g.after v g.blank_before g.signed g.blank_after b.no_blank
+split-loosely [] sep v k b (inl g) some = grind (arith, append_assoc, split_of-empty_key)
 split-loosely [] sep v k b (inr g) some = let a = some refl in let m = is_blanks-from sep g.blank in absurd (cc)
 split-loosely (p ∷ ps) sep v k b g some =
     let f = some-after p ps (sep ++ v) k in

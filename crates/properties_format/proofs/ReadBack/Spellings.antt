@@ -1,9 +1,9 @@
 -- What is printed for a character is a spelling of that character.
-use Rattle.std.proofs.Common.{◌≡◌, ◌⊎◌, ℕ, ◌<◌, ◌≤◌, ◌==◌, ◌||◌, true, false, List, [], ◌∷◌, ◌++◌, refl, sym, ◌∙◌, inl, inr, arith, eqb-true, ltb-true, ltb-false, subst, ap₂}
-use Rattle.std.specs.Prelude.{Bool, nat_lt}
-use Rattle.std.proofs.lemmas.Bool.{cases_Bool, or_cases, or_parts, cond_both}
+use Rattle.std.proofs.Common.{rules, ◌≡◌, ◌⊎◌, ℕ, ◌<◌, ◌≤◌, ◌==◌, ◌||◌, true, false, List, [], ◌∷◌, ◌++◌, refl, sym, ◌∙◌, inl, inr, arith, eqb-true, ltb-true, ltb-false, subst, ap₂}
+use Rattle.std.specs.Prelude.{nat_lt}
+use Rattle.std.proofs.lemmas.Bool.{or_cases, or_parts, cond_both}
 use Rattle.properties_format.specs.Text.{scalar, line_feed, carriage_return, space, backslash, is_blank, is_line_end, is_comment_sign, is_separator}
-use Rattle.properties_format.specs.Encoding.{Encoding}
+use Rattle.properties_format.specs.Repertoire.{Repertoire}
 use Rattle.properties_format.specs.Escapes.{letter_u, escaped_character, are_hexadecimal, code_unit, is_high, is_low, is_surrogate, pair_character, Spelling, itself, escaped, unicode, surrogates, last, spelling_text, spelling_character, IsSpelling}
 use Rattle.properties_format.specs.Printing.{in_key_or_value, in_comment, unit_escape, high_surrogate, low_surrogate, unicode_escape, may_be_unescaped, literal, is_special, letter_escape, has_letter}
 use Rattle.properties_format.specs.Printing.{printed_character}
@@ -79,12 +79,6 @@ pair-printed c h k =
       );
     }
 
--- Two escapes keep blanks if they aren't those of a blank.
-pair-keeps : (c : ℕ) → scalar c → 0x1_0000 ≤ c → is_blank c ≡ false → KeepsBlanks (surrogates (unit_digits (high_surrogate c)) (unit_digits (low_surrogate c)))
-pair-keeps c h k b =
-    KeepsBlanks-surrogates (unit_digits (high_surrogate c)) (unit_digits (low_surrogate c)) (unit_digits-hexadecimal (low_surrogate c))
-    (subst (λ v. is_blank v ≡ false) (sym (pair-is c h k)) b)
-
 -- `\u` escapes are a safe spelling of a scalar value.
 pub unicode-printed : (c : ℕ) → scalar c → IsSafelyPrinted (unicode_escape c) c
 unicode-printed c h =
@@ -103,7 +97,7 @@ unicode-plainly c h b =
       text = refl;
       character = s.character;
       safe = inl s.safe;
-      keeps = pair-keeps c h (ltb-false c 0x1_0000 k) b;
+      keeps = search (rules, KeepsBlanks-surrogates, unit_digits-hexadecimal, pair-is);
     })
 
 -- ---- unescaped characters, and escapes of a backslash and one character
@@ -115,10 +109,6 @@ escape-printed c d u l e = record { spelling = escaped d; text = refl; character
 -- A backslash and a special character are a safe spelling of that character.
 pub special-printed : (c : ℕ) → is_special c ≡ true → IsSafelyPrinted (backslash ∷ c ∷ []) c
 special-printed c h = escape-printed c c (grind (arith)) (grind (arith)) (grind (arith))
-
--- A backslash and a letter are a safe spelling of the character that has that letter escape.
-letter-printed : (c : ℕ) → has_letter c ≡ true → IsSafelyPrinted (letter_escape c) c
-letter-printed c h = grind (arith, escape-printed)
 
 -- ---- keys and values
 
@@ -142,17 +132,16 @@ itself-printed c o =
     }
 
 -- Unescaped if that is allowed, otherwise escaped, such a character is safely spelt.
-literal-printed : (e : Encoding) (only : Bool) (c : ℕ) → scalar c → IsOrdinary c → IsSafelyPrinted (literal e only c) c
-literal-printed e only c h o =
-    cond_both (may_be_unescaped e only c) (c ∷ []) (unicode_escape c) (λ x. IsSafelyPrinted x c) (λ k. itself-printed c o) (λ k. unicode-printed c h)
+literal-printed : (r : Repertoire) (c : ℕ) → scalar c → IsOrdinary c → IsSafelyPrinted (literal r c) c
+literal-printed r c h o = cond_both _ (c ∷ []) _ (λ x. IsSafelyPrinted x c) (λ k. itself-printed c o) (λ k. unicode-printed c h)
 
 -- What is printed for a character in a key or a value is a safe spelling of it.
-pub in_key_or_value-printed : (e : Encoding) (only : Bool) (c : ℕ) → scalar c → IsSafelyPrinted (printed_character e only in_key_or_value c) c
-in_key_or_value-printed e only c h =
+pub in_key_or_value-printed : (r : Repertoire) (c : ℕ) → scalar c → IsSafelyPrinted (printed_character r in_key_or_value c) c
+in_key_or_value-printed r c h =
     cond_both (is_special c) (backslash ∷ c ∷ []) _ (λ x. IsSafelyPrinted x c) (special-printed c) (λ k.
-    cond_both (has_letter c) (letter_escape c) _ (λ x. IsSafelyPrinted x c) (letter-printed c) (λ l.
-    cond_both (nat_lt c space) (unicode_escape c) (literal e only c) (λ x. IsSafelyPrinted x c) (λ m. unicode-printed c h)
-    (λ m. literal-printed e only c h (record { special = k; letter = l }))))
+    cond_both (has_letter c) (letter_escape c) _ (λ x. IsSafelyPrinted x c) (search (rules, escape-printed)) (λ l.
+    cond_both (nat_lt c space) (unicode_escape c) (literal r c) (λ x. IsSafelyPrinted x c) (λ m. unicode-printed c h)
+    (λ m. literal-printed r c h (record { special = k; letter = l }))))
 
 -- ---- comments and prefixes
 
@@ -165,26 +154,22 @@ escape-plainly c d u l e b f = record { spelling = escaped d; text = refl; chara
 at-character_plainly : (c d : ℕ) (x : ℕ → List ℕ) → (c == d) ≡ true → IsPlainlyPrinted (x d) d → IsPlainlyPrinted (x c) c
 at-character_plainly c d x e s = rw (eqb-true c d e) s
 
--- A character that may not be written unescaped isn't a blank.
-escaped-full : (e : Encoding) (only : Bool) (c : ℕ) → may_be_unescaped e only c ≡ false → is_blank c ≡ false
-escaped-full e only c h = elim (cases_Bool (is_blank c)) [ inl b ↦ (let k = may_be_unescaped-ascii e only c (blank-ascii c b) in cc) | inr b ↦ b ]
-
 -- Unescaped if that is allowed, otherwise escaped, a character that isn't a backslash or a line ending is plainly
 -- spelt.
-pub literal-plainly : (e : Encoding) (only : Bool) (c : ℕ) → scalar c → (c == backslash) ≡ false → is_line_end c ≡ false → IsPlainlyPrinted (literal e only c) c
-literal-plainly e only c h b l =
-    cond_both (may_be_unescaped e only c) (c ∷ []) (unicode_escape c) (λ x. IsPlainlyPrinted x c)
+pub literal-plainly : (r : Repertoire) (c : ℕ) → scalar c → (c == backslash) ≡ false → is_line_end c ≡ false → IsPlainlyPrinted (literal r c) c
+literal-plainly r c h b l =
+    cond_both (may_be_unescaped r c) (c ∷ []) (unicode_escape c) (λ x. IsPlainlyPrinted x c)
     (λ k. record { spelling = itself c; text = refl; character = refl; safe = inr (refl, b, l); keeps = KeepsBlanks-itself c })
-    (λ k. unicode-plainly c h (escaped-full e only c k))
+    (λ k. unicode-plainly c h (search (rules, may_be_unescaped-ascii, blank-ascii)))
 
 -- What is printed for a character in a comment is a plain spelling of it.
-pub in_comment-printed : (e : Encoding) (only : Bool) (c : ℕ) → scalar c → IsPlainlyPrinted (printed_character e only in_comment c) c
-in_comment-printed e only c h =
+pub in_comment-printed : (r : Repertoire) (c : ℕ) → scalar c → IsPlainlyPrinted (printed_character r in_comment c) c
+in_comment-printed r c h =
     cond_both (c == backslash) (backslash ∷ backslash ∷ []) _ (λ x. IsPlainlyPrinted x c)
     (λ k. at-character_plainly c backslash (λ v. backslash ∷ backslash ∷ []) k (escape-plainly backslash backslash refl refl refl refl refl)) (λ k.
-    cond_both (c == line_feed || c == carriage_return) (letter_escape c) (literal e only c) (λ x. IsPlainlyPrinted x c)
+    cond_both (c == line_feed || c == carriage_return) (letter_escape c) (literal r c) (λ x. IsPlainlyPrinted x c)
     (λ l. elim (or_cases (c == line_feed) (c == carriage_return) l) [
       | inl m ↦ at-character_plainly c line_feed letter_escape m (escape-plainly line_feed 0x6e refl refl refl refl refl)
       | inr m ↦ at-character_plainly c carriage_return letter_escape m (escape-plainly carriage_return 0x72 refl refl refl refl refl)
     ])
-    (λ l. literal-plainly e only c h k l))
+    (λ l. literal-plainly r c h k l))

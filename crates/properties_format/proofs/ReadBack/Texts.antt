@@ -1,19 +1,19 @@
 -- What is printed for a text means that text, contains no line ending, and doesn't end in an open backslash.
-use Rattle.std.proofs.Common.{◌≡◌, ℕ, ◌==◌, Bool, true, false, List, [], ◌∷◌, ◌++◌, map, refl, ap, sym, ◌∙◌, inl, inr, append_assoc, append-nil, arith, eqb-true, ap₂}
+use Rattle.std.proofs.Common.{rules, ◌≡◌, ℕ, ◌==◌, true, false, List, [], ◌∷◌, ◌++◌, map, refl, ap, sym, ◌∙◌, inl, inr, append_assoc, append-nil, arith, eqb-true, ap₂}
 use Rattle.std.specs.List.{AllByRecursion}
-use Rattle.std.proofs.lemmas.Bool.{cases_Bool, and_parts}
-use Rattle.properties_format.specs.Text.{scalar, backslash, is_blank, is_line_end, is_comment_sign, is_separator}
-use Rattle.properties_format.specs.Encoding.{Encoding}
+use Rattle.std.proofs.lemmas.Bool.{cases_Bool}
+use Rattle.properties_format.specs.Text.{scalar, backslash, is_blank, is_comment_sign, is_separator}
+use Rattle.properties_format.specs.Repertoire.{Repertoire}
 use Rattle.properties_format.specs.Lines.{HoldsNoLineEnd}
 use Rattle.properties_format.specs.Groups.{is_open}
 use Rattle.properties_format.specs.Split.{IsKey, begins}
-use Rattle.properties_format.specs.Escapes.{letter_u, is_hexadecimal, Four, four_text, are_hexadecimal, Spelling, itself, escaped, unicode, surrogates, last, spelling_text, spelling_character, spellings_before, means}
+use Rattle.properties_format.specs.Escapes.{letter_u, Four, four_text, are_hexadecimal, Spelling, itself, escaped, unicode, surrogates, last, spelling_text, spelling_character, spellings_before, means}
 use Rattle.properties_format.specs.Computed.Escapes.{meaning_of}
-use Rattle.properties_format.specs.Printing.{in_key_or_value, printed_character, printed_characters}
+use Rattle.properties_format.specs.Printing.{in_key_or_value, printed_characters}
 use Rattle.properties_format.proofs.Lines.Plain.{plain-append}
 use Rattle.properties_format.proofs.Groups.Open.{is_open-two, is_open-other}
 use Rattle.properties_format.proofs.Split.Laws.{IsKey-nil, IsKey-plain, IsKey-escaped, IsKey-unicode}
-use Rattle.properties_format.proofs.Escapes.Digits.{hexadecimal-plain}
+use Rattle.properties_format.proofs.Escapes.Digits.{hexadecimal-plain, digits, digit-plain}
 use Rattle.properties_format.proofs.Escapes.Laws.{IsWhole, AreWhole, meaning_of-all}
 use Rattle.properties_format.proofs.ReadBack.Spellings.{IsSafe, IsSafelyPrinted, in_key_or_value-printed}
 
@@ -33,12 +33,15 @@ pub printed-cons : (x y : List ℕ) (c : ℕ) (cs : List ℕ) → IsSafelyPrinte
 printed-cons x y c cs s t =
     record { spellings = s.spelling ∷ t.spellings; text = ap₂ (λ v w. v ++ w) s.text t.text; characters = ap₂ (λ v w. v ∷ w) s.character t.characters; safe = (s.safe, t.safe) }
 
+-- The rest of a text of scalar values.
+pub rest-scalars : (x y : List ℕ) → AllByRecursion scalar (x ++ y) → AllByRecursion scalar y
+rest-scalars [] y h = h
+rest-scalars (c ∷ x) y h = rest-scalars x y h.1
+
 -- what is printed for a key or a value is safely spelt
-pub texts-printed : (e : Encoding) (only : Bool) (x : List ℕ) → AllByRecursion scalar x → AreSafelyPrinted (printed_characters e only in_key_or_value x) x
-texts-printed e only [] h = record { spellings = []; text = refl; characters = refl; safe = tt }
-texts-printed e only (c ∷ x) h =
-    printed-cons (printed_character e only in_key_or_value c) (printed_characters e only in_key_or_value x) c x
-    (in_key_or_value-printed e only c h.0) (texts-printed e only x h.1)
+pub texts-printed : (r : Repertoire) (x : List ℕ) → AllByRecursion scalar x → AreSafelyPrinted (printed_characters r in_key_or_value x) x
+texts-printed r [] h = record { spellings = []; text = refl; characters = refl; safe = tt }
+texts-printed r (c ∷ x) h = search (rules, printed-cons, in_key_or_value-printed, texts-printed r x h.1)
 
 -- ---- what they mean
 
@@ -57,21 +60,9 @@ printed-means x y s = ap meaning_of s.text ∙ meaning_of-all s.spellings (are_s
 
 -- ---- no line ending
 
--- A hexadecimal digit isn't a line ending.
-digit-plain : (c : ℕ) → is_hexadecimal c ≡ true → is_line_end c ≡ false
-digit-plain c h = grind (arith)
-
--- Each of four hexadecimal digits is a hexadecimal digit.
-four-digits : (d : Four) → are_hexadecimal d ≡ true → (is_hexadecimal d.first ≡ true) × (is_hexadecimal d.second ≡ true) × (is_hexadecimal d.third ≡ true) × (is_hexadecimal d.fourth ≡ true)
-four-digits d h = grind (arith, and_parts)
-
--- A `\u` escape contains no line ending.
-unit-plain : (d : Four) → are_hexadecimal d ≡ true → HoldsNoLineEnd (backslash ∷ letter_u ∷ four_text d)
-unit-plain d h = let f = four-digits d h in (refl, (refl, (digit-plain d.first f.0, (digit-plain d.second f.1, (digit-plain d.third f.2, (digit-plain d.fourth f.3, tt))))))
-
 -- A safe spelling contains no line ending.
 pub safe-plain : (p : Spelling) → IsSafe p → HoldsNoLineEnd (spelling_text p)
-safe-plain p h = grind (arith, unit-plain)
+safe-plain p h = search (rules, digits, digit-plain)
 
 -- Safe spellings contain no line ending.
 are_safe-plain : (ps : List Spelling) → AreSafe ps → HoldsNoLineEnd (spellings_before ps [])
@@ -92,7 +83,7 @@ other-closed x y c h = ap is_open (sym (append_assoc x y (c ∷ []))) ∙ is_ope
 unit-closed : (x y : List ℕ) (d : Four) → are_hexadecimal d ≡ true → is_open (x ++ (y ++ (backslash ∷ letter_u ∷ four_text d))) ≡ false
 unit-closed x y d h =
     ap (λ v. is_open (x ++ v)) (sym (append_assoc y (backslash ∷ letter_u ∷ d.first ∷ d.second ∷ d.third ∷ []) (d.fourth ∷ [])))
-    ∙ other-closed x (y ++ (backslash ∷ letter_u ∷ d.first ∷ d.second ∷ d.third ∷ [])) d.fourth (hexadecimal-plain d.fourth (four-digits d h).3).0
+    ∙ other-closed x (y ++ (backslash ∷ letter_u ∷ d.first ∷ d.second ∷ d.third ∷ [])) d.fourth (hexadecimal-plain d.fourth (digits d h).3).0
 
 -- A text that isn't open, followed by a safe spelling, isn't open.
 pub safe-closed : (p : Spelling) (x : List ℕ) → IsSafe p → is_open x ≡ false → is_open (x ++ spelling_text p) ≡ false
@@ -108,8 +99,7 @@ safe-closed last x h o = absurd h
 -- A text that isn't open, followed by safe spellings, isn't open.
 are_safe-closed : (ps : List Spelling) (x : List ℕ) → AreSafe ps → is_open x ≡ false → is_open (x ++ spellings_before ps []) ≡ false
 are_safe-closed [] x h o = ap is_open (append-nil x) ∙ o
-are_safe-closed (p ∷ ps) x h o =
-    ap is_open (sym (append_assoc x (spelling_text p) (spellings_before ps []))) ∙ are_safe-closed ps (x ++ spelling_text p) h.1 (safe-closed p x h.0 o)
+are_safe-closed (p ∷ ps) x h o = grind (arith, append_assoc, are_safe-closed ps (x ++ spelling_text p) h.1 (safe-closed p x h.0 o), safe-closed)
 
 -- A safely spelt text isn't open.
 pub printed-closed : (x y : List ℕ) → AreSafelyPrinted x y → is_open x ≡ false

@@ -1,9 +1,10 @@
 -- What a new writer writes doesn't begin like a byte order mark.
-use Rattle.std.proofs.Common.{◌≡◌, ℕ, ◌<◌, ◌&&◌, not, Bool, true, false, if◌then◌else◌, List, [], ◌∷◌, ◌++◌, refl, ap, ◌∙◌, append_assoc, arith, lit<}
+use Rattle.std.proofs.Common.{◌≡◌, ℕ, ◌<◌, Bool, true, false, if◌then◌else◌, List, [], ◌∷◌, ◌++◌, refl, ap, ◌∙◌, append_assoc, arith, lit<}
 use Rattle.std.specs.Prelude.{nat_lt, Some, None}
 use Rattle.std.proofs.lemmas.Bool.{cond_both}
-use Rattle.properties_format.specs.Text.{backslash, is_blanks, is_comment_sign, is_empty}
+use Rattle.properties_format.specs.Text.{backslash, is_comment_sign}
 use Rattle.properties_format.specs.Encoding.{Encoding, begins_like_bom}
+use Rattle.properties_format.specs.Repertoire.{Repertoire, repertoire_of}
 use Rattle.properties_format.specs.Split.{AreBlanks}
 use Rattle.properties_format.specs.Entries.{Content, comment, pair}
 use Rattle.properties_format.specs.Settings.{Settings, IsGoodPrefix, IsGoodSeparator}
@@ -34,16 +35,17 @@ pub front-unmarked : (e : Encoding) (x : List ℕ) (c : ℕ) (y : List ℕ) → 
 front-unmarked e x c y same h = ap (λ v. begins_like_bom (encoded_text e v)) same ∙ text-cut e [] c y h
 
 -- Blanks followed by a comment sign begin with an ASCII character.
-indent-front : (indent : List ℕ) (sign : ℕ) (rest : List ℕ) → AreBlanks indent → is_comment_sign sign ≡ true → (c : ℕ) × (y : List ℕ) × (indent ++ (sign ∷ rest) ≡ c ∷ y) × (c < 0x80)
+indent-front : (indent : List ℕ) (sign : ℕ) (rest : List ℕ) → AreBlanks indent → is_comment_sign sign ≡ true
+    → (c : ℕ) × (y : List ℕ) × (indent ++ (sign ∷ rest) ≡ c ∷ y) × (c < 0x80)
 indent-front [] sign rest b m = (sign, rest, refl, (sign-ascii sign m).0)
 indent-front (c ∷ indent) sign rest b m = (c, indent ++ (sign ∷ rest), refl, blank-ascii c b.0)
 
 -- A comment on the first line, with what follows its prefix.
-comment-unmarked : (e : Encoding) (only : Bool) (prefix rest : List ℕ) → IsGoodPrefix prefix → IsUnmarked e (printed_characters e only in_prefix prefix ++ rest)
-comment-unmarked e only prefix rest g =
-    let (c, y, same, h) = indent-front g.indent g.sign (printed_characters e only in_prefix g.tail) g.indented g.signed in
-    front-unmarked e (printed_characters e only in_prefix prefix ++ rest) c (y ++ rest)
-    (ap (λ v. v ++ rest) (ap (printed_characters e only in_prefix) g.division ∙ prefix-printed e only g.indent g.sign g.tail g.indented g.signed ∙ same)) h
+comment-unmarked : (r : Repertoire) (prefix rest : List ℕ) → IsGoodPrefix prefix → IsUnmarked r.encoding (printed_characters r in_prefix prefix ++ rest)
+comment-unmarked r prefix rest g =
+    let (c, y, same, h) = indent-front g.indent g.sign (printed_characters r in_prefix g.tail) g.indented g.signed in
+    front-unmarked r.encoding (printed_characters r in_prefix prefix ++ rest) c (y ++ rest)
+    (ap (λ v. v ++ rest) (ap (printed_characters r in_prefix) g.division ∙ prefix-printed r g.indent g.sign g.tail g.indented g.signed ∙ same)) h
 
 -- a separator begins with an ASCII character
 separator-front : (sep : List ℕ) → IsGoodSeparator sep → (c : ℕ) × (y : List ℕ) × (sep ≡ c ∷ y) × (c < 0x80)
@@ -59,31 +61,31 @@ unicode-is_escape : (c : ℕ) → IsEscape (unicode_escape c)
 unicode-is_escape c = cond_both (nat_lt c 0x1_0000) (unit_escape c) _ IsEscape (λ k. (_, refl)) (λ k. (_, refl))
 
 -- A key with its first character escaped, with what follows it.
-with_first_escaped-unmarked : (e : Encoding) (only : Bool) (key rest : List ℕ) → is_bom_like e only key ≡ true → IsUnmarked e (with_first_escaped e only key ++ rest)
-with_first_escaped-unmarked e only [] rest h = cc
-with_first_escaped-unmarked e only (c ∷ cs) rest h =
+with_first_escaped-unmarked : (r : Repertoire) (key rest : List ℕ) → is_bom_like r key ≡ true → IsUnmarked r.encoding (with_first_escaped r key ++ rest)
+with_first_escaped-unmarked r [] rest h = cc
+with_first_escaped-unmarked r (c ∷ cs) rest h =
     let (y, same) = unicode-is_escape c in
-    front-unmarked e (with_first_escaped e only (c ∷ cs) ++ rest) backslash ((y ++ printed_characters e only in_key_or_value cs) ++ rest)
-    (ap (λ v. (v ++ printed_characters e only in_key_or_value cs) ++ rest) same) (lit< tt)
+    front-unmarked r.encoding (with_first_escaped r (c ∷ cs) ++ rest) backslash ((y ++ printed_characters r in_key_or_value cs) ++ rest)
+    (ap (λ v. (v ++ printed_characters r in_key_or_value cs) ++ rest) same) (lit< tt)
 
 -- A key that doesn't begin like a byte order mark, with what follows its separator.
-plain-unmarked : (e : Encoding) (only : Bool) (key sep rest : List ℕ) → IsGoodSeparator sep → is_bom_like e only key ≡ false
-    → IsUnmarked e (printed_characters e only in_key_or_value key ++ (sep ++ rest))
-plain-unmarked e only key sep rest g h =
+plain-unmarked : (r : Repertoire) (key sep rest : List ℕ) → IsGoodSeparator sep → is_bom_like r key ≡ false
+    → IsUnmarked r.encoding (printed_characters r in_key_or_value key ++ (sep ++ rest))
+plain-unmarked r key sep rest g h =
     let (c, y, same, k) = separator-front sep g in
-    ap (λ v. begins_like_bom (encoded_text e (printed_characters e only in_key_or_value key ++ (v ++ rest)))) same ∙ text-cut e (printed_characters e only in_key_or_value key) c (y ++ rest) k ∙ h
+    grind (arith, text-cut)
 
 -- A pair on the first line, with what follows its separator.
-pub pair-unmarked : (e : Encoding) (only : Bool) (key sep rest : List ℕ) → IsGoodSeparator sep
-    → begins_like_bom (encoded_text e (printed_key e only true key ++ (sep ++ rest))) ≡ false
-pair-unmarked e only key sep rest g =
-    cond_both (is_bom_like e only key) (with_first_escaped e only key) (printed_characters e only in_key_or_value key)
-    (λ v. begins_like_bom (encoded_text e (v ++ (sep ++ rest))) ≡ false)
-    (λ h. with_first_escaped-unmarked e only key (sep ++ rest) h) (λ h. plain-unmarked e only key sep rest g h)
+pub pair-unmarked : (r : Repertoire) (key sep rest : List ℕ) → IsGoodSeparator sep
+    → begins_like_bom (encoded_text r.encoding (printed_key r true key ++ (sep ++ rest))) ≡ false
+pair-unmarked r key sep rest g =
+    cond_both (is_bom_like r key) (with_first_escaped r key) (printed_characters r in_key_or_value key)
+    (λ v. begins_like_bom (encoded_text r.encoding (v ++ (sep ++ rest))) ≡ false)
+    (λ h. with_first_escaped-unmarked r key (sep ++ rest) h) (λ h. plain-unmarked r key sep rest g h)
 
 -- A printed first line, with what follows it.
 printed-unmarked : (e : Encoding) (s : Settings) (line : Content) (rest : List ℕ) → AreGoodSettings s → IsUnmarked e (printed_text e s true line ++ rest)
-printed-unmarked e s line rest h = grind (arith, append_assoc, comment-unmarked, pair-unmarked)
+printed-unmarked e s line rest h = grind (arith, append_assoc, comment-unmarked (repertoire_of e s), pair-unmarked (repertoire_of e s))
 
 -- ---- all lines
 
@@ -94,10 +96,11 @@ pair-step e s key value calls true g h = printed-unmarked e s (pair key value) (
 pair-step e s key value calls false g h = h
 
 -- What calls write, with no line before them, doesn't begin like a byte order mark.
-pub wrote_text-unmarked : (e : Encoding) (s : Settings) (calls : List Call) → AreGoodSettings s → AreOfScalars calls → begins_like_bom (encoded_text e (wrote_text e s 0 calls)) ≡ false
+pub wrote_text-unmarked : (e : Encoding) (s : Settings) (calls : List Call) → AreGoodSettings s → AreOfScalars calls
+    → begins_like_bom (encoded_text e (wrote_text e s 0 calls)) ≡ false
 wrote_text-unmarked e s [] g h = refl
 wrote_text-unmarked e s (comment_call text ∷ calls) g h = printed-unmarked e s (comment text) (wrote_text e s 1 calls) g
-wrote_text-unmarked e s (pair_call key value ∷ calls) g h = pair-step e s key value calls (not (is_empty key && is_blanks s.kv_separator)) g (wrote_text-unmarked e s calls g h.1)
+wrote_text-unmarked e s (pair_call key value ∷ calls) g h = grind (arith, pair-step, wrote_text-unmarked e s calls g h.1)
 wrote_text-unmarked e s (prefix_call prefix ∷ calls) g h =
     wrote_text-unmarked e (settings_after_call s (prefix_call prefix)) calls (settings_after_call-good s (prefix_call prefix) g h.0) h.1
 wrote_text-unmarked e s (separator_call separator ∷ calls) g h =

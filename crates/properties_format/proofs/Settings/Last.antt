@@ -1,5 +1,5 @@
 -- The settings after some calls are the last ones that were accepted, or else the initial ones.
-use Rattle.std.proofs.Common.{◌≡◌, ℕ, Bool, true, false, List, [], ◌∷◌, refl}
+use Rattle.std.proofs.Common.{◌≡◌, ℕ, Bool, List, [], ◌∷◌, refl, arith}
 use Rattle.std.specs.Prelude.{Option, Some, None, unwrap_or, if◌then◌else◌}
 use Rattle.properties_format.specs.Text.{LineEnding}
 use Rattle.properties_format.specs.Settings.{Settings}
@@ -37,85 +37,31 @@ abbrev pub readable_of : Call → Option Bool
 readable_of (readable_call on) = Some on
 readable_of call = None
 
--- ---- after one call
-
--- A prefix is set if it is accepted, and every other setting is unchanged.
-after-prefix : (s : Settings) (prefix : List ℕ) (b : Bool)
-    → let t : Settings = if b then record s { comment_prefix = prefix } else s in
-    (t.comment_prefix ≡ unwrap_or (if b then Some prefix else None) s.comment_prefix) × (t.kv_separator ≡ s.kv_separator)
-    × (t.line_ending ≡ s.line_ending) × (t.ascii_only ≡ s.ascii_only) × (t.readable ≡ s.readable)
-after-prefix s prefix true = (refl, refl, refl, refl, refl)
-after-prefix s prefix false = (refl, refl, refl, refl, refl)
-
--- A separator is set if it is accepted, and every other setting is unchanged.
-after-separator : (s : Settings) (separator : List ℕ) (b : Bool)
-    → let t : Settings = if b then record s { kv_separator = separator } else s in
-    (t.kv_separator ≡ unwrap_or (if b then Some separator else None) s.kv_separator) × (t.comment_prefix ≡ s.comment_prefix)
-    × (t.line_ending ≡ s.line_ending) × (t.ascii_only ≡ s.ascii_only) × (t.readable ≡ s.readable)
-after-separator s separator true = (refl, refl, refl, refl, refl)
-after-separator s separator false = (refl, refl, refl, refl, refl)
-
--- The prefix after a call is the one that it sets, or else the one before it.
-prefix-after_call : (s : Settings) (call : Call) → (settings_after_call s call).comment_prefix ≡ unwrap_or (prefix_of call) s.comment_prefix
-prefix-after_call s (prefix_call prefix) = (after-prefix s prefix (is_good_prefix prefix)).0
-prefix-after_call s (separator_call separator) = (after-separator s separator (is_good_separator separator)).1
-prefix-after_call s call = refl
-
--- The separator after a call is the one that it sets, or else the one before it.
-separator-after_call : (s : Settings) (call : Call) → (settings_after_call s call).kv_separator ≡ unwrap_or (separator_of call) s.kv_separator
-separator-after_call s (prefix_call prefix) = (after-prefix s prefix (is_good_prefix prefix)).1
-separator-after_call s (separator_call separator) = (after-separator s separator (is_good_separator separator)).0
-separator-after_call s call = refl
-
--- The line ending after a call is the one that it sets, or else the one before it.
-ending-after_call : (s : Settings) (call : Call) → (settings_after_call s call).line_ending ≡ unwrap_or (ending_of call) s.line_ending
-ending-after_call s (prefix_call prefix) = (after-prefix s prefix (is_good_prefix prefix)).2
-ending-after_call s (separator_call separator) = (after-separator s separator (is_good_separator separator)).2
-ending-after_call s call = refl
-
--- The ASCII-only mode after a call is the one that it sets, or else the one before it.
-ascii_only-after_call : (s : Settings) (call : Call) → (settings_after_call s call).ascii_only ≡ unwrap_or (ascii_only_of call) s.ascii_only
-ascii_only-after_call s (prefix_call prefix) = (after-prefix s prefix (is_good_prefix prefix)).3
-ascii_only-after_call s (separator_call separator) = (after-separator s separator (is_good_separator separator)).3
-ascii_only-after_call s call = refl
-
--- The readable mode after a call is the one that it sets, or else the one before it.
-readable-after_call : (s : Settings) (call : Call) → (settings_after_call s call).readable ≡ unwrap_or (readable_of call) s.readable
-readable-after_call s (prefix_call prefix) = (after-prefix s prefix (is_good_prefix prefix)).4
-readable-after_call s (separator_call separator) = (after-separator s separator (is_good_separator separator)).4
-readable-after_call s call = refl
-
--- ---- after a list of calls
-
--- The later of two values, if there is one, or else the initial one.
-unwrap-later : {A : Type 0} (o p : Option A) (x : A) → unwrap_or p (unwrap_or o x) ≡ unwrap_or (later o p) x
-unwrap-later o None x = refl
-unwrap-later o (Some y) x = refl
+-- ---- after calls
 
 -- A setting after calls is the last one that one of them sets, or else the initial one, if that is so after each call.
 after-calls : {A : Type 0} (setting : Settings → A) (given : Call → Option A)
     → ((s : Settings) (call : Call) → setting (settings_after_call s call) ≡ unwrap_or (given call) (setting s))
     → (s : Settings) (calls : List Call) → setting (settings_after s calls) ≡ unwrap_or (last_given given calls) (setting s)
 after-calls setting given each s [] = refl
-after-calls setting given each s (call ∷ calls) =
-    simp (after-calls setting given each (settings_after_call s call) calls, each s call, unwrap-later)
+after-calls setting given each s (call ∷ calls) = grind (arith, after-calls setting given each (settings_after_call s call) calls, each)
 
 -- The prefix is the last one that was accepted, or else the initial one.
 pub prefix-after : (s : Settings) (calls : List Call) → (settings_after s calls).comment_prefix ≡ unwrap_or (last_given prefix_of calls) s.comment_prefix
-prefix-after = after-calls (λ s. s.comment_prefix) prefix_of prefix-after_call
+prefix-after = after-calls (λ s. s.comment_prefix) prefix_of (λ s call. grind (arith))
 
 -- The separator is the last one that was accepted, or else the initial one.
 pub separator-after : (s : Settings) (calls : List Call) → (settings_after s calls).kv_separator ≡ unwrap_or (last_given separator_of calls) s.kv_separator
-separator-after = after-calls (λ s. s.kv_separator) separator_of separator-after_call
+separator-after = after-calls (λ s. s.kv_separator) separator_of (λ s call. grind (arith))
 
 -- The line ending is the last one that was set, or else the initial one.
 pub ending-after : (s : Settings) (calls : List Call) → (settings_after s calls).line_ending ≡ unwrap_or (last_given ending_of calls) s.line_ending
-ending-after = after-calls (λ s. s.line_ending) ending_of ending-after_call
+ending-after = after-calls (λ s. s.line_ending) ending_of (λ s call. grind (arith))
 
 -- The ASCII-only mode is the last one that was set, or else the initial one.
 pub ascii_only-after : (s : Settings) (calls : List Call) → (settings_after s calls).ascii_only ≡ unwrap_or (last_given ascii_only_of calls) s.ascii_only
-ascii_only-after = after-calls (λ s. s.ascii_only) ascii_only_of ascii_only-after_call
+ascii_only-after = after-calls (λ s. s.ascii_only) ascii_only_of (λ s call. grind (arith))
 
 -- The readable mode is the last one that was set, or else the initial one.
 pub readable-after : (s : Settings) (calls : List Call) → (settings_after s calls).readable ≡ unwrap_or (last_given readable_of calls) s.readable
-readable-after = after-calls (λ s. s.readable) readable_of readable-after_call
+readable-after = after-calls (λ s. s.readable) readable_of (λ s call. grind (arith))

@@ -1,7 +1,7 @@
 -- The tests of settings pass for exactly the good settings.
-use Rattle.std.proofs.Common.{◌≡◌, ℕ, not, true, false, List, [], ◌∷◌, ◌++◌, refl, ap, ◌∙◌, inl, inr, arith}
-use Rattle.std.proofs.lemmas.Bool.{cases_Bool, cond-true, cond-false, and_parts, and_from, or_left, or_right, not-true, not_from_false}
-use Rattle.properties_format.specs.Text.{is_blank, is_blanks, is_line_end, is_comment_sign, is_separator}
+use Rattle.std.proofs.Common.{◌≡◌, ℕ, true, List, [], ◌∷◌, ◌++◌, refl, ap, ◌∙◌, inl, inr, arith}
+use Rattle.std.proofs.lemmas.Bool.{cases_Bool, and_parts, and_from, or_left, or_right}
+use Rattle.properties_format.specs.Text.{is_blank, is_blanks, is_comment_sign, is_separator}
 use Rattle.properties_format.specs.Lines.{HoldsNoLineEnd}
 use Rattle.properties_format.specs.Split.{AreBlanks}
 use Rattle.properties_format.specs.Settings.{IsGoodPrefix, IsSignedSeparator, IsGoodSeparator}
@@ -14,7 +14,7 @@ use Rattle.properties_format.proofs.Split.Unique.{sign-full, separator-full}
 -- A text that passes the test is blanks.
 pub AreBlanks-from_test : (x : List ℕ) → is_blanks x ≡ true → AreBlanks x
 AreBlanks-from_test [] h = tt
-AreBlanks-from_test (c ∷ x) h = let p = and_parts (is_blank c) (is_blanks x) h in (p.0, AreBlanks-from_test x p.1)
+AreBlanks-from_test (c ∷ x) h = grind (arith, AreBlanks-from_test x)
 
 -- Blanks pass the test.
 pub is_blanks-from : (x : List ℕ) → AreBlanks x → is_blanks x ≡ true
@@ -24,49 +24,41 @@ is_blanks-from (c ∷ x) h = and_from (is_blank c) (is_blanks x) h.0 (is_blanks-
 -- A text that passes the test contains no line ending.
 pub HoldsNoLineEnd-from_test : (x : List ℕ) → holds_no_line_end x ≡ true → HoldsNoLineEnd x
 HoldsNoLineEnd-from_test [] h = tt
-HoldsNoLineEnd-from_test (c ∷ x) h = let p = and_parts (not (is_line_end c)) (holds_no_line_end x) h in (not-true (is_line_end c) p.0, HoldsNoLineEnd-from_test x p.1)
+HoldsNoLineEnd-from_test (c ∷ x) h = grind (arith, HoldsNoLineEnd-from_test x)
 
 -- A text without line endings passes the test.
 pub holds_no_line_end-from : (x : List ℕ) → HoldsNoLineEnd x → holds_no_line_end x ≡ true
 holds_no_line_end-from [] h = refl
-holds_no_line_end-from (c ∷ x) h = and_from (not (is_line_end c)) (holds_no_line_end x) (not_from_false (is_line_end c) h.0) (holds_no_line_end-from x h.1)
-
--- ---- no comment sign and no separator is a blank
-
--- No blank is a comment sign.
-pub blank_not_sign : (c : ℕ) → is_blank c ≡ true → is_comment_sign c ≡ false
-blank_not_sign c h = grind (arith)
+holds_no_line_end-from (c ∷ x) h = grind (arith, holds_no_line_end-from x h.1)
 
 -- ---- prefixes
-
--- A good prefix with a blank at the front is good.
-blank-in_front : (c : ℕ) (cs : List ℕ) → is_blank c ≡ true → IsGoodPrefix cs → IsGoodPrefix (c ∷ cs)
-blank-in_front c cs e g =
-    record { indent = c ∷ g.indent; sign = g.sign; tail = g.tail; division = ap (λ v. c ∷ v) g.division; indented = (e, g.indented); signed = g.signed; one_line = g.one_line }
 
 -- a prefix that passes the test is good
 pub IsGoodPrefix-from_test : (prefix : List ℕ) → is_good_prefix prefix ≡ true → IsGoodPrefix prefix
 IsGoodPrefix-from_test [] h = cc
 IsGoodPrefix-from_test (c ∷ cs) h = elim (cases_Bool (is_blank c)) [
-  | inl e ↦ blank-in_front c cs e (IsGoodPrefix-from_test cs (rw e at h))
+  | inl e ↦
+      let g = IsGoodPrefix-from_test cs (rw e at h) in
+      record { indent = c ∷ g.indent; sign = g.sign; tail = g.tail; division = cc (g.division); indented = (e, g.indented); signed = g.signed; one_line = g.one_line }
   | inr e ↦
       let p = and_parts (is_comment_sign c) (holds_no_line_end cs) (rw e at h) in
       record { indent = []; sign = c; tail = cs; division = refl; indented = tt; signed = p.0; one_line = HoldsNoLineEnd-from_test cs p.1 }
 ]
 
 -- Blanks, a comment sign and a text without a line ending pass the test.
-divided-is_good : (indent : List ℕ) (sign : ℕ) (tail : List ℕ) → AreBlanks indent → is_comment_sign sign ≡ true → HoldsNoLineEnd tail → is_good_prefix (indent ++ (sign ∷ tail)) ≡ true
-divided-is_good [] sign tail h m p = rw (sign-full sign m) (and_from (is_comment_sign sign) (holds_no_line_end tail) m (holds_no_line_end-from tail p))
+divided-is_good : (indent : List ℕ) (sign : ℕ) (tail : List ℕ) → AreBlanks indent → is_comment_sign sign ≡ true → HoldsNoLineEnd tail
+    → is_good_prefix (indent ++ (sign ∷ tail)) ≡ true
+divided-is_good [] sign tail h m p = grind (arith, sign-full, holds_no_line_end-from)
 divided-is_good (c ∷ indent) sign tail h m p = rw h.0 (divided-is_good indent sign tail h.1 m p)
 
 -- A good prefix passes the test.
 pub is_good_prefix-from : (prefix : List ℕ) → IsGoodPrefix prefix → is_good_prefix prefix ≡ true
-is_good_prefix-from prefix g = ap is_good_prefix g.division ∙ divided-is_good g.indent g.sign g.tail g.indented g.signed g.one_line
+is_good_prefix-from prefix g = rw g.division (divided-is_good g.indent g.sign g.tail g.indented g.signed g.one_line)
 
 -- What follows the first comment sign is the tail of the division.
 tail-divided : (indent : List ℕ) (sign : ℕ) (tail : List ℕ) → AreBlanks indent → is_comment_sign sign ≡ true → tail_of (indent ++ (sign ∷ tail)) ≡ tail
-tail-divided [] sign tail h m = cond-true (is_comment_sign sign) _ _ m
-tail-divided (c ∷ indent) sign tail h m = cond-false (is_comment_sign c) _ _ (blank_not_sign c h.0) ∙ tail-divided indent sign tail h.1 m
+tail-divided [] sign tail h m = rw m
+tail-divided (c ∷ indent) sign tail h m = grind (arith, tail-divided indent sign tail h.1 m)
 
 -- What follows the first comment sign is the tail of a good prefix.
 pub tail_of-good : (prefix : List ℕ) (g : IsGoodPrefix prefix) → tail_of prefix ≡ g.tail
@@ -74,29 +66,27 @@ tail_of-good prefix g = ap tail_of g.division ∙ tail-divided g.indent g.sign g
 
 -- ---- separators
 
--- A separator with a sign has one with a blank at the front too.
-blank-in_front_of_signed : (c : ℕ) (cs : List ℕ) → is_blank c ≡ true → IsSignedSeparator cs → IsSignedSeparator (c ∷ cs)
-blank-in_front_of_signed c cs e g =
-    record { before = c ∷ g.before; sign = g.sign; after = g.after; division = ap (λ v. c ∷ v) g.division; blank_before = (e, g.blank_before); signed = g.signed; blank_after = g.blank_after }
-
 -- A separator that passes the test has a sign.
 pub IsSignedSeparator-from_test : (separator : List ℕ) → is_signed_separator separator ≡ true → IsSignedSeparator separator
 IsSignedSeparator-from_test [] h = cc
 IsSignedSeparator-from_test (c ∷ cs) h = elim (cases_Bool (is_blank c)) [
-  | inl e ↦ blank-in_front_of_signed c cs e (IsSignedSeparator-from_test cs (rw e at h))
+  | inl e ↦
+      let g = IsSignedSeparator-from_test cs (rw e at h) in
+      record { before = c ∷ g.before; sign = g.sign; after = g.after; division = cc (g.division); blank_before = (e, g.blank_before); signed = g.signed; blank_after = g.blank_after }
   | inr e ↦
       let p = and_parts (is_separator c) (is_blanks cs) (rw e at h) in
       record { before = []; sign = c; after = cs; division = refl; blank_before = tt; signed = p.0; blank_after = AreBlanks-from_test cs p.1 }
 ]
 
 -- Blanks, a sign and blanks pass the test.
-divided-is_signed : (before : List ℕ) (sign : ℕ) (after : List ℕ) → AreBlanks before → is_separator sign ≡ true → AreBlanks after → is_signed_separator (before ++ (sign ∷ after)) ≡ true
-divided-is_signed [] sign after h m p = rw (separator-full sign m) (and_from (is_separator sign) (is_blanks after) m (is_blanks-from after p))
+divided-is_signed : (before : List ℕ) (sign : ℕ) (after : List ℕ) → AreBlanks before → is_separator sign ≡ true → AreBlanks after
+    → is_signed_separator (before ++ (sign ∷ after)) ≡ true
+divided-is_signed [] sign after h m p = grind (arith, separator-full, is_blanks-from)
 divided-is_signed (c ∷ before) sign after h m p = rw h.0 (divided-is_signed before sign after h.1 m p)
 
 -- A separator with a sign passes the test.
 pub is_signed_separator-from : (separator : List ℕ) → IsSignedSeparator separator → is_signed_separator separator ≡ true
-is_signed_separator-from separator g = ap is_signed_separator g.division ∙ divided-is_signed g.before g.sign g.after g.blank_before g.signed g.blank_after
+is_signed_separator-from separator g = rw g.division (divided-is_signed g.before g.sign g.after g.blank_before g.signed g.blank_after)
 
 -- A separator that passes the other test is good.
 pub IsGoodSeparator-from_test : (separator : List ℕ) → is_good_separator separator ≡ true → IsGoodSeparator separator

@@ -1,5 +1,5 @@
 -- Blanks at the front and at the end of a text, and the text without them.
-use Rattle.std.proofs.Common.{◌≡◌, ℕ, Bool, false, List, [], ◌∷◌, ◌++◌, refl, ap, sym, ◌∙◌, inl, inr}
+use Rattle.std.proofs.Common.{arith, ◌≡◌, ℕ, Bool, false, List, [], ◌∷◌, ◌++◌, refl, ap, ◌∙◌, inl, inr}
 use Rattle.std.proofs.lemmas.Bool.{cases_Bool, both_ways}
 use Rattle.properties_format.specs.Text.{is_blank, without_leading_blanks}
 use Rattle.properties_format.specs.Split.{AreBlanks, begins, ends, IsTrimmed}
@@ -7,20 +7,17 @@ use Rattle.properties_format.specs.Computed.Split.{without_trailing_blanks, unle
 
 -- Blanks that don't begin with a blank are an empty text.
 pub no_blanks : (h : List ℕ) → AreBlanks h → begins is_blank h ≡ false → h ≡ []
-no_blanks [] b e = refl
-no_blanks (c ∷ h) b e = absurd (both_ways (is_blank c) e b.0)
+no_blanks h h1 h2 = grind (arith, both_ways)
 
 -- If a text doesn't begin with such a character, neither does its front.
 pub begins-front : (kind : ℕ → Bool) (x y : List ℕ) → begins kind (x ++ y) ≡ false → begins kind x ≡ false
-begins-front kind [] y e = refl
-begins-front kind (c ∷ x) y e = e
+begins-front kind x y h1 = grind (arith)
 
 -- ---- at the front
 
 -- A text that doesn't begin with a blank is unchanged.
 pub without_leading_blanks-full : (y : List ℕ) → begins is_blank y ≡ false → without_leading_blanks y ≡ y
-without_leading_blanks-full [] e = refl
-without_leading_blanks-full (c ∷ y) e = rw e refl
+without_leading_blanks-full y h1 = grind (arith)
 
 -- Blanks before a text are removed, with those at the front of the text.
 pub without_leading_blanks-append : (h y : List ℕ) → AreBlanks h → without_leading_blanks (h ++ y) ≡ without_leading_blanks y
@@ -61,9 +58,8 @@ without_trailing_blanks-blanks (c ∷ h) b = ap (unless_last_blank c) (without_t
 
 -- If a text doesn't end with a blank, only the blanks after it are removed.
 pub without_trailing_blanks-only : (y h : List ℕ) → AreBlanks h → ends is_blank y ≡ false → without_trailing_blanks (y ++ h) ≡ y
-without_trailing_blanks-only [] h b e = without_trailing_blanks-blanks h b
-without_trailing_blanks-only (c ∷ []) h b e = ap (unless_last_blank c) (without_trailing_blanks-blanks h b) ∙ rw e refl
 without_trailing_blanks-only (c ∷ d ∷ y) h b e = ap (unless_last_blank c) (without_trailing_blanks-only (d ∷ y) h b e)
+without_trailing_blanks-only y h h1 h2 = grind (arith, without_trailing_blanks-blanks)
 
 -- x is y followed by blanks, and y doesn't end with a blank.
 pub record IsBefore (x y : List ℕ) : Type 0 where
@@ -89,8 +85,7 @@ without_trailing_blanks-meets (c ∷ x) = before-step c x (without_trailing_blan
 
 -- An empty core has nothing after it, if the text that it is part of doesn't begin with a blank.
 empty_last : (x y after : List ℕ) → x ≡ y ++ after → AreBlanks after → begins is_blank x ≡ false → y ≡ [] → after ≡ []
-empty_last x [] after e b f k = no_blanks after b (rw (← e) f)
-empty_last x (c ∷ y) after e b f k = absurd (cc)
+empty_last x y after h1 h2 h3 h4 = grind (arith, no_blanks)
 
 -- What is computed is the core of the text.
 pub trimmed-meets : (x : List ℕ) → IsTrimmed x (trimmed x)
@@ -110,12 +105,8 @@ trimmed-meets x = whole (without_leading_blanks x) (without_leading_blanks-meets
 
 -- A core followed by what comes after it doesn't begin with a blank, if nothing comes after an empty core.
 pub core-begins : (core after : List ℕ) → begins is_blank core ≡ false → (core ≡ [] → after ≡ []) → begins is_blank (core ++ after) ≡ false
-core-begins [] after e k = rw (k refl) refl
-core-begins (c ∷ core) after e k = e
+core-begins core after h1 h2 = grind (arith)
 
 -- A core of the text is the computed one.
 pub trimmed-only : (x core : List ℕ) → IsTrimmed x core → core ≡ trimmed x
-trimmed-only x core t = sym (
-    ap trimmed t.whole
-    ∙ ap without_trailing_blanks (without_leading_blanks-only t.before (core ++ t.after) t.before_blank (core-begins core t.after t.begins_full t.empty_last))
-    ∙ without_trailing_blanks-only core t.after t.after_blank t.ends_full)
+trimmed-only x core t = grind (arith, without_leading_blanks-only, core-begins, without_trailing_blanks-only)

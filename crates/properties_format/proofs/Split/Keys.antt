@@ -1,5 +1,5 @@
 -- Where a key ends: the units of a key, and the computation that divides it from the rest.
-use Rattle.std.proofs.Common.{◌≡◌, ℕ, ◌==◌, Bool, true, false, List, [], ◌∷◌, ◌++◌, refl, ap, sym, ◌∙◌, inl, inr, append_assoc, append-nil, arith}
+use Rattle.std.proofs.Common.{rules, ◌≡◌, ℕ, ◌==◌, Bool, true, false, List, [], ◌∷◌, ◌++◌, refl, ap, sym, ◌∙◌, inl, inr, append_assoc, append-nil, arith}
 use Rattle.std.proofs.lemmas.Bool.{cases_Bool, eqb-true}
 use Rattle.properties_format.specs.Text.{backslash, is_blank, is_separator}
 use Rattle.properties_format.specs.Split.{KeyUnit, plain, escaped, last, unit_text, units_before, IsUnit, AreUnits, IsKey}
@@ -23,12 +23,9 @@ ends_here (c ∷ cs) = ends_key c
 plain-parts : (c : ℕ) → ends_key c ≡ false → (is_blank c ≡ false) × (is_separator c ≡ false)
 plain-parts c e = (grind (arith), grind (arith))
 
--- If the key ends at once, it is empty.
-pub cut_key-ends : (rest : List ℕ) → ends_here rest ≡ true → cut_key rest false ≡ record { key = []; rest = rest }
-cut_key-ends rest h = grind (arith)
-
 -- Units at the front.
-pub cut_key-units : (us : List KeyUnit) (rest : List ℕ) → AreUnits us rest → cut_key (units_before us rest) false ≡ with_text (units_before us []) (cut_key rest false)
+pub cut_key-units : (us : List KeyUnit) (rest : List ℕ) → AreUnits us rest
+    → cut_key (units_before us rest) false ≡ with_text (units_before us []) (cut_key rest false)
 cut_key-units [] rest h = refl
 cut_key-units (u ∷ us) rest h = grind (arith, cut_key-units us rest h.1)
 
@@ -37,7 +34,7 @@ pub cut_key-only : (key rest : List ℕ) → IsKey key rest → ends_here rest �
 cut_key-only key rest k e =
     ap (λ v. cut_key v false) (ap (λ v. v ++ rest) k.whole ∙ sym (units_before-append k.units rest))
     ∙ cut_key-units k.units rest k.each
-    ∙ ap (with_text (units_before k.units [])) (cut_key-ends rest e)
+    ∙ ap (with_text (units_before k.units [])) (search (rules))
     ∙ ap (λ v. let cut : Cut = record { key = v; rest = rest } in cut) (append-nil (units_before k.units []) ∙ sym k.whole)
 
 -- ---- each text is a key followed by what ends it

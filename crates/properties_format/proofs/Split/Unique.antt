@@ -1,9 +1,9 @@
 -- Each line is blank, a comment or a pair, in exactly one way.
-use Rattle.std.proofs.Common.{◌≡◌, ◌≢◌, ℕ, true, false, List, [], ◌∷◌, ◌++◌, refl, ap, sym, ◌∙◌, inl, inr, append_assoc, append-nil, arith}
+use Rattle.std.proofs.Common.{rules, ◌≡◌, ◌≢◌, ℕ, true, false, List, [], ◌∷◌, ◌++◌, refl, ap, sym, ◌∙◌, inl, inr, append_assoc, append-nil, arith}
 use Rattle.std.proofs.lemmas.Bool.{cases_Bool}
 use Rattle.properties_format.specs.Text.{is_blank, is_comment_sign, is_separator, without_leading_blanks}
 use Rattle.properties_format.specs.Split.{Logical, blank, comment, pair, AreBlanks, begins, IsKey, IsBetween, nothing, blanks, separator, IsSplit}
-use Rattle.properties_format.specs.Computed.Split.{Cut, trimmed, cut_key, past_separator, pair_of, split_full, split_of, ends_key}
+use Rattle.properties_format.specs.Computed.Split.{Cut, trimmed, cut_key, past_separator, pair_of, split_full, split_of}
 use Rattle.properties_format.proofs.Split.Blanks.{without_leading_blanks-only, without_leading_blanks-blanks, IsPast, without_leading_blanks-meets, trimmed-meets, trimmed-only}
 use Rattle.properties_format.proofs.Split.Keys.{ends_here, cut_key-only, IsCut, cut_key-meets}
 
@@ -13,14 +13,10 @@ use Rattle.properties_format.proofs.Split.Keys.{ends_here, cut_key-only, IsCut, 
 pub separator-full : (c : ℕ) → is_separator c ≡ true → is_blank c ≡ false
 separator-full c e = grind (arith)
 
--- a blank ends a key
-ends_key-blank : (c : ℕ) → is_blank c ≡ true → ends_key c ≡ true
-ends_key-blank c b = rw b refl
-
 -- A key ends before at least one blank.
 blanks-end : (between value : List ℕ) → between ≢ [] → AreBlanks between → ends_here (between ++ value) ≡ true
 blanks-end [] value h b = absurd (h refl)
-blanks-end (c ∷ between) value h b = ends_key-blank c b.0
+blanks-end (c ∷ between) value h b = search (rules)
 
 -- A key ends before what separates it from its value, or at the end of the line.
 pub between-ends : (between value : List ℕ) → IsBetween between value → ends_here (between ++ value) ≡ true
@@ -35,12 +31,9 @@ pub record IsBehind (rest value : List ℕ) : Type 0 where
   pub whole : rest ≡ between ++ value
   pub is_between : IsBetween between value
 
--- A key doesn't end before a character that is neither a blank nor a separator.
-not-here : (before : List ℕ) (c : ℕ) (y : List ℕ) → ends_here (before ++ (c ∷ y)) ≡ true → is_blank c ≡ false → is_separator c ≡ false → before ≢ []
-not-here before c y h k m p = grind (arith)
-
 -- After the blanks there is a separator, or there is none.
-after-step : (rest : List ℕ) (before y : List ℕ) → rest ≡ before ++ y → AreBlanks before → begins is_blank y ≡ false → ends_here rest ≡ true → IsBehind rest (past_separator y)
+after-step : (rest : List ℕ) (before y : List ℕ) → rest ≡ before ++ y → AreBlanks before → begins is_blank y ≡ false → ends_here rest ≡ true
+    → IsBehind rest (past_separator y)
 after-step rest [] [] e b f k = record { between = []; whole = e; is_between = nothing refl refl }
 after-step rest (d ∷ before) [] e b f k = record { between = d ∷ before; whole = e; is_between = blanks (λ q. absurd (cc)) b refl refl }
 after-step rest before (c ∷ y) e b f k = elim (cases_Bool (is_separator c)) [
@@ -49,7 +42,7 @@ after-step rest before (c ∷ y) e b f k = elim (cases_Bool (is_separator c)) [
     whole = e ∙ ap (λ v. before ++ (c ∷ v)) p.whole ∙ sym (append_assoc before (c ∷ p.before) (without_leading_blanks y));
     is_between = separator before c p.before refl b s p.before_blank p.begins_full;
   })
-  | inr s ↦ rw s (record { between = before; whole = e; is_between = blanks (not-here before c y (rw e at k) f s) b f s })
+  | inr s ↦ rw s (record { between = before; whole = e; is_between = blanks (search (rules)) b f s })
 ]
 
 -- After a key come the text that separates it from the computed value, and that value.
@@ -118,8 +111,7 @@ pub split_of-pair : (indent key between value : List ℕ) → AreBlanks indent �
     → begins is_blank (key ++ (between ++ value)) ≡ false → begins is_comment_sign (key ++ (between ++ value)) ≡ false
     → IsKey key (between ++ value) → IsBetween between value → split_of (indent ++ (key ++ (between ++ value))) ≡ pair key value
 unfolding split_of
-split_of-pair indent key between value b h f m k w =
-    simp (without_leading_blanks-only, split_full-pair, cut_key-only, between-ends, between-value)
+split_of-pair indent key between value b h f m k w = search (without_leading_blanks-only, split_full-pair, cut_key-only, between-ends, between-value)
 
 -- A line is nothing else.
 pub split_of-only : (line : List ℕ) (what : Logical) → IsSplit line what → what ≡ split_of line

@@ -1,5 +1,5 @@
 -- An empty line after the groups of a body, and the line ending of a body's last line but one.
-use Rattle.std.proofs.Common.{◌≡◌, ◌≢◌, ℕ, List, [], ◌∷◌, Option, refl, ap, ◌∙◌, inl, inr}
+use Rattle.std.proofs.Common.{arith, ◌≡◌, ◌≢◌, ℕ, List, [], ◌∷◌, Option, refl, ap, ◌∙◌}
 use Rattle.std.specs.Prelude.{unwrap_or}
 use Rattle.properties_format.specs.Text.{LineEnding}
 use Rattle.properties_format.specs.Encoding.{Encoding}
@@ -26,16 +26,13 @@ outcomes-empty e o = ap (λ v. outcome_of (joined (record { number = 0; text = v
 
 -- The last of the line endings.
 pub ending-held : (e : Encoding) (by : LineEnding) (ls : List Ended) (last : List ℕ) → ending_among by (held_of e ls last) ≡ unwrap_or (last_by ls) by
-ending-held e by [] last = refl
-ending-held e by (l ∷ []) last = refl
 ending-held e by (l ∷ m ∷ ls) last = ending-held e l.by (m ∷ ls) last ∙ same m ls
   where
     same : (m : Ended) (ls : List Ended) → unwrap_or (last_by (m ∷ ls)) l.by ≡ unwrap_or (last_by (m ∷ ls)) by
     same m [] = refl
     same m (n ∷ ls) = same n ls
+ending-held e by ls last = grind (arith)
 
 -- a last group has lines
 pub fit-lines : (g : List HeldLine) → IsLastFit g → g ≢ []
-fit-lines [] (inl k) q = k
-fit-lines [] (inr k) q = k
-fit-lines (h ∷ g) k q = absurd (cc)
+fit-lines g h1 = grind (arith)

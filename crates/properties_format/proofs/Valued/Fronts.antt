@@ -1,5 +1,5 @@
 -- The front of a pair: the computed front is the front of its group, and the only one.
-use Rattle.std.proofs.Common.{◌≡◌, ◌≢◌, ◌⊎◌, ◌<◌, ◌≤◌, ℕ, not, Bool, true, false, List, [], ◌∷◌, ◌++◌, arith}
+use Rattle.std.proofs.Common.{rules, ◌≡◌, ◌≢◌, ◌⊎◌, ◌<◌, ◌≤◌, ℕ, not, Bool, true, false, List, [], ◌∷◌, ◌++◌, arith}
 use Rattle.std.proofs.Common.{None, length, drop, refl, ap, ap₂, sym, ◌∙◌, inl, inr, arith, append_assoc, append-nil, length-append, subst}
 use Rattle.std.specs.Prelude.{nat_le, if◌then◌else◌}
 use Rattle.std.proofs.Math.Seq.{drop-append_seam}
@@ -125,13 +125,12 @@ some-length (c ∷ x) h = omega arith
 
 -- The shorter of two fronts of a text is a front of the longer.
 pub split-longer : (p v a j : List ℕ) → a ++ j ≡ p ++ v → length p ≤ length a → (r : List ℕ) × (a ≡ p ++ r) × (v ≡ r ++ j)
-split-longer [] v a j s l = (a, refl, sym s)
-split-longer (c ∷ p) v [] j s l = absurd (omega arith)
 split-longer (c ∷ p) v (d ∷ a) j s l =
     let k : d ≡ c = cc in
     let t : a ++ j ≡ p ++ v = cc in
     let m = split-longer p v a j t (omega arith) in
     (m.0, ap₂ (λ x y. x ∷ y) k m.1, m.2)
+split-longer p v a j h1 h2 = grind (arith)
 
 -- ---- where a head may end
 
@@ -147,9 +146,8 @@ ends-last kind (c ∷ d ∷ p) h = let m = ends-last kind (d ∷ p) h in (c ∷ 
 
 -- The last character of a text that another text precedes.
 pub ends-right : (kind : ℕ → Bool) (a p : List ℕ) → p ≢ [] → ends kind (a ++ p) ≡ ends kind p
-ends-right kind (c ∷ []) [] h = absurd (h refl)
 ends-right kind (c ∷ b ∷ a) p h = ends-right kind (b ∷ a) p h
-ends-right kind a p h = refl
+ends-right kind a p h1 = grind (arith)
 
 -- If a text may end, so may its second part.
 pub may-later : (a q p v : List ℕ) → q ≢ [] → p ≡ a ++ q → MayEnd p v → MayEnd q v
@@ -177,10 +175,6 @@ abbrev pub IsSome : Bool → List ℕ → Type 0
 IsSome true q = ¬ (AreBlanks q)
 IsSome false q = q ≢ []
 
--- Blanks followed by such a text aren't blank, if in a later line the text doesn't begin with a blank.
-some-full : (first : Bool) (b q : List ℕ) → IsSome first q → (first ≡ false → begins is_blank q ≡ false) → ¬ (AreBlanks (b ++ q))
-some-full first b q h k = grind (arith, blanks-right)
-
 -- In a later line, the text without its indentation doesn't begin with a blank.
 indent-full : (first : Bool) (x q r : List ℕ) → first ≡ false → without_indent first x ≡ q ++ r → begins is_blank q ≡ false
 indent-full true x q r f s = absurd (cc)
@@ -207,8 +201,7 @@ head-size first x b q r s t = grind (arith, length-append)
 
 -- The computed head of a line.
 head-meets : (e : Encoding) (first : Bool) (line : HeldLine) (q r : List ℕ) → is_editable e ≡ true → decoded_line e line.bytes ≡ line.text
-    → added_by first line.text ≡ q ++ r → MayEnd q r → IsSome first q
-    → IsHead e first line q (head_of e (head_size first line.text q) line.bytes)
+    → added_by first line.text ≡ q ++ r → MayEnd q r → IsSome first q → IsHead e first line q (head_of e (head_size first line.text q) line.bytes)
 head-meets e first line q r ok d s k some =
     let i = indented first line.text in
     let y = without_indent first line.text in
@@ -221,9 +214,9 @@ head-meets e first line q r ok d s k some =
       text = b ++ q;
       rest = r ++ open_backslash y;
       cut_text = c;
-      is_head = subst (λ n. IsHeadOf e line.bytes (b ++ q) (r ++ open_backslash y) (head_of e n line.bytes)) (sym (head-size first line.text b q (r ++ open_backslash y) w t))
+      is_head = subst (λ n. IsHeadOf e line.bytes (b ++ q) (r ++ open_backslash y) (head_of e n line.bytes)) (sym (head-size first line.text b q _ w t))
           (head_of-meets e line.bytes (b ++ q) (r ++ open_backslash y) ok (d ∙ c));
-      not_blank = some-full first b q some full;
+      not_blank = search (rules, blanks-right);
       closed = open-past b q i.blank ∙ may-closed y q r s k;
       adds = indent-only first b q i.blank (indent-none first line.text) full;
     }
@@ -271,13 +264,9 @@ pub front-later : (e : Encoding) (first : Bool) (p : List ℕ) (h : HeldLine) (h
     → front_in e first p (h ∷ hs) ≡ h.bytes ++ (ending_bytes h.ending ++ front_in e false (drop (length (added_by first h.text)) p) hs)
 front-later e first p h hs k = rw (k, front_in) refl
 
--- An empty text isn't such a text.
-some-nil : (first : Bool) → IsSome first [] → ⊥
-some-nil first h = grind (arith)
-
 -- One more line at the front.
-after-line : (e : Encoding) (first : Bool) (h : HeldLine) (hs : List HeldLine) (p q front : List ℕ) → p ≡ added_by first h.text ++ q → HasFront e false hs q front
-    → HasFront e first (h ∷ hs) p (h.bytes ++ (ending_bytes h.ending ++ front))
+after-line : (e : Encoding) (first : Bool) (h : HeldLine) (hs : List HeldLine) (p q front : List ℕ) → p ≡ added_by first h.text ++ q
+    → HasFront e false hs q front → HasFront e first (h ∷ hs) p (h.bytes ++ (ending_bytes h.ending ++ front))
 after-line e first h hs p q front s m = record {
   kept = h ∷ m.kept;
   line = m.line;
@@ -287,17 +276,13 @@ after-line e first h hs p q front s m = record {
   head = m.head;
   is_head = subst (λ b. IsHead e b m.line m.added m.head) (after-later m.kept) m.is_head;
   up_to = s ∙ ap (λ v. added_by first h.text ++ v) m.up_to ∙ sym (append_assoc (added_by first h.text) (joined_by false m.kept) m.added);
-  bytes =
-      ap (λ v. h.bytes ++ (ending_bytes h.ending ++ v)) m.bytes
-      ∙ ap (λ v. h.bytes ++ v) (sym (append_assoc (ending_bytes h.ending) (group_bytes m.kept) m.head))
-      ∙ sym (append_assoc h.bytes (ending_bytes h.ending ++ group_bytes m.kept) m.head);
+  bytes = grind (arith, append_assoc);
 }
 
 -- The computed front is the front of the lines.
 front_in-meets : (e : Encoding) (first : Bool) (lines : List HeldLine) (p v : List ℕ) → is_editable e ≡ true → AreDecoded e lines
-    → joined_by first lines ≡ p ++ v → MayEnd p v → IsSome first p
-    → HasFront e first lines p (front_in e first p lines)
-front_in-meets e first [] [] v ok d s k some = absurd (some-nil first some)
+    → joined_by first lines ≡ p ++ v → MayEnd p v → IsSome first p → HasFront e first lines p (front_in e first p lines)
+front_in-meets e first [] [] v ok d s k some = absurd (search (rules))
 front_in-meets e first [] (c ∷ p) v ok d s k some = absurd (cc)
 front_in-meets e first (h ∷ hs) p v ok d s k some = elim (cases_Bool (nat_le (length p) (length (added_by first h.text)))) [
   | inl n ↦
@@ -316,8 +301,7 @@ front_in-meets e first (h ∷ hs) p v ok d s k some = elim (cases_Bool (nat_le (
   | inr n ↦
       let a = added_by first h.text in
       let m = split-longer a (joined_by false hs) p v (sym s) (grind (arith)) in
-      let t : front_in e first p (h ∷ hs) ≡ h.bytes ++ (ending_bytes h.ending ++ front_in e false m.0 hs) =
-      front-later e first p h hs n ∙ ap (λ w. h.bytes ++ (ending_bytes h.ending ++ front_in e false w hs)) (ap (drop (length a)) m.1 ∙ drop-append_seam a m.0) in
+      let t : front_in e first p (h ∷ hs) ≡ h.bytes ++ (ending_bytes h.ending ++ front_in e false m.0 hs) = grind (arith, front-later, drop-append_seam) in
       let more : m.0 ≢ [] = λ q.
       let l : length p ≡ length a = ap length (m.1 ∙ ap (λ w. a ++ w) q ∙ append-nil a) in
       absurd (grind (arith)) in
@@ -391,17 +375,14 @@ head-only : (e : Encoding) (first : Bool) (line : HeldLine) (more : List HeldLin
     → head ≡ head_of e (head_size first line.text q) line.bytes
 head-only e first line more q v head ok d h s k =
     let t = head-line e first line q head h in
-    let size : length h.text ≡ head_size first line.text q =
-    omega (arith, ap length h.cut_text, length-append h.text h.rest, ap length t, length-append q h.rest) in
+    let size : length h.text ≡ head_size first line.text q = grind (arith, length-append) in
     heads-same e line.bytes h.text h.rest head (head_of e (length h.text) line.bytes) ok (head-ends e first line more q v head h s k) h.is_head
-    (head_of-meets e line.bytes h.text h.rest ok (d ∙ h.cut_text))
-    ∙ ap (λ n. head_of e n line.bytes) size
+    (head_of-meets e line.bytes h.text h.rest ok (d ∙ h.cut_text)) ∙ ap (λ n. head_of e n line.bytes) size
 
 -- A front is the computed one.
 front_in-only : (e : Encoding) (first : Bool) (kept : List HeldLine) (line : HeldLine) (more : List HeldLine) (p v q head : List ℕ) → is_editable e ≡ true
     → AreDecoded e (kept ++ line ∷ more) → joined_by first (kept ++ line ∷ more) ≡ p ++ v → MayEnd p v → IsHead e (is_first_after first kept) line q head
-    → p ≡ joined_by first kept ++ q
-    → group_bytes kept ++ head ≡ front_in e first p (kept ++ line ∷ more)
+    → p ≡ joined_by first kept ++ q → group_bytes kept ++ head ≡ front_in e first p (kept ++ line ∷ more)
 front_in-only e first [] line more p v q head ok d s k h u =
     let l = head-less e first line q head h in
     let same : length p ≡ length q = ap length u in
@@ -420,20 +401,14 @@ front_in-only e first (i ∷ kept) line more p v q head ok d s k h u =
     let n : nat_le (length p) (length a) ≡ false = grind (arith) in
     let r : a ++ joined_by false (kept ++ line ∷ more) ≡ a ++ (j ++ v) = s ∙ ap (λ w. w ++ v) t ∙ append_assoc a j v in
     let rest : joined_by false (kept ++ line ∷ more) ≡ j ++ v = append_cancel_left a (joined_by false (kept ++ line ∷ more)) (j ++ v) r in
-    append_assoc i.bytes (ending_bytes i.ending ++ group_bytes kept) head
-    ∙ ap (λ w. i.bytes ++ w) (append_assoc (ending_bytes i.ending) (group_bytes kept) head)
-    ∙ ap (λ w. i.bytes ++ (ending_bytes i.ending ++ w))
-    (front_in-only e false kept line more j v q head ok d.1 rest (may-later a j p v some t k) (subst (λ b. IsHead e b line q head) (sym (after-later kept)) h) refl)
-    ∙ ap (λ w. i.bytes ++ (ending_bytes i.ending ++ front_in e false w (kept ++ line ∷ more))) (sym (ap (drop (length a)) t ∙ drop-append_seam a j))
-    ∙ sym (front-later e first p i (kept ++ line ∷ more) n)
+    grind (arith, append_assoc, front_in-only e false kept line more j v q head ok d.1 rest (may-later a j p v some t k) (subst (λ b. IsHead e b line q head) (sym (after-later kept)) h) refl, may-later, after-later, drop-append_seam, front-later)
 
 -- ---- the front of a pair
 
 -- A text that ends in blanks ends with a character that ends a key.
 blanks-end : (x : List ℕ) → x ≢ [] → AreBlanks x → ends ends_key x ≡ true
-blanks-end [] h b = absurd (h refl)
-blanks-end (c ∷ []) h b = rw b.0 refl
 blanks-end (c ∷ d ∷ x) h b = blanks-end (d ∷ x) (λ q. cc) b.1
+blanks-end x h1 h2 = grind (arith)
 
 -- What separates the key from the value ends with a character that ends a key, or both the separator and the value are
 -- empty.
@@ -443,28 +418,20 @@ between-end between value h = grind (arith, blanks-end, ends-right)
 -- What comes before the value of a pair may end a head.
 pub pair-end : (line key value : List ℕ) (h : IsPair line key value) → MayEnd (h.indent ++ (key ++ h.between)) value
 pair-end line key value h = elim (between-end h.between value h.is_between) [
-  | inl m ↦
-      let some : key ++ h.between ≢ [] = right-some key h.between m.0 in
-      inl (ends-right ends_key h.indent (key ++ h.between) some ∙ ends-right ends_key key h.between m.0 ∙ m.1)
+  | inl m ↦ grind (arith, right-some, ends-right)
   | inr m ↦ inr m.1
 ]
 
 -- What comes before the value of a pair isn't blank.
 pub pair-some : (line key value : List ℕ) (h : IsPair line key value) → ¬ (AreBlanks (h.indent ++ (key ++ h.between)))
-pair-some line key value h = grind (arith, blanks-right, begins-front)
-  where
-    all-empty : key ++ h.between ≡ [] → key ++ (h.between ++ value) ≡ []
-    all-empty q = grind (arith, no-front)
-
-    of-text : (x : List ℕ) → AreBlanks x → begins is_blank x ≡ false → x ≢ [] → ⊥
-    of-text x h k m = grind (arith)
+pair-some line key value h = grind (arith, blanks-right, begins-front, no-front)
 
 -- The lines that are kept and the head add what comes before the value.
-kept-joined : (e : Encoding) (kept : List HeldLine) (line : HeldLine) (more : List HeldLine) (q head : List ℕ) (h : IsHead e (is_first_after true kept) line q head)
+kept-joined : (e : Encoding) (kept : List HeldLine) (line : HeldLine) (more : List HeldLine) (q head : List ℕ)
+    (h : IsHead e (is_first_after true kept) line q head)
     → ((i : HeldLine) (is : List HeldLine) → kept ++ line ∷ more ≡ i ∷ is → is_comment_line i.text ≡ false)
     → joined (as_lines (kept ++ record { bytes = head; text = h.text; ending = None } ∷ [])) ≡ joined_by true kept ++ q
-kept-joined e [] line more q head h f =
-    joined-closed (record { number = 0; text = h.text }) h.closed ∙ h.adds
+kept-joined e [] line more q head h f = search (joined-closed)
 kept-joined e (i ∷ kept) line more q head h f =
     let l : HeldLine = record { bytes = head; text = h.text; ending = None } in
     joined-by i (kept ++ l ∷ []) (f i (kept ++ line ∷ more) refl)
@@ -486,8 +453,7 @@ no_lines-no_pair key value h = h.not_empty (none-right h.indent (key ++ (h.betwe
 
 -- The computed front is the front of a group that is a pair.
 pub front_of-meets : (e : Encoding) (group : List HeldLine) (key value : List ℕ) → is_editable e ≡ true → AreDecoded e group
-    → IsPair (joined (as_lines group)) key value
-    → IsFrontOf e group (between_of group) (front_of e group)
+    → IsPair (joined (as_lines group)) key value → IsFrontOf e group (between_of group) (front_of e group)
 front_of-meets e [] key value ok d h = absurd (no_lines-no_pair key value h)
 front_of-meets e (i ∷ is) key value ok d h =
     let line = joined (as_lines (i ∷ is)) in
@@ -558,8 +524,7 @@ front-text e group between front f =
 
 -- A front of a group is the computed one.
 pub front_of-only : (e : Encoding) (group : List HeldLine) (between front : List ℕ) → is_editable e ≡ true → AreDecoded e group
-    → IsFrontOf e group between front
-    → (between ≡ between_of group) × (front ≡ front_of e group)
+    → IsFrontOf e group between front → (between ≡ between_of group) × (front ≡ front_of e group)
 front_of-only e [] between front ok d f = absurd (no_lines-no_pair f.key f.value f.is_pair)
 front_of-only e (i ∷ is) between front ok d f =
     let line = joined (as_lines (i ∷ is)) in
@@ -573,8 +538,5 @@ front_of-only e (i ∷ is) between front ok d f =
     let made = front_in-only e true f.kept f.line f.more p f.value q f.head ok (subst (AreDecoded e) {x = i ∷ is} f.division d) whole (pair-end line f.key f.value h)
     (front-head e (i ∷ is) between front f) to in (
       f.is_between ∙ sym (between_in-pair line f.key f.value h),
-      f.bytes
-          ∙ made
-          ∙ ap (front_in e true p) (sym f.division)
-          ∙ ap (λ v. front_in e true v (i ∷ is)) (sym (before_value-pair line f.key f.value h)),
+      f.bytes ∙ made ∙ ap (front_in e true p) (sym f.division) ∙ ap (λ v. front_in e true v (i ∷ is)) (sym (before_value-pair line f.key f.value h)),
     )

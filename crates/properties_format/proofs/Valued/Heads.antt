@@ -1,9 +1,9 @@
 -- The head of a line: the bytes of the characters up to a position in its text. There is only one such head.
-use Rattle.std.proofs.Common.{◌≡◌, ◌⊎◌, ◌<◌, ℕ, true, List, [], ◌∷◌, ◌++◌, length, take, refl, ap, ap₂, sym, ◌∙◌, inl, inr, arith, append_assoc, append-nil, length-append, lit<}
+use Rattle.std.proofs.Common.{◌≡◌, ◌⊎◌, ◌<◌, ℕ, true, List, [], ◌∷◌, ◌++◌, length, take, refl, ap, sym, ◌∙◌, inl, inr, arith, append_assoc, append-nil, length-append, lit<}
 use Rattle.std.proofs.lemmas.List.{append_cancel_right}
 use Rattle.properties_format.specs.Text.{backslash}
 use Rattle.properties_format.specs.Pieces.{Piece, characters}
-use Rattle.properties_format.specs.Encoding.{Encoding, IsPiece, IsPieces, IsAligned, ascii_bytes}
+use Rattle.properties_format.specs.Encoding.{Encoding, IsPieces, IsAligned, ascii_bytes}
 use Rattle.properties_format.specs.Computed.Encoding.{pieces_of}
 use Rattle.properties_format.specs.Computed.Cut.{decoded_line}
 use Rattle.properties_format.specs.Edited.{is_editable}
@@ -37,22 +37,7 @@ cut-pieces e d [] (c ∷ x) y ok h s = absurd (cc)
 cut-pieces e d (p ∷ ps) (c ∷ x) y ok (rest, t, h, k) s =
     let a : p.character ≡ c = cc in
     let b : characters ps ≡ x ++ y = cc in
-    let m = cut-pieces e rest ps x y ok k b in
-    let n : IsPiece e p (pieces_bytes (take (length x) ps) ++ m.tail) = rw m.joins at h in
-    record {
-      tail = m.tail;
-      joins = t ∙ ap (λ v. p.bytes ++ v) m.joins ∙ sym (append_assoc p.bytes (pieces_bytes (take (length x) ps)) m.tail);
-      front = (
-        pieces_bytes (take (length x) ps),
-        refl,
-        piece-less e p (pieces_bytes (take (length x) ps)) m.tail (aligned-editable e (pieces_bytes (take (length x) ps)) ok) n,
-        m.front,
-      );
-      front_text = ap₂ (λ v w. v ∷ w) a m.front_text;
-      back = m.back;
-      are_back = m.are_back;
-      back_text = m.back_text;
-    }
+    grind (arith, cut-pieces e rest ps x y ok k b, append_assoc, piece-less, aligned-editable)
 
 -- The bytes of a line, cut where its text is cut: the head decodes to the first text, the rest to the second.
 pub record IsHeadOf (e : Encoding) (d x y head : List ℕ) : Type 0 where
@@ -65,13 +50,7 @@ pub record IsHeadOf (e : Encoding) (d x y head : List ℕ) : Type 0 where
 pub head_of-meets : (e : Encoding) (d x y : List ℕ) → is_editable e ≡ true → decoded_line e d ≡ x ++ y → IsHeadOf e d x y (head_of e (length x) d)
 head_of-meets e d x y ok s =
     let m = cut-pieces e d (pieces_of e d) x y ok (pieces_of-meets e d) s in
-    let ps = take (length x) (pieces_of e d) in
-    record {
-      tail = m.tail;
-      joins = m.joins;
-      head_text = ap characters (sym (pieces_of-only e (pieces_bytes ps) ps m.front)) ∙ m.front_text;
-      tail_text = ap characters (sym (pieces_of-only e m.tail m.back m.are_back)) ∙ m.back_text;
-    }
+    grind (arith, pieces_of-only)
 
 -- ---- there is only one such head
 
@@ -97,8 +76,7 @@ ascii-end e d w c ok l s = grind (arith, cut-at_ascii, nothing-decoded)
 -- The text of bytes that contain an ASCII character.
 pub ascii-among : (e : Encoding) (u : List ℕ) (c : ℕ) (v : List ℕ) → is_editable e ≡ true → c < 0x80
     → decoded_line e (u ++ c ∷ v) ≡ decoded_line e u ++ c ∷ decoded_line e v
-ascii-among e u c v ok l =
-    ap (λ z. decoded_line e (u ++ (z ++ v))) (sym (ascii-own e c ok)) ∙ characters-cut_ascii e c u v l (aligned-editable e u ok)
+ascii-among e u c v ok l = ap (λ z. decoded_line e (u ++ (z ++ v))) (sym (ascii-own e c ok)) ∙ characters-cut_ascii e c u v l (aligned-editable e u ok)
 
 -- A text isn't equal to itself with more after it.
 no-more : (x : List ℕ) (c : ℕ) (y : List ℕ) → x ≡ x ++ c ∷ y → ⊥
@@ -113,22 +91,14 @@ same-fronts e (d ∷ u) [] c y z ok l s w h = grind (arith, append-nil, ascii-am
 same-fronts e (b ∷ u) (d ∷ v) c y z ok l s w h =
     let k : b ≡ d = cc in
     let r : u ++ c ∷ y ≡ v ++ c ∷ z = cc in
-    ap₂ (λ p q. p ∷ q) k
-    (same-fronts e u v c y z ok l r (w ++ b ∷ [])
-    (ap (decoded_line e) (append_assoc w (b ∷ []) u) ∙ h ∙ ap (λ p. decoded_line e (w ++ p ∷ v)) (sym k) ∙ ap (decoded_line e) (sym (append_assoc w (b ∷ []) v))))
+    search (same-fronts e u v c y z ok l r (w ++ b ∷ []) (ap (decoded_line e) (append_assoc w (b ∷ []) u) ∙ h ∙ ap (λ p. decoded_line e (w ++ p ∷ v)) (sym k) ∙ ap (decoded_line e) (sym (append_assoc w (b ∷ []) v))), append_assoc)
 
 -- Two heads with the same text, which ends in an ASCII character.
 heads-ascii : (e : Encoding) (d x y a b : List ℕ) → is_editable e ≡ true → EndsInAscii x → IsHeadOf e d x y a → IsHeadOf e d x y b → a ≡ b
 heads-ascii e d x y a b ok (w, c, s, l) h k =
     let m = ascii-end e a w c ok l (h.head_text ∙ s) in
     let n = ascii-end e b w c ok l (k.head_text ∙ s) in
-    let t : m.front ++ c ∷ h.tail ≡ n.front ++ c ∷ k.tail =
-    sym (append_assoc m.front (c ∷ []) h.tail)
-    ∙ ap (λ v. v ++ h.tail) (sym m.bytes)
-    ∙ sym h.joins
-    ∙ k.joins
-    ∙ ap (λ v. v ++ k.tail) n.bytes
-    ∙ append_assoc n.front (c ∷ []) k.tail in
+    let t : m.front ++ c ∷ h.tail ≡ n.front ++ c ∷ k.tail = grind (arith, append_assoc) in
     m.bytes ∙ ap (λ v. v ++ c ∷ []) (same-fronts e m.front n.front c h.tail k.tail ok l t [] (m.text ∙ sym n.text)) ∙ sym n.bytes
 
 -- Two heads before the same bytes.

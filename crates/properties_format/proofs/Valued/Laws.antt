@@ -1,7 +1,8 @@
 -- The laws of setting a value.
-use Rattle.std.proofs.Common.{◌≡◌, ℕ, ◌+◌, true, List, [], ◌∷◌, ◌++◌, length, Option, Some, None, refl, ap, sym, ◌∙◌, inl, inr, subst, Bool}
+use Rattle.std.proofs.Common.{rules, arith, ◌≡◌, ℕ, ◌+◌, true, List, [], ◌∷◌, ◌++◌, length, Option, Some, None, refl, ap, sym, ◌∙◌, inl, inr, subst}
 use Rattle.std.proofs.lemmas.Bool.{cases_Bool, cond-true, false_from_ne_true}
 use Rattle.properties_format.specs.Encoding.{Encoding, byte_order_mark}
+use Rattle.properties_format.specs.Repertoire.{Repertoire, in_encoding}
 use Rattle.properties_format.specs.Lines.{end}
 use Rattle.properties_format.specs.Groups.{joined}
 use Rattle.properties_format.specs.Entries.{pair, Entry, item, AreItems}
@@ -22,7 +23,7 @@ use Rattle.properties_format.proofs.Items.Unique.{items_of-meets, items_of-only,
 use Rattle.properties_format.proofs.Maps.{value_in-only}
 use Rattle.properties_format.proofs.Body.Groups.{held_groups_of-meets, held-body}
 use Rattle.properties_format.proofs.Body.Numbers.{items_of-groups}
-use Rattle.properties_format.proofs.Edited.Made.{IsPlace, last_place-meets}
+use Rattle.properties_format.proofs.Edited.Made.{last_place-meets}
 use Rattle.properties_format.proofs.Edited.ByteOrderMarks.{source-whole}
 use Rattle.properties_format.proofs.Changed.Laws.{IsReadable, value_set-contents}
 use Rattle.properties_format.proofs.Changed.Read.{readable}
@@ -36,9 +37,7 @@ use Rattle.properties_format.proofs.Valued.Read.{set_value-reads, value_set-agai
 -- If an outcome isn't a pair with the key, neither is its entry.
 followed-other : (key : List ℕ) (n : ℕ) (o : Outcome) (entries : List Entry) → ((v : List ℕ) → o ≡ given (pair key v) → ⊥) → AreItems (followed n o entries)
     → (AreItems entries → HasNoPair key entries) → HasNoPair key (followed n o entries)
-followed-other key n (given (pair l v)) entries h a k = ((λ s. h v (ap (λ x. given (pair x v)) s)), k a)
-followed-other key n (broken kind) entries h a k = absurd a
-followed-other key n o entries h a k = k a
+followed-other key n o entries h1 h2 h3 = grind (arith)
 
 -- If no group has the key, no item is a pair with it.
 none-pairs : (key : List ℕ) (n : ℕ) (gs : List (List HeldLine)) → NoneHasKey key gs → AreItems (entries_in n gs) → HasNoPair key (entries_in n gs)
@@ -59,41 +58,19 @@ followed-last key value n (broken kind) entries a k = absurd a
 
 -- If the last group with the key has the value, so does the last item with the key.
 groups-last : (key value : List ℕ) (n : ℕ) (before : List (List HeldLine)) (g : List HeldLine) (after : List (List HeldLine)) → HasPair key value g
-    → NoneHasKey key after → AreItems (entries_in n (before ++ g ∷ after))
-    → IsLastValue (entries_in n (before ++ g ∷ after)) key value
+    → NoneHasKey key after → AreItems (entries_in n (before ++ g ∷ after)) → IsLastValue (entries_in n (before ++ g ∷ after)) key value
 groups-last key value n [] g after h k a =
     let o = outcome_of-only (joined (as_lines g)) (given (pair key value)) h in
     let rest = entries_in (n + length g) after in
     let s : followed n (outcome_of (joined (as_lines g))) rest ≡ item n (pair key value) ∷ rest = ap (λ v. followed n v rest) (sym o) in
     record { before = []; number = n; after = rest; division = s; no_later = none-pairs key (n + length g) after k (rw s at a) }
-groups-last key value n (f ∷ before) g after h k a =
-    followed-last key value n (outcome_of (joined (as_lines f))) (entries_in (n + length f) (before ++ g ∷ after)) a
-    (groups-last key value (n + length f) before g after h k)
+groups-last key value n (f ∷ before) g after h k a = search (followed-last, groups-last key value (n + length f) before g after h k)
 
 -- If the key has a place, the pair there has the source's value for the key.
 place-value : (e : Encoding) (source key : List ℕ) → IsReadable e source → (p : KeyPlace)
     → last_place key (held_groups_of (byte_order_mark e source).encoding (byte_order_mark e source).body) ≡ Some p
     → (value : List ℕ) × HasPair key value p.group × IsLastValue (items_of e source end) key value
-place-value e source key r p s =
-    let f = byte_order_mark e source in
-    let gs = held_groups_of f.encoding f.body in
-    let m : IsPlace key gs (Some p) = subst (IsPlace key gs) s (last_place-meets key gs) in
-    let all : items_of e source end ≡ entries_in 1 (p.before ++ p.group ∷ p.after) = items_of-groups e source ∙ ap (entries_in 1) m.division in (
-      m.has.0,
-      m.has.1,
-      subst (λ v. IsLastValue v key m.has.0) (sym all) (groups-last key m.has.0 1 p.before p.group p.after m.has.1 m.no_later (subst AreItems all r.no_fault)),
-    )
-
--- If the key has no place, the source has no value for it.
-no_place-value : (e : Encoding) (source key : List ℕ) → IsReadable e source
-    → last_place key (held_groups_of (byte_order_mark e source).encoding (byte_order_mark e source).body) ≡ None
-    → HasNoPair key (items_of e source end)
-no_place-value e source key r s =
-    let f = byte_order_mark e source in
-    let gs = held_groups_of f.encoding f.body in
-    let m : IsPlace key gs None = subst (IsPlace key gs) s (last_place-meets key gs) in
-    let all = items_of-groups e source in
-    subst (HasNoPair key) (sym all) (none-pairs key 1 gs m (subst AreItems all r.no_fault))
+place-value e source key r p s = grind (arith, last_place-meets, items_of-groups, groups-last)
 
 -- If the pair at that place has a value, the source has it.
 place-has : (e : Encoding) (source key value : List ℕ) → IsReadable e source → (p : KeyPlace)
@@ -108,87 +85,74 @@ place-has e source key value r p s k =
       is = subst (IsLastValue (items_of e source end) key) (one-value key m.0 value p.group m.1 k) m.2;
     }
 
--- If the source doesn't have the value, the pair at that place doesn't have it.
-not-at : (e : Encoding) (source key value : List ℕ) → IsReadable e source → ¬ (HasValue e source key (Some value))
-    → IsNotAt value (last_place key (held_groups_of (byte_order_mark e source).encoding (byte_order_mark e source).body))
-not-at e source key value r h = of-place (last_place key (held_groups_of (byte_order_mark e source).encoding (byte_order_mark e source).body)) refl
-  where
-    of-place : (o : Option KeyPlace) → last_place key (held_groups_of (byte_order_mark e source).encoding (byte_order_mark e source).body) ≡ o → IsNotAt value o
-    of-place None s = tt
-    of-place (Some p) s = false_from_ne_true (has_value value p.group) (λ k. h (place-has e source key value r p s k))
-
 -- If the source has the value, setting that value results in the source.
-own-made : (e : Encoding) (only : Bool) (source key value : List ℕ) → IsReadable e source → HasValue e source key (Some value) → value_set e only source key value ≡ source
-own-made e only source key value r h =
-    let f = byte_order_mark e source in
+own-made : (rep : Repertoire) (source key value : List ℕ) → IsReadable rep.encoding source → HasValue rep.encoding source key (Some value)
+    → value_set rep source key value ≡ source
+own-made rep source key value r h =
+    let f = byte_order_mark rep.encoding source in
     let gs = held_groups_of f.encoding f.body in
-    let is : IsLastValue (items_of e source end) key value = subst (λ v. IsLastValue v key value) (items_of-only e source end h.entries h.items) h.is in
+    let is : IsLastValue _ key value = subst (λ v. IsLastValue v key value) (items_of-only rep.encoding source end h.entries h.items) h.is in
     ap (λ v. bom_of source ++ v)
     (of-place is (last_place key gs) refl ∙ held-body f.encoding f.body gs r.editable (held_groups_of-meets f.encoding f.body))
-    ∙ sym (source-whole e source)
+    ∙ sym (source-whole rep.encoding source)
   where
-    of-place : IsLastValue (items_of e source end) key value → (o : Option KeyPlace)
-        → last_place key (held_groups_of (byte_order_mark e source).encoding (byte_order_mark e source).body) ≡ o
-        → valued_at (byte_order_mark e source).encoding only (held_groups_of (byte_order_mark e source).encoding (byte_order_mark e source).body) key value o
-        ≡ groups_bytes (held_groups_of (byte_order_mark e source).encoding (byte_order_mark e source).body)
+    of-place : IsLastValue (items_of rep.encoding source end) key value → (o : Option KeyPlace)
+        → (let f = byte_order_mark rep.encoding source in let gs = held_groups_of f.encoding f.body in
+        last_place key gs ≡ o → valued_at (in_encoding rep f.encoding) gs key value o ≡ groups_bytes gs)
     of-place is None s =
-        let a = value_in-only (items_of e source end) key (Some value) is in
-        let b = value_in-only (items_of e source end) key None (no_place-value e source key r s) in
+        let a = value_in-only (items_of rep.encoding source end) key (Some value) is in
+        let b = value_in-only (items_of rep.encoding source end) key None (search (rules, last_place-meets, items_of-groups, none-pairs)) in
         absurd (cc)
     of-place is (Some p) s =
-        let m = place-value e source key r p s in
-        let a = value_in-only (items_of e source end) key (Some value) is in
-        let b = value_in-only (items_of e source end) key (Some m.0) m.2 in
+        let m = place-value rep.encoding source key r p s in
+        let a = value_in-only (items_of rep.encoding source end) key (Some value) is in
+        let b = value_in-only (items_of rep.encoding source end) key (Some m.0) m.2 in
         let t : m.0 ≡ value = cc in
-        let f = byte_order_mark e source in
-        cond-true (has_value value p.group) (groups_bytes (held_groups_of f.encoding f.body)) (revalued_at f.encoding only value p)
+        let f = byte_order_mark rep.encoding source in
+        cond-true (has_value value p.group) (groups_bytes (held_groups_of f.encoding f.body)) (revalued_at (in_encoding rep f.encoding) value p)
         (HasPair-test key value p.group (subst (λ w. HasPair key w p.group) t m.1))
 
 -- ---- the laws
 
 -- Setting a key to the value that it already has changes no byte.
-pub setting-own_value : (e : Encoding) (only : Bool) (source key value : List ℕ) → SettingItsOwnValueChangesNothing e only source key value
-setting-own_value e only source key value has result h =
-    value_set-only e only source key value result h.0 h.2 ∙ own-made e only source key value (readable e source h.0 h.1) has
+pub setting-own_value : (r : Repertoire) (source key value : List ℕ) → SettingItsOwnValueChangesNothing r source key value
+setting-own_value r source key value has result h =
+    value_set-only r source key value result h.0 h.2 ∙ own-made r source key value (readable r.encoding source h.0 h.1) has
 
 -- Setting a value has one result.
-abbrev one-value_set : (e : Encoding) (only : Bool) (source key value : List ℕ) → HasOne (IsSetValueResult e only source key value)
-one-value_set e only source key value =
-    one (set_value_result e only source key value) (set_value_result-meets e only source key value) (set_value_result-only e only source key value)
+abbrev one-value_set : (r : Repertoire) (source key value : List ℕ) → HasOne (IsSetValueResult r source key value)
+one-value_set r source key value = one _ (set_value_result-meets r source key value) (set_value_result-only r source key value)
 
 -- Setting a value twice equals setting it once, to the later value, if the source doesn't have that value already.
-pub setting-value_twice : (e : Encoding) (only : Bool) (source key first second : List ℕ) → SettingAValueTwiceIsSettingItOnce e only source key first second
-setting-value_twice e only source key first second k v w other between h result =
-    let r = readable e source h.0 h.1 in
-    let next = (value_set-contents e only source key first between r k v h.2).readable in
-    let bytes = value_set-again e only source key first second between h.0 k v h.2 (not-at e source key second r other) in
-    let same : set_value_result e only between key second ≡ set_value_result e only source key second =
-    result-made e between (value_set e only between key second) next ∙ ap edited bytes ∙ sym (result-made e source (value_set e only source key second) r) in
-    same-results _ _ (one-value_set e only between key second) (one-value_set e only source key second) same result
+pub setting-value_twice : (t : Repertoire) (source key first second : List ℕ) → SettingAValueTwiceIsSettingItOnce t source key first second
+setting-value_twice t source key first second k v w other between h result =
+    let r = readable t.encoding source h.0 h.1 in
+    let next = (value_set-contents t source key first between r k v h.2).readable in
+    let bytes = value_set-again t source key first second between h.0 k v h.2 (search (rules, false_from_ne_true, place-has)) in
+    let same : set_value_result t between key second ≡ set_value_result t source key second = search (result-made) in
+    same-results _ _ (one-value_set t between key second) (one-value_set t source key second) same result
 
 -- Setting a value a second time changes no byte.
-pub setting-value_again : (e : Encoding) (only : Bool) (source key value : List ℕ) → SettingAValueAgainChangesNothing e only source key value
-setting-value_again e only source key value k v between h =
-    let f = byte_order_mark e source in
-    let r = readable e source h.0 h.1 in
-    let next = (value_set-contents e only source key value between r k v h.2).readable in
-    let made : between ≡ value_set e only source key value = value_set-only e only source key value between h.0 h.2 in
-    let bytes : value_set e only between key value ≡ between = of-place made (last_place key (held_groups_of f.encoding f.body)) refl in
-    subst (IsSetValueResult e only between key value) (result-made e between (value_set e only between key value) next ∙ ap edited bytes) (set_value_result-meets e only between key value)
+pub setting-value_again : (rep : Repertoire) (source key value : List ℕ) → SettingAValueAgainChangesNothing rep source key value
+setting-value_again rep source key value k v between h =
+    let f = byte_order_mark rep.encoding source in
+    let r = readable rep.encoding source h.0 h.1 in
+    let next = (value_set-contents rep source key value between r k v h.2).readable in
+    let made : between ≡ value_set rep source key value = value_set-only rep source key value between h.0 h.2 in
+    let bytes : value_set rep between key value ≡ between = of-place made (last_place key (held_groups_of f.encoding f.body)) refl in
+    subst (IsSetValueResult rep between key value) (result-made rep.encoding between _ next ∙ ap edited bytes) (set_value_result-meets rep between key value)
   where
-    of-place : between ≡ value_set e only source key value → (o : Option KeyPlace)
-        → last_place key (held_groups_of (byte_order_mark e source).encoding (byte_order_mark e source).body) ≡ o → value_set e only between key value ≡ between
-    of-place made None s = value_set-again e only source key value value between h.0 k v h.2 (subst (IsNotAt value) (sym s) tt) ∙ sym made
+    of-place : between ≡ value_set rep source key value → (o : Option KeyPlace)
+        → last_place key (held_groups_of (byte_order_mark rep.encoding source).encoding (byte_order_mark rep.encoding source).body) ≡ o
+        → value_set rep between key value ≡ between
+    of-place made None s = value_set-again rep source key value value between h.0 k v h.2 (subst (IsNotAt value) (sym s) tt) ∙ sym made
     of-place made (Some p) s = elim (cases_Bool (has_value value p.group)) [
-      | inl t ↦
-          let r = readable e source h.0 h.1 in
-          let own = own-made e only source key value r (place-has e source key value r p s t) in
-          ap (λ x. value_set e only x key value) (made ∙ own) ∙ own ∙ sym (made ∙ own)
-      | inr t ↦ value_set-again e only source key value value between h.0 k v h.2 (subst (IsNotAt value) (sym s) t) ∙ sym made
+      | inl t ↦ grind (arith, readable, own-made, place-has)
+      | inr t ↦ value_set-again rep source key value value between h.0 k v h.2 (subst (IsNotAt value) (sym s) t) ∙ sym made
     ]
 
 -- After a value is set, the map has it for the key, and for every other key what it had before.
-pub setting-value_gives : (e : Encoding) (only : Bool) (source key value : List ℕ) → SettingAValueGivesIt e only source key value
-setting-value_gives e only source key value k v result h old new =
-    maps-differ e source result key (put key value) (Some value) old new
-    (λ before after i j m. (set_value-reads e only source key value result k v h before after i j).mapped old m) (set-differs key value)
+pub setting-value_gives : (r : Repertoire) (source key value : List ℕ) → SettingAValueGivesIt r source key value
+setting-value_gives r source key value k v result h old new =
+    maps-differ r.encoding source result key (put key value) (Some value) old new
+    (λ before after i j m. (set_value-reads r source key value result k v h before after i j).mapped old m) (set-differs key value)

@@ -1,12 +1,12 @@
 -- Groups that are the groups of their own bytes, and what keeps them so: one of them is changed, or others follow them.
-use Rattle.std.proofs.Common.{◌≡◌, ◌≢◌, ℕ, true, List, [], ◌∷◌, ◌++◌, Option, Some, None, refl, ap, ap₂, sym, ◌∙◌, inl, inr, append_assoc, append-nil, subst}
+use Rattle.std.proofs.Common.{arith, rules, ◌≡◌, ◌≢◌, ℕ, true, List, [], ◌∷◌, ◌++◌, Option, Some, None, refl, ap, ap₂, sym, ◌∙◌, inl, inr, append_assoc, append-nil, subst}
 use Rattle.properties_format.specs.Text.{LineEnding, cr}
 use Rattle.properties_format.specs.Encoding.{Encoding}
 use Rattle.properties_format.specs.Lines.{Ended, Lines, end, HoldsNoLineEnd, BeginsWithNoLoneLf, AreLines, IsLines}
 use Rattle.properties_format.specs.Cut.{IsCut}
 use Rattle.properties_format.specs.Computed.Cut.{decoded_line}
 use Rattle.properties_format.specs.Groups.{IsWhole, IsGroups, lines_in}
-use Rattle.properties_format.specs.Body.{HeldLine, as_lines, as_groups, held_in, AreGroupsOf, group_bytes, groups_bytes, last_ending}
+use Rattle.properties_format.specs.Body.{HeldLine, as_lines, as_groups, held_in, AreGroupsOf, groups_bytes, last_ending}
 use Rattle.properties_format.specs.Edited.{is_editable}
 use Rattle.properties_format.specs.Computed.Body.{held_of}
 use Rattle.properties_format.proofs.Lines.Only.{lines_of-only}
@@ -43,10 +43,9 @@ texts-in (g ∷ gs) = as_lines-append g (held_in gs) ∙ ap (λ v. as_lines g ++
 fit-groups : (gs : List (List HeldLine)) → AreFit gs → IsGroups (lines_in (as_groups gs)) end (as_groups gs)
 fit-groups [] h = record { whole = []; unfinished = []; are_lines = refl; are_whole = tt; is_unfinished = tt; are_groups = refl }
 fit-groups (g ∷ []) (inl h) =
-    record { whole = as_lines g ∷ []; unfinished = []; are_lines = sym (append-nil (as_lines g ++ [])); are_whole = (h, tt); is_unfinished = tt; are_groups = refl }
+    record { whole = as_lines g ∷ []; unfinished = []; are_lines = sym (append-nil _); are_whole = (h, tt); is_unfinished = tt; are_groups = refl }
 fit-groups ([] ∷ []) (inr h) = absurd h
-fit-groups ((l ∷ g) ∷ []) (inr h) =
-    record { whole = []; unfinished = as_lines (l ∷ g); are_lines = append-nil (as_lines (l ∷ g)); are_whole = tt; is_unfinished = h; are_groups = refl }
+fit-groups ((l ∷ g) ∷ []) (inr h) = grind (arith, append-nil)
 fit-groups (g ∷ i ∷ gs) h =
     let m = fit-groups (i ∷ gs) h.1 in
     record {
@@ -70,10 +69,7 @@ lines-cut e d lines ok h = subst (IsCut e d) (sym (lines_of-only d lines h ∙ s
 pub lined-groups : (e : Encoding) (gs : List (List HeldLine)) → is_editable e ≡ true → AreLined e gs → AreGroupsOf e (groups_bytes gs) gs
 lined-groups e gs ok h =
     let lines : Lines = record { ended = h.ended; last = h.last } in
-    let whole : IsLines (groups_bytes gs) lines = record {
-      text = groups-bytes gs ∙ ap group_bytes h.held ∙ held-bytes e h.ended h.last;
-      are_lines = h.are_lines;
-    } in
+    let whole : IsLines (groups_bytes gs) lines = grind (arith, groups-bytes, held-bytes) in
     record {
       cut = lines;
       is_cut = lines-cut e (groups_bytes gs) lines ok whole;
@@ -159,8 +155,7 @@ fit-parts (g ∷ i ∷ gs) h hs k = let m = fit-parts (i ∷ gs) h hs k.1 in ((k
 
 -- Any group is whole or ends open.
 pub fit-first : (h : List HeldLine) (hs : List (List HeldLine)) → AreFit (h ∷ hs) → IsLastFit h
-fit-first h [] k = k
-fit-first h (i ∷ hs) k = inl k.0
+fit-first h hs h1 = grind (arith)
 
 -- ---- changing a group
 
@@ -188,13 +183,13 @@ cons-some [] l b = λ q. cc
 cons-some (m ∷ a) l b = λ q. cc
 
 -- A group that keeps its first lines and has another line instead of the rest, with the same last line ending.
-pub changed-lined : (e : Encoding) (before : List (List HeldLine)) (kept : List HeldLine) (line : HeldLine) (more : List HeldLine) (after : List (List HeldLine)) (bytes : List ℕ)
-    → AreLined e (before ++ (kept ++ line ∷ more) ∷ after) → HoldsNoLineEnd bytes → bytes ≢ []
+pub changed-lined : (e : Encoding) (before : List (List HeldLine)) (kept : List HeldLine) (line : HeldLine) (more : List HeldLine)
+    (after : List (List HeldLine)) (bytes : List ℕ) → AreLined e (before ++ (kept ++ line ∷ more) ∷ after) → HoldsNoLineEnd bytes → bytes ≢ []
     → IsWhole (as_lines (kept ++ record { bytes = bytes; text = decoded_line e bytes; ending = last_ending (kept ++ line ∷ more) } ∷ []))
     → AreLined e (before ++ (kept ++ record { bytes = bytes; text = decoded_line e bytes; ending = last_ending (kept ++ line ∷ more) } ∷ []) ∷ after)
 changed-lined e before kept line more [] bytes h plain some whole =
     let g = kept ++ line ∷ more in
-    let s : held_in before ++ g ≡ held_of e h.ended h.last = ap (λ v. held_in before ++ v) (sym (append-nil g)) ∙ sym (held_in-append before (g ∷ [])) ∙ h.held in
+    let s : held_in before ++ g ≡ held_of e h.ended h.last = grind (arith, append-nil, held_in-append) in
     let a = cut-off e (held_in before) g h.ended h.last (cons-some kept line more) s in
     let b = cut-off e kept (line ∷ more) a.back h.last (λ q. cc) a.others in
     let none : last_ending g ≡ None = ap last_ending a.others ∙ held-last e a.back h.last in
@@ -229,26 +224,14 @@ changed-lined e before kept line more (i ∷ after) bytes h plain some whole =
     let last_is : last_ending g ≡ Some by.0 = last_ending-append kept (line ∷ more) (λ q. cc) ∙ ap last_ending k.second ∙ last_ending-ended e k.back ∙ by.1 in
     let l : HeldLine = record { bytes = bytes; text = decoded_line e bytes; ending = last_ending g } in
     let n : Ended = record { text = bytes; by = by.0 } in
-    let all : h.ended ≡ (a.front ++ k.front) ++ (k.back ++ b.back) =
-    a.all
-    ∙ ap (λ v. a.front ++ v) (b.all ∙ ap (λ v. v ++ b.back) k.all ∙ append_assoc k.front k.back b.back)
-    ∙ sym (append_assoc a.front k.front (k.back ++ b.back)) in
+    let all : h.ended ≡ (a.front ++ k.front) ++ (k.back ++ b.back) = grind (arith, append_assoc) in
     let lines : AreLines ((a.front ++ k.front) ++ (k.back ++ b.back)) h.last = subst (λ v. AreLines v h.last) all h.are_lines in
     let back : AreLines (k.back ++ b.back) h.last = lines-back (a.front ++ k.front) (k.back ++ b.back) h.last lines in
     record {
       ended = (a.front ++ k.front) ++ n ∷ b.back;
       last = h.last;
-      held =
-          held_in-append before ((kept ++ l ∷ []) ∷ i ∷ after)
-          ∙ ap₂ (λ v w. v ++ (w ++ held_in (i ∷ after))) a.group (ap₂ (λ v o. v ++ record { bytes = bytes; text = decoded_line e bytes; ending = o } ∷ []) k.first last_is)
-          ∙ ap (λ v. held_ended e a.front ++ ((held_ended e k.front ++ record { bytes = bytes; text = decoded_line e bytes; ending = Some by.0 } ∷ []) ++ v)) b.others
-          ∙ ap (λ v. held_ended e a.front ++ v) (append_assoc (held_ended e k.front) (record { bytes = bytes; text = decoded_line e bytes; ending = Some by.0 } ∷ []) (held_of e b.back h.last))
-          ∙ sym (append_assoc (held_ended e a.front) (held_ended e k.front) (held_of e (n ∷ b.back) h.last))
-          ∙ ap (λ v. v ++ held_of e (n ∷ b.back) h.last) (sym (held_ended-append e a.front k.front))
-          ∙ sym (held_of-append e (a.front ++ k.front) (n ∷ b.back) h.last);
-      are_lines =
-          lines-join (a.front ++ k.front) (n ∷ b.back) h.last (lines-front (a.front ++ k.front) (k.back ++ b.back) h.last lines) (λ q. λ z. some z.0)
-          (plain, (λ q. lines-seam k.back b.back h.last back (by.1 ∙ ap Some q)), lines-back k.back b.back h.last back);
+      held = grind (arith, held_in-append, append_assoc, held_ended-append, held_of-append);
+      are_lines = search (rules, lines-join, lines-front, lines-seam, lines-back);
       fit = fit-join before (kept ++ l ∷ []) (i ∷ after) m.0 (whole, m.1.1);
     }
   where
@@ -288,7 +271,6 @@ plain-right [] b h = h
 plain-right (l ∷ a) b h = plain-right a b h.1
 
 -- It holds for the lines of a group.
-pub group-plain : (e : Encoding) (before : List (List HeldLine)) (g : List HeldLine) (after : List (List HeldLine)) → AreLined e (before ++ g ∷ after) → ArePlain g
-group-plain e before g after h =
-    plain-left g (held_in after)
-    (plain-right (held_in before) (g ++ held_in after) (subst ArePlain (sym h.held ∙ held_in-append before (g ∷ after)) (held-plain e h.ended h.last h.are_lines)))
+pub group-plain : (e : Encoding) (before : List (List HeldLine)) (g : List HeldLine) (after : List (List HeldLine)) → AreLined e (before ++ g ∷ after)
+    → ArePlain g
+group-plain e before g after h = grind (arith, plain-left, plain-right, held_in-append, held-plain)

@@ -1,19 +1,19 @@
 -- The computed result of setting a value in place is the result of that edit, and the only one.
-use Rattle.std.proofs.Common.{◌≡◌, ℕ, true, false, List, [], ◌∷◌, ◌++◌, Option, Some, None, refl, ap, ap₂, sym, ◌∙◌, inl, inr, subst, Bool}
+use Rattle.std.proofs.Common.{arith, rules, ◌≡◌, ℕ, true, List, [], ◌∷◌, ◌++◌, Option, Some, None, refl, ap, sym, ◌∙◌, inl, inr}
 use Rattle.std.proofs.lemmas.Bool.{cases_Bool, cond-false, false_from_ne_true, cond-true}
 use Rattle.std.proofs.lemmas.Slice.Eq.{bytes_eq-Decides}
 use Rattle.properties_format.specs.Encoding.{Encoding, byte_order_mark}
+use Rattle.properties_format.specs.Repertoire.{Repertoire, in_encoding}
 use Rattle.properties_format.specs.Lines.{Ended}
 use Rattle.properties_format.specs.Groups.{joined}
 use Rattle.properties_format.specs.Split.{Logical, IsPair}
 use Rattle.properties_format.specs.Computed.Split.{split_of}
 use Rattle.properties_format.specs.Entries.{pair}
-use Rattle.properties_format.specs.Items.{Outcome, given}
+use Rattle.properties_format.specs.Items.{given}
 use Rattle.properties_format.specs.Computed.Items.{outcome_of}
-use Rattle.properties_format.specs.Printing.{encoded_text}
-use Rattle.properties_format.specs.Body.{HeldLine, AreHeld, AreGroupsOf, as_lines, held_in, groups_bytes, ending_bytes, last_ending, HasKey}
+use Rattle.properties_format.specs.Body.{HeldLine, AreHeld, AreGroupsOf, as_lines, held_in, groups_bytes, HasKey}
 use Rattle.properties_format.specs.Edited.{bom_of, is_editable, EditResult}
-use Rattle.properties_format.specs.Valued.{value_text, HasPair, NoPairs, IsNewSeparator, IsBodyValued, IsValueSet, IsSetValueResult}
+use Rattle.properties_format.specs.Valued.{HasPair, NoPairs, IsNewSeparator, IsBodyValued, IsValueSet, IsSetValueResult}
 use Rattle.properties_format.specs.Computed.Body.{held_groups_of}
 use Rattle.properties_format.specs.Computed.Edited.{KeyPlace, last_place}
 use Rattle.properties_format.specs.Computed.Valued.{front_of, between_of, between_if_pair, or_else, last_between, separator_by, is_pair_to, has_value, revalued_at, valued_at, value_set}
@@ -53,48 +53,28 @@ decoded-group e (f ∷ before) g after h = decoded-group e before g after (decod
 -- The lines of a group of a body are decoded to their texts.
 pub group-decoded : (e : Encoding) (body : List ℕ) (groups before : List (List HeldLine)) (g : List HeldLine) (after : List (List HeldLine))
     → AreGroupsOf e body groups → groups ≡ before ++ g ∷ after → AreDecoded e g
-group-decoded e body groups before g after h s =
-    decoded-group e before g after (subst (λ v. AreDecoded e (held_in v)) s (held-decoded e h.cut.ended h.cut.last (held_in groups) h.are_held))
+group-decoded e body groups before g after h s = grind (arith, decoded-group, held-decoded)
 
 -- ---- whether a pair has the value
-
--- An outcome that passes the tests is the pair.
-pair-to : (key value : List ℕ) (o : Outcome) → (old : List ℕ) → o ≡ given (pair key old) → is_pair_to value o ≡ true → o ≡ given (pair key value)
-pair-to key value o old s h =
-    let t : old ≡ value = (bytes_eq-Decides old value).0 (ap (is_pair_to value) (sym s) ∙ h) in s ∙ ap (λ v. given (pair key v)) t
 
 -- A group with the key that passes the test is the pair.
 pub has_value-true : (key value : List ℕ) (g : List HeldLine) → HasKey key g → has_value value g ≡ true → HasPair key value g
 has_value-true key value g (old, k) h =
     let line = joined (as_lines g) in
     let s : outcome_of line ≡ given (pair key old) = sym (outcome_of-only line (given (pair key old)) k) in
-    let t : outcome_of line ≡ given (pair key value) = pair-to key value (outcome_of line) old s h in
-    rw t at (outcome_of-meets line)
+    search (rules, outcome_of-meets)
 
 -- The pair passes the test.
 pub HasPair-test : (key value : List ℕ) (g : List HeldLine) → HasPair key value g → has_value value g ≡ true
 HasPair-test key value g h =
     ap (is_pair_to value) (sym (outcome_of-only (joined (as_lines g)) (given (pair key value)) h)) ∙ (bytes_eq-Decides value value).1 refl
 
--- A group that doesn't pass the test isn't that pair.
-pub has_value-false : (key value : List ℕ) (g : List HeldLine) → has_value value g ≡ false → ¬ (HasPair key value g)
-has_value-false key value g h = λ k. let m = HasPair-test key value g k in absurd (cc)
-
--- A group that isn't that pair doesn't pass the test.
-pub no_value-test : (key value : List ℕ) (g : List HeldLine) → HasKey key g → ¬ (HasPair key value g) → has_value value g ≡ false
-no_value-test key value g k h = false_from_ne_true (has_value value g) (λ m. h (has_value-true key value g k m))
-
 -- ---- the separator of a new pair
 
 -- If no group is a pair, there is no last one.
 last_between-none : (gs : List (List HeldLine)) → NoPairs gs → last_between gs ≡ None
 last_between-none [] h = refl
-last_between-none (g ∷ gs) h = simp (last_between-none gs h.1, of-split (split_of (joined (as_lines g))) refl)
-  where
-    of-split : (l : Logical) → split_of (joined (as_lines g)) ≡ l → between_if_pair (split_of (joined (as_lines g))) (joined (as_lines g)) ≡ None
-    of-split Logical.blank s = rw s refl
-    of-split (Logical.comment text) s = rw s refl
-    of-split (Logical.pair key value) s = let m : IsPair (joined (as_lines g)) key value = rw s at (split_of-meets (joined (as_lines g))) in absurd (h.0 key value m)
+last_between-none (g ∷ gs) h = grind (arith, last_between-none gs h.1, split_of-meets)
 
 -- What separates the key from the value of a pair.
 between-parsed_pair : (line key value : List ℕ) (h : IsPair line key value) → between_if_pair (split_of line) line ≡ Some h.between
@@ -104,32 +84,24 @@ between-parsed_pair line key value h =
 -- The last pair is one that no other pair follows.
 last_between-some : (before : List (List HeldLine)) (g : List HeldLine) (after : List (List HeldLine)) (key value : List ℕ)
     (h : IsPair (joined (as_lines g)) key value) → NoPairs after → last_between (before ++ g ∷ after) ≡ Some h.between
-last_between-some [] g after key value h k =
-    rw (last_between-none after k, between-parsed_pair (joined (as_lines g)) key value h)
+last_between-some [] g after key value h k = rw (last_between-none after k, between-parsed_pair (joined (as_lines g)) key value h)
 last_between-some (f ∷ before) g after key value h k = simp (last_between-some before g after key value h k)
-
--- The first choice followed by nothing is the first choice.
-pub or_else-none : (a : Option (List ℕ)) → or_else a None ≡ a
-or_else-none None = refl
-or_else-none (Some x) = refl
 
 -- Choosing the first of three is associative.
 pub or_else-three : (a b c : Option (List ℕ)) → or_else (or_else a b) c ≡ or_else a (or_else b c)
-or_else-three None b c = refl
-or_else-three (Some x) b c = refl
+or_else-three a b c = grind (arith)
 
 -- One more group: its own separator if it is a pair, otherwise that of the last pair before it.
 pub last_between-push : (gs : List (List HeldLine)) (g : List HeldLine)
     → last_between (gs ++ g ∷ []) ≡ or_else (between_if_pair (split_of (joined (as_lines g))) (joined (as_lines g))) (last_between gs)
-last_between-push [] g = sym (or_else-none (between_if_pair (split_of (joined (as_lines g))) (joined (as_lines g))))
+last_between-push [] g = sym (search (rules))
 last_between-push (f ∷ gs) g = simp (or_else-three, last_between-push gs g)
 
 -- The separator is the computed one.
 new_separator-only : (groups : List (List HeldLine)) (key separator : List ℕ) → IsNewSeparator groups key separator
     → separator ≡ separator_by key (last_between groups)
 new_separator-only groups key separator (inl h) =
-    h.separator_is
-    ∙ ap (separator_by key) (sym (ap last_between h.division ∙ last_between-some h.before h.group h.after h.key h.value h.is_pair h.no_later))
+    h.separator_is ∙ ap (separator_by key) (sym (ap last_between h.division ∙ last_between-some h.before h.group h.after h.key h.value h.is_pair h.no_later))
 new_separator-only groups key separator (inr h) = h.1 ∙ ap (separator_by key) (sym (last_between-none groups h.0))
 
 -- The last pair of the groups, or that there is none.
@@ -180,11 +152,10 @@ pub raw-pair : (key : List ℕ) (g : List HeldLine) → HasKey key g → (k : Li
 raw-pair key g (value, h) = (h.raw_key, h.raw_value, h.split)
 
 -- The computed body is a body with the value set.
-valued-meets : (e : Encoding) (only : Bool) (body key value : List ℕ) (gs : List (List HeldLine)) (o : Option KeyPlace) → is_editable e ≡ true → AreGroupsOf e body gs
-    → IsPlace key gs o → IsBodyValued e only gs key value (valued_at e only gs key value o)
-valued-meets e only body key value gs None ok g h =
-    inr (inr (record { no_pair = h; separator = separator_by key (last_between gs); is_separator = new_separator-meets gs key; bytes = refl }))
-valued-meets e only body key value gs (Some p) ok g h = elim (cases_Bool (has_value value p.group)) [
+valued-meets : (r : Repertoire) (body key value : List ℕ) (gs : List (List HeldLine)) (o : Option KeyPlace) → is_editable r.encoding ≡ true
+    → AreGroupsOf r.encoding body gs → IsPlace key gs o → IsBodyValued r gs key value (valued_at r gs key value o)
+valued-meets r body key value gs None ok g h = grind (arith, new_separator-meets)
+valued-meets r body key value gs (Some p) ok g h = elim (cases_Bool (has_value value p.group)) [
   | inl k ↦
       inl (record {
         before = p.before;
@@ -203,64 +174,58 @@ valued-meets e only body key value gs (Some p) ok g h = elim (cases_Bool (has_va
         after = p.after;
         division = h.division;
         has_key = h.has;
-        other_value = has_value-false key value p.group k;
+        other_value = search (rules, HasPair-test);
         no_later = h.no_later;
         between = between_of p.group;
-        front = front_of e p.group;
-        is_front = front_of-meets e p.group m.0 m.1 ok (group-decoded e body gs p.before p.group p.after g h.division) m.2;
+        front = front_of r.encoding p.group;
+        is_front = front_of-meets r.encoding p.group m.0 m.1 ok (group-decoded r.encoding body gs p.before p.group p.after g h.division) m.2;
         bytes = rw k refl;
       }))
 ]
 
 -- A body with the value set is the computed one.
-pub valued-only : (e : Encoding) (only : Bool) (body key value : List ℕ) (gs : List (List HeldLine)) (result : List ℕ) → is_editable e ≡ true → AreGroupsOf e body gs
-    → IsBodyValued e only gs key value result → result ≡ valued_at e only gs key value (last_place key gs)
-valued-only e only body key value gs result ok g (inl h) =
+pub valued-only : (r : Repertoire) (body key value : List ℕ) (gs : List (List HeldLine)) (result : List ℕ) → is_editable r.encoding ≡ true
+    → AreGroupsOf r.encoding body gs → IsBodyValued r gs key value result → result ≡ valued_at r gs key value (last_place key gs)
+valued-only r body key value gs result ok g (inl h) =
     let p : KeyPlace = record { before = h.before; group = h.group; after = h.after } in
     h.bytes
-    ∙ sym (cond-true (has_value value h.group) (groups_bytes gs) (revalued_at e only value p) (HasPair-test key value h.group h.has_pair))
-    ∙ ap (valued_at e only gs key value) (sym (ap (last_place key) h.division ∙ last_place-some key h.before h.group h.after (value, h.has_pair) h.no_later))
-valued-only e only body key value gs result ok g (inr (inl h)) =
+    ∙ sym (cond-true (has_value value h.group) (groups_bytes gs) (revalued_at r value p) (HasPair-test key value h.group h.has_pair))
+    ∙ ap (valued_at r gs key value) (sym (ap (last_place key) h.division ∙ last_place-some key h.before h.group h.after (value, h.has_pair) h.no_later))
+valued-only r body key value gs result ok g (inr (inl h)) =
     let p : KeyPlace = record { before = h.before; group = h.group; after = h.after } in
-    let f = front_of-only e h.group h.between h.front ok (group-decoded e body gs h.before h.group h.after g h.division) h.is_front in
-    h.bytes
-    ∙ ap₂ (λ b x. groups_bytes h.before ++ (x ++ (encoded_text e (value_text e only b value) ++ (ending_bytes (last_ending h.group) ++ groups_bytes h.after)))) f.0 f.1
-    ∙ sym (cond-false (has_value value h.group) (groups_bytes gs) (revalued_at e only value p) (no_value-test key value h.group h.has_key h.other_value))
-    ∙ ap (valued_at e only gs key value) (sym (ap (last_place key) h.division ∙ last_place-some key h.before h.group h.after h.has_key h.no_later))
-valued-only e only body key value gs result ok g (inr (inr h)) =
-    cc (new_separator-only gs key h.separator h.is_separator, last_place-none key gs h.no_pair)
+    let f = front_of-only r.encoding h.group h.between h.front ok (group-decoded r.encoding body gs h.before h.group h.after g h.division) h.is_front in
+    search (rules, cond-false, last_place-some, false_from_ne_true, has_value-true)
+valued-only r body key value gs result ok g (inr (inr h)) = cc (new_separator-only gs key h.separator h.is_separator, last_place-none key gs h.no_pair)
 
 -- What is computed is the source with the value set.
-pub value_set-meets : (e : Encoding) (only : Bool) (source key value : List ℕ) → is_editable (byte_order_mark e source).encoding ≡ true
-    → IsValueSet e only source key value (value_set e only source key value)
-value_set-meets e only source key value ok =
-    let f = byte_order_mark e source in
+pub value_set-meets : (r : Repertoire) (source key value : List ℕ) → is_editable (byte_order_mark r.encoding source).encoding ≡ true
+    → IsValueSet r source key value (value_set r source key value)
+value_set-meets r source key value ok =
+    let f = byte_order_mark r.encoding source in
     let gs = held_groups_of f.encoding f.body in
     let held = held_groups_of-meets f.encoding f.body in
     record {
       groups = gs;
       held = held;
-      body = valued_at f.encoding only gs key value (last_place key gs);
-      edited = valued-meets f.encoding only f.body key value gs (last_place key gs) ok held (last_place-meets key gs);
+      body = valued_at (in_encoding r f.encoding) gs key value (last_place key gs);
+      edited = valued-meets (in_encoding r f.encoding) f.body key value gs (last_place key gs) ok held (last_place-meets key gs);
       whole = refl;
     }
 
 -- A source with the value set is the computed one.
-pub value_set-only : (e : Encoding) (only : Bool) (source key value result : List ℕ) → is_editable (byte_order_mark e source).encoding ≡ true
-    → IsValueSet e only source key value result → result ≡ value_set e only source key value
-value_set-only e only source key value result ok h =
-    let f = byte_order_mark e source in
+pub value_set-only : (r : Repertoire) (source key value result : List ℕ) → is_editable (byte_order_mark r.encoding source).encoding ≡ true
+    → IsValueSet r source key value result → result ≡ value_set r source key value
+value_set-only r source key value result ok h =
+    let f = byte_order_mark r.encoding source in
     h.whole
-    ∙ ap (λ v. bom_of source ++ v) (valued-only f.encoding only f.body key value h.groups h.body ok h.held h.edited)
-    ∙ ap (λ v. bom_of source ++ valued_at f.encoding only v key value (last_place key v)) (held_groups_of-only f.encoding f.body h.groups h.held)
+    ∙ ap (λ v. bom_of source ++ v) (valued-only (in_encoding r f.encoding) f.body key value h.groups h.body ok h.held h.edited)
+    ∙ ap (λ v. bom_of source ++ valued_at (in_encoding r f.encoding) v key value (last_place key v)) (held_groups_of-only f.encoding f.body h.groups h.held)
 
 -- What is computed is a result of setting a value.
-pub set_value_result-meets : (e : Encoding) (only : Bool) (source key value : List ℕ) → IsSetValueResult e only source key value (set_value_result e only source key value)
-set_value_result-meets e only source key value =
-    result_of-meets e source (value_set e only source key value) (IsValueSet e only source key value) (value_set-meets e only source key value)
+pub set_value_result-meets : (r : Repertoire) (source key value : List ℕ) → IsSetValueResult r source key value (set_value_result r source key value)
+set_value_result-meets r source key value = search (rules, result_of-meets, value_set-meets)
 
 -- No other result is one of setting a value.
-pub set_value_result-only : (e : Encoding) (only : Bool) (source key value : List ℕ) (r : EditResult) → IsSetValueResult e only source key value r
-    → r ≡ set_value_result e only source key value
-set_value_result-only e only source key value r h =
-    result_of-only e source (value_set e only source key value) (IsValueSet e only source key value) r (λ ok result. value_set-only e only source key value result ok) h
+pub set_value_result-only : (t : Repertoire) (source key value : List ℕ) (r : EditResult) → IsSetValueResult t source key value r
+    → r ≡ set_value_result t source key value
+set_value_result-only t source key value r h = search (rules, result_of-only, value_set-only)

@@ -1,8 +1,9 @@
 -- The encoding in force of a source with a value set is that of the source: the byte order mark stays, and no new one
 -- appears.
-use Rattle.std.proofs.Common.{◌≡◌, ◌<◌, ℕ, true, false, List, [], ◌∷◌, ◌++◌, ap, sym, ◌∙◌, inl, inr, append_assoc, append-nil, Bool, arith}
+use Rattle.std.proofs.Common.{◌≡◌, ◌<◌, ℕ, true, false, List, [], ◌∷◌, ◌++◌, ap, sym, ◌∙◌, inl, inr, append_assoc, append-nil, arith}
 use Rattle.properties_format.specs.Text.{LineEnding, lf, line_ending_text, is_blanks}
 use Rattle.properties_format.specs.Encoding.{Encoding, byte_order_mark, begins_like_bom}
+use Rattle.properties_format.specs.Repertoire.{Repertoire, in_encoding}
 use Rattle.properties_format.specs.Printing.{encoded_text, printed_key, printed_value}
 use Rattle.properties_format.specs.Body.{HeldLine, held_in, ending_bytes, group_bytes, groups_bytes, last_ending}
 use Rattle.properties_format.specs.Edited.{is_editable}
@@ -34,64 +35,62 @@ pub front-bytes : (e : Encoding) (group : List HeldLine) (between front : List �
 front-bytes e group between front f = grind (arith, group_bytes-append, append_assoc)
 
 -- A front followed by what is printed for a value, instead of a group at the front of a body.
-front-valued : (e : Encoding) (only : Bool) (group : List HeldLine) (between front value : List ℕ) (f : IsFrontOf e group between front) (rest more : List ℕ)
-    → is_editable e ≡ true
-    → begins_like_bom (front ++ rest) ≡ false → begins_like_bom (front ++ (encoded_text e (value_text e only between value) ++ more)) ≡ false
-front-valued e only group [] front value f rest more ok h = grind (arith, encoded-ascii, prefix-unmarked)
-front-valued e only group (b ∷ bs) front value f rest more ok h =
-    let m = front-ends e group (b ∷ bs) front f (λ q. cc) in
-    let n = ascii-end e f.head m.0 m.1 ok m.3 (sym (decoded_line-only e f.head f.head_text f.is_head) ∙ m.2) in
+front-valued : (r : Repertoire) (group : List HeldLine) (between front value : List ℕ) (f : IsFrontOf r.encoding group between front) (rest more : List ℕ)
+    → is_editable r.encoding ≡ true
+    → begins_like_bom (front ++ rest) ≡ false → begins_like_bom (front ++ (encoded_text r.encoding (value_text r between value) ++ more)) ≡ false
+front-valued r group [] front value f rest more ok h = grind (arith, encoded-ascii, prefix-unmarked)
+front-valued r group (b ∷ bs) front value f rest more ok h =
+    let m = front-ends r.encoding group (b ∷ bs) front f (λ q. cc) in
+    let n = ascii-end r.encoding f.head m.0 m.1 ok m.3 (sym (decoded_line-only r.encoding f.head f.head_text f.is_head) ∙ m.2) in
     let w = group_bytes f.kept ++ n.front in
-    let s : (z : List ℕ) → front ++ z ≡ w ++ m.1 ∷ z = λ z.
-    ap (λ v. v ++ z) (f.bytes ∙ ap (λ v. group_bytes f.kept ++ v) n.bytes ∙ sym (append_assoc (group_bytes f.kept) n.front (m.1 ∷ []))) ∙ append_assoc w (m.1 ∷ []) z in
-    ap begins_like_bom (s (encoded_text e (value_text e only (b ∷ bs) value) ++ more))
-    ∙ prefix-unmarked w (m.1 ∷ rest) m.1 (encoded_text e (value_text e only (b ∷ bs) value) ++ more) m.3 (ap begins_like_bom (sym (s rest)) ∙ h)
+    let s : (z : List ℕ) → front ++ z ≡ w ++ m.1 ∷ z = grind (arith, append_assoc) in
+    ap begins_like_bom (s (encoded_text r.encoding (value_text r (b ∷ bs) value) ++ more))
+    ∙ prefix-unmarked w (m.1 ∷ rest) m.1 (encoded_text r.encoding (value_text r (b ∷ bs) value) ++ more) m.3 (ap begins_like_bom (sym (s rest)) ∙ h)
 
 -- If the last pair gets another value, a body that didn't begin like a byte order mark still doesn't.
-revalued-unmarked : (e : Encoding) (only : Bool) (gs : List (List HeldLine)) (key value body : List ℕ) → is_editable e ≡ true → AreHeldGroups e gs
-    → begins_like_bom (groups_bytes gs) ≡ false → IsRevalued e only gs key value body
-    → begins_like_bom body ≡ false
-revalued-unmarked e only gs key value body ok k h r =
+revalued-unmarked : (t : Repertoire) (gs : List (List HeldLine)) (key value body : List ℕ) → is_editable t.encoding ≡ true → AreHeldGroups t.encoding gs
+    → begins_like_bom (groups_bytes gs) ≡ false → IsRevalued t gs key value body → begins_like_bom body ≡ false
+revalued-unmarked t gs key value body ok k h r =
     let f = r.is_front in
     let old = f.tail ++ (ending_bytes f.line.ending ++ group_bytes f.more) in
     let more = ending_bytes (last_ending r.group) ++ groups_bytes r.after in
     ap begins_like_bom r.bytes
-    ∙ changed-unmarked e gs r.before r.group r.after (r.front ++ (encoded_text e (value_text e only r.between value) ++ more)) r.division k h (λ q.
+    ∙ changed-unmarked t.encoding gs r.before r.group r.after (r.front ++ (encoded_text t.encoding (value_text t r.between value) ++ more)) r.division k h (λ q.
     let u : groups_bytes gs ≡ r.front ++ (old ++ groups_bytes r.after) =
     ap groups_bytes (r.division ∙ ap (λ v. v ++ r.group ∷ r.after) q)
-    ∙ ap (λ v. v ++ groups_bytes r.after) (front-bytes e r.group r.between r.front f)
+    ∙ ap (λ v. v ++ groups_bytes r.after) (front-bytes t.encoding r.group r.between r.front f)
     ∙ append_assoc r.front old (groups_bytes r.after) in
-    front-valued e only r.group r.between r.front value f (old ++ groups_bytes r.after) more ok (ap begins_like_bom (sym u) ∙ h))
+    front-valued t r.group r.between r.front value f (old ++ groups_bytes r.after) more ok (ap begins_like_bom (sym u) ∙ h))
 
 -- ---- a new pair
 
 -- A new pair at the front doesn't begin like a byte order mark.
-first-unmarked : (e : Encoding) (only : Bool) (key sep value : List ℕ) (by : LineEnding) (groups : List (List HeldLine)) → IsNewSeparator groups key sep
-    → begins_like_bom (encoded_text e (printed_key e only true key ++ (sep ++ printed_value e only (is_blanks sep) value)) ++ line_ending_text by) ≡ false
-first-unmarked e only key sep value by groups s =
-    let x = encoded_text e (printed_key e only true key ++ (sep ++ printed_value e only (is_blanks sep) value)) in
+first-unmarked : (r : Repertoire) (key sep value : List ℕ) (by : LineEnding) (groups : List (List HeldLine)) → IsNewSeparator groups key sep
+    → begins_like_bom (encoded_text r.encoding (printed_key r true key ++ (sep ++ printed_value r (is_blanks sep) value)) ++ line_ending_text by) ≡ false
+first-unmarked r key sep value by groups s =
+    let x = encoded_text r.encoding (printed_key r true key ++ (sep ++ printed_value r (is_blanks sep) value)) in
     ap (λ v. begins_like_bom (x ++ v)) (sym (append-nil (line_ending_text by)))
     ∙ ending-cut x by []
-    ∙ pair-unmarked e only key sep (printed_value e only (is_blanks sep) value) (new_separator-fit groups key sep s).good
+    ∙ pair-unmarked r key sep (printed_value r (is_blanks sep) value) (new_separator-fit groups key sep s).good
 
 -- ---- the source
 
 -- After a value is set, the same encoding is in force, with the edited body.
-pub value_set-in_force : (e : Encoding) (only : Bool) (source key value result : List ℕ) → is_editable (byte_order_mark e source).encoding ≡ true
-    → (h : IsValueSet e only source key value result)
-    → byte_order_mark e result ≡ record { encoding = (byte_order_mark e source).encoding; body = h.body }
-value_set-in_force e only source key value result ok h =
-    let f = byte_order_mark e source in
+pub value_set-in_force : (t : Repertoire) (source key value result : List ℕ) → is_editable (byte_order_mark t.encoding source).encoding ≡ true
+    → (h : IsValueSet t source key value result)
+    → byte_order_mark t.encoding result ≡ record { encoding = (byte_order_mark t.encoding source).encoding; body = h.body }
+value_set-in_force t source key value result ok h =
+    let f = byte_order_mark t.encoding source in
     let gs = held-groups f.encoding f.body h.groups ok h.held in
-    ap (byte_order_mark e) h.whole
-    ∙ in_force e source h.body ok (λ n.
-    let old = groups-unmarked e source h.groups ok h.held n in
+    ap (byte_order_mark t.encoding) h.whole
+    ∙ in_force t.encoding source h.body ok (λ n.
+    let old = groups-unmarked t.encoding source h.groups ok h.held n in
     elim h.edited [
       | inl r ↦ ap begins_like_bom r.bytes ∙ old
-      | inr (inl r) ↦ revalued-unmarked f.encoding only h.groups key value h.body ok gs old r
+      | inr (inl r) ↦ revalued-unmarked (in_encoding t f.encoding) h.groups key value h.body ok gs old r
       | inr (inr r) ↦
           let by = ending_among lf (held_in h.groups) in
           ap begins_like_bom r.bytes
-          ∙ added-unmarked f.encoding by h.groups (λ x. new_pair_bytes f.encoding only x key r.separator value (line_ending_text by)) gs old
-          (first-unmarked f.encoding only key r.separator value by h.groups r.is_separator)
+          ∙ added-unmarked f.encoding by h.groups (λ x. new_pair_bytes (in_encoding t f.encoding) x key r.separator value (line_ending_text by)) gs old
+          (first-unmarked (in_encoding t f.encoding) key r.separator value by h.groups r.is_separator)
     ])

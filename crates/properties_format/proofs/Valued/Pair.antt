@@ -1,10 +1,11 @@
 -- The group of a pair that gets another value: it is that pair, and its front is the old front, followed by an equals
 -- sign if nothing separated the key from the value.
-use Rattle.std.proofs.Common.{◌≡◌, ◌≢◌, ℕ, true, false, List, [], ◌∷◌, ◌++◌, Option, None, refl, ap, ap₂, sym, ◌∙◌, append_assoc, append-nil, lit<, subst, Bool}
-use Rattle.std.specs.Prelude.{All, unwrap_or}
+use Rattle.std.proofs.Common.{rules, arith, ◌≡◌, ◌≢◌, ℕ, true, false, List, [], ◌∷◌, ◌++◌, Option, None, refl, ap, ap₂, sym, ◌∙◌, append_assoc, append-nil, lit<, subst}
+use Rattle.std.specs.Prelude.{All}
 use Rattle.std.proofs.lemmas.List.Elements.{recursion_from_All}
 use Rattle.properties_format.specs.Text.{scalar, equals_sign, LineEnding, is_blanks}
 use Rattle.properties_format.specs.Encoding.{Encoding}
+use Rattle.properties_format.specs.Repertoire.{Repertoire}
 use Rattle.properties_format.specs.Lines.{HoldsNoLineEnd}
 use Rattle.properties_format.specs.Cut.{IsDecodedLine}
 use Rattle.properties_format.specs.Computed.Cut.{decoded_line}
@@ -36,46 +37,39 @@ use Rattle.properties_format.proofs.Encodings.PieceEnds.{no-front}
 
 -- It is encoded as itself.
 missing-bytes : (e : Encoding) (between : List ℕ) → encoded_text e (missing between) ≡ missing between
-missing-bytes e [] = ap (λ o. unwrap_or o [] ++ []) (encoded-ascii e equals_sign (lit< tt))
-missing-bytes e (c ∷ cs) = refl
+missing-bytes e between = grind (arith, encoded-ascii)
 
 -- The bytes after the front.
-pub after-bytes : (e : Encoding) (only : Bool) (between value : List ℕ) → encoded_text e (value_text e only between value) ≡ missing between ++ encoded_text e (value_after e only between value)
-after-bytes e only between value = simp (value_text-parts, encoded_text-append, missing, value_after, missing-bytes)
-
--- It leaves no line open.
-missing-closed : (x between : List ℕ) → is_open x ≡ false → is_open (x ++ missing between) ≡ false
-missing-closed x [] h = is_open-other x equals_sign refl
-missing-closed x (c ∷ cs) h = ap is_open (append-nil x) ∙ h
+pub after-bytes : (r : Repertoire) (between value : List ℕ)
+    → encoded_text r.encoding (value_text r between value) ≡ missing between ++ encoded_text r.encoding (value_after r between value)
+after-bytes r between value = simp (value_text-parts, encoded_text-append, missing, value_after, missing-bytes)
 
 -- It contains no line ending.
 missing-plain : (between : List ℕ) → HoldsNoLineEnd (missing between)
-missing-plain [] = (refl, tt)
-missing-plain (c ∷ cs) = tt
+missing-plain between = grind (arith)
 
 -- What is printed for an empty value is only what is missing.
-no_value-text : (e : Encoding) (only : Bool) (between : List ℕ) → value_text e only between [] ≡ missing between
-no_value-text e only [] = refl
-no_value-text e only (c ∷ cs) = refl
+no_value-text : (r : Repertoire) (between : List ℕ) → value_text r between [] ≡ missing between
+no_value-text r between = grind (arith)
 
 -- ---- the changed group
 
 -- the line that replaces those after the lines that are kept
-abbrev pub new_bytes : Encoding → Bool → List ℕ → List ℕ → List ℕ → List ℕ
-new_bytes e only head between value = head ++ encoded_text e (value_text e only between value)
+abbrev pub new_bytes : Repertoire → List ℕ → List ℕ → List ℕ → List ℕ
+new_bytes r head between value = head ++ encoded_text r.encoding (value_text r between value)
 
 -- the line of these bytes
-abbrev pub new_line : Encoding → Bool → List ℕ → List ℕ → List ℕ → Option LineEnding → HeldLine
-new_line e only head between value ending =
-    record { bytes = new_bytes e only head between value; text = decoded_line e (new_bytes e only head between value); ending = ending }
+abbrev pub new_line : Repertoire → List ℕ → List ℕ → List ℕ → Option LineEnding → HeldLine
+new_line r head between value ending =
+    record { bytes = new_bytes r head between value; text = decoded_line r.encoding (new_bytes r head between value); ending = ending }
 
 -- What holds for the changed group.
-pub record IsChangedPair (e : Encoding) (only : Bool) (key between front value : List ℕ) (kept : List HeldLine) (head : List ℕ) (ending : Option LineEnding) : Type 0 where
-  pub plain : HoldsNoLineEnd (new_bytes e only head between value)
-  pub some : new_bytes e only head between value ≢ []
-  pub whole : IsWhole (as_lines (kept ++ new_line e only head between value ending ∷ []))
-  pub has_pair : HasPair key value (kept ++ new_line e only head between value ending ∷ [])
-  pub is_front : IsFrontOf e (kept ++ new_line e only head between value ending ∷ []) (between_after between) (front ++ missing between)
+pub record IsChangedPair (r : Repertoire) (key between front value : List ℕ) (kept : List HeldLine) (head : List ℕ) (ending : Option LineEnding) : Type 0 where
+  pub plain : HoldsNoLineEnd (new_bytes r head between value)
+  pub some : new_bytes r head between value ≢ []
+  pub whole : IsWhole (as_lines (kept ++ new_line r head between value ending ∷ []))
+  pub has_pair : HasPair key value (kept ++ new_line r head between value ending ∷ [])
+  pub is_front : IsFrontOf r.encoding (kept ++ new_line r head between value ending ∷ []) (between_after between) (front ++ missing between)
 
 -- A head isn't empty.
 head-some : (e : Encoding) (group : List HeldLine) (between front : List ℕ) (f : IsFrontOf e group between front) → f.head ≢ []
@@ -109,75 +103,72 @@ key-closed e group between front f s =
 key-means : (e : Encoding) (group : List HeldLine) (key between front : List ℕ) (f : IsFrontOf e group between front) → HasKey key group → Means f.key key
 key-means e group key between front f (old, h) =
     let s = split-unique (joined (as_lines group)) (Logical.pair h.raw_key h.raw_value) (Logical.pair f.key f.value) h.split f.is_pair in
-    let t : h.raw_key ≡ f.key = cc in
-    subst (λ v. Means v key) t h.key_means
+    grind (arith)
 
 -- The group with the front and another value.
-pub changed-pair : (e : Encoding) (only : Bool) (group : List HeldLine) (key between front value : List ℕ) (ending : Option LineEnding) (f : IsFrontOf e group between front)
-    → is_editable e ≡ true → All scalar value → IsLastFit group → HoldsNoLineEnd f.line.bytes → HasKey key group
-    → IsChangedPair e only key between front value f.kept f.head ending
-changed-pair e only group key between front value ending f ok scalars fit line_plain has =
+pub changed-pair : (r : Repertoire) (group : List HeldLine) (key between front value : List ℕ) (ending : Option LineEnding)
+    (f : IsFrontOf r.encoding group between front) → is_editable r.encoding ≡ true → All scalar value → IsLastFit group → HoldsNoLineEnd f.line.bytes
+    → HasKey key group → IsChangedPair r key between front value f.kept f.head ending
+changed-pair r group key between front value ending f ok scalars fit line_plain has =
     let h = f.is_pair in
     let first = is_first_after true f.kept in
-    let va = value_after e only between value in
-    let vt = value_text e only between value in
+    let va = value_after r between value in
+    let vt = value_text r between value in
     let all = recursion_from_All scalar value scalars in
-    let loose = value-loose e only (is_blanks (between_after between)) value all in
-    let writable = value-writable e only (is_blanks (between_after between)) value all in
-    let none = value-writable e only (is_blanks (between_after between)) [] tt in
-    let decoded : decoded_line e (new_bytes e only f.head between value) ≡ f.head_text ++ vt = after-front e only group between front value f ok writable in
-    let parts : f.head_text ++ vt ≡ (f.head_text ++ missing between) ++ va =
-    ap (λ v. f.head_text ++ v) (value_text-parts e only between value) ∙ sym (append_assoc f.head_text (missing between) va) in
-    let closed_head : is_open (f.head_text ++ missing between) ≡ false = missing-closed f.head_text between f.closed in
+    let loose = value-loose r (is_blanks (between_after between)) value all in
+    let writable = value-writable r (is_blanks (between_after between)) value all in
+    let none = value-writable r (is_blanks (between_after between)) [] tt in
+    let decoded : decoded_line r.encoding (new_bytes r f.head between value) ≡ f.head_text ++ vt = after-front r group between front value f ok writable in
+    let parts : f.head_text ++ vt ≡ (f.head_text ++ missing between) ++ va = search (value_text-parts, append_assoc) in
+    let closed_head : is_open (f.head_text ++ missing between) ≡ false = search (rules, is_open-other, append-nil) in
     let closed : is_open (f.head_text ++ vt) ≡ false = ap is_open parts ∙ loosely-closed (f.head_text ++ missing between) va value loose closed_head in
-    let line : HeldLine = record { bytes = new_bytes e only f.head between value; text = f.head_text ++ vt; ending = ending } in
-    let same : line ≡ new_line e only f.head between value ending =
-    ap (λ v. let l : HeldLine = record { bytes = new_bytes e only f.head between value; text = v; ending = ending } in l) (sym decoded) in
-    let unmarked = kept-unmarked e group between front f in
+    let line : HeldLine = record { bytes = new_bytes r f.head between value; text = f.head_text ++ vt; ending = ending } in
+    let same : line ≡ new_line r f.head between value ending =
+    ap (λ v. let l : HeldLine = record { bytes = new_bytes r f.head between value; text = v; ending = ending } in l) (sym decoded) in
+    let unmarked = kept-unmarked r.encoding group between front f in
     let joined_is : joined (as_lines (f.kept ++ line ∷ [])) ≡ h.indent ++ (f.key ++ (between_after between ++ va)) =
-    longer-joined e f.kept f.head_text vt (new_bytes e only f.head between value) ending unmarked f.not_blank closed
-    ∙ ap₂ (λ v w. v ++ w) (sym (front-text e group between front f)) (value_text-parts e only between value)
+    longer-joined r.encoding f.kept f.head_text vt (new_bytes r f.head between value) ending unmarked f.not_blank closed
+    ∙ ap₂ (λ v w. v ++ w) (sym (front-text r.encoding group between front f)) (value_text-parts r between value)
     ∙ append_assoc h.indent (f.key ++ between) (missing between ++ va)
     ∙ ap (λ v. h.indent ++ v) (append_assoc f.key between (missing between ++ va))
     ∙ ap (λ v. h.indent ++ (f.key ++ v)) (sym (append_assoc between (missing between) va))
     ∙ ap (λ v. h.indent ++ (f.key ++ (v ++ va))) (sym (between_after-parts between)) in
-    let joined_new : joined (as_lines (f.kept ++ new_line e only f.head between value ending ∷ [])) ≡ h.indent ++ (f.key ++ (between_after between ++ va)) =
+    let joined_new : joined (as_lines (f.kept ++ new_line r f.head between value ending ∷ [])) ≡ h.indent ++ (f.key ++ (between_after between ++ va)) =
     ap (λ v. joined (as_lines (f.kept ++ v ∷ []))) (sym same) ∙ joined_is in
-    let anew = pair-anew (joined (as_lines group)) f.key f.value va h between (joined (as_lines (f.kept ++ new_line e only f.head between value ending ∷ []))) f.is_between
-    (value-begins e only (is_blanks (between_after between)) value all) (key-closed e group between front f) joined_new in
-    let value_plain : HoldsNoLineEnd (encoded_text e vt) =
-    plain-bytes e (encoded_text e vt) ok
-    (subst HoldsNoLineEnd (sym (ap (decoded_line e) (after-bytes e only between value) ∙ text-after e between va ok writable))
+    let anew = pair-anew _ f.key f.value va h between _ f.is_between
+    (value-begins r (is_blanks (between_after between)) value all) (key-closed r.encoding group between front f) joined_new in
+    let value_plain : HoldsNoLineEnd (encoded_text r.encoding vt) =
+    plain-bytes r.encoding (encoded_text r.encoding vt) ok
+    (subst HoldsNoLineEnd (sym (ap (decoded_line r.encoding) (after-bytes r between value) ∙ text-after r.encoding between va ok writable))
     (plain-append (missing between) va (missing-plain between) (loosely-plain va value loose))) in
-    let shorter : decoded_line e (f.head ++ missing between) ≡ f.head_text ++ missing between =
-    ap (λ v. decoded_line e (f.head ++ v)) (sym (ap (encoded_text e) (no_value-text e only between) ∙ missing-bytes e between))
-    ∙ after-front e only group between front [] f ok none
-    ∙ ap (λ v. f.head_text ++ v) (no_value-text e only between) in
+    let shorter : decoded_line r.encoding (f.head ++ missing between) ≡ f.head_text ++ missing between =
+    ap (λ v. decoded_line r.encoding (f.head ++ v)) (sym (ap (encoded_text r.encoding) (no_value-text r between) ∙ missing-bytes r.encoding between))
+    ∙ after-front r group between front [] f ok none
+    ∙ ap (λ v. f.head_text ++ v) (no_value-text r between) in
     record {
-      plain = plain-append f.head (encoded_text e vt) (plain-left f.head f.tail (subst HoldsNoLineEnd f.cut line_plain)) value_plain;
-      some = λ q. head-some e group between front f (no-front f.head (encoded_text e vt) q);
-      whole = subst (λ v. IsWhole (as_lines (f.kept ++ v ∷ []))) same
-          (longer-whole f.kept f.line f.more line (subst IsLastFit f.division fit) closed unmarked);
+      plain = plain-append f.head (encoded_text r.encoding vt) (plain-left f.head f.tail (subst HoldsNoLineEnd f.cut line_plain)) value_plain;
+      some = λ q. head-some r.encoding group between front f (no-front f.head (encoded_text r.encoding vt) q);
+      whole = grind (arith, longer-whole);
       has_pair = record {
         raw_key = f.key;
         raw_value = va;
         split = anew.is_pair;
-        key_means = key-means e group key between front f has;
+        key_means = key-means r.encoding group key between front f has;
         value_means = rw (loose-means va value loose) at (meaning_of-meets va);
       };
       is_front = record {
         kept = f.kept;
-        line = new_line e only f.head between value ending;
+        line = new_line r f.head between value ending;
         more = [];
         division = refl;
         head = f.head ++ missing between;
-        tail = encoded_text e va;
+        tail = encoded_text r.encoding va;
         head_text = f.head_text ++ missing between;
         tail_text = va;
-        cut = ap (λ v. f.head ++ v) (after-bytes e only between value) ∙ sym (append_assoc f.head (missing between) (encoded_text e va));
+        cut = ap (λ v. f.head ++ v) (after-bytes r between value) ∙ sym (append_assoc f.head (missing between) (encoded_text r.encoding va));
         cut_text = decoded ∙ parts;
-        is_head = subst (IsDecodedLine e (f.head ++ missing between)) shorter (decoded_line-meets e (f.head ++ missing between));
-        is_tail = subst (IsDecodedLine e (encoded_text e va)) (text-own e va ok writable) (decoded_line-meets e (encoded_text e va));
+        is_head = subst (IsDecodedLine r.encoding (f.head ++ missing between)) shorter (decoded_line-meets r.encoding (f.head ++ missing between));
+        is_tail = subst (IsDecodedLine r.encoding _) (text-own r.encoding va ok writable) (decoded_line-meets r.encoding _);
         not_blank = λ b. f.not_blank (blanks-left f.head_text (missing between) b);
         closed = closed_head;
         key = f.key;
@@ -185,8 +176,8 @@ changed-pair e only group key between front value ending f ok scalars fit line_p
         is_pair = anew.is_pair;
         is_between = sym anew.between_is;
         up_to =
-            longer-joined e f.kept f.head_text (missing between) (f.head ++ missing between) None unmarked f.not_blank closed_head
-            ∙ ap (λ v. v ++ missing between) (sym (front-text e group between front f))
+            longer-joined r.encoding f.kept f.head_text (missing between) (f.head ++ missing between) None unmarked f.not_blank closed_head
+            ∙ ap (λ v. v ++ missing between) (sym (front-text r.encoding group between front f))
             ∙ append_assoc h.indent (f.key ++ between) (missing between)
             ∙ ap (λ v. h.indent ++ v) (append_assoc f.key between (missing between))
             ∙ ap₂ (λ v w. v ++ (f.key ++ w)) (sym anew.indent_is) (sym (between_after-parts between));
@@ -200,6 +191,5 @@ changed-pair e only group key between front value ending f ok scalars fit line_p
       where
         ascii-first : (e : Encoding) (va : List ℕ) → is_editable e ≡ true → AreWritable e va
             → decoded_line e (equals_sign ∷ encoded_text e va) ≡ equals_sign ∷ va
-        ascii-first e va ok w =
-            rw (ascii-among e [] equals_sign (encoded_text e va) ok (lit< tt), decoded-nil e, text-own e va ok w)
+        ascii-first e va ok w = rw (ascii-among e [] equals_sign (encoded_text e va) ok (lit< tt), decoded-nil e, text-own e va ok w)
     text-after e (c ∷ cs) va ok w = text-own e va ok w

@@ -31,8 +31,7 @@ written_value-pair line key value h = rw (after_key-pair line key value h, betwe
 
 -- What separates the key of a pair from its value.
 pub between_in-pair : (line key value : List ℕ) (h : IsPair line key value) → between_in line ≡ h.between
-between_in-pair line key value h =
-    ap₂ without_end (after_key-pair line key value h) (written_value-pair line key value h) ∙ without_end-append h.between value
+between_in-pair line key value h = ap₂ without_end (after_key-pair line key value h) (written_value-pair line key value h) ∙ without_end-append h.between value
 
 -- A pair's line is what comes before the value, followed by the value.
 pub pair-line : (line key value : List ℕ) (h : IsPair line key value) → line ≡ (h.indent ++ (key ++ h.between)) ++ value
@@ -40,8 +39,7 @@ pair-line line key value h = cc (append_assoc key h.between value, append_assoc 
 
 -- What comes before the value of a pair.
 pub before_value-pair : (line key value : List ℕ) (h : IsPair line key value) → before_value line ≡ h.indent ++ (key ++ h.between)
-before_value-pair line key value h =
-    ap₂ without_end (pair-line line key value h) (written_value-pair line key value h) ∙ without_end-append (h.indent ++ (key ++ h.between)) value
+before_value-pair line key value h = ap₂ without_end (pair-line line key value h) (written_value-pair line key value h) ∙ without_end-append _ value
 
 -- A comment line isn't a pair.
 pub comment_line-no_pair : (line key value : List ℕ) → is_comment_line line ≡ true → IsPair line key value → ⊥

@@ -1,8 +1,9 @@
 -- What a source with a value set contains, what stays unchanged, and the result of setting another value.
-use Rattle.std.proofs.Common.{◌≡◌, ℕ, true, List, [], ◌∷◌, ◌++◌, refl, ap, ap₂, sym, ◌∙◌, inl, inr, append_assoc, subst, All, Bool}
+use Rattle.std.proofs.Common.{rules, ◌≡◌, ℕ, true, List, [], ◌∷◌, ◌++◌, refl, ap, ap₂, sym, ◌∙◌, inl, inr, append_assoc, subst, All}
 use Rattle.std.proofs.lemmas.List.{append_cancel_right}
 use Rattle.properties_format.specs.Text.{scalar}
 use Rattle.properties_format.specs.Encoding.{Encoding, InForce, byte_order_mark}
+use Rattle.properties_format.specs.Repertoire.{Repertoire, in_encoding}
 use Rattle.properties_format.specs.Printing.{encoded_text}
 use Rattle.properties_format.specs.Body.{HasKey, HeldLine, NoneHasKey, group_bytes, groups_bytes, ending_bytes, last_ending}
 use Rattle.properties_format.specs.Edited.{bom_of, final_group, edited, is_editable}
@@ -12,7 +13,7 @@ use Rattle.properties_format.specs.Valued.{IsAlikeAround, value_text, ending_in,
 use Rattle.properties_format.specs.Computed.Body.{held_groups_of}
 use Rattle.properties_format.specs.Computed.Edited.{last_place}
 use Rattle.properties_format.specs.Computed.Parts.{unended_bytes}
-use Rattle.properties_format.specs.Computed.Valued.{front_of, between_of, valued_at, value_set}
+use Rattle.properties_format.specs.Computed.Valued.{valued_at, value_set}
 use Rattle.properties_format.proofs.Body.Groups.{held_groups_of-only, held-body, groups_bytes-append}
 use Rattle.properties_format.proofs.Edited.ByteOrderMarks.{source-whole}
 use Rattle.properties_format.proofs.Changed.Laws.{value_set-contents}
@@ -29,57 +30,55 @@ use Rattle.properties_format.proofs.Valued.Marks.{front-bytes, value_set-in_forc
 -- ---- its contents
 
 -- What holds for the body.
-valued-body : (e : Encoding) (only : Bool) (source key value result : List ℕ) → is_editable (byte_order_mark e source).encoding ≡ true → All scalar key → All scalar value
-    → (h : IsValueSet e only source key value result)
-    → IsValued (byte_order_mark e source).encoding only h.groups key value h.body
-valued-body e only source key value result ok k v h =
-    let f = byte_order_mark e source in body-valued f.encoding only f.body h.groups key value h.body ok k v h.held h.edited
+valued-body : (r : Repertoire) (source key value result : List ℕ) → is_editable (byte_order_mark r.encoding source).encoding ≡ true → All scalar key
+    → All scalar value → (h : IsValueSet r source key value result)
+    → IsValued (in_encoding r (byte_order_mark r.encoding source).encoding) h.groups key value h.body
+valued-body r source key value result ok k v h = search (body-valued)
 
 -- The result of setting a value reads as the source with that value.
-pub set_value-reads : (e : Encoding) (only : Bool) (source key value result : List ℕ) → All scalar key → All scalar value → IsSetValueResult e only source key value (edited result)
-    → ReadsAfter (IsSetIn key value) (map_edited (put key value)) e source result
-set_value-reads e only source key value result k v h =
-    reads-after e source result (IsSetIn key value) (map_edited (put key value)) (value_set-contents e only source key value result (readable e source h.0 h.1) k v h.2) (map-edited (put key value))
+pub set_value-reads : (r : Repertoire) (source key value result : List ℕ) → All scalar key → All scalar value
+    → IsSetValueResult r source key value (edited result) → ReadsAfter (IsSetIn key value) (map_edited (put key value)) r.encoding source result
+set_value-reads r source key value result k v h = search (reads-after, value_set-contents, readable, map-edited)
 
 -- ---- another value
 
 -- The byte order mark of the result is that of the source.
-bom-same : (e : Encoding) (only : Bool) (source key value result : List ℕ) → is_editable (byte_order_mark e source).encoding ≡ true → (h : IsValueSet e only source key value result)
-    → bom_of result ≡ bom_of source
-bom-same e only source key value result ok h =
-    let f = value_set-in_force e only source key value result ok h in
+bom-same : (r : Repertoire) (source key value result : List ℕ) → is_editable (byte_order_mark r.encoding source).encoding ≡ true
+    → (h : IsValueSet r source key value result) → bom_of result ≡ bom_of source
+bom-same r source key value result ok h =
+    let f = value_set-in_force r source key value result ok h in
     append_cancel_right (bom_of result) (bom_of source) h.body
-    (ap (λ v. let w : InForce = v in bom_of result ++ w.body) (sym f) ∙ sym (source-whole e result) ∙ h.whole)
+    (ap (λ v. let w : InForce = v in bom_of result ++ w.body) (sym f) ∙ sym (source-whole r.encoding result) ∙ h.whole)
 
 -- Setting another value in the result has the same results as in the source, if the source doesn't have that value
 -- already.
-pub value_set-again : (e : Encoding) (only : Bool) (source key first second between : List ℕ) → is_editable (byte_order_mark e source).encoding ≡ true → All scalar key
-    → All scalar first
-    → IsValueSet e only source key first between
-    → IsNotAt second (last_place key (held_groups_of (byte_order_mark e source).encoding (byte_order_mark e source).body))
-    → value_set e only between key second ≡ value_set e only source key second
-value_set-again e only source key first second between ok k v h other =
-    let f = byte_order_mark e source in
-    let m = valued-body e only source key first between ok k v h in
+pub value_set-again : (r : Repertoire) (source key first second between : List ℕ) → is_editable (byte_order_mark r.encoding source).encoding ≡ true
+    → All scalar key → All scalar first → IsValueSet r source key first between
+    → IsNotAt second (last_place key (held_groups_of (byte_order_mark r.encoding source).encoding (byte_order_mark r.encoding source).body))
+    → value_set r between key second ≡ value_set r source key second
+value_set-again r source key first second between ok k v h other =
+    let f = byte_order_mark r.encoding source in
+    let m = valued-body r source key first between ok k v h in
     let own = held_groups_of-only f.encoding f.body h.groups h.held in
-    ap (λ w. let g : InForce = w in bom_of between ++ valued_at g.encoding only (held_groups_of g.encoding g.body) key second (last_place key (held_groups_of g.encoding g.body)))
-    (value_set-in_force e only source key first between ok h)
-    ∙ ap₂ (λ x gs. x ++ valued_at f.encoding only gs key second (last_place key gs)) (bom-same e only source key first between ok h) (sym (held_groups_of-only f.encoding h.body m.groups m.held))
+    ap (λ w. let g : InForce = w in let gs = held_groups_of g.encoding g.body in bom_of between ++ valued_at (in_encoding r g.encoding) gs key second (last_place key gs))
+    (value_set-in_force r source key first between ok h)
+    ∙ ap₂ (λ x gs. x ++ valued_at (in_encoding r f.encoding) gs key second (last_place key gs)) (bom-same r source key first between ok h) (sym (held_groups_of-only f.encoding h.body m.groups m.held))
     ∙ ap (λ x. bom_of source ++ x) (m.again second (subst (λ gs. IsNotAt second (last_place key gs)) (sym own) other))
-    ∙ ap (λ gs. bom_of source ++ valued_at f.encoding only gs key second (last_place key gs)) own
+    ∙ ap (λ gs. bom_of source ++ valued_at (in_encoding r f.encoding) gs key second (last_place key gs)) own
 
 -- ---- what stays unchanged
 
 -- If a value is set, every group but the last pair with the key is unchanged.
-pub value_set-keeps : (e : Encoding) (only : Bool) (source key value result : List ℕ) → IsValueSet e only source key value result → KeepsOthers (AreOthersThanLast key) e source result
-value_set-keeps e only source key value result h = elim h.edited [
-  | inl r ↦ others-kept e source key result h.groups r.before r.group r.after _ h.held r.division (value, r.has_pair) r.no_later
+pub value_set-keeps : (t : Repertoire) (source key value result : List ℕ) → IsValueSet t source key value result
+    → KeepsOthers (AreOthersThanLast key) t.encoding source result
+value_set-keeps t source key value result h = elim h.edited [
+  | inl r ↦ others-kept t.encoding source key result h.groups r.before r.group r.after _ h.held r.division (value, r.has_pair) r.no_later
       (occur-after r.after (group_bytes r.group) (groups_bytes r.after) (occur-alone r.after))
       (h.whole ∙ ap (λ v. bom_of source ++ v) (r.bytes ∙ ap groups_bytes r.division ∙ groups_bytes-append r.before (r.group ∷ r.after)))
-  | inr (inl r) ↦ others-kept e source key result h.groups r.before r.group r.after _ h.held r.division r.has_key r.no_later
+  | inr (inl r) ↦ others-kept t.encoding source key result h.groups r.before r.group r.after _ h.held r.division r.has_key r.no_later
       (occur-after r.after r.front _ (occur-after r.after _ _ (occur-after r.after _ (groups_bytes r.after) (occur-alone r.after))))
       (h.whole ∙ ap (λ v. bom_of source ++ v) r.bytes)
-  | inr (inr r) ↦ all-kept e source key result h.groups _ h.held r.no_pair
+  | inr (inr r) ↦ all-kept t.encoding source key result h.groups _ h.held r.no_pair
       (h.whole ∙ ap (λ v. bom_of source ++ v) (r.bytes ∙ append_assoc (groups_bytes h.groups) _ _))
 ]
 
@@ -87,19 +86,13 @@ value_set-keeps e only source key value result h = elim h.edited [
 abbrev after_front : HeldLine → List ℕ → List HeldLine → List ℕ
 after_front line tail more = unended_bytes (record { bytes = tail; text = line.text; ending = line.ending } ∷ more)
 
--- The line ending doesn't depend on the bytes.
-same-ending : (line : HeldLine) (tail : List ℕ) (more : List HeldLine)
-    → last_ending (record { bytes = tail; text = line.text; ending = line.ending } ∷ more) ≡ last_ending (line ∷ more)
-same-ending line tail [] = refl
-same-ending line tail (i ∷ more) = refl
-
 -- The bytes of a pair's group: its front, what follows it, and its line ending.
 pair-bytes : (e : Encoding) (group : List HeldLine) (between front : List ℕ) (f : IsFrontOf e group between front)
     → group_bytes group ≡ front ++ (after_front f.line f.tail f.more ++ ending_bytes (last_ending group))
 pair-bytes e group between front f =
     front-bytes e group between front f
     ∙ ap (λ v. front ++ v) (bytes-unended (record { bytes = f.tail; text = f.line.text; ending = f.line.ending } ∷ f.more))
-    ∙ ap (λ o. front ++ (after_front f.line f.tail f.more ++ ending_bytes o)) (same-ending f.line f.tail f.more ∙ sym (ap last_ending f.division ∙ last_ending-append f.kept (f.line ∷ f.more) (λ q. cc)))
+    ∙ ap (λ o. front ++ (after_front f.line f.tail f.more ++ ending_bytes o)) (search (rules) ∙ sym (ap last_ending f.division ∙ last_ending-append f.kept (f.line ∷ f.more) (λ q. cc)))
 
 -- The front of a pair comes before its last line ending.
 pub front-unended : (e : Encoding) (group : List HeldLine) (between front : List ℕ) (f : IsFrontOf e group between front)
@@ -131,9 +124,9 @@ around-source e source before group after between front f s =
     ∙ sym (append_assoc (groups_bytes before) front (old ++ (by ++ groups_bytes after))))
 
 -- Such a source, and a result with other bytes instead of that value.
-alike-around : (e : Encoding) (source key new result : List ℕ) (groups before : List (List HeldLine)) (group : List HeldLine) (after : List (List HeldLine)) (between front : List ℕ)
-    → groups ≡ before ++ group ∷ after → HasKey key group → NoneHasKey key after → (byte_order_mark e source).body ≡ groups_bytes groups
-    → IsFrontOf (byte_order_mark e source).encoding group between front
+alike-around : (e : Encoding) (source key new result : List ℕ) (groups before : List (List HeldLine)) (group : List HeldLine) (after : List (List HeldLine))
+    (between front : List ℕ) → groups ≡ before ++ group ∷ after → HasKey key group → NoneHasKey key after
+    → (byte_order_mark e source).body ≡ groups_bytes groups → IsFrontOf (byte_order_mark e source).encoding group between front
     → result ≡ bom_of source ++ ((groups_bytes before ++ front) ++ (new ++ (ending_bytes (last_ending group) ++ groups_bytes after)))
     → IsAlikeAround (byte_order_mark e source).encoding source groups key result
 alike-around e source key new result groups before group after between front s has none body f is = record {
@@ -159,33 +152,32 @@ alike-around e source key new result groups before group after between front s h
 }
 
 -- If a value is set, every byte outside the old value is unchanged.
-pub value_set-keeps_front : (e : Encoding) (only : Bool) (source key value result : List ℕ) → is_editable (byte_order_mark e source).encoding ≡ true
-    → IsValueSet e only source key value result
-    → KeepsFront e source key result
-value_set-keeps_front e only source key value result ok h =
-    let f = byte_order_mark e source in
+pub value_set-keeps_front : (t : Repertoire) (source key value result : List ℕ) → is_editable (byte_order_mark t.encoding source).encoding ≡ true
+    → IsValueSet t source key value result → KeepsFront t.encoding source key result
+value_set-keeps_front t source key value result ok h =
+    let f = byte_order_mark t.encoding source in
     let body : f.body ≡ groups_bytes h.groups = sym (held-body f.encoding f.body h.groups ok h.held) in
     elim h.edited [
       | inl r ↦
           let p = r.has_pair in
           let m = front_of-meets f.encoding r.group p.raw_key p.raw_value ok (group-decoded f.encoding f.body h.groups r.before r.group r.after h.held r.division) p.split in
-          let s = around-source e source r.before r.group r.after (between_of r.group) (front_of f.encoding r.group) m (body ∙ ap groups_bytes r.division) in (
+          let s = around-source t.encoding source r.before r.group r.after _ _ m (body ∙ ap groups_bytes r.division) in (
             h.groups,
             h.held,
-            inl (alike-around e source key (after_front m.line m.tail m.more) result h.groups r.before r.group r.after (between_of r.group) (front_of f.encoding r.group)
-                r.division (value, r.has_pair) r.no_later body m (h.whole ∙ ap (λ v. bom_of source ++ v) (r.bytes ∙ sym body) ∙ sym (source-whole e source) ∙ s)),
+            inl (alike-around t.encoding source key _ result h.groups r.before r.group r.after _ _
+                r.division (value, r.has_pair) r.no_later body m (h.whole ∙ ap (λ v. bom_of source ++ v) (r.bytes ∙ sym body) ∙ sym (source-whole t.encoding source) ∙ s)),
           )
       | inr (inl r) ↦
           let back = ending_bytes (last_ending r.group) ++ groups_bytes r.after in
-          let new = encoded_text f.encoding (value_text f.encoding only r.between value) in (
+          let new = encoded_text f.encoding (value_text (in_encoding t f.encoding) r.between value) in (
             h.groups,
             h.held,
-            inl (alike-around e source key new result h.groups r.before r.group r.after r.between r.front r.division r.has_key r.no_later body r.is_front
+            inl (alike-around t.encoding source key new result h.groups r.before r.group r.after r.between r.front r.division r.has_key r.no_later body r.is_front
                 (h.whole ∙ ap (λ v. bom_of source ++ v) (r.bytes ∙ sym (append_assoc (groups_bytes r.before) r.front (new ++ back))))),
           )
       | inr (inr r) ↦
           let separation = separation_by (ending_in h.groups) (final_group h.groups) in
-          let more = separation ++ new_pair_bytes f.encoding only (groups_bytes h.groups ++ separation) key r.separator value (ending_in h.groups) in (
+          let more = separation ++ new_pair_bytes _ _ key r.separator value _ in (
             h.groups,
             h.held,
             inr (
@@ -194,10 +186,10 @@ value_set-keeps_front e only source key value result ok h =
               h.whole
                   ∙ ap (λ v. bom_of source ++ v)
                   (r.bytes
-                  ∙ append_assoc (groups_bytes h.groups) separation (new_pair_bytes f.encoding only (groups_bytes h.groups ++ separation) key r.separator value (ending_in h.groups))
+                  ∙ append_assoc _ separation _
                   ∙ ap (λ v. v ++ more) (sym body))
                   ∙ sym (append_assoc (bom_of source) f.body more)
-                  ∙ ap (λ v. v ++ more) (sym (source-whole e source)),
+                  ∙ ap (λ v. v ++ more) (sym (source-whole t.encoding source)),
             ),
           )
     ]

@@ -1,13 +1,14 @@
 -- A pair with another value: its front and what is printed for the value are a group, which is the pair with its key
 -- and the value, and has the same front.
-use Rattle.std.proofs.Common.{◌≡◌, ◌≢◌, ◌⊎◌, ◌<◌, ℕ, ◌==◌, not, Bool, true, false, List, [], ◌∷◌, ◌++◌, Option, refl, ap, ap₂, sym, ◌∙◌, inl, inr, append_assoc, append-nil, lit<, subst, eqb-true}
-use Rattle.std.specs.Prelude.{unwrap_or, if◌then◌else◌}
+use Rattle.std.proofs.Common.{rules, arith, ◌≡◌, ◌≢◌, ◌⊎◌, ◌<◌, ℕ, ◌==◌, not, Bool, true, false, List, [], ◌∷◌, ◌++◌, Option, refl, ap, sym, ◌∙◌, inl, inr, append_assoc, append-nil, subst, eqb-true}
+use Rattle.std.specs.Prelude.{if◌then◌else◌}
 use Rattle.std.proofs.lemmas.Bool.{cases_Bool}
 use Rattle.properties_format.specs.Text.{backslash, equals_sign, LineEnding, is_blank, is_blanks, is_comment_sign}
 use Rattle.properties_format.specs.Encoding.{Encoding}
+use Rattle.properties_format.specs.Repertoire.{Repertoire}
 use Rattle.properties_format.specs.Computed.Cut.{decoded_line}
 use Rattle.properties_format.specs.Groups.{is_open, is_comment_line, EndsClosed, AreOpen, IsWhole, joined}
-use Rattle.properties_format.specs.Split.{AreBlanks, begins, ends, KeyUnit, plain, escaped, last, units_before, AreUnits, IsKey, IsBetween, nothing, blanks, separator, IsPair}
+use Rattle.properties_format.specs.Split.{AreBlanks, begins, ends, KeyUnit, plain, escaped, last, units_before, AreUnits, IsBetween, nothing, blanks, separator, IsPair}
 use Rattle.properties_format.specs.Computed.Split.{ends_key}
 use Rattle.properties_format.specs.Printing.{encoded_text, printed_value}
 use Rattle.properties_format.specs.Body.{HeldLine, as_lines}
@@ -39,11 +40,7 @@ open_on was_open (c ∷ x) = open_on (if c == backslash then not was_open else f
 -- The text is open exactly if this is true.
 open-on : (x y : List ℕ) → is_open (x ++ y) ≡ open_on (is_open x) y
 open-on x [] = ap is_open (append-nil x)
-open-on x (c ∷ y) = ap is_open (sym (append_assoc x (c ∷ []) y)) ∙ open-on (x ++ c ∷ []) y ∙ ap (λ b. open_on b y) (step (cases_Bool (c == backslash)))
-  where
-    step : ((c == backslash) ≡ true) ⊎ ((c == backslash) ≡ false) → is_open (x ++ c ∷ []) ≡ (if c == backslash then not (is_open x) else false)
-    step (inl k) = rw k (ap (λ d. is_open (x ++ d ∷ [])) (eqb-true c backslash k) ∙ is_open-backslash x)
-    step (inr k) = rw k (is_open-other x c k)
+open-on x (c ∷ y) = grind (arith, append_assoc, open-on (x ++ c ∷ []) y, eqb-true, is_open-backslash, is_open-other)
 
 -- After a text that isn't open, a text is open exactly if it is by itself.
 pub open-closed : (x y : List ℕ) → is_open x ≡ false → is_open (x ++ y) ≡ is_open y
@@ -60,8 +57,7 @@ added-closed first (h ∷ hs) = simp (open-closed, joined_by, shut-closed, added
 units-anew : (us : List KeyUnit) (rest other : List ℕ) → AreUnits us rest → (rest ≢ []) ⊎ (is_open (units_before us []) ≡ false) → AreUnits us other
 units-anew [] rest other h k = tt
 units-anew (plain c ∷ us) rest other h (inl k) = (h.0, units-anew us rest other h.1 (inl k))
-units-anew (plain c ∷ us) rest other h (inr k) =
-    (h.0, units-anew us rest other h.1 (inr (sym (is_open-after [] c (units_before us []) h.0.0) ∙ k)))
+units-anew (plain c ∷ us) rest other h (inr k) = (h.0, units-anew us rest other h.1 (inr (sym (is_open-after [] c (units_before us []) h.0.0) ∙ k)))
 units-anew (escaped c ∷ us) rest other h (inl k) = (tt, units-anew us rest other h.1 (inl k))
 units-anew (escaped c ∷ us) rest other h (inr k) =
     (tt, units-anew us rest other h.1 (inr (sym (open-closed (backslash ∷ c ∷ []) (units_before us []) (two (cases_Bool (c == backslash)))) ∙ k)))
@@ -70,14 +66,7 @@ units-anew (escaped c ∷ us) rest other h (inr k) =
     two (inl m) = rw (eqb-true c backslash m) refl
     two (inr m) = is_open-other (backslash ∷ []) c m
 units-anew (last ∷ us) rest other h (inl k) = absurd (k (none-right (units_before us []) rest (sym (units_before-append us rest) ∙ h.0)))
-units-anew (last ∷ us) rest other h (inr k) =
-    cc (no-front (units_before us []) rest (sym (units_before-append us rest) ∙ h.0))
-
--- A key that doesn't end in a single backslash may come before any text.
-key-anew : (key rest other : List ℕ) → IsKey key rest → (rest ≢ []) ⊎ (is_open key ≡ false) → IsKey key other
-key-anew key rest other h (inl k) = record { units = h.units; whole = h.whole; each = units-anew h.units rest other h.each (inl k) }
-key-anew key rest other h (inr k) =
-    record { units = h.units; whole = h.whole; each = units-anew h.units rest other h.each (inr (ap is_open (sym h.whole) ∙ k)) }
+units-anew (last ∷ us) rest other h (inr k) = grind (arith, no-front, units_before-append)
 
 -- ---- what separates the key from the value, and the value
 
@@ -87,8 +76,8 @@ between_after [] = equals_sign ∷ []
 between_after (c ∷ cs) = c ∷ cs
 
 -- what is printed for the value after it
-abbrev pub value_after : Encoding → Bool → List ℕ → List ℕ → List ℕ
-value_after e only between value = printed_value e only (is_blanks (between_after between)) value
+abbrev pub value_after : Repertoire → List ℕ → List ℕ → List ℕ
+value_after r between value = printed_value r (is_blanks (between_after between)) value
 
 -- what is missing between key and value
 abbrev pub missing : List ℕ → List ℕ
@@ -96,14 +85,12 @@ missing [] = equals_sign ∷ []
 missing (c ∷ cs) = []
 
 -- What comes after the front is what was missing, followed by the value.
-pub value_text-parts : (e : Encoding) (only : Bool) (between value : List ℕ) → value_text e only between value ≡ missing between ++ value_after e only between value
-value_text-parts e only [] value = refl
-value_text-parts e only (c ∷ cs) value = refl
+pub value_text-parts : (r : Repertoire) (between value : List ℕ) → value_text r between value ≡ missing between ++ value_after r between value
+value_text-parts r between value = grind (arith)
 
 -- What separates the key from the value is what separated them before, followed by what was missing.
 pub between_after-parts : (between : List ℕ) → between_after between ≡ between ++ missing between
-between_after-parts [] = refl
-between_after-parts (c ∷ cs) = sym (append-nil (c ∷ cs))
+between_after-parts between = grind (arith, append-nil)
 
 -- What separates the key from a value also separates it from another value that begins like a printed one.
 between-anew : (between old new : List ℕ) → IsBetween between old → BeginsAfter (is_blanks (between_after between)) new → IsBetween (between_after between) new
@@ -149,15 +136,11 @@ pair-moved line other key value s h = record {
 
 -- After the change, the line is the pair with the new value.
 pub pair-anew : (line key old new : List ℕ) (h : IsPair line key old) (between other : List ℕ) → between ≡ h.between
-    → BeginsAfter (is_blanks (between_after between)) new → (between ≡ [] → is_open key ≡ false)
-    → other ≡ h.indent ++ (key ++ (between_after between ++ new))
+    → BeginsAfter (is_blanks (between_after between)) new → (between ≡ [] → is_open key ≡ false) → other ≡ h.indent ++ (key ++ (between_after between ++ new))
     → IsPairAnew other key new h.indent (between_after between)
 pair-anew line key old new h between other s b closed whole =
     let some : key ++ between ≢ [] = λ q. key-between line key old h (ap (λ v. key ++ v) (sym s) ∙ q) in
-    let same : key ++ (between_after between ++ new) ≡ (key ++ between) ++ (missing between ++ new) =
-    ap (λ v. key ++ (v ++ new)) (between_after-parts between)
-    ∙ ap (λ v. key ++ v) (append_assoc between (missing between) new)
-    ∙ sym (append_assoc key between (missing between ++ new)) in
+    let same : key ++ (between_after between ++ new) ≡ (key ++ between) ++ (missing between ++ new) = grind (arith, between_after-parts, append_assoc) in
     let was : key ++ (h.between ++ old) ≡ (key ++ between) ++ old = ap (λ v. key ++ (v ++ old)) (sym s) ∙ sym (append_assoc key between old) in
     let keeps : (kind : ℕ → Bool) → begins kind (key ++ (h.between ++ old)) ≡ false → begins kind (key ++ (between_after between ++ new)) ≡ false = λ kind k.
     ap (begins kind) same ∙ begins-more kind (key ++ between) old (missing between ++ new) some (ap (begins kind) (sym was) ∙ k) in
@@ -170,7 +153,7 @@ pair-anew line key old new h between other s b closed whole =
         not_empty = λ q. some (no-front (key ++ between) (missing between ++ new) (sym same ∙ q));
         begins_full = keeps is_blank h.begins_full;
         no_comment = keeps is_comment_sign h.no_comment;
-        is_key = key-anew key (h.between ++ old) (between_after between ++ new) h.is_key (of-between between s);
+        is_key = search (rules, units-anew);
         is_between = between-anew between old new (subst (λ v. IsBetween v old) (sym s) h.is_between) b;
       };
       indent_is = refl;
@@ -200,8 +183,7 @@ longer-joined e (i ∷ kept) text more bytes o f n c =
 
 -- They are a whole group, if the lines that are kept begin a group.
 pub longer-whole : (kept : List HeldLine) (line : HeldLine) (more : List HeldLine) (h : HeldLine) → IsLastFit (kept ++ line ∷ more) → is_open h.text ≡ false
-    → ((i : HeldLine) (is : List HeldLine) → kept ≡ i ∷ is → is_comment_line i.text ≡ false)
-    → IsWhole (as_lines (kept ++ h ∷ []))
+    → ((i : HeldLine) (is : List HeldLine) → kept ≡ i ∷ is → is_comment_line i.text ≡ false) → IsWhole (as_lines (kept ++ h ∷ []))
 longer-whole [] line more h k c f = alone-whole (record { number = 0; text = h.text }) (inr c)
 longer-whole (i ∷ kept) line more h (inl (inl k)) c f = let m = f i kept refl in absurd (cc (k.0, m))
 longer-whole (i ∷ kept) line more h (inl (inr k)) c f = inr (k.0, closes i kept k.1)
@@ -232,11 +214,7 @@ front-ends e group between front f some =
     let q = without_indent first f.head_text in
     let a : ends ends_key between ≡ true = of-between (between-end h.between f.value h.is_between) in
     let t = front-text e group between front f in
-    let b : ends ends_key (joined_by true f.kept ++ q) ≡ true =
-    ap (ends ends_key) (sym t)
-    ∙ ends-right ends_key h.indent (f.key ++ between) (right-some f.key between some)
-    ∙ ends-right ends_key f.key between some
-    ∙ a in
+    let b : ends ends_key (joined_by true f.kept ++ q) ≡ true = grind (arith, ends-right, right-some) in
     let i = indented first f.head_text in
     let n : q ≢ [] = λ z. f.not_blank (subst AreBlanks (sym (i.whole ∙ ap (λ v. i.indent ++ v) z ∙ append-nil i.indent)) i.blank) in
     let m = ends-last ends_key q (sym (ends-right ends_key (joined_by true f.kept) q n) ∙ b) in (
@@ -251,22 +229,15 @@ front-ends e group between front f some =
     of-between (inr m) = absurd (some (f.is_between ∙ m.0))
 
 -- The head followed by what is printed for a value decodes to both texts.
-pub after-front : (e : Encoding) (only : Bool) (group : List HeldLine) (between front value : List ℕ) (f : IsFrontOf e group between front) → is_editable e ≡ true
-    → AreWritable e (value_after e only between value)
-    → decoded_line e (f.head ++ encoded_text e (value_text e only between value)) ≡ f.head_text ++ value_text e only between value
-after-front e only group [] front value f ok w =
-    let x = printed_value e only false value in
-    let head : decoded_line e f.head ≡ f.head_text = sym (decoded_line-only e f.head f.head_text f.is_head) in
-    ap (λ o. decoded_line e (f.head ++ (unwrap_or o [] ++ encoded_text e x))) (encoded-ascii e equals_sign (lit< tt))
-    ∙ ascii-among e f.head equals_sign (encoded_text e x) ok (lit< tt)
-    ∙ ap₂ (λ v z. v ++ equals_sign ∷ z) head (text-own e x ok w)
-after-front e only group (b ∷ bs) front value f ok w =
-    let x = value_text e only (b ∷ bs) value in
-    let m = front-ends e group (b ∷ bs) front f (λ q. cc) in
-    let n = ascii-end e f.head m.0 m.1 ok m.3 (sym (decoded_line-only e f.head f.head_text f.is_head) ∙ m.2) in
-    ap (λ v. decoded_line e (v ++ encoded_text e x)) n.bytes
-    ∙ ap (decoded_line e) (append_assoc n.front (m.1 ∷ []) (encoded_text e x))
-    ∙ ascii-among e n.front m.1 (encoded_text e x) ok m.3
-    ∙ ap₂ (λ v z. v ++ m.1 ∷ z) n.text (text-own e x ok w)
-    ∙ sym (append_assoc m.0 (m.1 ∷ []) x)
-    ∙ ap (λ v. v ++ x) (sym m.2)
+pub after-front : (r : Repertoire) (group : List HeldLine) (between front value : List ℕ) (f : IsFrontOf r.encoding group between front)
+    → is_editable r.encoding ≡ true → AreWritable r.encoding (value_after r between value)
+    → decoded_line r.encoding (f.head ++ encoded_text r.encoding (value_text r between value)) ≡ f.head_text ++ value_text r between value
+after-front r group [] front value f ok w =
+    let x = printed_value r false value in
+    let head : decoded_line r.encoding f.head ≡ f.head_text = sym (decoded_line-only r.encoding f.head f.head_text f.is_head) in
+    grind (arith, encoded-ascii, ascii-among, text-own)
+after-front r group (b ∷ bs) front value f ok w =
+    let x = value_text r (b ∷ bs) value in
+    let m = front-ends r.encoding group (b ∷ bs) front f (λ q. cc) in
+    let n = ascii-end r.encoding f.head m.0 m.1 ok m.3 (sym (decoded_line-only r.encoding f.head f.head_text f.is_head) ∙ m.2) in
+    grind (arith, append_assoc, ascii-among, text-own)

@@ -1,16 +1,17 @@
 -- A new pair: its separator is good, its line is the pair, and everything before the value is its front.
-use Rattle.std.proofs.Common.{◌≡◌, ◌≢◌, ℕ, ◌&&◌, Bool, true, false, List, [], ◌∷◌, ◌++◌, Some, map, refl, ap, sym, ◌∙◌, inl, inr, append_assoc, append-nil, subst}
+use Rattle.std.proofs.Common.{arith, rules, ◌≡◌, ◌≢◌, ℕ, ◌&&◌, Bool, true, false, List, [], ◌∷◌, ◌++◌, Some, map, refl, ap, sym, ◌∙◌, inl, inr, append_assoc, append-nil, subst}
 use Rattle.std.specs.Prelude.{All}
 use Rattle.std.proofs.lemmas.Bool.{cases_Bool, cond_both}
 use Rattle.std.proofs.lemmas.List.Elements.{recursion_from_All}
 use Rattle.properties_format.specs.Text.{scalar, equals_sign, LineEnding, is_blank, is_blanks, is_separator, is_empty}
 use Rattle.properties_format.specs.Encoding.{Encoding}
+use Rattle.properties_format.specs.Repertoire.{Repertoire}
 use Rattle.properties_format.specs.Lines.{HoldsNoLineEnd}
 use Rattle.properties_format.specs.Cut.{IsDecodedLine}
 use Rattle.properties_format.specs.Computed.Cut.{decoded_line}
 use Rattle.properties_format.specs.Groups.{is_open, IsWhole, joined}
 use Rattle.properties_format.specs.Split.{AreBlanks, IsBetween, nothing, blanks, separator, IsPair}
-use Rattle.properties_format.specs.Escapes.{Spelling, spelling_text, spelling_character, spellings_before}
+use Rattle.properties_format.specs.Escapes.{Spelling, spelling_character, spellings_before}
 use Rattle.properties_format.specs.Settings.{IsGoodSeparator}
 use Rattle.properties_format.specs.Printing.{printed_key, encoded_text, printed_value}
 use Rattle.properties_format.proofs.ReadBack.Values.{BeginsAfter, value-loose, loose-means, loosely-plain, loosely-closed, value-begins}
@@ -86,10 +87,7 @@ after-fit key [] value h = record { good = equals-good; signed = λ q. refl }
 after-fit key (c ∷ cs) value h =
     cond_both (is_empty key && is_blanks (c ∷ cs)) (equals_sign ∷ []) (shortened_after false (c ∷ cs)) (IsFitSeparator key)
     (λ k. record { good = equals-good; signed = λ q. refl })
-    (λ k. record {
-      good = shortened-good c cs value h;
-      signed = λ q. shortened-blanks false (c ∷ cs) ∙ sym (ap (λ v. is_empty v && is_blanks (c ∷ cs)) q) ∙ k;
-    })
+    (λ k. record { good = shortened-good c cs value h; signed = λ q. shortened-blanks false (c ∷ cs) ∙ sym (ap (λ v. is_empty v && is_blanks (c ∷ cs)) q) ∙ k })
 
 -- The separator of a new pair is fit for its key.
 pub new_separator-fit : (groups : List (List HeldLine)) (key sep : List ℕ) → IsNewSeparator groups key sep → IsFitSeparator key sep
@@ -111,9 +109,7 @@ new-keyed : (p : Spelling) (ps : List Spelling) (sep value : List ℕ) → AreSa
     → IsNewPair (spellings_before (p ∷ ps) []) sep value
 new-keyed p ps sep value k g b =
     let key = spellings_before (p ∷ ps) [] in
-    let full : BeginsFull (key ++ (sep ++ value)) =
-    subst BeginsFull (sym (append_assoc (spelling_text p) (spellings_before ps []) (sep ++ value)))
-    (safe-begins p (spellings_before ps [] ++ (sep ++ value)) k.0) in
+    let full : BeginsFull (key ++ (sep ++ value)) = grind (arith, append_assoc, safe-begins) in
     let some = separator-some sep g in
     record {
       is_pair = record {
@@ -153,7 +149,8 @@ new-empty sep value (inl g) s b = record {
 }
 
 -- A safely spelt key.
-new-pair : (written key sep value : List ℕ) → AreSafelyPrinted written key → IsFitSeparator key sep → BeginsAfter (is_blanks sep) value → IsNewPair written sep value
+new-pair : (written key sep value : List ℕ) → AreSafelyPrinted written key → IsFitSeparator key sep → BeginsAfter (is_blanks sep) value
+    → IsNewPair written sep value
 new-pair written key sep value s f b = of-spellings s.spellings s.text s.characters s.safe
   where
     of-spellings : (ps : List Spelling) → written ≡ spellings_before ps [] → map spelling_character ps ≡ key → AreSafe ps → IsNewPair written sep value
@@ -163,22 +160,22 @@ new-pair written key sep value s f b = of-spellings s.spellings s.text s.charact
 -- ---- the group of a new pair
 
 -- the bytes of a new pair, at the front of a body or not, without a line ending
-abbrev pub added_bytes : Encoding → Bool → Bool → List ℕ → List ℕ → List ℕ → List ℕ
-added_bytes e only first key sep value = encoded_text e (printed_key e only first key ++ (sep ++ printed_value e only (is_blanks sep) value))
+abbrev pub added_bytes : Repertoire → Bool → List ℕ → List ℕ → List ℕ → List ℕ
+added_bytes r first key sep value = encoded_text r.encoding (printed_key r first key ++ (sep ++ printed_value r (is_blanks sep) value))
 
 -- the line of these bytes
-abbrev pub added_line : Encoding → Bool → Bool → List ℕ → List ℕ → List ℕ → LineEnding → HeldLine
-added_line e only first key sep value by =
-    record { bytes = added_bytes e only first key sep value; text = decoded_line e (added_bytes e only first key sep value); ending = Some by }
+abbrev pub added_line : Repertoire → Bool → List ℕ → List ℕ → List ℕ → LineEnding → HeldLine
+added_line r first key sep value by =
+    record { bytes = added_bytes r first key sep value; text = decoded_line r.encoding (added_bytes r first key sep value); ending = Some by }
 
 -- What holds for that group.
-pub record IsAddedPair (e : Encoding) (only : Bool) (first : Bool) (key sep value : List ℕ) (by : LineEnding) : Type 0 where
-  pub plain : HoldsNoLineEnd (added_bytes e only first key sep value)
-  pub some : added_bytes e only first key sep value ≢ []
-  pub whole : IsWhole (as_lines (added_line e only first key sep value by ∷ []))
-  pub has_pair : HasPair key value (added_line e only first key sep value by ∷ [])
+pub record IsAddedPair (r : Repertoire) (first : Bool) (key sep value : List ℕ) (by : LineEnding) : Type 0 where
+  pub plain : HoldsNoLineEnd (added_bytes r first key sep value)
+  pub some : added_bytes r first key sep value ≢ []
+  pub whole : IsWhole (as_lines (added_line r first key sep value by ∷ []))
+  pub has_pair : HasPair key value (added_line r first key sep value by ∷ [])
   pub between : List ℕ
-  pub is_front : IsFrontOf e (added_line e only first key sep value by ∷ []) between (encoded_text e (printed_key e only first key ++ sep))
+  pub is_front : IsFrontOf r.encoding (added_line r first key sep value by ∷ []) between (encoded_text r.encoding (printed_key r first key ++ sep))
   pub between_some : between ≢ []
   pub blanks : is_blanks between ≡ is_blanks sep
 
@@ -187,38 +184,36 @@ pub text-some : (e : Encoding) (x : List ℕ) → is_editable e ≡ true → Are
 text-some e x ok w h q = h (sym (text-own e x ok w) ∙ ap (decoded_line e) q ∙ decoded-nil e)
 
 -- The group of a new pair has these properties.
-pub added-pair : (e : Encoding) (only : Bool) (first : Bool) (key sep value : List ℕ) (by : LineEnding) → is_editable e ≡ true → All scalar key → All scalar value
-    → IsFitSeparator key sep → IsAddedPair e only first key sep value by
-added-pair e only first key sep value by ok k v f =
-    let written = printed_key e only first key in
-    let va = printed_value e only (is_blanks sep) value in
+pub added-pair : (r : Repertoire) (first : Bool) (key sep value : List ℕ) (by : LineEnding) → is_editable r.encoding ≡ true → All scalar key → All scalar value
+    → IsFitSeparator key sep → IsAddedPair r first key sep value by
+added-pair r first key sep value by ok k v f =
+    let written = printed_key r first key in
+    let va = printed_value r (is_blanks sep) value in
     let keys = recursion_from_All scalar key k in
     let all = recursion_from_All scalar value v in
-    let printed_character = key-printed e only first key keys in
-    let loose = value-loose e only (is_blanks sep) value all in
-    let n = new-pair written key sep va printed_character f (value-begins e only (is_blanks sep) value all) in
-    let key_writable : AreWritable e written = record { scalars = key-scalars e only first key keys; encodable = printed_key-encodable e only first key } in
-    let sep_writable = ascii-writable e sep (good_separator-ascii sep f.good) in
-    let value_written = value-writable e only (is_blanks sep) value all in
-    let front_writable = writable-append e written sep key_writable sep_writable in
-    let writable = writable-append e written (sep ++ va) key_writable (writable-append e sep va sep_writable value_written) in
-    let decoded : decoded_line e (added_bytes e only first key sep value) ≡ written ++ (sep ++ va) = text-own e (written ++ (sep ++ va)) ok writable in
+    let printed_character = key-printed r first key keys in
+    let loose = value-loose r (is_blanks sep) value all in
+    let n = new-pair written key sep va printed_character f (value-begins r (is_blanks sep) value all) in
+    let key_writable : AreWritable r.encoding written = record { scalars = key-scalars r first key keys; encodable = printed_key-encodable r first key } in
+    let sep_writable = ascii-writable r.encoding sep (good_separator-ascii sep f.good) in
+    let value_written = value-writable r (is_blanks sep) value all in
+    let front_writable = writable-append r.encoding written sep key_writable sep_writable in
+    let writable = writable-append r.encoding written (sep ++ va) key_writable (writable-append r.encoding sep va sep_writable value_written) in
+    let decoded : decoded_line r.encoding (added_bytes r first key sep value) ≡ written ++ (sep ++ va) = grind (arith, text-own) in
     let quiet = separator-quiet sep f.good in
     let sep_some = separator-some sep f.good in
     let closed : is_open (written ++ (sep ++ va)) ≡ false = closed-after written sep va quiet.slashes sep_some (loosely-closed [] va value loose refl) in
     let closed_front : is_open (written ++ sep) ≡ false =
     ap (λ x. is_open (written ++ x)) (sym (append-nil sep)) ∙ closed-after written sep [] quiet.slashes sep_some refl in
-    let plain_text : HoldsNoLineEnd (written ++ (sep ++ va)) =
-    plain-append written (sep ++ va) (printed-plain written key printed_character) (plain-append sep va quiet.plain (loosely-plain va value loose)) in
-    let line : HeldLine = record { bytes = added_bytes e only first key sep value; text = written ++ (sep ++ va); ending = Some by } in
-    let same : line ≡ added_line e only first key sep value by =
-    ap (λ x. let l : HeldLine = record { bytes = added_bytes e only first key sep value; text = x; ending = Some by } in l) (sym decoded) in
-    let joined_is : joined (as_lines (added_line e only first key sep value by ∷ [])) ≡ written ++ (sep ++ va) =
-    ap (λ x. joined (as_lines (x ∷ []))) (sym same) ∙ joined-closed (record { number = 0; text = written ++ (sep ++ va) }) closed in
-    let p = pair-moved (written ++ (sep ++ va)) (joined (as_lines (added_line e only first key sep value by ∷ []))) written va joined_is n.is_pair in
+    let plain_text : HoldsNoLineEnd (written ++ (sep ++ va)) = search (rules, plain-append, printed-plain, loosely-plain) in
+    let line : HeldLine = record { bytes = added_bytes r first key sep value; text = written ++ (sep ++ va); ending = Some by } in
+    let same : line ≡ added_line r first key sep value by =
+    ap (λ x. let l : HeldLine = record { bytes = added_bytes r first key sep value; text = x; ending = Some by } in l) (sym decoded) in
+    let joined_is : joined (as_lines (added_line r first key sep value by ∷ [])) ≡ written ++ (sep ++ va) = search (rules, joined-closed) in
+    let p = pair-moved (written ++ (sep ++ va)) (joined (as_lines (added_line r first key sep value by ∷ []))) written va joined_is n.is_pair in
     record {
-      plain = plain-bytes e (added_bytes e only first key sep value) ok (subst HoldsNoLineEnd (sym decoded) plain_text);
-      some = text-some e (written ++ (sep ++ va)) ok writable (λ q. sep_some (no-front sep va (none-right written (sep ++ va) q)));
+      plain = plain-bytes r.encoding (added_bytes r first key sep value) ok (subst HoldsNoLineEnd (sym decoded) plain_text);
+      some = text-some r.encoding (written ++ (sep ++ va)) ok writable (λ q. sep_some (no-front sep va (none-right written (sep ++ va) q)));
       whole = subst (λ x. IsWhole (as_lines (x ∷ []))) same (alone-whole (record { number = 0; text = written ++ (sep ++ va) }) (inr closed));
       has_pair = record {
         raw_key = written;
@@ -230,17 +225,17 @@ added-pair e only first key sep value by ok k v f =
       between = n.is_pair.between;
       is_front = record {
         kept = [];
-        line = added_line e only first key sep value by;
+        line = added_line r first key sep value by;
         more = [];
         division = refl;
-        head = encoded_text e (written ++ sep);
-        tail = encoded_text e va;
+        head = encoded_text r.encoding (written ++ sep);
+        tail = encoded_text r.encoding va;
         head_text = written ++ sep;
         tail_text = va;
-        cut = ap (encoded_text e) (sym (append_assoc written sep va)) ∙ encoded_text-append e (written ++ sep) va;
+        cut = ap (encoded_text r.encoding) (sym (append_assoc written sep va)) ∙ encoded_text-append r.encoding (written ++ sep) va;
         cut_text = decoded ∙ sym (append_assoc written sep va);
-        is_head = subst (IsDecodedLine e (encoded_text e (written ++ sep))) (text-own e (written ++ sep) ok front_writable) (decoded_line-meets e (encoded_text e (written ++ sep)));
-        is_tail = subst (IsDecodedLine e (encoded_text e va)) (text-own e va ok value_written) (decoded_line-meets e (encoded_text e va));
+        is_head = subst (IsDecodedLine r.encoding _) (text-own r.encoding (written ++ sep) ok front_writable) (decoded_line-meets r.encoding _);
+        is_tail = subst (IsDecodedLine r.encoding _) (text-own r.encoding va ok value_written) (decoded_line-meets r.encoding _);
         not_blank = λ b. pair-some (written ++ (sep ++ va)) written va n.is_pair (subst AreBlanks (sym n.front) b);
         closed = closed_front;
         key = written;

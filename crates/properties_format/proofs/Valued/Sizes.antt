@@ -1,7 +1,7 @@
 -- The size of a line's head in bytes: up to an ASCII character, it has as many ASCII bytes as its text has ASCII
 -- characters; up to the end of the line, it has all bytes except an open backslash.
 use Rattle.std.proofs.Common.{◌≡◌, ◌≢◌, ◌⊎◌, ◌<◌, ℕ, zero, suc, ◌+◌, ◌-◌, true, false, List, [], ◌∷◌}
-use Rattle.std.proofs.Common.{◌++◌, length, refl, ap, ap₂, sym, ◌∙◌, inl, inr, arith, append_assoc, append-nil, length-append, ltb-true}
+use Rattle.std.proofs.Common.{◌++◌, length, refl, ap, sym, ◌∙◌, inl, inr, arith, append_assoc, append-nil, length-append, ltb-true}
 use Rattle.std.specs.Prelude.{nat_lt}
 use Rattle.std.specs.Str.{chars, IsUtf8}
 use Rattle.std.proofs.lemmas.Bool.{cases_Bool, cond-true, lt-ltb}
@@ -46,20 +46,7 @@ pub count-decoded : (e : Encoding) (n : ℕ) (d : List ℕ) → is_editable e �
 count-decoded e zero d ok l = absurd (omega arith)
 count-decoded e (suc n) d ok l = elim (first-ascii d) [
   | inl k ↦ no_ascii-decoded e d ok k ∙ sym k
-  | inr k ↦
-      let m = count-decoded e n k.2 ok (omega (arith, ap length k.3, length-append k.0 (k.1 ∷ k.2))) in
-      let a = no_ascii-decoded e k.0 ok k.5 in
-      let b : decoded_line e d ≡ decoded_line e k.0 ++ k.1 ∷ decoded_line e k.2 = ap (decoded_line e) k.3 ∙ ascii-among e k.0 k.1 k.2 ok k.4 in
-      let z = k.5 in
-      omega (
-        arith,
-        ap ascii_count b,
-        count-append (decoded_line e k.0) (k.1 ∷ decoded_line e k.2),
-        count-ascii k.1 (decoded_line e k.2) k.4,
-        ap ascii_count k.3,
-        count-append k.0 (k.1 ∷ k.2),
-        count-ascii k.1 k.2 k.4,
-      )
+  | inr k ↦ grind (arith, count-decoded e n k.2 ok (omega (arith, ap length k.3, length-append k.0 (k.1 ∷ k.2))), length-append, no_ascii-decoded, ascii-among, count-append, count-ascii)
 ]
 
 -- A text has as many ASCII characters as its UTF-8 bytes have ASCII bytes.
@@ -94,11 +81,7 @@ pub head-inside : (e : Encoding) (d x y head w : List ℕ) (c : ℕ) → is_edit
     → after_ascii (ascii_count x) d ≡ length head
 head-inside e d x y head w c ok s l h =
     let m = ascii-end e head w c ok l (h.head_text ∙ s) in
-    let count : ascii_count x ≡ ascii_count (m.front ++ c ∷ []) =
-    ap ascii_count (sym h.head_text) ∙ count-decoded e (suc (length head)) head ok (omega arith) ∙ ap ascii_count m.bytes in
-    ap₂ after_ascii count (h.joins ∙ ap (λ v. v ++ h.tail) m.bytes ∙ append_assoc m.front (c ∷ []) h.tail)
-    ∙ after-last m.front c h.tail l
-    ∙ ap length (sym m.bytes)
+    grind (arith, count-decoded, append_assoc, after-last)
 
 -- The size of a head that is followed by nothing of the line.
 pub head-end : (e : Encoding) (d x head : List ℕ) → IsHeadOf e d x [] head → length head ≡ length d

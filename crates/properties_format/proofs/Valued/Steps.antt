@@ -1,6 +1,6 @@
 -- The size of a front, line by line: past a line that belongs to the front, to the end of a line, or to a position
 -- inside it.
-use Rattle.std.proofs.Common.{◌≡◌, ◌≢◌, ℕ, ◌+◌, ◌-◌, Bool, true, false, List, [], ◌∷◌, ◌++◌, length, inl, inr, ap, ap₂, sym, ◌∙◌, arith, append_assoc, append-nil, length-append, subst}
+use Rattle.std.proofs.Common.{◌≡◌, ◌≢◌, ℕ, ◌+◌, ◌-◌, Bool, true, false, List, [], ◌∷◌, ◌++◌, length, inl, inr, ap, ap₂, sym, ◌∙◌, arith, append_assoc, append-nil, length-append}
 use Rattle.std.specs.Prelude.{if◌then◌else◌}
 use Rattle.std.proofs.Math.Seq.{drop-append_seam}
 use Rattle.std.proofs.lemmas.Bool.{cases_Bool}
@@ -30,17 +30,15 @@ divided first text p r s =
     let b = i.indent in
     let o : open_backslash y ≡ open_backslash text = ap (λ v. if v then backslash ∷ [] else []) (open-indent first text) in
     let t : y ≡ p ++ (r ++ open_backslash text) = shut-whole y ∙ ap₂ (λ v w. v ++ w) s o ∙ append_assoc p r (open_backslash text) in
-    let w : text ≡ b ++ (p ++ (r ++ open_backslash text)) = i.whole ∙ ap (λ v. b ++ v) t in
-    record { whole = w ∙ sym (append_assoc b p (r ++ open_backslash text)); size = head-size first text b p (r ++ open_backslash text) w t }
+    grind (arith, append_assoc, head-size)
 
 -- The head of a line up to this position.
-head-there : (e : Encoding) (first : Bool) (h : HeldLine) (p r : List ℕ) → is_editable e ≡ true → decoded_line e h.bytes ≡ h.text → added_by first h.text ≡ p ++ r
+head-there : (e : Encoding) (first : Bool) (h : HeldLine) (p r : List ℕ) → is_editable e ≡ true → decoded_line e h.bytes ≡ h.text
+    → added_by first h.text ≡ p ++ r
     → IsHeadOf e h.bytes ((indented first h.text).indent ++ p) (r ++ open_backslash h.text) (head_of e (head_size first h.text p) h.bytes)
 head-there e first h p r ok d s =
     let m = divided first h.text p r s in
-    let x = (indented first h.text).indent ++ p in
-    subst (λ n. IsHeadOf e h.bytes x (r ++ open_backslash h.text) (head_of e n h.bytes)) (sym m.size)
-    (head_of-meets e h.bytes x (r ++ open_backslash h.text) ok (d ∙ m.whole))
+    grind (arith, indented, head_of-meets)
 
 -- The front ends in the line.
 front-head : (e : Encoding) (first : Bool) (h : HeldLine) (hs : List HeldLine) (p r : List ℕ) → added_by first h.text ≡ p ++ r
@@ -49,16 +47,15 @@ front-head e first h hs p r s = grind (arith, length-append)
 
 -- A front that ends inside what a line adds, after a character that ends a key: its size is the index after as many
 -- ASCII bytes as its text has ASCII characters.
-pub front_size-inside : (e : Encoding) (first : Bool) (h : HeldLine) (hs : List HeldLine) (p r : List ℕ) → is_editable e ≡ true → decoded_line e h.bytes ≡ h.text
-    → added_by first h.text ≡ p ++ r → ends ends_key p ≡ true
+pub front_size-inside : (e : Encoding) (first : Bool) (h : HeldLine) (hs : List HeldLine) (p r : List ℕ) → is_editable e ≡ true
+    → decoded_line e h.bytes ≡ h.text → added_by first h.text ≡ p ++ r → ends ends_key p ≡ true
     → length (front_in e first p (h ∷ hs)) ≡ after_ascii (ascii_count ((indented first h.text).indent ++ p)) h.bytes
 front_size-inside e first h hs p r ok d s k =
     let i = indented first h.text in
     let m = ends-last ends_key p k in
     let t : i.indent ++ p ≡ (i.indent ++ m.0) ++ m.1 ∷ [] = ap (λ v. i.indent ++ v) m.2 ∙ sym (append_assoc i.indent m.0 (m.1 ∷ [])) in
     let x = head-there e first h p r ok d s in
-    ap length (front-head e first h hs p r s)
-    ∙ sym (head-inside e h.bytes (i.indent ++ p) (r ++ open_backslash h.text) (head_of e (head_size first h.text p) h.bytes) (i.indent ++ m.0) m.1 ok t (ends_key-ascii m.1 m.3) x)
+    ap length (front-head e first h hs p r s) ∙ sym (head-inside e h.bytes (i.indent ++ p) _ _ (i.indent ++ m.0) m.1 ok t (ends_key-ascii m.1 m.3) x)
 
 -- A front that ends where what a line adds ends: all of the line except an open backslash.
 pub front_size-end : (e : Encoding) (first : Bool) (h : HeldLine) (hs : List HeldLine) (p : List ℕ) → is_editable e ≡ true → decoded_line e h.bytes ≡ h.text

@@ -1,7 +1,7 @@
 -- A group without its last line ending: its bytes are one group, with the same parts as before.
-use Rattle.std.proofs.Common.{◌≡◌, ◌⊎◌, ℕ, true, List, [], ◌∷◌, ◌++◌, Some, None, refl, ap, sym, ◌∙◌, append-nil, subst}
+use Rattle.std.proofs.Common.{rules, arith, ◌≡◌, ◌⊎◌, ℕ, true, List, [], ◌∷◌, ◌++◌, Some, None, refl, ap, sym, ◌∙◌, append-nil, subst}
 use Rattle.properties_format.specs.Encoding.{Encoding}
-use Rattle.properties_format.specs.Lines.{Ended, BeginsWithNoLoneLf, AreLines}
+use Rattle.properties_format.specs.Lines.{Ended, AreLines}
 use Rattle.properties_format.specs.Groups.{IsWhole, joined}
 use Rattle.properties_format.specs.Split.{IsPair}
 use Rattle.properties_format.specs.Body.{HeldLine, as_lines, held_in, AreGroupsOf, ending_bytes, group_bytes, groups_bytes}
@@ -26,9 +26,8 @@ without_ending g = with_ending None g
 
 -- Their bytes are those up to the last line ending.
 pub unended-bytes : (g : List HeldLine) → group_bytes (without_ending g) ≡ unended_bytes g
-unended-bytes [] = refl
-unended-bytes (h ∷ []) = append-nil h.bytes
 unended-bytes (h ∷ i ∷ g) = ap (λ v. h.bytes ++ (ending_bytes h.ending ++ v)) (unended-bytes (i ∷ g))
+unended-bytes g = grind (arith, append-nil)
 
 -- The last line of a body has no line ending to lose.
 unended-held : (e : Encoding) (ls : List Ended) (last : List ℕ) → without_ending (held_of e ls last) ≡ held_of e ls last
@@ -48,20 +47,14 @@ last_text (l ∷ []) = l.text
 last_text (l ∷ m ∷ ls) = last_text (m ∷ ls)
 
 -- Without the last line ending, ended lines are all lines of a body.
-unended-ended : (e : Encoding) (l : Ended) (ls : List Ended)
-    → without_ending (held_ended e (l ∷ ls)) ≡ held_of e (all_but_last (l ∷ ls)) (last_text (l ∷ ls))
+unended-ended : (e : Encoding) (l : Ended) (ls : List Ended) → without_ending (held_ended e (l ∷ ls)) ≡ held_of e (all_but_last (l ∷ ls)) (last_text (l ∷ ls))
 unended-ended e l [] = refl
 unended-ended e l (m ∷ ls) = ap (λ v. record { bytes = l.text; text = decoded_line e l.text; ending = Some l.by } ∷ v) (unended-ended e m ls)
-
--- If the first of them isn't an empty line that an LF ends, it still isn't without the last.
-first-stays : (m : Ended) (ls : List Ended) → BeginsWithNoLoneLf (m ∷ ls) → BeginsWithNoLoneLf (all_but_last (m ∷ ls))
-first-stays m [] h = tt
-first-stays m (n ∷ ls) h = h
 
 -- They are lines of a text.
 unended-lines : (l : Ended) (ls : List Ended) → AreLines (l ∷ ls) [] → AreLines (all_but_last (l ∷ ls)) (last_text (l ∷ ls))
 unended-lines l [] h = h.0
-unended-lines l (m ∷ ls) h = (h.0, (λ k. first-stays m ls (h.1 k)), unended-lines m ls h.2)
+unended-lines l (m ∷ ls) h = (h.0, (λ k. search (rules)), unended-lines m ls h.2)
 
 -- A group that is whole or ends open is still one without its last line ending.
 unended-fit : (g : List HeldLine) → IsLastFit g → IsLastFit (without_ending g)
@@ -72,15 +65,9 @@ unended-lined : (e : Encoding) (before : List (List HeldLine)) (g : List HeldLin
     → AreLined e (without_ending g ∷ [])
 unended-lined e before g [] h =
     let m = fit-parts before g [] h.fit in
-    let s : held_in before ++ g ≡ held_of e h.ended h.last = ap (λ v. held_in before ++ v) (sym (append-nil g)) ∙ sym (held_in-append before (g ∷ [])) ∙ h.held in
+    let s : held_in before ++ g ≡ held_of e h.ended h.last = grind (arith, append-nil, held_in-append) in
     let a = cut-off e (held_in before) g h.ended h.last (fit-lines g m.1) s in
-    record {
-      ended = a.back;
-      last = h.last;
-      held = append-nil (without_ending g) ∙ ap without_ending a.others ∙ unended-held e a.back h.last;
-      are_lines = lines-back a.front a.back h.last (subst (λ v. AreLines v h.last) a.all h.are_lines);
-      fit = unended-fit g m.1;
-    }
+    grind (arith, append-nil, unended-held, lines-back, unended-fit)
 unended-lined e before g (i ∷ after) h =
     let m = fit-parts before g (i ∷ after) h.fit in
     let first = fit-first g (i ∷ after) m.1 in
@@ -102,8 +89,7 @@ unended-lined e before g (i ∷ after) h =
 
 -- The bytes of a body's group up to its last line ending have one group: the group without that ending.
 pub unended-groups : (e : Encoding) (body : List ℕ) (before : List (List HeldLine)) (g : List HeldLine) (after : List (List HeldLine)) → is_editable e ≡ true
-    → AreGroupsOf e body (before ++ g ∷ after)
-    → held_groups_of e (unended_bytes g) ≡ without_ending g ∷ []
+    → AreGroupsOf e body (before ++ g ∷ after) → held_groups_of e (unended_bytes g) ≡ without_ending g ∷ []
 unended-groups e body before g after ok h =
     let l = unended-lined e before g after (groups-lined e body (before ++ g ∷ after) ok h) in
     let bytes : groups_bytes (without_ending g ∷ []) ≡ unended_bytes g = append-nil (group_bytes (without_ending g)) ∙ unended-bytes g in
@@ -113,8 +99,7 @@ unended-groups e body before g after ok h =
 -- ---- its parts
 
 -- The lines that are kept before another line.
-unended-kept : (kept : List HeldLine) (line : HeldLine) (more : List HeldLine)
-    → without_ending (kept ++ line ∷ more) ≡ kept ++ without_ending (line ∷ more)
+unended-kept : (kept : List HeldLine) (line : HeldLine) (more : List HeldLine) → without_ending (kept ++ line ∷ more) ≡ kept ++ without_ending (line ∷ more)
 unended-kept (i ∷ j ∷ kept) line more = ap (λ v. i ∷ v) (unended-kept (j ∷ kept) line more)
 unended-kept kept line more = refl
 

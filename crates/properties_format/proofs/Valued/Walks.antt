@@ -1,7 +1,7 @@
 -- A walk along the lines of a pair's group to the end of its front. It keeps track of what is left of the text before
 -- the value, by sizes in UTF-8.
-use Rattle.std.proofs.Common.{◌≡◌, ◌≢◌, ◌<◌, ◌≤◌, ℕ, ◌+◌, Bool, true, false, List, [], ◌∷◌, ◌++◌, length}
-use Rattle.std.proofs.Common.{take, drop, refl, inl, inr, ap, ap₂, sym, ◌∙◌, arith, append_assoc, append-nil, length-append, subst}
+use Rattle.std.proofs.Common.{rules, ◌≡◌, ◌≢◌, ◌<◌, ◌≤◌, ℕ, ◌+◌, Bool, true, false, List, [], ◌∷◌, ◌++◌, length}
+use Rattle.std.proofs.Common.{take, drop, refl, inl, inr, ap, sym, ◌∙◌, arith, append_assoc, append-nil, length-append, subst}
 use Rattle.std.specs.Prelude.{nat_le, if◌then◌else◌}
 use Rattle.std.specs.Str.{IsUtf8, chars, all_scalars, encode_utf8_all}
 use Rattle.std.proofs.Math.Utf8 as std_utf8
@@ -12,8 +12,7 @@ use Rattle.std.proofs.lemmas.Str.{encodes-append, length-le-encodes, encodes-cha
 use Rattle.properties_format.specs.Text.{backslash}
 use Rattle.properties_format.specs.Encoding.{Encoding}
 use Rattle.properties_format.specs.Groups.{is_open, joined}
-use Rattle.properties_format.specs.Split.{AreBlanks, ends, IsPair}
-use Rattle.properties_format.specs.Computed.Split.{ends_key}
+use Rattle.properties_format.specs.Split.{AreBlanks, IsPair}
 use Rattle.properties_format.specs.Computed.Cut.{decoded_line}
 use Rattle.properties_format.specs.Body.{HeldLine, as_lines}
 use Rattle.properties_format.specs.Edited.{is_editable}
@@ -46,8 +45,7 @@ scalars-parts : (p y : List ℕ) → all_scalars (p ++ y) ≡ true → (all_scal
 scalars-parts [] y h = (refl, h)
 scalars-parts (c ∷ p) y h =
     let m = and_parts (std_utf8.scalar c) (all_scalars (p ++ y)) h in
-    let n = scalars-parts p y m.1 in
-    (and_from (std_utf8.scalar c) (all_scalars p) m.0 n.0, n.1)
+    search (scalars-parts p y m.1, and_from)
 
 -- Bytes that are cut at a character boundary: both parts are texts.
 pub record IsCutText (bytes : List ℕ) (at : ℕ) (front back : List ℕ) : Type 0 where
@@ -60,15 +58,7 @@ pub record IsCutText (bytes : List ℕ) (at : ℕ) (front back : List ℕ) : Typ
 pub text-cut : (x p y : List ℕ) (at : ℕ) → IsUtf8 x → chars x ≡ p ++ y → at ≡ utf8_size p → IsCutText x at p y
 text-cut x p y at u s n =
     let k = scalars-parts p y (ap all_scalars (sym s) ∙ scalars-chars x u) in
-    let w : x ≡ encode_utf8_all p ++ encode_utf8_all y = sym (encodes-chars x u) ∙ ap encode_utf8_all s ∙ encodes-append p y in
-    let f : take at x ≡ encode_utf8_all p = ap₂ take n w ∙ take-append_seam (encode_utf8_all p) (encode_utf8_all y) in
-    let b : drop at x ≡ encode_utf8_all y = ap₂ drop n w ∙ drop-append_seam (encode_utf8_all p) (encode_utf8_all y) in
-    record {
-      front_utf8 = (p, (k.0, sym f));
-      front_chars = ap chars f ∙ chars-encodes p k.0;
-      back_utf8 = (y, (k.1, sym b));
-      back_chars = ap chars b ∙ chars-encodes y k.1;
-    }
+    grind (arith, encodes-chars, encodes-append, take-append_seam, drop-append_seam, chars-encodes)
 
 -- A text without bytes has no characters.
 no-size : (x : List ℕ) → utf8_size x ≡ 0 → x ≡ []
@@ -100,8 +90,7 @@ unfolding std_utf8.encode
 open-size o = grind (arith)
 
 -- A line without its indentation has as many bytes in UTF-8 as what it adds, and one more if it is open.
-pub added-size : (first : Bool) (x : List ℕ)
-    → utf8_size (without_indent first x) ≡ utf8_size (added_by first x) + (if is_open x then 1 else 0)
+pub added-size : (first : Bool) (x : List ℕ) → utf8_size (without_indent first x) ≡ utf8_size (added_by first x) + (if is_open x then 1 else 0)
 added-size first x =
     let y = without_indent first x in
     ap utf8_size (shut-whole y)
@@ -134,33 +123,19 @@ walk-begins e (i ∷ is) key value d h =
 
 -- If as much is left as a line adds, the front ends with what it adds.
 pub walk-here : (e : Encoding) (first : Bool) (h : HeldLine) (hs : List HeldLine) (left value : List ℕ) → IsWalkBefore e first (h ∷ hs) left value
-    → utf8_size left ≡ utf8_size (added_by first h.text)
-    → added_by first h.text ≡ left
+    → utf8_size left ≡ utf8_size (added_by first h.text) → added_by first h.text ≡ left
 walk-here e first h hs left value w l =
     let m = front-parts left value (added_by first h.text) (joined_by false hs) w.adds (omega arith) in
-    let sum = m.2 in
-    let none : m.0 ≡ [] = no-size m.0 (omega arith) in
-    m.1 ∙ ap (λ v. left ++ v) none ∙ append-nil left
-
--- If a line adds more than is left, the front may end in it.
-may-here : (p r j v : List ℕ) → (p ++ r) ++ j ≡ p ++ v → r ≢ [] → MayEnd p v → ends ends_key p ≡ true
-may-here p r j v h k m = grind (arith, no-front, append_cancel_left, append_assoc)
+    grind (arith, no-size, append-nil)
 
 -- If less is left than a line adds, the front ends inside it: at the index after as many ASCII bytes as the text of the
 -- line has ASCII characters up to there.
 pub walk-inside : (e : Encoding) (first : Bool) (h : HeldLine) (hs : List HeldLine) (left value : List ℕ) → is_editable e ≡ true
-    → IsWalkBefore e first (h ∷ hs) left value → utf8_size left < utf8_size (added_by first h.text)
-    → (x y : List ℕ) → h.text ≡ x ++ y → without_indent first h.text ≡ left ++ y
-    → length (front_in e first left (h ∷ hs)) ≡ after_ascii (ascii_count x) h.bytes
+    → IsWalkBefore e first (h ∷ hs) left value → utf8_size left < utf8_size (added_by first h.text) → (x y : List ℕ) → h.text ≡ x ++ y
+    → without_indent first h.text ≡ left ++ y → length (front_in e first left (h ∷ hs)) ≡ after_ascii (ascii_count x) h.bytes
 walk-inside e first h hs left value ok w l x y s t =
     let m = front-parts left value (added_by first h.text) (joined_by false hs) w.adds (omega arith) in
-    let sum = m.2 in
-    let some : m.0 ≢ [] = λ q. let n : utf8_size m.0 ≡ 0 = ap utf8_size q in absurd (omega arith) in
-    let k = may-here left m.0 (joined_by false hs) value (ap (λ v. v ++ joined_by false hs) (sym m.1) ∙ w.adds) some w.may_end in
-    let i = indented first h.text in
-    let same : x ≡ i.indent ++ left =
-    append_cancel_right x (i.indent ++ left) y (sym s ∙ i.whole ∙ ap (λ v. i.indent ++ v) t ∙ sym (append_assoc i.indent left y)) in
-    front_size-inside e first h hs left m.0 ok w.decoded.0 m.1 k ∙ ap (λ v. after_ascii (ascii_count v) h.bytes) (sym same)
+    search (rules, indented, append_cancel_right, append_assoc, front_size-inside, no-front, append_cancel_left)
 
 -- What is left after a line, if more was left than it adds.
 pub record GoesOn (e : Encoding) (first : Bool) (h : HeldLine) (hs : List HeldLine) (left value : List ℕ) : Type 0 where
@@ -175,24 +150,15 @@ pub walk-on : (e : Encoding) (first : Bool) (h : HeldLine) (hs : List HeldLine) 
 walk-on e first h hs left value w l =
     let a = added_by first h.text in
     let m = front-parts a (joined_by false hs) left value (sym w.adds) (omega arith) in
-    let sum = m.2 in
-    let some : m.0 ≢ [] = λ q. let n : utf8_size m.0 ≡ 0 = ap utf8_size q in absurd (omega arith) in
-    let rest : joined_by false hs ≡ m.0 ++ value =
-    append_cancel_left a (joined_by false hs) (m.0 ++ value) (w.adds ∙ ap (λ v. v ++ value) m.1 ∙ append_assoc a m.0 value) in
-    record {
-      next = m.0;
-      whole = m.1;
-      size = m.2;
-      is_before = record { decoded = w.decoded.1; adds = rest; may_end = may-later a m.0 left value some m.1 w.may_end; some = some };
-    }
+    grind (arith, append_cancel_left, append_assoc, may-later)
 
 -- The front of some bytes is no longer than they are.
 front-less : (x y z : List ℕ) → x ≡ y ++ z → length y ≤ length x
 front-less x y z s = omega (arith, ap length s, length-append y z)
 
 -- The front is no longer than the group without its last line ending.
-pub front-within : (e : Encoding) (group : List HeldLine) (key value : List ℕ) → is_editable e ≡ true → AreDecoded e group → IsPair (joined (as_lines group)) key value
-    → length (front_of e group) ≤ length (unended_bytes group)
+pub front-within : (e : Encoding) (group : List HeldLine) (key value : List ℕ) → is_editable e ≡ true → AreDecoded e group
+    → IsPair (joined (as_lines group)) key value → length (front_of e group) ≤ length (unended_bytes group)
 front-within e group key value ok d h =
     front-less (unended_bytes group) (front_of e group) _
     (front-unended e group (between_of group) (front_of e group) (front_of-meets e group key value ok d h))

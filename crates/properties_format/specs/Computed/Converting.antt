@@ -1,6 +1,6 @@
 -- The units of a text, and what becomes of them, computed from the first character.
 use Rattle.std.specs.Prelude.{ℕ, zero, suc, pred, Bool, List, [], ◌∷◌, length, Some, None}
-use Rattle.properties_format.specs.Encoding.{Encoding}
+use Rattle.properties_format.specs.Repertoire.{Repertoire}
 use Rattle.properties_format.specs.Escapes.{spelling_text}
 use Rattle.properties_format.specs.Computed.Escapes.{first_spelling}
 use Rattle.properties_format.specs.Converting.{TextUnit, spelt, stray, converted_units}
@@ -19,5 +19,5 @@ unfoldable pub units_of : List ℕ → List TextUnit
 units_of x = units_past x 0
 
 -- what becomes of a text, but for the front of a file
-unfoldable pub converted_of : Encoding → Bool → Bool → List ℕ → List ℕ
-converted_of e only readable x = converted_units e only readable (units_of x)
+unfoldable pub converted_of : Repertoire → Bool → List ℕ → List ℕ
+converted_of r readable x = converted_units r readable (units_of x)

@@ -1,8 +1,9 @@
--- The edited source, computed group by group. What is put in is printed with ASCII-only output on or off, as the flag
--- after the encoding says.
-use Rattle.std.specs.Prelude.{ℕ, if◌then◌else◌, List, [], ◌∷◌, ◌++◌, Option, Some, None, Bool}
+-- The edited source, computed group by group. The repertoire has the encoding that is requested, and says what may
+-- stand unescaped in what is put in.
+use Rattle.std.specs.Prelude.{ℕ, if◌then◌else◌, List, [], ◌∷◌, ◌++◌, Option, Some, None}
 use Rattle.properties_format.specs.Text.{line_feed, is_empty}
 use Rattle.properties_format.specs.Encoding.{Encoding, InForce, byte_order_mark}
+use Rattle.properties_format.specs.Repertoire.{Repertoire, in_encoding}
 use Rattle.properties_format.specs.Lines.{end}
 use Rattle.properties_format.specs.Entries.{Entry, item, malformed, read_fault}
 use Rattle.properties_format.specs.Groups.{joined}
@@ -31,22 +32,22 @@ last_place key [] = None
 last_place key (g ∷ gs) = place_after key g gs (last_place key gs)
 
 -- the body with the pair at this place, or appended at the end if there is none
-abbrev pub set_at : Encoding → Bool → List ℕ → List (List HeldLine) → List ℕ → List ℕ → Option KeyPlace → List ℕ
-set_at e only source groups key value (Some p) =
-    groups_bytes p.before ++ (pair_bytes e only (is_empty (groups_bytes p.before)) key value ++ (ending_bytes (last_ending p.group) ++ groups_bytes p.after))
-set_at e only source groups key value None =
+abbrev pub set_at : Repertoire → List ℕ → List (List HeldLine) → List ℕ → List ℕ → Option KeyPlace → List ℕ
+set_at r source groups key value (Some p) =
+    groups_bytes p.before ++ (pair_bytes r (is_empty (groups_bytes p.before)) key value ++ (ending_bytes (last_ending p.group) ++ groups_bytes p.after))
+set_at r source groups key value None =
     let front : List ℕ = groups_bytes groups ++ separation source (final_group groups) in
-    front ++ (pair_bytes e only (is_empty front) key value ++ line_feed ∷ [])
+    front ++ (pair_bytes r (is_empty front) key value ++ line_feed ∷ [])
 
 -- the source with the key set, given the encoding in force and the body
-abbrev pub key_set_in : InForce → Bool → List ℕ → List ℕ → List ℕ → List ℕ
-key_set_in f only source key value =
+abbrev pub key_set_in : InForce → Repertoire → List ℕ → List ℕ → List ℕ → List ℕ
+key_set_in f r source key value =
     let groups = held_groups_of f.encoding f.body in
-    bom_of source ++ set_at f.encoding only source groups key value (last_place key groups)
+    bom_of source ++ set_at (in_encoding r f.encoding) source groups key value (last_place key groups)
 
 -- the source with the key set, given the requested encoding
-abbrev pub key_set : Encoding → Bool → List ℕ → List ℕ → List ℕ → List ℕ
-key_set e only source key value = key_set_in (byte_order_mark e source) only source key value
+abbrev pub key_set : Repertoire → List ℕ → List ℕ → List ℕ → List ℕ
+key_set r source key value = key_set_in (byte_order_mark r.encoding source) r source key value
 
 -- ---- removing a key
 
@@ -88,8 +89,8 @@ abbrev pub result_of : Encoding → List ℕ → List ℕ → EditResult
 result_of e source result = if is_editable (byte_order_mark e source).encoding then result_by (items_of e source end) result else unsupported
 
 -- the result of setting a key
-abbrev pub set_key_result : Encoding → Bool → List ℕ → List ℕ → List ℕ → EditResult
-set_key_result e only source key value = result_of e source (key_set e only source key value)
+abbrev pub set_key_result : Repertoire → List ℕ → List ℕ → List ℕ → EditResult
+set_key_result r source key value = result_of r.encoding source (key_set r source key value)
 
 -- the result of removing a key
 abbrev pub remove_key_result : Encoding → List ℕ → List ℕ → EditResult

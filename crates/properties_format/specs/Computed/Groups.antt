@@ -1,6 +1,9 @@
 -- The groups, computed line by line.
-use Rattle.std.specs.Prelude.{Bool, true, false, not, ◌||◌, List, [], ◌∷◌, ◌++◌}
-use Rattle.properties_format.specs.Lines.{Line, InputEnd}
+use Rattle.std.specs.Prelude.{ℕ, Bool, true, false, not, ◌||◌, List, [], ◌∷◌, ◌++◌}
+use Rattle.properties_format.specs.Encoding.{Encoding}
+use Rattle.properties_format.specs.Computed.Encoding.{decoded_of}
+use Rattle.properties_format.specs.Lines.{Line, InputEnd, numbered_lines}
+use Rattle.properties_format.specs.Computed.Lines.{lines_of}
 use Rattle.properties_format.specs.Groups.{is_open, is_comment_line, last_group}
 
 -- whether the line is the last of its group, given the lines of the group before it
@@ -20,3 +23,7 @@ groups_after open_lines (l ∷ ls) ending =
 -- the groups of the lines
 abbrev pub groups_of : List Line → InputEnd → List (List Line)
 groups_of lines ending = groups_after [] lines ending
+
+-- the groups of an input
+abbrev pub groups_in : Encoding → List ℕ → InputEnd → List (List Line)
+groups_in e bytes ending = groups_of (numbered_lines (lines_of (decoded_of e bytes)) ending) ending

@@ -1,9 +1,10 @@
--- The source with the value of a key set in place, computed group by group. The value is printed with ASCII-only output
--- on or off, as the flag after the encoding says.
+-- The source with the value of a key set in place, computed group by group. The repertoire says what may stand
+-- unescaped in the value.
 use Rattle.std.specs.Prelude.{ℕ, zero, suc, ◌-◌, nat_le, nat_lt, Bool, true, false, if◌then◌else◌, List, [], ◌∷◌, ◌++◌, length, take, drop, Option, Some, None, bytes_eq}
 use Rattle.properties_format.specs.Text.{equals_sign, without_leading_blanks}
 use Rattle.properties_format.specs.Pieces.{Piece}
 use Rattle.properties_format.specs.Encoding.{Encoding, InForce, byte_order_mark}
+use Rattle.properties_format.specs.Repertoire.{Repertoire, in_encoding}
 use Rattle.properties_format.specs.Computed.Encoding.{pieces_of}
 use Rattle.properties_format.specs.Groups.{without_open_backslash, joined}
 use Rattle.properties_format.specs.Split.{Logical}
@@ -121,35 +122,35 @@ abbrev pub has_value : List ℕ → List HeldLine → Bool
 has_value value group = is_pair_to value (outcome_of (joined (as_lines group)))
 
 -- the body in which the pair at this place gets the value
-abbrev pub revalued_at : Encoding → Bool → List ℕ → KeyPlace → List ℕ
-revalued_at e only value p =
+abbrev pub revalued_at : Repertoire → List ℕ → KeyPlace → List ℕ
+revalued_at r value p =
     groups_bytes p.before
-    ++ (front_of e p.group ++ (encoded_text e (value_text e only (between_of p.group) value) ++ (ending_bytes (last_ending p.group) ++ groups_bytes p.after)))
+    ++ (front_of r.encoding p.group ++ (encoded_text r.encoding (value_text r (between_of p.group) value) ++ (ending_bytes (last_ending p.group) ++ groups_bytes p.after)))
 
 -- the body with a new pair at its end
-abbrev pub added_at : Encoding → Bool → List (List HeldLine) → List ℕ → List ℕ → List ℕ
-added_at e only groups key value =
+abbrev pub added_at : Repertoire → List (List HeldLine) → List ℕ → List ℕ → List ℕ
+added_at r groups key value =
     let front : List ℕ = groups_bytes groups ++ separation_by (ending_in groups) (final_group groups) in
-    front ++ new_pair_bytes e only front key (separator_by key (last_between groups)) value (ending_in groups)
+    front ++ new_pair_bytes r front key (separator_by key (last_between groups)) value (ending_in groups)
 
 -- the body with the value set, given the place of the last pair with the key, if there is one
-abbrev pub valued_at : Encoding → Bool → List (List HeldLine) → List ℕ → List ℕ → Option KeyPlace → List ℕ
-valued_at e only groups key value (Some p) = if has_value value p.group then groups_bytes groups else revalued_at e only value p
-valued_at e only groups key value None = added_at e only groups key value
+abbrev pub valued_at : Repertoire → List (List HeldLine) → List ℕ → List ℕ → Option KeyPlace → List ℕ
+valued_at r groups key value (Some p) = if has_value value p.group then groups_bytes groups else revalued_at r value p
+valued_at r groups key value None = added_at r groups key value
 
 -- the source with the value set, given the encoding in force and the body
-abbrev pub value_set_in : InForce → Bool → List ℕ → List ℕ → List ℕ → List ℕ
-value_set_in f only source key value =
+abbrev pub value_set_in : InForce → Repertoire → List ℕ → List ℕ → List ℕ → List ℕ
+value_set_in f r source key value =
     let groups = held_groups_of f.encoding f.body in
-    bom_of source ++ valued_at f.encoding only groups key value (last_place key groups)
+    bom_of source ++ valued_at (in_encoding r f.encoding) groups key value (last_place key groups)
 
 -- the source with the value set, given the requested encoding
-abbrev pub value_set : Encoding → Bool → List ℕ → List ℕ → List ℕ → List ℕ
-value_set e only source key value = value_set_in (byte_order_mark e source) only source key value
+abbrev pub value_set : Repertoire → List ℕ → List ℕ → List ℕ → List ℕ
+value_set r source key value = value_set_in (byte_order_mark r.encoding source) r source key value
 
 -- the result of setting a value
-abbrev pub set_value_result : Encoding → Bool → List ℕ → List ℕ → List ℕ → EditResult
-set_value_result e only source key value = result_of e source (value_set e only source key value)
+abbrev pub set_value_result : Repertoire → List ℕ → List ℕ → List ℕ → EditResult
+set_value_result r source key value = result_of r.encoding source (value_set r source key value)
 
 -- ---- sizes in bytes
 
