@@ -1,8 +1,7 @@
 //! Readers and sinks that count their faults.
 //!
 //! A contract can't say that a stream failed, because no value shows the failure. A counted stream keeps a number that
-//! rises with each failure, so a contract can refer to it: a real error is distinguished from an invented one by the
-//! number, which rose.
+//! rises with each failure, so a contract can demand that an error is returned only if the number rose.
 //!
 //! For tests and proofs, a scripted reader and a scripted sink split, accept and fail as a script says.
 //!

@@ -10,4 +10,5 @@ use Rattle.byte_blocks.proofs.Marking.{clear-before}
 -- The bytes before the first one that isn't ASCII.
 pub ascii-before : (block : List ℕ) (marks : List Bool) (n : ℕ) → marks ≡ map is_past_ascii block → n ≤ clear_front marks → All (λ b. b < 0x80) (take n block)
 ascii-before block marks n is le =
-    All-weaker (λ b. is_past_ascii b ≡ false) (λ b. b < 0x80) (λ b fails. leb-false 0x80 b fails) (take n block) (clear-before is_past_ascii block marks n is le)
+    All-weaker (λ b. is_past_ascii b ≡ false) (λ b. b < 0x80) (λ b fails. leb-false 0x80 b fails) (take n block)
+    (clear-before is_past_ascii block marks n is le)

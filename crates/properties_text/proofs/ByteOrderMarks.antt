@@ -16,8 +16,8 @@ unmarked b Absent h none = h.0
 unmarked b Undecided h none = h.0
 
 -- Bytes that are in one encoding, whichever was requested, begin like a byte order mark.
-pub like-mark : (b : List ℕ) (e : Encoding) (n : ℕ) → IsInForce b e n → begins_like_bom b ≡ true
-like-mark b e n f = elim (cases_Bool (begins_like_bom b)) [
+pub like-bom : (b : List ℕ) (e : Encoding) (n : ℕ) → IsInForce b e n → begins_like_bom b ≡ true
+like-bom b e n f = elim (cases_Bool (begins_like_bom b)) [
   | inl h ↦ h
   | inr h ↦
       let same : (asked : Encoding) → asked ≡ e =
@@ -27,8 +27,8 @@ like-mark b e n f = elim (cases_Bool (begins_like_bom b)) [
 ]
 
 -- Bytes that are in the requested encoding, whichever that is, don't.
-pub unlike-mark : (b : List ℕ) → IsUnmarked b → begins_like_bom b ≡ false
-unlike-mark b f =
+pub unlike-bom : (b : List ℕ) → IsUnmarked b → begins_like_bom b ≡ false
+unlike-bom b f =
     let asked : (byte_order_mark windows_1252 b).encoding ≡ windows_1252 = ap (λ v. let w : InForce = v in w.encoding) (f windows_1252) in
     elim (cases_Bool (begins_with utf_8_bom b)) [
       | inl h ↦ let m : (byte_order_mark windows_1252 b).encoding ≡ utf_8 = rw h refl in absurd (cc)

@@ -35,7 +35,7 @@ use Rattle.properties_text.specs.Spelt.{text_in, IsWell, IsFirst, IsRead}
 use Rattle.properties_text.specs.Encoding.{encoding_of}
 use Rattle.properties_text.specs.Decoding.{IsBody, text_of}
 use Rattle.properties_text.specs.declared.encoding.Encoding as named
-use Rattle.properties_text.specs.Printing.{encoding_in, only_in}
+use Rattle.properties_text.specs.Printing.{in_format}
 use Rattle.properties_text.specs.PrintedTexts.{is_copied}
 use Rattle.properties_text.specs.Converted.{converted_in, unit_in, is_stop, StaysUpTo, IsConvertedFront, IsUnitFront, line_in, body_bytes}
 use Rattle.properties_text.specs.declared.encoding.line.LineEncoding.{LineEncoding}
@@ -80,12 +80,12 @@ raw e bs x n w v h a s =
 -- ---- units
 
 -- A unit at the front is converted by itself.
-pub unit-step : (t : Repertoire) (readable : Bool) (e : LineEncoding) (u : TextUnit) (bs rest : List ℕ) → text_in e bs ≡ unit_text u ++ text_in e rest → IsUnit u (text_in e rest)
-    → converted_in t readable e bs ≡ unit_in t readable u ++ converted_in t readable e rest
+pub unit-step : (t : Repertoire) (readable : Bool) (e : LineEncoding) (u : TextUnit) (bs rest : List ℕ) → text_in e bs ≡ unit_text u ++ text_in e rest
+    → IsUnit u (text_in e rest) → converted_in t readable e bs ≡ unit_in t readable u ++ converted_in t readable e rest
 unit-step t readable e u bs rest s h =
-    ap (λ v. encoded_text (encoding_in t) (converted_of (encoding_in t) (only_in t) readable v)) s
-    ∙ ap (encoded_text (encoding_in t)) (converted_of-unit (encoding_in t) (only_in t) readable u (text_in e rest) h)
-    ∙ encoded_text-append (encoding_in t) (converted_unit (encoding_in t) (only_in t) readable u) (converted_of (encoding_in t) (only_in t) readable (text_in e rest))
+    ap (λ v. encoded_text (in_format t).encoding (converted_of (in_format t) readable v)) s
+    ∙ ap (encoded_text (in_format t).encoding) (converted_of-unit (in_format t) readable u (text_in e rest) h)
+    ∙ encoded_text-append (in_format t).encoding (converted_unit (in_format t) readable u) (converted_of (in_format t) readable (text_in e rest))
 
 -- Bytes that aren't stops are converted to themselves.
 pub run-step : (t : Repertoire) (readable : Bool) (e : LineEncoding) (xs rest : List ℕ) → All (λ b. is_stop b ≡ false) xs → IsWell e (xs ++ rest)
@@ -97,7 +97,8 @@ run-step t readable e (b ∷ xs) rest h w =
     let n : (b == backslash) ≡ false = grind (arith, nat_tests) in
     let a = ascii-first e b (xs ++ rest) k w in
     let more = run-step t readable e xs rest (All-tail (λ b. is_stop b ≡ false) b xs h) a.well in
-    let own : unit_in t readable (spelt (itself b)) ≡ b ∷ [] = ap (encoded_text (encoding_in t)) (below-stays (encoding_in t) (only_in t) readable (itself b) (lt-ltb b 0x80 k)) ∙ encoded_text-ascii (encoding_in t) (b ∷ []) (k, tt) in
+    let own : unit_in t readable (spelt (itself b)) ≡ b ∷ [] = ap (encoded_text (in_format t).encoding)
+    (below-stays (in_format t) readable (itself b) (lt-ltb b 0x80 k)) ∙ encoded_text-ascii (in_format t).encoding (b ∷ []) (k, tt) in
     (more.0, unit-step t readable e (spelt (itself b)) (b ∷ xs ++ rest) (xs ++ rest) a.characters n ∙ ap₂ (λ x y. x ++ y) own more.1)
 
 -- What holds of the bytes before a place.
@@ -110,8 +111,8 @@ clear-front P text n h =
 -- ---- what was put
 
 -- A run that stays was copied.
-pub run-front : {t : Repertoire} {readable : Bool} {e : LineEncoding} {old text new : List ℕ} {at end : ℕ} {rest : List ℕ} (n : ℕ) → IsWell e text → StaysUpTo readable text n
-    → rest ≡ drop n text → take end new ≡ take at old ++ take n text → IsConvertedFront t readable e old at text end rest new
+pub run-front : {t : Repertoire} {readable : Bool} {e : LineEncoding} {old text new : List ℕ} {at end : ℕ} {rest : List ℕ} (n : ℕ) → IsWell e text
+    → StaysUpTo readable text n → rest ≡ drop n text → take end new ≡ take at old ++ take n text → IsConvertedFront t readable e old at text end rest new
 run-front {t} {readable} {e} {old} {text} {new} {at} {end} {rest} n w h r put =
     let k = h t e w in
     record {
@@ -122,35 +123,34 @@ run-front {t} {readable} {e} {old} {text} {new} {at} {end} {rest} n w h r put =
     }
 
 -- A unit was converted.
-pub unit-front : {t : Repertoire} {readable : Bool} {e : LineEncoding} {old text new : List ℕ} {at : ℕ} {end : ℕ} {rest : List ℕ} → IsUnitFront t readable e old at text end rest new
-    → IsConvertedFront t readable e old at text end rest new
+pub unit-front : {t : Repertoire} {readable : Bool} {e : LineEncoding} {old text new : List ℕ} {at : ℕ} {end : ℕ} {rest : List ℕ}
+    → IsUnitFront t readable e old at text end rest new → IsConvertedFront t readable e old at text end rest new
 unit-front {t} {readable} {e} {old} {text} {new} {at} {end} {rest} u = record {
   well = u.well;
   left = omega (arith, u.shorter);
   converted = ap (λ v. take at old ++ v) (unit-step t readable e u.unit text rest u.begins u.is_unit)
-      ∙ sym (append_assoc (take at old) (unit_in t readable u.unit) (converted_in t readable e rest)) ∙ ap (λ v. v ++ converted_in t readable e rest) (sym u.put);
+      ∙ sym (append_assoc (take at old) (unit_in t readable u.unit) (converted_in t readable e rest))
+      ∙ ap (λ v. v ++ converted_in t readable e rest) (sym u.put);
 }
 
 -- One front after another.
-pub front-on : {t : Repertoire} {readable : Bool} {e : LineEncoding} {old text mid new : List ℕ} {at : ℕ} {mid_end final : ℕ} {middle rest : List ℕ} → IsConvertedFront t readable e old at text mid_end middle mid
+pub front-on : {t : Repertoire} {readable : Bool} {e : LineEncoding} {old text mid new : List ℕ} {at : ℕ} {mid_end final : ℕ} {middle rest : List ℕ}
+    → IsConvertedFront t readable e old at text mid_end middle mid
     → IsConvertedFront t readable e mid mid_end middle final rest new → IsConvertedFront t readable e old at text final rest new
 front-on a b = record { well = b.well; left = omega (arith, a.left, b.left); converted = a.converted ∙ b.converted }
 
--- Nothing was converted yet.
-pub front-none : {t : Repertoire} {readable : Bool} {e : LineEncoding} {old : List ℕ} {at : ℕ} {end : ℕ} {rest : List ℕ} → IsWell e rest → end ≡ at
-    → IsConvertedFront t readable e old at rest end rest old
-front-none {t} {readable} {e} {old} {at} {end} {rest} w h = record { well = w; left = omega arith; converted = ap (λ n. take n old ++ converted_in t readable e rest) (sym h) }
-
 -- All was converted.
 pub converted-nil : (t : Repertoire) (readable : Bool) (e : LineEncoding) → converted_in t readable e [] ≡ []
-converted-nil t readable Windows1252 = ap (encoded_text (encoding_in t)) (converted_of-empty (encoding_in t) (only_in t) readable)
-converted-nil t readable Utf8 = ap (λ v. encoded_text (encoding_in t) (converted_of (encoding_in t) (only_in t) readable v)) chars-nil ∙ ap (encoded_text (encoding_in t)) (converted_of-empty (encoding_in t) (only_in t) readable)
+converted-nil t readable Windows1252 = ap (encoded_text (in_format t).encoding) (converted_of-empty (in_format t) readable)
+converted-nil t readable Utf8 = ap (λ v. encoded_text (in_format t).encoding (converted_of (in_format t) readable v)) chars-nil
+    ∙ ap (encoded_text (in_format t).encoding) (converted_of-empty (in_format t) readable)
 
 -- ---- what was put for a unit
 
 -- A character that is itself.
-pub itself-unit : {t : Repertoire} {e : LineEncoding} {old text new : List ℕ} {at end : ℕ} {it : Spelt} (readable : Bool) → IsWell e text → (get_or text 0 0 ≡ backslash → ⊥) → IsFirst e text it
-    → take end new ≡ take at old ++ encoded_text (encoding_in t) (literal (encoding_in t) (only_in t) it.character)
+pub itself-unit : {t : Repertoire} {e : LineEncoding} {old text new : List ℕ} {at end : ℕ} {it : Spelt} (readable : Bool) → IsWell e text
+    → (get_or text 0 0 ≡ backslash → ⊥) → IsFirst e text it
+    → take end new ≡ take at old ++ encoded_text (in_format t).encoding (literal (in_format t) it.character)
     → IsUnitFront t readable e old at text end (drop it.length text) new
 itself-unit {t} {e} {old} {text} {new} {at} {end} {it} readable w n h put = record {
   unit = TextUnit.spelt (itself it.character);
@@ -160,7 +160,7 @@ itself-unit {t} {e} {old} {text} {new} {at} {end} {it} readable w n h put = reco
       n (ap (λ v. get_or v 0 0) back.1 ∙ q));
   well = h.well;
   shorter = omega (arith, h.some, h.within, length-drop it.length text);
-  put = put ∙ ap (λ v. take at old ++ encoded_text (encoding_in t) v) (sym (respelt-itself (encoding_in t) (only_in t) readable it.character));
+  put = put ∙ ap (λ v. take at old ++ encoded_text (in_format t).encoding v) (sym (respelt-itself (in_format t) readable it.character));
 }
 
 -- a `\u` at which no spelling begins
@@ -170,17 +170,25 @@ pub record IsStray (e : LineEncoding) (text : List ℕ) : Type 0 where
   pub well : IsWell e more
   pub begins : text_in e text ≡ backslash ∷ letter_u ∷ text_in e more
 
-after-backslash : (e : LineEncoding) (bs x : List ℕ) → IsWell e bs → text_in e bs ≡ x → NoSpelling (backslash ∷ x) → text_in e (backslash ∷ bs) ≡ backslash ∷ text_in e bs → IsStray e (backslash ∷ bs)
+after-backslash : (e : LineEncoding) (bs x : List ℕ) → IsWell e bs → text_in e bs ≡ x → NoSpelling (backslash ∷ x)
+    → text_in e (backslash ∷ bs) ≡ backslash ∷ text_in e bs → IsStray e (backslash ∷ bs)
 after-backslash e bs [] w s n f = absurd (n last [] refl refl)
 after-backslash e bs (c ∷ y) w s n f = elim (cases_Bool (c == letter_u)) [
   | inl k ↦
       let u = eqb-true c letter_u k in
       let back = ascii-back e bs c y w s (omega (arith, u)) in
-      record { more = back.0; whole = ap (λ v. backslash ∷ v) (back.1 ∙ ap (λ v. v ∷ back.0) u); well = back.2; begins = f ∙ ap (λ v. backslash ∷ v) (s ∙ ap₂ (λ v z. v ∷ z) u (sym back.3)) }
+      record {
+        more = back.0;
+        whole = ap (λ v. backslash ∷ v) (back.1 ∙ ap (λ v. v ∷ back.0) u);
+        well = back.2;
+        begins = f
+            ∙ ap (λ v. backslash ∷ v) (s ∙ ap₂ (λ v z. v ∷ z) u (sym back.3));
+      }
   | inr k ↦ absurd (n (escaped c) y refl k)
 ]
 
-pub stray-text : (e : LineEncoding) (text : List ℕ) → IsWell e text → 0 < length text → get_or text 0 0 ≡ backslash → NoSpelling (text_in e text) → IsStray e text
+pub stray-text : (e : LineEncoding) (text : List ℕ) → IsWell e text → 0 < length text → get_or text 0 0 ≡ backslash → NoSpelling (text_in e text)
+    → IsStray e text
 stray-text e [] w s f n = absurd (omega arith)
 stray-text e (b ∷ bs) w s f n =
     let g : b ≡ backslash = f in
@@ -199,7 +207,8 @@ stray-unit {t} {e} {old} {text} {new} {rest} {at} {end} readable n k r put =
       is_unit = subst (λ v. NoSpelling (backslash ∷ letter_u ∷ text_in e v)) (sym same) (subst NoSpelling k.begins n);
       well = subst (IsWell e) (sym same) k.well;
       shorter = omega (arith, ap length same, ap length k.whole);
-      put = put ∙ ap (λ v. take at old ++ take 2 v) k.whole ∙ ap (λ v. take at old ++ v) (sym (encoded_text-ascii (encoding_in t) (backslash ∷ letter_u ∷ []) (lit< tt, (lit< tt, tt))));
+      put = put ∙ ap (λ v. take at old ++ take 2 v) k.whole ∙ ap (λ v. take at old ++ v)
+          (sym (encoded_text-ascii (in_format t).encoding (backslash ∷ letter_u ∷ []) (lit< tt, (lit< tt, tt))));
     }
 
 -- A spelling that stays, in ASCII.
@@ -214,35 +223,40 @@ few-characters (unicode d) = omega arith
 few-characters (surrogates high low) = omega arith
 few-characters last = omega arith
 
-stays : (t : Repertoire) (readable : Bool) (e : LineEncoding) (text : List ℕ) (it : Spelt) → IsWell e text → (h : IsRead e text it) → AreAscii (spelling_text h.spells.spelling)
-    → respelt (encoding_in t) (only_in t) readable h.spells.spelling ≡ spelling_text h.spells.spelling → Stays t readable e text it h.spells.spelling
-stays t readable e text it w h a f =
+stays : {e : LineEncoding} {text : List ℕ} {it : Spelt} (t : Repertoire) (readable : Bool) → IsWell e text → (h : IsRead e text it)
+    → AreAscii (spelling_text h.spells.spelling)
+    → respelt (in_format t) readable h.spells.spelling ≡ spelling_text h.spells.spelling → Stays t readable e text it h.spells.spelling
+stays {e} {text} {it} t readable w h a f =
     let p = h.spells.spelling in
     let k = raw e text (spelling_text p) it.length w h.well h.within a h.spells.whole in
     record {
       few = omega (arith, k.1, few-characters p);
-      front = k.0 ∙ sym (encoded_text-ascii (encoding_in t) (spelling_text p) a) ∙ ap (encoded_text (encoding_in t)) (sym f);
+      front = k.0 ∙ sym (encoded_text-ascii (in_format t).encoding (spelling_text p) a) ∙ ap (encoded_text (in_format t).encoding) (sym f);
     }
 
-pub ascii-stays : (t : Repertoire) (readable : Bool) (e : LineEncoding) (text : List ℕ) (it : Spelt) → IsWell e text → (h : IsRead e text it) → it.character < 0x80 → Stays t readable e text it h.spells.spelling
-ascii-stays t readable e text it w h k =
+pub ascii-stays : {e : LineEncoding} {text : List ℕ} {it : Spelt} (t : Repertoire) (readable : Bool) → IsWell e text → (h : IsRead e text it)
+    → it.character < 0x80 → Stays t readable e text it h.spells.spelling
+ascii-stays {e} {text} {it} t readable w h k =
     let p = h.spells.spelling in
     let below : spelling_character p < 0x80 = subst (λ n. n < 0x80) h.spells.character k in
-    stays t readable e text it w h (below-ascii p (text_in e (drop it.length text)) h.spells.stands below) (below-stays (encoding_in t) (only_in t) readable p (lt-ltb (spelling_character p) 0x80 below))
+    stays t readable w h (below-ascii p (text_in e (drop it.length text)) h.spells.stands below)
+    (below-stays (in_format t) readable p (lt-ltb (spelling_character p) 0x80 below))
 
 -- which spellings are `\u` escapes, by the second byte
-two-characters : (p : Spelling) (x y : List ℕ) → IsSpelling p x → 0x80 ≤ spelling_character p → spelling_text p ++ x ≡ backslash ∷ letter_u ∷ y → is_unicode p ≡ true
+two-characters : (p : Spelling) (x y : List ℕ) → IsSpelling p x → 0x80 ≤ spelling_character p → spelling_text p ++ x ≡ backslash ∷ letter_u ∷ y
+    → is_unicode p ≡ true
 two-characters (itself c) x y h k e = let f : c ≡ backslash = cc in absurd (grind (arith))
 two-characters (escaped c) x y h k e = let f : c ≡ letter_u = cc in absurd (grind (arith))
 two-characters (unicode d) x y h k e = refl
 two-characters (surrogates high low) x y h k e = refl
 two-characters last x y h k e = absurd (grind (arith))
 
-pub unicode-is : (e : LineEncoding) (text : List ℕ) (it : Spelt) → IsWell e text → (h : IsRead e text it) → get_or text 0 0 ≡ backslash → 1 < length text → get_or text 1 0 ≡ letter_u
-    → 0x80 ≤ it.character → is_unicode h.spells.spelling ≡ true
-unicode-is e text it w h f l g k =
+pub unicode-is : {e : LineEncoding} {text : List ℕ} {it : Spelt} → IsWell e text → (h : IsRead e text it) → get_or text 0 0 ≡ backslash → 1 < length text
+    → get_or text 1 0 ≡ letter_u → 0x80 ≤ it.character → is_unicode h.spells.spelling ≡ true
+unicode-is {e} {text} {it} w h f l g k =
     let a = after-u e text w (omega arith, f, g) in
-    two-characters h.spells.spelling (text_in e (drop it.length text)) (text_in e (drop 2 text)) h.spells.stands (subst (λ n. 0x80 ≤ n) h.spells.character k) (sym h.spells.whole ∙ a.characters)
+    two-characters h.spells.spelling (text_in e (drop it.length text)) (text_in e (drop 2 text)) h.spells.stands (subst (λ n. 0x80 ≤ n) h.spells.character k)
+    (sym h.spells.whole ∙ a.characters)
 
 unicode-begins : (p : Spelling) (x : List ℕ) → is_unicode p ≡ true → (y : List ℕ) × (spelling_text p ++ x ≡ backslash ∷ letter_u ∷ y)
 unicode-begins (itself c) x h = absurd (cc)
@@ -251,8 +265,9 @@ unicode-begins (unicode d) x h = (four_text d ++ x, refl)
 unicode-begins (surrogates high low) x h = (four_text high ++ backslash ∷ letter_u ∷ four_text low ++ x, refl)
 unicode-begins last x h = absurd (cc)
 
-pub unicode-not : (e : LineEncoding) (text : List ℕ) (it : Spelt) → IsWell e text → (h : IsRead e text it) → (1 < length text → (get_or text 1 0 == letter_u) ≡ false) → is_unicode h.spells.spelling ≡ false
-unicode-not e text it w h n = elim (cases_Bool (is_unicode h.spells.spelling)) [
+pub unicode-not : {e : LineEncoding} {text : List ℕ} {it : Spelt} → IsWell e text → (h : IsRead e text it)
+    → (1 < length text → (get_or text 1 0 == letter_u) ≡ false) → is_unicode h.spells.spelling ≡ false
+unicode-not {e} {text} {it} w h n = elim (cases_Bool (is_unicode h.spells.spelling)) [
   | inl k ↦
       let b = unicode-begins h.spells.spelling (text_in e (drop it.length text)) k in
       let a = ascii-all e text (backslash ∷ letter_u ∷ []) b.0 w (lit< tt, (lit< tt, tt)) (h.spells.whole ∙ b.1) in
@@ -263,68 +278,75 @@ unicode-not e text it w h n = elim (cases_Bool (is_unicode h.spells.spelling)) [
   | inr k ↦ k
 ]
 
-pub escape-stays : (t : Repertoire) (readable : Bool) (e : LineEncoding) (text : List ℕ) (it : Spelt) (m : Bool) → IsWell e text → (h : IsRead e text it) → 0x80 ≤ it.character
-    → is_unicode h.spells.spelling ≡ true → m ≡ may_be_unescaped (encoding_in t) (only_in t) it.character → (m && readable) ≡ false → Stays t readable e text it h.spells.spelling
-escape-stays t readable e text it m w h k u f n =
+pub escape-stays : {e : LineEncoding} {text : List ℕ} {it : Spelt} {m : Bool} (t : Repertoire) (readable : Bool) → IsWell e text → (h : IsRead e text it)
+    → 0x80 ≤ it.character → is_unicode h.spells.spelling ≡ true → m ≡ may_be_unescaped (in_format t) it.character → (m && readable) ≡ false
+    → Stays t readable e text it h.spells.spelling
+escape-stays {e} {text} {it} {m} t readable w h k u f n =
     let p = h.spells.spelling in
     let z : 0x80 ≤ spelling_character p = subst (λ c. 0x80 ≤ c) h.spells.character k in
-    let g : may_be_unescaped (encoding_in t) (only_in t) (spelling_character p) ≡ m = ap (may_be_unescaped (encoding_in t) (only_in t)) (sym h.spells.character) ∙ sym f in
-    stays t readable e text it w h (unicode-ascii p (whole-past p (text_in e (drop it.length text)) h.spells.stands z) u) (respelt-unicode (encoding_in t) (only_in t) readable p m readable z u g refl n)
+    let g : may_be_unescaped (in_format t) (spelling_character p) ≡ m = ap (may_be_unescaped (in_format t)) (sym h.spells.character) ∙ sym f in
+    stays t readable w h (unicode-ascii p (whole-past p (text_in e (drop it.length text)) h.spells.stands z) u)
+    (respelt-unicode (in_format t) readable p m readable z u g refl n)
 
 -- A spelling whose bytes were put.
-pub spelling-unit : {t : Repertoire} {readable : Bool} {e : LineEncoding} {old text new rest : List ℕ} {at end : ℕ} {it : Spelt} → (h : IsRead e text it) → rest ≡ drop it.length text
-    → take end new ≡ take at old ++ unit_in t readable (TextUnit.spelt h.spells.spelling) → IsUnitFront t readable e old at text end rest new
-spelling-unit {t} {readable} {e} {old} {text} {new} {rest} {at} {end} {it} h r put = record {
+pub spelling-unit : {t : Repertoire} {readable : Bool} {e : LineEncoding} {old text new rest x : List ℕ} {at end : ℕ} {it : Spelt} → (h : IsRead e text it)
+    → rest ≡ drop it.length text → take end new ≡ take at old ++ x → x ≡ unit_in t readable (TextUnit.spelt h.spells.spelling)
+    → IsUnitFront t readable e old at text end rest new
+spelling-unit {e = e} {old} {text} {at = at} {it = it} h r put same = record {
   unit = TextUnit.spelt h.spells.spelling;
   begins = h.spells.whole ∙ ap (λ v. spelling_text h.spells.spelling ++ text_in e v) (sym r);
   is_unit = subst (λ v. IsSpelling h.spells.spelling (text_in e v)) (sym r) h.spells.stands;
   well = subst (IsWell e) (sym r) h.well;
   shorter = omega (arith, h.some, h.within, length-drop it.length text, ap length r);
-  put = put;
+  put = put ∙ ap (λ v. take at old ++ v) same;
 }
 
 -- A character that is put instead of its spelling.
-pub literal-put : (t : Repertoire) (readable : Bool) (e : LineEncoding) (text : List ℕ) (it : Spelt) (m : Bool) → (h : IsRead e text it) → 0x80 ≤ it.character
-    → m ≡ may_be_unescaped (encoding_in t) (only_in t) it.character → ((m ≡ true) × (readable ≡ true)) ⊎ ((m ≡ false) × (is_unicode h.spells.spelling ≡ false))
-    → encoded_text (encoding_in t) (literal (encoding_in t) (only_in t) it.character) ≡ unit_in t readable (TextUnit.spelt h.spells.spelling)
-literal-put t readable e text it m h k f b =
+pub literal-put : {e : LineEncoding} {text : List ℕ} {it : Spelt} {m : Bool} (t : Repertoire) (readable : Bool) → (h : IsRead e text it) → 0x80 ≤ it.character
+    → m ≡ may_be_unescaped (in_format t) it.character → ((m ≡ true) × (readable ≡ true)) ⊎ ((m ≡ false) × (is_unicode h.spells.spelling ≡ false))
+    → encoded_text (in_format t).encoding (literal (in_format t) it.character) ≡ unit_in t readable (TextUnit.spelt h.spells.spelling)
+literal-put {it = it} {m} t readable h k f b =
     let p = h.spells.spelling in
     let z : 0x80 ≤ spelling_character p = subst (λ c. 0x80 ≤ c) h.spells.character k in
-    let g : may_be_unescaped (encoding_in t) (only_in t) (spelling_character p) ≡ m = ap (may_be_unescaped (encoding_in t) (only_in t)) (sym h.spells.character) ∙ sym f in
-    let same : literal (encoding_in t) (only_in t) it.character ≡ literal (encoding_in t) (only_in t) (spelling_character p) = ap (literal (encoding_in t) (only_in t)) h.spells.character in
-    ap (encoded_text (encoding_in t)) (elim b [
-      | inl c ↦ same ∙ sym (respelt-held (encoding_in t) (only_in t) readable p z (g ∙ c.0) c.1)
-      | inr c ↦ same ∙ sym (respelt-lacked (encoding_in t) (only_in t) readable p z (g ∙ c.0) c.1)
+    let g : may_be_unescaped (in_format t) (spelling_character p) ≡ m = ap (may_be_unescaped (in_format t)) (sym h.spells.character) ∙ sym f in
+    let same : literal (in_format t) it.character ≡ literal (in_format t) (spelling_character p) = ap (literal (in_format t)) h.spells.character in
+    ap (encoded_text (in_format t).encoding) (elim b [
+      | inl c ↦ same ∙ sym (respelt-held (in_format t) readable p z (g ∙ c.0) c.1)
+      | inr c ↦ same ∙ sym (respelt-lacked (in_format t) readable p z (g ∙ c.0) c.1)
     ])
 
 -- A character that is put after its backslash.
-escaped-text : (p : Spelling) (x y : List ℕ) → IsSpelling p x → 0x80 ≤ spelling_character p → is_unicode p ≡ false → spelling_text p ++ x ≡ backslash ∷ y → spelling_text p ≡ backslash ∷ spelling_character p ∷ []
+escaped-text : (p : Spelling) (x y : List ℕ) → IsSpelling p x → 0x80 ≤ spelling_character p → is_unicode p ≡ false → spelling_text p ++ x ≡ backslash ∷ y
+    → spelling_text p ≡ backslash ∷ spelling_character p ∷ []
 escaped-text (itself c) x y h k u e = let f : c ≡ backslash = cc in absurd (grind (arith))
 escaped-text (escaped c) x y h k u e = let b = escaped-beyond c k in let f : escaped_character c ≡ c = grind (arith) in ap (λ v. backslash ∷ v ∷ []) (sym f)
 escaped-text (unicode d) x y h k u e = absurd (cc)
 escaped-text (surrogates high low) x y h k u e = absurd (cc)
 escaped-text last x y h k u e = absurd (grind (arith))
 
-held-literal : (t : Repertoire) (c : ℕ) → may_be_unescaped (encoding_in t) (only_in t) c ≡ true → literal (encoding_in t) (only_in t) c ≡ c ∷ []
+held-literal : (t : Repertoire) (c : ℕ) → may_be_unescaped (in_format t) c ≡ true → literal (in_format t) c ≡ c ∷ []
 held-literal t c h = rw h refl
 
-pub backslash-put : (t : Repertoire) (readable : Bool) (e : LineEncoding) (text : List ℕ) (it : Spelt) (m : Bool) → IsWell e text → (h : IsRead e text it) → get_or text 0 0 ≡ backslash → 0x80 ≤ it.character
-    → m ≡ may_be_unescaped (encoding_in t) (only_in t) it.character → m ≡ true → readable ≡ false → is_unicode h.spells.spelling ≡ false
-    → (backslash ∷ []) ++ encoded_text (encoding_in t) (literal (encoding_in t) (only_in t) it.character) ≡ unit_in t readable (TextUnit.spelt h.spells.spelling)
-backslash-put t readable e text it m w h b k f on off u =
+pub backslash-put : {e : LineEncoding} {text : List ℕ} {it : Spelt} {m : Bool} (t : Repertoire) (readable : Bool) → IsWell e text → (h : IsRead e text it)
+    → get_or text 0 0 ≡ backslash → 0x80 ≤ it.character → m ≡ may_be_unescaped (in_format t) it.character → m ≡ true → readable ≡ false
+    → is_unicode h.spells.spelling ≡ false
+    → (backslash ∷ []) ++ encoded_text (in_format t).encoding (literal (in_format t) it.character) ≡ unit_in t readable (TextUnit.spelt h.spells.spelling)
+backslash-put {e} {text} {it} t readable w h b k f on off u =
     let p = h.spells.spelling in
     let c = it.character in
     let z : 0x80 ≤ spelling_character p = subst (λ n. 0x80 ≤ n) h.spells.character k in
-    let g : may_be_unescaped (encoding_in t) (only_in t) (spelling_character p) ≡ true = ap (may_be_unescaped (encoding_in t) (only_in t)) (sym h.spells.character) ∙ sym f ∙ on in
+    let g : may_be_unescaped (in_format t) (spelling_character p) ≡ true = ap (may_be_unescaped (in_format t)) (sym h.spells.character) ∙ sym f ∙ on in
     let begins = first-backslash e text w (omega (arith, h.some, h.within)) b in
-    let s : spelling_text p ≡ backslash ∷ spelling_character p ∷ [] = escaped-text p (text_in e (drop it.length text)) begins.0 h.spells.stands z u (sym h.spells.whole ∙ begins.1) in
-    ap (λ v. (backslash ∷ []) ++ encoded_text (encoding_in t) v) (held-literal t c (sym f ∙ on))
-    ∙ ap (λ v. v ++ encoded_text (encoding_in t) (c ∷ [])) (sym (encoded_text-ascii (encoding_in t) (backslash ∷ []) (lit< tt, tt)))
-    ∙ sym (encoded_text-append (encoding_in t) (backslash ∷ []) (c ∷ []))
-    ∙ ap (λ v. encoded_text (encoding_in t) (backslash ∷ v ∷ [])) h.spells.character
-    ∙ ap (encoded_text (encoding_in t)) (sym s ∙ sym (respelt-kept (encoding_in t) (only_in t) readable p z g off))
+    let s : spelling_text p ≡ backslash ∷ spelling_character p ∷ [] = escaped-text p (text_in e (drop it.length text)) begins.0 h.spells.stands z u
+    (sym h.spells.whole ∙ begins.1) in
+    ap (λ v. (backslash ∷ []) ++ encoded_text (in_format t).encoding v) (held-literal t c (sym f ∙ on))
+    ∙ ap (λ v. v ++ encoded_text (in_format t).encoding (c ∷ [])) (sym (encoded_text-ascii (in_format t).encoding (backslash ∷ []) (lit< tt, tt)))
+    ∙ sym (encoded_text-append (in_format t).encoding (backslash ∷ []) (c ∷ []))
+    ∙ ap (λ v. encoded_text (in_format t).encoding (backslash ∷ v ∷ [])) h.spells.character
+    ∙ ap (encoded_text (in_format t).encoding) (sym s ∙ sym (respelt-kept (in_format t) readable p z g off))
   where
-    first-backslash : (e : LineEncoding) (text : List ℕ) → IsWell e text → 0 < length text → get_or text 0 0 ≡ backslash → (y : List ℕ) × (text_in e text ≡ backslash ∷ y)
+    first-backslash : (e : LineEncoding) (text : List ℕ) → IsWell e text → 0 < length text → get_or text 0 0 ≡ backslash
+        → (y : List ℕ) × (text_in e text ≡ backslash ∷ y)
     first-backslash e [] w s f = absurd (omega arith)
     first-backslash e (b ∷ bs) w s f =
         let g : b ≡ backslash = f in
@@ -370,10 +392,10 @@ kept-stays text n h k a t e w =
     let ascii : AreAscii x = recursion_from_All (λ b. b < 0x80) x (clear-front (λ b. b < 0x80) text n h) in
     let r = ascii-run e x y ascii (subst (IsWell e) whole w) in (
       r.0,
-      ap (λ v. encoded_text (encoding_in t) (converted_of (encoding_in t) (only_in t) false v)) (ap (text_in e) whole ∙ r.1)
-          ∙ ap (encoded_text (encoding_in t)) (run-stays (encoding_in t) (only_in t) x (text_in e y) ascii k (apart-text e y r.0 a))
-          ∙ encoded_text-append (encoding_in t) x (converted_of (encoding_in t) (only_in t) false (text_in e y))
-          ∙ ap (λ v. v ++ converted_in t false e y) (encoded_text-ascii (encoding_in t) x ascii),
+      ap (λ v. encoded_text (in_format t).encoding (converted_of (in_format t) false v)) (ap (text_in e) whole ∙ r.1)
+          ∙ ap (encoded_text (in_format t).encoding) (run-stays (in_format t) x (text_in e y) ascii k (apart-text e y r.0 a))
+          ∙ encoded_text-append (in_format t).encoding x (converted_of (in_format t) false (text_in e y))
+          ∙ ap (λ v. v ++ converted_in t false e y) (encoded_text-ascii (in_format t).encoding x ascii),
     )
 
 -- The bytes before the first non-ASCII byte stay, and so do those before the backslashes at their end.
@@ -417,7 +439,8 @@ utf_8-encoded [] = refl
 utf_8-encoded (c ∷ x) = ap (λ v. encode_utf8 c ++ v) (utf_8-encoded x)
 
 -- Those of the characters of bytes.
-same-bytes : (t : Repertoire) (bytes : List ℕ) → IsWell (line_in t) bytes → All byte bytes → encoded_text (encoding_in t) (text_in (line_in t) bytes) ≡ bytes
+same-bytes : (t : Repertoire) (bytes : List ℕ) → IsWell (line_in t) bytes → All byte bytes
+    → encoded_text (in_format t).encoding (text_in (line_in t) bytes) ≡ bytes
 same-bytes repertoire.Windows1252 bytes w b = windows-bytes bytes b
 same-bytes repertoire.Utf8 bytes w b = utf_8-encoded (chars bytes) ∙ encodes-chars bytes w
 same-bytes repertoire.Ascii bytes w b = utf_8-encoded (chars bytes) ∙ encodes-chars bytes w
@@ -430,7 +453,8 @@ utf_8-written x h = ((x, (all x h, sym (utf_8-encoded x))), ap chars (utf_8-enco
     all [] h = refl
     all (c ∷ x) h = and_from (is_scalar c) (scalars x) (char-from_scalar c h.0) (all x h.1)
 
-written-text : (t : Repertoire) (x : List ℕ) → AreWritable (encoding_in t) x → IsWell (line_in t) (encoded_text (encoding_in t) x) × (text_in (line_in t) (encoded_text (encoding_in t) x) ≡ x)
+written-text : (t : Repertoire) (x : List ℕ) → AreWritable (in_format t).encoding x
+    → IsWell (line_in t) (encoded_text (in_format t).encoding x) × (text_in (line_in t) (encoded_text (in_format t).encoding x) ≡ x)
 written-text repertoire.Windows1252 x w = (tt, sym (decodes (encoded_text windows_1252 x)) ∙ text-decoded windows_1252 x w.scalars w.encodable)
 written-text repertoire.Utf8 x w = utf_8-written x w.scalars
 written-text repertoire.Ascii x w = utf_8-written x w.scalars
@@ -439,7 +463,8 @@ written-text repertoire.Ascii x w = utf_8-written x w.scalars
 pub utf_8-copied : (text : List ℕ) → IsUtf8 text → converted_in repertoire.Utf8 false Utf8 text ≡ text
 utf_8-copied text w = ap (encoded_text utf_8) (utf_8-stays (chars text)) ∙ utf_8-encoded (chars text) ∙ encodes-chars text w
 
-pub copied-stays : (t : Repertoire) (e : LineEncoding) (text : List ℕ) → is_copied e t ≡ true → IsWell e text → All byte text → converted_in t false e text ≡ text
+pub copied-stays : (t : Repertoire) (e : LineEncoding) (text : List ℕ) → is_copied e t ≡ true → IsWell e text → All byte text
+    → converted_in t false e text ≡ text
 copied-stays repertoire.Windows1252 Windows1252 text h w b = ap (encoded_text windows_1252) (windows-stays text b) ∙ windows-bytes text b
 copied-stays repertoire.Utf8 Utf8 text h w b = utf_8-copied text w
 copied-stays repertoire.Utf8 Windows1252 text h w b = absurd (cc)
@@ -448,21 +473,24 @@ copied-stays repertoire.Ascii Windows1252 text h w b = absurd (cc)
 copied-stays repertoire.Ascii Utf8 text h w b = absurd (cc)
 
 -- The bytes with the first character escaped.
-pub front_bytes : (t : Repertoire) (bytes : List ℕ) (it : Spelt) (e : LineEncoding) → ((i : ℕ) → Fits w8 (get_or bytes i 0)) → e ≡ line_in t → IsFirst e bytes it
-    → ([] ++ unicode_escape it.character) ++ take (length bytes - it.length) (drop it.length bytes) ≡ encoded_text (encoding_in t) (first_escaped (text_in (line_in t) bytes))
+pub front_bytes : (t : Repertoire) (bytes : List ℕ) (it : Spelt) (e : LineEncoding) → ((i : ℕ) → Fits w8 (get_or bytes i 0)) → e ≡ line_in t
+    → IsFirst e bytes it → ([] ++ unicode_escape it.character) ++ take (length bytes - it.length) (drop it.length bytes) ≡ encoded_text (in_format t).encoding
+    (first_escaped (text_in (line_in t) bytes))
 front_bytes t bytes it e b s f =
     let h : IsFirst (line_in t) bytes it = subst (λ e. IsFirst e bytes it) s f in
     let rest = drop it.length bytes in
     let all = All-drop byte it.length bytes (All-from_get_or byte bytes 0 (λ i inside. omega (arith, b i))) in
-    ap₂ (λ x y. x ++ y) (sym (encoded_text-ascii (encoding_in t) (unicode_escape it.character) (unicode_escape-ascii it.character))) (take_rest bytes it.length ∙ sym (same-bytes t rest h.well all))
-    ∙ sym (encoded_text-append (encoding_in t) (unicode_escape it.character) (text_in (line_in t) rest)) ∙ ap (λ v. encoded_text (encoding_in t) (first_escaped v)) (sym h.characters)
+    ap₂ (λ x y. x ++ y) (sym (encoded_text-ascii (in_format t).encoding (unicode_escape it.character) (unicode_escape-ascii it.character)))
+    (take_rest bytes it.length ∙ sym (same-bytes t rest h.well all))
+    ∙ sym (encoded_text-append (in_format t).encoding (unicode_escape it.character) (text_in (line_in t) rest))
+    ∙ ap (λ v. encoded_text (in_format t).encoding (first_escaped v)) (sym h.characters)
 
 -- ---- a source
 
 -- the bytes that were written, and what they are to be
 pub converted-source : (t : Repertoire) (readable : Bool) (e : Encoding) (source bytes : List ℕ) → All byte source
-    → bytes ≡ encoded_text (encoding_in t) (at_front (encoding_in t) (converted_of (encoding_in t) (only_in t) readable (decoded_of e source)))
-    → IsConverted e (encoding_in t) (only_in t) readable source bytes
+    → bytes ≡ encoded_text (in_format t).encoding (at_front (in_format t).encoding (converted_of (in_format t) readable (decoded_of e source)))
+    → IsConverted e (in_format t) readable source bytes
 converted-source t readable e source bytes k h =
     let u = units_of-meets (decoded_of e source) in
     record {
@@ -471,48 +499,50 @@ converted-source t readable e source bytes k h =
       decoded = decoded_of-meets e source;
       whole = u.0;
       each = u.1;
-      bytes = h ∙ ap (λ v. encoded_text (encoding_in t) (at_front (encoding_in t) v)) (converted_of-is (encoding_in t) (only_in t) readable (decoded_of e source));
+      bytes = h ∙ ap (λ v. encoded_text (in_format t).encoding (at_front (in_format t).encoding v))
+          (converted_of-is (in_format t) readable (decoded_of e source));
     }
 
 -- the bytes and the text that a source comes to
 pub source-written : (t : Repertoire) (readable : Bool) (e : Encoding) (source bytes : List ℕ) → All byte source
-    → bytes ≡ encoded_text (encoding_in t) (converted_of (encoding_in t) (only_in t) readable (decoded_of e source))
-    → IsWell (line_in t) bytes × (text_in (line_in t) bytes ≡ converted_of (encoding_in t) (only_in t) readable (decoded_of e source))
+    → bytes ≡ encoded_text (in_format t).encoding (converted_of (in_format t) readable (decoded_of e source))
+    → IsWell (line_in t) bytes × (text_in (line_in t) bytes ≡ converted_of (in_format t) readable (decoded_of e source))
 source-written t readable e source bytes k h =
     let x = decoded_of e source in
     let u = units_of-meets x in
     let s : AllByRecursion scalar x = recursion_from_All scalar x (text-scalars e source k) in
-    let w = subst (AreWritable (encoding_in t)) (sym (converted_of-is (encoding_in t) (only_in t) readable x))
-    (units-writable (encoding_in t) (only_in t) readable (units_of x) u.1 (subst (AllByRecursion scalar) u.0 s)) in
-    let r = written-text t (converted_of (encoding_in t) (only_in t) readable x) w in
+    let w = subst (AreWritable (in_format t).encoding) (sym (converted_of-is (in_format t) readable x))
+    (units-writable (in_format t) readable (units_of x) u.1 (subst (AllByRecursion scalar) u.0 s)) in
+    let r = written-text t (converted_of (in_format t) readable x) w in
     (subst (IsWell (line_in t)) (sym h) r.0, ap (text_in (line_in t)) h ∙ r.1)
 
 -- Bytes that don't begin like a byte order mark, and those that do.
 pub plain-source : (t : Repertoire) (readable : Bool) (e : Encoding) (source bytes : List ℕ) → All byte source
-    → bytes ≡ encoded_text (encoding_in t) (converted_of (encoding_in t) (only_in t) readable (decoded_of e source)) → begins_like_bom bytes ≡ false
-    → IsConverted e (encoding_in t) (only_in t) readable source bytes
+    → bytes ≡ encoded_text (in_format t).encoding (converted_of (in_format t) readable (decoded_of e source)) → begins_like_bom bytes ≡ false
+    → IsConverted e (in_format t) readable source bytes
 plain-source t readable e source bytes k h f =
-    let x = converted_of (encoding_in t) (only_in t) readable (decoded_of e source) in
-    converted-source t readable e source bytes k (h ∙ ap (encoded_text (encoding_in t)) (sym (unmarked x (ap begins_like_bom (sym h) ∙ f))))
+    let x = converted_of (in_format t) readable (decoded_of e source) in
+    converted-source t readable e source bytes k (h ∙ ap (encoded_text (in_format t).encoding) (sym (unmarked x (ap begins_like_bom (sym h) ∙ f))))
   where
-    unmarked : (x : List ℕ) → begins_like_bom (encoded_text (encoding_in t) x) ≡ false → at_front (encoding_in t) x ≡ x
+    unmarked : (x : List ℕ) → begins_like_bom (encoded_text (in_format t).encoding x) ≡ false → at_front (in_format t).encoding x ≡ x
     unmarked x f = rw f refl
 
 pub marked-source : (t : Repertoire) (readable : Bool) (e : Encoding) (source bytes result : List ℕ) → All byte source
-    → bytes ≡ encoded_text (encoding_in t) (converted_of (encoding_in t) (only_in t) readable (decoded_of e source)) → begins_like_bom bytes ≡ true
-    → result ≡ encoded_text (encoding_in t) (first_escaped (text_in (line_in t) bytes)) → IsConverted e (encoding_in t) (only_in t) readable source result
+    → bytes ≡ encoded_text (in_format t).encoding (converted_of (in_format t) readable (decoded_of e source)) → begins_like_bom bytes ≡ true
+    → result ≡ encoded_text (in_format t).encoding (first_escaped (text_in (line_in t) bytes)) → IsConverted e (in_format t) readable source result
 marked-source t readable e source bytes result k h f g =
-    let x = converted_of (encoding_in t) (only_in t) readable (decoded_of e source) in
+    let x = converted_of (in_format t) readable (decoded_of e source) in
     converted-source t readable e source result k
-    (g ∙ ap (λ v. encoded_text (encoding_in t) (first_escaped v)) (source-written t readable e source bytes k h).1 ∙ ap (encoded_text (encoding_in t)) (sym (marked x (ap begins_like_bom (sym h) ∙ f))))
+    (g ∙ ap (λ v. encoded_text (in_format t).encoding (first_escaped v)) (source-written t readable e source bytes k h).1
+    ∙ ap (encoded_text (in_format t).encoding) (sym (marked x (ap begins_like_bom (sym h) ∙ f))))
   where
-    marked : (x : List ℕ) → begins_like_bom (encoded_text (encoding_in t) x) ≡ true → at_front (encoding_in t) x ≡ first_escaped x
+    marked : (x : List ℕ) → begins_like_bom (encoded_text (in_format t).encoding x) ≡ true → at_front (in_format t).encoding x ≡ first_escaped x
     marked x f = rw f refl
 
 -- The bytes of a body, whose characters are in a text already.
-pub body-text : (t : Repertoire) (readable : Bool) (e : LineEncoding) (encoding : named.Encoding) (body text new : List ℕ) → text_in e text ≡ text_of encoding body
-    → new ≡ converted_in t readable e text → new ≡ body_bytes t readable encoding body
-body-text t readable e encoding body text new s h = h ∙ ap (λ v. encoded_text (encoding_in t) (converted_of (encoding_in t) (only_in t) readable v)) s
+pub body-text : (t : Repertoire) (readable : Bool) (e : LineEncoding) (encoding : named.Encoding) (body text new : List ℕ)
+    → text_in e text ≡ text_of encoding body → new ≡ converted_in t readable e text → new ≡ body_bytes t readable encoding body
+body-text t readable e encoding body text new s h = h ∙ ap (λ v. encoded_text (in_format t).encoding (converted_of (in_format t) readable v)) s
 
 -- In windows-1252 its bytes are.
 pub windows-text : (body : List ℕ) → text_in Windows1252 body ≡ text_of named.TheVariants.WINDOWS_1252 body
@@ -523,9 +553,9 @@ pub decoded-text : (encoding : named.Encoding) (body text : List ℕ) → chars 
 decoded-text encoding body text h = h ∙ ap (λ v. v ++ text_of encoding body) chars-nil
 
 -- The bytes of a source.
-pub source-bytes : (t : Repertoire) (readable : Bool) (requested in_force : named.Encoding) (source body bytes : List ℕ) (start : ℕ) → IsBody (encoding_of requested) source (encoding_of in_force) start
-    → body ≡ drop start source → bytes ≡ body_bytes t readable in_force body
-    → bytes ≡ encoded_text (encoding_in t) (converted_of (encoding_in t) (only_in t) readable (decoded_of (encoding_of requested) source))
+pub source-bytes : (t : Repertoire) (readable : Bool) (requested in_force : named.Encoding) (source body bytes : List ℕ) (start : ℕ)
+    → IsBody (encoding_of requested) source (encoding_of in_force) start → body ≡ drop start source → bytes ≡ body_bytes t readable in_force body
+    → bytes ≡ encoded_text (in_format t).encoding (converted_of (in_format t) readable (decoded_of (encoding_of requested) source))
 source-bytes t readable requested in_force source body bytes start b s h =
-    h ∙ ap (λ v. encoded_text (encoding_in t) (converted_of (encoding_in t) (only_in t) readable v))
+    h ∙ ap (λ v. encoded_text (in_format t).encoding (converted_of (in_format t) readable v))
     (ap (text_of in_force) s ∙ ap (λ v. let w : InForce = v in characters (pieces_of w.encoding w.body)) (sym b.in_force))

@@ -31,7 +31,8 @@ pub cut-plains : (xs : List ℕ) (i : ℕ) → i ≤ length xs → All (λ c. st
 cut-plains xs i h all = upto i (omega arith)
   where
     plain : (j : ℕ) → j < i → stays_in_key (get_or xs j 0) ≡ true
-    plain j k = subst (λ c. stays_in_key c ≡ true) (get_or-take i xs j 0 k) (All-get_or (λ c. stays_in_key c ≡ true) (take i xs) j 0 (omega (arith, length-take-le i xs h)) all)
+    plain j k = subst (λ c. stays_in_key c ≡ true) (get_or-take i xs j 0 k)
+        (All-get_or (λ c. stays_in_key c ≡ true) (take i xs) j 0 (omega (arith, length-take-le i xs h)) all)
 
     upto : (j : ℕ) → j ≤ i → IsCutSoFar xs j false
     upto zero k = refl

@@ -79,10 +79,8 @@ abbrev Next : (b n P T A C D W : ℕ) → Type 0
 Next b n P T A C D W = (i : ℕ) × (P ≡ T + A + C + D) × (ones i + 2 * A + 6 * C + 14 * D ≡ T + W) × ((bs : List ℕ) (m : ℕ) → GoesOn i bs m → GoesOn n (b ∷ bs) m)
 
 -- What the bits say of the first byte, and of the others.
-step : (b p t a c d n P T A C D W : ℕ) → Kind b p t a c d
-    → p + 2 * P ≡ (t + 2 * T) + (a + 2 * A) + (c + 2 * C) + (d + 2 * D)
-    → ones n + 2 * (a + 2 * A) + 6 * (c + 2 * C) + 14 * (d + 2 * D) ≡ (t + 2 * T) + 2 * W
-    → Next b n P T A C D W
+step : (b p t a c d n P T A C D W : ℕ) → Kind b p t a c d → p + 2 * P ≡ (t + 2 * T) + (a + 2 * A) + (c + 2 * C) + (d + 2 * D)
+    → ones n + 2 * (a + 2 * A) + 6 * (c + 2 * C) + 14 * (d + 2 * D) ≡ (t + 2 * T) + 2 * W → Next b n P T A C D W
 step b p t a c d zero P T A C D W (ascii e f s) one two = (0, omega (arith, e, f, one), omega (arith, e, f, two), λ bs m g. (0, s, g))
 step b p t a c d (suc n) P T A C D W (ascii e f s) one two = absurd (omega (arith, f, two))
 step b p t a c d zero P T A C D W (later e f h s) one two = absurd (omega (arith, f, h, two))
@@ -96,13 +94,13 @@ step b p t a c d (suc n) P T A C D W (of_four e f h s) one two = absurd (omega (
 step b p t a c d n P T A C D W (other e f) one two = absurd (omega (arith, e, f, one))
 
 module _ (past tail two three four : ℕ → Bool) (kind : (b : ℕ) → Kind b (bit (past b)) (bit (tail b)) (bit (two b)) (bit (three b)) (bit (four b))) where
-  sums-on : (bs : List ℕ) (n q : ℕ)
-      → mask_l (map past bs) ≡ mask_l (map tail bs) + mask_l (map two bs) + mask_l (map three bs) + mask_l (map four bs)
+  sums-on : (bs : List ℕ) (n q : ℕ) → mask_l (map past bs) ≡ mask_l (map tail bs) + mask_l (map two bs) + mask_l (map three bs) + mask_l (map four bs)
       → ones n + 2 * mask_l (map two bs) + 6 * mask_l (map three bs) + 14 * mask_l (map four bs) ≡ mask_l (map tail bs) + doubled (length bs) q
       → (m : ℕ) × (q ≡ ones m) × GoesOn n bs m
   sums-on [] n q sum carry = (n, omega (arith, carry), refl)
   sums-on (b ∷ bs) n q sum carry =
-      let s = step b (bit (past b)) (bit (tail b)) (bit (two b)) (bit (three b)) (bit (four b)) n (mask_l (map past bs)) (mask_l (map tail bs)) (mask_l (map two bs)) (mask_l (map three bs)) (mask_l (map four bs)) (doubled (length bs) q) (kind b) sum carry in
+      let s = step b (bit (past b)) (bit (tail b)) (bit (two b)) (bit (three b)) (bit (four b)) n (mask_l (map past bs)) (mask_l (map tail bs))
+      (mask_l (map two bs)) (mask_l (map three bs)) (mask_l (map four bs)) (doubled (length bs) q) (kind b) sum carry in
       let r = sums-on bs s.0 q s.1 s.2 in
       (r.0, r.1, s.3 bs r.0 r.2)
 
@@ -173,7 +171,8 @@ kind b = elim (cases_Bool (within 0x80 0xbf b)) [
                         let r = in-range 0xf1 0xf3 b d in
                         of_four (past-bit b (omega (arith, r.0))) (ap bit d) (omega (arith, no_tail, no_two, no_three)) r
                     | inr d ↦
-                        let none : bit (within 0x80 0xbf b) + bit (within 0xc2 0xdf b) + bit (begins_three b) + bit (within 0xf1 0xf3 b) ≡ 0 = omega (arith, no_tail, no_two, no_three, ap bit d) in
+                        let none : bit (within 0x80 0xbf b) + bit (within 0xc2 0xdf b) + bit (begins_three b) + bit (within 0xf1 0xf3 b) ≡ 0 = omega
+                        (arith, no_tail, no_two, no_three, ap bit d) in
                         elim (cases_Bool (is_past_ascii b)) [
                           | inl p ↦ other (ap bit p) none
                           | inr p ↦ let small = leb-false 0x80 b p in ascii (ap bit p) none (omega (arith, small))
@@ -192,9 +191,10 @@ sixteen-doubled q =
 
 -- A block goes on as its bits say.
 pub block-goes_on : (block : List ℕ) (n q : ℕ) → length block ≡ 16
-    → mask_l (map is_past_ascii block) ≡ mask_l (map (within 0x80 0xbf) block) + mask_l (map (within 0xc2 0xdf) block) + mask_l (map begins_three block) + mask_l (map (within 0xf1 0xf3) block)
-    → ones n + 2 * (mask_l (map (within 0xc2 0xdf) block) + 3 * mask_l (map begins_three block) + 7 * mask_l (map (within 0xf1 0xf3) block)) ≡ mask_l (map (within 0x80 0xbf) block) + 0x1_0000 * q
-    → (m : ℕ) × (q ≡ ones m) × GoesOn n block m
+    → mask_l (map is_past_ascii block) ≡ mask_l (map (within 0x80 0xbf) block) + mask_l (map (within 0xc2 0xdf) block) + mask_l (map begins_three block) +
+    mask_l (map (within 0xf1 0xf3) block)
+    → ones n + 2 * (mask_l (map (within 0xc2 0xdf) block) + 3 * mask_l (map begins_three block) + 7 * mask_l (map (within 0xf1 0xf3) block)) ≡ mask_l
+    (map (within 0x80 0xbf) block) + 0x1_0000 * q → (m : ℕ) × (q ≡ ones m) × GoesOn n block m
 block-goes_on block n q long sum carry =
     let size : doubled (length block) q ≡ 0x1_0000 * q = ap (λ k. doubled k q) long ∙ sixteen-doubled q in
     sums-on is_past_ascii (within 0x80 0xbf) (within 0xc2 0xdf) begins_three (within 0xf1 0xf3) kind block n q sum (omega (arith, carry, size))
@@ -212,7 +212,8 @@ none-missing : (n : ℕ) → ones n ≡ 0 → n ≡ 0
 none-missing zero h = refl
 none-missing (suc n) h = absurd (omega (arith, h))
 
-pub ascii-goes_on : (block : List ℕ) (wanted n : ℕ) → mask_l (map is_past_ascii block) + wanted ≡ 0 → wanted ≡ ones n → (m : ℕ) × (0 ≡ ones m) × GoesOn n block m
+pub ascii-goes_on : (block : List ℕ) (wanted n : ℕ) → mask_l (map is_past_ascii block) + wanted ≡ 0 → wanted ≡ ones n
+    → (m : ℕ) × (0 ≡ ones m) × GoesOn n block m
 ascii-goes_on block wanted n none is =
     let start : n ≡ 0 = none-missing n (omega (arith, none, is)) in
     (0, refl, subst (λ k. GoesOn k block 0) (sym start) (ascii-on block (omega (arith, none))))

@@ -32,7 +32,8 @@ text-at b text h same size =
     let third = and_parts (leb 1 n) _ second.1 in
     let fourth = and_parts (leb n 3) _ third.1 in
     record {
-      begins = ap₂ take size same ∙ subst (λ m. take m row ≡ encode_utf8 c) (eqb-true (length (encode_utf8 c)) n second.0) (starts-take (encode_utf8 c) row first.0);
+      begins = ap₂ take size same ∙ subst (λ m. take m row ≡ encode_utf8 c) (eqb-true (length (encode_utf8 c)) n second.0)
+          (starts-take (encode_utf8 c) row first.0);
       some = omega (arith, size, leb-true 1 n third.0);
       few = omega (arith, size, leb-true n 3 fourth.0);
       scalar = fourth.1;

@@ -7,7 +7,7 @@ use Rattle.properties_format.specs.Computed.Converting.{converted_of}
 use Rattle.properties_text.specs.Spelt.{text_in, IsWell}
 use Rattle.properties_text.specs.Decoding.{text_of}
 use Rattle.properties_text.specs.declared.encoding.Encoding.{Encoding}
-use Rattle.properties_text.specs.Printing.{encoding_in, only_in}
+use Rattle.properties_text.specs.Printing.{in_format}
 use Rattle.properties_text.specs.declared.encoding.line.LineEncoding.{LineEncoding}
 use Rattle.properties_text.specs.declared.encoding.line.LineEncoding.TheVariants.{Windows1252, Utf8}
 use Rattle.properties_text.specs.declared.print.Repertoire.{Repertoire}
@@ -22,11 +22,11 @@ is_readable Readable = true
 
 -- the bytes that a text comes to
 abbrev pub converted_in : Repertoire → Bool → LineEncoding → List ℕ → List ℕ
-converted_in t readable e bytes = encoded_text (encoding_in t) (converted_of (encoding_in t) (only_in t) readable (text_in e bytes))
+converted_in t readable e bytes = encoded_text (in_format t).encoding (converted_of (in_format t) readable (text_in e bytes))
 
 -- the bytes that a unit comes to
 abbrev pub unit_in : Repertoire → Bool → TextUnit → List ℕ
-unit_in t readable u = encoded_text (encoding_in t) (converted_unit (encoding_in t) (only_in t) readable u)
+unit_in t readable u = encoded_text (in_format t).encoding (converted_unit (in_format t) readable u)
 
 -- whether a run stops at a byte
 abbrev pub is_stop : ℕ → Bool
@@ -59,4 +59,4 @@ line_in repertoire.Ascii = Utf8
 
 -- The bytes that a body in this encoding comes to.
 abbrev pub body_bytes : Repertoire → Bool → Encoding → List ℕ → List ℕ
-body_bytes t readable e body = encoded_text (encoding_in t) (converted_of (encoding_in t) (only_in t) readable (text_of e body))
+body_bytes t readable e body = encoded_text (in_format t).encoding (converted_of (in_format t) readable (text_of e body))

@@ -1,5 +1,5 @@
 -- What a text of a line is printed as, by the encoding of the line, what a backslash means in it, and what may be printed.
-use Rattle.std.specs.Prelude.{◌≡◌, ◌⊎◌, ◌≤◌, ◌<◌, ◌+◌, ◌*◌, ℕ, nat_le, nat_lt, ◌&&◌, Bool, not, true, false, if◌then◌else◌, List, [], ◌∷◌, ◌++◌, length, take, drop, get_or, Result, Ok, Err}
+use Rattle.std.specs.Prelude.{◌≡◌, ◌⊎◌, ◌≤◌, ◌<◌, ◌+◌, ◌*◌, ℕ, nat_le, nat_lt, ◌&&◌, Bool, not, true, false, if◌then◌else◌, List, [], ◌∷◌, ◌++◌, length, take, drop, Result, Ok, Err}
 use Rattle.properties_format.specs.Escapes as format_escapes
 use Rattle.properties_format.specs.Escapes.{Meaning, means, breaks}
 use Rattle.properties_format.specs.Computed.Escapes.{meaning_of, text_in_front}
@@ -16,8 +16,8 @@ use Rattle.properties_text.specs.declared.escape.UnescapeError.TheVariants as er
 use Rattle.properties_text.specs.declared.print.Repertoire.{Repertoire}
 use Rattle.properties_text.specs.declared.print.Repertoire.TheVariants as repertoire
 use Rattle.properties_text.specs.declared.print.Pair.{Pair}
-use Rattle.properties_text.specs.declared.print.Part.{Part}
-use Rattle.properties_text.specs.declared.print.text.Put.{Put}
+use Rattle.properties_text.specs.declared.print.part.Part.{Part}
+use Rattle.properties_text.specs.declared.print.runs.Put.{Put}
 
 -- ---- texts
 
@@ -135,11 +135,6 @@ PutsStops e t escaped old at text from new (Ok put) = ArePut e t escaped (from_o
 PutsStops e t escaped old at text from new (Err (error.Malformed malformed)) = rest_in e t escaped (drop from text) ≡ breaks (malformed_in malformed)
 PutsStops e t escaped old at text from new (Err error.Memory) = Unit {0}
 
--- There is no room for a further character, or neither the next byte nor the one after it is a stop.
-pub record GoesFar (holds : ℕ → Bool) (text : List ℕ) (put : Put) (out : List ℕ) : Type 0 where
-  pub here : put.read < length text → holds (get_or text put.read 0) ≡ true → length out < put.end + 12
-  pub next : put.read + 1 < length text → holds (get_or text (put.read + 1) 0) ≡ true → length out < put.end + 12
-
 -- The result of printing the rest of a text: all of it was read and put; or how it is malformed; or memory ran out.
 abbrev pub PrintsRest : LineEncoding → Repertoire → Bool → List ℕ → ℕ → List ℕ → ℕ → List ℕ → Result ℕ UnescapeError → Type 0
 PrintsRest e t escaped old at text from new (Ok end) =
@@ -171,8 +166,6 @@ value_of p = meaning_in p.encoding p.escaped (bytes_of p.value)
 
 -- The key and the value are well-formed.
 pub record IsPair (p : Pair) : Type 0 where
-  pub key_within : p.key.size ≤ length p.key.bytes.now
-  pub value_within : p.value.size ≤ length p.value.bytes.now
   pub key : IsWell p.encoding (bytes_of p.key)
   pub value : IsWell p.encoding (bytes_of p.value)
 

@@ -1,8 +1,9 @@
 -- What is appended when a text is printed, by its place in the line.
-use Rattle.std.specs.Prelude.{◌≡◌, ℕ, nat_lt, ◌==◌, ◌&&◌, ◌-◌, Bool, not, true, false, if◌then◌else◌, List, [], ◌∷◌, ◌++◌, length, take, get_or, Result, OnOk}
+use Rattle.std.specs.Prelude.{◌≡◌, ℕ, nat_lt, ◌==◌, ◌&&◌, ◌-◌, Bool, not, if◌then◌else◌, List, [], ◌∷◌, ◌++◌, length, take, get_or, Result, OnOk}
 use Rattle.properties_format.specs.Printing as format
+use Rattle.properties_format.specs.Repertoire as meant
 use Rattle.properties_format.specs.Text.{tab, line_feed, form_feed, space, backslash, is_separator}
-use Rattle.properties_format.specs.Encoding.{Encoding, windows_1252, utf_8}
+use Rattle.properties_format.specs.Encoding.{windows_1252, utf_8}
 use Rattle.properties_text.specs.declared.print.Repertoire.{Repertoire}
 use Rattle.properties_text.specs.declared.print.Repertoire.TheVariants.{Windows1252, Utf8, Ascii}
 use Rattle.properties_text.specs.declared.print.Place.{Place}
@@ -16,50 +17,45 @@ place_of Prefix = format.in_prefix
 abbrev pub AppendsOnOk : {A E : Type 0} → List ℕ → List ℕ → Result A E → List ℕ → Type 0
 AppendsOnOk old bytes result new = OnOk result (new ≡ old ++ bytes)
 
--- the encoding of a repertoire, and whether only ASCII is printed as it is: that is the same bytes in any encoding
-abbrev pub encoding_in : Repertoire → Encoding
-encoding_in Windows1252 = windows_1252
-encoding_in Utf8 = utf_8
-encoding_in Ascii = utf_8
-
-abbrev pub only_in : Repertoire → Bool
-only_in Windows1252 = false
-only_in Utf8 = false
-only_in Ascii = true
+-- what a repertoire is among the definitions of the format
+abbrev pub in_format : Repertoire → meant.Repertoire
+in_format Windows1252 = meant.all_of windows_1252
+in_format Utf8 = meant.all_of utf_8
+in_format Ascii = meant.ascii_in utf_8
 
 -- the bytes of a character and of a text outside keys and values
 abbrev pub character_bytes : Repertoire → Place → ℕ → List ℕ
-character_bytes r place c = format.encoded_text (encoding_in r) (format.printed_character (encoding_in r) (only_in r) (place_of place) c)
+character_bytes r place c = format.encoded_text (in_format r).encoding (format.printed_character (in_format r) (place_of place) c)
 
 abbrev pub text_bytes : Repertoire → Place → List ℕ → List ℕ
-text_bytes r place text = format.encoded_text (encoding_in r) (format.printed_characters (encoding_in r) (only_in r) (place_of place) text)
+text_bytes r place text = format.encoded_text (in_format r).encoding (format.printed_characters (in_format r) (place_of place) text)
 
 -- the bytes of a character and of a text in a key or a value, and of a key
 abbrev pub put_of : Repertoire → ℕ → List ℕ
-put_of r c = format.encoded_text (encoding_in r) (format.printed_character (encoding_in r) (only_in r) format.in_key_or_value c)
+put_of r c = format.encoded_text (in_format r).encoding (format.printed_character (in_format r) format.in_key_or_value c)
 
 abbrev pub puts_of : Repertoire → List ℕ → List ℕ
-puts_of r text = format.encoded_text (encoding_in r) (format.printed_characters (encoding_in r) (only_in r) format.in_key_or_value text)
+puts_of r text = format.encoded_text (in_format r).encoding (format.printed_characters (in_format r) format.in_key_or_value text)
 
 -- the bytes of a value as people write it, after blanks only or after a separator
 abbrev pub value_bytes : Repertoire → Bool → List ℕ → List ℕ
-value_bytes r after_blanks value = format.encoded_text (encoding_in r) (format.printed_value (encoding_in r) (only_in r) after_blanks value)
+value_bytes r after_blanks value = format.encoded_text (in_format r).encoding (format.printed_value (in_format r) after_blanks value)
 
 -- the bytes of what comes after its first character, and of one such character
 abbrev pub rest_bytes : Repertoire → List ℕ → List ℕ
-rest_bytes r rest = format.encoded_text (encoding_in r) (format.printed_rest (encoding_in r) (only_in r) rest)
+rest_bytes r rest = format.encoded_text (in_format r).encoding (format.printed_rest (in_format r) rest)
 
 abbrev pub inside_bytes : Repertoire → Bool → ℕ → List ℕ
 inside_bytes r is_last c =
-    let e = encoding_in r in
-    format.encoded_text e (if is_last then format.printed_last e (only_in r) c else format.printed_inside e (only_in r) c)
+    let m = in_format r in
+    format.encoded_text m.encoding (if is_last then format.printed_last m c else format.printed_inside m c)
 
 abbrev pub key_bytes : Repertoire → Bool → List ℕ → List ℕ
-key_bytes r first key = format.encoded_text (encoding_in r) (format.printed_key (encoding_in r) (only_in r) first key)
+key_bytes r first key = format.encoded_text (in_format r).encoding (format.printed_key (in_format r) first key)
 
 -- the bytes of a key whose first character is escaped
 abbrev pub escaped_key : Repertoire → List ℕ → List ℕ
-escaped_key r key = format.encoded_text (encoding_in r) (format.with_first_escaped (encoding_in r) (only_in r) key)
+escaped_key r key = format.encoded_text (in_format r).encoding (format.with_first_escaped (in_format r) key)
 
 -- whether the first character of a value that is set in place gets a backslash
 abbrev pub is_first_escaped : Bool → ℕ → Bool → Bool

@@ -5,10 +5,10 @@ ghost use Rattle.properties_format.specs.Converting.{IsConverted, first_escaped}
 ghost use Rattle.properties_format.specs.Printing.{encoded_text};
 ghost use Rattle.properties_text.specs.Encoding.{encoding_of};
 ghost use Rattle.properties_text.specs.Spelt.{IsWell, text_in};
-ghost use Rattle.properties_text.specs.Printing.{encoding_in, only_in};
+ghost use Rattle.properties_text.specs.Printing.{in_format};
 ghost use Rattle.properties_text.specs.Converted.{is_readable, body_bytes, line_in};
 
-use crate::encoding::byte_order_mark::{begins_like_mark, encoding_in_force};
+use crate::encoding::byte_order_mark::{begins_like_byte_order_mark, encoding_in_force};
 use crate::encoding::{Encoding, LineEncoding, TextBuffer, as_text};
 use crate::line_buffer::LineBuffer;
 use crate::print::{Repertoire, convert_text, print_escape};
@@ -36,12 +36,12 @@ pub fn convert(
     repertoire: Repertoire,
     spelling: Spelling,
 ) -> Result<Vec<u8>, AllocError>
-    ensures { IfOk result (λ bytes. IsConverted (encoding_of encoding) (encoding_in repertoire) (only_in repertoire) (is_readable spelling) source.now bytes.items) }
+    ensures { IfOk result (λ bytes. IsConverted (encoding_of encoding) (in_format repertoire) (is_readable spelling) source.now bytes.items) }
 {
     let (in_force, start) = encoding_in_force(source, encoding);
     let readable = is_readable(spelling);
     let line = convert_body(alloc, in_force, repertoire, readable, &source[start..])?;
-    if begins_like_mark(line.as_slice()) {
+    if begins_like_byte_order_mark(line.as_slice()) {
         return escape_first(alloc, repertoire, line.as_slice());
     }
     Ok(line.into_bytes())
@@ -100,7 +100,7 @@ fn convert_body(
 fn escape_first(alloc: Global, repertoire: Repertoire, bytes: &[u8]) -> Result<Vec<u8>, AllocError>
     requires some { 0 < length bytes.now }
     requires well { IsWell (line_in repertoire) bytes.now }
-    ensures { IfOk result (λ escaped. escaped.items ≡ encoded_text (encoding_in repertoire) (first_escaped (text_in (line_in repertoire) bytes.now))) }
+    ensures { IfOk result (λ escaped. escaped.items ≡ encoded_text (in_format repertoire).encoding (first_escaped (text_in (line_in repertoire) bytes.now))) }
 {
     let first = line_in(repertoire).first_character(bytes);
     let mut escaped = LineBuffer::new(alloc);

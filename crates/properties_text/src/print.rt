@@ -5,37 +5,40 @@ ghost use Rattle.std.specs.Str.{chars};
 ghost use Rattle.memchr.specs.Find.{IsFirstByte};
 ghost use Rattle.properties_format.specs.Text.{backslash};
 ghost use Rattle.properties_format.specs.Encoding.{begins_like_bom};
+ghost use Rattle.properties_format.specs.Repertoire.{all_of};
 ghost use Rattle.properties_format.specs.Escapes.{means};
 ghost use Rattle.properties_format.specs.Computed.Escapes.{meaning_of};
 ghost use Rattle.properties_format.specs.Printing.{unicode_escape, literal, encoded_text};
 ghost use Rattle.properties_text.specs.Encoding.{line_of};
 ghost use Rattle.properties_text.specs.Parsing.{IsSpan, bytes_in};
 ghost use Rattle.properties_text.specs.Spelt.{text_in, IsWell};
-ghost use Rattle.properties_text.specs.Printing.{encoding_in, only_in, AppendsOnOk, character_bytes, text_bytes, put_of, puts_of, value_bytes, rest_bytes, inside_bytes, key_bytes, escaped_key, is_first_escaped, last_run};
+ghost use Rattle.properties_text.specs.Printing.{in_format, AppendsOnOk, character_bytes, text_bytes, put_of, puts_of, value_bytes, rest_bytes, inside_bytes, key_bytes, escaped_key, is_first_escaped, last_run};
 ghost use Rattle.properties_text.specs.PrintedTexts.{is_copied, StopsIn, meaning_in, Prints, bytes_of, key_of, value_of, IsPair, PrintsPair, ReadsBy, PrintsMeant};
 
 use crate::characters::{is_comment_sign, is_separator};
-use crate::encoding::byte_order_mark::begins_like_mark;
+use crate::encoding::byte_order_mark::begins_like_byte_order_mark;
 use crate::encoding::{LineEncoding, Spelt};
 use crate::escape::{Malformed, UnescapeError};
 use crate::line_buffer::{make_room, put_raw};
 use crate::parse::Span;
 use byte_blocks::{Byte, ByteClass, Controls, Either, PastAscii, find};
 use escapes::{LONGEST, put_escape};
+use part::Part;
+use runs::{first_character, print_bytes, put_literal, put_printed};
 use std::alloc::AllocError;
-use text::{first_character, print_bytes, put_literal, put_printed};
 
 mod bytes;
 mod convert;
 mod escapes;
+mod part;
 mod readable;
-mod text;
+mod runs;
 
 pub use crate::line_buffer::LineBuffer;
 pub use convert::convert_text;
 pub use readable::{print_readable_pair, print_readable_texts};
 
-/// What a text outside keys and values is in its line, which determines what is escaped besides the characters that the
+/// Where a text is that is neither a key nor a value. It decides what is escaped besides the characters that the
 /// repertoire lacks.
 #[derive(Clone, Copy)]
 pub enum Place {
@@ -58,7 +61,7 @@ pub enum Repertoire {
 }
 
 impl From<LineEncoding> for Repertoire {
-    ghost from_gives = { λ from to. (encoding_in to ≡ line_of from) × (only_in to ≡ false) };
+    ghost from_gives = { λ from to. in_format to ≡ all_of (line_of from) };
 
     fn from(encoding: LineEncoding) -> Repertoire {
         match encoding {
@@ -76,14 +79,6 @@ pub struct Pair<'a> {
     escaped: bool,
     key: Part<'a>,
     value: Part<'a>,
-}
-
-// The bytes of a key or a value, and others after them, which aren't printed but may be read as part of a block.
-#[derive(Clone, Copy)]
-struct Part<'a> {
-    bytes: &'a [u8],
-    // The number of bytes in the text.
-    size: usize,
 }
 
 impl<'a> Pair<'a> {
@@ -124,32 +119,6 @@ impl<'a> Pair<'a> {
     }
 }
 
-impl<'a> Part<'a> {
-    #[inline(always)]
-    fn of(text: &'a str) -> Part<'a>
-        ensures size { result.size ≡ length text.now }
-        ensures bytes { result.bytes.now ≡ text.now }
-    {
-        Part {
-            bytes: text.as_bytes(),
-            size: text.len(),
-        }
-    }
-
-    #[inline(always)]
-    fn at(line: &'a [u8], span: Span) -> Part<'a>
-        requires ordered { span.start ≤ span.end }
-        requires within { span.end ≤ length line.now }
-        ensures size { result.size ≤ length result.bytes.now }
-        ensures bytes { bytes_of result ≡ bytes_in line.now span }
-    {
-        Part {
-            bytes: &line[span.start..],
-            size: span.end - span.start,
-        }
-    }
-}
-
 // Where a run of bytes stops, by whether a backslash begins an escape, and by whether non-ASCII bytes are copied.
 type Literal = Controls;
 
@@ -173,8 +142,8 @@ fn is_copied(encoding: LineEncoding, repertoire: Repertoire) -> bool
 
 /// Appends a pair, with `separator` and `ending` as they are.
 ///
-/// If `first`, the key comes first in a file and is printed so that it isn't taken for a byte order mark. Fails with the
-/// first malformed escape, or if memory runs out; then nothing is appended.
+/// If `first`, the key comes first in a file and is printed so that it isn't taken for a byte order mark. Fails with
+/// the first malformed escape, or if memory runs out; then nothing is appended.
 #[inline(always)]
 pub fn print_pair(
     line: &mut LineBuffer,
@@ -226,18 +195,9 @@ fn print_parts<Stops: ByteClass>(
     } = pair;
     let out = &mut line.bytes;
     let filled = line.filled;
-    let after_key = print_first::<Stops>(
-        out, filled, repertoire, first, encoding, key.bytes, key.size,
-    )?;
+    let after_key = print_first::<Stops>(out, filled, repertoire, first, encoding, key)?;
     let after_separator = put_raw(out, after_key, separator.as_bytes())?;
-    let after_value = print_bytes::<Stops>(
-        out,
-        after_separator,
-        repertoire,
-        encoding,
-        value.bytes,
-        value.size,
-    )?;
+    let after_value = print_bytes::<Stops>(out, after_separator, repertoire, encoding, value)?;
     line.filled = put_raw(out, after_value, ending.as_bytes())?;
     Ok(())
 }
@@ -251,20 +211,18 @@ fn print_first<Stops: ByteClass>(
     repertoire: Repertoire,
     first: bool,
     encoding: LineEncoding,
-    bytes: &[u8],
-    size: usize,
+    part: Part<'_>,
 ) -> Result<usize, UnescapeError>
-    requires size { size ≤ length bytes.now }
     requires at { at ≤ length out.old.items }
     requires stops { StopsIn Stops.holds encoding repertoire }
-    requires well { IsWell encoding (take size bytes.now) }
-    ensures printed { Prints (meaning_in encoding (Stops.holds backslash) (take size bytes.now)) (key_bytes repertoire first) out.old.items at out.new.items result }
+    requires well { IsWell encoding (bytes_of part) }
+    ensures printed { Prints (meaning_in encoding (Stops.holds backslash) (bytes_of part.entry)) (key_bytes repertoire first) out.old.items at out.new.items result }
     ensures same { take at out.new.items ≡ take at out.old.items }
     ensures longer { length out.old.items ≤ length out.new.items }
 {
-    let end = print_bytes::<Stops>(out, at, repertoire, encoding, bytes, size)?;
-    if first && begins_like_mark(&out[at..end]) {
-        return print_with_first_escaped::<Stops>(out, at, repertoire, encoding, bytes, size);
+    let end = print_bytes::<Stops>(out, at, repertoire, encoding, part)?;
+    if first && begins_like_byte_order_mark(&out[at..end]) {
+        return print_with_first_escaped::<Stops>(out, at, repertoire, encoding, part);
     }
     Ok(end)
 }
@@ -276,26 +234,27 @@ fn print_with_first_escaped<Stops: ByteClass>(
     at: usize,
     repertoire: Repertoire,
     encoding: LineEncoding,
-    bytes: &[u8],
-    size: usize,
+    part: Part<'_>,
 ) -> Result<usize, UnescapeError>
-    requires size { size ≤ length bytes.now }
     requires at { at ≤ length out.old.items }
     requires stops { StopsIn Stops.holds encoding repertoire }
-    requires well { IsWell encoding (take size bytes.now) }
-    requires some { 0 < size }
-    ensures printed { Prints (meaning_in encoding (Stops.holds backslash) (take size bytes.now)) (escaped_key repertoire) out.old.items at out.new.items result }
+    requires well { IsWell encoding (bytes_of part) }
+    requires some { 0 < part.size }
+    ensures printed { Prints (meaning_in encoding (Stops.holds backslash) (bytes_of part.entry)) (escaped_key repertoire) out.old.items at out.new.items result }
     ensures same { take at out.new.items ≡ take at out.old.items }
     ensures longer { length out.old.items ≤ length out.new.items }
 {
-    let first = match first_character::<Stops>(encoding, &bytes[..size]) {
+    let first = match first_character::<Stops>(encoding, &part.bytes[..part.size]) {
         Ok(first) => first,
         Err(malformed) => return Err(UnescapeError::Malformed(malformed)),
     };
     make_room(out, at, LONGEST)?;
     let end = put_escape(out, at, first.character);
-    let rest = &bytes[first.length..];
-    print_bytes::<Stops>(out, end, repertoire, encoding, rest, size - first.length)
+    let rest = Part {
+        bytes: &part.bytes[first.length..],
+        size: part.size - first.length,
+    };
+    print_bytes::<Stops>(out, end, repertoire, encoding, rest)
 }
 
 /// Appends a pair of texts, as [`print_pair`] does. Fails if memory runs out.
@@ -341,7 +300,7 @@ pub fn print_text(
     Ok(())
 }
 
-/// Appends the bytes of a value as people write it, after blanks only or after a separator.
+/// Appends a value with as few escapes as the format allows, after blanks only or after a separator.
 ///
 /// Spaces, separators and comment signs are not escaped, except at the ends: a space at the start is escaped with a
 /// backslash, and so is a separator at the start if only blanks come before it. A space at the end is `\u0020`, which
@@ -545,9 +504,8 @@ fn print_literal(
     repertoire: Repertoire,
     character: char,
 ) -> Result<(), AllocError>
-    ensures { let e = encoding_in repertoire in
-        let text = literal e (only_in repertoire) character in
-        AppendsOnOk line.old (encoded_text e text) result line.new }
+    ensures { let r = in_format repertoire in
+        AppendsOnOk line.old (encoded_text r.encoding (literal r character)) result line.new }
 {
     make_room(&mut line.bytes, line.filled, LONGEST)?;
     line.filled = put_literal(&mut line.bytes, line.filled, repertoire, character);

@@ -6,7 +6,7 @@ use Rattle.std.proofs.lemmas.Grind.{common_steps}
 use Rattle.properties_format.specs.Encoding.{begins_like_bom}
 use Rattle.properties_format.specs.Escapes.{Meaning, means}
 use Rattle.properties_format.specs.Printing.{in_key_or_value, unicode_escape}
-use Rattle.properties_text.specs.Printing.{encoding_in, only_in, puts_of, key_bytes, escaped_key}
+use Rattle.properties_text.specs.Printing.{in_format, puts_of, key_bytes, escaped_key}
 use Rattle.properties_text.specs.PrintedTexts.{meaning_by, meaning_in, IsReadBy, IsPut, Prints}
 use Rattle.properties_text.specs.declared.encoding.line.LineEncoding.{LineEncoding}
 use Rattle.properties_text.specs.declared.encoding.line.Spelt.{Spelt}
@@ -77,15 +77,14 @@ module _ (m : Meaning) (r : Repertoire) (first : Bool) (old : List ℕ) (at : �
   key-escaped out new mid h (Err error.Memory) like same k = tt
 
 -- What was put begins like a byte order mark if the bytes of the text do.
-pub begins-put : (m : Meaning) (r : Repertoire) (old : List ℕ) (at : ℕ) (new slice : List ℕ) (end : ℕ) (h : IsPut m (puts_of r) old at new end) → at ≤ length old
-    → slice ≡ new → begins_like_bom (puts_of r h.meant) ≡ begins_like_bom (take (end - at) (drop at slice))
+pub begins-put : (m : Meaning) (r : Repertoire) (old : List ℕ) (at : ℕ) (new slice : List ℕ) (end : ℕ) (h : IsPut m (puts_of r) old at new end)
+    → at ≤ length old → slice ≡ new → begins_like_bom (puts_of r h.meant) ≡ begins_like_bom (take (end - at) (drop at slice))
 begins-put m r old at new slice end h room value =
     ap begins_like_bom (sym (slice-put old new (puts_of r h.meant) at end room h.within h.printed).1 ∙ ap (λ v. take (end - at) (drop at v)) (sym value))
 
 -- An empty text begins like no byte order mark.
 pub some-text : (e : LineEncoding) (r : Repertoire) (escaped : Bool) (text old : List ℕ) (at : ℕ) (new : List ℕ) (end : ℕ)
-    (h : IsPut (meaning_in e escaped text) (puts_of r) old at new end)
-    → begins_like_bom (puts_of r h.meant) ≡ true → 0 < length text
+    (h : IsPut (meaning_in e escaped text) (puts_of r) old at new end) → begins_like_bom (puts_of r h.meant) ≡ true → 0 < length text
 some-text e r escaped [] old at new end h like =
     let both : means h.meant ≡ means [] = sym h.meaning ∙ ap (meaning_by escaped) (no-text e [] refl) ∙ empty-means escaped in
     let empty : h.meant ≡ [] = cc in
@@ -108,7 +107,7 @@ escaped-rest {e} {escaped} {text} {first = first} r old new at between (Ok end) 
   meant = first.character ∷ h.meant;
   meaning = read-meaning escaped e text first read.stands ∙ rw (← is, h.meaning) refl;
   printed = h.printed ∙ ap (λ v. v ++ puts_of r h.meant) (ap (take between) back ∙ put)
-      ∙ first_escaped_more (encoding_in r) (only_in r) in_key_or_value (take at old) h.meant first.character;
+      ∙ first_escaped_more (in_format r) in_key_or_value (take at old) h.meant first.character;
 }
 escaped-rest {e} {escaped} {text} {first = first} r old new at between (Err (error.Malformed kind)) read is back put h =
     read-meaning escaped e text first read.stands ∙ rw (← is, h) refl

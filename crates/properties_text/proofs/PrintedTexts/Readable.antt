@@ -10,7 +10,7 @@ use Rattle.properties_text.specs.declared.encoding.line.LineEncoding.{LineEncodi
 use Rattle.properties_text.specs.declared.escape.UnescapeError.{UnescapeError}
 use Rattle.properties_text.specs.declared.escape.UnescapeError.TheVariants as error
 use Rattle.properties_text.specs.declared.print.Pair.{Pair}
-use Rattle.properties_text.specs.declared.print.Part.{Part}
+use Rattle.properties_text.specs.declared.print.part.Part.{Part}
 use Rattle.properties_text.specs.declared.print.Repertoire.{Repertoire}
 use Rattle.properties_text.proofs.PrintedTexts.Runs.{empty-means}
 use Rattle.properties_text.proofs.Spelt.Escapes.{no-text}
@@ -21,7 +21,8 @@ use Rattle.properties_text.proofs.Spelt.Escapes.{no-text}
 pub parts-appended : (old key separator none value ending ended fronted valued new : List ℕ) → none ≡ [] → fronted ≡ old ++ (key ++ (separator ++ (none ++ [])))
     → valued ≡ fronted ++ value → new ≡ valued ++ ended → ended ≡ ending → new ≡ old ++ (key ++ (separator ++ (value ++ ending)))
 parts-appended old key separator none value ending ended fronted valued new n f v e s =
-    let front : fronted ≡ old ++ (key ++ separator) = f ∙ ap (λ x. old ++ (key ++ (separator ++ (x ++ [])))) n ∙ ap (λ x. old ++ (key ++ x)) (append-nil separator) in
+    let front : fronted ≡ old ++ (key ++ separator) = f ∙ ap (λ x. old ++ (key ++ (separator ++ (x ++ [])))) n
+    ∙ ap (λ x. old ++ (key ++ x)) (append-nil separator) in
     e
     ∙ ap₂ (λ x y. x ++ y) (v ∙ ap (λ x. x ++ value) front ∙ append_assoc old (key ++ separator) value) s
     ∙ append_assoc old ((key ++ separator) ++ value) ending
@@ -31,7 +32,8 @@ parts-appended old key separator none value ending ended fronted valued new n f 
 pub no-value : (e : LineEncoding) (escaped : Bool) (v : Part) → v.size ≡ 0 → meaning_in e escaped (bytes_of v) ≡ means []
 no-value e escaped v h = ap (λ n. meaning_in e escaped (take n v.bytes.now)) h ∙ ap (meaning_by escaped) (no-text e [] refl) ∙ empty-means escaped
 
-module _ (r : Repertoire) (first : Bool) (puts : List ℕ → List ℕ) (old separator ending : List ℕ) (front p : Pair) (key : key_of front ≡ key_of p) (value : value_of front ≡ means []) where
+module _ (r : Repertoire) (first : Bool) (puts : List ℕ → List ℕ) (old separator ending : List ℕ) (front p : Pair) (key : key_of front ≡ key_of p)
+    (value : value_of front ≡ means []) where
   -- The key and an empty value were printed, and then the value.
   pub pair-appended : (ended fronted valued new : List ℕ) → IsPairPrinted r first (puts_of r) old front separator [] fronted
       → PrintsMeant (value_of p) puts fronted (Ok tt) valued → new ≡ valued ++ ended → ended ≡ ending → IsPairPrinted r first puts old p separator ending new
@@ -43,7 +45,8 @@ module _ (r : Repertoire) (first : Bool) (puts : List ℕ → List ℕ) (old sep
         value = m.0;
         key_means = sym key ∙ h.key_means;
         value_means = m.1;
-        printed = parts-appended old (key_bytes r first h.key) separator (puts_of r h.value) (puts m.0) ending ended fronted valued new (ap (puts_of r) empty) h.printed m.2 e s;
+        printed = parts-appended old (key_bytes r first h.key) separator (puts_of r h.value) (puts m.0) ending ended fronted valued new (ap (puts_of r) empty)
+            h.printed m.2 e s;
       }
 
   -- The key is malformed.

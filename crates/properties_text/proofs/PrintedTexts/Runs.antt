@@ -26,7 +26,7 @@ use Rattle.byte_blocks.specs.Marks.{clear_front}
 use Rattle.byte_blocks.proofs.Marking.{clear-before, first-byte}
 use Rattle.properties_text.proofs.Printing.Vectors.{spelt}
 use Rattle.properties_text.specs.declared.print.Repertoire.{Repertoire}
-use Rattle.properties_text.specs.declared.print.text.Put.{Put}
+use Rattle.properties_text.specs.declared.print.runs.Put.{Put}
 use Rattle.properties_text.proofs.Texts.Resolving.{text_in_front-append}
 use Rattle.properties_text.proofs.Spelt.First.{ascii-back}
 use Rattle.properties_text.proofs.Spelt.Escapes.{spells-meaning}
@@ -82,7 +82,13 @@ module _ {holds : ℕ → Bool} {e : LineEncoding} {t : Repertoire} {whole : Mea
       → rest_in e t (holds backslash) (drop so_far.read text) ≡ text_in_front bytes (rest_in e t (holds backslash) (drop put.read text))
       → take put.end new ≡ take so_far.end out ++ bytes → ArePut e t (holds backslash) whole text put new
   put-step bytes read well step printed =
-      record { read = read; within = within; well = well; printed = rw (printed, text_in_front-append) (held.printed ∙ ap (text_in_front (take so_far.end out)) step) }
+      record {
+        read = read;
+        within = within;
+        well = well;
+        printed = rw (printed, text_in_front-append) (held.printed
+            ∙ ap (text_in_front (take so_far.end out)) step);
+      }
 
   -- the character at a stop
   pub stop-put : {spelt : Spelt} → so_far.read < length text → holds (get_or text so_far.read 0) ≡ true
@@ -177,14 +183,15 @@ stop-broken {holds} {e} {t} {text} {so_far = so_far} old at from s inside stop h
     broken-on old at from held (rest-well e t (holds backslash) (drop so_far.read text) own ∙ ap (printed_by t) reads)
 
 -- An error at the rest is one of the text.
-pub stops-refused : {e : LineEncoding} {t : Repertoire} {escaped : Bool} {text out : List ℕ} {put : Put} (old : List ℕ) (at from : ℕ) (new : List ℕ) (u : UnescapeError)
-    → ArePut e t escaped (from_on e t escaped old at text from) text put out → PutsStops e t escaped out put.end text put.read new (Err u)
+pub stops-refused : {e : LineEncoding} {t : Repertoire} {escaped : Bool} {text out : List ℕ} {put : Put} (old : List ℕ) (at from : ℕ) (new : List ℕ)
+    (u : UnescapeError) → ArePut e t escaped (from_on e t escaped old at text from) text put out → PutsStops e t escaped out put.end text put.read new (Err u)
     → PrintsRest e t escaped old at text from new (Err u)
 stops-refused old at from new (error.Malformed m) held h = broken-on old at from held h
 stops-refused old at from new error.Memory held h = tt
 
 -- The rest was printed after a front.
-pub rest-printed : {e : LineEncoding} {t : Repertoire} {escaped : Bool} {text out : List ℕ} {put : Put} (old : List ℕ) (at : ℕ) (new : List ℕ) (r : Result ℕ UnescapeError)
+pub rest-printed : {e : LineEncoding} {t : Repertoire} {escaped : Bool} {text out : List ℕ} {put : Put} (old : List ℕ) (at : ℕ) (new : List ℕ)
+    (r : Result ℕ UnescapeError)
     → IsWell e text → ArePut e t escaped (from_on e t escaped old at text 0) text put out → PrintsRest e t escaped out put.end text put.read new r
     → Prints (meaning_in e escaped text) (puts_of t) old at new r
 rest-printed old at new (Ok end) w held h = put-all w (omega arith) (put-on held h)
@@ -193,8 +200,8 @@ rest-printed {e} {t} {escaped} {text} old at new (Err (error.Malformed m)) w hel
 rest-printed old at new (Err error.Memory) w held h = tt
 
 -- The same was put where room was made.
-pub stops-room : (e : LineEncoding) (t : Repertoire) (escaped : Bool) (old slice : List ℕ) (at : ℕ) (text : List ℕ) (from : ℕ) (new : List ℕ) (r : Result Put UnescapeError)
-    → take at slice ≡ take at old → PutsStops e t escaped slice at text from new r → PutsStops e t escaped old at text from new r
+pub stops-room : (e : LineEncoding) (t : Repertoire) (escaped : Bool) (old slice : List ℕ) (at : ℕ) (text : List ℕ) (from : ℕ) (new : List ℕ)
+    (r : Result Put UnescapeError) → take at slice ≡ take at old → PutsStops e t escaped slice at text from new r → PutsStops e t escaped old at text from new r
 stops-room e t escaped old slice at text from new (Ok put) same h = rw (← same) h
 stops-room e t escaped old slice at text from new (Err (error.Malformed m)) same h = h
 stops-room e t escaped old slice at text from new (Err error.Memory) same h = tt

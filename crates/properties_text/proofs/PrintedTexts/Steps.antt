@@ -9,6 +9,7 @@ use Rattle.std.proofs.lemmas.Bool.{cases_lt, not-false, cond-false, and_from, an
 use Rattle.std.proofs.lemmas.Str.{IsCharBoundary-start}
 use Rattle.std.proofs.lemmas.List.Elements.{All-head, All-tail}
 use Rattle.properties_format.specs.Encoding.{utf_8, windows_1252, one_byte, encoded}
+use Rattle.properties_format.specs.Repertoire.{ascii_in, all_of}
 use Rattle.properties_format.specs.Text.{backslash}
 use Rattle.properties_format.specs.Windows1252.{windows_1252_character, windows_1252_byte}
 use Rattle.properties_format.specs.Escapes.{Meaning, means, breaks}
@@ -19,7 +20,7 @@ use Rattle.properties_format.proofs.Encodings.Windows1252.{windows_1252_byte-cha
 use Rattle.properties_format.proofs.Escapes.Laws.{meaning_of-itself}
 use Rattle.properties_format.proofs.Escapes.Unique.{text_in_front-means, text_in_front-breaks}
 use Rattle.properties_format.proofs.Printing.Characters.{encoded_text-append}
-use Rattle.properties_text.specs.Printing.{printed_byte, printed_bytes, encoding_in, only_in, put_of}
+use Rattle.properties_text.specs.Printing.{printed_byte, printed_bytes, in_format, put_of}
 use Rattle.properties_text.specs.Spelt.{text_in, IsWell}
 use Rattle.properties_text.specs.PrintedTexts.{meaning_by, meaning_in, printed_by, printed_in, is_copied, is_inside, inside, past, past_in, rest_in, StopsIn}
 use Rattle.properties_text.specs.declared.encoding.line.LineEncoding.{LineEncoding}
@@ -35,7 +36,7 @@ use Rattle.properties_text.proofs.Spelt.First.{ascii-first}
 
 -- ASCII is printed as its byte is, in each repertoire.
 pub put-ascii : (t : Repertoire) (c : ℕ) → c < 0x80 → put_of t c ≡ printed_byte c
-put-ascii t c h = ascii-printed (encoding_in t) (only_in t) c h
+put-ascii t c h = ascii-printed (in_format t) c h
 
 -- In UTF-8, what is non-ASCII is printed as it is.
 pub put-utf_8 : (c : ℕ) → 0x80 ≤ c → put_of repertoire.Utf8 c ≡ encode c
@@ -43,11 +44,11 @@ put-utf_8 c h = rw (past-special c h, past-letter c h, past-control c h) (append
 
 -- In windows-1252, what has no byte is escaped.
 pub put_lacked : (c : ℕ) → 0x80 ≤ c → windows_1252_byte c ≡ None → put_of repertoire.Windows1252 c ≡ unicode_escape c
-put_lacked c h e = escaped-printed windows_1252 false c h (ap (λ o. is_some (one_byte o)) e)
+put_lacked c h e = escaped-printed (all_of windows_1252) c h (ap (λ o. is_some (one_byte o)) e)
 
 -- In ASCII only, what is non-ASCII is.
 pub put_escaped : (c : ℕ) → 0x80 ≤ c → put_of repertoire.Ascii c ≡ unicode_escape c
-put_escaped c h = escaped-printed utf_8 true c h (and_left (nat_lt c 0x80) (is_some (encoded utf_8 c)) (le-ltb c 0x80 h))
+put_escaped c h = escaped-printed (ascii_in utf_8) c h (and_left (nat_lt c 0x80) (is_some (encoded utf_8 c)) (le-ltb c 0x80 h))
 
 -- ---- characters in front of a meaning
 
@@ -106,8 +107,7 @@ pub record IsByte (e : LineEncoding) (t : Repertoire) (escaped : Bool) (b : ℕ)
 
 -- from a place at which a character begins, to another
 whole-byte : (e : LineEncoding) (t : Repertoire) (escaped : Bool) (b c : ℕ) (bs : List ℕ) → IsWell e (b ∷ bs) → IsWell e bs
-    → text_in e (b ∷ bs) ≡ c ∷ text_in e bs
-    → (escaped ≡ true → (c == backslash) ≡ false) → put_of t c ≡ printed_byte b → IsByte e t escaped b bs
+    → text_in e (b ∷ bs) ≡ c ∷ text_in e bs → (escaped ≡ true → (c == backslash) ≡ false) → put_of t c ≡ printed_byte b → IsByte e t escaped b bs
 whole-byte e t escaped b c bs w v s k p = record {
   printed = rw (rest-well e t escaped (b ∷ bs) w, rest-well e t escaped bs v, ← p) (printed-itself e t escaped (b ∷ bs) bs c s k);
   well = subst (IsWell e) (sym (past-well e t bs v)) v;
@@ -180,8 +180,7 @@ past-copied e t escaped b bs h k is w = absurd (cc)
 
 -- A byte that doesn't stop a run is printed by itself.
 pub one-byte : (holds : ℕ → Bool) (e : LineEncoding) (t : Repertoire) (b : ℕ) (bs : List ℕ) → StopsIn holds e t → b < 256 → holds b ≡ false
-    → IsWell e (past_in e t (b ∷ bs))
-    → IsByte e t (holds backslash) b bs
+    → IsWell e (past_in e t (b ∷ bs)) → IsByte e t (holds backslash) b bs
 one-byte holds e t b bs s k f w = elim (cases_lt b 0x80) [
   | inl h ↦ ascii-byte e t (holds backslash) b bs h w (λ on. ne_eqb b backslash (λ q. let same : holds b ≡ holds backslash = ap holds q in absurd (cc)))
   | inr h ↦ past-copied e t (holds backslash) b bs h k (not-false (is_copied e t) (sym (s.past b h) ∙ f)) w

@@ -12,7 +12,7 @@ use Rattle.properties_format.specs.Printing.{encoded_text}
 use Rattle.properties_format.specs.Computed.Escapes.{in_front, text_in_front, meaning_of}
 use Rattle.properties_format.proofs.Escapes.Laws.{meaning_of-plain_front}
 use Rattle.properties_format.proofs.Escapes.Unique.{text_in_front-means, text_in_front-breaks, meaning_of-meets}
-use Rattle.properties_text.specs.Printing.{encoding_in, only_in, put_of, value_bytes, rest_bytes, inside_bytes, is_first_escaped, last_run}
+use Rattle.properties_text.specs.Printing.{in_format, put_of, value_bytes, rest_bytes, inside_bytes, is_first_escaped, last_run}
 use Rattle.properties_text.specs.Spelt.{text_in, IsWell}
 use Rattle.properties_text.specs.PrintedTexts.{meaning_by, meaning_in, IsReadBy, PrintsMeant}
 use Rattle.properties_text.specs.declared.encoding.line.LineEncoding.{LineEncoding}
@@ -52,7 +52,8 @@ text-empty Windows1252 (b ∷ bytes) w = sym (ne_eqb (length (b ∷ bytes)) 0 (�
 text-empty Utf8 bytes w = is_empty-chars bytes w
 
 -- No bytes are left if no characters are.
-left-empty : (e : LineEncoding) (escaped : Bool) (bytes meant : List ℕ) → IsWell e bytes → meaning_in e escaped bytes ≡ means meant → is_empty meant ≡ (length bytes == 0)
+left-empty : (e : LineEncoding) (escaped : Bool) (bytes meant : List ℕ) → IsWell e bytes → meaning_in e escaped bytes ≡ means meant
+    → is_empty meant ≡ (length bytes == 0)
 left-empty e escaped bytes meant w m = meant-empty escaped (text_in e bytes) meant m ∙ text-empty e bytes w
 
 -- A text that begins with a character.
@@ -68,9 +69,6 @@ pub record IsPrintedTo (e : LineEncoding) (r : Repertoire) (escaped : Bool) (bef
   pub done : List ℕ
   pub meaning : meaning_in e escaped text ≡ text_in_front done (meaning_in e escaped rest)
   pub printed : (cs : List ℕ) → meaning_in e escaped rest ≡ means cs → before ++ rest_bytes r (done ++ cs) ≡ line ++ rest_bytes r cs
-
-pub none-printed : (e : LineEncoding) (r : Repertoire) (escaped : Bool) (before text : List ℕ) → IsWell e text → IsPrintedTo e r escaped before text text before
-none-printed e r escaped before text w = record { well = w; done = []; meaning = refl; printed = λ cs m. refl }
 
 -- A run means itself.
 run-meaning : (e : LineEncoding) (escaped : Bool) (xs ys : List ℕ) → All (λ b. stops b ≡ false) xs → IsWell e (xs ++ ys)
@@ -88,14 +86,16 @@ module _ {e : LineEncoding} {r : Repertoire} {escaped : Bool} {before text rest 
     others-well others is = subst (IsWell e) (sym is) (ascii-run e (take n rest) (drop n rest) (clear-before rest n found) whole).1
 
     rest-meaning : meaning_in e escaped rest ≡ text_in_front (take n rest) (meaning_in e escaped (drop n rest))
-    rest-meaning = ap (meaning_in e escaped) (sym (take-append-drop n rest)) ∙ run-meaning e escaped (take n rest) (drop n rest) (clear-before rest n found) whole
+    rest-meaning = ap (meaning_in e escaped) (sym (take-append-drop n rest))
+        ∙ run-meaning e escaped (take n rest) (drop n rest) (clear-before rest n found) whole
 
     -- What stops it is malformed.
     pub stop-broken : (others : List ℕ) (kind : format.Malformed) → others ≡ drop n rest → meaning_in e escaped others ≡ breaks kind
         → meaning_in e escaped text ≡ breaks kind
     stop-broken others kind is broken =
         held.meaning
-        ∙ ap (text_in_front held.done) (rest-meaning ∙ ap (λ v. text_in_front (take n rest) (meaning_in e escaped v)) (sym is) ∙ ap (text_in_front (take n rest)) broken
+        ∙ ap (text_in_front held.done) (rest-meaning ∙ ap (λ v. text_in_front (take n rest) (meaning_in e escaped v)) (sym is)
+        ∙ ap (text_in_front (take n rest)) broken
         ∙ text_in_front-breaks (take n rest) kind)
         ∙ text_in_front-breaks held.done kind
 
@@ -119,9 +119,10 @@ module _ {e : LineEncoding} {r : Repertoire} {escaped : Bool} {before text rest 
           printed = λ cs m.
               ap (λ v. before ++ rest_bytes r v) (append_assoc held.done (run ++ c ∷ []) cs ∙ ap (λ v. held.done ++ v) (append_assoc run (c ∷ []) cs))
               ∙ held.printed (run ++ c ∷ cs) (step ∙ ap (λ v. text_in_front run (in_front c v)) m ∙ text_in_front-means run (c ∷ cs))
-              ∙ ap (λ v. line ++ v) (run-before (encoding_in r) (only_in r) run (c ∷ cs) (subst (All (λ b. stops b ≡ false)) (sym run_is) (clear-before rest n found)) (λ none. cc none))
+              ∙ ap (λ v. line ++ v) (run-before (in_format r) run (c ∷ cs) (subst (All (λ b. stops b ≡ false)) (sym run_is) (clear-before rest n found))
+              (λ none. cc none))
               ∙ sym (append_assoc line run (rest_bytes r (c ∷ cs)))
-              ∙ ap₂ (λ x y. x ++ y) (sym extended) (one-before (encoding_in r) (only_in r) c cs)
+              ∙ ap₂ (λ x y. x ++ y) (sym extended) (one-before (in_format r) c cs)
               ∙ ap (λ v. more ++ (inside_bytes r v c ++ rest_bytes r cs)) (left-empty e escaped left cs read.well m ∙ sym last)
               ∙ sym (append_assoc more (inside_bytes r is_last c) (rest_bytes r cs))
               ∙ ap (λ v. v ++ rest_bytes r cs) (sym put);
@@ -140,7 +141,7 @@ module _ {e : LineEncoding} {r : Repertoire} {escaped : Bool} {before text rest 
       ∙ ap means (append-nil rest) in (
         held.done ++ rest,
         held.meaning ∙ ap (text_in_front held.done) m ∙ text_in_front-means held.done rest,
-        put ∙ ap (λ v. line ++ v) (sym (run-last (encoding_in r) (only_in r) rest clear)) ∙ sym (held.printed rest m),
+        put ∙ ap (λ v. line ++ v) (sym (run-last (in_format r) rest clear)) ∙ sym (held.printed rest m),
       )
 
 -- ---- the whole value
@@ -151,18 +152,20 @@ pub no-value : (e : LineEncoding) (r : Repertoire) (escaped after_blanks : Bool)
 no-value e r escaped after_blanks [] line h = ([], ap (meaning_by escaped) (no-text e [] refl) ∙ empty-means escaped, sym (append-nil line))
 no-value e r escaped after_blanks (b ∷ bytes) line h = absurd (grind (arith, nat_tests))
 
-module _ {e : LineEncoding} {escaped : Bool} {bytes : List ℕ} {first : Spelt} (r : Repertoire) (after_blanks : Bool) (line : List ℕ) (read : IsReadBy escaped e bytes first) where
+module _ {e : LineEncoding} {escaped : Bool} {bytes : List ℕ} {first : Spelt} (r : Repertoire) (after_blanks : Bool) (line : List ℕ)
+    (read : IsReadBy escaped e bytes first) where
   abbrev pub rest : List ℕ
   rest = drop first.length bytes
 
   -- Its first character gets no backslash,
   pub value-plain : (new : List ℕ) (result : Result Unit UnescapeError) → is_first_escaped after_blanks first.character (length rest == 0) ≡ false
-      → PrintsMeant (meaning_in e escaped bytes) (rest_bytes r) line result new → PrintsMeant (meaning_in e escaped bytes) (value_bytes r after_blanks) line result new
+      → PrintsMeant (meaning_in e escaped bytes) (rest_bytes r) line result new
+      → PrintsMeant (meaning_in e escaped bytes) (value_bytes r after_blanks) line result new
   value-plain new (Ok done) plain h =
       let f = begins-with first.character (meaning_in e escaped rest) h.0 (sym (read-meaning escaped e bytes first read.stands) ∙ h.1) in
       let own = ap (is_first_escaped after_blanks first.character) (left-empty e escaped rest f.0 read.well f.1) ∙ plain in
-      let value = first-plain (encoding_in r) (only_in r) after_blanks first.character f.0 own in
-      (h.0, h.1, h.2 ∙ rw f.2 (ap (λ v. line ++ encoded_text (encoding_in r) v) (sym value)))
+      let value = first-plain (in_format r) after_blanks first.character f.0 own in
+      (h.0, h.1, h.2 ∙ rw f.2 (ap (λ v. line ++ encoded_text (in_format r).encoding v) (sym value)))
   value-plain new (Err (error.Malformed kind)) plain h = h
   value-plain new (Err error.Memory) plain h = tt
 
@@ -173,7 +176,7 @@ module _ {e : LineEncoding} {escaped : Bool} {bytes : List ℕ} {first : Spelt} 
   value-escaped more new (Ok done) own put h =
       let meaning = read-meaning escaped e bytes first read.stands in
       let is = ap (is_first_escaped after_blanks first.character) (left-empty e escaped rest h.0 read.well h.1) ∙ own in
-      (first.character ∷ h.0, meaning ∙ ap (in_front first.character) h.1, after-first (encoding_in r) (only_in r) after_blanks line more new first.character h.0 is put h.2)
+      (first.character ∷ h.0, meaning ∙ ap (in_front first.character) h.1, after-first (in_format r) after_blanks line more new first.character h.0 is put h.2)
   value-escaped more new (Err (error.Malformed kind)) own put h =
       read-meaning escaped e bytes first read.stands ∙ ap (in_front first.character) h
   value-escaped more new (Err error.Memory) own put h = tt

@@ -1,11 +1,12 @@
 -- Texts printed byte by byte.
-use Rattle.std.proofs.Common.{◌≡◌, ℕ, ◌+◌, ◌<◌, ◌≤◌, ◌==◌, Bool, true, false, nat_lt, List, [], ◌∷◌, ◌++◌, refl, sym, ap, ◌∙◌, inl, inr, append_assoc, arith, lit<, le-ltb, ne_eqb, eqb-true}
+use Rattle.std.proofs.Common.{◌≡◌, ℕ, ◌+◌, ◌<◌, ◌≤◌, ◌==◌, true, false, nat_lt, List, [], ◌∷◌, ◌++◌, refl, sym, ap, ◌∙◌, inl, inr, append_assoc, arith, lit<, le-ltb, ne_eqb, eqb-true}
 use Rattle.std.specs.Prelude.{Some, not, ◌&&◌, slice_index, unwrap_or}
 use Rattle.std.proofs.lemmas.Bool.{cases_Bool, cases_lt, agree_below_at, false_from_ne_true}
 use Rattle.std.proofs.lemmas.Bool.Decides.{nat_tests}
 use Rattle.properties_format.specs.Text.{space, backslash}
 use Rattle.properties_format.specs.Windows1252.{windows_1252_byte, windows_1252_table, is_in_table, place_from}
-use Rattle.properties_format.specs.Encoding.{Encoding, windows_1252, one_byte, encoded}
+use Rattle.properties_format.specs.Encoding.{windows_1252, one_byte, encoded}
+use Rattle.properties_format.specs.Repertoire.{Repertoire, all_of}
 use Rattle.properties_format.specs.Printing.{in_key_or_value, unit_escape, unicode_escape, may_be_unescaped, is_special, has_letter, letter_escape, printed_character, encoded_text}
 use Rattle.properties_format.proofs.Printing.Characters.{encoded_text-ascii, encoded-ascii, special-ascii, letter_escape-ascii}
 use Rattle.properties_text.specs.Printing.{printed_byte, printed_bytes, backslashes_before, last_of}
@@ -34,14 +35,14 @@ printed_digits b h = grind (arith, nat_tests)
 -- ---- ASCII
 
 -- An ASCII character is printed as its byte is.
-pub ascii-printed : (e : Encoding) (only : Bool) (c : ℕ) → c < 0x80 → encoded_text e (printed_character e only in_key_or_value c) ≡ printed_byte c
-ascii-printed e only c h = elim (cases_Bool (is_special c)) [
-  | inl s ↦ rw s (encoded_text-ascii e (backslash ∷ c ∷ []) (lit< tt, (h, tt)))
+pub ascii-printed : (r : Repertoire) (c : ℕ) → c < 0x80 → encoded_text r.encoding (printed_character r in_key_or_value c) ≡ printed_byte c
+ascii-printed r c h = elim (cases_Bool (is_special c)) [
+  | inl s ↦ rw s (encoded_text-ascii r.encoding (backslash ∷ c ∷ []) (lit< tt, (h, tt)))
   | inr s ↦ elim (cases_Bool (has_letter c)) [
-    | inl l ↦ rw (s, l) (encoded_text-ascii e (letter_escape c) (letter_escape-ascii c))
+    | inl l ↦ rw (s, l) (encoded_text-ascii r.encoding (letter_escape c) (letter_escape-ascii c))
     | inr l ↦ elim (cases_Bool (nat_lt c space)) [
-      | inl k ↦ rw (s, l, k) (encoded_escape e c)
-      | inr k ↦ rw (s, l, k) (rw (literal-ascii e only c h) (ap (λ o. unwrap_or o [] ++ []) (encoded-ascii e c h)))
+      | inl k ↦ rw (s, l, k) (encoded_escape r.encoding c)
+      | inr k ↦ rw (s, l, k) (rw (literal-ascii r c h) (ap (λ o. unwrap_or o [] ++ []) (encoded-ascii r.encoding c h)))
     ]
   ]
 ]
@@ -78,19 +79,19 @@ byte-past c b h e = elim (cases_Bool (nat_lt c 0x100 && not (is_in_table c))) [
 ]
 
 -- A character that has a byte is printed as that byte is.
-pub byte-printed : (c b : ℕ) → windows_1252_byte c ≡ Some b → encoded_text windows_1252 (printed_character windows_1252 false in_key_or_value
+pub byte-printed : (c b : ℕ) → windows_1252_byte c ≡ Some b → encoded_text windows_1252 (printed_character (all_of windows_1252) in_key_or_value
     c) ≡ printed_byte b
 byte-printed c b e = elim (cases_lt c 0x80) [
   | inl h ↦
       let own : Some (b ∷ []) ≡ Some (c ∷ []) = sym (ap one_byte e) ∙ encoded-ascii windows_1252 c h in
       let same : b ≡ c = cc in
-      ascii-printed windows_1252 false c h ∙ ap printed_byte (sym same)
+      ascii-printed (all_of windows_1252) c h ∙ ap printed_byte (sym same)
   | inr h ↦
       let known : encoded windows_1252 c ≡ Some (b ∷ []) = ap one_byte e in
       rw (past-special c h, past-letter c h, past-control c h, known) (rw known (sym (past-byte b (byte-past c b h e))))
 ]
 
 -- A non-ASCII character that may not be printed as it is, is escaped.
-pub escaped-printed : (e : Encoding) (only : Bool) (c : ℕ) → 0x80 ≤ c → may_be_unescaped e only c ≡ false
-    → encoded_text e (printed_character e only in_key_or_value c) ≡ unicode_escape c
-escaped-printed e only c h lacks = rw (past-special c h, past-letter c h, past-control c h, lacks) (encoded_escape e c)
+pub escaped-printed : (r : Repertoire) (c : ℕ) → 0x80 ≤ c → may_be_unescaped r c ≡ false
+    → encoded_text r.encoding (printed_character r in_key_or_value c) ≡ unicode_escape c
+escaped-printed r c h lacks = rw (past-special c h, past-letter c h, past-control c h, lacks) (encoded_escape r.encoding c)

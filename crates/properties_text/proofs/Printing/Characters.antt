@@ -1,9 +1,10 @@
 -- What is printed for a character and for a text.
-use Rattle.std.proofs.Common.{◌≡◌, ℕ, ◌≤◌, Bool, List, [], ◌∷◌, ◌++◌, refl, sym, ap, ◌∙◌, append_assoc, append-nil, le-ltb}
+use Rattle.std.proofs.Common.{◌≡◌, ℕ, ◌≤◌, List, [], ◌∷◌, ◌++◌, refl, sym, ap, ◌∙◌, append_assoc, append-nil, le-ltb}
 use Rattle.std.specs.Prelude.{encode_utf8_all}
 use Rattle.std.specs.Str.{chars, IsUtf8}
 use Rattle.std.proofs.lemmas.Str.{encodes-chars, encode_ascii}
 use Rattle.properties_format.specs.Encoding.{Encoding}
+use Rattle.properties_format.specs.Repertoire.{Repertoire}
 use Rattle.properties_format.specs.Printing.{Place, unit_escape, high_surrogate, low_surrogate, unicode_escape, printed_character, printed_characters, encoded_text}
 use Rattle.properties_format.proofs.Printing.Characters.{encoded_text-append, printed_characters-append, AreAscii, encoded_text-ascii, unicode_escape-ascii}
 
@@ -18,16 +19,17 @@ escape_wide c before at h k =
     rw (le-ltb c 0x1_0000 h, ← append_assoc before (unit_escape (high_surrogate c)) (unit_escape (low_surrogate c)), ← k) refl
 
 -- One more character is printed.
-pub printed_more : (e : Encoding) (only : Bool) (place : Place) (before xs : List ℕ) (c : ℕ)
-    → (before ++ encoded_text e (printed_characters e only place xs)) ++ encoded_text e (printed_character e only place c) ≡ before ++ encoded_text e
-    (printed_characters e only place (xs ++ c ∷ []))
-printed_more e only place before xs c = simp (append_assoc, printed_characters-append e only place, append-nil, encoded_text-append e)
+pub printed_more : (r : Repertoire) (place : Place) (before xs : List ℕ) (c : ℕ)
+    → (before ++ encoded_text r.encoding (printed_characters r place xs)) ++ encoded_text r.encoding (printed_character r place c) ≡ before ++ encoded_text
+    r.encoding
+    (printed_characters r place (xs ++ c ∷ []))
+printed_more r place before xs c = simp (append_assoc, printed_characters-append r place, append-nil, encoded_text-append r.encoding)
 
 -- The escape of the first character, and the text after it.
-pub first_escaped_more : (e : Encoding) (only : Bool) (place : Place) (before cs : List ℕ) (c : ℕ)
-    → (before ++ unicode_escape c) ++ encoded_text e (printed_characters e only place cs) ≡ before ++ encoded_text e
-    (unicode_escape c ++ printed_characters e only place cs)
-first_escaped_more e only place before cs c = simp (append_assoc, encoded_text-append e, encoded_escape e)
+pub first_escaped_more : (r : Repertoire) (place : Place) (before cs : List ℕ) (c : ℕ)
+    → (before ++ unicode_escape c) ++ encoded_text r.encoding (printed_characters r place cs) ≡ before ++ encoded_text r.encoding
+    (unicode_escape c ++ printed_characters r place cs)
+first_escaped_more r place before cs c = simp (append_assoc, encoded_text-append r.encoding, encoded_escape r.encoding)
 
 -- ---- texts appended without escapes
 

@@ -12,7 +12,7 @@ use Rattle.std.proofs.lemmas.List.Elements.{All-head, All-tail, All-nil, All-con
 use Rattle.memchr.specs.Find.{IsFirstByte}
 use Rattle.byte_blocks.specs.Classes.{is_control, is_past_ascii}
 use Rattle.properties_format.specs.Text.{space, backslash, is_separator, is_comment_sign, is_empty}
-use Rattle.properties_format.specs.Encoding.{Encoding}
+use Rattle.properties_format.specs.Repertoire.{Repertoire}
 use Rattle.properties_format.specs.Printing.{in_key_or_value, is_special, has_letter, unicode_escape, printed_character, encoded_text, is_free, printed_inside, printed_first, printed_last, printed_rest, printed_value}
 use Rattle.properties_format.specs.Writing.{HoldsNoBackslash}
 use Rattle.properties_format.proofs.Printing.Characters.{encoded_text-append, encoded_text-ascii, unicode_escape-ascii}
@@ -54,53 +54,60 @@ longer-run b c bs =
     let m : length (b ∷ c ∷ bs) - 1 ≡ suc (length bs) = omega arith in
     rw (m, n) (elim (cases_Bool (get_or (c ∷ bs) (length bs) 0 == space)) [ inl s ↦ rw s refl | inr s ↦ rw s refl ])
 
-module _ (e : Encoding) (only : Bool) where
-  plain-inside : (b : ℕ) → IsPlain b → encoded_text e (printed_inside e only b) ≡ b ∷ []
+module _ (r : Repertoire) where
+  plain-inside : (b : ℕ) → IsPlain b → encoded_text r.encoding (printed_inside r b) ≡ b ∷ []
   plain-inside b p = elim (cases_Bool (is_free b)) [
-    | inl f ↦ ap (encoded_text e) (cond-true (is_free b) _ _ f) ∙ encoded_text-ascii e (b ∷ []) (p.ascii, tt)
+    | inl f ↦ ap (encoded_text r.encoding) (cond-true (is_free b) _ _ f) ∙ encoded_text-ascii r.encoding (b ∷ []) (p.ascii, tt)
     | inr f ↦
         let special : is_special b ≡ false = rw (p.other, f) refl in
-        let letter : has_letter b ≡ false = rw (ne_eqb b 0x09 (omega (arith, p.printable)), ne_eqb b 0x0a (omega (arith, p.printable)), ne_eqb b 0x0c (omega (arith, p.printable)), ne_eqb b 0x0d (omega (arith, p.printable))) refl in
-        ap (encoded_text e) (cond-false (is_free b) (b ∷ []) (printed_character e only in_key_or_value b) f)
-        ∙ ascii-printed e only b p.ascii
+        let letter : has_letter b ≡ false = rw (
+          ne_eqb b 0x09 (omega (arith, p.printable)),
+          ne_eqb b 0x0a (omega (arith, p.printable)),
+          ne_eqb b 0x0c
+              (omega (arith, p.printable)),
+          ne_eqb b 0x0d (omega (arith, p.printable)),
+        ) refl in
+        ap (encoded_text r.encoding) (cond-false (is_free b) (b ∷ []) (printed_character r in_key_or_value b) f)
+        ∙ ascii-printed r b p.ascii
         ∙ cond-false (is_special b) _ _ special
         ∙ cond-false (has_letter b) _ _ letter
         ∙ cond-false (nat_lt b space) _ _ (le-ltb b space p.printable)
   ]
 
   -- All but the last character are printed as inside a value.
-  more-after : (c : ℕ) (cs : List ℕ) → cs ≢ [] → printed_rest e only (c ∷ cs) ≡ printed_inside e only c ++ printed_rest e only cs
+  more-after : (c : ℕ) (cs : List ℕ) → cs ≢ [] → printed_rest r (c ∷ cs) ≡ printed_inside r c ++ printed_rest r cs
   more-after c [] some = absurd (some refl)
   more-after c (d ∷ cs) some = refl
 
   -- A run before other characters is printed as it is.
   pub run-before : (xs cs : List ℕ) → All (λ b. stops b ≡ false) xs → cs ≢ []
-      → encoded_text e (printed_rest e only (xs ++ cs)) ≡ xs ++ encoded_text e (printed_rest e only cs)
+      → encoded_text r.encoding (printed_rest r (xs ++ cs)) ≡ xs ++ encoded_text r.encoding (printed_rest r cs)
   run-before [] cs all some = refl
   run-before (x ∷ xs) cs all some =
-      ap (encoded_text e) (more-after x (xs ++ cs) (append-some xs cs some))
-      ∙ encoded_text-append e (printed_inside e only x) (printed_rest e only (xs ++ cs))
-      ∙ ap (λ v. v ++ encoded_text e (printed_rest e only (xs ++ cs))) (plain-inside x (plain x (All-head (λ b. stops b ≡ false) x xs all)))
+      ap (encoded_text r.encoding) (more-after x (xs ++ cs) (append-some xs cs some))
+      ∙ encoded_text-append r.encoding (printed_inside r x) (printed_rest r (xs ++ cs))
+      ∙ ap (λ v. v ++ encoded_text r.encoding (printed_rest r (xs ++ cs))) (plain-inside x (plain x (All-head (λ b. stops b ≡ false) x xs all)))
       ∙ ap (λ v. x ∷ v) (run-before xs cs (All-tail (λ b. stops b ≡ false) x xs all) some)
 
   -- A character is printed as inside a value, or as at its end.
-  pub one-before : (c : ℕ) (cs : List ℕ) → encoded_text e (printed_rest e only (c ∷ cs))
-      ≡ encoded_text e (if is_empty cs then printed_last e only c else printed_inside e only c) ++ encoded_text e (printed_rest e only cs)
-  one-before c [] = sym (append-nil (encoded_text e (printed_last e only c)))
-  one-before c (d ∷ cs) = encoded_text-append e (printed_inside e only c) (printed_rest e only (d ∷ cs))
+  pub one-before : (c : ℕ) (cs : List ℕ) → encoded_text r.encoding (printed_rest r (c ∷ cs))
+      ≡ encoded_text r.encoding (if is_empty cs then printed_last r c else printed_inside r c) ++ encoded_text r.encoding (printed_rest r cs)
+  one-before c [] = sym (append-nil (encoded_text r.encoding (printed_last r c)))
+  one-before c (d ∷ cs) = encoded_text-append r.encoding (printed_inside r c) (printed_rest r (d ∷ cs))
 
   -- A run at the end.
-  pub run-last : (bs : List ℕ) → All (λ b. stops b ≡ false) bs → encoded_text e (printed_rest e only bs) ≡ last_run bs
+  pub run-last : (bs : List ℕ) → All (λ b. stops b ≡ false) bs → encoded_text r.encoding (printed_rest r bs) ≡ last_run bs
   run-last [] all = refl
   run-last (b ∷ []) all = elim (cases_Bool (b == space)) [
-    | inl s ↦ rw s (encoded_text-ascii e (unicode_escape space) (unicode_escape-ascii space))
+    | inl s ↦ rw s (encoded_text-ascii r.encoding (unicode_escape space) (unicode_escape-ascii space))
     | inr s ↦
-        ap (encoded_text e) (cond-false (b == space) _ (printed_inside e only b) s)
+        ap (encoded_text r.encoding) (cond-false (b == space) _ (printed_inside r b) s)
         ∙ plain-inside b (plain b (All-head (λ b. stops b ≡ false) b [] all))
         ∙ sym (cond-false (b == space) _ (b ∷ []) s)
   ]
   run-last (b ∷ c ∷ bs) all =
-      run-before (b ∷ []) (c ∷ bs) (All-cons (λ b. stops b ≡ false) b [] (All-head (λ b. stops b ≡ false) b (c ∷ bs) all) (All-nil (λ b. stops b ≡ false))) (λ none. cc none)
+      run-before (b ∷ []) (c ∷ bs) (All-cons (λ b. stops b ≡ false) b [] (All-head (λ b. stops b ≡ false) b (c ∷ bs) all) (All-nil (λ b. stops b ≡ false)))
+      (λ none. cc none)
       ∙ ap (λ v. b ∷ v) (run-last (c ∷ bs) (All-tail (λ b. stops b ≡ false) b (c ∷ bs) all))
       ∙ sym (longer-run b c bs)
 
@@ -108,60 +115,64 @@ module _ (e : Encoding) (only : Bool) where
 
   -- It gets no backslash.
   pub first-plain : (after_blanks : Bool) (c : ℕ) (cs : List ℕ) → is_first_escaped after_blanks c (is_empty cs) ≡ false
-      → printed_value e only after_blanks (c ∷ cs) ≡ printed_rest e only (c ∷ cs)
+      → printed_value r after_blanks (c ∷ cs) ≡ printed_rest r (c ∷ cs)
   first-plain after_blanks c cs h = elim (cases_Bool (c == space)) [
     | inl s ↦ alone cs (sym (cond-true (c == space) _ (after_blanks && is_separator c) s) ∙ h) s
     | inr s ↦ other cs (sym (cond-false (c == space) (not (is_empty cs)) _ s) ∙ h) s
   ]
     where
-      alone : (cs : List ℕ) → not (is_empty cs) ≡ false → (c == space) ≡ true → printed_value e only after_blanks (c ∷ cs) ≡ printed_rest e only (c ∷ cs)
+      alone : (cs : List ℕ) → not (is_empty cs) ≡ false → (c == space) ≡ true → printed_value r after_blanks (c ∷ cs) ≡ printed_rest r (c ∷ cs)
       alone [] h s = rw s refl
       alone (d ∷ cs) h s = absurd (cc)
 
-      other : (cs : List ℕ) → (after_blanks && is_separator c) ≡ false → (c == space) ≡ false → printed_value e only after_blanks (c ∷ cs) ≡ printed_rest e only (c ∷ cs)
+      other : (cs : List ℕ) → (after_blanks && is_separator c) ≡ false → (c == space) ≡ false → printed_value r after_blanks (c ∷ cs) ≡ printed_rest r (c ∷ cs)
       other [] h s = rw (s, h) (append-nil _)
       other (d ∷ cs) h s = rw (s, h) refl
 
   -- It does.
   pub first-escaped : (after_blanks : Bool) (c : ℕ) (cs : List ℕ) → is_first_escaped after_blanks c (is_empty cs) ≡ true
-      → encoded_text e (printed_value e only after_blanks (c ∷ cs))
-      ≡ encoded_text e (printed_character e only in_key_or_value c) ++ encoded_text e (printed_rest e only cs)
+      → encoded_text r.encoding (printed_value r after_blanks (c ∷ cs))
+      ≡ encoded_text r.encoding (printed_character r in_key_or_value c) ++ encoded_text r.encoding (printed_rest r cs)
   first-escaped after_blanks c cs h = elim (cases_Bool (c == space)) [
     | inl s ↦ blank cs (sym (cond-true (c == space) _ (after_blanks && is_separator c) s) ∙ h) s
     | inr s ↦
         let both = and_parts after_blanks (is_separator c) (sym (cond-false (c == space) (not (is_empty cs)) _ s) ∙ h) in
-        put cs (and_right (is_empty cs) (c == space) s) (or_right (c == space) (after_blanks && is_separator c) (and_from after_blanks (is_separator c) both.0 both.1))
-        (or_right (c == backslash) (is_free c) (or_right (c == space) (is_separator c || is_comment_sign c) (or_left (is_separator c) (is_comment_sign c) both.1)))
+        put cs (and_right (is_empty cs) (c == space) s) (or_right (c == space) (after_blanks && is_separator c)
+        (and_from after_blanks (is_separator c) both.0 both.1))
+        (or_right (c == backslash) (is_free c) (or_right (c == space) (is_separator c || is_comment_sign c)
+        (or_left (is_separator c) (is_comment_sign c) both.1)))
   ]
     where
       put : (cs : List ℕ) → (is_empty cs && c == space) ≡ false → (c == space || (after_blanks && is_separator c)) ≡ true → is_special c ≡ true
-          → encoded_text e (printed_value e only after_blanks (c ∷ cs))
-          ≡ encoded_text e (printed_character e only in_key_or_value c) ++ encoded_text e (printed_rest e only cs)
+          → encoded_text r.encoding (printed_value r after_blanks (c ∷ cs))
+          ≡ encoded_text r.encoding (printed_character r in_key_or_value c) ++ encoded_text r.encoding (printed_rest r cs)
       put cs more first special =
-          ap (encoded_text e) (cond-false (is_empty cs && c == space) _ (printed_first e only after_blanks c ++ printed_rest e only cs) more)
-          ∙ encoded_text-append e (printed_first e only after_blanks c) (printed_rest e only cs)
-          ∙ ap (λ v. encoded_text e v ++ encoded_text e (printed_rest e only cs)) (cond-true _ (backslash ∷ c ∷ []) _ first ∙ sym (cond-true (is_special c) _ _ special))
+          ap (encoded_text r.encoding) (cond-false (is_empty cs && c == space) _ (printed_first r after_blanks c ++ printed_rest r cs) more)
+          ∙ encoded_text-append r.encoding (printed_first r after_blanks c) (printed_rest r cs)
+          ∙ ap (λ v. encoded_text r.encoding v ++ encoded_text r.encoding (printed_rest r cs)) (cond-true _ (backslash ∷ c ∷ []) _ first
+          ∙ sym (cond-true (is_special c) _ _ special))
 
-      blank : (cs : List ℕ) → not (is_empty cs) ≡ true → (c == space) ≡ true → encoded_text e (printed_value e only after_blanks (c ∷ cs))
-          ≡ encoded_text e (printed_character e only in_key_or_value c) ++ encoded_text e (printed_rest e only cs)
+      blank : (cs : List ℕ) → not (is_empty cs) ≡ true → (c == space) ≡ true → encoded_text r.encoding (printed_value r after_blanks (c ∷ cs))
+          ≡ encoded_text r.encoding (printed_character r in_key_or_value c) ++ encoded_text r.encoding (printed_rest r cs)
       blank [] h s = absurd (cc)
       blank (d ∷ cs) h s = put (d ∷ cs) refl (rw s refl) (ap is_special (eqb-true c space s))
 
   -- The whole value, after a first character with a backslash.
   pub after-first : (after_blanks : Bool) (before more new : List ℕ) (c : ℕ) (cs : List ℕ) → is_first_escaped after_blanks c (is_empty cs) ≡ true
-      → more ≡ before ++ encoded_text e (printed_character e only in_key_or_value c) → new ≡ more ++ encoded_text e (printed_rest e only cs)
-      → new ≡ before ++ encoded_text e (printed_value e only after_blanks (c ∷ cs))
+      → more ≡ before ++ encoded_text r.encoding (printed_character r in_key_or_value c) → new ≡ more ++ encoded_text r.encoding (printed_rest r cs)
+      → new ≡ before ++ encoded_text r.encoding (printed_value r after_blanks (c ∷ cs))
   after-first after_blanks before more new c cs h first rest =
-      let character = encoded_text e (printed_character e only in_key_or_value c) in
+      let character = encoded_text r.encoding (printed_character r in_key_or_value c) in
       rest
-      ∙ ap (λ v. v ++ encoded_text e (printed_rest e only cs)) first
-      ∙ append_assoc before character (encoded_text e (printed_rest e only cs))
+      ∙ ap (λ v. v ++ encoded_text r.encoding (printed_rest r cs)) first
+      ∙ append_assoc before character (encoded_text r.encoding (printed_rest r cs))
       ∙ ap (λ v. before ++ v) (sym (first-escaped after_blanks c cs h))
 
 -- ---- a run
 
 -- A run, and what comes after it.
-pub ascii-run : (e : LineEncoding) (xs ys : List ℕ) → All (λ b. stops b ≡ false) xs → IsWell e (xs ++ ys) → (text_in e (xs ++ ys) ≡ xs ++ text_in e ys) × IsWell e ys
+pub ascii-run : (e : LineEncoding) (xs ys : List ℕ) → All (λ b. stops b ≡ false) xs → IsWell e (xs ++ ys)
+    → (text_in e (xs ++ ys) ≡ xs ++ text_in e ys) × IsWell e ys
 ascii-run e [] ys all w = (refl, w)
 ascii-run e (x ∷ xs) ys all w =
     let first = ascii-first e x (xs ++ ys) (plain x (All-head (λ b. stops b ≡ false) x xs all)).ascii w in

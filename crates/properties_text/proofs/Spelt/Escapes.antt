@@ -67,7 +67,8 @@ unit-in e bs w b value h =
     let ascii = ascii-digits d h.hexadecimal in
     let a = after-u e bs w b in
     let f = after-four e (drop 2 bs) a.well (omega (arith, h.within, length-drop 2 bs))
-    (omega (arith, ascii.0, dropped bs 2 0)) (omega (arith, ascii.1, dropped bs 2 1)) (omega (arith, ascii.2, dropped bs 2 2)) (omega (arith, ascii.3, dropped bs 2 3)) in
+    (omega (arith, ascii.0, dropped bs 2 0)) (omega (arith, ascii.1, dropped bs 2 1)) (omega (arith, ascii.2, dropped bs 2 2))
+    (omega (arith, ascii.3, dropped bs 2 3)) in
     let six : drop 4 (drop 2 bs) ≡ drop 6 bs = drop-drop 4 2 bs in (
       record {
         digits = d;
@@ -91,7 +92,11 @@ digits-back e bs d rest w s h =
 
 -- the four bytes after two, if they are at the front of what is left
 digits-at : (bs more : List ℕ) (d : Four) → drop 2 bs ≡ four_text d ++ more → (6 ≤ length bs) × (digits_in bs ≡ d)
-digits-at (x ∷ y ∷ bs) more d e = (omega (arith, ap length e), ap (λ v. record { first = get_or v 0 0; second = get_or v 1 0; third = get_or v 2 0; fourth = get_or v 3 0 }) e)
+digits-at (x ∷ y ∷ bs) more d e = (
+  omega (arith, ap length e),
+  ap (λ v. record
+      { first = get_or v 0 0; second = get_or v 1 0; third = get_or v 2 0; fourth = get_or v 3 0 }) e,
+)
 digits-at bs more d e = absurd (cc)
 
 -- ---- what isn't an escape
@@ -214,7 +219,8 @@ reads-pair {e} {bs} {high} w b h l s =
       spells = record {
         spelling = surrogates u.0.digits v.0.digits;
         whole = a.characters
-            ∙ ap (λ x. backslash ∷ letter_u ∷ x) (u.0.whole ∙ ap (λ x. four_text u.0.digits ++ x) (a'.characters ∙ ap (λ x. backslash ∷ letter_u ∷ x) v.0.whole))
+            ∙ ap (λ x. backslash ∷ letter_u ∷ x) (u.0.whole ∙ ap (λ x. four_text u.0.digits ++ x) (a'.characters
+            ∙ ap (λ x. backslash ∷ letter_u ∷ x) v.0.whole))
             ∙ ap (λ x. spelling_text (surrogates u.0.digits v.0.digits) ++ text_in e x) twelve;
         stands = (u.0.hexadecimal, sym (ap is_high u.0.writes) ∙ l.is_high, v.0.hexadecimal, sym (ap is_low v.0.writes) ∙ l.is_low);
         character = l.is ∙ ap₂ pair_character u.0.writes v.0.writes;

@@ -48,7 +48,8 @@ abbrev pub sequence_of : List ℕ → ℕ → Spelt
 sequence_of bs n = record { character = sequence_character (get_or bs 0 0 ∷ take (n - 1) (drop 1 bs)); length = n }
 
 -- Bytes that begin with those of a character.
-begins : (bs rest : List ℕ) (c n : ℕ) → IsUtf8 bs → IsScalar c → bs ≡ encode c ++ rest → n ≡ length_by_first (get_or bs 0 0) → IsFirst Utf8 bs (sequence_of bs n)
+begins : (bs rest : List ℕ) (c n : ℕ) → IsUtf8 bs → IsScalar c → bs ≡ encode c ++ rest → n ≡ length_by_first (get_or bs 0 0)
+    → IsFirst Utf8 bs (sequence_of bs n)
 begins bs rest c n u s e is =
     let below : c < 0x11_0000 = (let h = scalar-from_char c s in omega arith) in
     let some : 0 < length (encode c) = omega (arith, length-encode c, len_utf8_bounds c) in

@@ -64,8 +64,7 @@ other-character c t n f r = rw (ne_eqb c 0x74 t, ne_eqb c 0x6e n, ne_eqb c 0x66 
 
 -- ---- units that were not read
 
-pub malformed-unread : (text : List ℕ) (malformed : Malformed) → IsUnread text malformed
-    → IsMalformedUnit text (malformed_in malformed)
+pub malformed-unread : (text : List ℕ) (malformed : Malformed) → IsUnread text malformed → IsMalformedUnit text (malformed_in malformed)
 malformed-unread text NotEnoughDigits h = malformed-short text h
 malformed-unread text NotHex h = subst (λ v. IsMalformedUnit v not_hex) (sym h.whole) (malformed-not_hex h.four h.rest h.not_hexadecimal)
 malformed-unread text InvalidCharacter h = absurd h

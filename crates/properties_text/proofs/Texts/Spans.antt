@@ -66,7 +66,8 @@ comment-places line start span l e o w s d =
     ap (drop (start + 1)) d.whole ∙ ap (λ i. drop (i + 1) (d.indent ++ (d.sign ∷ d.rest))) at ∙ drop-append-add d.indent (d.sign ∷ d.rest) 1 in
     let past : drop span.start line ≡ core ++ d.trimmed.after =
     s ∙ ap without_leading_blanks (cut ∙ d.trimmed.whole)
-    ∙ without_leading_blanks-only d.trimmed.before (core ++ d.trimmed.after) d.trimmed.before_blank (core-begins core d.trimmed.after d.trimmed.begins_full d.trimmed.empty_last) in
+    ∙ without_leading_blanks-only d.trimmed.before (core ++ d.trimmed.after) d.trimmed.before_blank
+    (core-begins core d.trimmed.after d.trimmed.begins_full d.trimmed.empty_last) in
     let long = span_length line span w in
     let left = ap length past in
     record {
@@ -102,8 +103,7 @@ whole_span line span u o w after part =
 
 -- A comment.
 pub found-comment : (line : List ℕ) (start : ℕ) (span : Span) → start < length line
-    → drop start line ≡ without_leading_blanks line → is_comment_sign (get_or line start 0) ≡ true
-    → span.start ≤ span.end → span.end ≤ length line
+    → drop start line ≡ without_leading_blanks line → is_comment_sign (get_or line start 0) ≡ true → span.start ≤ span.end → span.end ≤ length line
     → drop span.start line ≡ without_leading_blanks (drop (start + 1) line) → bytes_in line span ≡ trimmed (drop (start + 1) line)
     → AreFound line (Some (Comment span))
 unfolding split_of

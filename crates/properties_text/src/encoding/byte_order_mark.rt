@@ -44,7 +44,7 @@ pub fn encoding_in_force(bytes: &[u8], requested: Encoding) -> (Encoding, usize)
 
 /// Returns whether the bytes begin like a byte order mark.
 #[inline(never)]
-pub fn begins_like_mark(bytes: &[u8]) -> bool
+pub fn begins_like_byte_order_mark(bytes: &[u8]) -> bool
     ensures { result ≡ begins_like_bom bytes.now }
 {
     matches!(byte_order_mark(bytes), ByteOrderMark::Present(_, _))

@@ -1,7 +1,7 @@
 // The buffer into which lines are decoded.
 
-ghost use Rattle.std.specs.Prelude.{◌≡◌, ◌⊎◌, ◌≤◌, ◌<◌, ◌+◌, ◌++◌, List, ℕ, [], length, take, IfOk, OnOk, OnErr};
-ghost use Rattle.std.specs.Str.{chars, IsUtf8, IsCharBoundary};
+ghost use Rattle.std.specs.Prelude.{◌≡◌, ◌⊎◌, ◌≤◌, ◌<◌, ◌+◌, ◌++◌, List, ℕ, [], length, IfOk, OnOk, OnErr};
+ghost use Rattle.std.specs.Str.{chars, IsUtf8};
 ghost use Rattle.properties_text.specs.Decoding.{text_of, KeepsText, PassesText};
 
 use super::decode::decode_run;
@@ -73,14 +73,6 @@ impl TextBuffer {
         ensures { result ≡ self }
     {
         self.line
-    }
-
-    /// Keeps the first `length` bytes of the text. They must end at the end of a character.
-    pub fn truncate(&mut self, length: usize)
-        requires { IsCharBoundary self.old length }
-        ensures { self.new ≡ take length self.old }
-    {
-        self.line.truncate(length);
     }
 
     /// Appends a text. Fails if memory runs out, and then appends nothing.

@@ -5,10 +5,10 @@ ghost use Rattle.properties_format.specs.Text.{backslash};
 ghost use Rattle.properties_format.specs.Escapes.{letter_u, NoSpelling};
 ghost use Rattle.properties_format.specs.Printing.{may_be_unescaped};
 ghost use Rattle.properties_text.specs.Spelt.{text_in, IsWell, IsRead};
-ghost use Rattle.properties_text.specs.Printing.{encoding_in, only_in};
+ghost use Rattle.properties_text.specs.Printing.{in_format};
 ghost use Rattle.properties_text.specs.Converted.{converted_in, is_stop, StaysUpTo, IsConvertedFront, IsUnitFront};
 
-use super::text::put_literal;
+use super::runs::put_literal;
 use super::{Repertoire, is_copied};
 use crate::encoding::{LineEncoding, Spelt, byte_of};
 use crate::escape::read_escape;
@@ -280,7 +280,7 @@ fn copy_front<'a>(out: &mut [u8], at: usize, text: &'a [u8], count: usize) -> Fr
 #[inline(always)]
 fn has(repertoire: Repertoire, character: char) -> bool
     requires { 0x80 ≤ character }
-    ensures { result ≡ may_be_unescaped (encoding_in repertoire) (only_in repertoire) character }
+    ensures { result ≡ may_be_unescaped (in_format repertoire) character }
 {
     match repertoire {
         Repertoire::Utf8 => true,

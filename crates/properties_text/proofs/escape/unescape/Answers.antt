@@ -45,7 +45,8 @@ returns c =
     let h = c.in_ok-push_resolved.ensures in
     let before : string_bytes c.push_part.new.text ≡ take at text =
     c.in_ok-push_part.ensures ∙ ap (λ v. v ++ c.range.result.now) c.in_ok-text.ensures.bytes ∙ c.range.ensures.value ∙ slice-front text at in
-    let meant = means_front (chars text) (chars (take at text)) (chars (drop at text)) h.0 s.meaning (ap (λ v. meaning_of (chars v)) (sym c.range_from.ensures.value) ∙ h.1) in
+    let meant = means_front (chars text) (chars (take at text)) (chars (drop at text)) h.0 s.meaning
+    (ap (λ v. meaning_of (chars v)) (sym c.range_from.ensures.value) ∙ h.1) in
     record {
       meaning = subst (Means (chars text)) (sym (h.2 ∙ ap (λ v. chars v ++ h.0) before)) meant;
       borrowed = sym (ap not s.holds);

@@ -17,7 +17,8 @@ loop-at-preserved c =
     let at = c.loop-at.at in
     record {
       within = omega (arith, c.loop-at-test.true);
-      blank = none-in_block is_no_blank c.args.text.now 0 at 16 at (omega (arith, c.loop-at-test.true, c.loop-at.invariant.within)) (omega arith) c.loop-at.invariant.blank c.in_default.ensures;
+      blank = none-in_block is_no_blank c.args.text.now 0 at 16 at (omega (arith, c.loop-at-test.true, c.loop-at.invariant.within)) (omega arith)
+          c.loop-at.invariant.blank c.in_default.ensures;
     }
 
 pub returns-clause-rest : goal.returns-clause-rest

@@ -17,7 +17,8 @@ loop-at-preserved c =
     let at = c.loop-at.at in
     record {
       within = omega (arith, c.loop-at-test.true);
-      none = none-in_block may_end c.args.text.now 0 at 16 at (omega (arith, c.loop-at-test.true, c.loop-at.invariant.within)) (omega arith) c.loop-at.invariant.none c.in_default.ensures;
+      none = none-in_block may_end c.args.text.now 0 at 16 at (omega (arith, c.loop-at-test.true, c.loop-at.invariant.within)) (omega arith)
+          c.loop-at.invariant.none c.in_default.ensures;
     }
 
 pub returns-clause-plain : goal.returns-clause-plain

@@ -1,14 +1,14 @@
 use Rattle.std.proofs.lemmas.List.{map-id}
 use Rattle.std.proofs.lemmas.Iterator.{YieldsList-from_chars}
 use Rattle.std.proofs.lemmas.Iterator.Consumers.{YieldsList-end}
-use Rattle.properties_text.specs.Printing.{only_in, place_of}
+use Rattle.properties_text.specs.Printing.{in_format, place_of}
 use Rattle.properties_text.proofs.Printing.Characters.{printed_more}
 use Rattle.properties_text.proofs.print.print_text.Goals as goal
 
 pub loop-character-preserved : goal.loop-character-preserved
 loop-character-preserved c =
     rw (c.in_ok-print_character.ensures, c.loop-character.invariant)
-    (printed_more _ (only_in c.args.repertoire) (place_of c.args.place) c.args.line.now c.loop-character.yielded c.in-Some.character)
+    (printed_more (in_format c.args.repertoire) (place_of c.args.place) c.args.line.now c.loop-character.yielded c.in-Some.character)
 
 pub returns : goal.returns
 returns c =

@@ -1,8 +1,8 @@
 use Rattle.std.proofs.Common.{◌≡◌, ◌++◌}
 use Rattle.properties_format.specs.Printing.{printed_characters, encoded_text}
-use Rattle.properties_text.specs.Printing.{encoding_in, only_in, place_of}
+use Rattle.properties_text.specs.Printing.{in_format, place_of}
 use Rattle.properties_text.proofs.print.print_text.Given as goal
 
 abbrev pub invariant-loop-character : goal.invariant-loop-character
-invariant-loop-character l = l.line ≡ l.initial.line ++ encoded_text (encoding_in l.repertoire)
-    (printed_characters (encoding_in l.repertoire) (only_in l.repertoire) (place_of l.place) l.yielded)
+invariant-loop-character l = l.line ≡ l.initial.line ++ encoded_text (in_format l.repertoire).encoding
+    (printed_characters (in_format l.repertoire) (place_of l.place) l.yielded)

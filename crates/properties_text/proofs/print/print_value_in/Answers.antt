@@ -25,6 +25,7 @@ returns c =
     let left = take_rest c.args.bytes.now first.length in
     let none = ap (λ v. length v == 0) (sym left) ∙ sym c.is_empty-2.ensures in
     let own = ap (is_first_escaped c.args.after_blanks first.character) none ∙ sym c.is_first_escaped.ensures ∙ c.if-not-is_first_escaped.false in
-    value-escaped c.args.repertoire c.args.after_blanks c.args.line.now c.in-Ok.ensures line new c.print_rest_of_value-2.result own c.in_ok-print_in_key_or_value.ensures
+    value-escaped c.args.repertoire c.args.after_blanks c.args.line.now c.in-Ok.ensures line new c.print_rest_of_value-2.result own
+    c.in_ok-print_in_key_or_value.ensures
     (subst (λ v. PrintsMeant (meaning_in c.args.encoding c.args.escaped v) (rest_bytes c.args.repertoire) line c.print_rest_of_value-2.result new) left
     c.print_rest_of_value-2.ensures)

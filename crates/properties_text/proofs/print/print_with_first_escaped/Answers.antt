@@ -9,19 +9,19 @@ use Rattle.properties_text.proofs.print.print_with_first_escaped.Goals as goal
 pub returns-clause-printed : goal.returns-clause-printed
 returns-clause-printed g c =
     let read = c.in-Ok.ensures in
-    let size = length-take-le c.args.size c.args.bytes.now c.requires.size in
+    let size = length-take-le c.args.part.size c.args.part.bytes.now c.args.part.within in
     let put = c.put_escape-end in
     let back = with_items_is c.make_room.new.bytes put.new.out (put.ensures.same_room ∙ c.deref_mut.ensures.len) in
     let same = ap (take c.args.at) c.deref_mut.ensures.value ∙ c.in_ok-make_room.ensures.same in
     escaped-rest c.args.repertoire c.args.out.now.items c.print_bytes.new.out.items c.args.at put.result c.print_bytes.result read
-    (rest-at c.args.bytes.now c.args.size c.in-Ok.first.length (omega (arith, read.within, size))) back
+    (rest-at c.args.part.bytes.now c.args.part.size c.in-Ok.first.length (omega (arith, read.within, size))) back
     (put.ensures.put ∙ ap (λ v. v ++ unicode_escape c.in-Ok.first.character) same) c.print_bytes.ensures.printed
 
 pub print_bytes-requires-clause-well : goal.print_bytes-requires-clause-well
 print_bytes-requires-clause-well g c =
     let read = c.in-Ok.ensures in
-    let size = length-take-le c.args.size c.args.bytes.now c.requires.size in
-    subst (IsWell c.args.encoding) (sym (rest-at c.args.bytes.now c.args.size c.in-Ok.first.length (omega (arith, read.within, size)))) read.well
+    let size = length-take-le c.args.part.size c.args.part.bytes.now c.args.part.within in
+    subst (IsWell c.args.encoding) (sym (rest-at c.args.part.bytes.now c.args.part.size c.in-Ok.first.length (omega (arith, read.within, size)))) read.well
 
 pub returns-clause-same : goal.returns-clause-same
 returns-clause-same g c =

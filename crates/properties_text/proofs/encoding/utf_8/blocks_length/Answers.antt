@@ -18,5 +18,10 @@ loop-at-preserved-then-wanted-eq0 c =
     (omega arith, omega arith, c.in-Some.ensures.few, next, IsUtf8-from_well_formed _ (well_formed-here _ next.0 (sym next.1 ∙ c.if-wanted-eq0.true) next.2))
 
 pub loop-at-preserved : goal.loop-at-preserved
-loop-at-preserved c =
-    (omega arith, omega arith, c.in-Some.ensures.few, further c.args.bytes.now c.loop-at.at _ _ c.loop-at.invariant.3 c.in-Some.ensures.goes_on, c.loop-at.invariant.4)
+loop-at-preserved c = (
+  omega arith,
+  omega arith,
+  c.in-Some.ensures.few,
+  further c.args.bytes.now c.loop-at.at _ _ c.loop-at.invariant.3 c.in-Some.ensures.goes_on,
+  c.loop-at.invariant.4,
+)

@@ -5,7 +5,8 @@ use Rattle.properties_text.proofs.encoding.utf_8.blocks_length.Given as goal
 
 abbrev pub invariant-loop-at : goal.invariant-loop-at
 invariant-loop-at l =
-    (l.at ≤ length l.bytes) × (l.known ≤ l.at) × (l.wanted ≤ 0xffff) × ((n : ℕ) × (l.wanted ≡ ones n) × GoesOn 0 (take l.at l.bytes) n) × IsUtf8 (take l.known l.bytes)
+    (l.at ≤ length l.bytes) × (l.known ≤ l.at) × (l.wanted ≤ 0xffff) × ((n : ℕ) × (l.wanted ≡ ones n) × GoesOn 0 (take l.at l.bytes) n) × IsUtf8
+    (take l.known l.bytes)
 
 abbrev pub decreases-loop-at : goal.decreases-loop-at
 decreases-loop-at l = length l.bytes - l.at

@@ -1,17 +1,18 @@
-// Prints a key or a value from its bytes: by turns a run of bytes that are copied or get a backslash, and a character at
-// which such a run stops.
+// Prints a key or a value from its bytes: by turns a run of bytes that are copied or get a backslash, and a character
+// at which such a run stops.
 
 ghost use Rattle.std.specs.Prelude.{◌≡◌, ◌+◌, ◌-◌, ◌*◌, ◌<◌, ◌≤◌, ◌++◌, ℕ, Bool, true, false, length, take, drop, get_or, IfOk, IsOkUnless};
 ghost use Rattle.properties_text.specs.declared.escape.UnescapeError.TheVariants.{Memory};
 ghost use Rattle.properties_format.specs.Text.{backslash};
 ghost use Rattle.properties_text.specs.Spelt.{IsWell};
 ghost use Rattle.properties_format.specs.Printing.{literal, encoded_text};
-ghost use Rattle.properties_text.specs.Printing.{encoding_in, only_in, put_of, puts_of};
-ghost use Rattle.properties_text.specs.PrintedTexts.{past_in, ReadsBy, PutsStops, GoesFar, PrintsRest, IsRunPut, StopsIn, meaning_in, Prints};
+ghost use Rattle.properties_text.specs.Printing.{in_format, put_of, puts_of};
+ghost use Rattle.properties_text.specs.PrintedTexts.{past_in, ReadsBy, PutsStops, PrintsRest, IsRunPut, StopsIn, meaning_in, Prints, bytes_of};
 
 use super::Repertoire;
 use super::bytes::{first_16, put_any, put_byte, put_with_backslashes};
 use super::escapes::{LONGEST, put_escape};
+use super::part::Part;
 use crate::encoding::{LineEncoding, Spelt, byte_of, put_character};
 use crate::escape::{Malformed, UnescapeError, read_escape};
 use crate::line_buffer::make_room;
@@ -75,9 +76,8 @@ pub fn put_literal(out: &mut [u8], at: usize, repertoire: Repertoire, character:
     requires { at + 12 ≤ length out.old }
     ensures same_room { length out.new ≡ length out.old }
     ensures within { result ≤ at + 12 }
-    ensures put { let e = encoding_in repertoire in
-        let text = literal e (only_in repertoire) character in
-        take result out.new ≡ take at out.old ++ encoded_text e text }
+    ensures put { let r = in_format repertoire in
+        take result out.new ≡ take at out.old ++ encoded_text r.encoding (literal r character) }
 {
     if character.is_ascii() {
         out[at] = u32::from(character) as u8;
@@ -122,7 +122,8 @@ fn begins_with_stop<Stops: ByteClass>(text: &[u8]) -> bool
     begins_escape::<Stops>(text) || Stops::contains(text[0])
 }
 
-// Puts the rest of a text. Kept out of line because most texts have no stops, and there is room for them.
+// Puts the rest of a text. Kept out of line because most texts have no stops, and there is room for them. Bytes and
+// size come one by one: a `Part` would be built in memory before each call.
 #[inline(never)]
 fn print_rest<Stops: ByteClass>(
     out: &mut Vec<u8>,
@@ -142,13 +143,14 @@ fn print_rest<Stops: ByteClass>(
     ensures same { take at out.new.items ≡ take at out.old.items }
     ensures longer { length out.old.items ≤ length out.new.items }
 {
+    let part = Part { bytes, size };
     let mut put = Put {
         read: from,
         end: at,
     };
     while put.read < size {
         put = print_stops::<Stops>(out, put.end, repertoire, encoding, &bytes[..size], put.read)?;
-        put = print_run::<Stops>(out, put.end, bytes, size, put.read)?;
+        put = print_run::<Stops>(out, put.end, part, put.read)?;
     }
     Ok(put.end)
 }
@@ -173,14 +175,13 @@ fn print_stops<Stops: ByteClass>(
     ensures after { IfOk result (λ put. at ≤ put.end) }
     ensures onwards { IfOk result (λ put. from ≤ put.read) }
     ensures past { IfOk result (λ put. from < length text.now → Stops.holds (get_or text.now from 0) ≡ true → from < put.read) }
-    ensures far { IfOk result (λ put. GoesFar Stops.holds text.now put out.new.items) }
 {
     make_room(out, at, LONGEST)?;
     put_stops::<Stops>(out, at, repertoire, encoding, text, from)
 }
 
-// Puts the characters at which a run stops, as long as there is room. A byte between two of them is put too, since often
-// a blank stands there.
+// Prints the characters that can't be copied in blocks, while there is room, and a single byte between two of them,
+// which is often a blank.
 #[inline(always)]
 fn put_stops<Stops: ByteClass>(
     out: &mut [u8],
@@ -200,7 +201,6 @@ fn put_stops<Stops: ByteClass>(
     ensures after { IfOk result (λ put. at ≤ put.end) }
     ensures onwards { IfOk result (λ put. from ≤ put.read) }
     ensures past { IfOk result (λ put. from < length text.now → Stops.holds (get_or text.now from 0) ≡ true → from < put.read) }
-    ensures far { IfOk result (λ put. GoesFar Stops.holds text.now put out.new) }
 {
     let mut put = Put {
         read: from,
@@ -234,26 +234,25 @@ fn put_stops<Stops: ByteClass>(
 // Fewer bytes than this are put one by one, since a block takes longer.
 const FEW: usize = 5;
 
-/// Puts what a text is printed as after the first `at` bytes, and returns the index after it. `Stops` are the bytes that
-/// are neither copied nor only get a backslash. Fails with the first malformed escape, or if memory runs out.
+/// Puts what a text is printed as after the first `at` bytes, and returns the index after it. `Stops` are the bytes
+/// that are neither copied nor only get a backslash. Fails with the first malformed escape, or if memory runs out.
 #[inline(always)]
 pub fn print_bytes<Stops: ByteClass>(
     out: &mut Vec<u8>,
     at: usize,
     repertoire: Repertoire,
     encoding: LineEncoding,
-    bytes: &[u8],
-    size: usize,
+    part: Part<'_>,
 ) -> Result<usize, UnescapeError>
-    requires size { size ≤ length bytes.now }
     requires at { at ≤ length out.old.items }
     requires stops { StopsIn Stops.holds encoding repertoire }
-    requires well { IsWell encoding (take size bytes.now) }
-    ensures printed { Prints (meaning_in encoding (Stops.holds backslash) (take size bytes.now)) (puts_of repertoire) out.old.items at out.new.items result }
+    requires well { IsWell encoding (bytes_of part) }
+    ensures printed { Prints (meaning_in encoding (Stops.holds backslash) (bytes_of part.entry)) (puts_of repertoire) out.old.items at out.new.items result }
     ensures same { take at out.new.items ≡ take at out.old.items }
     ensures longer { length out.old.items ≤ length out.new.items }
 {
-    let put = put_if_room::<Stops>(out, at, bytes, size);
+    let Part { bytes, size } = part;
+    let put = put_if_room::<Stops>(out, at, part);
     if put.read < size {
         return print_rest::<Stops>(out, put.end, repertoire, encoding, bytes, size, put.read);
     }
@@ -263,16 +262,15 @@ pub fn print_bytes<Stops: ByteClass>(
 // Puts a text up to a stop if there is room for two bytes for each of its bytes, and for what a block may overwrite.
 // Otherwise puts nothing.
 #[inline(always)]
-fn put_if_room<Stops: ByteClass>(out: &mut [u8], at: usize, bytes: &[u8], size: usize) -> Put
-    requires size { size ≤ length bytes.now }
+fn put_if_room<Stops: ByteClass>(out: &mut [u8], at: usize, part: Part<'_>) -> Put
     requires at { at ≤ length out.old }
     requires controls { (b : ℕ) → b < 0x20 → Stops.holds b ≡ true }
     ensures same_room { length out.new ≡ length out.old }
-    ensures run { IsRunPut Stops.holds out.old at (take size bytes.now) 0 result out.new }
+    ensures run { IsRunPut Stops.holds out.old at (bytes_of part.entry) 0 result out.new }
     ensures within { result.end ≤ length out.new }
 {
-    if (out.len() - at) / 2 >= size + ROOM_FOR_BLOCK / 2 {
-        return put_run::<Stops>(out, at, bytes, size, 0);
+    if (out.len() - at) / 2 >= part.size + ROOM_FOR_BLOCK / 2 {
+        return put_run::<Stops>(out, at, part, 0);
     }
     Put { read: 0, end: at }
 }
@@ -283,64 +281,59 @@ fn put_if_room<Stops: ByteClass>(out: &mut [u8], at: usize, bytes: &[u8], size: 
 fn print_run<Stops: ByteClass>(
     out: &mut Vec<u8>,
     at: usize,
-    bytes: &[u8],
-    size: usize,
+    part: Part<'_>,
     from: usize,
 ) -> Result<Put, UnescapeError>
-    requires size { size ≤ length bytes.now }
-    requires from { from ≤ size }
+    requires from { from ≤ part.size }
     requires at { at ≤ length out.old.items }
     requires controls { (b : ℕ) → b < 0x20 → Stops.holds b ≡ true }
-    ensures run { IfOk result (λ put. IsRunPut Stops.holds out.old.items at (take size bytes.now) from put out.new.items) }
+    ensures run { IfOk result (λ put. IsRunPut Stops.holds out.old.items at (bytes_of part.entry) from put out.new.items) }
     ensures within { IfOk result (λ put. put.end ≤ length out.new.items) }
-    ensures onwards { IfOk result (λ put. from < size → Stops.holds (get_or (take size bytes.now) from 0) ≡ false → from < put.read) }
+    ensures onwards { IfOk result (λ put. from < part.entry.size → Stops.holds (get_or (bytes_of part.entry) from 0) ≡ false → from < put.read) }
     ensures refused { IsOkUnless result Memory }
     ensures same { take at out.new.items ≡ take at out.old.items }
     ensures longer { length out.old.items ≤ length out.new.items }
 {
-    let part = PART.min(size - from);
-    make_room(out, at, 2 * part + ROOM_FOR_BLOCK)?;
-    Ok(put_run::<Stops>(out, at, bytes, from + part, from))
+    let count = PART.min(part.size - from);
+    make_room(out, at, 2 * count + ROOM_FOR_BLOCK)?;
+    let front = Part {
+        bytes: part.bytes,
+        size: from + count,
+    };
+    Ok(put_run::<Stops>(out, at, front, from))
 }
 
 // Puts the text from index `from` on, up to a stop.
 #[inline(always)]
-fn put_run<Stops: ByteClass>(
-    out: &mut [u8],
-    at: usize,
-    bytes: &[u8],
-    size: usize,
-    from: usize,
-) -> Put
-    requires size { size ≤ length bytes.now }
-    requires from { from ≤ size }
-    requires room { at + (2 * (size - from) + 32) ≤ length out.old }
+fn put_run<Stops: ByteClass>(out: &mut [u8], at: usize, part: Part<'_>, from: usize) -> Put
+    requires from { from ≤ part.size }
+    requires room { at + (2 * (part.size - from) + 32) ≤ length out.old }
     requires controls { (b : ℕ) → b < 0x20 → Stops.holds b ≡ true }
     ensures same_room { length out.new ≡ length out.old }
-    ensures run { IsRunPut Stops.holds out.old at (take size bytes.now) from result out.new }
+    ensures run { IsRunPut Stops.holds out.old at (bytes_of part.entry) from result out.new }
     ensures within { result.end ≤ length out.new }
-    ensures stops { result.read < size → Stops.holds (get_or (take size bytes.now) result.read 0) ≡ true }
+    ensures stops { result.read < part.entry.size → Stops.holds (get_or (bytes_of part.entry) result.read 0) ≡ true }
 {
     let mut put = Put {
         read: from,
         end: at,
     };
-    if size - from >= FEW {
-        while put.read < size && bytes.len() - put.read >= 16 {
-            let v = u8x16::from_slice(&bytes[put.read..]);
-            let next = put_block::<Stops>(out, put, bytes, size, v);
+    if part.size - from >= FEW {
+        while put.read < part.size && part.bytes.len() - put.read >= 16 {
+            let v = u8x16::from_slice(&part.bytes[put.read..]);
+            let next = put_block::<Stops>(out, put, part, v);
             if next.read < put.read + 16 {
                 return next;
             }
             put = next;
         }
-        if size - put.read >= 8 {
-            let v = first_16(&bytes[put.read..]);
-            put = put_block::<Stops>(out, put, bytes, size, v);
+        if part.size - put.read >= 8 {
+            let v = first_16(&part.bytes[put.read..]);
+            put = put_block::<Stops>(out, put, part, v);
         }
     }
-    while put.read < size && !Stops::contains(bytes[put.read]) {
-        let end = put_byte(out, put.end, bytes[put.read]);
+    while put.read < part.size && !Stops::contains(part.bytes[put.read]) {
+        let end = put_byte(out, put.end, part.bytes[put.read]);
         put = Put {
             read: put.read + 1,
             end,
@@ -351,25 +344,18 @@ fn put_run<Stops: ByteClass>(
 
 // Puts the bytes of a block up to a stop.
 #[inline(always)]
-fn put_block<Stops: ByteClass>(
-    out: &mut [u8],
-    so_far: Put,
-    bytes: &[u8],
-    size: usize,
-    v: u8x16,
-) -> Put
-    requires size { size ≤ length bytes.now }
-    requires from { so_far.read ≤ size }
+fn put_block<Stops: ByteClass>(out: &mut [u8], so_far: Put, part: Part<'_>, v: u8x16) -> Put
+    requires from { so_far.read ≤ part.size }
     requires room { so_far.end + 32 ≤ length out.old }
     requires controls { (b : ℕ) → b < 0x20 → Stops.holds b ≡ true }
-    requires block { take (length bytes.now - so_far.read) (take 16 v) ≡ take 16 (drop so_far.read bytes.now) }
+    requires block { take (length part.bytes.now - so_far.read) (take 16 v) ≡ take 16 (drop so_far.read part.bytes.now) }
     ensures same_room { length out.new ≡ length out.old }
-    ensures run { IsRunPut Stops.holds out.old so_far.end (take size bytes.now) so_far.read result out.new }
-    ensures stops { result.read < so_far.read + 16 → result.read < size
-        → Stops.holds (get_or (take size bytes.now) result.read 0) ≡ true }
+    ensures run { IsRunPut Stops.holds out.old so_far.end (bytes_of part.entry) so_far.read result out.new }
+    ensures stops { result.read < so_far.read + 16 → result.read < part.entry.size
+        → Stops.holds (get_or (bytes_of part.entry) result.read 0) ≡ true }
     ensures block { result.read ≤ so_far.read + 16 }
 {
-    let kept = Stops::marks(v).clear_front().min(size - so_far.read);
+    let kept = Stops::marks(v).clear_front().min(part.size - so_far.read);
     let end = put_with_backslashes(out, so_far.end, v, kept);
     Put {
         read: so_far.read + kept,

@@ -1,7 +1,7 @@
 use Rattle.std.proofs.Common.{◌≤◌, length, refl, sym, ◌∙◌, arith}
 use Rattle.std.proofs.lemmas.List.{take_rest, drop_more}
 use Rattle.properties_text.proofs.PrintedTexts.Runs.{stop-put, put-run, stop-broken, run-byte, front-kept, run-kept}
-use Rattle.properties_text.proofs.print.text.put_stops.Goals as goal
+use Rattle.properties_text.proofs.print.runs.put_stops.Goals as goal
 
 pub returns-in-Err-clause-put : goal.returns-in-Err-clause-put
 returns-in-Err-clause-put g c =
@@ -15,7 +15,8 @@ loop-put-preserved-then-begins_with_stop g c =
     let put = c.put_printed-end in
     let first = rw (take_rest, drop_more c.args.text.now c.loop-put.put.read 0 c.loop-put-test.true) at c.begins_with_stop.ensures in
     let room : put.result ≤ length put.new.out = omega (arith, put.ensures.within, put.ensures.same_room, c.if-out-put-ge-LONGEST.true) in
-    let kept = front-kept c.loop-put.out put.new.out _ c.args.at c.loop-put.put.end put.result h.room (omega (arith, c.if-out-put-ge-LONGEST.true)) room put.ensures.put in
+    let kept = front-kept c.loop-put.out put.new.out _ c.args.at c.loop-put.put.end put.result h.room (omega (arith, c.if-out-put-ge-LONGEST.true)) room
+    put.ensures.put in
     record {
       same = put.ensures.same_room ∙ h.same;
       front = kept.1 ∙ h.front;

@@ -2,7 +2,7 @@ use Rattle.std.proofs.Common.{take, ap, ◌∙◌}
 use Rattle.std.proofs.lemmas.List.{with_items_is}
 use Rattle.properties_format.specs.Text.{backslash}
 use Rattle.properties_text.proofs.PrintedTexts.Runs.{stops-room}
-use Rattle.properties_text.proofs.print.text.print_stops.Goals as goal
+use Rattle.properties_text.proofs.print.runs.print_stops.Goals as goal
 
 pub returns-clause-put : goal.returns-clause-put
 returns-clause-put g c =

@@ -1,7 +1,7 @@
 use Rattle.std.proofs.Common.{◌∙◌, arith}
 use Rattle.std.proofs.lemmas.Result.{err_from_is_err_and}
 use Rattle.properties_text.proofs.PrintedTexts.Runs.{put-on, put-run, stops-refused, fewer-kept, run-kept, small-take}
-use Rattle.properties_text.proofs.print.text.print_rest.Goals as goal
+use Rattle.properties_text.proofs.print.runs.print_rest.Goals as goal
 
 pub loop-put-preserved : goal.loop-put-preserved
 loop-put-preserved g c =

@@ -1,5 +1,5 @@
 use Rattle.properties_text.proofs.PrintedTexts.Runs.{reads-itself}
-use Rattle.properties_text.proofs.print.text.first_character.Goals as goal
+use Rattle.properties_text.proofs.print.runs.first_character.Goals as goal
 
 pub returns : goal.returns
 returns g c =

@@ -1,7 +1,7 @@
 use Rattle.std.proofs.Common.{◌≡◌, ◌-◌, ◌≤◌, take, length}
 use Rattle.properties_format.specs.Text.{backslash}
 use Rattle.properties_text.specs.PrintedTexts.{ArePut, from_on}
-use Rattle.properties_text.proofs.print.text.print_rest.Given as goal
+use Rattle.properties_text.proofs.print.runs.print_rest.Given as goal
 
 abbrev pub invariant-loop-put : goal.invariant-loop-put
 invariant-loop-put g l = record {

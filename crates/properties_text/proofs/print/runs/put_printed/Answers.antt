@@ -1,6 +1,6 @@
 use Rattle.std.proofs.Common.{sym, ◌∙◌, ltb-true}
 use Rattle.properties_text.proofs.PrintedTexts.Steps.{put-ascii}
-use Rattle.properties_text.proofs.print.text.put_printed.Goals as goal
+use Rattle.properties_text.proofs.print.runs.put_printed.Goals as goal
 
 pub returns-then-is_ascii-clause-put : goal.returns-then-is_ascii-clause-put
 returns-then-is_ascii-clause-put c =

@@ -1,7 +1,7 @@
 use Rattle.std.proofs.Common.{◌≡◌, ◌-◌, ◌≤◌, length, take}
 use Rattle.properties_format.specs.Text.{backslash}
 use Rattle.properties_text.specs.PrintedTexts.{ArePut, from_on}
-use Rattle.properties_text.proofs.print.text.put_stops.Given as goal
+use Rattle.properties_text.proofs.print.runs.put_stops.Given as goal
 
 abbrev pub invariant-loop-put : goal.invariant-loop-put
 invariant-loop-put g l = record {
