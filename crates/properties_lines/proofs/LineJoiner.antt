@@ -11,7 +11,7 @@ use Rattle.properties_format.specs.Lines.{InputEnd, end, fault, more}
 use Rattle.properties_format.specs.Groups.{is_open, is_comment_line, addition, without_open_backslash, joined, joined_after}
 use Rattle.properties_format.specs.Groups.{AreOpen, EndsClosed, IsWhole, IsUnfinished}
 use Rattle.properties_format.specs.Entries.{Entry, read_fault}
-use Rattle.properties_format.specs.ItemsToCome.{ReaderState}
+use Rattle.properties_format.specs.ItemsToCome.{ReaderState, PassesSome, PassesAll, IsLazyItems}
 use Rattle.properties_format.specs.Computed.Items.{outcome_of, followed}
 use Rattle.properties_format.specs.Computed.ItemsToCome.{items_to_come, natural_to_come, last_to_come, entries_pending, entries_of_logical, logical_pending}
 use Rattle.properties_format.specs.Computed.Logical.{logical, logical_lines, joins_after}
@@ -19,18 +19,19 @@ use Rattle.properties_format.specs.Computed.ReaderSteps.{Gives, ReadsLines}
 use Rattle.properties_format.proofs.Groups.Joined.{joined-comment_line, joined-closed, joined-unmarked, joined_after-append}
 use Rattle.properties_format.proofs.Groups.Logical.{joins_after-open}
 use Rattle.properties_format.proofs.Groups.Only.{groups_of-before, groups_of-unfinished}
+use Rattle.properties_format.proofs.ItemsToCome.Divisions.{are_to_come, lines_come_first, first_lines_come}
 use Rattle.properties_format.proofs.ItemsToCome.Entries.{gives-on, pending-done, items_to_come-pending}
 use Rattle.properties_format.proofs.ItemsToCome.Lines.{natural-done}
 use Rattle.properties_format.proofs.ItemsToCome.Steps.{lines-start, lines-on, on-start, on-open}
 use Rattle.properties_text.specs.Escaping.{holds_backslash}
-use Rattle.properties_lines.specs.LineReader.{LineReading, Finds, FindsNext, Passes, PassesSome, PassesAll, IsLazy, HasRightLineFlags, FindsError, found_line}
+use Rattle.properties_lines.specs.LineReader.{LineReading, Finds, FindsNext, Passes, IsLazy, HasRightLineFlags, FindsError, found_line}
 use Rattle.properties_text.specs.Encoding.{line_of}
 use Rattle.properties_text.specs.Spelt.{text_in, IsWell}
 use Rattle.properties_text.specs.declared.encoding.line.LineEncoding.{LineEncoding}
 use Rattle.properties_lines.specs.LogicalLine.{bytes_at, bytes_with, is_natural, IsLineIn, HasText, IsTextOf, IsNotContinued, OpensJoin, unfinished_text}
 use Rattle.properties_lines.specs.declared.logical.Place.{Place}
 use Rattle.properties_lines.specs.declared.logical.Place.TheVariants.{Natural, Decoded, Joined}
-use Rattle.properties_lines.specs.LineJoiner.{line_text, join_of, numbered_bytes, EndJoin, IsLazyJoin, IsLazyItems, GoesOn, JoinsAll, JoinError, JoinsNone, JoinsOn}
+use Rattle.properties_lines.specs.LineJoiner.{line_text, join_of, numbered_bytes, EndJoin, IsLazyJoin, GoesOn, JoinsAll, JoinError, JoinsNone, JoinsOn}
 use Rattle.properties_lines.specs.LineJoiner.{LineJoining, Comes, Joins, Advances, JoinsNoLine, JoinsBytes, JoinsGroup, JoinsLine, JoinsError, ReadsWhole, ReadsNone, ReadsRest}
 use Rattle.properties_lines.specs.declared.error.LineError.TheVariants as why
 use Rattle.properties_lines.specs.declared.error.LineError.{LineError}
@@ -61,10 +62,10 @@ pending-broken (Some join) s d entry h k = ap₂ (λ v w. entries_of_logical (lo
 -- ---- the lines that are passed
 
 pub some-start : (s : ReaderState) → PassesSome s [] s
-some-start s = record { lines = []; reads = lines-start s }
+some-start s = record { lines = []; first = lines_come_first (lines-start s) }
 
 pub some-on : {s t u : ReaderState} {r q : List ℕ} → PassesSome s r t → PassesSome t q u → PassesSome s (r ++ q) u
-some-on h k = record { lines = h.lines ++ k.lines; reads = lines-on h.reads k.reads }
+some-on h k = record { lines = h.lines ++ k.lines; first = lines_come_first (lines-on (first_lines_come h.first) (first_lines_come k.first)) }
 
 -- those that came, where the reading goes on
 passes-live : {s t : ReaderState} {r : List ℕ} {lines : List format.Line} → Passes s r lines t → t.is_done ≡ false → ReadsLines s r lines t
@@ -72,7 +73,7 @@ passes-live (Passes.going_on f reads) g = reads
 passes-live (Passes.at_last f gives) g = absurd (cc)
 
 pub some-come : {s t : ReaderState} {r : List ℕ} {lines : List format.Line} → Passes s r lines t → t.is_done ≡ false → PassesSome s r t
-some-come {lines = lines} p g = record { lines = lines; reads = passes-live p g }
+some-come {lines = lines} p g = record { lines = lines; first = lines_come_first (passes-live p g) }
 
 -- no number is left after them
 pub all-on : {s t : ReaderState} {r q : List ℕ} → PassesSome s r t → PassesAll t q → PassesAll s (r ++ q)
@@ -360,7 +361,7 @@ join-group {s = s} {t} {u} {r = r} l p c o j = record {
 
 lazy-items : {R : Type 0} {from to : R} {r : List ℕ} (s : ReaderState) → IsLazy s from r to → IsLazyItems s from r to
 lazy-items s (inl h) = inl h
-lazy-items s (inr h) = inr (items_to_come-pending s [] more ∙ pending-lazy None s h)
+lazy-items s (inr h) = inr (are_to_come (items_to_come-pending s [] more ∙ pending-lazy None s h))
 
 module _ {R : Type 0} {reader : Reader R} where
   -- the line is a logical line
@@ -387,11 +388,11 @@ module _ {R : Type 0} {reader : Reader R} where
           → ((first : ℕ) → entries_pending (join_of first (without_open_backslash (line_text mid))) mid.state [] more ≡ [])
           → IsLazyItems s from (n.bytes ++ q) next
       by-passes e k (Passes.going_on f reads) none =
-          inr (ap (λ v. items_to_come s (v ++ []) more) (sym e) ∙ (on-open (on-start s) reads c o).items [] more ∙ none number)
+          inr (are_to_come (ap (λ v. items_to_come s (v ++ []) more) (sym e) ∙ (on-open (on-start s) reads c o).items [] more ∙ none number))
       by-passes e k (Passes.at_last f gives) none = let i = idle f in inl (i.1 ∙ k, ap₂ (λ v w. v ++ w) e i.0)
 
       by-find : IsLazy s from n.bytes to → IsLazyItems s from (n.bytes ++ q) next
-      by-find (inr none) = inr (items_to_come-pending s [] more ∙ pending-lazy None s none)
+      by-find (inr none) = lazy-items s (inr none)
       by-find (inl h) = elim lazy [
         | inl k ↦ inl (k.0 ∙ h.0, ap₂ (λ v w. v ++ w) h.1 k.1)
         | inr k ↦ by-passes h.1 h.0 n.passes k

@@ -1,23 +1,11 @@
 -- Which lines of undecoded bytes are continued.
-use Rattle.std.proofs.Common.{◌≡◌, ℕ, ◌<◌, ◌≤◌, ◌+◌, ◌-◌, Bool, true, false, not, if◌then◌else◌, List, [], ◌∷◌, length, take, drop, get_or, refl, sym, ap, ◌∙◌, inl, inr, arith, length-append}
+use Rattle.std.proofs.Common.{◌≡◌, ℕ, ◌<◌, ◌+◌, ◌-◌, Bool, true, false, not, if◌then◌else◌, List, [], ◌∷◌, length, take, refl, sym, ap, ◌∙◌, inl, inr, arith, length-append}
 use Rattle.std.proofs.lemmas.Bool.{cases_Bool}
-use Rattle.std.proofs.lemmas.List.{drop_more, drop_all}
 use Rattle.std.proofs.Math.Seq.{take-append_seam}
-use Rattle.properties_format.specs.Text.{backslash, is_blank, is_comment_sign, without_leading_blanks}
-use Rattle.properties_format.specs.Groups.{is_open, is_comment_line, begins_with_comment_sign, without_last, without_open_backslash}
+use Rattle.properties_format.specs.Text.{backslash, is_blank, without_leading_blanks}
+use Rattle.properties_format.specs.Groups.{is_open, is_comment_line, without_last, without_open_backslash}
 use Rattle.properties_format.proofs.Groups.Open.{is_open-after, blank-other, open-ends}
 use Rattle.properties_lines.specs.LogicalLine.{is_continued, IsNotContinued}
-
--- ---- comment lines
-
--- the test by the first byte that isn't a blank
-pub comment-first : (bs : List ℕ) (start : ℕ) → drop start bs ≡ without_leading_blanks bs → start < length bs
-    → is_comment_line bs ≡ is_comment_sign (get_or bs start 0)
-comment-first bs start e l = ap begins_with_comment_sign (sym e) ∙ ap begins_with_comment_sign (drop_more bs start 0 l)
-
--- the test if there is no such byte
-pub comment-blank : (bs : List ℕ) (start : ℕ) → drop start bs ≡ without_leading_blanks bs → length bs ≤ start → is_comment_line bs ≡ false
-comment-blank bs start e l = ap begins_with_comment_sign (sym e) ∙ ap begins_with_comment_sign (drop_all start bs l)
 
 -- ---- open lines
 

@@ -33,8 +33,8 @@ use Rattle.properties_lines.specs.Scanner.{scanner_state, HasRightFlags, EndsWho
 use Rattle.properties_lines.specs.Scanner.{after_cr}
 use Rattle.properties_lines.specs.Private.PlainEnds.{is_plain_end}
 use Rattle.properties_lines.specs.declared.search.LineEnd.{LineEnd}
-use Rattle.properties_lines.specs.declared.scanner.BlockSearch.{BlockSearch}
-use Rattle.properties_lines.specs.declared.scanner.BlockSearch.TheVariants.{Found, Searched}
+use Rattle.properties_lines.specs.declared.search.BlockSearch.{BlockSearch}
+use Rattle.properties_lines.specs.declared.search.BlockSearch.TheVariants.{Found, Searched}
 use Rattle.properties_lines.specs.declared.scanner.Front.{Front}
 use Rattle.properties_lines.specs.declared.scanner.Front.TheVariants.{Feed, Nothing}
 use Rattle.properties_lines.specs.declared.scanner.RawLine.{RawLine}

@@ -339,24 +339,6 @@ tested-scan old new held ended w scan.TooMany f t g = subst (λ v. IsTested v he
 
 -- ---- the end, and reading on
 
--- The reading ended.
-pub tested-ended : (s : Scanner) (held : List ℕ) (w : ℕ) → IsTested s held w → IsTested (record s { is_done = true }) held w
-tested-ended s held w t = record {
-  within = t.within;
-  known = t.known;
-  fresh = t.fresh;
-  text = λ d is.
-      let k = t.text d is in
-      record {
-        ahead = k.ahead;
-        line = k.line;
-        around = elim k.around [
-          | inl empty ↦ inl empty
-          | inr a ↦ inr (record { order = a.order; within = a.within; ascii = a.ascii; ends = elim a.ends [ inl x ↦ inl x | inr x ↦ inr (x.0, refl) ] })
-        ];
-      };
-}
-
 -- Bytes at the front were let go.
 pub tested-left : (s new : Scanner) (held rest : List ℕ) (gone w : ℕ) → IsTested s held w → gone ≤ s.at → new ≡ release s gone → rest ≡ drop gone held
     → IsTested new rest (w - gone)
@@ -479,11 +461,6 @@ known-text s held w e false t d is same l h = absurd (omega (arith, l, h refl))
 
 -- ---- the invariant of a reader
 
--- At the end of the reading.
-pub kept-ended : (s new : Scanner) (held : List ℕ) (w : ℕ) → Fits s held → IsTested s held w → new ≡ record s { is_done = true }
-    → Fits new held × (new.is_done ≡ true) × IsTested new held w
-kept-ended s new held w f t is = rw is (record { within = f.within; searched = f.searched; fresh = f.fresh; line = f.line }, refl, tested-ended s held w t)
-
 -- A scan leaves a scanner that fits.
 pub fits-scan : (old new : Scanner) (held : List ℕ) (ended : Bool) (answer : Scan) → Fits old held → Scans old held ended answer new → Fits new held
 fits-scan old new held ended scan.Line f g = g.fits
@@ -497,12 +474,6 @@ done-scan old new held ended scan.Line d g = let l = g.live in absurd (cc)
 done-scan old new held ended scan.More d g = let l = g.1.live in absurd (cc)
 done-scan old new held ended scan.End d g = ap (λ v. let x : Scanner = v in x.is_done) g.1 ∙ d
 done-scan old new held ended scan.TooMany d g = let l = g.0 in absurd (cc)
-
--- At the start.
-pub tested-new : (s : Scanner) (held : List ℕ) → (s.line.start ≡ 0) × (s.line.end ≡ 0) → IsTested s held 0
-tested-new s held z =
-    let empty : s.line.start ≡ s.line.end = omega (arith, z.0, z.1) in
-    record { within = omega arith; known = λ h. absurd (omega (arith, h)); fresh = λ u. empty; text = λ d e. empty-text s held 0 refl empty }
 
 -- Without the bytes of the last line it is empty.
 pub released-empty : (s new : Scanner) (gone : ℕ) → new ≡ release s gone → new.line.start ≡ new.line.end

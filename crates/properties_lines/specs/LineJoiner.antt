@@ -8,14 +8,14 @@ use Rattle.properties_format.specs.Lines.{end, fault, more}
 use Rattle.properties_format.specs.Groups.{is_open, joined, joined_after, AreOpen, EndsClosed, IsWhole, IsUnfinished}
 use Rattle.properties_format.specs.Computed.Cut.{decoded_line}
 use Rattle.properties_format.specs.Entries.{read_fault}
-use Rattle.properties_format.specs.ItemsToCome.{ReaderState}
+use Rattle.properties_format.specs.ItemsToCome.{ReaderState, PassesSome, PassesAll, IsLazyItems}
 use Rattle.properties_format.specs.Computed.Items.{outcome_of, followed}
 use Rattle.properties_format.specs.Computed.ItemsToCome.{items_to_come, entries_pending}
 use Rattle.properties_format.specs.Computed.ReaderSteps.{ReadsLogical}
 use Rattle.properties_text.specs.Escaping.{holds_backslash}
 use Rattle.properties_text.specs.Spelt.{text_in, IsWell}
 use Rattle.properties_text.specs.declared.encoding.line.LineEncoding.{LineEncoding}
-use Rattle.properties_lines.specs.LineReader.{LineReading, FindsNext, Passes, PassesSome, PassesAll}
+use Rattle.properties_lines.specs.LineReader.{LineReading, FindsNext, Passes}
 use Rattle.properties_lines.specs.Scanner.{KeepsEncoding}
 use Rattle.properties_lines.specs.LogicalLine.{bytes_with, is_natural}
 use Rattle.properties_lines.specs.declared.logical.LogicalLine.{LogicalLine}
@@ -49,10 +49,6 @@ abbrev pub line_text : LineReading → List ℕ
 line_text lines = decoded_line lines.state.encoding lines.line
 
 -- ---- logical lines
-
--- Nothing was read; or the bytes already held determined no item, so a read was needed.
-abbrev pub IsLazyItems : {R : Type 0} → ReaderState → R → List ℕ → R → Type 0
-IsLazyItems old from bytes to = ((to ≡ from) × (bytes ≡ [])) ⊎ (items_to_come old [] more ≡ [])
 
 -- The bytes that were read give this logical line first, whatever comes after them; or it is the last line, and the
 -- input ended.

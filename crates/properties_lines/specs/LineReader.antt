@@ -113,18 +113,6 @@ pub data Passes (old : ReaderState) (bytes : List ℕ) (lines : List format.Line
   going_on : new.is_done ≡ false → ReadsLines old bytes lines new → Passes old bytes lines new
   at_last : new.is_done ≡ true → Gives old bytes lines new [] end → Passes old bytes lines new
 
--- These bytes have some lines at their front. Whatever comes after them, the old state continues after those lines as
--- the new one does.
-pub record PassesSome (old : ReaderState) (bytes : List ℕ) (new : ReaderState) : Type 0 where
-  pub lines : List format.Line
-  pub reads : ReadsLines old bytes lines new
-
--- The bytes hold so many lines that no number is left for another: as many are passed as there are numbers.
-pub record PassesAll (old : ReaderState) (bytes : List ℕ) : Type 0 where
-  pub last : ReaderState
-  pub passes : PassesSome old bytes last
-  pub passed : last.passed + 1 ≡ 2 ^ 64
-
 -- the line that was found, decoded, with this number
 abbrev pub found_line : ℕ → LineReading → format.Line
 found_line number lines = record { number = number; text = characters (pieces_of lines.state.encoding lines.line) }

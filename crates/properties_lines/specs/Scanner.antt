@@ -20,8 +20,8 @@ use Rattle.properties_text.specs.Escaping.{holds_backslash}
 use Rattle.properties_text.specs.declared.encoding.byte_order_mark.ByteOrderMark.{ByteOrderMark}
 use Rattle.properties_text.specs.declared.encoding.byte_order_mark.ByteOrderMark.TheVariants.{Present, Absent, Undecided}
 use Rattle.properties_lines.specs.LineSearch.{unit_size, whole_units, IsSearched}
-use Rattle.properties_lines.specs.declared.scanner.BlockSearch.{BlockSearch}
-use Rattle.properties_lines.specs.declared.scanner.BlockSearch.TheVariants.{Found, Searched}
+use Rattle.properties_lines.specs.declared.search.BlockSearch.{BlockSearch}
+use Rattle.properties_lines.specs.declared.search.BlockSearch.TheVariants.{Found, Searched}
 use Rattle.properties_lines.specs.declared.scanner.Front.{Front}
 use Rattle.properties_lines.specs.declared.scanner.Front.TheVariants.{Mark, Feed, Nothing}
 use Rattle.properties_lines.specs.declared.scanner.RawLine.{RawLine}

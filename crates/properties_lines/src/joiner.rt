@@ -1,6 +1,7 @@
 // Joins natural lines into logical lines.
 
 ghost use Rattle.std.specs.Prelude.{◌≡◌, ◌<◌, ◌≤◌, ◌^◌, true, false, None, [], OnSome, length};
+ghost use Rattle.std.specs.Result.{result_err};
 ghost use Rattle.std.specs.Str.{IsUtf8, chars};
 ghost use Rattle.counted_io.specs.Streams.{IsSameReader};
 ghost use Rattle.properties_format.specs.ItemsToCome.{start};
@@ -12,8 +13,8 @@ ghost use Rattle.properties_lines.specs.LogicalLine.{BeginsWith, IsSound, IsUnfi
 ghost use Rattle.properties_lines.specs.LineJoiner.{LineJoining, Joins, Advances, JoinsOn, ReadsRest};
 ghost use Rattle.properties_lines.specs.declared.logical.Place.TheVariants.{Joined};
 
+use crate::continuation::is_open;
 use crate::error::LineError;
-use crate::join::is_open;
 use crate::logical::LogicalLine;
 use crate::reader::LineReader;
 use counted_io::CountedRead;
@@ -25,7 +26,7 @@ use std::marker::Model;
 /// Joins the natural lines of an input into its logical lines, one after another.
 ///
 /// A logical line of one natural line is borrowed from the input, unless it must be decoded. An error is kept until
-/// [`take_error`](LineJoiner::take_error) returns it.
+/// [`finish`](LineJoiner::finish) returns it.
 #[derive(Drop)]
 pub struct LineJoiner {
     lines: LineReader,
@@ -90,8 +91,8 @@ impl LineJoiner {
         )
     }
 
-    /// Does what [`next_line`](LineJoiner::next_line) does, and decodes the line, so that [`line`](LineJoiner::line) may
-    /// be called.
+    /// Does what [`next_line`](LineJoiner::next_line) does, and decodes the line, so that [`line`](LineJoiner::line)
+    /// may be called.
     #[inline(always)]
     pub fn next_text<R: CountedRead>(&mut self, reader: &mut R) -> Option<usize>
         ensures joins { Joins R.CountedRead self.old reader.old result self.new reader.new }
@@ -113,7 +114,8 @@ impl LineJoiner {
         }
     }
 
-    /// Returns the bytes of the logical line that was joined last, and others after it.
+    /// Returns a slice that begins with the logical line that was joined last. The bytes after it are padding, so that
+    /// blocks of bytes may be read.
     #[inline(always)]
     pub fn with_room(&self) -> &[u8]
         ensures { BeginsWith self.now.at.line result.now }
@@ -161,12 +163,15 @@ impl LineJoiner {
         self.lines.end();
     }
 
-    /// Returns the error that ended the reading, if there is one and it wasn't returned before.
-    pub fn take_error(&mut self) -> Option<LineError>
-        ensures error { result ≡ self.old.error }
+    /// Fails with the error that ended the reading, if there is one and it wasn't returned before.
+    pub fn finish(&mut self) -> Result<(), LineError>
+        ensures error { result_err result ≡ self.old.error }
         ensures taken { self.new ≡ record self.old { error = None } }
     {
-        self.lines.take_error()
+        match self.lines.take_error() {
+            None => Ok(()),
+            Some(error) => Err(error),
+        }
     }
 }
 

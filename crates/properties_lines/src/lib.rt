@@ -7,9 +7,9 @@
 //! why the next line can't be returned.
 #![tactic(auto)]
 
+pub mod continuation;
 pub mod error;
 mod input;
-pub mod join;
 pub mod joiner;
 pub mod logical;
 pub mod reader;

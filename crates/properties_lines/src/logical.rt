@@ -10,7 +10,7 @@ ghost use Rattle.properties_text.specs.declared.encoding.line.LineEncoding.TheVa
 ghost use Rattle.properties_lines.specs.LogicalLine.{is_natural, bytes_at, bytes_with, BeginsWith, IsSound, IsTextOf, TellsLine, Begins, AddsLine, IsUnfinished};
 ghost use Rattle.properties_lines.specs.declared.logical.Place.TheVariants.{Natural, Decoded, Joined};
 
-use crate::join::{begin_bytes, join_bytes};
+use crate::continuation::{begin_bytes, join_bytes};
 use properties_text::encoding::{Encoding, LineEncoding, TextBuffer, as_text};
 use properties_text::print::LineBuffer;
 use std::alloc::{AllocError, Global};
@@ -128,7 +128,8 @@ impl LogicalLine {
     }
 
     /// Makes this the natural line with these bytes, and returns whether the next line is joined to it. If so, the
-    /// backslash that leaves it open is removed. `is_line` says whether the bytes are in windows-1252 or well-formed UTF-8.
+    /// backslash that leaves it open is removed. `is_line` says whether the bytes are in windows-1252 or well-formed
+    /// UTF-8.
     pub fn begin(
         &mut self,
         encoding: Encoding,

@@ -216,7 +216,7 @@ impl LineReader {
         ensures nearer { result ≡ true → lines_left self.new.state < lines_left self.old.state }
         ensures fits { self.old.state.passed < 2 ^ 64 }
     {
-        // It tells the prover that the number fits a `usize`.
+        // Proof only: the number fits a `usize`.
         let _number = self.number();
         match self.scan(false) {
             Scan::Line => true,
@@ -265,7 +265,7 @@ impl LineReader {
         ensures same_reader { IsSameReader R.CountedRead reader.old reader.new }
         ensures fits { self.old.waiting < 2 ^ 64 }
     {
-        // It tells the prover that a length fits a `usize`.
+        // Proof only: the length fits a `usize`.
         let _length = self.input.held().len();
         let Ok(gone) = self.input.make_room(self.scanner.place()) else {
             self.fail(LineError::Memory);

@@ -11,17 +11,17 @@ ghost use Rattle.properties_text.specs.Encoding.{encoding_of};
 ghost use Rattle.properties_text.specs.Decoding.{FindsByteOrderMark};
 ghost use Rattle.properties_text.specs.Escaping.{holds_backslash};
 ghost use Rattle.properties_lines.specs.LineSearch.{unit_size, IsFirstLineEnd};
-ghost use Rattle.properties_lines.specs.Private.PlainEnds.{is_plain_end};
 ghost use Rattle.properties_lines.specs.Scanner.{Fits, Scans, SkipsFront, SkipsFeed, IsReady, IsFresh, IsBefore, FindsByte, Searches, TellsBackslash, TakesLine, TakesLast, scanner_state, is_undecided};
 ghost use Rattle.properties_lines.specs.declared.scanner.Front.TheVariants.{Mark, Nothing};
 
-use crate::search::{LineEnd, find_line_end, unit_size, whole_units};
-use byte_blocks::{ByteClass, LineEnds, Marks, PastAscii, table_marks};
+use crate::search::{
+    BlockSearch, LineEnd, PlainEnds, find_line_end, search_blocks, unit_size, whole_units,
+};
+use byte_blocks::LineEnds;
 use properties_text::characters::is_line_end;
 use properties_text::encoding::byte_order_mark::{ByteOrderMark, byte_order_mark};
 use properties_text::encoding::{Encoding, is_ascii};
 use properties_text::escape::has_backslash;
-use std::simd::prelude::*;
 
 /// The result of a scan.
 #[derive(Clone, Copy)]
@@ -58,15 +58,6 @@ pub struct RawLine {
     pub is_ascii: bool,
     /// Whether one of its bytes is the byte of a backslash.
     pub has_backslash: bool,
-}
-
-// The result of a search among blocks of bytes.
-#[derive(Clone, Copy)]
-enum BlockSearch {
-    // This many bytes come before the byte that was sought. `is_ascii` says whether they are ASCII.
-    Found { size: usize, is_ascii: bool },
-    // It isn't among this many bytes at the front.
-    Searched(usize),
 }
 
 /// The state of a scan between two lines. The bytes that are held are passed to each call that needs them.
@@ -206,19 +197,19 @@ impl Scanner {
         if let Front::Nothing = self.front {
             return true;
         }
-        self.skip_mark_or_feed(held, ended)
+        self.skip_byte_order_mark_or_feed(held, ended)
     }
 
     #[inline(never)]
     #[tactic(auto, using(crate::proofs::ScannerFront::skips_feed))]
-    fn skip_mark_or_feed(&mut self, held: &[u8], ended: bool) -> bool
+    fn skip_byte_order_mark_or_feed(&mut self, held: &[u8], ended: bool) -> bool
         requires fits { Fits self.old held.now }
         requires live { self.old.is_done ≡ false }
         ensures { SkipsFront self.old held.now ended result self.new }
     {
         match self.front {
             Front::Nothing => true,
-            Front::Mark => self.skip_mark(held, ended),
+            Front::Mark => self.skip_byte_order_mark(held, ended),
             Front::Feed => {
                 self.front = Front::Nothing;
                 self.skip_feed(held, unit_size(self.encoding), ended)
@@ -227,7 +218,7 @@ impl Scanner {
     }
 
     // Skips the byte order mark, if there is one. Returns `false` if more bytes are needed to decide.
-    fn skip_mark(&mut self, held: &[u8], ended: bool) -> bool
+    fn skip_byte_order_mark(&mut self, held: &[u8], ended: bool) -> bool
         requires fits { Fits self.old held.now }
         requires live { self.old.is_done ≡ false }
         requires mark { self.old.front ≡ Mark }
@@ -237,12 +228,12 @@ impl Scanner {
         if !ended && is_undecided(mark) {
             return false;
         }
-        self.take_mark(held, mark);
+        self.take_byte_order_mark(held, mark);
         true
     }
 
     // Skips this byte order mark, if it is one.
-    fn take_mark(&mut self, held: &[u8], mark: ByteOrderMark)
+    fn take_byte_order_mark(&mut self, held: &[u8], mark: ByteOrderMark)
         requires fits { Fits self.old held.now }
         requires front { self.old.front ≡ Mark }
         requires tells { FindsByteOrderMark (drop self.old.at held.now) mark }
@@ -250,7 +241,7 @@ impl Scanner {
         ensures within { self.new.at ≤ length held.now }
         ensures same { self.new ≡ record self.old { encoding = self.new.encoding; front = Nothing; at = self.new.at } }
     {
-        // It tells the prover that a length fits a `usize`.
+        // Proof only: the length fits a `usize`.
         let _length = held.len();
         if let ByteOrderMark::Present(encoding, length) = mark {
             self.encoding = encoding;
@@ -422,49 +413,6 @@ impl Scanner {
         self.passed += 1;
         self.at = next;
     }
-}
-
-// CR, LF and the backslash.
-struct PlainEnds;
-
-static PLAIN_ENDS: [u8; 16] = [1, 0, 0, 0, 0, 0, 0, 0, 0, 0, b'\n', 0, b'\\', b'\r', 0, 0];
-
-impl ByteClass for PlainEnds {
-    ghost holds = { is_plain_end };
-
-    #[inline(always)]
-    fn marks(block: u8x16) -> Marks {
-        table_marks(block, PLAIN_ENDS)
-    }
-
-    #[inline(always)]
-    fn contains(byte: u8) -> bool {
-        matches!(byte, b'\n' | b'\r' | b'\\')
-    }
-}
-
-// Finds the first byte of the class, sixteen bytes at a time, until fewer than sixteen are left.
-#[inline(always)]
-fn search_blocks<C: ByteClass>(bytes: &[u8], from: usize, is_ascii_before: bool) -> BlockSearch
-    requires { IsBefore C.holds bytes.now from is_ascii_before }
-    ensures { FindsByte C.holds bytes.now result }
-{
-    let mut at = from;
-    let mut is_ascii = is_ascii_before;
-    while bytes.len() - at >= 16 {
-        let v = u8x16::from_slice(&bytes[at..]);
-        let past = PastAscii::marks(v);
-        if let Some(first) = C::marks(v).first() {
-            let is_ascii = is_ascii && past.is_clear_before(first);
-            return BlockSearch::Found {
-                size: at + first,
-                is_ascii,
-            };
-        }
-        is_ascii = is_ascii && past.is_clear();
-        at += 16;
-    }
-    BlockSearch::Searched(at)
 }
 
 // Returns whether the bytes are ASCII characters of one byte each.

@@ -5,10 +5,13 @@ ghost use Rattle.properties_format.specs.Lines.{HoldsNoLineEnd};
 ghost use Rattle.properties_text.specs.Encoding.{encoding_of};
 ghost use Rattle.properties_lines.specs.LineSearch.{unit_size, whole_units, IsSearched, IsLineEndUnit};
 ghost use Rattle.properties_lines.specs.LineSearch.{FindsLineEnd, FindsLineEndByte};
+ghost use Rattle.properties_lines.specs.Private.PlainEnds.{is_plain_end};
+ghost use Rattle.properties_lines.specs.Scanner.{FindsByte, IsBefore};
 
-use byte_blocks::{LineEnds, find};
+use byte_blocks::{ByteClass, LineEnds, Marks, PastAscii, find, table_marks};
 use memchr::memchr2;
 use properties_text::encoding::Encoding;
+use std::simd::prelude::*;
 
 /// The position of a line ending among undecoded bytes.
 #[derive(Clone, Copy, Debug, PartialEq, Eq)]
@@ -17,6 +20,15 @@ pub struct LineEnd {
     pub at: usize,
     /// Whether it is a CR. An LF after it may belong to the same line ending.
     pub is_cr: bool,
+}
+
+// The result of a search among blocks of bytes.
+#[derive(Clone, Copy)]
+pub(crate) enum BlockSearch {
+    // This many bytes come before the byte that was sought. `is_ascii` says whether they are ASCII.
+    Found { size: usize, is_ascii: bool },
+    // It isn't among this many bytes at the front.
+    Searched(usize),
 }
 
 /// Returns the number of bytes in a unit.
@@ -96,4 +108,51 @@ fn line_end_unit(encoding: Encoding, first: u8, second: u8) -> Option<bool>
         (Encoding::UTF_16LE, b'\r', 0) | (Encoding::UTF_16BE, 0, b'\r') => Some(true),
         _ => None,
     }
+}
+
+// CR, LF and the backslash.
+pub(crate) struct PlainEnds;
+
+static PLAIN_ENDS: [u8; 16] = [1, 0, 0, 0, 0, 0, 0, 0, 0, 0, b'\n', 0, b'\\', b'\r', 0, 0];
+
+impl ByteClass for PlainEnds {
+    ghost holds = { is_plain_end };
+
+    #[inline(always)]
+    fn marks(block: u8x16) -> Marks {
+        table_marks(block, PLAIN_ENDS)
+    }
+
+    #[inline(always)]
+    fn contains(byte: u8) -> bool {
+        matches!(byte, b'\n' | b'\r' | b'\\')
+    }
+}
+
+// Finds the first byte of the class, sixteen bytes at a time, until fewer than sixteen are left.
+#[inline(always)]
+pub(crate) fn search_blocks<C: ByteClass>(
+    bytes: &[u8],
+    from: usize,
+    is_ascii_before: bool,
+) -> BlockSearch
+    requires { IsBefore C.holds bytes.now from is_ascii_before }
+    ensures { FindsByte C.holds bytes.now result }
+{
+    let mut at = from;
+    let mut is_ascii = is_ascii_before;
+    while bytes.len() - at >= 16 {
+        let v = u8x16::from_slice(&bytes[at..]);
+        let past = PastAscii::marks(v);
+        if let Some(first) = C::marks(v).first() {
+            let is_ascii = is_ascii && past.is_clear_before(first);
+            return BlockSearch::Found {
+                size: at + first,
+                is_ascii,
+            };
+        }
+        is_ascii = is_ascii && past.is_clear();
+        at += 16;
+    }
+    BlockSearch::Searched(at)
 }

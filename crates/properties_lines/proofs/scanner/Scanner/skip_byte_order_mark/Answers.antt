@@ -1,8 +1,8 @@
 use Rattle.std.proofs.Common.{drop, refl, sym, ◌∙◌}
 use Rattle.std.proofs.lemmas.List.{take_rest}
 use Rattle.properties_lines.proofs.ScannerFront.{awaits-mark, mark-undecided, mark-decided, skips-mark}
-use Rattle.properties_lines.proofs.scanner.Scanner.skip_mark.Goals as goal
-use Rattle.properties_lines.proofs.scanner.Scanner.skip_mark.Goals.{else-not-ended-via-then-not-ended+else-is_undecided, else-not-ended-via-else-not-ended}
+use Rattle.properties_lines.proofs.scanner.Scanner.skip_byte_order_mark.Goals as goal
+use Rattle.properties_lines.proofs.scanner.Scanner.skip_byte_order_mark.Goals.{else-not-ended-via-then-not-ended+else-is_undecided, else-not-ended-via-else-not-ended}
 
 pub returns-then-is_undecided : goal.returns-then-is_undecided
 returns-then-is_undecided c =
@@ -17,8 +17,8 @@ returns c =
     let s = c.args.self.now in
     let rest = drop s.at c.args.held.now in
     let tells = rw (take_rest c.args.held.now s.at) at c.byte_order_mark-mark.ensures in
-    let took = c.take_mark.ensures in
-    skips-mark s c.take_mark.new.self c.args.held.now c.args.ended c.requires.fits c.requires.mark (λ h. elim c.else-not-ended.branch [
+    let took = c.take_byte_order_mark.ensures in
+    skips-mark s c.take_byte_order_mark.new.self c.args.held.now c.args.ended c.requires.fits c.requires.mark (λ h. elim c.else-not-ended.branch [
       | else-not-ended-via-then-not-ended+else-is_undecided w ↦ mark-decided rest c.byte_order_mark-mark.result tells (sym w.is_undecided.ensures ∙ w.if-is_undecided.false)
       | else-not-ended-via-else-not-ended w ↦ absurd (cc (h, w.if-not-ended.false))
     ]) took.state took.within took.same

@@ -1,6 +1,6 @@
 use Rattle.std.proofs.Common.{◌-◌, length}
 use Rattle.properties_lines.specs.Scanner.{IsBefore}
-use Rattle.properties_lines.proofs.scanner.search_blocks.Given as goal
+use Rattle.properties_lines.proofs.search.search_blocks.Given as goal
 
 abbrev pub invariant-loop-at : goal.invariant-loop-at
 invariant-loop-at g l = IsBefore g.C.ByteClass.holds l.bytes l.at l.is_ascii

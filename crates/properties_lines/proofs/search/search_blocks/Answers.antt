@@ -1,8 +1,8 @@
 use Rattle.std.proofs.Common.{◌<◌, ◌≤◌, ◌+◌, length, sym, arith}
 use Rattle.byte_blocks.specs.Marks.{clear_front}
 use Rattle.properties_lines.proofs.ScannerSearch.{block-before, block-end, long-marks, ascii-then, ascii-else}
-use Rattle.properties_lines.proofs.scanner.search_blocks.Goals as goal
-use Rattle.properties_lines.proofs.scanner.search_blocks.Goals.{then-is_ascii, else-is_ascii, then-is_ascii-2, else-is_ascii-2}
+use Rattle.properties_lines.proofs.search.search_blocks.Goals as goal
+use Rattle.properties_lines.proofs.search.search_blocks.Goals.{then-is_ascii, else-is_ascii, then-is_ascii-2, else-is_ascii-2}
 
 pub returns-in-Some : goal.returns-in-Some
 returns-in-Some g c =
