@@ -17,7 +17,8 @@ use Rattle.properties_items.specs.declared.error.PropertiesError.{PropertiesErro
 
 module _ {W : Type 0} {sink : Sink W} {old new : Writing W} where
   -- calls that were made
-  pub made-ascii : {calls : List Call} → IsGoodWriter old → AreOfScalars calls → HasMade sink old calls new → AreAsciiOnly calls → HasWrittenAscii sink old calls new
+  pub made-ascii : {calls : List Call} → IsGoodWriter old → AreOfScalars calls → HasMade sink old calls new → AreAsciiOnly calls
+      → HasWrittenAscii sink old calls new
   made-ascii {calls = calls} good scalars made on =
       record {
         bytes = wrote old.encoding old.settings old.lines calls;
@@ -28,7 +29,11 @@ module _ {W : Type 0} {sink : Sink W} {old new : Writing W} where
 
   -- no call was made
   none-ascii : new ≡ old → TakesAscii sink old.sink new.sink
-  none-ascii same = record { bytes = []; taken = inl (subst (λ (v : Writing W). HasWritten sink old.sink [] v.sink) (sym same) (written-none old.sink)); ascii = All-nil (λ b. b < 0x80) }
+  none-ascii same = record {
+    bytes = [];
+    taken = inl (subst (λ (v : Writing W). HasWritten sink old.sink [] v.sink) (sym same) (written-none old.sink));
+    ascii = All-nil (λ b. b < 0x80);
+  }
 
 module _ {W : Type 0} {sink : Sink W} {old middle new : Writing W} (before : List Call) (call : Call) (others : List Call)
     (good : IsGoodWriter old) (made : HasMade sink old before middle) (on : AreAsciiOnly (before ++ (call ∷ others))) where
@@ -41,7 +46,8 @@ module _ {W : Type 0} {sink : Sink W} {old middle new : Writing W} (before : Lis
   }
 
   -- a line failed, or was refused
-  line-ascii : (line : Content) (error : PropertiesError) → (call ≡ ascii_only_call true → ⊥) → WritesLine sink middle line (Err error) new → TakesAscii sink old.sink new.sink
+  line-ascii : (line : Content) (error : PropertiesError) → (call ≡ ascii_only_call true → ⊥) → WritesLine sink middle line (Err error) new
+      → TakesAscii sink old.sink new.sink
   line-ascii line error other (inl refused) = kept-ascii refused.same
   line-ascii line error other (inr failed) =
       let part = failed.sent.part in
@@ -49,7 +55,8 @@ module _ {W : Type 0} {sink : Sink W} {old middle new : Writing W} (before : Lis
       record {
         bytes = wrote old.encoding old.settings old.lines before ++ part;
         taken = inr (faulted-more made.written failed.sent.faulted);
-        ascii = begun-line_ascii old.encoding old.settings old.lines before call others _ line part failed.sent.begins.others other on good.settings.separator (sym same ∙ failed.sent.begins.whole);
+        ascii = begun-line_ascii old.encoding old.settings old.lines before call others _ line part failed.sent.begins.others other on good.settings.separator
+            (sym same ∙ failed.sent.begins.whole);
       }
 
   -- a flush failed, or was refused
@@ -65,8 +72,10 @@ module _ {W : Type 0} {sink : Sink W} {old middle new : Writing W} (before : Lis
 fails-ascii : {W : Type 0} {sink : Sink W} {old middle : Writing W} (new : Writing W) (before : List Call) (call : Call)
     (others : List Call) (error : PropertiesError) → IsGoodWriter old → HasMade sink old before middle
     → AreAsciiOnly (before ++ (call ∷ others)) → Fails sink middle call error new → TakesAscii sink old.sink new.sink
-fails-ascii new before (comment_call text) others error good made on f = line-ascii before (comment_call text) others good made on (comment text) error (λ q. absurd (cc)) f
-fails-ascii new before (pair_call key value) others error good made on f = line-ascii before (pair_call key value) others good made on (pair key value) error (λ q. absurd (cc)) f
+fails-ascii new before (comment_call text) others error good made on f =
+    line-ascii before (comment_call text) others good made on (comment text) error (λ q. absurd (cc)) f
+fails-ascii new before (pair_call key value) others error good made on f =
+    line-ascii before (pair_call key value) others good made on (pair key value) error (λ q. absurd (cc)) f
 fails-ascii new before (prefix_call prefix) others error good made on f = kept-ascii before (prefix_call prefix) others good made on f.same
 fails-ascii new before (separator_call separator) others error good made on f = kept-ascii before (separator_call separator) others good made on f.same
 fails-ascii new before flush_call others error good made on f = flush-ascii before flush_call others good made on error f

@@ -1,7 +1,7 @@
 -- How the line of a pair is built from the bytes of a logical line, in either encoding.
 use Rattle.std.proofs.Common.{◌≡◌, ◌≤◌, ◌==◌, ◌-◌, ◌+◌, ℕ, List, [], ◌∷◌, ◌++◌, length, map, take, drop, refl, sym, ap, ap₂, ◌∙◌, subst, inl, inr, arith, eqb-true}
 use lib.Utf8.{encodes}
-use Rattle.std.specs.Prelude.{Bool, Option, Some, None, All, Ok, Err}
+use Rattle.std.specs.Prelude.{Option, Some, None, All, Result, Ok, Err}
 use Rattle.std.specs.Str.{IsUtf8, chars}
 use Rattle.std.proofs.lemmas.Bool.{cases_Bool, eq-eqb}
 use Rattle.std.proofs.lemmas.List.{length-append, length-take-le, length-drop, take-take, drop-take}
@@ -42,12 +42,13 @@ use Rattle.properties_text.specs.PrintedTexts.{key_of, value_of}
 use Rattle.properties_text.specs.declared.print.Pair.{Pair}
 use Rattle.properties_items.specs.Errors.{IsUnresolvedError}
 use Rattle.properties_items.specs.FoundItems.{IsNoItem}
+use Rattle.properties_items.specs.declared.error.ErrorKind.{ErrorKind}
 use Rattle.properties_items.specs.declared.error.PropertiesError.{PropertiesError}
 use Rattle.properties_items.proofs.FoundItems.{blank-item}
 use Rattle.properties_items.proofs.Scalars.{chars-scalars}
 use Rattle.java_properties.specs.Copying.{HasScalars}
 use Rattle.java_properties.specs.Private.CopiedLines.{HasBuilt, IsNoPair, BuildsLine}
-use Rattle.java_properties.specs.Private.Engine.{line_bytes, takes_span, BuildsPair}
+use Rattle.java_properties.specs.Private.Engine.{line_bytes, takes_span, BuildsPair, NumbersLine}
 use Rattle.java_properties.specs.declared.writer.engine.Engine.{Engine}
 
 -- ---- the parts of a line
@@ -243,19 +244,20 @@ module _ (e : LineEncoding) (line bytes : List ℕ) (key value : Span) (f : AreF
     value-means = sym (v ∙ ap (λ x. meaning_of (text_in e x)) same-value)
 
     -- the line of a pair was built
-    pub pair-built : (accepted : Bool) → All byte bytes → BuildsPair old p (Ok tt) w.line → w ≡ record old { line = w.line } → accepted ≡ takes_span w.settings key
-        → HasBuilt (text_in e line) accepted w
-    pair-built accepted all b same takes =
+    pub pair-built : (number : Result ℕ ErrorKind) → All byte bytes → BuildsPair old p (Ok tt) w.line → w ≡ record old { line = w.line }
+        → NumbersLine w (takes_span w.settings key) number → HasBuilt (text_in e line) number w
+    pair-built number all b same numbers =
         let text = text_in e line in
         let o = ap split_outcome f.split ∙ ap₂ pair_outcome (key-means ∙ b.2) (value-means ∙ b.3) in
         let scalars = text-scalars e line f.well (subst (All byte) f.front (All-take byte (length line) bytes all)) in
         let well = well-in e line key f.well (λ u. (f.spans u).0) in
+        let accepts = span-accepts w.settings e line key b.0 b.1 (pair-within line key value f.places).0 well (key-means ∙ b.2) in
         record {
           key = b.0;
           value = b.1;
           outcome = o;
           scalars = pair-scalars text b.0 b.1 scalars o;
-          accepts = takes ∙ span-accepts w.settings e line key b.0 b.1 (pair-within line key value f.places).0 well (key-means ∙ b.2);
+          numbers = subst (λ a. NumbersLine w a number) accepts numbers;
           built = b.4 ∙ sym (ap (λ (x : Engine). line_bytes x (pair b.0 b.1)) same);
         }
 

@@ -1,6 +1,6 @@
 -- How items are copied one after another.
 use Rattle.std.proofs.Common.{◌≡◌, ◌<◌, ◌^◌, ℕ, List, [], ◌++◌, refl, sym, ap, subst, inl, inr}
-use Rattle.std.specs.Prelude.{Bool, true, Option, None, Some, Result, Ok, Err}
+use Rattle.std.specs.Prelude.{true, Option, None, Some, Result, Ok, Err}
 use Rattle.std.specs.declared.io.Error as io
 use Rattle.counted_io.specs.Streams.{Reader, Sink}
 use Rattle.properties_format.specs.Entries.{comment, pair}
@@ -10,13 +10,14 @@ use Rattle.properties_format.specs.Lines.{Line}
 use Rattle.properties_format.specs.Computed.Items.{outcome_of}
 use Rattle.properties_lines.specs.LineJoiner.{LineJoining, JoinsLine, JoinsNoLine}
 use Rattle.properties_lines.specs.declared.error.LineError.{LineError}
-use Rattle.properties_items.specs.Errors.{IsError, IsLineError, cause_of_write}
+use Rattle.properties_items.specs.Errors.{IsError, IsBareError, IsLineError, cause_of_write}
 use Rattle.properties_items.specs.FoundItems.{IsNoItem}
+use Rattle.properties_items.specs.declared.error.ErrorKind.{ErrorKind}
 use Rattle.properties_items.specs.declared.error.ErrorKind.TheVariants.{Io}
 use Rattle.properties_items.specs.declared.error.PropertiesError.{PropertiesError}
 use Rattle.java_properties.specs.Copying.{Copies, CopiesItem, HasScalars}
 use Rattle.java_properties.specs.Private.CopiedLines.{HasBuilt, IsNoPair}
-use Rattle.java_properties.specs.Private.Engine.{writing, NumbersLine, SendsLine}
+use Rattle.java_properties.specs.Private.Engine.{writing, SendsLine}
 use Rattle.java_properties.specs.PropertiesIter.{Iteration}
 use Rattle.java_properties.specs.PropertiesWriter.{Writing, WritesLine}
 use Rattle.java_properties.specs.declared.copy.CopyError.{CopyError}
@@ -24,27 +25,27 @@ use Rattle.java_properties.specs.declared.copy.CopyError.TheVariants.{Read, Writ
 use Rattle.java_properties.specs.declared.writer.engine.Engine.{Engine}
 use Rattle.java_properties.proofs.Engine.{numbered, unnumbered, sent-line, unsent-line}
 use Rattle.java_properties.proofs.Items.{Passed, passed-start, passed-blank, passed-no_item, passed-error, passed-none, gives-spelt, stopped, ended}
-use Rattle.java_properties.proofs.StatedItems.{state-entry, state-none, state-error}
 
 -- ---- the line of a pair
 
-module _ {W : Type 0} {sink : Sink W} (w : Engine) (from : W) {text : List ℕ} {accepted : Bool} (h : HasBuilt text accepted w) where
-  -- the line that was built was sent
-  pub built-sent : (number : ℕ) (after : Writing W) → number < 2 ^ 64 → NumbersLine w accepted (Ok number) → SendsLine sink (writing w from) w.line number (Ok tt) after
-      → WritesLine sink (writing w from) (pair h.key h.value) (Ok tt) after
-  built-sent number after small n sends =
-      sent-line w w from (pair h.key h.value) number after (numbered w from (pair h.key h.value) accepted number small h.accepts n) n.2 refl h.built sends
+module _ {W : Type 0} {sink : Sink W} (w : Engine) (from : W) {text : List ℕ} where
+  module _ (number : ℕ) (after : Writing W) (h : HasBuilt text (Ok number) w) (small : number < 2 ^ 64) where
+    -- the line that was built was sent
+    pub built-sent : SendsLine sink (writing w from) w.line number (Ok tt) after → WritesLine sink (writing w from) (pair h.key h.value) (Ok tt) after
+    built-sent sends =
+        sent-line w w from (pair h.key h.value) number after (numbered w from (pair h.key h.value) number small h.numbers) h.numbers.2 refl h.built sends
 
-  -- or it couldn't be sent
-  pub built-unsent : (number : ℕ) (cause : Option io.Error) (error : PropertiesError) (after : Writing W) → number < 2 ^ 64 → NumbersLine w accepted (Ok number)
-      → SendsLine sink (writing w from) w.line number (Err cause) after → IsError Io (Some number) (cause_of_write cause) error
-      → WritesLine sink (writing w from) (pair h.key h.value) (Err error) after
-  built-unsent number cause error after small n sends is =
-      inr (unsent-line w w from (pair h.key h.value) number after (numbered w from (pair h.key h.value) accepted number small h.accepts n) n.2 refl h.built cause error sends is)
+    -- or it couldn't be sent
+    pub built-unsent : (cause : Option io.Error) (error : PropertiesError) → SendsLine sink (writing w from) w.line number (Err cause) after
+        → IsError Io (Some number) (cause_of_write cause) error → WritesLine sink (writing w from) (pair h.key h.value) (Err error) after
+    built-unsent cause error sends is =
+        let takes = numbered w from (pair h.key h.value) number small h.numbers in
+        inr (unsent-line w w from (pair h.key h.value) number after takes h.numbers.2 refl h.built cause error sends is)
 
   -- or it has no number
-  pub built-refused : (error : PropertiesError) → NumbersLine w accepted (Err error) → WritesLine sink (writing w from) (pair h.key h.value) (Err error) (writing w from)
-  built-refused error n = inl (unnumbered w from (pair h.key h.value) accepted error h.accepts n)
+  pub built-refused : (why : ErrorKind) (error : PropertiesError) (h : HasBuilt text (Err why) w) → IsBareError why error
+      → WritesLine sink (writing w from) (pair h.key h.value) (Err error) (writing w from)
+  built-refused why error h is = inl (unnumbered w from (pair h.key h.value) why error h.numbers is)
 
 -- ---- item after item
 
@@ -90,7 +91,7 @@ module _ {R W : Type 0} {reader : Reader R} {sink : Sink W} {old : Iteration R} 
     copied-no_pair (inr (raw, is)) = copied-item h new next so_far (record {
       number = line.number;
       content = comment raw;
-      gives = state-entry (gives-spelt line new (comment raw) h.passed joins is).0;
+      gives = (gives-spelt line new (comment raw) h.passed joins is).0;
       scalars = tt;
       writes = (refl, refl);
     })
@@ -101,7 +102,7 @@ module _ {R W : Type 0} {reader : Reader R} {sink : Sink W} {old : Iteration R} 
     copied-pair key value after is scalars writes = copied-item h new next after (record {
       number = line.number;
       content = pair key value;
-      gives = state-entry (gives-spelt line new (pair key value) h.passed joins is).0;
+      gives = (gives-spelt line new (pair key value) h.passed joins is).0;
       scalars = scalars;
       writes = writes;
     })
@@ -115,7 +116,7 @@ module _ {R W : Type 0} {reader : Reader R} {sink : Sink W} {old : Iteration R} 
           number = line.number;
           key = key;
           value = value;
-          gives = state-entry (gives-spelt line new (pair key value) h.passed joins is).0;
+          gives = (gives-spelt line new (pair key value) h.passed joins is).0;
           scalars = scalars;
           writes = writes;
         }))
@@ -125,7 +126,7 @@ module _ {R W : Type 0} {reader : Reader R} {sink : Sink W} {old : Iteration R} 
         → Copies reader sink old writer (Err (Read error)) (record { reader = next; state = last; line = bytes }) so_far
     copied-unread bytes error last done none =
         let k = passed-no_item line new h.passed joins none in
-        h.along _ _ _ (Copies.stops_reading error refl (record { live = k.0; done = done; why = state-error k.1; same = refl }))
+        h.along _ _ _ (Copies.stops_reading error refl (record { live = k.0; done = done; why = k.1; same = refl }))
 
   module _ {to : R} {so_far : Writing W} (before lines : LineJoining) (next : R) (h : IsCopiedTo reader sink old writer before.at.state to so_far)
       (quiet : before.error ≡ None) (joins : JoinsNoLine reader before to lines next) where
@@ -134,12 +135,12 @@ module _ {R W : Type 0} {reader : Reader R} {sink : Sink W} {old : Iteration R} 
     copied-all bytes none =
         let end = ended joins none in
         let state = ap (λ (l : LineJoining). l.at.state) end.1 in
-        h.along _ _ _ (Copies.ends refl (record { gives = state-none (passed-none h.passed end.0 state end.2); same = refl }))
+        h.along _ _ _ (Copies.ends refl (record { gives = passed-none h.passed end.0 state end.2; same = refl }))
 
     -- or the next one couldn't be read
     pub copied-error : (bytes : List ℕ) (why : LineError) (error : PropertiesError) → lines.error ≡ Some why → IsLineError why error
         → Copies reader sink old writer (Err (Read error)) (record { reader = next; state = lines.at.state; line = bytes }) so_far
     copied-error bytes why error kept says =
         let stop = stopped joins quiet kept in
-        let p = passed-error h.passed stop.0 (record { why = why; last = lines.at.state; joins = stop.2; is = says }) in
-        h.along _ _ _ (Copies.stops_reading error refl (record { live = p.0; done = stop.1; why = state-error (inr p.1); same = refl }))
+        let p = passed-error h.passed stop.0 stop.2 says in
+        h.along _ _ _ (Copies.stops_reading error refl (record { live = p.0; done = stop.1; why = p.1; same = refl }))

@@ -1,5 +1,5 @@
 -- The lines that an engine builds, from their parts.
-use Rattle.std.proofs.Common.{◌≡◌, ◌<◌, ◌==◌, ◌++◌, ◌+◌, ◌^◌, ℕ, Bool, true, false, List, [], refl, ap, sym, subst, ◌∙◌, append_assoc, inl, inr}
+use Rattle.std.proofs.Common.{◌≡◌, ◌<◌, ◌==◌, ◌++◌, ◌+◌, ◌^◌, ℕ, Bool, true, false, List, [], refl, ap, sym, subst, ◌∙◌, append_assoc}
 use Rattle.std.specs.Prelude.{Some, Option, Result, Ok, Err}
 use Rattle.std.specs.declared.io.Error.{Error}
 use Rattle.counted_io.specs.Streams.{Sink, HasWritten, HasSentPart}
@@ -11,13 +11,16 @@ use Rattle.properties_format.specs.Printing.{encoded_text, printed_characters, p
 use Rattle.properties_format.proofs.Printing.Characters.{AreAscii, encoded_text-ascii, printed-comment, printed-pair}
 use Rattle.properties_text.specs.Encoding.{line_of}
 use Rattle.properties_items.specs.Errors.{IsError, IsBareError, cause_of_write}
-use Rattle.java_properties.specs.PropertiesWriter.{Writing, call_of, TakesLine, HasWrittenLine, RefusesLine, FailsInLine}
+use Rattle.java_properties.specs.PropertiesWriter.{Writing, call_of, TakesLine, HasWrittenLine, IsRefusedBy, RefusesLine, FailsInLine}
+use Rattle.properties_items.specs.declared.error.ErrorKind.{ErrorKind}
+use Rattle.properties_items.specs.declared.error.ErrorKind.TheVariants as kind
 use Rattle.properties_items.specs.declared.error.ErrorKind.TheVariants.{Io}
 use Rattle.properties_items.specs.declared.error.PropertiesError.{PropertiesError}
 use Rattle.java_properties.specs.Private.Engine.{writing, NumbersLine, SendsLine, repertoire_in, repertoire_of, line_bytes, comment_bytes, BuildsPair}
 use Rattle.properties_format.specs.Encoding.{Encoding, utf_8}
+use Rattle.properties_format.specs.Repertoire as meant
 use Rattle.properties_format.proofs.AsciiOnly.{printed_characters-ascii, printed_characters-same, printed_key-ascii, printed_key-same, printed_value-ascii, printed_value-same}
-use Rattle.properties_text.specs.Printing.{text_bytes, key_bytes, puts_of, value_bytes, place_of, encoding_in, only_in}
+use Rattle.properties_text.specs.Printing.{text_bytes, key_bytes, puts_of, value_bytes, place_of, in_format}
 use Rattle.properties_text.specs.PrintedTexts.{PrintsPair}
 use Rattle.properties_text.specs.declared.encoding.line.LineEncoding.{LineEncoding}
 use Rattle.properties_text.specs.declared.encoding.line.LineEncoding.TheVariants as line
@@ -41,39 +44,42 @@ ending_bytes w = encoded_text (line_of w.encoding) (line_ending_text w.settings.
 -- ---- what a line can contain without escapes
 
 -- a repertoire that has all of an encoding
-pub repertoire-of : (to : Repertoire) (e : LineEncoding) → encoding_in to ≡ line_of e → only_in to ≡ false → to ≡ repertoire_in false e
-repertoire-of repertoire.Windows1252 line.Windows1252 same h = refl
-repertoire-of repertoire.Windows1252 line.Utf8 same h = absurd (cc)
-repertoire-of repertoire.Utf8 line.Windows1252 same h = absurd (cc)
-repertoire-of repertoire.Utf8 line.Utf8 same h = refl
-repertoire-of repertoire.Ascii e same h = absurd (cc)
+repertoire-by : (to : Repertoire) (e : LineEncoding) → (in_format to).encoding ≡ line_of e → (in_format to).ascii_only ≡ false → to ≡ repertoire_in false e
+repertoire-by repertoire.Windows1252 line.Windows1252 same h = refl
+repertoire-by repertoire.Windows1252 line.Utf8 same h = absurd (cc)
+repertoire-by repertoire.Utf8 line.Windows1252 same h = absurd (cc)
+repertoire-by repertoire.Utf8 line.Utf8 same h = refl
+repertoire-by repertoire.Ascii e same h = absurd (cc)
+
+pub repertoire-of : (to : Repertoire) (e : LineEncoding) → in_format to ≡ meant.all_of (line_of e) → to ≡ repertoire_in false e
+repertoire-of to e same = repertoire-by to e (ap (λ (r : meant.Repertoire). r.encoding) same) (ap (λ (r : meant.Repertoire). r.ascii_only) same)
 
 -- ASCII only is the same bytes in each encoding
 alike : (e : Encoding) (x y : List ℕ) → AreAscii x → AreAscii y → x ≡ y → encoded_text utf_8 x ≡ encoded_text e y
 alike e x y h k same = encoded_text-ascii utf_8 x h ∙ same ∙ sym (encoded_text-ascii e y k)
 
 text-alike : (only : Bool) (e : LineEncoding) (p : Place) (text : List ℕ)
-    → text_bytes (repertoire_in only e) p text ≡ encoded_text (line_of e) (printed_characters (line_of e) only (place_of p) text)
+    → text_bytes (repertoire_in only e) p text ≡ encoded_text (line_of e) (printed_characters (meant.repertoire (line_of e) only) (place_of p) text)
 text-alike false line.Windows1252 p text = refl
 text-alike false line.Utf8 p text = refl
 text-alike true e p text =
     alike (line_of e) _ _ (printed_characters-ascii utf_8 (place_of p) text) (printed_characters-ascii _ (place_of p) text) (printed_characters-same utf_8 (line_of e) (place_of p) text)
 
 value-alike : (only : Bool) (e : LineEncoding) (text : List ℕ)
-    → puts_of (repertoire_in only e) text ≡ encoded_text (line_of e) (printed_characters (line_of e) only in_key_or_value text)
+    → puts_of (repertoire_in only e) text ≡ encoded_text (line_of e) (printed_characters (meant.repertoire (line_of e) only) in_key_or_value text)
 value-alike false line.Windows1252 text = refl
 value-alike false line.Utf8 text = refl
 value-alike true e text =
     alike (line_of e) _ _ (printed_characters-ascii utf_8 in_key_or_value text) (printed_characters-ascii _ in_key_or_value text) (printed_characters-same utf_8 (line_of e) in_key_or_value text)
 
 key-alike : (only : Bool) (e : LineEncoding) (first : Bool) (key : List ℕ)
-    → key_bytes (repertoire_in only e) first key ≡ encoded_text (line_of e) (printed_key (line_of e) only first key)
+    → key_bytes (repertoire_in only e) first key ≡ encoded_text (line_of e) (printed_key (meant.repertoire (line_of e) only) first key)
 key-alike false line.Windows1252 first key = refl
 key-alike false line.Utf8 first key = refl
 key-alike true e first key = alike (line_of e) _ _ (printed_key-ascii utf_8 first key) (printed_key-ascii _ first key) (printed_key-same utf_8 (line_of e) first key)
 
 readable-alike : (only : Bool) (e : LineEncoding) (after_blanks : Bool) (text : List ℕ)
-    → value_bytes (repertoire_in only e) after_blanks text ≡ encoded_text (line_of e) (printed_value (line_of e) only after_blanks text)
+    → value_bytes (repertoire_in only e) after_blanks text ≡ encoded_text (line_of e) (printed_value (meant.repertoire (line_of e) only) after_blanks text)
 readable-alike false line.Windows1252 after_blanks text = refl
 readable-alike false line.Utf8 after_blanks text = refl
 readable-alike true e after_blanks text =
@@ -85,8 +91,8 @@ plain-chosen : (w : Engine) (value : List ℕ) → w.settings.readable ≡ false
 plain-chosen w value off =
     let e = line_of w.encoding in
     let s = w.settings in
-    let readable = printed_value e s.ascii_only (is_blanks s.kv_separator) value in
-    let plain = printed_characters e s.ascii_only in_key_or_value value in
+    let readable = printed_value (meant.repertoire_of e s) (is_blanks s.kv_separator) value in
+    let plain = printed_characters (meant.repertoire_of e s) in_key_or_value value in
     value-alike s.ascii_only w.encoding value ∙ ap (encoded_text e) (sym (cond-false s.readable readable plain off))
 
 -- and on
@@ -95,8 +101,8 @@ readable-chosen : (w : Engine) (value : List ℕ) → w.settings.readable ≡ tr
 readable-chosen w value on =
     let e = line_of w.encoding in
     let s = w.settings in
-    let readable = printed_value e s.ascii_only (is_blanks s.kv_separator) value in
-    let plain = printed_characters e s.ascii_only in_key_or_value value in
+    let readable = printed_value (meant.repertoire_of e s) (is_blanks s.kv_separator) value in
+    let plain = printed_characters (meant.repertoire_of e s) in_key_or_value value in
     readable-alike s.ascii_only w.encoding (is_blanks s.kv_separator) value ∙ ap (encoded_text e) (sym (cond-true s.readable readable plain on))
 
 -- ---- what is built in an empty buffer
@@ -106,8 +112,8 @@ pub comment-built : (w : Engine) (text cleared printed all ending : List ℕ) �
     → ending ≡ ending_bytes w → all ≡ printed ++ ending → all ≡ line_bytes w (comment text)
 comment-built w text cleared printed all ending h k m n =
     let e = line_of w.encoding in
-    let front = encoded_text e (printed_characters e w.settings.ascii_only in_prefix w.settings.comment_prefix) in
-    let rest = encoded_text e (printed_characters e w.settings.ascii_only in_comment text) in
+    let front = encoded_text e (printed_characters (meant.repertoire_of e w.settings) in_prefix w.settings.comment_prefix) in
+    let rest = encoded_text e (printed_characters (meant.repertoire_of e w.settings) in_comment text) in
     let prefix = text-alike w.settings.ascii_only w.encoding place.Prefix w.settings.comment_prefix in
     let body = text-alike w.settings.ascii_only w.encoding place.Comment text in
     rw (n, k, h, m, prefix, body, printed-comment e w.settings (w.lines == 0) text) (append_assoc front rest (ending_bytes w))
@@ -162,17 +168,25 @@ readable_spelt-built w p cleared separator ending new on c s t e (Err error.Memo
 
 -- ---- the number of a line
 
--- a line that the writer numbers is taken
-pub numbered : {W : Type 0} (w : Engine) (from : W) (line : Content) (accepted : Bool) (number : ℕ) → number < 2 ^ 64 → accepted ≡ is_accepted w.settings (call_of line)
-    → NumbersLine w accepted (Ok number) → TakesLine (writing w from) line
-numbered w from line accepted number small is h = record { live = h.0; accepted = sym is ∙ h.1; numbered = subst (λ n. n < 2 ^ 64) h.2 small }
+module _ {W : Type 0} (w : Engine) (from : W) (line : Content) where
+  -- a line that the writer numbers is taken
+  pub numbered : (number : ℕ) → number < 2 ^ 64 → NumbersLine w (is_accepted w.settings (call_of line)) (Ok number) → TakesLine (writing w from) line
+  numbered number small h = record { live = h.0; accepted = h.1; numbered = subst (λ n. n < 2 ^ 64) h.2 small }
 
--- and one that it doesn't number is refused
-pub unnumbered : {W : Type 0} (w : Engine) (from : W) (line : Content) (accepted : Bool) (error : PropertiesError) → accepted ≡ is_accepted w.settings (call_of line)
-    → NumbersLine w accepted (Err error) → RefusesLine (writing w from) line error (writing w from)
-unnumbered w from line accepted error is (inl h) = record { reason = rw h.0.its_kind h.1; is = subst (λ k. IsBareError k error) (sym h.0.its_kind) h.0; same = refl }
-unnumbered w from line accepted error is (inr (inl h)) = record { reason = rw h.0.its_kind (h.1, sym is ∙ h.2); is = subst (λ k. IsBareError k error) (sym h.0.its_kind) h.0; same = refl }
-unnumbered w from line accepted error is (inr (inr h)) = record { reason = rw h.0.its_kind (h.1, sym is ∙ h.2, h.3); is = subst (λ k. IsBareError k error) (sym h.0.its_kind) h.0; same = refl }
+  refused-by : (why : ErrorKind) → NumbersLine w (is_accepted w.settings (call_of line)) (Err why) → IsRefusedBy why (writing w from) line
+  refused-by kind.Failed h = h
+  refused-by kind.EmptyKey h = h
+  refused-by kind.TooManyLines h = h
+  refused-by other h = absurd h
+
+  -- and one that it doesn't number is refused
+  pub unnumbered : (why : ErrorKind) (error : PropertiesError) → NumbersLine w (is_accepted w.settings (call_of line)) (Err why) → IsBareError why error
+      → RefusesLine (writing w from) line error (writing w from)
+  unnumbered why error h bare = record {
+    reason = subst (λ k. IsRefusedBy k (writing w from) line) (sym bare.its_kind) (refused-by why h);
+    is = subst (λ k. IsBareError k error) (sym bare.its_kind) bare;
+    same = refl;
+  }
 
 -- ---- a line that is sent
 

@@ -6,7 +6,7 @@ use Rattle.properties_format.specs.Pieces.{Piece, characters}
 use Rattle.properties_format.specs.Encoding.{Encoding, IsPieces, begins_with, byte_order_mark, utf_8, utf_8_bom, utf_16be_bom, utf_16le_bom}
 use Rattle.properties_format.specs.Lines.{Ended, Line, Lines, IsLines, fault, line_ends, numbered, put_together}
 use Rattle.properties_format.specs.Items.{last_entries}
-use Rattle.properties_format.specs.ItemsToCome.{start, in_force, AreFurtherLines}
+use Rattle.properties_format.specs.ItemsToCome.{start, in_force, AreFurtherLines, PassesAll}
 use Rattle.properties_format.specs.Computed.Body.{held_of, held_lines_of}
 use Rattle.properties_format.specs.Computed.Encoding.{pieces_of}
 use Rattle.properties_format.specs.Computed.ItemsToCome.{text_to_come}
@@ -14,7 +14,6 @@ use Rattle.properties_format.specs.Computed.Lines.{lines_of}
 use Rattle.properties_format.proofs.Encodings.Pieces.{piece-length, pieces_of-meets}
 use Rattle.properties_format.proofs.ItemsToCome.Unique.{rest_of_end-meets}
 use Rattle.properties_format.proofs.Lines.Meets.{lines_of-meets}
-use Rattle.java_properties.specs.PropertiesIter.{PassesAll}
 
 -- ---- line endings and bytes
 

@@ -12,22 +12,22 @@ use Rattle.properties_format.specs.Computed.Items.{outcome_of, followed}
 use Rattle.counted_io.specs.Streams.{Reader, HasRead, has_ended}
 use Rattle.counted_io.proofs.Streams.{read-none, read-more, failed-more}
 use Rattle.properties_format.specs.Lines.{Line, InputEnd, end, fault, more}
-use Rattle.properties_format.specs.ItemsToCome.{ReaderState}
+use Rattle.properties_format.specs.ItemsToCome.{ReaderState, IsItemsToCome, PassesSome, IsLazyItems}
 use Rattle.properties_format.specs.Computed.ItemsToCome.{items_to_come}
 use Rattle.properties_format.proofs.ItemsToCome.Unique.{items_to_come-done}
 use Rattle.properties_format.proofs.ItemsToCome.Lines.{natural-done}
-use Rattle.properties_format.proofs.ItemsToCome.Divisions.{lines_come_first, natural_to_come-meets}
-use Rattle.properties_items.specs.Errors.{IsBareError}
+use Rattle.properties_format.proofs.ItemsToCome.Divisions.{are_to_come, to_come_are, comes_first, lines_come_first, first_lines_come, natural_to_come-meets}
+use Rattle.properties_items.specs.Errors.{IsBareError, IsLineError}
 use Rattle.properties_items.specs.BorrowedItems.{found_entry, spans_of, IsFoundIn}
 use Rattle.properties_items.specs.declared.found.FoundContent.{FoundContent}
 use Rattle.properties_items.specs.declared.found.FoundContent.TheVariants as found
-use Rattle.properties_lines.specs.LineReader.{Passes, PassesSome}
+use Rattle.properties_lines.specs.LineReader.{Passes}
 use Rattle.properties_lines.proofs.LineJoiner.{some-start, some-on, all-on, passes-on}
-use Rattle.properties_lines.specs.LineJoiner.{IsLazyItems, Joins, JoinsError, JoinsLine, Comes, LineState, LineJoining}
+use Rattle.properties_lines.specs.LineJoiner.{Joins, JoinsError, JoinsLine, Comes, LineState, LineJoining}
 use Rattle.properties_lines.specs.declared.error.LineError.{LineError}
-use Rattle.properties_lines.specs.declared.error.LineError.TheVariants as why
 use Rattle.java_properties.specs.Borrowing.{ComeNext, IsSpelt}
-use Rattle.java_properties.specs.Private.GivenItems.{as_text, in_utf_8, GivesItem, Owns, Gives, BreaksOff, GivesEntry, GivesNone, GivesMalformed, GivesError}
+use Rattle.java_properties.specs.Private.GivenItems.{as_text, in_utf_8, Owns}
+use Rattle.java_properties.specs.PropertiesIter.{GivesItem, Gives, BreaksOff, GivesEntry, GivesNone, GivesError}
 use Rattle.properties_items.specs.FoundItems.{IsNoItem}
 use Rattle.properties_items.specs.declared.error.ErrorKind.TheVariants.{Memory}
 use Rattle.properties_items.specs.declared.found.Found.{Found}
@@ -41,11 +41,6 @@ pub kept-utf8 : (bytes : List ℕ) → IsUtf8 bytes → in_utf_8 bytes ≡ bytes
 unfolding in_utf_8
 kept-utf8 bytes u = rw (is_utf8-from_IsUtf8 bytes u) refl
 
--- and one that isn't is dropped
-kept-none : (bytes : List ℕ) → is_utf8 bytes ≡ false → in_utf_8 bytes ≡ []
-unfolding in_utf_8
-kept-none bytes k = rw k refl
-
 pub ruleset keeping = (kept-utf8, IsUtf8-nil)
 
 -- Nothing comes after something in an empty text.
@@ -54,23 +49,22 @@ none-last [] ys h = sym h
 none-last (x ∷ xs) ys h = absurd (cc)
 
 -- An empty line has no item.
-none-in-nil : (bytes : List ℕ) (content : FoundContent) → chars bytes ≡ [] → IsSplit (chars bytes) (in_characters (spanned bytes (Some (spans_of content)))) → ⊥
-none-in-nil bytes (found.Comment text) none h = let last = none-last h.indent (h.sign ∷ h.rest) (sym none ∙ h.whole) in absurd (cc)
-none-in-nil bytes (found.KVPair key value) none h = h.not_empty (none-last h.indent _ (sym none ∙ h.whole))
+none-in-nil : (content : FoundContent) → IsSplit (chars []) (in_characters (spanned [] (Some (spans_of content)))) → ⊥
+none-in-nil (found.Comment text) h = let last = none-last h.indent (h.sign ∷ h.rest) (sym chars-nil ∙ h.whole) in absurd (cc)
+none-in-nil (found.KVPair key value) h = h.not_empty (none-last h.indent _ (sym chars-nil ∙ h.whole))
 
--- Where an item was found, the line is in UTF-8.
-found-utf8 : (bytes : List ℕ) (found : Found) → IsFoundIn (in_utf_8 bytes) found → IsUtf8 bytes
-found-utf8 bytes found h = elim (cases_Bool (is_utf8 bytes)) [
-  | inl k ↦ IsUtf8-from_is_utf8 bytes k
-  | inr k ↦ absurd (none-in-nil (in_utf_8 bytes) found.content (ap chars (kept-none bytes k) ∙ chars-nil) h.slices)
-]
-
--- and it is the line that the reader shows.
+-- Where an item was found, the line is in UTF-8,
 pub is-text : (lines seen : LineState) (found : Found) → as_text lines ≡ seen → IsFoundIn seen.line found → IsUtf8 lines.line
+unfolding in_utf_8
 is-text lines seen found same h =
     let P : LineState → Type 0 = λ v. IsFoundIn v.line found in
-    found-utf8 lines.line found (subst P (sym same) h)
+    let here : IsFoundIn (in_utf_8 lines.line) found = subst P (sym same) h in
+    elim (cases_Bool (is_utf8 lines.line)) [
+      | inl k ↦ IsUtf8-from_is_utf8 lines.line k
+      | inr k ↦ let none : IsFoundIn [] found = rw k at here in absurd (none-in-nil found.content none.slices)
+    ]
 
+-- and it is the line that the reader shows.
 pub shown : (lines seen : LineState) (found : Found) → as_text lines ≡ seen → IsFoundIn seen.line found → lines.line ≡ seen.line
 shown lines seen found same h =
     sym (kept-utf8 lines.line (is-text lines seen found same h)) ∙ ap (λ v. let w : LineState = v in w.line) same
@@ -119,20 +113,27 @@ module _ {R : Type 0} {reader : Reader R} where
   passed-on h g = elim h.items [ inl k ↦ k.1 | inr k ↦ let d = k.0 in absurd (cc) ]
 
   -- the items to come where no more than the held bytes come
-  passed-more : {s t : ReaderState} {from to : R} {r : List ℕ} → Passed reader s from r t to → t.is_done ≡ false → r ≡ [] → items_to_come t [] more ≡ [] → items_to_come s [] more ≡ []
-  passed-more {s} h g e none = ap (λ v. items_to_come s (v ++ []) more) (sym e) ∙ passed-on h g [] more ∙ none
+  passed-more : {s t : ReaderState} {from to : R} {r : List ℕ} → Passed reader s from r t to → t.is_done ≡ false → r ≡ []
+      → IsItemsToCome t [] more [] → IsItemsToCome s [] more []
+  passed-more {s} h g e none = are_to_come (ap (λ v. items_to_come s (v ++ []) more) (sym e) ∙ passed-on h g [] more ∙ to_come_are none)
 
-  passed-lazy : {s t : ReaderState} {from to next : R} {r q : List ℕ} → Passed reader s from r t to → t.is_done ≡ false → IsLazyItems t to q next → IsLazyItems s from (r ++ q) next
+  passed-lazy : {s t : ReaderState} {from to next : R} {r q : List ℕ} → Passed reader s from r t to → t.is_done ≡ false
+      → IsLazyItems t to q next → IsLazyItems s from (r ++ q) next
   passed-lazy h g (inl k) = elim h.lazy [ inl e ↦ inl (k.0 ∙ e.0, ap₂ (λ v w. v ++ w) e.1 k.1) | inr e ↦ inr e ]
   passed-lazy h g (inr k) = elim h.lazy [ inl e ↦ inr (passed-more h g e.1 k) | inr e ↦ inr e ]
 
   -- the items of one line more
   passed-after : {s t : ReaderState} {from to next : R} {r : List ℕ} (line : Line) (new : ReaderState) (o : Outcome) → Passed reader s from r t to
       → (n : JoinsLine reader t to line new next) → outcome_of line.text ≡ o
-      → (new.is_done ≡ false) × ((d : List ℕ) (ending : InputEnd) → items_to_come s ((r ++ n.bytes) ++ d) ending ≡ followed line.number o (items_to_come new d ending))
+      → (new.is_done ≡ false)
+      × ((d : List ℕ) (ending : InputEnd) → items_to_come s ((r ++ n.bytes) ++ d) ending ≡ followed line.number o (items_to_come new d ending))
       ⊎ (new.is_done ≡ true) × (items_to_come s (r ++ n.bytes) end ≡ followed line.number o [])
   passed-after {r = r} line new o h n is = elim n.comes [
-    | Comes.going_on k logical ↦ inl (k, λ d ending. rw (append_assoc r n.bytes d, ← is) (passed-on h n.live (n.bytes ++ d) ending ∙ logical.items d ending))
+    | Comes.going_on k logical ↦ inl (
+      k,
+      λ d ending.
+          rw (append_assoc r n.bytes d, ← is) (passed-on h n.live (n.bytes ++ d) ending ∙ logical.items d ending),
+    )
     | Comes.at_last k items ↦ inr (k, rw (← is) (passed-on h n.live n.bytes end ∙ items))
   ]
 
@@ -145,7 +146,10 @@ module _ {R : Type 0} {reader : Reader R} where
       bytes = r ++ n.bytes;
       read = read-more h.read n.read;
       live = passed-live h n.live;
-      gives = elim (passed-after line new (given content) h n o) [ inl k ↦ Gives.going_on k.0 (record { items = k.1 }) | inr k ↦ Gives.at_last k.0 k.1 ];
+      gives = elim (passed-after line new (given content) h n o) [
+        | inl k ↦ Gives.going_on k.0 (comes_first (record { items = k.1 }))
+        | inr k ↦ Gives.at_last k.0 (are_to_come k.1)
+      ];
       passes = λ g. some-on (h.passes n.live) (n.passes g);
       ended = n.ended;
       lazy = passed-lazy h n.live n.lazy;
@@ -154,7 +158,7 @@ module _ {R : Type 0} {reader : Reader R} where
       before = (h.passes n.live).lines;
       first = n.group.first;
       others = n.group.others;
-      come = come-next (passes-on (Passes.going_on n.live (h.passes n.live).reads) n.live n.group.passes);
+      come = come-next (passes-on (Passes.going_on n.live (first_lines_come (h.passes n.live).first)) n.live n.group.passes);
       number = n.group.number;
       text = n.group.text;
       ends = n.group.ends;
@@ -172,36 +176,44 @@ module _ {R : Type 0} {reader : Reader R} where
     lazy = passed-lazy h n.live n.lazy;
   }
 
+  -- there was no memory
+  no-room : {s : ReaderState} {from to : R} {e : PropertiesError} (bytes : List ℕ) → HasRead reader from bytes to
+      → IsLazyItems s from bytes to → IsBareError Memory e → GivesError reader s from e to
+  no-room bytes h lazy is = inr (inr (inr (record { bytes = bytes; read = h; is = is; lazy = lazy })))
+
   -- a line could not be read
-  pub passed-error : {s t : ReaderState} {from to next : R} {r : List ℕ} {e : PropertiesError} → Passed reader s from r t to → t.is_done ≡ false
-      → GivesError reader t to e next → (s.is_done ≡ false) × GivesError reader s from e next
-  passed-error {s} {t} {from} {to} {next} {r} h g n = (passed-live h g, record { why = n.why; last = n.last; joins = by n.joins; is = n.is })
+  pub passed-error : {s t : ReaderState} {from to next : R} {r : List ℕ} {why : LineError} {last : ReaderState} {e : PropertiesError}
+      → Passed reader s from r t to → t.is_done ≡ false → JoinsError reader t to why last next → IsLineError why e
+      → (s.is_done ≡ false) × GivesError reader s from e next
+  passed-error {s} {t} {from} {to} {next} {r} {why} {last} {e} h g joins is = (passed-live h g, by joins)
     where
-      by : JoinsError reader t to n.why n.last next → JoinsError reader s from n.why n.last next
-      by (inl f) = inl (record {
+      says : {other : LineError} → why ≡ other → IsLineError other e
+      says same = subst (λ v. IsLineError v e) same is
+
+      by : JoinsError reader t to why last next → GivesError reader s from e next
+      by (inl f) = inr (inl (record {
         bytes = r ++ f.bytes;
         error = f.error;
         number = f.number;
         failed = failed-more h.read f.failed;
-        is = f.is;
-        items = passed-on h g f.bytes fault ∙ f.items;
-        lazy = elim h.lazy [ inl e ↦ passed-more h g e.1 f.lazy | inr e ↦ e ];
-      })
-      by (inr (inl f)) =
-          inr (inl (record { bytes = r ++ f.bytes; read = read-more h.read f.read; passes = all-on (h.passes g) f.passes; is = f.is; lazy = passed-lazy h g f.lazy }))
-      by (inr (inr f)) = inr (inr (record { bytes = r ++ f.bytes; read = read-more h.read f.read; is = f.is; lazy = passed-lazy h g f.lazy }))
-
-  -- there was no memory
-  no-room : {s : ReaderState} {from to : R} {e : PropertiesError} (bytes : List ℕ) → HasRead reader from bytes to → IsLazyItems s from bytes to → IsBareError Memory e
-      → GivesError reader s from e to
-  no-room {s} bytes h lazy is =
-      record { why = why.Memory; last = s; joins = inr (inr (record { bytes = bytes; read = h; is = refl; lazy = lazy })); is = is }
+        is = says f.is;
+        items = are_to_come (passed-on h g f.bytes fault ∙ f.items);
+        lazy = elim h.lazy [ inl e ↦ passed-more h g e.1 (are_to_come f.lazy) | inr e ↦ e ];
+      }))
+      by (inr (inl f)) = inr (inr (inl (record {
+        bytes = r ++ f.bytes;
+        read = read-more h.read f.read;
+        passes = all-on (h.passes g) f.passes;
+        is = says f.is;
+        lazy = passed-lazy h g f.lazy;
+      })))
+      by (inr (inr f)) = no-room (r ++ f.bytes) (read-more h.read f.read) (passed-lazy h g f.lazy) (says f.is)
 
   -- a line gave no item
-  pub passed-no_item : {s t : ReaderState} {from to next : R} {r : List ℕ} {e : PropertiesError} (line : Line) (new : ReaderState) → Passed reader s from r t to
-      → JoinsLine reader t to line new next → IsNoItem line.number line.text e
-      → (s.is_done ≡ false) × (GivesMalformed reader s from e next ⊎ GivesError reader s from e next)
-  passed-no_item {r = r} line new h n (inr is) = (passed-live h n.live, inr (no-room (r ++ n.bytes) (read-more h.read n.read) (passed-lazy h n.live n.lazy) is))
+  pub passed-no_item : {s t : ReaderState} {from to next : R} {r : List ℕ} {e : PropertiesError} (line : Line) (new : ReaderState)
+      → Passed reader s from r t to → JoinsLine reader t to line new next → IsNoItem line.number line.text e
+      → (s.is_done ≡ false) × GivesError reader s from e next
+  passed-no_item {r = r} line new h n (inr is) = (passed-live h n.live, no-room (r ++ n.bytes) (read-more h.read n.read) (passed-lazy h n.live n.lazy) is)
   passed-no_item {s} {t} {next = next} {r = r} line new h n (inl (kind, o, is)) = (
     passed-live h n.live,
     inl (record {
@@ -210,7 +222,10 @@ module _ {R : Type 0} {reader : Reader R} where
       kind = kind;
       read = read-more h.read n.read;
       is = is;
-      breaks = elim (passed-after line new (broken kind) h n o) [ inl k ↦ BreaksOff.before_all k.1 | inr k ↦ BreaksOff.at_last (n.ended k.0) k.1 ];
+      breaks = elim (passed-after line new (broken kind) h n o) [
+        | inl k ↦ BreaksOff.before_all (λ d ending. are_to_come (k.1 d ending))
+        | inr k ↦ BreaksOff.at_last (n.ended k.0) (are_to_come k.1)
+      ];
       lazy = passed-lazy h n.live n.lazy;
     }),
   )
@@ -223,7 +238,7 @@ module _ {R : Type 0} {reader : Reader R} where
     | inr k ↦ record {
       bytes = r;
       read = h.read;
-      items = k.1;
+      items = are_to_come k.1;
       done = d;
       idle = λ e. h.live e;
       ended = λ f. elim k.2 [ inl e ↦ absurd (cc) | inr e ↦ e ];
@@ -232,9 +247,10 @@ module _ {R : Type 0} {reader : Reader R} where
 
   -- an item came, and is owned now, or there was no memory for that
   pub gives-owned : {s : ReaderState} {from to : R} (found : Found) (old new : LineState) (answer : Result line.Line PropertiesError)
-      → GivesEntry reader s from (found_entry old.line found) old.state to → Owns old found answer new → GivesItem reader s from (Some answer) new.state to
+      → GivesEntry reader s from (found_entry old.line found) old.state to → Owns old found answer new
+      → GivesItem reader s from (Some answer) new.state to
   gives-owned found old new (Ok line) n k = rw (k.0, k.1) n
-  gives-owned found old new (Err e) n k = (n.live, ap (λ v. let w : LineState = v in w.state.is_done) k.1, inr (no-room n.bytes n.read n.lazy k.0))
+  gives-owned found old new (Err e) n k = (n.live, ap (λ v. let w : LineState = v in w.state.is_done) k.1, no-room n.bytes n.read n.lazy k.0)
 
 -- ---- no line came
 

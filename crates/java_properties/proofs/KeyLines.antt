@@ -1,6 +1,6 @@
 -- How the keys of a whole input are found, logical line after logical line.
 use Rattle.std.proofs.Common.{◌≡◌, ◌≢◌, ℕ, true, false, List, [], ◌∷◌, ◌++◌, refl, sym, ap, ap₂, ◌∙◌, inl, inr, subst, append-nil, if◌then◌else◌}
-use Rattle.std.specs.Prelude.{◌⊎◌, Option, Some, None, Ok, Err, bytes_eq, cond}
+use Rattle.std.specs.Prelude.{Option, Some, None, Ok, Err, bytes_eq, cond}
 use Rattle.std.specs.Option.{unwrap_or}
 use Rattle.std.specs.Map.{update}
 use Rattle.std.specs.BTreeMap.{BTreeMap, UpdatesBy, get_by_text}
@@ -14,29 +14,21 @@ use Rattle.std.proofs.lemmas.List.{map-append}
 use Rattle.std.proofs.lemmas.Slice.Eq.{bytes_eq-Decides}
 use Rattle.counted_io.specs.Streams.{Reader}
 use Rattle.properties_format.specs.Encoding.{Encoding}
-use Rattle.properties_format.specs.Computed.Encoding.{decoded_of}
-use Rattle.properties_format.specs.Lines.{end, Line, numbered_lines}
-use Rattle.properties_format.specs.Computed.Lines.{lines_of}
-use Rattle.properties_format.specs.Groups.{joined, first_number}
-use Rattle.properties_format.specs.Computed.Groups.{groups_of}
+use Rattle.properties_format.specs.Lines.{end, Line}
+use Rattle.properties_format.specs.Groups.{HasGroups, joined, first_number}
+use Rattle.properties_format.specs.Computed.Groups.{groups_in}
 use Rattle.properties_format.specs.Entries.{comment, pair}
 use Rattle.properties_format.specs.Escapes as format
 use Rattle.properties_format.specs.Escapes.{not_enough_digits, not_hex, invalid_character}
 use Rattle.properties_format.specs.Items.{Outcome, ignored, given, broken}
 use Rattle.properties_format.specs.Computed.Items.{outcome_of}
+use Rattle.properties_format.specs.Computed.Found.{found_in}
 use Rattle.properties_format.specs.Computed.Parts.{outcome_key}
 use Rattle.properties_format.specs.ItemsToCome.{ReaderState, start}
-use Rattle.properties_format.proofs.Encodings.Pieces.{decoded_of-meets, decoded_of-only}
-use Rattle.properties_format.proofs.Lines.Meets.{lines_of-meets}
-use Rattle.properties_format.proofs.Lines.Only.{lines_of-only}
-use Rattle.properties_format.proofs.Groups.Meets.{groups_of-meets}
-use Rattle.properties_format.proofs.Groups.Only.{groups_of-only}
-use Rattle.properties_format.proofs.Items.Unique.{outcome_of-meets, outcome_of-only}
+use Rattle.properties_format.proofs.Found.{found-in_groups, found-only, found_in-append}
 use Rattle.properties_format.proofs.Changed.Maps.{other-test}
-use Rattle.properties_lines.specs.LineJoiner.{LineState, JoinsNext, JoinsError}
-use Rattle.properties_lines.specs.declared.error.LineError.{LineError}
-use Rattle.properties_items.specs.Errors.{IsBareError, IsLineError, malformed_cause, malformed_kind}
-use Rattle.java_properties.specs.MalformedEscapes.{FailsToFind, StopsFinding}
+use Rattle.properties_lines.specs.LineJoiner.{LineState, JoinsNext}
+use Rattle.properties_items.specs.Errors.{malformed_cause, malformed_kind}
 use Rattle.properties_items.specs.declared.error.ErrorKind.TheVariants as kind
 use Rattle.properties_items.specs.declared.error.PropertiesError.{PropertiesError}
 use Rattle.properties_text.specs.Escaping.{malformed_in}
@@ -47,12 +39,15 @@ use Rattle.properties_items.specs.FoundItems.{FindsIn, IsNoItem}
 use Rattle.properties_items.specs.declared.found.Found as found
 use Rattle.properties_items.proofs.FoundItems.{found-item}
 use Rattle.properties_items.proofs.TextMaps.Values.{at_chars-sorted, at_chars-updated}
-use Rattle.java_properties.specs.KeyLines.{KeyPlace, keys_from, AreKeysIn, AreKeys, HasNoKey, HasFirstNumber, KeyEntry, AreFirstsOf, AreKeyLines, key_line_entry, key_line_entries, FindsAllKeys}
+use Rattle.java_properties.specs.KeyLines.{KeyPlace, keys_from, HasNoKey, HasFirstNumber, KeyEntry, AreFirstsOf, AreKeyLines, key_line_entry, key_line_entries, FindsAllKeys}
 use Rattle.java_properties.specs.Private.LineByLine.{number_at, KeepsFirst, AddsKeyLine, AddsIfKey, PushesKey, Collected}
 use Rattle.properties_items.specs.declared.findings.KeyLine as code
-use Rattle.java_properties.proofs.MalformedEscapes.{collected-start, collected-next, collected-groups, found-error, found-lost}
+use Rattle.java_properties.proofs.MalformedEscapes.{collected-start, collected-next, collected-lines, collected-groups}
 
 -- ---- the keys, computed
+
+abbrev place : ℕ → List ℕ → KeyPlace
+place number key = record { number = number; key = key }
 
 -- the key of a group, and those after it
 abbrev pub key_before : ℕ → Option (List ℕ) → List KeyPlace → List KeyPlace
@@ -61,51 +56,13 @@ key_before number (Some key) rest = record { number = number; key = key } ∷ re
 
 -- those of the groups
 abbrev pub keys_in : List (List Line) → List KeyPlace
-keys_in [] = []
-keys_in (g ∷ gs) = key_before (first_number g) (outcome_key (outcome_of (joined g))) (keys_in gs)
+keys_in groups = found_in (λ number x. keys_from number) groups
 
 same-from : (number : ℕ) (outcome : Outcome) (rest : List KeyPlace) → keys_from number outcome rest ≡ key_before number (outcome_key outcome) rest
 same-from number ignored rest = refl
 same-from number (given (comment text)) rest = refl
 same-from number (given (pair key value)) rest = refl
 same-from number (broken kind) rest = refl
-
-keys_in-meets : (gs : List (List Line)) → AreKeysIn gs (keys_in gs)
-keys_in-meets [] = refl
-keys_in-meets (g ∷ gs) =
-    (outcome_of (joined g), keys_in gs, outcome_of-meets (joined g), sym (same-from (first_number g) (outcome_of (joined g)) (keys_in gs)), keys_in-meets gs)
-
-keys_in-only : (gs : List (List Line)) (keys : List KeyPlace) → AreKeysIn gs keys → keys ≡ keys_in gs
-keys_in-only [] keys h = h
-keys_in-only (g ∷ gs) keys (outcome, rest, is, same, others) =
-    same
-    ∙ same-from (first_number g) outcome rest
-    ∙ ap₂ (λ v w. key_before (first_number g) (outcome_key v) w) (outcome_of-only (joined g) outcome is) (keys_in-only gs rest others)
-
--- the groups of an input
-abbrev pub groups_in : Encoding → List ℕ → List (List Line)
-groups_in e bytes = groups_of (numbered_lines (lines_of (decoded_of e bytes)) end) end
-
-are_keys-meets : (e : Encoding) (bytes : List ℕ) → AreKeys e bytes (keys_in (groups_in e bytes))
-are_keys-meets e bytes =
-    let text = decoded_of e bytes in
-    let lines = lines_of text in
-    record {
-      text = text;
-      lines = lines;
-      groups = groups_in e bytes;
-      decoded = decoded_of-meets e bytes;
-      divided = lines_of-meets text;
-      grouped = groups_of-meets (numbered_lines lines end) end;
-      are_keys = keys_in-meets (groups_in e bytes);
-    }
-
-are_keys-only : (e : Encoding) (bytes : List ℕ) (keys : List KeyPlace) → AreKeys e bytes keys → keys ≡ keys_in (groups_in e bytes)
-are_keys-only e bytes keys h =
-    keys_in-only h.groups keys h.are_keys
-    ∙ ap keys_in (groups_of-only (numbered_lines h.lines end) end h.groups h.grouped)
-    ∙ ap (λ v. keys_in (groups_of (numbered_lines v end) end)) (lines_of-only h.text h.lines h.divided)
-    ∙ ap (λ v. keys_in (groups_of (numbered_lines (lines_of v) end) end)) (decoded_of-only e bytes h.text h.decoded)
 
 -- ---- where a key comes first
 
@@ -131,7 +88,7 @@ finds-meets : (keys : List KeyPlace) (key : List ℕ) → Finds keys key (first_
 finds-meets [] key = tt
 finds-meets (k ∷ ks) key = elim (cases_Bool (bytes_eq k.key key)) [
   | inl same ↦
-      rw same (record { before = []; after = ks; division = ap (λ v. record { number = k.number; key = v } ∷ ks) ((bytes_eq-Decides k.key key).0 same); none = tt })
+      rw same (record { before = []; after = ks; division = ap (λ v. place k.number v ∷ ks) ((bytes_eq-Decides k.key key).0 same); none = tt })
   | inr other ↦ rw other (finds-later k ks key (first_place ks key) (not_same k.key key other) (finds-meets ks key))
 ]
 
@@ -178,7 +135,7 @@ among-all (k ∷ ks) = let same = (bytes_eq-Decides k.key k.key).1 refl in ((k.n
 entries-meets : (keys ks : List KeyPlace) → AreAmong keys ks → AreFirstsOf keys ks (entries_among keys ks)
 entries-meets keys [] h = refl
 entries-meets keys (k ∷ ks) h =
-    (unwrap_or (first_place keys k.key) k.number, entries_among keys ks, here (first_place keys k.key) h.0.1 (finds-meets keys k.key), refl, entries-meets keys ks h.1)
+    (_, entries_among keys ks, here (first_place keys k.key) h.0.1 (finds-meets keys k.key), refl, entries-meets keys ks h.1)
   where
     here : (o : Option ℕ) → o ≡ Some h.0.0 → Finds keys k.key o → HasFirstNumber keys k.key (unwrap_or o k.number)
     here None is f = absurd (cc)
@@ -193,22 +150,17 @@ entries-only keys (k ∷ ks) entries (first, rest, stands, same, others) =
 
 -- what is computed are the keys of the input, and the only ones
 key_lines_of : Encoding → List ℕ → List KeyEntry
-key_lines_of e bytes = key_entries (keys_in (groups_in e bytes))
-
-key_lines_of-meets : (e : Encoding) (bytes : List ℕ) → AreKeyLines e bytes (key_lines_of e bytes)
-unfolding key_lines_of
-key_lines_of-meets e bytes =
-    let keys = keys_in (groups_in e bytes) in
-    record { keys = keys; are_keys = are_keys-meets e bytes; are_firsts = entries-meets keys keys (among-all keys) }
+key_lines_of e bytes = key_entries (keys_in (groups_in e bytes end))
 
 -- They are those of the groups.
-pub groups-key_lines : (e : Encoding) (bytes : List ℕ) (gs : List (List Line)) → gs ≡ groups_in e bytes → AreKeyLines e bytes (key_entries (keys_in gs))
-unfolding key_lines_of
-groups-key_lines e bytes gs is = subst (λ v. AreKeyLines e bytes (key_entries (keys_in v))) (sym is) (key_lines_of-meets e bytes)
+pub groups-key_lines : {e : Encoding} {bytes : List ℕ} {gs : List (List Line)} → HasGroups e bytes end gs → AreKeyLines e bytes (key_entries (keys_in gs))
+groups-key_lines {gs = gs} h =
+    let keys = keys_in gs in
+    record { keys = keys; are_keys = found-in_groups _ h; are_firsts = entries-meets keys keys (among-all keys) }
 
 key_lines_of-only : (e : Encoding) (bytes : List ℕ) (entries : List KeyEntry) → AreKeyLines e bytes entries → entries ≡ key_lines_of e bytes
 unfolding key_lines_of
-key_lines_of-only e bytes entries h = entries-only h.keys h.keys entries h.are_firsts ∙ ap key_entries (are_keys-only e bytes h.keys h.are_keys)
+key_lines_of-only e bytes entries h = entries-only h.keys h.keys entries h.are_firsts ∙ ap key_entries (found-only _ e bytes end h.keys h.are_keys)
 
 -- ---- one key more
 
@@ -313,29 +265,30 @@ not_memory not_enough_digits h = cc
 not_memory not_hex h = cc
 not_memory invalid_character h = cc
 
-pub outcome_key-broken : (line : List ℕ) (number : ℕ) (how : Malformed) → FindsIn line number (Err (unescape.Malformed how)) → None ≡ outcome_key (outcome_of (chars line))
-outcome_key-broken line number how h =
-    let k = malformed_in how in
-    by-reason (h number (record { kind = malformed_kind k; line_number = Some number; cause = malformed_cause k; refused = None })
-    (record { its_kind = refl; its_line = refl; its_cause = refl; its_text = refl }))
+pub outcome_key-broken : (line : List ℕ) (number : ℕ) (how : Malformed) → FindsIn line number (Err (unescape.Malformed how))
+    → None ≡ outcome_key (outcome_of (chars line))
+outcome_key-broken line number how h = by-reason (h number error (record { its_kind = refl; its_line = refl; its_cause = refl; its_text = refl }))
   where
-    by-reason : IsNoItem number (chars line) (record { kind = malformed_kind (malformed_in how); line_number = Some number; cause = malformed_cause (malformed_in how); refused = None })
-        → None ≡ outcome_key (outcome_of (chars line))
+    error : PropertiesError
+    error = let k = malformed_in how in record { kind = malformed_kind k; line_number = Some number; cause = malformed_cause k; refused = None }
+
+    by-reason : IsNoItem number (chars line) error → None ≡ outcome_key (outcome_of (chars line))
     by-reason (inl (k, o, is)) = sym (ap outcome_key o)
     by-reason (inr is) = absurd (not_memory (malformed_in how) is.its_kind)
 
 -- ---- the reading
 
+from-append : (number : ℕ) (outcome : Outcome) (xs ys : List KeyPlace) → keys_from number outcome (xs ++ ys) ≡ keys_from number outcome xs ++ ys
+from-append number ignored xs ys = refl
+from-append number (given (comment text)) xs ys = refl
+from-append number (given (pair key value)) xs ys = refl
+from-append number (broken kind) xs ys = refl
+
 pub keys_in-push : (gs : List (List Line)) (g : List Line)
     → keys_in (gs ++ g ∷ []) ≡ keys_in gs ++ key_before (first_number g) (outcome_key (outcome_of (joined g))) []
-keys_in-push [] g = refl
-keys_in-push (h ∷ gs) g =
-    ap (key_before (first_number h) (outcome_key (outcome_of (joined h)))) (keys_in-push gs g)
-    ∙ before-append (outcome_key (outcome_of (joined h))) (keys_in gs) (key_before (first_number g) (outcome_key (outcome_of (joined g))) [])
-  where
-    before-append : (o : Option (List ℕ)) (xs ys : List KeyPlace) → key_before (first_number h) o (xs ++ ys) ≡ key_before (first_number h) o xs ++ ys
-    before-append None xs ys = refl
-    before-append (Some key) xs ys = refl
+keys_in-push gs g =
+    found_in-append (λ number x. keys_from number) (λ n x o xs ys. from-append n o xs ys) gs (g ∷ [])
+    ∙ ap (λ v. keys_in gs ++ v) (same-from (first_number g) (outcome_of (joined g)) [])
 
 -- These keys were found in the groups that came, and under each the number of its first line is kept.
 pub record FoundKeys {R Z : Type 0} (reader : Reader R) (e : Encoding) (from : R) (found : List code.KeyLine) (firsts : List (String Z × ℕ)) (state : ReaderState) (to : R) : Type 0 where
@@ -345,13 +298,13 @@ pub record FoundKeys {R Z : Type 0} (reader : Reader R) (e : Encoding) (from : R
   pub kept : (key : List ℕ) → number_at firsts key ≡ first_place (keys_in groups) key
 
 module _ {R Z : Type 0} {reader : Reader R} where
-  pub keys-start : (e : Encoding) (from : R) (found : List code.KeyLine) (firsts : List (String Z × ℕ)) (state : ReaderState) → found ≡ [] → firsts ≡ [] → state ≡ start e
-      → FoundKeys reader e from found firsts state from
+  pub keys-start : (e : Encoding) (from : R) (found : List code.KeyLine) (firsts : List (String Z × ℕ)) (state : ReaderState)
+      → found ≡ [] → firsts ≡ [] → state ≡ start e → FoundKeys reader e from found firsts state from
   keys-start e from found firsts state h i k = rw (h, i, k) (record { groups = []; collected = collected-start e from; entries = refl; kept = λ key. refl })
 
   -- a logical line came
-  pub keys-next : {e : Encoding} {from to next : R} {old found : List code.KeyLine} {firsts firsts' : List (String Z × ℕ)} {s : ReaderState} (number : ℕ) (new : LineState)
-      → FoundKeys reader e from old firsts s to → (n : JoinsNext reader s to number new next)
+  pub keys-next : {e : Encoding} {from to next : R} {old found : List code.KeyLine} {firsts firsts' : List (String Z × ℕ)} {s : ReaderState}
+      → (number : ℕ) (new : LineState) → FoundKeys reader e from old firsts s to → (n : JoinsNext reader s to number new next)
       → PushesKey number (chars new.line) old firsts (Ok tt) found firsts' → FoundKeys reader e from found firsts' new.state next
   keys-next {e} {from} {next = next} {old} {found} {firsts} {firsts'} number new h n a = by (outcome_key (outcome_of (chars new.line))) refl
     where
@@ -379,10 +332,11 @@ module _ {R Z : Type 0} {reader : Reader R} where
       added : (key : List ℕ) → outcome_key (outcome_of (chars new.line)) ≡ Some key → AddsKeyLine number key old found firsts firsts'
           → FoundKeys reader e from found firsts' new.state next
       added key told adds =
-          let k : KeyPlace = record { number = number; key = key } in
-          let same : keys_in (h.groups ++ g ∷ []) ≡ keys_in h.groups ++ k ∷ [] = came ∙ ap (λ o. keys_in h.groups ++ key_before number o []) told in
-          let first : adds.line.first_line_number ≡ unwrap_or (first_place (keys_in h.groups) key) number = adds.keeps.is ∙ ap (λ o. unwrap_or o number) (h.kept key) in
-          let says : key_line_entry adds.line ≡ record { number = number; key = key; first = unwrap_or (first_place (keys_in h.groups) key) number } = cc (adds.says.0, adds.says.1, first) in
+          let keys = keys_in h.groups in
+          let k = place number key in
+          let same : keys_in (h.groups ++ g ∷ []) ≡ keys ++ k ∷ [] = came ∙ ap (λ o. keys ++ key_before number o []) told in
+          let first : adds.line.first_line_number ≡ unwrap_or (first_place keys key) number = adds.keeps.is ∙ ap (λ o. unwrap_or o number) (h.kept key) in
+          let says : key_line_entry adds.line ≡ entry_of keys k = cc (adds.says.0, adds.says.1, first) in
           record {
             groups = h.groups ++ g ∷ [];
             collected = collected-next number new h.collected n;
@@ -390,12 +344,12 @@ module _ {R Z : Type 0} {reader : Reader R} where
                 ap key_line_entries adds.added
                 ∙ map-append key_line_entry old (adds.line ∷ [])
                 ∙ ap₂ (λ v w. v ++ w ∷ []) h.entries says
-                ∙ sym (entries-added (keys_in h.groups) k)
+                ∙ sym (entries-added keys k)
                 ∙ sym (ap key_entries same);
             kept = λ q.
                 adds.keeps.kept q
                 ∙ ap₂ (λ v w. cond (bytes_eq key q) (Some v) w) first (h.kept q)
-                ∙ sym (first-added (keys_in h.groups) k q)
+                ∙ sym (first-added keys k q)
                 ∙ sym (ap (λ v. first_place v q) same);
           }
 
@@ -404,28 +358,17 @@ module _ {R Z : Type 0} {reader : Reader R} where
       by (Some key) told = added key told (subst (λ o. AddsIfKey number o old found firsts firsts') told a)
 
   -- no more came
-  pub keys-all : {e : Encoding} {from to next : R} {found : List code.KeyLine} {firsts : List (String Z × ℕ)} {s : ReaderState} → FoundKeys reader e from found firsts s to
-      → s.is_done ≡ true → next ≡ to → FindsAllKeys reader e from found next
+  pub keys-all : {e : Encoding} {from to next : R} {found : List code.KeyLine} {firsts : List (String Z × ℕ)} {s : ReaderState}
+      → FoundKeys reader e from found firsts s to → s.is_done ≡ true → next ≡ to → FindsAllKeys reader e from found next
   unfolding key_lines_of
   keys-all {e} {found = found} h d same =
       let bytes = h.collected.bytes in
-      let groups : h.groups ≡ groups_in e bytes = collected-groups h.collected d in
+      let groups : h.groups ≡ groups_in e bytes end = collected-groups h.collected d in
       let is : key_line_entries found ≡ key_lines_of e bytes = h.entries ∙ ap (λ v. key_entries (keys_in v)) groups in
       rw same (record {
         bytes = bytes;
         read = h.collected.read;
         ended = h.collected.ended d;
-        are = subst (AreKeyLines e bytes) (sym is) (key_lines_of-meets e bytes);
+        are = subst (AreKeyLines e bytes) (sym h.entries) (groups-key_lines (collected-lines h.collected d));
         only = λ others k. key_lines_of-only e bytes others k ∙ sym is;
       })
-
-  -- no line came
-  pub keys-error : {e : Encoding} {from to next : R} {found : List code.KeyLine} {firsts : List (String Z × ℕ)} {s t : ReaderState} {why : LineError} {error : PropertiesError}
-      → FoundKeys reader e from found firsts s to → s.is_done ≡ false → JoinsError reader s to why t next → IsLineError why error
-      → FailsToFind reader e from error next ⊎ StopsFinding reader e from error next
-  keys-error h live f says = found-error (record { groups = h.groups; collected = h.collected; escapes = refl }) live f says
-
-  -- there was no memory for a key
-  pub keys-lost : {e : Encoding} {from to next : R} {found : List code.KeyLine} {firsts : List (String Z × ℕ)} {s : ReaderState} {error : PropertiesError} (number : ℕ) (new : LineState)
-      → FoundKeys reader e from found firsts s to → JoinsNext reader s to number new next → IsBareError kind.Memory error → StopsFinding reader e from error next
-  keys-lost number new h n is = found-lost number new (record { groups = h.groups; collected = h.collected; escapes = refl }) n is

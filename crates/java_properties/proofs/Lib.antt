@@ -5,7 +5,6 @@ pub mod ReadBack
 pub mod AsciiOnly
 pub mod CallComparisons
 pub mod Items
-pub mod StatedItems
 pub mod CopiedLines
 pub mod Copying
 pub mod Readings

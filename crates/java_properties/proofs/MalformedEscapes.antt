@@ -9,8 +9,8 @@ use Rattle.properties_format.specs.Encoding.{Encoding}
 use Rattle.properties_format.specs.Lines.{InputEnd, end, fault, Line, line_ends, numbered_lines}
 use Rattle.properties_format.specs.Computed.Encoding.{decoded_of}
 use Rattle.properties_format.specs.Computed.Lines.{lines_of}
-use Rattle.properties_format.specs.Groups.{IsGroups, AreWhole, IsWhole, IsUnfinished, lines_in, joined, first_number}
-use Rattle.properties_format.specs.Computed.Groups.{groups_of}
+use Rattle.properties_format.specs.Groups.{IsGroups, HasGroups, AreWhole, IsWhole, IsUnfinished, lines_in, joined, first_number}
+use Rattle.properties_format.specs.Computed.Groups.{groups_of, groups_in}
 use Rattle.properties_format.specs.Escapes.{means}
 use Rattle.properties_format.specs.Split.{Logical, IsSplit}
 use Rattle.properties_format.specs.Computed.Escapes.{meaning_of}
@@ -23,16 +23,16 @@ use Rattle.properties_format.specs.Computed.Items.{comment_outcome, outcome_of, 
 use Rattle.properties_format.specs.ItemsToCome.{ReaderState, start}
 use Rattle.properties_format.specs.Computed.ItemsToCome.{items_to_come, natural_to_come, last_to_come, text_to_come}
 use Rattle.properties_format.specs.MalformedEscapes as format
-use Rattle.properties_format.specs.MalformedEscapes.{escapes_from, AreEscapesIn, AreMalformedEscapes}
+use Rattle.properties_format.specs.MalformedEscapes.{escapes_from, AreMalformedEscapes}
 use Rattle.properties_format.specs.Computed.MalformedEscapes.{escapes_in, malformed_escapes_of}
-use Rattle.properties_format.proofs.Encodings.Pieces.{decoded_of-meets}
-use Rattle.properties_format.proofs.Lines.Meets.{lines_of-meets}
+use Rattle.properties_format.specs.Found.{AreFound}
 use Rattle.properties_format.proofs.Groups.Meets.{groups_of-meets}
-use Rattle.properties_format.proofs.Groups.Only.{groups_of-only}
+use Rattle.properties_format.proofs.Groups.Input.{groups-of_lines, groups_in-only}
+use Rattle.properties_format.proofs.Found.{found-in_groups}
 use Rattle.properties_format.proofs.ItemsToCome.Lines.{natural-done}
-use Rattle.properties_format.proofs.MalformedEscapes.{malformed_escapes_of-meets, malformed_escapes_of-only, escapes_in-meets, escapes_in-append, escapes_in-groups, natural-start, fault-last, cut-line}
+use Rattle.properties_format.proofs.MalformedEscapes.{malformed_escapes_of-meets, malformed_escapes_of-only, escapes_in-append, escapes_in-groups, natural-start, fault-last, cut-line}
 use Rattle.properties_lines.specs.LineReader.{Passes}
-use Rattle.properties_lines.specs.LineJoiner.{LineState, JoinsNext, JoinsError, JoinsFault}
+use Rattle.properties_lines.specs.LineJoiner.{LineState, JoinsNext, JoinsError, JoinsFault, JoinsTooMany, JoinsNoRoom}
 use Rattle.properties_lines.specs.declared.error.LineError.{LineError}
 use Rattle.properties_lines.proofs.LineJoiner.{passes-start, passes-on, some-come, all-on}
 use Rattle.properties_text.specs.Escaping.{holds_backslash}
@@ -50,7 +50,6 @@ use Rattle.java_properties.specs.Private.LineByLine.{ChecksLine, Collected, Foun
 use Rattle.properties_items.specs.declared.error.ErrorKind.TheVariants as kind
 use Rattle.properties_items.specs.declared.error.PropertiesError.{PropertiesError}
 use Rattle.properties_items.specs.declared.findings.MalformedEscape.{MalformedEscape}
-use Rattle.java_properties.proofs.StatedItems.{state-all}
 
 -- ---- groups
 
@@ -87,7 +86,8 @@ groups-after (g ∷ gs) ls ending hs h k =
       are_groups = ap (λ v. g ∷ v) after.are_groups;
     }
 
-last-groups : (gs : List (List Line)) (l : Line) (ls : List Line) → AreWhole gs → IsUnfinished (l ∷ ls) → IsGroups (lines_in (gs ++ (l ∷ ls) ∷ [])) end (gs ++ (l ∷ ls) ∷ [])
+last-groups : (gs : List (List Line)) (l : Line) (ls : List Line) → AreWhole gs → IsUnfinished (l ∷ ls)
+    → IsGroups (lines_in (gs ++ (l ∷ ls) ∷ [])) end (gs ++ (l ∷ ls) ∷ [])
 last-groups gs l ls h k = record {
   whole = gs;
   unfinished = l ∷ ls;
@@ -114,11 +114,11 @@ pub found-push : (gs : List (List Line)) (g : List Line) (number : ℕ) (x : Lis
 found-push gs g number x old new h i j k =
     k
     ∙ ap₂ (λ v w. v ++ escape_records w) h (ap₂ (λ v w. escapes_from v w (outcome_of w) []) i j)
-    ∙ sym (ap escape_records (escapes_in-append gs (g ∷ [])) ∙ map-append escape_record (escapes_in gs) (escapes_from (first_number g) (joined g) (outcome_of (joined g)) []))
+    ∙ sym (ap escape_records (escapes_in-append gs (g ∷ [])) ∙ map-append escape_record (escapes_in gs) (escapes_in (g ∷ [])))
 
 -- the bytes with these groups have this escape first
 begins : (e : Encoding) (bytes : List ℕ) (gs : List (List Line)) (x : format.MalformedEscape) (xs : List format.MalformedEscape)
-    → IsGroups (numbered_lines (lines_of (decoded_of e bytes)) end) end gs → escapes_in gs ≡ x ∷ xs → BeginsEscapes e bytes x
+    → HasGroups e bytes end gs → escapes_in gs ≡ x ∷ xs → BeginsEscapes e bytes x
 begins e bytes gs x xs h k =
     let same : malformed_escapes_of e bytes ≡ x ∷ xs = sym (escapes_in-groups e bytes gs h) ∙ k in
     record {
@@ -160,8 +160,8 @@ outcome-parts line parts h = ap split_outcome (sym (split_of-only (chars line) (
 pub blank-checked : (line : List ℕ) → IsSplit (chars line) Logical.blank → ChecksLine (chars line) (Ok tt)
 blank-checked line h = λ number. ap (λ v. escapes_from number (chars line) v []) (outcome-parts line None h)
 
-pub comment-checked : (line : List ℕ) (text : Span) (result : Result Unit escape.Malformed) → IsSplit (chars line) (Logical.comment (chars (bytes_in line text)))
-    → Checks Utf8 (bytes_in line text) result → ChecksLine (chars line) result
+pub comment-checked : (line : List ℕ) (text : Span) (result : Result Unit escape.Malformed)
+    → IsSplit (chars line) (Logical.comment (chars (bytes_in line text))) → Checks Utf8 (bytes_in line text) result → ChecksLine (chars line) result
 comment-checked line text (Ok done) h c =
     λ number. ap (λ v. escapes_from number (chars line) v []) (outcome-parts line (Some (spans.Comment text)) h ∙ ap comment_outcome c.1)
 comment-checked line text (Err how) h c = outcome-parts line (Some (spans.Comment text)) h ∙ ap comment_outcome c
@@ -197,9 +197,9 @@ plain-none number x none = by (split_of x) (split_of-meets x)
 
 -- ---- the reading
 
-module _ {R : Type 0} {reader : Reader R} where
-  pub collected-start : (e : Encoding) (from : R) → Collected reader e from [] (start e) from
-  collected-start e from = record {
+module _ {R : Type 0} {reader : Reader R} (e : Encoding) (from : R) where
+  pub collected-start : Collected reader e from [] (start e) from
+  collected-start = record {
     bytes = [];
     read = read-none from;
     passes = passes-start (start e);
@@ -208,13 +208,14 @@ module _ {R : Type 0} {reader : Reader R} where
     ended = λ d. absurd (cc);
   }
 
-  pub found-start : (e : Encoding) (from : R) (found : List MalformedEscape) (state : ReaderState) → found ≡ [] → state ≡ start e → Found reader e from found state from
-  found-start e from found state h k = rw (h, k) (record { groups = []; collected = collected-start e from; escapes = refl })
+  pub found-start : (found : List MalformedEscape) (state : ReaderState) → found ≡ [] → state ≡ start e → Found reader e from found state from
+  found-start found state h k = rw (h, k) (record { groups = []; collected = collected-start; escapes = refl })
 
+module _ {R : Type 0} {reader : Reader R} {e : Encoding} {from to : R} {s : ReaderState} where
   -- one group more came
-  pub collected-next : {e : Encoding} {from to next : R} {gs : List (List Line)} {s : ReaderState} (number : ℕ) (new : LineState) → Collected reader e from gs s to
+  pub collected-next : {next : R} {gs : List (List Line)} (number : ℕ) (new : LineState) → Collected reader e from gs s to
       → (n : JoinsNext reader s to number new next) → Collected reader e from (gs ++ (n.group.first ∷ n.group.others) ∷ []) new.state next
-  collected-next {e} {gs = gs} number new h n =
+  collected-next {gs = gs} number new h n =
       let group = n.group.first ∷ n.group.others in
       let P : List Line → Type 0 = λ v. Passes (start e) (h.bytes ++ n.bytes) v new.state in
       record {
@@ -226,7 +227,7 @@ module _ {R : Type 0} {reader : Reader R} where
         ended = n.ended;
       }
 
-  pub found-next : {e : Encoding} {from to next : R} {old : List MalformedEscape} {s : ReaderState} (number : ℕ) (new : LineState) (found : List MalformedEscape)
+  pub found-next : {next : R} {old : List MalformedEscape} (number : ℕ) (new : LineState) (found : List MalformedEscape)
       → Found reader e from old s to → (n : JoinsNext reader s to number new next)
       → found ≡ old ++ escape_records (escapes_from number (chars new.line) (outcome_of (chars new.line)) []) → Found reader e from found new.state next
   found-next {old = old} number new found h n k = record {
@@ -236,39 +237,35 @@ module _ {R : Type 0} {reader : Reader R} where
   }
 
   -- others are to come: these groups come before theirs
-  pub collected-on : {e : Encoding} {from to : R} {gs : List (List Line)} {s : ReaderState} (h : Collected reader e from gs s to) → s.is_done ≡ false
-      → (d : List ℕ) (ending : InputEnd)
-      → IsGroups (numbered_lines (lines_of (decoded_of e (h.bytes ++ d))) ending) ending (gs ++ groups_of (natural_to_come s d ending) ending)
-  collected-on {e} {gs = gs} {s = s} h live d ending =
+  pub collected-on : {gs : List (List Line)} (h : Collected reader e from gs s to) → s.is_done ≡ false → (d : List ℕ) (ending : InputEnd)
+      → HasGroups e (h.bytes ++ d) ending (gs ++ groups_of (natural_to_come s d ending) ending)
+  collected-on {gs = gs} h live d ending =
       let later = natural_to_come s d ending in
       let P : List Line → Type 0 = λ v. IsGroups v ending (gs ++ groups_of later ending) in
-      subst P (sym (by-passes h.passes) ∙ natural-start e (h.bytes ++ d) ending)
-      (groups-after gs later ending (groups_of later ending) (h.whole live) (groups_of-meets later ending))
+      groups-of_lines e (h.bytes ++ d) ending (subst P (sym (by-passes h.passes) ∙ natural-start e (h.bytes ++ d) ending)
+      (groups-after gs later ending (groups_of later ending) (h.whole live) (groups_of-meets later ending)))
     where
       by-passes : Passes (start e) h.bytes (lines_in gs) s → natural_to_come (start e) (h.bytes ++ d) ending ≡ lines_in gs ++ natural_to_come s d ending
       by-passes (Passes.going_on g reads) = (reads.gives d ending).natural
       by-passes (Passes.at_last g gives) = absurd (cc)
 
   -- no more came: these are the groups of the bytes
-  pub collected-lines : {e : Encoding} {from to : R} {gs : List (List Line)} {s : ReaderState} (h : Collected reader e from gs s to) → s.is_done ≡ true
-      → IsGroups (numbered_lines (lines_of (decoded_of e h.bytes)) end) end gs
-  collected-lines {e} {gs = gs} {s = s} h d = by-passes h.passes
+  pub collected-lines : {gs : List (List Line)} (h : Collected reader e from gs s to) → s.is_done ≡ true → HasGroups e h.bytes end gs
+  collected-lines {gs = gs} h d = by-passes h.passes
     where
-      by-passes : Passes (start e) h.bytes (lines_in gs) s → IsGroups (numbered_lines (lines_of (decoded_of e h.bytes)) end) end gs
+      by-passes : Passes (start e) h.bytes (lines_in gs) s → HasGroups e h.bytes end gs
       by-passes (Passes.going_on g reads) = absurd (cc)
       by-passes (Passes.at_last g gives) =
           let lines : numbered_lines (lines_of (decoded_of e h.bytes)) end ≡ lines_in gs =
           sym (natural-start e h.bytes end) ∙ gives.natural ∙ ap (λ v. lines_in gs ++ v) (natural-done s [] end d).0 ∙ append-nil (lines_in gs) in
           let P : List Line → Type 0 = λ v. IsGroups v end gs in
-          subst P (sym lines) h.grouped
+          groups-of_lines e h.bytes end (subst P (sym lines) h.grouped)
 
-  pub collected-groups : {e : Encoding} {from to : R} {gs : List (List Line)} {s : ReaderState} (h : Collected reader e from gs s to) → s.is_done ≡ true
-      → gs ≡ groups_of (numbered_lines (lines_of (decoded_of e h.bytes)) end) end
-  collected-groups {e} {gs = gs} h d = groups_of-only (numbered_lines (lines_of (decoded_of e h.bytes)) end) end gs (collected-lines h d)
+  pub collected-groups : {gs : List (List Line)} (h : Collected reader e from gs s to) → s.is_done ≡ true → gs ≡ groups_in e h.bytes end
+  collected-groups {gs = gs} h d = groups_in-only e h.bytes end gs (collected-lines h d)
 
-  pub found-all : {e : Encoding} {from to next : R} {found : List MalformedEscape} {s : ReaderState} → Found reader e from found s to → s.is_done ≡ true → next ≡ to
-      → FindsAll reader e from found next
-  found-all {e} h d same =
+  pub found-all : {next : R} {found : List MalformedEscape} → Found reader e from found s to → s.is_done ≡ true → next ≡ to → FindsAll reader e from found next
+  found-all h d same =
       let bytes = h.collected.bytes in
       rw same (record {
         bytes = bytes;
@@ -281,87 +278,83 @@ module _ {R : Type 0} {reader : Reader R} where
       })
 
   -- one escape came: it is the first one
-  pub found-first : {e : Encoding} {from to : R} {escape : MalformedEscape} {s : ReaderState} → Found reader e from (escape ∷ []) s to → FindsFirst reader e from escape to
-  found-first {e} {from} {to} {escape} {s} h = by (escapes_in h.groups) refl
+  found-first : {escape : MalformedEscape} → Found reader e from (escape ∷ []) s to → FindsFirst reader e from escape to
+  found-first {escape} h = by (escapes_in h.groups) refl
     where
-      at : (x : format.MalformedEscape) (xs : List format.MalformedEscape) → escapes_in h.groups ≡ x ∷ xs → Passes (start e) h.collected.bytes (lines_in h.groups) s
-          → ((d : List ℕ) → BeginsEscapes e (h.collected.bytes ++ d) x) ⊎ (has_ended reader to ≡ true) × BeginsEscapes e h.collected.bytes x
+      bytes : List ℕ
+      bytes = h.collected.bytes
+
+      at : (x : format.MalformedEscape) (xs : List format.MalformedEscape) → escapes_in h.groups ≡ x ∷ xs → Passes (start e) bytes (lines_in h.groups) s
+          → ((d : List ℕ) → BeginsEscapes e (bytes ++ d) x) ⊎ (has_ended reader to ≡ true) × BeginsEscapes e bytes x
       at x xs k (Passes.going_on live reads) = inl (λ d.
           let later = groups_of (natural_to_come s d end) end in
-          begins e (h.collected.bytes ++ d) (h.groups ++ later) x (xs ++ escapes_in later) (collected-on h.collected live d end)
+          begins e (bytes ++ d) (h.groups ++ later) x (xs ++ escapes_in later) (collected-on h.collected live d end)
           (escapes_in-append h.groups later ∙ ap (λ v. v ++ escapes_in later) k))
-      at x xs k (Passes.at_last done gives) =
-          inr (h.collected.ended done, begins e h.collected.bytes h.groups x xs (collected-lines h.collected done) k)
+      at x xs k (Passes.at_last done gives) = inr (h.collected.ended done, begins e bytes h.groups x xs (collected-lines h.collected done) k)
 
       by : (all : List format.MalformedEscape) → escapes_in h.groups ≡ all → FindsFirst reader e from escape to
       by [] k = let none : escape ∷ [] ≡ [] = h.escapes ∙ ap escape_records k in absurd (cc)
       by (x ∷ xs) k =
           let one : escape ∷ [] ≡ escape_record x ∷ escape_records xs = h.escapes ∙ ap escape_records k in
-          record { bytes = h.collected.bytes; escape = x; read = h.collected.read; begins = at x xs k h.collected.passes; is = cc }
+          record { bytes = bytes; escape = x; read = h.collected.read; begins = at x xs k h.collected.passes; is = cc }
 
-  -- a read failed; if no escape was found, none came before
-  found-fault : {e : Encoding} {from to next : R} {found : List MalformedEscape} {s : ReaderState} {why : LineError} {error : PropertiesError}
-      → Found reader e from found s to → s.is_done ≡ false → JoinsFault reader s to why next → IsLineError why error
-      → (fails : FailsToFind reader e from error next) × (found ≡ [] → CompletesNone e fails.bytes)
-  found-fault {e} {s = s} {error = error} h live f says =
-      let S : LineError → Type 0 = λ v. IsLineError v error in
-      let bytes = h.collected.bytes ++ f.bytes in
-      let later = groups_of (natural_to_come s f.bytes fault) fault in (
-        record {
-          bytes = bytes;
-          cause = f.error;
-          number = f.number;
-          failed = failed-more h.collected.read f.failed;
-          is = subst S f.is says;
-          cut = cut-line e bytes f.number (by-passes h.collected.passes);
-        },
-        λ none. record {
-          text = decoded_of e bytes;
-          lines = lines_of (decoded_of e bytes);
-          groups = h.groups ++ later;
-          decoded = decoded_of-meets e bytes;
-          divided = lines_of-meets (decoded_of e bytes);
-          grouped = collected-on h.collected live f.bytes fault;
-          are_escapes = subst (AreEscapesIn (h.groups ++ later)) (
-              escapes_in-append h.groups later
-              ∙ ap₂ (λ v w. v ++ w) (records-none (escapes_in h.groups) (sym none ∙ h.escapes))
-              (none-before _ later f.number (sym (items-groups s f.bytes live) ∙ f.items))) (escapes_in-meets (h.groups ++ later));
-        },
-      )
+  -- a read failed
+  collected-fails : {next : R} {gs : List (List Line)} {why : LineError} {error : PropertiesError} → Collected reader e from gs s to → s.is_done ≡ false
+      → JoinsFault reader s to why next → IsLineError why error → FailsToFind reader e from error next
+  collected-fails {gs = gs} h live f says = record {
+    bytes = h.bytes ++ f.bytes;
+    cause = f.error;
+    number = f.number;
+    failed = failed-more h.read f.failed;
+    is = rw f.is at says;
+    cut = cut-line e (h.bytes ++ f.bytes) f.number (by-passes h.passes);
+  }
     where
-      by-passes : Passes (start e) h.collected.bytes (lines_in h.groups) s → last_to_come (start e) (h.collected.bytes ++ f.bytes) fault ≡ read_fault f.number ∷ []
+      by-passes : Passes (start e) h.bytes (lines_in gs) s → last_to_come (start e) (h.bytes ++ f.bytes) fault ≡ read_fault f.number ∷ []
       by-passes (Passes.going_on g reads) = (reads.gives f.bytes fault).last ∙ fault-last s f.bytes f.number f.items
       by-passes (Passes.at_last g gives) = absurd (cc)
 
+  -- there was no number for another line, or no memory
+  collected-stops : {next : R} {gs : List (List Line)} {t : ReaderState} {why : LineError} {error : PropertiesError} → Collected reader e from gs s to
+      → s.is_done ≡ false → JoinsTooMany reader s to why t next ⊎ JoinsNoRoom reader s to why next → IsLineError why error
+      → StopsFinding reader e from error next
+  collected-stops h live (inl f) says =
+      record { bytes = h.bytes ++ f.bytes; read = read-more h.read f.read; is = inl (rw f.is at says, all-on (some-come h.passes live) f.passes) }
+  collected-stops h live (inr f) says = record { bytes = h.bytes ++ f.bytes; read = read-more h.read f.read; is = inr (rw f.is at says) }
+
   -- no line came
-  pub found-stops : {e : Encoding} {from to next : R} {found : List MalformedEscape} {s t : ReaderState} {why : LineError} {error : PropertiesError}
-      → Found reader e from found s to → s.is_done ≡ false → JoinsError reader s to why t next → IsLineError why error
-      → ((fails : FailsToFind reader e from error next) × (found ≡ [] → CompletesNone e fails.bytes)) ⊎ StopsFinding reader e from error next
-  found-stops h live (inl f) says = inl (found-fault h live f says)
-  found-stops {error = error} h live (inr (inl f)) says =
-      let S : LineError → Type 0 = λ v. IsLineError v error in
-      inr (record {
-        bytes = h.collected.bytes ++ f.bytes;
-        read = read-more h.collected.read f.read;
-        is = inl (subst S f.is says, state-all (all-on (some-come h.collected.passes live) f.passes));
-      })
-  found-stops {error = error} h live (inr (inr f)) says =
-      let S : LineError → Type 0 = λ v. IsLineError v error in
-      inr (record { bytes = h.collected.bytes ++ f.bytes; read = read-more h.collected.read f.read; is = inr (subst S f.is says) })
-
-  pub found-error : {e : Encoding} {from to next : R} {found : List MalformedEscape} {s t : ReaderState} {why : LineError} {error : PropertiesError}
-      → Found reader e from found s to → s.is_done ≡ false → JoinsError reader s to why t next → IsLineError why error
+  pub collected-error : {next : R} {gs : List (List Line)} {t : ReaderState} {why : LineError} {error : PropertiesError} → Collected reader e from gs s to
+      → s.is_done ≡ false → JoinsError reader s to why t next → IsLineError why error
       → FailsToFind reader e from error next ⊎ StopsFinding reader e from error next
-  found-error h live n says = elim (found-stops h live n says) [ inl f ↦ inl f.0 | inr f ↦ inr f ]
+  collected-error h live (inl f) says = inl (collected-fails h live f says)
+  collected-error h live (inr f) says = inr (collected-stops h live f says)
 
-  -- the search for the next one, where none was found before
-  pub first-found : {e : Encoding} {from : R} {s : ReaderState} (t : ReaderState) (to : R) (result : Result (Option MalformedEscape) PropertiesError) → Found reader e from [] s from
-      → FindsNextEscape reader s from result t to → FindsFirstMalformed reader e from result to
-  first-found {e} {from} t to (Ok (Some escape)) h n = found-first (n e from [] h)
-  first-found {e} {from} t to (Ok None) h n = n e from [] h
-  first-found {e} {from} t to (Err error) h n = elim (n e from [] h) [ inl f ↦ inl (record { fails = f.0; none = f.1 refl }) | inr f ↦ inr f ]
+  -- if no escape was found before, none came
+  pub found-stops : {next : R} {found : List MalformedEscape} {t : ReaderState} {why : LineError} {error : PropertiesError} → Found reader e from found s to
+      → s.is_done ≡ false → JoinsError reader s to why t next → IsLineError why error
+      → ((fails : FailsToFind reader e from error next) × (found ≡ [] → CompletesNone e fails.bytes)) ⊎ StopsFinding reader e from error next
+  unfolding collected-fails
+  found-stops h live (inl f) says =
+      let later = groups_of (natural_to_come s f.bytes fault) fault in
+      inl (
+        collected-fails h.collected live f says,
+        λ none. subst (AreFound escapes_from e (h.collected.bytes ++ f.bytes) fault) (
+            escapes_in-append h.groups later
+            ∙ ap₂ (λ v w. v ++ w) (records-none (escapes_in h.groups) (sym none ∙ h.escapes))
+            (none-before _ later f.number (sym (items-groups s f.bytes live) ∙ f.items)))
+            (found-in_groups escapes_from (collected-on h.collected live f.bytes fault)),
+      )
+  found-stops h live (inr f) says = inr (collected-stops h.collected live f says)
 
-  -- there was no memory for an escape
-  pub found-lost : {e : Encoding} {from to next : R} {found : List MalformedEscape} {s : ReaderState} {error : PropertiesError} (number : ℕ) (new : LineState)
-      → Found reader e from found s to → JoinsNext reader s to number new next → IsBareError kind.Memory error → StopsFinding reader e from error next
-  found-lost number new h n is = record { bytes = h.collected.bytes ++ n.bytes; read = read-more h.collected.read n.read; is = inr is }
+  -- there was no memory for what is found
+  pub collected-lost : {next : R} {gs : List (List Line)} {error : PropertiesError} (number : ℕ) (new : LineState) → Collected reader e from gs s to
+      → JoinsNext reader s to number new next → IsBareError kind.Memory error → StopsFinding reader e from error next
+  collected-lost number new h n is = record { bytes = h.bytes ++ n.bytes; read = read-more h.read n.read; is = inr is }
+
+-- the search for the next one, where none was found before
+pub first-found : {R : Type 0} {reader : Reader R} {e : Encoding} {from : R} {s : ReaderState} (t : ReaderState) (to : R)
+    (result : Result (Option MalformedEscape) PropertiesError) → Found reader e from [] s from → FindsNextEscape reader s from result t to
+    → FindsFirstMalformed reader e from result to
+first-found {e = e} {from} t to (Ok (Some escape)) h n = found-first (n e from [] h)
+first-found {e = e} {from} t to (Ok None) h n = n e from [] h
+first-found {e = e} {from} t to (Err error) h n = elim (n e from [] h) [ inl f ↦ inl (record { fails = f.0; none = f.1 refl }) | inr f ↦ inr f ]

@@ -12,7 +12,8 @@ use Rattle.properties_format.specs.Lines.{end}
 use Rattle.properties_items.specs.Line.{content_of}
 use Rattle.java_properties.specs.PropertiesIter.{Iteration, Gives, NextGives, entry_of}
 use Rattle.java_properties.specs.ReadLines.{entries_in}
-use Rattle.java_properties.specs.ReadInto.{KeyAndValue, pair_in, pairs_among, GivesLines, IsCalledOn, CallableOnPairs, last_answer, HasReadAll, HasReadFirst, WereToCome, ReadsInto}
+use Rattle.java_properties.specs.ReadInto.{KeyAndValue, pair_in, pairs_among, GivesLines, IsCalledOn, CallableOnPairs, last_answer, HasReadAll}
+use Rattle.java_properties.specs.ReadInto.{HasReadFirst, WereToCome, ReadsInto}
 use Rattle.properties_items.specs.declared.error.PropertiesError.{PropertiesError}
 use Rattle.properties_items.specs.declared.line.Line.{Line}
 use Rattle.properties_items.specs.declared.line.LineContent.{LineContent}
@@ -34,7 +35,8 @@ module _ {R : Type 0} (reader : Reader R) where
       by (Gives.going_on l comes) = record {
         bytes = n.0.bytes ++ k.bytes;
         read = read-more n.0.read k.read;
-        items = λ d ending others h. rw (append_assoc n.0.bytes k.bytes d) (comes.others (k.bytes ++ d) ending (entries_in lines ++ others) (k.items d ending others h));
+        items = λ d ending others h. rw (append_assoc n.0.bytes k.bytes d)
+            (comes.others (k.bytes ++ d) ending (entries_in lines ++ others) (k.items d ending others h));
       }
       by (Gives.at_last l items) = absurd (cc)
 
@@ -46,14 +48,16 @@ module _ {R : Type 0} (reader : Reader R) where
       first-more line lines old h.0 new h.1 there (lines-first lines h.0 new h.2 live)
 
   -- no line comes once the reading is at its end
-  none-left : (lines : List Line) (old before new : Iteration R) → GivesLines reader old lines before → NextGives reader before None new → old.state.is_done ≡ true
+  none-left : (lines : List Line) (old before new : Iteration R) → GivesLines reader old lines before → NextGives reader before None new
+      → old.state.is_done ≡ true
       → (lines ≡ []) × (new.reader ≡ old.reader)
   none-left [] old before new h n done =
       let there = ap (λ (r : Iteration R). r.state.is_done) (sym h) ∙ done in
       (refl, (n.0.idle there).1 ∙ ap (λ (r : Iteration R). r.reader) (sym h))
   none-left (line ∷ lines) old before new h n done = absurd (let live = h.1.0.live in cc)
 
-  all-more : (line : Line) (lines : List Line) (old next before new : Iteration R) → (n : NextGives reader old (Some (Ok line)) next) → GivesLines reader next lines before
+  all-more : (line : Line) (lines : List Line) (old next before new : Iteration R) → (n : NextGives reader old (Some (Ok line)) next)
+      → GivesLines reader next lines before
       → NextGives reader before None new → HasReadAll reader next lines new → HasReadAll reader old (line ∷ lines) new
   all-more line lines old next before new n given last k = by n.0.gives
     where
@@ -67,7 +71,8 @@ module _ {R : Type 0} (reader : Reader R) where
           let none = none-left lines next before new given last l in
           record { bytes = n.0.bytes; read = rw none.1 n.0.read; items = rw none.0 items }
 
-  lines-all : (lines : List Line) (old before new : Iteration R) → GivesLines reader old lines before → NextGives reader before None new → HasReadAll reader old lines new
+  lines-all : (lines : List Line) (old before new : Iteration R) → GivesLines reader old lines before → NextGives reader before None new
+      → HasReadAll reader old lines new
   lines-all [] old before new h n =
       let k : HasReadAll reader before [] new = record { bytes = n.0.bytes; read = n.0.read; items = n.0.items } in
       subst (λ (r : Iteration R). HasReadAll reader r [] new) (sym h) k
@@ -82,7 +87,8 @@ module _ {R : Type 0} (reader : Reader R) where
 -- ---- what the closure was called on
 
 -- These lines came so far, and the closure was called on their pairs.
-pub record HasCalled {R F : Type 0} (reader : Reader R) (step : F → String Global → String Global → Unit {0} → F → Type 0) (old : Iteration R) (f : F) (it : Iteration R) (g : F) : Type 0 where
+pub record HasCalled {R F : Type 0} (reader : Reader R) (step : F → String Global → String Global → Unit {0} → F → Type 0) (old : Iteration R)
+    (f : F) (it : Iteration R) (g : F) : Type 0 where
   pub lines : List Line
   pub given : GivesLines reader old lines it
   pub called : IsCalledOn step f (pairs_among lines) g

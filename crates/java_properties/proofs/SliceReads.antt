@@ -7,10 +7,9 @@ use Rattle.std.specs.declared.io.Error.{Error}
 use Rattle.std.proofs.lemmas.List.{nil_from_length, append-nil}
 use Rattle.counted_io.specs.Streams.{Reader, HasRead, HasFailed, has_ended}
 use Rattle.properties_format.specs.Encoding.{Encoding}
-use Rattle.properties_format.specs.ItemsToCome.{ReaderState, start}
+use Rattle.properties_format.specs.ItemsToCome.{ReaderState, start, PassesAll}
 use Rattle.properties_format.specs.Lines.{Line}
 use Rattle.java_properties.specs.Private.LineByLine.{Collected}
-use Rattle.java_properties.specs.PropertiesIter.{PassesAll}
 use Rattle.java_properties.proofs.FewLines.{few-passed}
 
 -- what is known of a slice as a reader
@@ -43,7 +42,8 @@ module _ {from to : Bor (List ℕ)} {bytes : List ℕ} where
   slice-faultless h = cc (h.risen)
 
 -- It has a number for each of its lines.
-pub slice-numbered : (e : Encoding) (from to : Bor (List ℕ)) (bytes : List ℕ) → length from.now + 1 < 2 ^ 64 → HasRead slice_reader from bytes to → PassesAll (start e) bytes → ⊥
+pub slice-numbered : (e : Encoding) (from to : Bor (List ℕ)) (bytes : List ℕ) → length from.now + 1 < 2 ^ 64 → HasRead slice_reader from bytes to
+    → PassesAll (start e) bytes → ⊥
 slice-numbered e from to bytes small read passes =
     let many = few-passed e bytes passes in
     let whole : length from.now ≡ length (bytes ++ to.now) = ap length (slice-read read) in

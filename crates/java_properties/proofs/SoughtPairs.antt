@@ -7,10 +7,8 @@ use Rattle.std.specs.Str.{chars}
 use Rattle.std.specs.declared.string.String.{String}
 use Rattle.counted_io.specs.Streams.{Reader, HasRead, has_ended}
 use Rattle.properties_format.specs.Encoding.{Encoding}
-use Rattle.properties_format.specs.Computed.Encoding.{decoded_of}
-use Rattle.properties_format.specs.Lines.{end, Line, numbered_lines}
-use Rattle.properties_format.specs.Computed.Lines.{lines_of}
-use Rattle.properties_format.specs.Groups.{IsGroups, is_comment_line, lines_in, joined, first_number}
+use Rattle.properties_format.specs.Lines.{end, Line}
+use Rattle.properties_format.specs.Groups.{is_comment_line, lines_in, joined, first_number}
 use Rattle.properties_format.specs.Computed.Groups.{groups_of}
 use Rattle.properties_format.specs.Entries.{Content, comment, pair}
 use Rattle.properties_format.specs.Escapes.{Malformed, Meaning, means, breaks}
@@ -24,11 +22,12 @@ use Rattle.properties_format.specs.ItemsToCome.{ReaderState, start}
 use Rattle.properties_format.specs.Computed.Escapes.{meaning_of}
 use Rattle.properties_format.specs.Computed.Items.{comment_outcome, outcome_of, split_outcome}
 use Rattle.properties_format.specs.Computed.ItemsToCome.{natural_to_come}
-use Rattle.properties_format.specs.Computed.MalformedEscapes.{escapes_in, malformed_escapes_of}
+use Rattle.properties_format.specs.Computed.MalformedEscapes.{escapes_in}
 use Rattle.properties_format.specs.Computed.Maps.{first_value, value_in}
 use Rattle.properties_format.specs.Computed.Split.{split_of}
-use Rattle.properties_format.proofs.Edits.PairValues.{pairs_in, pairs_in-push, pairs_of, pairs_of-meets}
-use Rattle.properties_format.proofs.MalformedEscapes.{escapes_in-append, escapes_in-groups, malformed_escapes_of-meets}
+use Rattle.properties_format.proofs.Edits.PairValues.{pairs_in, pairs_in-push}
+use Rattle.properties_format.proofs.Found.{found-in_groups}
+use Rattle.properties_format.proofs.MalformedEscapes.{escapes_in-append, escapes-are}
 use Rattle.properties_format.proofs.Maps.{value_in-append, value_in-meets}
 use Rattle.properties_format.proofs.Split.Unique.{split_of-meets}
 use Rattle.properties_format.proofs.Valued.Parts.{comment_line-no_pair}
@@ -43,7 +42,7 @@ use Rattle.java_properties.specs.MalformedEscapes.{FailsToFind, StopsFinding}
 use Rattle.java_properties.specs.Values.{TellsPairValue}
 use Rattle.java_properties.specs.Private.LineByLine.{Collected}
 use Rattle.java_properties.specs.Private.SoughtValues.{TellsLineValue, value_after, value_through}
-use Rattle.java_properties.proofs.MalformedEscapes.{collected-start, collected-next, collected-on, collected-lines, collected-groups, found-error, found-lost}
+use Rattle.java_properties.proofs.MalformedEscapes.{collected-start, collected-next, collected-on, collected-lines, collected-error, collected-lost}
 use Rattle.java_properties.proofs.SliceReads.{collected-slice, slice_reader, slice-read, slice-whole, slice-faultless, slice-numbered}
 
 -- ---- a logical line
@@ -84,6 +83,12 @@ comments-join : (ms ns : List format.MalformedEscape) → AreInComments ms → A
 comments-join [] ns h k = k
 comments-join (m ∷ ms) ns h k = (h.0, comments-join ms ns h.1 k)
 
+-- those of one more group
+pub comments-push : (gs : List (List Line)) (g : List Line) (number : ℕ) (x : List ℕ) → number ≡ first_number g → x ≡ joined g
+    → AreInComments (escapes_in gs) → AreInComments (escapes_from number x (outcome_of x) []) → AreInComments (escapes_in (gs ++ g ∷ []))
+comments-push gs g number x is text h sound =
+    subst AreInComments (sym (escapes_in-append gs (g ∷ []))) (comments-join (escapes_in gs) (escapes_in (g ∷ [])) h (rw (is, text) at sound))
+
 first-after : (ms ns : List format.MalformedEscape) (how : Malformed) (n : ℕ) → AreInComments ms → IsFirstInPair how n ns → IsFirstInPair how n (ms ++ ns)
 first-after [] ns how n h k = k
 first-after (m ∷ ms) ns how n h k = inr (h.0, first-after ms ns how n h.1 k)
@@ -93,7 +98,8 @@ chosen : (b : Bool) (value : List ℕ) (before : Option (List ℕ)) → first_va
 chosen true value before = refl
 chosen false value before = refl
 
-last-through : (n : ℕ) (o : Outcome) (key : List ℕ) (before : Option (List ℕ)) → first_value (value_in (pair_from n o []) key) before ≡ value_through key o before
+last-through : (n : ℕ) (o : Outcome) (key : List ℕ) (before : Option (List ℕ))
+    → first_value (value_in (pair_from n o []) key) before ≡ value_through key o before
 last-through n ignored key before = refl
 last-through n (given (comment text)) key before = refl
 last-through n (given (pair name value)) key before = chosen (bytes_eq name key) value before
@@ -149,13 +155,10 @@ module _ {R : Type 0} {reader : Reader R} {e : Encoding} {key : List ℕ} where
       → HasSoughtPairs reader e from key later new.state next
   pairs-next number new later h n sound is =
       let g = n.group.first ∷ n.group.others in
-      let here : AreInComments (escapes_in (g ∷ [])) =
-      subst (λ m. AreInComments (escapes_from m (joined g) (outcome_of (joined g)) [])) n.group.number
-      (subst (λ x. AreInComments (escapes_from number x (outcome_of x) [])) n.group.text sound) in
       record {
         groups = h.groups ++ g ∷ [];
         collected = collected-next number new h.collected n;
-        in_comments = subst AreInComments (sym (escapes_in-append h.groups (g ∷ []))) (comments-join (escapes_in h.groups) (escapes_in (g ∷ [])) h.in_comments here);
+        in_comments = comments-push h.groups g number (chars new.line) n.group.number n.group.text h.in_comments sound;
         is = is ∙ ap₂ (λ x v. value_through key (outcome_of x) v) n.group.text h.is ∙ sym (value-push h.groups g key);
       }
 
@@ -164,27 +167,23 @@ module _ {R : Type 0} {reader : Reader R} {e : Encoding} {key : List ℕ} where
       → ReadsPairValue reader e from key value next
   pairs-all {value = value} h d same =
       let bytes = h.collected.bytes in
-      let all : pairs_in h.groups ≡ pairs_of e bytes = ap pairs_in (collected-groups h.collected d) in
       rw same (record {
         bytes = bytes;
         read = h.collected.read;
         ended = h.collected.ended d;
         has_value = record {
-          in_comments = (
-            malformed_escapes_of e bytes,
-            malformed_escapes_of-meets e bytes,
-            subst AreInComments (escapes_in-groups e bytes h.groups (collected-lines h.collected d)) h.in_comments,
-          );
-          pairs = pairs_of e bytes;
-          are = pairs_of-meets e bytes;
-          is = subst (IsValue (pairs_of e bytes) key) (sym (h.is ∙ ap (λ v. value_in v key) all)) (value_in-meets (pairs_of e bytes) key);
+          in_comments = escapes-are AreInComments (collected-lines h.collected d) h.in_comments;
+          pairs = pairs_in h.groups;
+          are = found-in_groups _ (collected-lines h.collected d);
+          is = subst (IsValue (pairs_in h.groups) key) (sym h.is) (value_in-meets (pairs_in h.groups) key);
         };
       })
 
   -- a pair came with a malformed escape
   pairs-stopped : {from to next : R} {value : Option (List ℕ)} {s : ReaderState} {error : PropertiesError} (number : ℕ) (new : LineState) (how : Malformed)
       → HasSoughtPairs reader e from key value s to → (n : JoinsNext reader s to number new next)
-      → is_comment_line (chars new.line) ≡ false → outcome_of (chars new.line) ≡ broken how → IsMalformed how number error → StopsAtPair reader e from error next
+      → is_comment_line (chars new.line) ≡ false → outcome_of (chars new.line) ≡ broken how → IsMalformed how number error
+      → StopsAtPair reader e from error next
   pairs-stopped {from} {next = next} number new how h n other broke says = record {
     bytes = came.bytes;
     how = how;
@@ -211,18 +210,14 @@ module _ {R : Type 0} {reader : Reader R} {e : Encoding} {key : List ℕ} where
           (subst (IsFirstInPair how number) (sym (escapes_in-append h.groups (g ∷ later)))
           (first-after (escapes_in h.groups) (escapes_in (g ∷ later)) how number h.in_comments (here later)))
 
-      first-of : (b : List ℕ) (all : List (List Line)) → IsGroups (numbered_lines (lines_of (decoded_of e b)) end) end all → IsFirstInPair how number (escapes_in all)
-          → EscapesAre e b (IsFirstInPair how number)
-      first-of b all is f = (malformed_escapes_of e b, malformed_escapes_of-meets e b, subst (IsFirstInPair how number) (escapes_in-groups e b all is) f)
-
       at : Passes (start e) came.bytes (lines_in (h.groups ++ g ∷ [])) new.state
-          → ((d : List ℕ) → EscapesAre e (came.bytes ++ d) (IsFirstInPair how number)) ⊎ (has_ended reader next ≡ true) × EscapesAre e came.bytes (IsFirstInPair how number)
-      at (Passes.going_on live reads) = inl (λ d.
-          let later = groups_of (natural_to_come new.state d end) end in
-          first-of (came.bytes ++ d) ((h.groups ++ g ∷ []) ++ later) (collected-on came live d end) (before later))
+          → ((d : List ℕ) → EscapesAre e (came.bytes ++ d) (IsFirstInPair how number))
+          ⊎ (has_ended reader next ≡ true) × EscapesAre e came.bytes (IsFirstInPair how number)
+      at (Passes.going_on live reads) =
+          inl (λ d. escapes-are (IsFirstInPair how number) (collected-on came live d end) (before (groups_of (natural_to_come new.state d end) end)))
       at (Passes.at_last done gives) = inr (
         came.ended done,
-        first-of came.bytes (h.groups ++ g ∷ []) (collected-lines came done)
+        escapes-are (IsFirstInPair how number) (collected-lines came done)
             (subst (λ v. IsFirstInPair how number (escapes_in v)) (append-nil (h.groups ++ g ∷ [])) (before [])),
       )
 
@@ -232,13 +227,13 @@ module _ {R : Type 0} {reader : Reader R} {e : Encoding} {key : List ℕ} where
       → (is_comment_line (chars new.line) ≡ false) × IsNoItem number (chars new.line) error
       → StopsAtPair reader e from error next ⊎ (FailsToFind reader e from error next ⊎ StopsFinding reader e from error next)
   pairs-refused number new h n (other, inl (how, broke, says)) = inl (pairs-stopped number new how h n other broke says)
-  pairs-refused number new h n (other, inr says) = inr (inr (found-lost number new (record { groups = h.groups; collected = h.collected; escapes = refl }) n says))
+  pairs-refused number new h n (other, inr says) = inr (inr (collected-lost number new h.collected n says))
 
   -- no line came
-  pub pairs-error : {from to next : R} {value : Option (List ℕ)} {s t : ReaderState} {why : LineError} {error : PropertiesError} → HasSoughtPairs reader e from key value s to
-      → s.is_done ≡ false → JoinsError reader s to why t next → IsLineError why error
+  pub pairs-error : {from to next : R} {value : Option (List ℕ)} {s t : ReaderState} {why : LineError} {error : PropertiesError}
+      → HasSoughtPairs reader e from key value s to → s.is_done ≡ false → JoinsError reader s to why t next → IsLineError why error
       → StopsAtPair reader e from error next ⊎ (FailsToFind reader e from error next ⊎ StopsFinding reader e from error next)
-  pairs-error h live f says = inr (found-error (record { groups = h.groups; collected = h.collected; escapes = refl }) live f says)
+  pairs-error h live f says = inr (collected-error h.collected live f says)
 
 -- ---- a slice
 
@@ -248,8 +243,8 @@ pub pairs-at : {e : Encoding} {from to next : Bor (List ℕ)} {key : List ℕ} {
 pairs-at same h = record { groups = h.groups; collected = collected-slice same h.collected; in_comments = h.in_comments; is = h.is }
 
 -- What a slice says of a key: it fails only at a malformed escape of a pair, or if memory runs out.
-pub slice-tells_pairs : {Z : Type 0} (e : Encoding) (from to : Bor (List ℕ)) (key : List ℕ) (result : Result (Option (String Z)) PropertiesError) → length from.now + 1 < 2 ^ 64
-    → SeeksPairValue slice_reader e key from result to → TellsPairValue e from.now key result
+pub slice-tells_pairs : {Z : Type 0} (e : Encoding) (from to : Bor (List ℕ)) (key : List ℕ) (result : Result (Option (String Z)) PropertiesError)
+    → length from.now + 1 < 2 ^ 64 → SeeksPairValue slice_reader e key from result to → TellsPairValue e from.now key result
 slice-tells_pairs e from to key (Ok value) small h = subst (λ v. HasPairValue e v key (option_map characters value)) (slice-whole h.read h.ended) h.has_value
 slice-tells_pairs e from to key (Err error) small (inl k) = inl (record {
   how = k.how;

@@ -1,6 +1,6 @@
 -- The value of a key that is sought, item after item.
 use Rattle.std.proofs.Common.{◌≡◌, ℕ, ◌+◌, ◌^◌, ◌<◌, false, List, [], ◌∷◌, ◌++◌, length, refl, sym, inl, inr, subst}
-use Rattle.std.specs.Prelude.{◌⊎◌, if◌then◌else◌, Option, Some, None, Result, Ok, Err, bytes_eq}
+use Rattle.std.specs.Prelude.{if◌then◌else◌, Option, Some, None, Result, Ok, Err, bytes_eq}
 use Rattle.std.specs.Borrow.{Bor}
 use Rattle.std.specs.Option.{option_map}
 use Rattle.std.specs.declared.string.String.{String}
@@ -21,16 +21,16 @@ use Rattle.properties_items.specs.Texts.{characters}
 use Rattle.properties_items.specs.declared.error.ErrorKind.TheVariants as kind
 use Rattle.properties_items.specs.declared.error.PropertiesError.{PropertiesError}
 use Rattle.java_properties.specs.Maps.{ReadsValue}
-use Rattle.java_properties.specs.ReadLines.{StopsMalformed, StopsFailed, StopsEarly}
+use Rattle.java_properties.specs.ReadLines.{ReadsUpTo, StopsMalformed}
 use Rattle.java_properties.specs.Values.{TellsValue}
-use Rattle.java_properties.specs.Private.GivenItems.{GivesEntry, GivesNone, GivesMalformed, GivesError}
+use Rattle.java_properties.specs.PropertiesIter.{GivesEntry, GivesNone, GivesError}
 use Rattle.java_properties.specs.Private.SoughtValues.{value_after}
-use Rattle.java_properties.proofs.Readings.{Collected, Comes, collected-start, collected-next, collected-none, collected-lost, collected-malformed, collected-error}
+use Rattle.java_properties.proofs.Readings.{Collected, Comes, collected-start, collected-next, collected-none, collected-lost, collected-error}
 use Rattle.java_properties.proofs.SliceReads.{slice_of, slice_reader, slice-read, slice-whole, slice-faultless, slice-numbered}
 
 -- ---- one item more
 
-items-added : (entries : List Entry) (number : ℕ) (content : Content) → AreItems entries → AreItems (entries ++ item number content ∷ [])
+pub items-added : (entries : List Entry) (number : ℕ) (content : Content) → AreItems entries → AreItems (entries ++ item number content ∷ [])
 items-added [] number content h = tt
 items-added (item n c ∷ entries) number content h = items-added entries number content h
 items-added (entry ∷ entries) number content h = absurd h
@@ -44,7 +44,8 @@ value-added entries number content key value h =
     by-content : (c : Content) → IsValue (entries ++ item number c ∷ []) key (value_after key c (value_in entries key))
     by-content (comment text) = map-comment entries number text (value_in entries) (map-meets entries) key
     by-content (pair name text) =
-        map-pair entries number name text (value_in entries) (λ k. if bytes_eq name k then Option.Some text else value_in entries k) (map-meets entries) (λ k. refl) key
+        let later : List ℕ → Option (List ℕ) = λ k. if bytes_eq name k then Option.Some text else value_in entries k in
+        map-pair entries number name text (value_in entries) later (map-meets entries) (λ k. refl) key
 
 -- ---- the reading
 
@@ -52,14 +53,15 @@ value-added entries number content key value h =
 pub record StopsSeeking {R : Type 0} (reader : Reader R) (e : Encoding) (from : R) (error : PropertiesError) (to : R) : Type 0 where
   pub entries : List Entry
   pub are_items : AreItems entries
-  pub stops : StopsMalformed reader e from entries error to ⊎ (StopsFailed reader e from entries error to ⊎ StopsEarly reader e from entries error to)
+  pub stops : ReadsUpTo reader e from entries error to
 
 abbrev pub SeeksValue : {R Z : Type 0} → Reader R → Encoding → List ℕ → R → Result (Option (String Z)) PropertiesError → R → Type 0
 SeeksValue reader e key from (Ok value) to = ReadsValue reader e from key (option_map characters value) to
 SeeksValue reader e key from (Err error) to = StopsSeeking reader e from error to
 
 -- These items came so far, and this is the value of the key in them.
-pub record HasSought {R : Type 0} (reader : Reader R) (e : Encoding) (from : R) (key : List ℕ) (value : Option (List ℕ)) (state : ReaderState) (to : R) : Type 0 where
+pub record HasSought {R : Type 0} (reader : Reader R) (e : Encoding) (from : R) (key : List ℕ) (value : Option (List ℕ))
+    (state : ReaderState) (to : R) : Type 0 where
   pub entries : List Entry
   pub bytes : List ℕ
   pub collected : Collected reader e from bytes entries state to
@@ -72,8 +74,9 @@ module _ {R : Type 0} {reader : Reader R} {e : Encoding} {key : List ℕ} where
   sought-none from state is = rw is (record { entries = []; bytes = []; collected = collected-start e from; are_items = tt; is = tt })
 
   -- an item came
-  pub sought-more : {from to next : R} {value : Option (List ℕ)} {s t : ReaderState} (number : ℕ) (content : Content) (later : Option (List ℕ)) → HasSought reader e from key value s to
-      → GivesEntry reader s to (item number content) t next → later ≡ value_after key content value → HasSought reader e from key later t next
+  pub sought-more : {from to next : R} {value : Option (List ℕ)} {s t : ReaderState} (number : ℕ) (content : Content) (later : Option (List ℕ))
+      → HasSought reader e from key value s to → GivesEntry reader s to (item number content) t next
+      → later ≡ value_after key content value → HasSought reader e from key later t next
   sought-more {value = value} number content later h g is = rw is (record {
     entries = h.entries ++ item number content ∷ [];
     bytes = h.bytes ++ g.bytes;
@@ -83,22 +86,18 @@ module _ {R : Type 0} {reader : Reader R} {e : Encoding} {key : List ℕ} where
   })
 
   -- an item came for which there was no memory
-  pub sought-lost : {from to next : R} {value : Option (List ℕ)} {s t : ReaderState} {entry : Entry} {error : PropertiesError} → HasSought reader e from key value s to
-      → GivesEntry reader s to entry t next → IsBareError kind.Memory error → StopsSeeking reader e from error next
+  pub sought-lost : {from to next : R} {value : Option (List ℕ)} {s t : ReaderState} {entry : Entry} {error : PropertiesError}
+      → HasSought reader e from key value s to → GivesEntry reader s to entry t next → IsBareError kind.Memory error → StopsSeeking reader e from error next
   sought-lost h g is = record { entries = h.entries; are_items = h.are_items; stops = inr (inr (collected-lost h.collected g is)) }
 
   -- an error came
   pub sought-error : {from to next : R} {value : Option (List ℕ)} {s : ReaderState} {error : PropertiesError} → HasSought reader e from key value s to
-      → s.is_done ≡ false → GivesMalformed reader s to error next ⊎ GivesError reader s to error next → StopsSeeking reader e from error next
-  sought-error h live k = record {
-    entries = h.entries;
-    are_items = h.are_items;
-    stops = elim k [ inl m ↦ inl (collected-malformed h.collected live m) | inr j ↦ inr (collected-error h.collected live j) ];
-  }
+      → s.is_done ≡ false → GivesError reader s to error next → StopsSeeking reader e from error next
+  sought-error h live k = record { entries = h.entries; are_items = h.are_items; stops = collected-error h.collected live k }
 
   -- no item comes any more
-  pub sought-all : {from to next : R} {value : Option (List ℕ)} {s t : ReaderState} → HasSought reader e from key value s to → GivesNone reader s to t next
-      → ReadsValue reader e from key value next
+  pub sought-all : {from to next : R} {value : Option (List ℕ)} {s t : ReaderState} → HasSought reader e from key value s to
+      → GivesNone reader s to t next → ReadsValue reader e from key value next
   sought-all h n =
       let whole = collected-none h.collected n in
       record {
@@ -126,7 +125,8 @@ sought-at {e} {from} {s = s} same h =
       is = h.is;
     }
 
-first-malformed : (entries : List Entry) (how : Malformed) (number : ℕ) → AreItems entries → IsFirstMalformed how number (entries ++ (malformed how number ∷ []))
+first-malformed : (entries : List Entry) (how : Malformed) (number : ℕ) → AreItems entries
+    → IsFirstMalformed how number (entries ++ (malformed how number ∷ []))
 first-malformed [] how number h = (refl, refl)
 first-malformed (item n content ∷ entries) how number h = first-malformed entries how number h
 first-malformed (entry ∷ entries) how number h = absurd h

@@ -10,10 +10,9 @@ use Rattle.properties_format.specs.Escapes.{Malformed, not_enough_digits, not_he
 use Rattle.properties_format.specs.Entries.{Entry}
 use Rattle.properties_format.specs.Lines as format
 use Rattle.properties_format.specs.Lines.{InputEnd}
-use Rattle.properties_format.specs.ItemsToCome.{ReaderState, start, in_force, AreLinesToCome}
+use Rattle.properties_format.specs.ItemsToCome.{ReaderState, start, in_force, AreLinesToCome, PassesAll}
 use Rattle.properties_lines.proofs.InputBuffer.{keeps-consumes}
 use Rattle.properties_items.specs.Errors.{kind_of, cause_of, cause_by, IsError, IsBareError, IsMalformed}
-use Rattle.java_properties.specs.PropertiesIter.{PassesAll}
 use Rattle.java_properties.specs.ReadLines.{entries_in, IsReading, StopsMalformed, StopsFailed, StopsEarly, StopsReading}
 use Rattle.java_properties.specs.WholeSources.{HasMalformedEscape, HasTooManyLines, IsCutShort, IsErrorAtFault}
 use Rattle.properties_items.specs.declared.error.Cause.{Cause}
@@ -36,7 +35,8 @@ error-by : {kind : ErrorKind} {line : Option ℕ} {cause : Cause} {error : Prope
     → IsError kind line (cause_by source cause) (caused_by source error)
 error-by source h = record { its_kind = h.its_kind; its_line = h.its_line; its_cause = ap (cause_by source) h.its_cause; its_text = h.its_text }
 
-malformed-by : {error : PropertiesError} {line : ℕ} (source : Error) (how : Malformed) → IsMalformed how line error → IsMalformed how line (caused_by source error)
+malformed-by : {error : PropertiesError} {line : ℕ} (source : Error) (how : Malformed) → IsMalformed how line error
+    → IsMalformed how line (caused_by source error)
 malformed-by source not_enough_digits h = error-by source h
 malformed-by source not_hex h = error-by source h
 malformed-by source invalid_character h = error-by source h
@@ -112,7 +112,8 @@ module _ {B : Type 0} (left : B → List ℕ) (faults : B → ℕ) (identity : B
         let all : h.bytes ≡ bytes = sym (append-nil h.bytes) ∙ ap (λ v. h.bytes ++ v) (sym h.failed.given.1) ∙ sym h.failed.moved ∙ whole in
         record { lines = lines; number = h.number; is = error-by source h.is; reading = rw all at h.reading }
 
-    again-early : (lines : List Line) → kind_of error ≢ kind.Memory → StopsEarly broken e b (entries_in lines) error c → HasTooManyLines e bytes (caused_by source error)
+    again-early : (lines : List Line) → kind_of error ≢ kind.Memory → StopsEarly broken e b (entries_in lines) error c
+        → HasTooManyLines e bytes (caused_by source error)
     again-early lines room h =
         let P : List ℕ → Type 0 = λ v. PassesAll (start e) v in
         let few : IsBareError kind.TooManyLines error × PassesAll (start e) h.bytes = elim h.is [ inl k ↦ k | inr k ↦ absurd (room k.its_kind) ] in
@@ -122,7 +123,8 @@ module _ {B : Type 0} (left : B → List ℕ) (faults : B → ℕ) (identity : B
           passes = subst P (sym h.read.moved ∙ whole) (all-more (left c) few.1);
           begins = elim h.begins [
             | inl k ↦ λ d ending. let began = k (left c ++ d) ending in
-                let Q : List ℕ → Type 0 = λ v. IsReading e v ending (entries_in lines ++ began.0) in (began.0, subst Q (divided b c bytes h.bytes d whole h.read.moved) began.1)
+                let Q : List ℕ → Type 0 = λ v. IsReading e v ending (entries_in lines ++ began.0) in
+                (began.0, subst Q (divided b c bytes h.bytes d whole h.read.moved) began.1)
             | inr k ↦ let never = k.0 in absurd (cc)
           ];
         }

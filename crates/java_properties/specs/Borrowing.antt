@@ -5,7 +5,7 @@ use Rattle.counted_io.specs.Streams.{Reader, IsSameReader}
 use Rattle.properties_format.specs.Lines.{Line, end}
 use Rattle.properties_format.specs.Groups.{IsWhole, IsUnfinished, joined}
 use Rattle.properties_format.specs.ItemsToCome.{ReaderState, AreLinesToCome, LinesComeFirst}
-use Rattle.java_properties.specs.PropertiesIter.{Iteration, GivesEntry, GivesNone, GivesMalformed, GivesError}
+use Rattle.java_properties.specs.PropertiesIter.{Iteration, GivesEntry, GivesNone, GivesError}
 use Rattle.properties_items.specs.declared.error.PropertiesError.{PropertiesError}
 use Rattle.properties_items.specs.declared.found.Found.{Found}
 use Rattle.properties_items.specs.declared.borrowed.LineRef.{LineRef}
@@ -39,8 +39,7 @@ AdvancesTo reader old (Some (Ok found)) new =
     (entry : GivesEntry reader old.state old.reader (found_entry new.line found) new.state new.reader)
     × IsFoundIn new.line found × IsSpelt old.state entry.bytes (logical_line found.line_number new.line) new.state
 AdvancesTo reader old (Some (Err e)) new =
-    (old.state.is_done ≡ false) × (new.state.is_done ≡ true)
-    × (GivesMalformed reader old.state old.reader e new.reader ⊎ GivesError reader old.state old.reader e new.reader)
+    (old.state.is_done ≡ false) × (new.state.is_done ≡ true) × GivesError reader old.state old.reader e new.reader
 
 -- The iterator keeps the reader that it was created with.
 abbrev pub AdvanceGives : {R : Type 0} → Reader R → Iteration R → Option (Result Found PropertiesError) → Iteration R → Type 0
@@ -54,9 +53,8 @@ BorrowsItem reader old (Some (Ok line)) new =
     (entry : GivesEntry reader old.state old.reader (borrowed_entry line) new.state new.reader)
     × BorrowsPlain (chars new.line) line.content × IsSpelt old.state entry.bytes (logical_line line.line_number new.line) new.state
 BorrowsItem reader old (Some (Err e)) new =
-    (old.state.is_done ≡ false) × (new.state.is_done ≡ true)
-    × (GivesMalformed reader old.state old.reader e new.reader ⊎ GivesError reader old.state old.reader e new.reader)
+    (old.state.is_done ≡ false) × (new.state.is_done ≡ true) × GivesError reader old.state old.reader e new.reader
 
--- It is the next item, according to some state of the iterator after the call.
+-- The iterator has a state after the call for which this is the next item.
 abbrev pub NextRefGives : {R : Type 0} → Reader R → Iteration R → Option (Result LineRef PropertiesError) → Type 0
 NextRefGives {R} reader old answer = (new : Iteration R) × BorrowsItem reader old answer new × IsSameReader reader old.reader new.reader

@@ -1,9 +1,9 @@
 -- What copying does: it takes the next item of an iterator, and writes it if it is a pair.
-use Rattle.std.specs.Prelude.{◌≡◌, All, ◌⊎◌, ℕ, true, false, List, Result, Ok, Err}
+use Rattle.std.specs.Prelude.{◌≡◌, All, ℕ, true, false, List, Result, Ok, Err}
 use Rattle.counted_io.specs.Streams.{Reader, Sink}
 use Rattle.properties_format.specs.Text.{scalar}
 use Rattle.properties_format.specs.Entries.{Content, comment, pair, item}
-use Rattle.java_properties.specs.PropertiesIter.{Iteration, GivesEntry, GivesNone, GivesMalformed, GivesError}
+use Rattle.java_properties.specs.PropertiesIter.{Iteration, GivesEntry, GivesNone, GivesError}
 use Rattle.java_properties.specs.PropertiesWriter.{Writing, WritesLine}
 use Rattle.properties_items.specs.declared.error.PropertiesError.{PropertiesError}
 use Rattle.java_properties.specs.declared.copy.CopyError.{CopyError}
@@ -41,7 +41,7 @@ pub record CopiesNone {R W : Type 0} (reader : Reader R) (old : Iteration R) (wr
 pub record FailsToRead {R W : Type 0} (reader : Reader R) (old : Iteration R) (writer : Writing W) (error : PropertiesError) (new : Iteration R) (written : Writing W) : Type 0 where
   pub live : old.state.is_done ≡ false
   pub done : new.state.is_done ≡ true
-  pub why : GivesMalformed reader old.state old.reader error new.reader ⊎ GivesError reader old.state old.reader error new.reader
+  pub why : GivesError reader old.state old.reader error new.reader
   pub same : written ≡ writer
 
 -- The next item is a pair, and writing it failed.

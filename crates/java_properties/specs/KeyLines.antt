@@ -3,11 +3,11 @@
 use Rattle.std.specs.Prelude.{◌≡◌, ◌≢◌, ◌⊎◌, ℕ, true, List, [], ◌∷◌, ◌++◌, map, Result, Ok, Err}
 use Rattle.std.specs.declared.vec.Vec.{Vec}
 use Rattle.counted_io.specs.Streams.{Reader, HasRead, has_ended}
-use Rattle.properties_format.specs.Encoding.{Encoding, IsDecoded}
-use Rattle.properties_format.specs.Lines.{end, Line, Lines, IsLines, numbered_lines}
-use Rattle.properties_format.specs.Groups.{IsGroups, joined, first_number}
+use Rattle.properties_format.specs.Encoding.{Encoding}
+use Rattle.properties_format.specs.Lines.{end}
 use Rattle.properties_format.specs.Entries.{comment, pair}
-use Rattle.properties_format.specs.Items.{Outcome, ignored, given, broken, IsOutcome}
+use Rattle.properties_format.specs.Items.{Outcome, ignored, given, broken}
+use Rattle.properties_format.specs.Found.{AreFound}
 use Rattle.properties_items.specs.Texts.{characters}
 use Rattle.java_properties.specs.MalformedEscapes.{FailsToFind, StopsFinding}
 use Rattle.properties_items.specs.declared.error.PropertiesError.{PropertiesError}
@@ -28,23 +28,9 @@ keys_from number (given (comment text)) rest = rest
 keys_from number (given (pair key value)) rest = record { number = number; key = key } ∷ rest
 keys_from number (broken kind) rest = rest
 
--- These are the keys of the groups, in order.
-abbrev pub AreKeysIn : List (List Line) → List KeyPlace → Type 0
-AreKeysIn [] keys = keys ≡ []
-AreKeysIn (group ∷ groups) keys =
-    (outcome : Outcome) × (rest : List KeyPlace) × IsOutcome (joined group) outcome
-    × (keys ≡ keys_from (first_number group) outcome rest) × AreKeysIn groups rest
-
--- The keys of an input in an encoding: it decodes to a text, the text has lines, the lines have groups, and these are
--- their keys.
-pub record AreKeys (e : Encoding) (bytes : List ℕ) (keys : List KeyPlace) : Type 0 where
-  pub text : List ℕ
-  pub lines : Lines
-  pub groups : List (List Line)
-  pub decoded : IsDecoded e bytes text
-  pub divided : IsLines text lines
-  pub grouped : IsGroups (numbered_lines lines end) end groups
-  pub are_keys : AreKeysIn groups keys
+-- These are the keys of an input in an encoding.
+abbrev pub AreKeys : Encoding → List ℕ → List KeyPlace → Type 0
+AreKeys e bytes keys = AreFound (λ number x. keys_from number) e bytes end keys
 
 -- ---- where a key comes first
 

@@ -3,14 +3,13 @@ use Rattle.std.specs.Prelude.{◌≡◌, ◌⊎◌, ℕ, true, List, [], ◌∷�
 use Rattle.std.specs.declared.io.Error.{Error}
 use Rattle.std.specs.declared.vec.Vec.{Vec}
 use Rattle.counted_io.specs.Streams.{Reader, HasRead, HasFailed, has_ended}
-use Rattle.properties_format.specs.Encoding.{Encoding, IsDecoded}
-use Rattle.properties_format.specs.Lines.{fault, Line, Lines, IsLines, numbered_lines}
-use Rattle.properties_format.specs.Groups.{IsGroups}
+use Rattle.properties_format.specs.Encoding.{Encoding}
+use Rattle.properties_format.specs.Lines.{fault}
+use Rattle.properties_format.specs.Found.{AreFound}
 use Rattle.properties_format.specs.MalformedEscapes as format
-use Rattle.properties_format.specs.MalformedEscapes.{AreEscapesIn, AreMalformedEscapes, IsCutLine}
-use Rattle.properties_format.specs.ItemsToCome.{start}
+use Rattle.properties_format.specs.MalformedEscapes.{escapes_from, AreMalformedEscapes, IsCutLine}
+use Rattle.properties_format.specs.ItemsToCome.{start, PassesAll}
 use Rattle.properties_items.specs.Errors.{IsBareError, IsStreamError, malformed_kind}
-use Rattle.java_properties.specs.PropertiesIter.{PassesAll}
 use Rattle.properties_items.specs.declared.error.ErrorKind.TheVariants as kind
 use Rattle.properties_items.specs.declared.error.PropertiesError.{PropertiesError}
 use Rattle.properties_items.specs.declared.findings.MalformedEscape.{MalformedEscape}
@@ -70,14 +69,8 @@ pub record FindsFirst {R : Type 0} (reader : Reader R) (e : Encoding) (from : R)
   pub is : found ≡ escape_record escape
 
 -- The logical lines that end within these bytes have no malformed escape.
-pub record CompletesNone (e : Encoding) (bytes : List ℕ) : Type 0 where
-  pub text : List ℕ
-  pub lines : Lines
-  pub groups : List (List Line)
-  pub decoded : IsDecoded e bytes text
-  pub divided : IsLines text lines
-  pub grouped : IsGroups (numbered_lines lines fault) fault groups
-  pub are_escapes : AreEscapesIn groups []
+abbrev pub CompletesNone : Encoding → List ℕ → Type 0
+CompletesNone e bytes = AreFound escapes_from e bytes fault []
 
 -- A read failed, and no malformed escape came before.
 pub record FailsBeforeFirst {R : Type 0} (reader : Reader R) (e : Encoding) (from : R) (error : PropertiesError) (to : R) : Type 0 where

@@ -1,13 +1,11 @@
--- The iterator over items as contracts see it, and the results and effects of its calls. Page Private.GivenItems states
--- them in terms of the items to come as they are computed.
-use Rattle.std.specs.Prelude.{◌≡◌, ◌⊎◌, ℕ, ◌+◌, ◌^◌, Bool, true, false, List, [], ◌∷◌, ◌++◌, Option, Some, None, Result, Ok, Err}
+-- The iterator over items as contracts see it, and the results and effects of its calls.
+use Rattle.std.specs.Prelude.{◌≡◌, ◌⊎◌, ℕ, Bool, true, false, List, [], ◌∷◌, ◌++◌, Option, Some, None, Result, Ok, Err}
 use Rattle.std.specs.declared.io.Error.{Error}
 use Rattle.counted_io.specs.Streams.{Reader, HasRead, HasFailed, IsSameReader, has_ended}
-use Rattle.properties_format.specs.Lines as format
 use Rattle.properties_format.specs.Lines.{InputEnd, end, fault, more}
 use Rattle.properties_format.specs.Entries.{Entry, malformed, read_fault}
 use Rattle.properties_format.specs.Escapes.{Malformed}
-use Rattle.properties_format.specs.ItemsToCome.{ReaderState, IsItemsToCome, ComesFirst, LinesComeFirst}
+use Rattle.properties_format.specs.ItemsToCome.{ReaderState, IsItemsToCome, ComesFirst, PassesSome, PassesAll, IsLazyItems}
 use Rattle.properties_items.specs.Errors.{IsBareError, IsMalformed, IsStreamError}
 pub use Rattle.properties_items.specs.Line.{format_content, entry_of}
 use Rattle.properties_items.specs.declared.error.ErrorKind.TheVariants as kind
@@ -19,22 +17,6 @@ pub record Iteration (R : Type 0) : Type 0 where
   pub reader : R
   pub state : ReaderState
   pub line : List ℕ
-
--- These bytes have some lines at their front. Whatever comes after them, the old state continues after those lines as
--- the new one does.
-pub record PassesSome (old : ReaderState) (bytes : List ℕ) (new : ReaderState) : Type 0 where
-  pub lines : List format.Line
-  pub first : LinesComeFirst old bytes lines new
-
--- The bytes hold so many lines that no number is left for another: as many are passed as there are numbers.
-pub record PassesAll (old : ReaderState) (bytes : List ℕ) : Type 0 where
-  pub last : ReaderState
-  pub passes : PassesSome old bytes last
-  pub passed : last.passed + 1 ≡ 2 ^ 64
-
--- Nothing was read; or the bytes already held determined no item, so a read was needed.
-abbrev pub IsLazyItems : {R : Type 0} → ReaderState → R → List ℕ → R → Type 0
-IsLazyItems old from bytes to = ((to ≡ from) × (bytes ≡ [])) ⊎ IsItemsToCome old [] more []
 
 -- The bytes that were read give this entry first, whatever comes after them, and then what the new state gives; or it
 -- is the last entry, and the input ended.
@@ -102,16 +84,17 @@ pub record GivesNoRoom {R : Type 0} (reader : Reader R) (old : ReaderState) (fro
   pub is : IsBareError kind.Memory e
   pub lazy : IsLazyItems old from bytes to
 
--- Why no line could be read.
+-- Why no item could be read.
 abbrev pub GivesError : {R : Type 0} → Reader R → ReaderState → R → PropertiesError → R → Type 0
-GivesError reader old from e to = GivesFault reader old from e to ⊎ (GivesTooMany reader old from e to ⊎ GivesNoRoom reader old from e to)
+GivesError reader old from e to =
+    GivesMalformed reader old from e to
+    ⊎ (GivesFault reader old from e to ⊎ (GivesTooMany reader old from e to ⊎ GivesNoRoom reader old from e to))
 
 -- The next item, and the state after requesting it. After `None` and after an error the iterator is at its end.
 abbrev pub GivesItem : {R : Type 0} → Reader R → ReaderState → R → Option (Result Line PropertiesError) → ReaderState → R → Type 0
 GivesItem reader old from None new to = GivesNone reader old from new to
 GivesItem reader old from (Some (Ok line)) new to = GivesEntry reader old from (entry_of line) new to
-GivesItem reader old from (Some (Err e)) new to =
-    (old.is_done ≡ false) × (new.is_done ≡ true) × (GivesMalformed reader old from e to ⊎ GivesError reader old from e to)
+GivesItem reader old from (Some (Err e)) new to = (old.is_done ≡ false) × (new.is_done ≡ true) × GivesError reader old from e to
 
 -- The next item of an iterator, which keeps the reader that it was created with.
 abbrev pub NextGives : {R : Type 0} → Reader R → Iteration R → Option (Result Line PropertiesError) → Iteration R → Type 0

@@ -11,11 +11,11 @@ use Rattle.properties_format.specs.Entries.{Entry, malformed, read_fault, Number
 use Rattle.properties_format.specs.Items.{IsItems}
 use Rattle.properties_format.specs.Laws.{HasOneReading}
 use Rattle.properties_items.specs.Errors.{IsBareError, IsMalformed, IsStreamError}
-use Rattle.properties_format.specs.ItemsToCome.{start}
-use Rattle.java_properties.specs.PropertiesIter.{entry_of, PassesAll}
+use Rattle.properties_format.specs.ItemsToCome.{start, PassesAll}
+use Rattle.java_properties.specs.PropertiesIter.{entry_of}
 use Rattle.properties_items.specs.declared.error.ErrorKind.TheVariants as kind
 use Rattle.properties_items.specs.declared.error.PropertiesError.{PropertiesError}
-use Rattle.java_properties.specs.declared.iter.all_lines.Stopped.{Stopped}
+use Rattle.java_properties.specs.declared.iter.lines.Stopped.{Stopped}
 use Rattle.properties_items.specs.declared.line.Line.{Line}
 
 abbrev pub entries_in : List Line → List Entry
@@ -78,16 +78,17 @@ pub record StopsEarly {R : Type 0} (reader : Reader R) (e : Encoding) (from : R)
   pub is : IsBareError kind.TooManyLines error × PassesAll (start e) bytes ⊎ IsBareError kind.Memory error
   pub begins : BeginsReading e bytes entries (has_ended reader to)
 
+-- Reading stopped after these items: at a malformed escape, at an I/O error, or because memory or line numbers ran out.
+abbrev pub ReadsUpTo : {R : Type 0} → Reader R → Encoding → R → List Entry → PropertiesError → R → Type 0
+ReadsUpTo reader e from entries error to =
+    StopsMalformed reader e from entries error to ⊎ (StopsFailed reader e from entries error to ⊎ StopsEarly reader e from entries error to)
+
 -- The result of reading a whole input. Ok is returned only at the reader's own end.
 abbrev pub ReadsLines : {R Z : Type 0} → Reader R → Encoding → R → Result (Vec Line Z) Stopped → R → Type 0
 ReadsLines reader e from (Ok lines) to = ReadsWhole reader e from (entries_in lines.items) to
-ReadsLines reader e from (Err stopped) to =
-    StopsMalformed reader e from (entries_in stopped.lines.items) stopped.error to
-    ⊎ (StopsFailed reader e from (entries_in stopped.lines.items) stopped.error to
-    ⊎ StopsEarly reader e from (entries_in stopped.lines.items) stopped.error to)
+ReadsLines reader e from (Err stopped) to = ReadsUpTo reader e from (entries_in stopped.lines.items) stopped.error to
 
--- Reading stopped after some items: at a malformed escape, at an I/O error, or because memory or line numbers ran out.
+-- Reading stopped after some items.
 pub record StopsReading {R : Type 0} (reader : Reader R) (e : Encoding) (from : R) (error : PropertiesError) (to : R) : Type 0 where
   pub lines : List Line
-  pub stops : StopsMalformed reader e from (entries_in lines) error to
-      ⊎ (StopsFailed reader e from (entries_in lines) error to ⊎ StopsEarly reader e from (entries_in lines) error to)
+  pub stops : ReadsUpTo reader e from (entries_in lines) error to

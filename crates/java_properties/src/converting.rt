@@ -4,7 +4,7 @@ ghost use Rattle.std.specs.Prelude.{IfErr, IfOk};
 ghost use Rattle.properties_format.specs.Converting.{IsConverted};
 ghost use Rattle.properties_text.specs.Converted.{is_readable};
 ghost use Rattle.properties_text.specs.Encoding.{encoding_of};
-ghost use Rattle.properties_text.specs.Printing.{encoding_in, only_in};
+ghost use Rattle.properties_text.specs.Printing.{in_format};
 ghost use Rattle.properties_items.specs.Errors.{IsBareError};
 ghost use Rattle.properties_items.specs.declared.error.ErrorKind.TheVariants.{Memory};
 
@@ -40,7 +40,7 @@ pub fn convert(
     spelling: Spelling,
 ) -> Result<Vec<u8>, PropertiesError>
     ensures converted { IfOk result (λ bytes.
-        IsConverted (encoding_of encoding) (encoding_in target) (only_in target) (is_readable spelling) source.now bytes.items) }
+        IsConverted (encoding_of encoding) (in_format target) (is_readable spelling) source.now bytes.items) }
     ensures refused { IfErr result (λ error. IsBareError Memory error) }
 {
     let bytes = convert::convert(alloc, source, encoding, target, spelling)?;

@@ -12,7 +12,7 @@ use crate::iter::PropertiesIter;
 use crate::writer::PropertiesWriter;
 use crate::writer::engine::Engine;
 use counted_io::{CountedRead, CountedWrite};
-use properties_items::error::{PropertiesError, make};
+use properties_items::error::{ErrorKind, PropertiesError, make};
 use properties_lines::joiner::LineJoiner;
 use properties_text::escape::{UnescapeError, check_escapes};
 use properties_text::parse::{ParsedSpans, parse_bytes};
@@ -124,36 +124,32 @@ fn copy_lines<R: CountedRead, W: CountedWrite>(
     while let Some(number) = lines.next_line(reader) {
         match build_line(engine, lines, readable) {
             Ok(Built::Nothing) => {}
-            Ok(Built::Line(line)) => {
+            Ok(Built::Pair(Ok(line))) => {
                 if let Err(fault) = engine.send_line(sink, line) {
                     let error = make::write_fault(Some(line), fault);
                     return Err(CopyError::Write(error));
                 }
             }
-            Ok(Built::Refused(accepted)) => {
-                return Err(CopyError::Write(engine.refusal(accepted)));
-            }
+            Ok(Built::Pair(Err(why))) => return Err(CopyError::Write(make::bare(why))),
             Err(error) => {
                 lines.end();
                 return Err(CopyError::Read(make::unresolved(number, error)));
             }
         }
     }
-    match lines.take_error() {
-        None => Ok(()),
-        Some(error) => Err(CopyError::Read(PropertiesError::from(error))),
+    match lines.finish() {
+        Ok(()) => Ok(()),
+        Err(error) => Err(CopyError::Read(PropertiesError::from(error))),
     }
 }
 
 // What is to be written for a logical line.
-#[derive(Clone, Copy)]
+#[derive(Drop)]
 enum Built {
     // Nothing, since it is blank or a comment.
     Nothing,
-    // The line with this number, which was built.
-    Line(usize),
-    // A pair that the writer refuses, although it would accept it, or because it wouldn't.
-    Refused(bool),
+    // A pair: its line was built, and has this number or is refused.
+    Pair(Result<usize, ErrorKind>),
 }
 
 // Builds what is to be written for the logical line that was joined last. `readable` is the setting.
@@ -184,16 +180,12 @@ fn build_line(
         }
         Some(ParsedSpans::KVPair(key, value)) => {
             engine.build_pair(Pair::spelt(lines.encoding(), bytes, key, value), readable)?;
-            let accepted = engine.takes_span(key);
-            match engine.next_number(accepted) {
-                Some(line) => Ok(Built::Line(line)),
-                None => Ok(Built::Refused(accepted)),
-            }
+            Ok(Built::Pair(engine.next_number(engine.takes_span(key))))
         }
     }
 }
 
-// A fact for the proof of the caller. It does nothing at run time.
+// Proof only: the elements of a slice of bytes are bytes.
 #[inline(always)]
 fn each_is_a_byte(bytes: &[u8])
     ensures { All byte bytes.now }

@@ -11,20 +11,20 @@ ghost use Rattle.properties_items.specs.BorrowedItems.{borrowed_entry, found_ent
 ghost use Rattle.java_properties.specs.Borrowing.{AdvanceGives, NextRefGives};
 ghost use Rattle.java_properties.specs.PropertiesIter.{Iteration, NextGives};
 
-mod all_lines;
+mod escapes;
 pub(crate) mod items;
-mod last_value;
-mod malformed_lines;
-mod numbered_keys;
+mod keys;
+mod lines;
+mod lookup;
 mod read_into;
 mod source_findings;
 
 use crate::iter::items::ItemReader;
-pub use all_lines::{Stopped, read_lines};
 use counted_io::CountedRead;
-pub use last_value::{value_among_pairs, value_of};
-pub use malformed_lines::{first_malformed_escape, malformed_escapes};
-pub use numbered_keys::key_lines;
+pub use escapes::{first_malformed_escape, malformed_escapes};
+pub use keys::key_lines;
+pub use lines::{Stopped, read_lines};
+pub use lookup::{value_among_pairs, value_of};
 use properties_items::borrowed::LineRef;
 use properties_items::error::PropertiesError;
 use properties_items::found::Found;
@@ -109,7 +109,6 @@ impl<R: CountedRead> PropertiesIter<R> {
     ///     println!(rt; "{}", line.line_number())?;
     /// }
     /// ```
-    #[tactic(auto, using(crate::proofs::StatedItems::stating))]
     pub fn advance(&mut self) -> Option<Result<Found, PropertiesError>>
         ensures gives { AdvanceGives R.CountedRead self.old result self.new }
         ensures nearer { OnSome result (lines_left self.new.state < lines_left self.old.state) }
@@ -150,7 +149,6 @@ impl<R: CountedRead> Iterator for PropertiesIter<R> {
 
     ghost remaining = { λ it. at_most (lines_left it.state) };
 
-    #[tactic(auto, using(crate::proofs::StatedItems::stating))]
     fn next(&mut self) -> Option<Result<Line, PropertiesError>> {
         self.items.next_item(&mut self.reader)
     }

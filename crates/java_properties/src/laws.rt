@@ -6,6 +6,7 @@
 
 ghost use Rattle.std.specs.Prelude.{ℕ, Bool, List};
 ghost use Rattle.properties_format.specs.Encoding.{Encoding, IsPieces, IsDecoded};
+ghost use Rattle.properties_format.specs.Repertoire.{Repertoire};
 ghost use Rattle.properties_format.specs.Lines.{InputEnd, Line, IsLines};
 ghost use Rattle.properties_format.specs.Groups.{IsGroups};
 ghost use Rattle.properties_format.specs.Split.{IsSplit};
@@ -100,9 +101,9 @@ pub fn splitting_commutes_with_decoding()
 /// // A proof that comes after may take what `convert` returned to have the items of the source.
 /// ```
 pub fn converting_keeps_items()
-    ensures items { (e to : Encoding) (only readable : Bool) (source : List ℕ) (ending : InputEnd) → ConvertingKeepsItems e to only readable source ending }
-    ensures lines { (e to : Encoding) (only readable : Bool) (source : List ℕ) (ending : InputEnd) → ConvertingKeepsLogicalLines e to only readable source ending }
-    ensures endings { (e to : Encoding) (only readable : Bool) (source : List ℕ) → ConvertingKeepsEndings e to only readable source }
+    ensures items { (e : Encoding) (to : Repertoire) (readable : Bool) (source : List ℕ) (ending : InputEnd) → ConvertingKeepsItems e to readable source ending }
+    ensures lines { (e : Encoding) (to : Repertoire) (readable : Bool) (source : List ℕ) (ending : InputEnd) → ConvertingKeepsLogicalLines e to readable source ending }
+    ensures endings { (e : Encoding) (to : Repertoire) (readable : Bool) (source : List ℕ) → ConvertingKeepsEndings e to readable source }
 {}
 
 /// Each source has exactly one result. With ASCII as the target, every byte of it is ASCII, and it has the same items in
@@ -119,10 +120,10 @@ pub fn converting_keeps_items()
 /// // A proof that comes after may take a source that was converted twice to be one that was converted once.
 /// ```
 pub fn converting_gives_one()
-    ensures one { (e to : Encoding) (only readable : Bool) (source : List ℕ) → ConvertsToOne e to only readable source }
+    ensures one { (e : Encoding) (to : Repertoire) (readable : Bool) (source : List ℕ) → ConvertsToOne e to readable source }
     ensures ascii { (e to : Encoding) (readable : Bool) (source : List ℕ) → ConvertingGivesAscii e to readable source }
-    ensures twice { (e to : Encoding) (only readable : Bool) (source : List ℕ) → ConvertingTwiceIsConvertingOnce e to only readable source }
-    ensures anyway { (e to : Encoding) (only readable : Bool) (source : List ℕ) → ReadableAnyway e to only readable source }
+    ensures twice { (e : Encoding) (to : Repertoire) (readable : Bool) (source : List ℕ) → ConvertingTwiceIsConvertingOnce e to readable source }
+    ensures anyway { (e : Encoding) (to : Repertoire) (readable : Bool) (source : List ℕ) → ReadableAnyway e to readable source }
     ensures kept { (e : Encoding) (source : List ℕ) → KeptIsItself e source }
-    ensures kept_ascii { (e to : Encoding) (only : Bool) (source : List ℕ) → AsciiIsItself e to only source }
+    ensures kept_ascii { (e : Encoding) (to : Repertoire) (source : List ℕ) → AsciiIsItself e to source }
 {}

@@ -21,7 +21,7 @@ mod copy;
 mod iter;
 pub mod laws;
 mod maps;
-mod streams;
+mod sources;
 mod writer;
 
 pub use converting::convert;
@@ -42,5 +42,5 @@ pub use properties_items::line::{Line, LineContent, LineEnding};
 pub use properties_text::convert::Spelling;
 pub use properties_text::encoding::Encoding;
 pub use properties_text::print::Repertoire;
-pub use streams::{read_source, write_source};
+pub use sources::{read_source, write_source};
 pub use writer::{Call, PropertiesWriter, run_calls};

@@ -22,7 +22,7 @@ use properties_text::parse::{ParsedSpans, Span, parse_spans};
 use std::alloc::{AllocError, Global};
 use std::borrow::CowStr;
 
-/// An item that `advance` of an iterator found, to be passed to its `get`.
+/// An item as positions in the logical line that an iterator keeps. `get` borrows it.
 ///
 /// It borrows nothing. It holds the positions of the texts in the line that the iterator keeps, and the texts whose
 /// escapes had to be resolved.

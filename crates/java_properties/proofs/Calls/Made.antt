@@ -1,17 +1,20 @@
 -- Calls that were made, one after another.
-use Rattle.std.proofs.Common.{◌≡◌, Bool, true, false, ℕ, List, [], ◌∷◌, ◌++◌, refl, ap, sym, ◌∙◌, append-nil, cond, subst, ◌+◌, ◌<◌, ◌≤◌, zero, suc, length, take, drop, get_or, add-one, arith, inl, inr}
+use Rattle.std.proofs.Common.{◌≡◌, Bool, true, false, ℕ, List, [], ◌∷◌, ◌++◌, refl, ap, sym, ◌∙◌, append-nil, cond, subst, ◌+◌, ◌<◌, ◌≤◌, zero, suc}
+use Rattle.std.proofs.Common.{length, take, drop, get_or, add-one, arith, inl, inr}
 use Rattle.std.specs.Prelude.{Some, None, is_some, map, Result, Ok, Err}
 use Rattle.counted_io.specs.Streams.{Sink}
 use Rattle.counted_io.proofs.Streams.{written-none, written-more}
 use Rattle.properties_format.specs.Entries.{Content, pair}
-use Rattle.properties_format.specs.Settings.{Settings, IsGoodPrefix, IsGoodSeparator}
-use Rattle.properties_format.specs.Writing.{Call, comment_call, pair_call, flush_call, is_accepted, settings_after_call, settings_after, line_count_after, written_line, answers, prefix_call, separator_call}
+use Rattle.properties_format.specs.Settings.{Settings}
+use Rattle.properties_format.specs.Writing.{Call, comment_call, pair_call, flush_call, is_accepted, settings_after_call, settings_after}
+use Rattle.properties_format.specs.Writing.{line_count_after, written_line, answers, prefix_call, separator_call}
 use Rattle.properties_format.proofs.Writing.{settings_after-append, line_count_after-append, wrote-append, answers-append}
 use Rattle.java_properties.specs.PropertiesWriter.{Writing, HasWrittenLine, with_settings, SetsPrefix, SetsSeparator}
-use Rattle.java_properties.specs.Calls.{after_calls, flushed_after, MayMake, MayMakeAll, HasMade, HasMadeCall, FailsInCall, StopsAtCall, is_not_accepted, IsAcceptedResult, Fails, MakesCall}
+use Rattle.java_properties.specs.Calls.{after_calls, flushed_after, MayMake, MayMakeAll, HasMade, HasMadeCall, FailsInCall, StopsAtCall}
+use Rattle.java_properties.specs.Calls.{is_not_accepted, IsAcceptedResult, Fails, MakesCall}
 use Rattle.std.proofs.lemmas.List.{take_all, length-map}
 use Rattle.properties_items.specs.declared.error.PropertiesError.{PropertiesError}
-use Rattle.std.proofs.lemmas.Bool.{cases_Bool}
+use Rattle.std.proofs.lemmas.Bool.{false_from_ne_true}
 use Rattle.properties_format.specs.Computed.Settings.{is_good_prefix, is_good_separator}
 use Rattle.properties_format.proofs.Settings.Tests.{is_good_prefix-from, IsGoodPrefix-from_test, is_good_separator-from, IsGoodSeparator-from_test}
 use Rattle.properties_items.specs.Errors.{kind_of}
@@ -66,7 +69,8 @@ module _ {W : Type 0} {sink : Sink W} where
   }
 
   -- a call that writes a line
-  pub made-line : {old new : Writing W} {line : Content} (call : Call) → MayMake old.failed call → written_line old.settings call ≡ Some line → (call ≡ flush_call → ⊥)
+  pub made-line : {old new : Writing W} {line : Content} (call : Call) → MayMake old.failed call → written_line old.settings call ≡ Some line
+      → (call ≡ flush_call → ⊥)
       → settings_after_call old.settings call ≡ old.settings → HasWrittenLine sink old line new → HasMade sink old (call ∷ []) new
   made-line {line = line} call live some other kept h = record {
     live = (live, tt);
@@ -127,7 +131,8 @@ module _ {W : Type 0} {sink : Sink W} where
       ∙ ap (λ b. answers old.settings calls ++ (b ∷ [])) (ap (λ s. is_accepted s call) (sym (ap (λ (v : Writing W). v.settings) m.after)) ∙ sym k.answer)
 
   -- a call failed after others were made
-  pub stops : {old middle new : Writing W} {calls before : List Call} {call : Call} {error : PropertiesError} (others : List Call) → calls ≡ before ++ (call ∷ others)
+  pub stops : {old middle new : Writing W} {calls before : List Call} {call : Call} {error : PropertiesError} (others : List Call)
+      → calls ≡ before ++ (call ∷ others)
       → HasMade sink old before middle → FailsInCall sink middle call error new → StopsAtCall sink old calls error new
   stops {middle = middle} {before = before} {call = call} others division made fails =
       record { before = before; call = call; others = others; division = division; middle = middle; made = made; fails = fails }
@@ -152,23 +157,16 @@ calls-all f xs i h = take_all i (map f xs) (omega (arith, length-map xs f))
 
 -- ---- what a call that sets a text does, by what the setter did
 
--- ---- which settings are good
-
-good-prefix : (prefix : List ℕ) → (IsGoodPrefix prefix → ⊥) → is_good_prefix prefix ≡ false
-good-prefix prefix bad = elim (cases_Bool (is_good_prefix prefix)) [ inl e ↦ absurd (bad (IsGoodPrefix-from_test prefix e)) | inr e ↦ e ]
-
-good-separator : (separator : List ℕ) → (IsGoodSeparator separator → ⊥) → is_good_separator separator ≡ false
-good-separator separator bad = elim (cases_Bool (is_good_separator separator)) [ inl e ↦ absurd (bad (IsGoodSeparator-from_test separator e)) | inr e ↦ e ]
-
 module _ {W : Type 0} (sink : Sink W) (old new : Writing W) (result : Result Bool PropertiesError) where
   -- the call failed
-  failed : (call : Call) (error : PropertiesError) → is_not_accepted (kind_of error) ≡ false → Fails sink old call error new → IsAcceptedResult (Err error) result
-      → MakesCall sink old call result new
+  failed : (call : Call) (error : PropertiesError) → is_not_accepted (kind_of error) ≡ false → Fails sink old call error new
+      → IsAcceptedResult (Err error) result → MakesCall sink old call result new
   failed call error final fails is = rw (is, final) (record { fails = fails; final = final })
 
   -- the call was accepted or not, and set what it says
-  answered : (call : Call) (accepted : Bool) (settings : Settings) → MayMake old.failed call → is_accepted old.settings call ≡ accepted → written_line old.settings call ≡ None
-      → (call ≡ flush_call → ⊥) → settings_after_call old.settings call ≡ settings → new ≡ with_settings old settings → result ≡ Ok accepted → MakesCall sink old call result new
+  answered : (call : Call) (accepted : Bool) (settings : Settings) → MayMake old.failed call → is_accepted old.settings call ≡ accepted
+      → written_line old.settings call ≡ None → (call ≡ flush_call → ⊥) → settings_after_call old.settings call ≡ settings → new ≡ with_settings old settings → result ≡ Ok accepted
+      → MakesCall sink old call result new
   answered call accepted settings live said none other set after is = rw is (record {
     answer = sym said;
     made = made-quiet call live none other (after ∙ ap (with_settings old) (sym set));
@@ -179,22 +177,22 @@ module _ {W : Type 0} (sink : Sink W) (old new : Writing W) (result : Result Boo
       → MakesCall sink old (prefix_call prefix) result new
   prefix-makes prefix (Ok done) h is =
       let good = is_good_prefix-from prefix h.good in
-      answered (prefix_call prefix) true _ tt good refl (λ q. absurd (cc)) (ap (λ b. cond b (with_prefix old.settings prefix) old.settings) good) h.after is
+      answered (prefix_call prefix) true (with_prefix old.settings prefix) tt good refl (λ q. absurd (cc)) (rw good refl) h.after is
   prefix-makes prefix (Err error) (inl h) is =
-      let bad = good-prefix prefix h.bad in
+      let bad = false_from_ne_true (is_good_prefix prefix) (λ e. h.bad (IsGoodPrefix-from_test prefix e)) in
       let said = ap is_not_accepted h.refuses.its_kind in
-      answered (prefix_call prefix) false _ tt bad refl (λ q. absurd (cc)) (ap (λ b. cond b (with_prefix old.settings prefix) old.settings) bad) h.same (rw said at is)
+      answered (prefix_call prefix) false old.settings tt bad refl (λ q. absurd (cc)) (rw bad refl) h.same (rw said at is)
   prefix-makes prefix (Err error) (inr h) is = failed (prefix_call prefix) error (ap is_not_accepted h.is.its_kind) h is
 
   pub separator-makes : (separator : List ℕ) (answer : Result Unit PropertiesError) → SetsSeparator old separator answer new → IsAcceptedResult answer result
       → MakesCall sink old (separator_call separator) result new
   separator-makes separator (Ok done) h is =
       let good = is_good_separator-from separator h.good in
-      answered (separator_call separator) true _ tt good refl (λ q. absurd (cc)) (ap (λ b. cond b (with_separator old.settings separator) old.settings) good) h.after is
+      answered (separator_call separator) true (with_separator old.settings separator) tt good refl (λ q. absurd (cc)) (rw good refl) h.after is
   separator-makes separator (Err error) (inl h) is =
-      let bad = good-separator separator h.bad in
+      let bad = false_from_ne_true (is_good_separator separator) (λ e. h.bad (IsGoodSeparator-from_test separator e)) in
       let said = ap is_not_accepted h.refuses.its_kind in
-      answered (separator_call separator) false _ tt bad refl (λ q. absurd (cc)) (ap (λ b. cond b (with_separator old.settings separator) old.settings) bad) h.same (rw said at is)
+      answered (separator_call separator) false old.settings tt bad refl (λ q. absurd (cc)) (rw bad refl) h.same (rw said at is)
   separator-makes separator (Err error) (inr h) is = failed (separator_call separator) error (ap is_not_accepted h.is.its_kind) h is
 
 pub ruleset setting = (prefix-makes, separator-makes)

@@ -103,7 +103,8 @@ made-only {old = old} {calls = calls} good scalars made pairs these =
       anew = writing-anew e s pairs own;
     }
 
-pub runs-read_back : {W : Type 0} (sink : Sink W) (old new : Writing W) (calls : List Call) (result : Result (Vec Bool) PropertiesError) → IsGoodWriter old → AreOfScalars calls
+pub runs-read_back : {W : Type 0} (sink : Sink W) (old new : Writing W) (calls : List Call) (result : Result (Vec Bool) PropertiesError) → IsGoodWriter old
+    → AreOfScalars calls
     → RunsCalls sink old calls result new → ReadsBack sink old calls result new
 runs-read_back sink old new calls (Ok answers) good scalars h = λ clean. made-read_back good scalars h.made clean
 runs-read_back sink old new calls (Err error) good scalars (inl h) = λ clean. inl h

@@ -53,7 +53,8 @@ separator_left-blank true c cs e = rw e
 separator_left-blank false c cs e = rw e
 
 -- neither a blank nor the first sign
-pub separator_left-other : (signed : Bool) (c : ℕ) (cs : List ℕ) → (is_separator c && not signed) ≡ false → is_blank c ≡ false → separator_left signed (c ∷ cs) ≡ false
+pub separator_left-other : (signed : Bool) (c : ℕ) (cs : List ℕ) → (is_separator c && not signed) ≡ false → is_blank c ≡ false
+    → separator_left signed (c ∷ cs) ≡ false
 separator_left-other true c cs s e = rw e
 separator_left-other false c cs s e = let t = sym (and-true (is_separator c)) ∙ s in rw (e, t)
 

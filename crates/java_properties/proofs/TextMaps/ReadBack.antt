@@ -38,7 +38,8 @@ use Rattle.java_properties.specs.PropertiesWriter.{Writing}
 use Rattle.java_properties.specs.Calls.{HasMade}
 use Rattle.java_properties.specs.ReadBack.{IsGoodWriter, IsReadBack}
 use Rattle.java_properties.specs.MapLines.{WritesMapLines, LinesReadBack, IsWrittenCleanly, LinesReadBackAfter}
-use Rattle.java_properties.specs.Maps.{Texts, entry_texts, calls_for, character_pair, items_for, AreInOrder, IsMapReadBack, WritesPairs, WritesMap, MapReadsBack}
+use Rattle.java_properties.specs.Maps.{Texts, entry_texts, calls_for, character_pair, items_for, AreInOrder, IsMapReadBack, WritesPairs, WritesMap}
+use Rattle.java_properties.specs.Maps.{MapReadsBack}
 use Rattle.properties_items.specs.Texts.{Entries, characters, value_at}
 use Rattle.properties_items.specs.declared.error.PropertiesError.{PropertiesError}
 use Rattle.properties_items.proofs.Scalars.{string-scalars}
@@ -59,13 +60,15 @@ before-differs x y u v less same =
     let no : bytes_eq x y ≡ false = sym (is_eq-slice_cmp x y) ∙ ap is_eq less in
     absurd (cc)
 
-key-differs : (x : List ℕ) (pairs : List (List ℕ × List ℕ)) → IsUtf8 x → AllByRecursion AreTexts pairs → AllByRecursion (λ y. slice_cmp nat_cmp x y ≡ Less) (keys_of pairs)
+key-differs : (x : List ℕ) (pairs : List (List ℕ × List ℕ)) → IsUtf8 x → AllByRecursion AreTexts pairs
+    → AllByRecursion (λ y. slice_cmp nat_cmp x y ≡ Less) (keys_of pairs)
     → HasNoKey (chars x) (map character_pair pairs)
 key-differs x [] u h less = tt
 key-differs x (texts ∷ pairs) u h less = ((λ same. before-differs x texts.0 u h.0.0 less.0 same), key-differs x pairs u h.1 less.1)
 
 -- pairs whose keys ascend strictly have keys of their own
-pub ascending-distinct : (pairs : List (List ℕ × List ℕ)) → AllByRecursion AreTexts pairs → IsStrictlySortedBy (slice_cmp nat_cmp) (keys_of pairs) → AreDistinct (map character_pair pairs)
+pub ascending-distinct : (pairs : List (List ℕ × List ℕ)) → AllByRecursion AreTexts pairs → IsStrictlySortedBy (slice_cmp nat_cmp) (keys_of pairs)
+    → AreDistinct (map character_pair pairs)
 unfolding IsStrictlySortedBy
 ascending-distinct [] h up = tt
 ascending-distinct (texts ∷ pairs) h up = (key-differs texts.0 pairs h.0.0 h.1 up.0, ascending-distinct pairs h.1 up.1)
@@ -197,7 +200,8 @@ written-map sink a s entries pairs old new own good in_order accepted written =
       items = subst (IsItems a bytes end) told (items_of-meets a bytes end);
       only = λ others is. items_of-only a bytes end others is ∙ told;
       is_map = λ key.
-          let same = among-value_in ps key (value_at entries key) distinct (moved-among (map character_pair xs) ps key (value_at entries key) moved (entries-say key entries)) in
+          let same = among-value_in ps key (value_at entries key) distinct
+          (moved-among (map character_pair xs) ps key (value_at entries key) moved (entries-say key entries)) in
           subst (IsValue (items_for pairs) key) (sym same) (value_in-meets (items_for pairs) key);
     }
 
@@ -214,7 +218,8 @@ pairs-after : {W : Type 0} {sink : Sink W} (first old new : Writing W) (calls : 
     → AllByRecursion AreTexts pairs → HasMade sink old (calls_for pairs) new → IsReadBack sink first (calls ++ calls_for pairs) new
 pairs-after {sink = sink} first old new calls pairs h texts made =
     let scalars = scalars-append calls (calls_for pairs) h.scalars (pairs-scalars pairs texts) in
-    let clean = clean-append first.settings calls (calls_for pairs) h.clean.prefixes (rw append-nil at (pairs-clean (settings_after first.settings calls) pairs [] tt)) in
+    let clean = clean-append first.settings calls (calls_for pairs) h.clean.prefixes
+    (rw append-nil at (pairs-clean (settings_after first.settings calls) pairs [] tt)) in
     let more = rw h.made.after at made.written in
     written-read_back h.good scalars (rw wrote-append (written-more h.made.written more)) (record { first = h.clean.first; prefixes = clean })
 
@@ -246,8 +251,8 @@ lines-read_back_after sink entries old new (Err error) h = λ first calls clean.
     }
 
 -- The pairs of a map that were written in order are the map that was written.
-pub writes-map : {W Y Z : Type 0} (sink : Sink W) (a : Encoding) (entries : Entries Y Z) (pairs : List Texts) (old new : W) (result : Result Unit PropertiesError)
-    → AreInOrder entries pairs → WritesPairs sink a pairs old result new → WritesMap sink a entries old result new
+pub writes-map : {W Y Z : Type 0} (sink : Sink W) (a : Encoding) (entries : Entries Y Z) (pairs : List Texts) (old new : W)
+    (result : Result Unit PropertiesError) → AreInOrder entries pairs → WritesPairs sink a pairs old result new → WritesMap sink a entries old result new
 writes-map sink a entries pairs old new (Ok done) in_order h = record { pairs = pairs; in_order = in_order; writes = h }
 writes-map sink a entries pairs old new (Err error) in_order h = inr (record { pairs = pairs; in_order = in_order; stops = h })
 
@@ -268,4 +273,5 @@ writes-read_back sink a entries old new (Err error) own (inr h) =
       sink_after = h.stops.sink_after;
     })
 writes-read_back sink a entries old new (Ok done) own h =
-    written-map sink a default_settings entries h.pairs old new own default_settings-good h.in_order (pairs-accepted (map character_pair h.pairs)) h.writes.written
+    written-map sink a default_settings entries h.pairs old new own default_settings-good h.in_order
+    (pairs-accepted (map character_pair h.pairs)) h.writes.written

@@ -8,8 +8,7 @@ use Rattle.properties_format.specs.Entries.{Content, comment, pair, item, AreIte
 use Rattle.properties_format.specs.Maps.{IsMap}
 use Rattle.properties_format.proofs.Maps.{map-none, map-comment, map-pair}
 use Rattle.properties_items.specs.Line.{number_of, content_of}
-use Rattle.java_properties.specs.PropertiesIter.{format_content, entry_of}
-use Rattle.java_properties.specs.Private.GivenItems.{GivesEntry, GivesNone}
+use Rattle.java_properties.specs.PropertiesIter.{format_content, entry_of, GivesEntry, GivesNone}
 use Rattle.java_properties.specs.ReadLines.{entries_in}
 use Rattle.java_properties.specs.Maps.{HasPut, HasReadMap, ReadsValue}
 use Rattle.properties_items.specs.Texts.{Entries, value_at}

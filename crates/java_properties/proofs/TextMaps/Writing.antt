@@ -1,5 +1,6 @@
 -- A map that is written, pair after pair.
-use Rattle.std.proofs.Common.{◌≡◌, ℕ, ◌+◌, ◌<◌, ◌≤◌, true, false, List, [], ◌∷◌, ◌++◌, length, get_or, take, drop, refl, ap, ◌∙◌, inl, inr, append_assoc, arith, sym, subst}
+use Rattle.std.proofs.Common.{◌≡◌, ℕ, ◌+◌, ◌<◌, ◌≤◌, true, false, List, [], ◌∷◌, ◌++◌, length, get_or, take, drop, refl, ap, ◌∙◌, inl, inr}
+use Rattle.std.proofs.Common.{append_assoc, arith, sym, subst}
 use Rattle.std.specs.Prelude.{map, Result, Ok, Err, string_bytes, bytes_eq}
 use Rattle.std.specs.Borrow.{Bor}
 use Rattle.std.specs.Str.{chars}
@@ -36,7 +37,8 @@ use Rattle.std.specs.String.{string_cmp, string_eq}
 use Rattle.std.specs.declared.cmp.Ordering.{Ordering}
 use Rattle.std.specs.declared.cmp.Ordering.TheVariants.{Less, Equal, Greater}
 use Rattle.std.proofs.lemmas.List.Sorted.{IsPermutation-map, IsPermutation-refl}
-use Rattle.std.proofs.lemmas.Map.Keys.{IsDistinct-head, IsDistinct-tail, IsDistinct-cons, IsDistinct-from_apart, IsDistinct-IsPermutation, apart_from_distinct, sorted_from_all_adjacent}
+use Rattle.std.proofs.lemmas.Map.Keys.{IsDistinct-head, IsDistinct-tail, IsDistinct-cons, IsDistinct-from_apart, IsDistinct-IsPermutation}
+use Rattle.std.proofs.lemmas.Map.Keys.{apart_from_distinct, sorted_from_all_adjacent}
 use Rattle.std.proofs.lemmas.Map.Lookups.{exact_bytes}
 use Rattle.std.proofs.lemmas.Slice.Eq.{bytes_eq-Decides}
 use Rattle.properties_items.specs.Texts.{Entries}
@@ -67,7 +69,8 @@ refused-final w key value other same reason = absurd reason
 abbrev first_texts : {Y Z : Type 0} → ℕ → List (Bor (String Y) × Bor (String Z)) → List Texts
 first_texts i entries = take i (texts_of entries)
 
-module _ {Y Z : Type 0} (entries : List (Bor (String Y) × Bor (String Z))) (i : ℕ) (entry : Bor (String Y) × Bor (String Z)) (below : i < length entries) (is : entry ≡ get_or entries i entry) where
+module _ {Y Z : Type 0} (entries : List (Bor (String Y) × Bor (String Z))) (i : ℕ) (entry : Bor (String Y) × Bor (String Z)) (below : i < length entries)
+    (is : entry ≡ get_or entries i entry) where
   cut-at : texts_of entries ≡ first_texts i entries ++ (borrowed_texts entry ∷ drop (i + 1) (texts_of entries))
   cut-at = rw (← is) at (calls-cut borrowed_texts entries i entry below)
 
@@ -95,8 +98,9 @@ module _ {W Y Z : Type 0} (sink : Sink W) (a : Encoding) (old : W) (entries : Li
   pair-final i key value w new error h (inl k) = refused-final w key value (kind_of error) (ap (λ (v : Writing W). v.settings) h.after) k.reason
   pair-final i key value w new error h (inr k) = ap is_not_accepted k.is.its_kind
 
-  module _ (i : ℕ) (entry : Bor (String Y) × Bor (String Z)) (key value : List ℕ) (w new : Writing W) (below : i < length entries) (is : entry ≡ get_or entries i entry)
-      (key_is : key ≡ string_bytes entry.0.now) (value_is : value ≡ string_bytes entry.1.now) (h : HasWrittenFirst sink a old entries i w) where
+  module _ (i : ℕ) (entry : Bor (String Y) × Bor (String Z)) (key value : List ℕ) (w new : Writing W) (below : i < length entries)
+      (is : entry ≡ get_or entries i entry) (key_is : key ≡ string_bytes entry.0.now) (value_is : value ≡ string_bytes entry.1.now)
+      (h : HasWrittenFirst sink a old entries i w) where
     -- one pair more
     pub first-more : HasWrittenLine sink w (pair (chars key) (chars value)) new → HasWrittenFirst sink a old entries (i + 1) new
     first-more line = rw (take-at entries i entry below is) (lines-more (borrowed_texts entry) h (rw (key_is, value_is) at line))
@@ -171,10 +175,12 @@ all-keys P [] h = tt
 all-keys P (e ∷ entries) h = (h.0, all-keys P entries h.1)
 
 -- keys that differ as texts differ as bytes
-distinct-bytes : {Y Z : Type 0} (entries : List (String Y × String Z)) → IsDistinct string_eq (keys_of entries) → IsDistinct bytes_eq (keys_of (map entry_texts entries))
+distinct-bytes : {Y Z : Type 0} (entries : List (String Y × String Z)) → IsDistinct string_eq (keys_of entries)
+    → IsDistinct bytes_eq (keys_of (map entry_texts entries))
 distinct-bytes [] h = IsDistinct-from_apart bytes_eq [] (λ i j d below inside. absurd (omega (arith, inside)))
 distinct-bytes (e ∷ entries) h = IsDistinct-cons bytes_eq (string_bytes e.0) (keys_of (map entry_texts entries))
-    (all-keys (λ k. bytes_eq (string_bytes e.0) k ≡ false) entries (IsDistinct-head string_eq e.0 (keys_of entries) h)) (distinct-bytes entries (IsDistinct-tail string_eq e.0 (keys_of entries) h))
+    (all-keys (λ k. bytes_eq (string_bytes e.0) k ≡ false) entries (IsDistinct-head string_eq e.0 (keys_of entries) h))
+    (distinct-bytes entries (IsDistinct-tail string_eq e.0 (keys_of entries) h))
 
 module _ {Y Z : Type 0} where
   abbrev borrowed_key : Bor (String Y) × Bor (String Z) → List ℕ
@@ -186,7 +192,8 @@ module _ {Y Z : Type 0} where
   keys-are : (xs : List (Bor (String Y) × Bor (String Z))) → keys_of (texts_of xs) ≡ map borrowed_key xs
   keys-are xs = map-map (λ (e : List ℕ × List ℕ). e.0) borrowed_texts xs
 
-  neighbours : (xs : List (Bor (String Y) × Bor (String Z))) (d : Bor (String Y) × Bor (String Z)) → IsSorted pair_cmp xs → IsDistinct bytes_eq (map borrowed_key xs)
+  neighbours : (xs : List (Bor (String Y) × Bor (String Z))) (d : Bor (String Y) × Bor (String Z)) → IsSorted pair_cmp xs
+      → IsDistinct bytes_eq (map borrowed_key xs)
       → (k : ℕ) → k + 1 < length (map borrowed_key xs)
       → slice_cmp nat_cmp (get_or (map borrowed_key xs) k (borrowed_key d)) (get_or (map borrowed_key xs) (k + 1) (borrowed_key d)) ≡ Less
   neighbours xs d sorted distinct k inside =
@@ -203,10 +210,12 @@ module _ {Y Z : Type 0} where
   strict : (xs : List (Bor (String Y) × Bor (String Z))) → IsSorted pair_cmp xs → IsDistinct bytes_eq (map borrowed_key xs)
       → IsStrictlySortedBy (slice_cmp nat_cmp) (map borrowed_key xs)
   strict [] sorted distinct = sorted_from_all_adjacent nat_list_cmp_total [] [] (λ k inside. absurd (omega (arith, inside)))
-  strict (x ∷ xs) sorted distinct = sorted_from_all_adjacent nat_list_cmp_total (map borrowed_key (x ∷ xs)) (borrowed_key x) (neighbours (x ∷ xs) x sorted distinct)
+  strict (x ∷ xs) sorted distinct = sorted_from_all_adjacent nat_list_cmp_total (map borrowed_key (x ∷ xs)) (borrowed_key x)
+      (neighbours (x ∷ xs) x sorted distinct)
 
 -- borrowed entries have the texts of the entries
-borrowed : {Y Z : Type 0} (entries : Entries Y Z) (xs : List (Bor (String Y) × Bor (String Z))) → map deref_pair xs ≡ entries → texts_of xs ≡ map entry_texts entries
+borrowed : {Y Z : Type 0} (entries : Entries Y Z) (xs : List (Bor (String Y) × Bor (String Z))) → map deref_pair xs ≡ entries
+    → texts_of xs ≡ map entry_texts entries
 borrowed entries xs all = sym (map-map entry_texts deref_pair xs) ∙ ap (map entry_texts) all
 
 -- the entries of a map, after they were sorted
@@ -216,14 +225,16 @@ in-order {Y} {Z} m xs ys all unique moved sorted =
     let P : List (List ℕ × List ℕ) → Type 0 = λ v. IsPermutation v (texts_of ys) in
     let entries = subst P (borrowed m.entries xs all) (IsPermutation-map borrowed_texts xs ys moved) in
     let keys = IsPermutation-map (λ (e : List ℕ × List ℕ). e.0) (map entry_texts m.entries) (texts_of ys) entries in
-    let distinct = IsDistinct-IsPermutation bytes_eq flipped (keys_of (map entry_texts m.entries)) (keys_of (texts_of ys)) keys (distinct-bytes m.entries unique) in
+    let distinct = IsDistinct-IsPermutation bytes_eq flipped (keys_of (map entry_texts m.entries)) (keys_of (texts_of ys)) keys
+    (distinct-bytes m.entries unique) in
     let Q : List (List ℕ) → Type 0 = IsDistinct bytes_eq in
     let A : List (List ℕ) → Type 0 = IsStrictlySortedBy (slice_cmp nat_cmp) in
     record { entries = entries; ascend = subst A (sym (keys-are ys)) (strict ys sorted (subst Q (keys-are ys) distinct)) }
 
 -- ---- the entries of a sorted map
 
-ascend-bytes : {Y Z : Type 0} (entries : Entries Y Z) → IsStrictlySortedBy string_cmp (keys_of entries) → IsStrictlySortedBy (slice_cmp nat_cmp) (keys_of (map entry_texts entries))
+ascend-bytes : {Y Z : Type 0} (entries : Entries Y Z) → IsStrictlySortedBy string_cmp (keys_of entries)
+    → IsStrictlySortedBy (slice_cmp nat_cmp) (keys_of (map entry_texts entries))
 unfolding IsStrictlySortedBy
 ascend-bytes [] up = tt
 ascend-bytes (e ∷ entries) up = (all-keys (λ k. slice_cmp nat_cmp (string_bytes e.0) k ≡ Less) entries up.0, ascend-bytes entries up.1)

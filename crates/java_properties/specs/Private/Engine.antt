@@ -1,5 +1,5 @@
 -- The engine of a writer, and the line that it builds.
-use Rattle.std.specs.Prelude.{◌≡◌, ◌⊎◌, ℕ, ◌+◌, ◌^◌, ◌==◌, ◌||◌, not, Bool, true, false, List, ◌++◌, Option, Result, Ok, Err}
+use Rattle.std.specs.Prelude.{◌≡◌, ℕ, ◌+◌, ◌^◌, ◌==◌, ◌||◌, not, Bool, true, false, List, ◌++◌, Option, Result, Ok, Err}
 use Rattle.std.specs.Str.{chars}
 use Rattle.std.specs.declared.io.Error.{Error}
 use Rattle.counted_io.specs.Streams.{Sink, HasWritten, HasSentPart}
@@ -13,7 +13,7 @@ use Rattle.java_properties.specs.declared.writer.engine.Engine.{Engine}
 use Rattle.java_properties.specs.declared.writer.engine.Content.{Content}
 use Rattle.java_properties.specs.declared.writer.engine.Content.TheVariants.{Comment, KVPair}
 use Rattle.properties_items.specs.declared.error.ErrorKind.TheVariants as kind
-use Rattle.properties_items.specs.declared.error.PropertiesError.{PropertiesError}
+use Rattle.properties_items.specs.declared.error.ErrorKind.{ErrorKind}
 use Rattle.properties_text.specs.declared.escape.UnescapeError.{UnescapeError}
 use Rattle.properties_text.specs.declared.encoding.line.LineEncoding.{LineEncoding}
 use Rattle.properties_text.specs.declared.encoding.line.LineEncoding.TheVariants as line
@@ -24,7 +24,6 @@ use Rattle.properties_text.specs.declared.print.Repertoire.TheVariants as repert
 use Rattle.properties_text.specs.Escaping.{malformed_in}
 use Rattle.properties_text.specs.Printing.{text_bytes}
 use Rattle.properties_text.specs.PrintedTexts.{key_of, value_of, BreaksPair}
-use Rattle.properties_items.specs.Errors.{IsBareError}
 use Rattle.java_properties.specs.PropertiesWriter.{Writing}
 use Rattle.properties_text.specs.declared.print.Repertoire.{Repertoire}
 use Rattle.properties_text.specs.declared.print.Place.TheVariants as place
@@ -56,16 +55,12 @@ comment_bytes engine text =
     text_bytes (repertoire_of engine) place.Prefix engine.settings.comment_prefix ++ text_bytes (repertoire_of engine) place.Comment text
 
 -- The number of the next line, if it can be written; or why it can't.
-abbrev pub NumbersLine : Engine → Bool → Result ℕ PropertiesError → Type 0
+abbrev pub NumbersLine : Engine → Bool → Result ℕ ErrorKind → Type 0
 NumbersLine engine accepted (Ok number) = (engine.failed ≡ false) × (accepted ≡ true) × (number ≡ engine.lines + 1)
-NumbersLine engine accepted (Err error) =
-    (IsBareError kind.Failed error × (engine.failed ≡ true))
-    ⊎ ((IsBareError kind.EmptyKey error × (engine.failed ≡ false) × (accepted ≡ false))
-    ⊎ (IsBareError kind.TooManyLines error × (engine.failed ≡ false) × (accepted ≡ true) × (engine.lines + 1 ≡ 2 ^ 64)))
-
--- The next line has no number: an earlier write failed, the line isn't accepted, or no number is left.
-abbrev pub HasNoNumber : Engine → Bool → Type 0
-HasNoNumber engine accepted = (engine.failed ≡ true) ⊎ ((accepted ≡ false) ⊎ (engine.lines + 1 ≡ 2 ^ 64))
+NumbersLine engine accepted (Err kind.Failed) = engine.failed ≡ true
+NumbersLine engine accepted (Err kind.EmptyKey) = (engine.failed ≡ false) × (accepted ≡ false)
+NumbersLine engine accepted (Err kind.TooManyLines) = (engine.failed ≡ false) × (accepted ≡ true) × (engine.lines + 1 ≡ 2 ^ 64)
+NumbersLine engine accepted (Err other) = ⊥
 
 -- The bytes were sent, and with them the line of this number; or sending them failed, for this reason.
 abbrev pub SendsLine : {W : Type 0} → Sink W → Writing W → List ℕ → ℕ → Result Unit (Option Error) → Writing W → Type 0

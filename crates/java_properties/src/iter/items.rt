@@ -8,7 +8,9 @@ ghost use Rattle.properties_text.specs.Encoding.{encoding_of};
 ghost use Rattle.properties_lines.specs.LineReader.{lines_left};
 ghost use Rattle.properties_lines.specs.LineJoiner.{LineState};
 ghost use Rattle.properties_items.specs.BorrowedItems.{borrowed_entry, found_entry, BorrowsPlain, IsFoundIn};
-ghost use Rattle.java_properties.specs.Private.GivenItems.{as_text, FindsItem, GivesItem, Owns};
+ghost use Rattle.java_properties.specs.Borrowing.{AdvancesTo};
+ghost use Rattle.java_properties.specs.Private.GivenItems.{as_text, iteration_of, Owns};
+ghost use Rattle.java_properties.specs.PropertiesIter.{GivesItem};
 
 use counted_io::CountedRead;
 use properties_items::borrowed::LineRef;
@@ -52,7 +54,7 @@ impl ItemReader {
         &mut self,
         reader: &mut R,
     ) -> Option<Result<Found, PropertiesError>>
-        ensures finds { FindsItem R.CountedRead self.old.state reader.old result self.new reader.new }
+        ensures finds { AdvancesTo R.CountedRead (iteration_of self.old reader.old) result (iteration_of self.new reader.new) }
         ensures same_reader { IsSameReader R.CountedRead reader.old reader.new }
         ensures nearer { OnSome result (lines_left self.new.state < lines_left self.old.state) }
     {
@@ -73,7 +75,7 @@ impl ItemReader {
                 }
             }
         }
-        let error = self.lines.take_error()?;
+        let error = self.lines.finish().err()?;
         Some(Err(PropertiesError::from(error)))
     }
 

@@ -3,8 +3,8 @@
 ghost use Rattle.properties_text.specs.Encoding.{encoding_of};
 ghost use Rattle.java_properties.specs.SourceFindings.{FindsKeysIn, FindsMalformedIn};
 
-use crate::iter::malformed_lines::malformed_escapes;
-use crate::iter::numbered_keys::key_lines;
+use crate::iter::escapes::malformed_escapes;
+use crate::iter::keys::key_lines;
 use properties_items::error::PropertiesError;
 use properties_items::findings::{KeyLine, MalformedEscape};
 use properties_text::encoding::Encoding;

@@ -1,19 +1,19 @@
 // A writer without its sink.
 
-ghost use Rattle.std.specs.Prelude.{◌≡◌, ◌<◌, ◌^◌, true, false, None, Ok, Err, OnOk, IfSome};
+ghost use Rattle.std.specs.Prelude.{◌≡◌, ◌<◌, ◌^◌, true, false, None, Ok, Err, OnOk};
 ghost use Rattle.std.specs.Str.{chars};
 ghost use Rattle.properties_format.specs.Entries as format;
 ghost use Rattle.properties_format.specs.Settings.{default_settings};
 ghost use Rattle.properties_format.specs.Writing.{is_accepted};
 ghost use Rattle.counted_io.specs.Streams.{IsSameSink};
 ghost use Rattle.properties_text.specs.PrintedTexts.{IsPair};
-ghost use Rattle.java_properties.specs.Private.Engine.{entry_content, writing, repertoire_of, line_bytes, comment_bytes, NumbersLine, HasNoNumber, SendsLine, takes_span, BuildsPair};
+ghost use Rattle.java_properties.specs.Private.Engine.{entry_content, writing, repertoire_of, line_bytes, comment_bytes, NumbersLine, SendsLine, takes_span, BuildsPair};
 ghost use Rattle.properties_text.specs.Printing.{AppendsOnOk};
 ghost use Rattle.java_properties.specs.PropertiesWriter.{call_of, WritesLine, Flushes};
 
 use super::settings::Settings;
 use counted_io::{CountedWrite, send};
-use properties_items::error::{PropertiesError, make};
+use properties_items::error::{ErrorKind, PropertiesError, make};
 use properties_items::line::ending_text;
 use properties_text::encoding::LineEncoding;
 use properties_text::escape::UnescapeError;
@@ -76,9 +76,9 @@ impl Engine {
             WritesLine W.CountedWrite old (entry_content content.entry) result (writing self.new sink.new) }
         ensures same_sink { IsSameSink W.CountedWrite sink.old sink.new }
     {
-        let accepted = self.accepts(content);
-        let Some(number) = self.next_number(accepted) else {
-            return Err(self.refusal(accepted));
+        let number = match self.next_number(self.accepts(content)) {
+            Ok(number) => number,
+            Err(why) => return Err(make::bare(why)),
         };
         self.build(content)?;
         // Built anew, as in `write`: passing the result on would copy the space for its error.
@@ -88,31 +88,18 @@ impl Engine {
         }
     }
 
-    /// Returns the number of the next line, or `None` if an earlier write failed, if the line isn't accepted, or if
-    /// there are no more numbers. `refusal` says which.
+    /// Returns the number of the next line, or why it is refused.
     #[inline(always)]
-    pub fn next_number(&self, accepted: bool) -> Option<usize>
-        ensures number { IfSome result (λ number. NumbersLine self.now accepted (Ok number)) }
-        ensures none { result ≡ None → HasNoNumber self.now accepted }
-    {
-        if self.failed || !accepted {
-            return None;
-        }
-        self.lines.checked_add(1)
-    }
-
-    /// Why the next line has no number.
-    pub fn refusal(&self, accepted: bool) -> PropertiesError
-        requires { HasNoNumber self.now accepted }
-        ensures { NumbersLine self.now accepted (Err result) }
+    pub fn next_number(&self, accepted: bool) -> Result<usize, ErrorKind>
+        ensures { NumbersLine self.now accepted result }
     {
         if self.failed {
-            return make::failed();
+            return Err(ErrorKind::Failed);
         }
         if !accepted {
-            return make::empty_key();
+            return Err(ErrorKind::EmptyKey);
         }
-        make::too_many_lines()
+        self.lines.checked_add(1).ok_or(ErrorKind::TooManyLines)
     }
 
     /// Sends the line that was built, and counts it.
@@ -146,7 +133,7 @@ impl Engine {
         ensures same_sink { IsSameSink W.CountedWrite sink.old sink.new }
     {
         if self.failed {
-            return Err(make::failed());
+            return Err(make::bare(ErrorKind::Failed));
         }
         sink.flush_counted()?;
         Ok(())

@@ -58,7 +58,7 @@ impl Settings {
         }
     }
 
-    /// A fact for the proof of the caller. It does nothing at run time.
+    /// Proof only: the texts can always be written.
     pub fn are_always_good(&self)
         ensures { AreGoodSettings self.now }
     {

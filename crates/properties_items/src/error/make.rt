@@ -7,7 +7,7 @@ ghost use Rattle.std.specs.Str.{chars};
 ghost use Rattle.std.specs.String.{string_bytes};
 ghost use Rattle.properties_text.specs.Escaping.{malformed_in};
 ghost use Rattle.properties_items.specs.Errors.{cause_of, cause_by, cause_of_write, IsError, IsBareError, IsMalformed, IsUnresolvedError, RefusesText, malformed_kind};
-ghost use Rattle.properties_items.specs.declared.error.ErrorKind.TheVariants.{Io, BadCommentPrefix, BadKvSeparator, EmptyKey, TooManyLines, Failed, Unsupported};
+ghost use Rattle.properties_items.specs.declared.error.ErrorKind.TheVariants.{Io, BadCommentPrefix, BadKvSeparator};
 
 use crate::error::{Cause, ErrorKind, PropertiesError};
 use properties_text::escape::{Malformed, UnescapeError};
@@ -70,32 +70,13 @@ fn in_line(line_number: usize, kind: ErrorKind, cause: Cause) -> PropertiesError
     }
 }
 
-/// No number is left for another line.
-pub fn too_many_lines() -> PropertiesError
-    ensures { IsBareError TooManyLines result }
+/// Something failed of which this kind says everything.
+// Kept out of line so that pairs that are copied take no longer.
+#[inline(never)]
+pub fn bare(kind: ErrorKind) -> PropertiesError
+    ensures { IsBareError kind result }
 {
-    PropertiesError::bare(ErrorKind::TooManyLines)
-}
-
-/// An earlier write failed.
-pub fn failed() -> PropertiesError
-    ensures { IsBareError Failed result }
-{
-    PropertiesError::bare(ErrorKind::Failed)
-}
-
-/// Sources in UTF-16 can't be edited.
-pub fn unsupported() -> PropertiesError
-    ensures { IsBareError Unsupported result }
-{
-    PropertiesError::bare(ErrorKind::Unsupported)
-}
-
-/// An empty key can't be written before a separator that consists only of blanks.
-pub fn empty_key() -> PropertiesError
-    ensures { IsBareError EmptyKey result }
-{
-    PropertiesError::bare(ErrorKind::EmptyKey)
+    PropertiesError::bare(kind)
 }
 
 /// The text isn't a valid comment prefix.

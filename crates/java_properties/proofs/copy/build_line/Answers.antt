@@ -1,5 +1,5 @@
 use Rattle.std.proofs.Common.{arith}
-use Rattle.std.proofs.Common.{refl, sym, subst}
+use Rattle.std.proofs.Common.{sym, subst}
 use Rattle.std.specs.Prelude.{None, Some, Err}
 use Rattle.std.proofs.lemmas.Result.{err_from_is_err_and}
 use Rattle.properties_text.specs.declared.escape.UnescapeError.{UnescapeError}
@@ -65,25 +65,11 @@ returns-in_err-build_pair-in-Some-KVPair-clause-builds c =
     rw error.1
     (pair-unbuilt _ _ _ _ _ found c.args.engine.now w c.spelt.result key value error.0 (subst Q (sym error.2) c.in_err-build_pair-in-Some-KVPair.ensures.printed))
 
-pub returns-in-Some-clause-builds : goal.returns-in-Some-clause-builds
-returns-in-Some-clause-builds c =
-    let found = pair (goal.at.returns-in-Some-clause-builds c).In-Some-KVPair in
+pub returns-in_ok-build_pair-in-Some-KVPair-clause-builds : goal.returns-in_ok-build_pair-in-Some-KVPair-clause-builds
+returns-in_ok-build_pair-in-Some-KVPair-clause-builds c =
+    let found = pair (goal.at.returns-in_ok-build_pair-in-Some-KVPair-clause-builds c).In-Some-KVPair in
     let key = rw c.encoding-in-Some-KVPair.ensures at c.spelt.ensures.key in
     let value = rw c.encoding-in-Some-KVPair.ensures at c.spelt.ensures.value in
-    let w = c.build_pair.new.self in
-    let built =
-    pair-built _ _ _ _ _ found c.args.engine.now w c.spelt.result key value c.takes_span-accepted.result c.each_is_a_byte.ensures
-    c.in_ok-build_pair-in-Some-KVPair.ensures.printed c.build_pair.ensures.same c.takes_span-accepted.ensures in
-    let n = c.in-Some.ensures.number in
-    (rw n.1 at built, (n.0, refl, n.2))
-
-pub returns-in-None-next_number-clause-builds : goal.returns-in-None-next_number-clause-builds
-returns-in-None-next_number-clause-builds c =
-    let found = pair (goal.at.returns-in-None-next_number-clause-builds c).In-Some-KVPair in
-    let key = rw c.encoding-in-Some-KVPair.ensures at c.spelt.ensures.key in
-    let value = rw c.encoding-in-Some-KVPair.ensures at c.spelt.ensures.value in
-    let w = c.build_pair.new.self in
-    let built =
-    pair-built _ _ _ _ _ found c.args.engine.now w c.spelt.result key value c.takes_span-accepted.result c.each_is_a_byte.ensures
-    c.in_ok-build_pair-in-Some-KVPair.ensures.printed c.build_pair.ensures.same c.takes_span-accepted.ensures in
-    (built, c.in-None-next_number.ensures.none refl)
+    let numbers = rw c.takes_span.ensures at c.next_number.ensures in
+    pair-built _ _ _ _ _ found c.args.engine.now c.build_pair.new.self c.spelt.result key value c.next_number.result c.each_is_a_byte.ensures
+    c.in_ok-build_pair-in-Some-KVPair.ensures.printed c.build_pair.ensures.same numbers

@@ -28,11 +28,11 @@ loop-number-preserved g c =
     let advances = c.in-Some.ensures.advances in
     let w = c.build_line.new.engine in
     let h = copied-same c.loop-number.engine w c.build_line.ensures.same c.loop-number.invariant.copied in
-    let built = rw c.in-Ok-Line.field-0-is at c.in-Ok-Line.ensures.builds in
+    let built = rw c.in-Ok-Pair-Ok.field-0-0-is at rw c.in-Ok-Pair-Ok.field-0-is at c.in-Ok-Pair-Ok.ensures.builds in
     let after = writing c.send_line.new.self c.send_line.new.sink in
-    let writes = built-sent w c.loop-number.sink built.0 c.in-Ok-Line.line after c.send_line.ensures.fits built.1 c.in_default-send_line.ensures.sends in
+    let writes = built-sent w c.loop-number.sink c.in-Ok-Pair-Ok.line after built c.send_line.ensures.fits c.in_default-send_line.ensures.sends in
     record {
-      copied = copied-pair h advances.joins built.0.key built.0.value after built.0.outcome built.0.scalars writes;
+      copied = copied-pair h advances.joins built.key built.value after built.outcome built.scalars writes;
       error = advances.error;
       readable = ap (λ (w : Writing _). w.settings.readable) c.in_default-send_line.ensures.sends.1 ∙ ap (λ (w : Engine). w.settings.readable) c.build_line.ensures.same ∙ c.loop-number.invariant.readable;
       same_reader = c.next_line.ensures.same_reader ∙ c.loop-number.invariant.same_reader;
@@ -43,21 +43,21 @@ pub returns-in-Err-send_line-clause-copies : goal.returns-in-Err-send_line-claus
 returns-in-Err-send_line-clause-copies g c =
     let w = c.build_line.new.engine in
     let h = copied-same c.loop-number.engine w c.build_line.ensures.same c.loop-number.invariant.copied in
-    let built = rw c.in-Ok-Line.field-0-is at c.in-Ok-Line.ensures.builds in
+    let built = rw c.in-Ok-Pair-Ok.field-0-0-is at rw c.in-Ok-Pair-Ok.field-0-is at c.in-Ok-Pair-Ok.ensures.builds in
     let after = writing c.send_line.new.self c.send_line.new.sink in
     let writes =
-    built-unsent w c.loop-number.sink built.0 c.in-Ok-Line.line c.in-Err-send_line.fault c.write_fault-error.result after c.send_line.ensures.fits built.1
+    built-unsent w c.loop-number.sink c.in-Ok-Pair-Ok.line after built c.send_line.ensures.fits c.in-Err-send_line.fault c.write_fault-error.result
     c.in-Err-send_line.ensures.sends c.write_fault-error.ensures in
-    copied-unwritten h c.in-Some.ensures.advances.joins built.0.key built.0.value (in_utf_8 c.next_line.new.self.at.line) c.write_fault-error.result after
-    built.0.outcome built.0.scalars writes
+    copied-unwritten h c.in-Some.ensures.advances.joins built.key built.value (in_utf_8 c.next_line.new.self.at.line) c.write_fault-error.result after
+    built.outcome built.scalars writes
 
-pub returns-in-Ok-Refused-clause-copies : goal.returns-in-Ok-Refused-clause-copies
-returns-in-Ok-Refused-clause-copies g c =
+pub returns-in-Ok-Pair-Err-clause-copies : goal.returns-in-Ok-Pair-Err-clause-copies
+returns-in-Ok-Pair-Err-clause-copies g c =
     let w = c.build_line.new.engine in
     let h = copied-same c.loop-number.engine w c.build_line.ensures.same c.loop-number.invariant.copied in
-    let built = rw c.in-Ok-Refused.field-0-is at c.in-Ok-Refused.ensures.builds in
-    copied-unwritten h c.in-Some.ensures.advances.joins built.0.key built.0.value (in_utf_8 c.next_line.new.self.at.line) c.refusal.result
-    (writing w c.loop-number.sink) built.0.outcome built.0.scalars (built-refused w c.loop-number.sink built.0 c.refusal.result c.refusal.ensures)
+    let built = rw c.in-Ok-Pair-Err.field-0-0-is at rw c.in-Ok-Pair-Err.field-0-is at c.in-Ok-Pair-Err.ensures.builds in
+    copied-unwritten h c.in-Some.ensures.advances.joins built.key built.value (in_utf_8 c.next_line.new.self.at.line) c.bare.result
+    (writing w c.loop-number.sink) built.outcome built.scalars (built-refused w c.loop-number.sink c.in-Ok-Pair-Err.why c.bare.result built c.bare.ensures)
 
 pub returns-in-Err-clause-copies : goal.returns-in-Err-clause-copies
 returns-in-Err-clause-copies g c =
@@ -69,21 +69,19 @@ returns-in-Err-clause-copies g c =
     copied-unread h c.in-Some.ensures.advances.joins (in_utf_8 last.line) error last.state done
     (unbuilt-no_item _ _ c.in-Err.error w error c.in-Err.ensures.builds c.unresolved.ensures)
 
-pub returns-in-None-clause-copies : goal.returns-in-None-clause-copies
-returns-in-None-clause-copies g c =
+pub returns-in-Ok-clause-copies : goal.returns-in-Ok-clause-copies
+returns-in-Ok-clause-copies g c =
     let new = c.next_line.new.self in
     let next = c.next_line.new.reader in
     let held = c.loop-number.invariant in
-    let so_far = writing c.loop-number.engine c.loop-number.sink in
-    let quiet = sym c.take_error.ensures.error ∙ c.in-None.is in
-    rw c.take_error.ensures.taken (copied-all c.loop-number.lines new next held.copied held.error c.in_default.ensures.advances (in_utf_8 new.at.line) quiet)
+    let quiet = sym c.in-Ok.ensures.error in
+    rw c.finish.ensures.taken (copied-all c.loop-number.lines new next held.copied held.error c.in_default.ensures.advances (in_utf_8 new.at.line) quiet)
 
-pub returns-in-Some-take_error-clause-copies : goal.returns-in-Some-take_error-clause-copies
-returns-in-Some-take_error-clause-copies g c =
+pub returns-in-Err-finish-clause-copies : goal.returns-in-Err-finish-clause-copies
+returns-in-Err-finish-clause-copies g c =
     let new = c.next_line.new.self in
-    let next = c.next_line.new.reader in
     let held = c.loop-number.invariant in
-    let so_far = writing c.loop-number.engine c.loop-number.sink in
-    let kept = sym c.take_error.ensures.error ∙ c.in-Some-take_error.is in
-    rw c.take_error.ensures.taken
-    (copied-error c.loop-number.lines new next held.copied held.error c.in_default.ensures.advances (in_utf_8 new.at.line) c.in-Some-take_error.error c.from.result kept c.from.ensures)
+    let kept = sym c.in-Err-finish.ensures.error in
+    rw c.finish.ensures.taken
+    (copied-error c.loop-number.lines new c.next_line.new.reader held.copied held.error c.in_default.ensures.advances (in_utf_8 new.at.line)
+    c.in-Err-finish.error c.from.result kept c.from.ensures)

@@ -8,7 +8,7 @@ use Rattle.properties_items.specs.Texts.{Entries}
 use Rattle.properties_items.specs.declared.line.LineContent.{LineContent}
 use Rattle.properties_items.specs.declared.line.LineContent.TheVariants.{Comment, KVPair}
 use Rattle.java_properties.specs.PropertiesIter.{format_content}
-use Rattle.java_properties.proofs.Readings.{collected-lost, collected-stops}
+use Rattle.java_properties.proofs.Readings.{collected-lost, collected-error}
 use Rattle.java_properties.proofs.TextMaps.Reading.{Takes, passed-none, passed-more, passed-all}
 use Rattle.java_properties.proofs.maps.read_map.Goals as goal
 
@@ -25,7 +25,7 @@ returns-in_err-line-clause-reads g c =
     let error = err_from_is_err_and c.from_residual.result c.from_residual.ensures.1 in
     let refused = rw c.in_err-line.was at c.in-Some.ensures.gives in
     let held = c.loop-item.invariant.passed.so_far in
-    rw (error.1, error.2) (collected-stops held.lines held.collected refused.0 refused.2)
+    rw (error.1, error.2) (record { lines = held.lines; stops = collected-error held.collected refused.0 refused.2 })
 
 pub loop-item-preserved : goal.loop-item-preserved
 loop-item-preserved g c =

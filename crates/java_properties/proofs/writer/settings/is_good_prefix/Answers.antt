@@ -9,7 +9,8 @@ use Rattle.java_properties.proofs.writer.settings.is_good_prefix.Goals as goal
 use Rattle.java_properties.proofs.writer.settings.is_good_prefix.Goals.{In-Some}
 
 -- what is to hold of the prefix, by the character at hand and by those after it
-past : (c : In-Some) (signed last : Bool) → c.loop-character.signed ≡ signed → prefix_left signed (c.in-Some.character ∷ chars (chars_rest c.next.new.self)) ≡ last
+past : (c : In-Some) (signed last : Bool) → c.loop-character.signed ≡ signed
+    → prefix_left signed (c.in-Some.character ∷ chars (chars_rest c.next.new.self)) ≡ last
     → is_good_prefix (chars c.args.text.now) ≡ last
 past c signed last is left =
     let held = c.loop-character.invariant in

@@ -6,9 +6,11 @@ use Rattle.std.proofs.lemmas.Str.{IsUtf8-past_char}
 use Rattle.properties_format.specs.Text.{is_separator}
 use Rattle.properties_format.specs.Computed.Settings.{is_good_separator}
 use Rattle.properties_text.proofs.Texts.Characters.{is_empty-chars}
-use Rattle.java_properties.proofs.Settings.Tests.{holds_some, separator_left, past_first, past_last, separator_left-end, separator_left-sign, separator_left-blank, separator_left-other}
+use Rattle.java_properties.proofs.Settings.Tests.{holds_some, separator_left, past_first, past_last, separator_left-end, separator_left-sign}
+use Rattle.java_properties.proofs.Settings.Tests.{separator_left-blank, separator_left-other}
 use Rattle.java_properties.proofs.writer.settings.is_good_separator.Goals as goal
-use Rattle.java_properties.proofs.writer.settings.is_good_separator.Goals.{In-Some, else-is_separator-via-then-is_separator+else-not-signed, else-is_separator-via-else-is_separator}
+use Rattle.java_properties.proofs.writer.settings.is_good_separator.Goals.{In-Some, else-is_separator-via-then-is_separator+else-not-signed}
+use Rattle.java_properties.proofs.writer.settings.is_good_separator.Goals.{else-is_separator-via-else-is_separator}
 
 -- what is to hold of the separator, by the character at hand and by those after it
 past : (c : In-Some) (signed last : Bool) → c.loop-character.signed ≡ signed
@@ -17,7 +19,8 @@ past : (c : In-Some) (signed last : Bool) → c.loop-character.signed ≡ signed
 past c signed last is left =
     let some = holds_some (chars c.args.text.now) in
     let held = c.loop-character.invariant in
-    let same = subst (λ v. is_good_separator (chars c.args.text.now) ≡ (some && separator_left v (chars (chars_rest c.loop-character.character-iterator)))) is held.same in
+    let same = subst (λ v. is_good_separator (chars c.args.text.now) ≡ (some && separator_left v (chars (chars_rest c.loop-character.character-iterator)))) is
+    held.same in
     past_first (λ cs. some && separator_left signed cs) _ _ _ _ c.in-Some.character held.utf8 c.in-Some.ensures.steps.0 same (ap (λ v. some && v) left)
 
 past-utf8 : (c : In-Some) → IsUtf8 (chars_rest c.next.new.self)
@@ -27,7 +30,8 @@ pub loop-character-preserved-then-not-signed : goal.loop-character-preserved-the
 loop-character-preserved-then-not-signed c =
     let at = (goal.at.loop-character-preserved-then-not-signed c).In-Some in
     let sign = sym c.is_separator.ensures ∙ c.if-is_separator.true in
-    record { utf8 = past-utf8 at; same = past at false _ c.if-not-signed.true (separator_left-sign c.in-Some.character (chars (chars_rest c.next.new.self)) sign) }
+    let left = separator_left-sign c.in-Some.character (chars (chars_rest c.next.new.self)) sign in
+    record { utf8 = past-utf8 at; same = past at false _ c.if-not-signed.true left }
 
 pub returns-then-not-is_blank : goal.returns-then-not-is_blank
 returns-then-not-is_blank c =

@@ -1,17 +1,19 @@
-use Rattle.std.proofs.Common.{◌≡◌, ◌++◌, ◌∙◌, arith, sym, ap, subst, inr, List, ℕ, [], refl}
+use Rattle.std.proofs.Common.{◌≡◌, ◌++◌, ◌∙◌, arith, sym, ap, subst, List, ℕ, [], refl}
 use Rattle.std.specs.Prelude.{Some, Ok}
 use Rattle.std.specs.Str.{chars}
 use Rattle.properties_format.specs.Entries as entry
 use Rattle.properties_format.specs.Items.{ignored}
 use Rattle.properties_format.specs.Computed.Items.{outcome_of}
 use Rattle.counted_io.specs.Streams.{reader}
+use Rattle.properties_format.specs.ItemsToCome.{ReaderState}
 use Rattle.properties_lines.specs.LineReader.{lines_left}
 use Rattle.properties_lines.specs.LineJoiner.{LineState, LineJoining, numbered_line}
 use Rattle.properties_items.specs.BorrowedItems.{found_content, IsFoundIn}
-use Rattle.java_properties.specs.Borrowing.{logical_line, IsSpelt}
-use Rattle.java_properties.specs.Private.GivenItems.{as_text, FindsItem, GivesEntry}
+use Rattle.java_properties.specs.Borrowing.{AdvancesTo, logical_line, IsSpelt}
+use Rattle.java_properties.specs.PropertiesIter.{GivesEntry}
+use Rattle.java_properties.specs.Private.GivenItems.{as_text, iteration_of}
 use Rattle.properties_items.specs.declared.found.Found.{Found}
-use Rattle.java_properties.proofs.Items.{kept-utf8, Passed, passed-start, passed-error, passed-no_item, gives-spelt, passed-blank, stopped}
+use Rattle.java_properties.proofs.Items.{kept-utf8, Passed, passed-start, passed-error, passed-no_item, passed-none, gives-spelt, passed-blank, stopped, ended}
 use Rattle.properties_items.proofs.FoundItems.{found-item, plain-blank}
 use Rattle.java_properties.proofs.iter.items.ItemReader.advance.Given.{Over}
 use Rattle.java_properties.proofs.iter.items.ItemReader.advance.Goals as goal
@@ -29,7 +31,8 @@ loop-number-init g c =
 
 -- an item that was found in the line is given,
 gives-found : (g : Over) (c : After-line-line g) (item : Found) → (item.line_number ≡ c.in-Some.number) × IsFoundIn c.line-line.result.now item
-    → FindsItem (reader g.R.Read g.R.CountedRead) c.args.self.now.state c.args.reader.now (Some (Ok item)) (as_text c.next_text.new.self.at) c.next_text.new.reader
+    → AdvancesTo (reader g.R.Read g.R.CountedRead) (iteration_of c.args.self.now c.args.reader.now) (Some (Ok item))
+    (iteration_of (as_text c.next_text.new.self.at) c.next_text.new.reader)
 gives-found g c item found =
     let new = c.next_text.new.self.at in
     let is = rw c.line-line.ensures at found in
@@ -84,12 +87,19 @@ returns-in-Err-clause-finds g c =
     let k = passed-no_item (numbered_line c.in-Some.number c.next_text.new.self.at) c.next_text.new.self.at.state c.loop-number.invariant.passed.1 next none in
     (k.0, done, k.1)
 
+pub returns-in_err-error-clause-finds : goal.returns-in_err-error-clause-finds
+returns-in_err-error-clause-finds g c =
+    let end = ended c.in_default.ensures.joins (sym c.finish.ensures.error ∙ sym c.err.ensures.value ∙ c.in_err-error.was) in
+    let S : LineJoining → ReaderState = λ v. v.at.state in
+    rw c.from_residual.ensures (passed-none c.loop-number.invariant.passed.1 end.0 (ap S c.finish.ensures.taken ∙ ap S end.1) end.2)
+
 pub returns-clause-finds : goal.returns-clause-finds
 returns-clause-finds g c =
-    let stop = stopped c.in_default.ensures.joins c.loop-number.invariant.error (sym c.take_error.ensures.error ∙ c.in_ok-error.was) in
-    let done = ap (λ v. let w : LineJoining = v in w.at.state.is_done) c.take_error.ensures.taken ∙ stop.1 in
-    let p = passed-error c.loop-number.invariant.passed.1 stop.0 (record { why = c.in_ok-error.error; last = _; joins = stop.2; is = c.from.ensures }) in
-    (p.0, done, inr p.1)
+    let kept = sym c.finish.ensures.error ∙ sym c.err.ensures.value ∙ c.in_ok-error.was in
+    let stop = stopped c.in_default.ensures.joins c.loop-number.invariant.error kept in
+    let done = ap (λ v. let w : LineJoining = v in w.at.state.is_done) c.finish.ensures.taken ∙ stop.1 in
+    let p = passed-error c.loop-number.invariant.passed.1 stop.0 stop.2 c.from.ensures in
+    (p.0, done, p.1)
 
 pub returns-clause-nearer : goal.returns-clause-nearer
 returns-clause-nearer g c = grind (arith, stopped)
