@@ -33,8 +33,8 @@ use Rattle.properties_lines.proofs.Tested.{ascii-line}
 use Rattle.properties_text.specs.Spelt.{text_in}
 use Rattle.properties_lines.proofs.HeldLines.{body-next, body-after, body-lines_left}
 use Rattle.properties_editing.specs.Private.BodyGroups.{IsWithin, groups_left, IsBegun, TakesLine, IsSpanOf, TakesGroup, groups_from, ReadsGroup, bytes_at}
-use Rattle.properties_editing.specs.declared.edit.groups.Group.{Group}
-use Rattle.properties_editing.specs.declared.edit.groups.GroupReader.{GroupReader}
+use Rattle.properties_editing.specs.declared.groups.Group.{Group}
+use Rattle.properties_editing.specs.declared.groups.GroupReader.{GroupReader}
 
 -- ---- parts of bytes
 

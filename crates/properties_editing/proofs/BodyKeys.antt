@@ -12,7 +12,7 @@ use Rattle.std.proofs.Math.Seq.{drop-append_seam}
 use Rattle.properties_format.specs.Edited.{is_editable, final_group, is_empty_line, is_left_open}
 use Rattle.properties_format.specs.Computed.Edited.{without}
 use Rattle.properties_editing.specs.Private.Sound.{AreSoundFor, IsSoundFor}
-use Rattle.properties_editing.specs.declared.edit.source.Comments.{Comments}
+use Rattle.properties_editing.specs.declared.source.Comments.{Comments}
 use Rattle.properties_editing.proofs.Comments.{line-weaker, sound-join}
 use Rattle.properties_format.proofs.Body.Groups.{held-body, held_groups_of-meets, groups_bytes-append, groups-close, groups-leave}
 use Rattle.properties_format.proofs.Edited.Steps.{without-append, last_place-new, last_place-other, with_after, final_group-push}
@@ -38,10 +38,10 @@ use Rattle.properties_format.proofs.Valued.Lined.{held_in-append}
 use Rattle.properties_text.specs.Encoding.{encoding_of}
 use Rattle.properties_editing.proofs.BodyGroups.{front-of}
 use Rattle.properties_editing.specs.Private.BodyGroups.{IsWithin, groups_left, text_of, TakesGroup}
-use Rattle.properties_editing.specs.declared.edit.groups.Group.{Group}
-use Rattle.properties_editing.specs.declared.edit.groups.GroupReader.{GroupReader}
-use Rattle.properties_editing.specs.declared.edit.find.BodySpan.{BodySpan}
-use Rattle.properties_editing.specs.declared.edit.find.PairPlaces.{PairPlaces}
+use Rattle.properties_editing.specs.declared.groups.Group.{Group}
+use Rattle.properties_editing.specs.declared.groups.GroupReader.{GroupReader}
+use Rattle.properties_editing.specs.declared.find.BodySpan.{BodySpan}
+use Rattle.properties_editing.specs.declared.find.PairPlaces.{PairPlaces}
 use Rattle.properties_items.specs.declared.error.PropertiesError.{PropertiesError}
 
 -- ---- the groups that were read

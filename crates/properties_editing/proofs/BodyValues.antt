@@ -5,9 +5,10 @@ use Rattle.std.proofs.lemmas.Bool.{cases_Bool, cond-true, cond-false}
 use Rattle.std.proofs.lemmas.List.{drop_more, take_more, drop_all, length-drop, length-take-le, length-take, take_rest, take-append-drop}
 use Rattle.std.proofs.lemmas.Str.{chars-nil, chars-append, IsUtf8-take, IsUtf8-between}
 use Rattle.properties_editing.specs.Private.BodyGroups.{TakesGroup, IsFirstGroup, IsWithin, TakesLine, text_of}
-use Rattle.properties_editing.specs.declared.edit.groups.Group.{Group}
-use Rattle.properties_editing.specs.declared.edit.groups.GroupReader.{GroupReader}
+use Rattle.properties_editing.specs.declared.groups.Group.{Group}
+use Rattle.properties_editing.specs.declared.groups.GroupReader.{GroupReader}
 use Rattle.properties_format.specs.Encoding.{Encoding}
+use Rattle.properties_format.specs.Repertoire.{Repertoire}
 use Rattle.properties_format.specs.Lines.{Lines}
 use Rattle.properties_format.specs.Groups.{is_open, joined}
 use Rattle.properties_format.specs.Body.{HeldLine, as_lines, held_in, ending_bytes, AreGroupsOf, group_bytes, last_ending}
@@ -37,7 +38,7 @@ use Rattle.properties_format.specs.Computed.Parts.{unended_bytes}
 use Rattle.properties_format.proofs.InTurn.Lines.{bytes-unended}
 use Rattle.properties_format.proofs.Valued.Read.{front-unended}
 use Rattle.properties_editing.specs.Private.BodyValues.{IsBeforeValue, IsFrontSize, IsPairAlone, IsNewValue, IsGroupAlone, revalued_in, IsBetweenAt}
-use Rattle.properties_editing.specs.declared.edit.new_value.NewValue.{NewValue}
+use Rattle.properties_editing.specs.declared.new_value.NewValue.{NewValue}
 use Rattle.std.specs.Str.{IsUtf8, chars}
 use Rattle.properties_text.specs.declared.encoding.line.LineEncoding.TheVariants.{Utf8}
 use Rattle.properties_lines.proofs.LineTexts.{joins-alike}
@@ -466,25 +467,25 @@ front-first e body g key value ok h pair =
     (ap (take (length front)) all ∙ take-append_seam front _, (omega arith))
 
 -- A pair by itself with another value.
-pub value-new : {e : Encoding} {only : Bool} {body : List ℕ} {group : Group} {s : GroupReader} (value line separator bytes : List ℕ) (size : ℕ) (span : Span) → is_editable e ≡ true
-    → line ≡ text_of body s group → IsFirstGroup e body group s → (a : IsPairAlone e body) → IsBetweenAt line span
-    → false ≡ is_pair_to value (outcome_of (chars line)) → IsFrontSize e body size → separator ≡ bytes_in line span
-    → bytes ≡ encoded_text e (value_text e only (chars separator) value)
-    → IsNewValue e only body value (record { front_size = size; bytes = bytes })
-value-new {e} {only} {body} {group} {s} value line separator bytes size span ok is f a at other front cut printed =
+pub value-new : {r : Repertoire} {body : List ℕ} {group : Group} {s : GroupReader} (value line separator bytes : List ℕ) (size : ℕ) (span : Span) → is_editable r.encoding ≡ true
+    → line ≡ text_of body s group → IsFirstGroup r.encoding body group s → (a : IsPairAlone r.encoding body) → IsBetweenAt line span
+    → false ≡ is_pair_to value (outcome_of (chars line)) → IsFrontSize r.encoding body size → separator ≡ bytes_in line span
+    → bytes ≡ encoded_text r.encoding (value_text r (chars separator) value)
+    → IsNewValue r body value (record { front_size = size; bytes = bytes })
+value-new {r} {body} {group} {s} value line separator bytes size span ok is f a at other front cut printed =
     let x = joined (as_lines a.group) in
     let same = alone-line line is f a in
     let m = line-pair line x span same at in
     let one : front.group ≡ a.group = let q = sym front.is_group ∙ a.is_group in cc in
-    let sized : size ≡ length (front_of e a.group) = front.is_size ∙ ap (λ g. length (front_of e g)) one in
-    let first = front-first e body a.group m.0.0 m.0.1 ok a.is_group m.0.2 in
+    let sized : size ≡ length (front_of r.encoding a.group) = front.is_size ∙ ap (λ g. length (front_of r.encoding g)) one in
+    let first = front-first r.encoding body a.group m.0.0 m.0.1 ok a.is_group m.0.2 in
     record {
       group = a.group;
       is_group = a.is_group;
       other = sym (other ∙ ap (λ v. is_pair_to value (outcome_of v)) same);
       within = subst (λ n. n ≤ length body) (sym sized) first.1;
       front = ap (λ n. take n body) sized ∙ first.0;
-      bytes_are = printed ∙ ap (λ v. encoded_text e (value_text e only v value)) (ap chars cut ∙ sym m.1);
+      bytes_are = printed ∙ ap (λ v. encoded_text r.encoding (value_text r v value)) (ap chars cut ∙ sym m.1);
     }
 
 -- ---- a separator
@@ -498,17 +499,17 @@ alone-between line is f a =
     ap last_between a.1 ∙ ap (λ x. between_if_pair (split_of x) x) (sym text)
 
 -- A source with a value for a pair, from what stays of the pair and what follows it.
-pub revalued-made : (e : Encoding) (only : Bool) (source : List ℕ) (start end : ℕ) (value bytes : List ℕ) (new : NewValue) (n : IsNewValue e only (take (end - start) (drop start source)) value new)
-    → bytes ≡ take (start + new.front_size) source ++ (new.bytes ++ drop end source) → bytes ≡ revalued_in e only source start end value n.group
-revalued-made e only source start end value bytes new n made =
+pub revalued-made : (r : Repertoire) (source : List ℕ) (start end : ℕ) (value bytes : List ℕ) (new : NewValue) (n : IsNewValue r (take (end - start) (drop start source)) value new)
+    → bytes ≡ take (start + new.front_size) source ++ (new.bytes ++ drop end source) → bytes ≡ revalued_in r source start end value n.group
+revalued-made r source start end value bytes new n made =
     let part = drop start source in
     let sized : length (take (end - start) part) ≤ end - start = length-take-most (end - start) part in
-    let short : take new.front_size part ≡ front_of e n.group =
+    let short : take new.front_size part ≡ front_of r.encoding n.group =
     sym (take-take new.front_size (end - start) part (omega arith)) ∙ n.front in
-    let front : take (start + new.front_size) source ≡ take start source ++ front_of e n.group = take-add start new.front_size source ∙ ap (λ v. take start source ++ v) short in
+    let front : take (start + new.front_size) source ≡ take start source ++ front_of r.encoding n.group = take-add start new.front_size source ∙ ap (λ v. take start source ++ v) short in
     made
     ∙ ap₂ (λ v w. v ++ (w ++ drop end source)) front n.bytes_are
-    ∙ append_assoc (take start source) (front_of e n.group) (encoded_text e (value_text e only (between_of n.group) value) ++ drop end source)
+    ∙ append_assoc (take start source) (front_of r.encoding n.group) (encoded_text r.encoding (value_text r (between_of n.group) value) ++ drop end source)
     ∙ sym (cond-false (has_value value n.group) source _ n.other)
   where
     length-take-most : (n : ℕ) (d : List ℕ) → length (take n d) ≤ n

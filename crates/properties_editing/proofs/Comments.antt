@@ -27,8 +27,8 @@ use Rattle.properties_format.proofs.Split.Unique.{split_of-meets}
 use Rattle.properties_format.proofs.Valued.Parts.{comment_line-no_pair}
 use Rattle.properties_items.specs.FoundItems.{outcome_pair}
 use Rattle.properties_editing.specs.Private.Sound.{AreSound, AreSoundFor, IsResult, IsSoundFor, passes_over}
-use Rattle.properties_editing.specs.declared.edit.source.Comments.{Comments}
-use Rattle.properties_editing.specs.declared.edit.source.Comments.TheVariants.{Read, PassedOver}
+use Rattle.properties_editing.specs.declared.source.Comments.{Comments}
+use Rattle.properties_editing.specs.declared.source.Comments.TheVariants.{Read, PassedOver}
 
 -- ---- one line
 

@@ -9,17 +9,18 @@ use Rattle.std.proofs.lemmas.Bool.{cases_Bool}
 use Rattle.properties_format.specs.Text.{LineEnding, lf, cr, crlf, line_ending_text, scalar, line_feed, equals_sign, is_empty}
 use Rattle.properties_format.specs.Printing.{in_key_or_value, printed_key, printed_characters, encoded_text}
 use Rattle.properties_format.proofs.Printing.Characters.{encoded-ascii, encoded_text-append}
-use Rattle.properties_format.specs.Encoding.{Encoding, InForce, byte_order_mark, begins_with, begins_like_bom, utf_8_bom, utf_16be_bom, utf_16le_bom, output_encoding}
+use Rattle.properties_format.specs.Encoding.{Encoding, InForce, byte_order_mark, begins_with, begins_like_bom, utf_8_bom, utf_16be_bom, utf_16le_bom}
+use Rattle.properties_format.specs.Repertoire.{Repertoire, repertoire, in_encoding}
 use Rattle.properties_format.specs.Body.{ending_bytes, groups_bytes, held_in, last_ending}
 use Rattle.properties_format.specs.Edited.{bom_of, pair_bytes, separation, added_ending, is_editable, edited, IsKeySet, IsKeyRemoved, IsSetKeyResult, IsRemoveKeyResult}
 use Rattle.properties_format.specs.Computed.Body.{held_groups_of}
 use Rattle.properties_format.specs.Computed.Edited.{without, key_removed, key_removed_in, key_set, key_set_in, set_at, last_place}
-use Rattle.properties_editing.specs.Private.Sound.{AreSound, AreSoundFor, IsResult, Returns}
-use Rattle.properties_editing.specs.declared.edit.source.Comments.{Comments}
-use Rattle.properties_editing.specs.declared.edit.source.Comments.TheVariants.{Read}
+use Rattle.properties_editing.specs.Private.Sound.{AreSoundFor, IsResult, Returns}
+use Rattle.properties_editing.specs.declared.source.Comments.{Comments}
+use Rattle.properties_editing.specs.declared.source.Comments.TheVariants.{Read}
 use Rattle.properties_editing.proofs.Comments.{from-after, from-fault, from-sound, result_for, result_from, result-groups, result_for-meets}
 use Rattle.properties_format.proofs.Body.Groups.{held_groups_of-meets, held-body}
-use Rattle.properties_format.proofs.Edited.ByteOrderMarks.{key_removed-in_force, key_set-in_force, source-whole}
+use Rattle.properties_format.proofs.Edited.ByteOrderMarks.{source-whole}
 use Rattle.properties_format.proofs.Edited.Results.{set_key_result-only, remove_key_result-only}
 use Rattle.properties_format.proofs.Edited.Made.{key_set-meets, key_removed-meets}
 use Rattle.properties_format.proofs.Changed.Read.{set_key-reads, remove_key-reads}
@@ -33,37 +34,42 @@ use Rattle.properties_format.proofs.Changed.Occur.{key_set-keeps, key_removed-ke
 use Rattle.properties_format.proofs.Edited.Pair.{editable-own}
 use Rattle.properties_text.specs.Encoding.{encoding_of}
 use Rattle.properties_editing.specs.Private.BodyKeys.{IsErrorOfGroups, IsPlaceOf, IsPlace, IsKeyFound, AreOthersFound, left_bytes, closing_bytes}
-use Rattle.properties_editing.specs.Private.BodyIndex.{IsIndex, IsKept}
-use Rattle.properties_editing.specs.Private.Sources.{IsInForce}
-use Rattle.properties_editing.specs.declared.edit.index.Index.{Index}
+use Rattle.properties_editing.specs.Private.Sources.{IsInForce, printed_in, used_in}
 use Rattle.properties_editing.proofs.BodyGroups.{front-of, no-bytes}
 use Rattle.properties_editing.proofs.LastPairs.{IsPartAt, part-at}
-use Rattle.properties_editing.specs.declared.edit.find.BodySpan.{BodySpan}
-use Rattle.properties_editing.specs.declared.edit.find.PairPlaces.{PairPlaces}
-use Rattle.properties_editing.specs.declared.edit.source.BodyStart.{BodyStart}
+use Rattle.properties_editing.specs.declared.find.BodySpan.{BodySpan}
+use Rattle.properties_editing.specs.declared.find.PairPlaces.{PairPlaces}
+use Rattle.properties_editing.specs.declared.source.BodyStart.{BodyStart}
 use Rattle.properties_items.specs.declared.error.PropertiesError.{PropertiesError}
 
 -- ---- a source that is open
 
 -- its byte order mark comes before its body
-pub bom-front : {source : List ℕ} {e : Encoding} {opened : BodyStart} → IsInForce source e opened → bom_of source ≡ take opened.start source
-bom-front {source} {e} {opened} h =
+pub bom-front : {source : List ℕ} {r : Repertoire} {opened : BodyStart} → IsInForce source r opened → bom_of source ≡ take opened.start source
+bom-front {source} {r} {opened} h =
     let body = drop opened.start source in
-    let whole : source ≡ bom_of source ++ body = source-whole e source ∙ ap (λ v. let w : InForce = v in bom_of source ++ w.body) h.in_force in
+    let whole : source ≡ bom_of source ++ body = source-whole r.encoding source ∙ ap (λ v. let w : InForce = v in bom_of source ++ w.body) h.in_force in
     let sizes : length source ≡ length (bom_of source) + length body = ap length whole ∙ length-append (bom_of source) body in
     let left : length body ≡ length source - opened.start = length-drop opened.start source in
     let n : opened.start ≡ length (bom_of source) = omega arith in
     sym (ap₂ take n whole ∙ front-of (bom_of source) body)
 
 -- a source that is edited is in an encoding that is edited
-pub editable : {source : List ℕ} {e : Encoding} {opened : BodyStart} → IsInForce source e opened → is_editable (encoding_of opened.encoding) ≡ true
-    → is_editable (byte_order_mark e source).encoding ≡ true
-editable h ok = ap (λ v. let w : InForce = v in is_editable w.encoding) h.in_force ∙ ok
+pub editable : {source : List ℕ} {r : Repertoire} {opened : BodyStart} → IsInForce source r opened → is_editable (byte_order_mark r.encoding source).encoding ≡ true
+editable h = ap (λ v. let w : InForce = v in is_editable w.encoding) h.in_force ∙ h.editable
+
+-- what may stand unescaped in it, and in what is printed for it, is what was requested
+pub used-own : {source : List ℕ} {r : Repertoire} {opened : BodyStart} → IsInForce source r opened → used_in opened ≡ in_encoding r (encoding_of opened.encoding)
+used-own {opened = opened} h = ap (repertoire (encoding_of opened.encoding)) h.ascii_only
+
+pub printed-own : {source : List ℕ} {r : Repertoire} {opened : BodyStart} → IsInForce source r opened
+    → printed_in opened ≡ in_encoding r (encoding_of opened.encoding)
+printed-own {opened = opened} h = ap₂ repertoire (editable-own (encoding_of opened.encoding) h.editable) h.ascii_only
 
 -- Bytes that keep the byte order mark are in force as the source is.
-pub again : {e : Encoding} {old : List ℕ} {opened : BodyStart} (new body : List ℕ) → IsInForce old e opened → new ≡ bom_of old ++ body
-    → byte_order_mark e new ≡ record { encoding = (byte_order_mark e old).encoding; body = body } → IsInForce new e opened
-again {e} {old} {opened} new body h whole is =
+pub again : {r : Repertoire} {old : List ℕ} {opened : BodyStart} (new body : List ℕ) → IsInForce old r opened → new ≡ bom_of old ++ body
+    → byte_order_mark r.encoding new ≡ record { encoding = (byte_order_mark r.encoding old).encoding; body = body } → IsInForce new r opened
+again {r} {old} {opened} new body h whole is =
     let front : new ≡ take opened.start old ++ body = whole ∙ ap (λ v. v ++ body) (bom-front h) in
     let size : length (take opened.start old) ≡ opened.start = length-take-le opened.start old h.within in
     let back : drop opened.start new ≡ body = ap₂ drop (sym size) front ∙ drop-append_seam (take opened.start old) body in
@@ -72,88 +78,82 @@ again {e} {old} {opened} new body h whole is =
       in_force =
           is ∙ ap₂ (λ f b. let w : InForce = record { encoding = f; body = b } in w) (ap (λ v. let w : InForce = v in w.encoding) h.in_force) (sym back);
       within = omega arith;
+      ascii_only = h.ascii_only;
+      editable = h.editable;
     }
 
 -- what the result of a source is, is what its groups say
-groups-of : (comments : Comments) {source : List ℕ} {e : Encoding} {opened : BodyStart} (made : List ℕ) → IsInForce source e opened → is_editable (encoding_of opened.encoding) ≡ true
-    → result_for comments e source made ≡ result_from comments 1 (held_groups_of (encoding_of opened.encoding) (drop opened.start source)) made
-groups-of comments {source} {e} {opened} made h ok =
-    result-groups comments e source made (editable h ok)
+groups-of : (comments : Comments) {source : List ℕ} {r : Repertoire} {opened : BodyStart} (made : List ℕ) → IsInForce source r opened
+    → result_for comments r.encoding source made ≡ result_from comments 1 (held_groups_of (encoding_of opened.encoding) (drop opened.start source)) made
+groups-of comments {source} {r} {opened} made h =
+    result-groups comments r.encoding source made (editable h)
     ∙ ap (λ v. let w : InForce = v in result_from comments 1 (held_groups_of w.encoding w.body) made) h.in_force
 
 -- Bytes that an edit makes are its result if the groups are sound.
-pub made-result : (comments : Comments) {source : List ℕ} {e : Encoding} {opened : BodyStart} (Makes : List ℕ → Type 0) (made : List ℕ) → IsInForce source e opened
-    → is_editable (encoding_of opened.encoding) ≡ true → AreSoundFor comments (held_groups_of (encoding_of opened.encoding) (drop opened.start source)) → Makes made
-    → IsResult comments e source Makes (edited made)
-made-result comments {source} {e} {opened} Makes made h ok sound makes =
+pub made-result : (comments : Comments) {source : List ℕ} {r : Repertoire} {opened : BodyStart} (Makes : List ℕ → Type 0) (made : List ℕ) → IsInForce source r opened
+    → AreSoundFor comments (held_groups_of (encoding_of opened.encoding) (drop opened.start source)) → Makes made
+    → IsResult comments r.encoding source Makes (edited made)
+made-result comments {source} {r} {opened} Makes made h sound makes =
     let gs = held_groups_of (encoding_of opened.encoding) (drop opened.start source) in
-    subst (IsResult comments e source Makes) (groups-of comments made h ok ∙ from-sound comments gs made sound) (result_for-meets comments e source made Makes makes)
+    subst (IsResult comments r.encoding source Makes) (groups-of comments made h ∙ from-sound comments gs made sound) (result_for-meets comments r.encoding source made Makes makes)
 
 -- ---- refusals
 
-not-unsupported : {e : Encoding} {source : List ℕ} {opened : BodyStart} → IsInForce source e opened → is_editable (encoding_of opened.encoding) ≡ true
-    → is_editable (byte_order_mark e source).encoding ≡ false → ⊥
-not-unsupported h ok none = let yes = editable h ok in absurd (cc)
+not-unsupported : {r : Repertoire} {source : List ℕ} {opened : BodyStart} → IsInForce source r opened
+    → is_editable (byte_order_mark r.encoding source).encoding ≡ false → ⊥
+not-unsupported h none = let yes = editable h in absurd (cc)
 
 -- The first fault of the groups is the refusal of their source, and what a `?` returns.
-pub refusal : {A : Type 0} (comments : Comments) {source : List ℕ} {e : Encoding} {opened : BodyStart} {error : PropertiesError} (result : Result A PropertiesError) (Makes : List ℕ → Type 0) (made : List ℕ)
-    → IsInForce source e opened → is_editable (encoding_of opened.encoding) ≡ true → Makes made
+pub refusal : {A : Type 0} (comments : Comments) {source : List ℕ} {r : Repertoire} {opened : BodyStart} {error : PropertiesError} {result : Result A PropertiesError} (Makes : List ℕ → Type 0) {made : List ℕ}
+    → IsInForce source r opened → Makes made
     → IsErrorOfGroups comments (held_groups_of (encoding_of opened.encoding) (take (length source - opened.start) (drop opened.start source))) error
-    → IsErrAnd result (λ x. x ≡ error) → (x : PropertiesError) × (result ≡ Err x) × IsRefusal (IsResult comments e source Makes) x
-refusal comments {source} {e} {opened} result Makes made h ok makes fault returned =
-    let r = err_from_is_err_and result returned in
-    (r.0, r.1, subst (IsRefusal (IsResult comments e source Makes)) (sym r.2) (by (rw (take_rest source opened.start) at fault)))
+    → IsErrAnd result (λ x. x ≡ error) → (x : PropertiesError) × (result ≡ Err x) × IsRefusal (IsResult comments r.encoding source Makes) x
+refusal comments {source} {r} {opened} {result = result} Makes {made} h makes fault returned =
+    let back = err_from_is_err_and result returned in
+    (back.0, back.1, subst (IsRefusal (IsResult comments r.encoding source Makes)) (sym back.2) (by (rw (take_rest source opened.start) at fault)))
   where
-    by : {error : PropertiesError} → IsErrorOfGroups comments (held_groups_of (encoding_of opened.encoding) (drop opened.start source)) error → IsRefusal (IsResult comments e source Makes) error
+    by : {error : PropertiesError} → IsErrorOfGroups comments (held_groups_of (encoding_of opened.encoding) (drop opened.start source)) error → IsRefusal (IsResult comments r.encoding source Makes) error
     by (inl (before, g, after, division, sound, (passed, inl (how, broke, is)))) =
         let n = 1 + length (held_in before) in
         let first =
         ap (λ v. result_from comments 1 v made) division ∙ from-after comments 1 before (g ∷ after) made sound ∙ from-fault comments n g after made how broke passed in
-        inr (inl (how, n, subst (IsResult comments e source Makes) (groups-of comments made h ok ∙ first) (result_for-meets comments e source made Makes makes), is))
-    by (inl (before, g, after, division, sound, (passed, inr is))) = inr (inr ((λ none. not-unsupported h ok none), is))
-    by (inr is) = inr (inr ((λ none. not-unsupported h ok none), is))
+        inr (inl (how, n, subst (IsResult comments r.encoding source Makes) (groups-of comments made h ∙ first) (result_for-meets comments r.encoding source made Makes makes), is))
+    by (inl (before, g, after, division, sound, (passed, inr is))) = inr (inr ((λ none. not-unsupported h none), is))
+    by (inr is) = inr (inr ((λ none. not-unsupported h none), is))
 
 -- ---- a key is set
 
 -- What the result is, how it reads, and what it keeps.
-pub set-edits : {e : Encoding} {only : Bool} {source key value bytes : List ℕ} → All scalar key → All scalar value → IsSetKeyResult e only source key value (edited bytes)
-    → IsSet e only source key value bytes
-set-edits {e} {only} {source} {key} {value} {bytes} k v meets = record {
+pub set-edits : {r : Repertoire} {source key value bytes : List ℕ} → All scalar key → All scalar value → IsSetKeyResult r source key value (edited bytes)
+    → IsSet r source key value bytes
+set-edits {r} {source} {key} {value} {bytes} k v meets = record {
   edit = record {
     result = meets;
-    only = λ other h. set_key_result-only e only source key value other h ∙ sym (set_key_result-only e only source key value (edited bytes) meets);
-    reads = set_key-reads e only source key value bytes k v meets;
+    only = λ other h. set_key_result-only r source key value other h ∙ sym (set_key_result-only r source key value (edited bytes) meets);
+    reads = set_key-reads r source key value bytes k v meets;
   };
-  keeps = key_set-keeps e only source key value bytes meets.2;
-  ascii = λ on. set_key-in_ascii e source key value bytes (subst (λ b. IsSetKeyResult e b source key value (edited bytes)) on meets);
+  keeps = key_set-keeps r source key value bytes meets.2;
+  ascii = λ on. set_key-in_ascii r.encoding source key value bytes (subst (λ b. IsSetKeyResult (repertoire r.encoding b) source key value (edited bytes)) on meets);
 }
 
-pub returns-set : (e : Encoding) (only : Bool) (source key value : List ℕ) → All scalar key → All scalar value → (result : Result (Vec ℕ) PropertiesError)
-    → Returns Read e source (IsKeySet e only source key value) result → MakesSet e only source key value result
-returns-set e only source key value k v (Ok bytes) h = set-edits k v h
-returns-set e only source key value k v (Err error) h = h
-
--- So it is of the source and its index.
-pub set-kept : {e : Encoding} {opened : BodyStart} {old key value new : List ℕ} {index : Index} → IsInForce old e opened → is_editable (encoding_of opened.encoding) ≡ true
-    → IsKeySet e opened.ascii_only old key value new
-    → AreSound (held_groups_of (encoding_of opened.encoding) (drop opened.start new)) × IsIndex (held_groups_of (encoding_of opened.encoding) (drop opened.start new)) index
-    → IsKept (IsKeySet e opened.ascii_only old key value new) e opened new index
-set-kept {e} {opened} {old} {key} {value} {new} h ok k kept =
-    record { meant = k; in_force = again new k.body h k.whole (key_set-in_force e opened.ascii_only old key value new (editable h ok) k); sound = kept.0; is_index = kept.1 }
+pub returns-set : (r : Repertoire) (source key value : List ℕ) → All scalar key → All scalar value → (result : Result (Vec ℕ) PropertiesError)
+    → Returns Read r.encoding source (IsKeySet r source key value) result → MakesSet r source key value result
+returns-set r source key value k v (Ok bytes) h = set-edits k v h
+returns-set r source key value k v (Err error) h = h
 
 -- ---- the printed pair
 
 -- its parts are appended
-pub pair-appended : (e : Encoding) (only : Bool) (first : Bool) (key value start all : List ℕ)
-    → all ≡ start ++ (encoded_text e (printed_key e only first key) ++ (equals_sign ∷ encoded_text e (printed_characters e only in_key_or_value value) ++ []))
-    → all ≡ start ++ pair_bytes e only first key value
-pair-appended e only first key value start all h =
-    let front = printed_key e only first key in
-    let back = printed_characters e only in_key_or_value value in
+pub pair-appended : (r : Repertoire) (first : Bool) (key value start all : List ℕ)
+    → all ≡ start ++ (encoded_text r.encoding (printed_key r first key) ++ (equals_sign ∷ encoded_text r.encoding (printed_characters r in_key_or_value value) ++ []))
+    → all ≡ start ++ pair_bytes r first key value
+pair-appended r first key value start all h =
+    let front = printed_key r first key in
+    let back = printed_characters r in_key_or_value value in
     h
-    ∙ ap (λ v. start ++ (encoded_text e front ++ (equals_sign ∷ v))) (append-nil (encoded_text e back))
-    ∙ ap (λ v. start ++ v) (sym (encoded_text-append e front (equals_sign ∷ back)
-    ∙ ap (λ o. encoded_text e front ++ (unwrap_or o [] ++ encoded_text e back)) (encoded-ascii e equals_sign (lit< tt))))
+    ∙ ap (λ v. start ++ (encoded_text r.encoding front ++ (equals_sign ∷ v))) (append-nil (encoded_text r.encoding back))
+    ∙ ap (λ v. start ++ v) (sym (encoded_text-append r.encoding front (equals_sign ∷ back)
+    ∙ ap (λ o. encoded_text r.encoding front ++ (unwrap_or o [] ++ encoded_text r.encoding back)) (encoded-ascii r.encoding equals_sign (lit< tt))))
 
 -- ---- whether it is the first
 
@@ -190,70 +190,70 @@ start-first : (body : List ℕ) (start : ℕ) → start ≤ length body → (sta
 start-first body start h = ap (λ n. n == 0) (sym (length-take-le start body h)) ∙ no-bytes (take start body)
 
 -- The source with the pair replaced has the key set.
-pub replaced-result : {source : List ℕ} {e : Encoding} {opened : BodyStart} {found : PairPlaces} (key value bytes : List ℕ) (pair : BodySpan) → IsInForce source e opened
-    → is_editable (encoding_of opened.encoding) ≡ true → IsKeyFound (encoding_of opened.encoding) (drop opened.start source) key found → found.pair ≡ Some pair
+pub replaced-result : {source : List ℕ} {r : Repertoire} {opened : BodyStart} {found : PairPlaces} (key value bytes : List ℕ) (pair : BodySpan) → IsInForce source r opened
+    → IsKeyFound (encoding_of opened.encoding) (drop opened.start source) key found → found.pair ≡ Some pair
     → bytes ≡ take (opened.start + pair.start) source
-    ++ (pair_bytes (output_encoding (encoding_of opened.encoding)) opened.ascii_only (pair.start == 0) key value ++ drop (opened.start + pair.end) source)
-    → IsKeySet e opened.ascii_only source key value bytes
-replaced-result {source} {e} {opened} {found} key value bytes pair h ok k is made =
+    ++ (pair_bytes (printed_in opened) (pair.start == 0) key value ++ drop (opened.start + pair.end) source)
+    → IsKeySet r source key value bytes
+replaced-result {source} {r} {opened} {found} key value bytes pair h k is made =
     let f = encoding_of opened.encoding in
     let body = drop opened.start source in
     let gs = held_groups_of f body in
     let place : IsPlaceOf key gs pair = subst (IsPlace key gs) is k.pair in
-    let at = place-split f body key pair ok place in
+    let at = place-split f body key pair h.editable place in
     let before = groups_bytes place.place.before in
     let first : (pair.start == 0) ≡ is_empty before = start-first body pair.start (omega arith) ∙ ap is_empty at.front in
-    let printed : pair_bytes (output_encoding f) opened.ascii_only (pair.start == 0) key value ≡ pair_bytes f opened.ascii_only (is_empty before) key value =
-    ap₂ (λ v b. pair_bytes v opened.ascii_only b key value) (editable-own f ok) first in
+    let printed : pair_bytes (printed_in opened) (pair.start == 0) key value ≡ pair_bytes (in_encoding r f) (is_empty before) key value =
+    ap₂ (λ t b. pair_bytes t b key value) (printed-own h) first in
     let front : take (opened.start + pair.start) source ≡ bom_of source ++ before =
     take-add opened.start pair.start source ∙ ap₂ (λ v w. v ++ w) (sym (bom-front h)) at.front in
     let back : drop (opened.start + pair.end) source ≡ ending_bytes (last_ending place.place.group) ++ groups_bytes place.place.after =
     sym (drop-drop pair.end opened.start source) ∙ at.back in
-    let set : key_set e opened.ascii_only source key value ≡ bytes =
-    ap (λ v. key_set_in v opened.ascii_only source key value) h.in_force
-    ∙ ap (λ v. bom_of source ++ set_at f opened.ascii_only source gs key value v) place.is
-    ∙ sym (append_assoc (bom_of source) before (pair_bytes f opened.ascii_only (is_empty before) key value ++ (ending_bytes (last_ending place.place.group) ++ groups_bytes place.place.after)))
+    let set : key_set r source key value ≡ bytes =
+    ap (λ v. key_set_in v r source key value) h.in_force
+    ∙ ap (λ v. bom_of source ++ set_at (in_encoding r f) source gs key value v) place.is
+    ∙ sym (append_assoc (bom_of source) before (pair_bytes (in_encoding r f) (is_empty before) key value ++ (ending_bytes (last_ending place.place.group) ++ groups_bytes place.place.after)))
     ∙ sym (made ∙ ap₂ (λ v w. v ++ w) front (ap₂ (λ v w. v ++ w) printed back)) in
-    subst (IsKeySet e opened.ascii_only source key value) set (key_set-meets e opened.ascii_only source key value)
+    subst (IsKeySet r source key value) set (key_set-meets r source key value)
 
 -- ---- a pair is appended
 
 -- The source with the pair at its end has the key set.
-pub appended-result : {source : List ℕ} {e : Encoding} {opened : BodyStart} {found : PairPlaces} (key value bytes : List ℕ) → IsInForce source e opened
-    → is_editable (encoding_of opened.encoding) ≡ true → IsKeyFound (encoding_of opened.encoding) (drop opened.start source) key found → found.pair ≡ None
+pub appended-result : {source : List ℕ} {r : Repertoire} {opened : BodyStart} {found : PairPlaces} (key value bytes : List ℕ) → IsInForce source r opened
+    → IsKeyFound (encoding_of opened.encoding) (drop opened.start source) key found → found.pair ≡ None
     → let separation = closing_bytes (added_ending source) found.closing in
-    bytes ≡ source ++ (separation ++ (pair_bytes (output_encoding (encoding_of opened.encoding)) opened.ascii_only (is_empty (drop opened.start source ++ separation)) key value ++ line_feed ∷ []))
-    → IsKeySet e opened.ascii_only source key value bytes
-appended-result {source} {e} {opened} {found} key value bytes h ok k none made =
+    bytes ≡ source ++ (separation ++ (pair_bytes (printed_in opened) (is_empty (drop opened.start source ++ separation)) key value ++ line_feed ∷ []))
+    → IsKeySet r source key value bytes
+appended-result {source} {r} {opened} {found} key value bytes h k none made =
     let f = encoding_of opened.encoding in
     let body = drop opened.start source in
     let gs = held_groups_of f body in
     let last : last_place key gs ≡ None = subst (IsPlace key gs) none k.pair in
-    let all : groups_bytes gs ≡ body = held-body f body gs ok (held_groups_of-meets f body) in
+    let all : groups_bytes gs ≡ body = held-body f body gs h.editable (held_groups_of-meets f body) in
     let parts = k.closing (added_ending source) in
     let by = closing_bytes (added_ending source) found.closing in
-    let pair = pair_bytes f opened.ascii_only (is_empty (body ++ by)) key value ++ line_feed ∷ [] in
-    let whole : source ≡ bom_of source ++ body = source-whole e source ∙ ap (λ v. let w : InForce = v in bom_of source ++ w.body) h.in_force in
-    let set : key_set e opened.ascii_only source key value ≡ bytes =
-    ap (λ v. key_set_in v opened.ascii_only source key value) h.in_force
-    ∙ ap (λ v. bom_of source ++ set_at f opened.ascii_only source gs key value v) last
-    ∙ ap₂ (λ v w. bom_of source ++ ((v ++ w) ++ (pair_bytes f opened.ascii_only (is_empty (v ++ w)) key value ++ line_feed ∷ []))) all parts
+    let pair = pair_bytes (in_encoding r f) (is_empty (body ++ by)) key value ++ line_feed ∷ [] in
+    let whole : source ≡ bom_of source ++ body = source-whole r.encoding source ∙ ap (λ v. let w : InForce = v in bom_of source ++ w.body) h.in_force in
+    let set : key_set r source key value ≡ bytes =
+    ap (λ v. key_set_in v r source key value) h.in_force
+    ∙ ap (λ v. bom_of source ++ set_at (in_encoding r f) source gs key value v) last
+    ∙ ap₂ (λ v w. bom_of source ++ ((v ++ w) ++ (pair_bytes (in_encoding r f) (is_empty (v ++ w)) key value ++ line_feed ∷ []))) all parts
     ∙ ap (λ v. bom_of source ++ v) (append_assoc body by pair)
     ∙ sym (append_assoc (bom_of source) body (by ++ pair))
     ∙ ap (λ v. v ++ (by ++ pair)) (sym whole)
-    ∙ sym (made ∙ ap (λ v. source ++ (by ++ (pair_bytes v opened.ascii_only (is_empty (body ++ by)) key value ++ line_feed ∷ []))) (editable-own f ok)) in
-    subst (IsKeySet e opened.ascii_only source key value) set (key_set-meets e opened.ascii_only source key value)
+    ∙ sym (made ∙ ap (λ t. source ++ (by ++ (pair_bytes t (is_empty (body ++ by)) key value ++ line_feed ∷ []))) (printed-own h)) in
+    subst (IsKeySet r source key value) set (key_set-meets r source key value)
 
 -- ---- the law of the source
 
 -- a pair of a body is within the source
-pub span-within : {source : List ℕ} {e : Encoding} {opened : BodyStart} {found : PairPlaces} {key : List ℕ} (pair : BodySpan) → IsInForce source e opened
-    → is_editable (encoding_of opened.encoding) ≡ true → IsKeyFound (encoding_of opened.encoding) (drop opened.start source) key found → found.pair ≡ Some pair
+pub span-within : {source : List ℕ} {r : Repertoire} {opened : BodyStart} {found : PairPlaces} {key : List ℕ} (pair : BodySpan) → IsInForce source r opened
+    → IsKeyFound (encoding_of opened.encoding) (drop opened.start source) key found → found.pair ≡ Some pair
     → opened.start + pair.end ≤ length source
-span-within {source} {e} {opened} {found} {key} pair h ok k is =
+span-within {source} {r} {opened} {found} {key} pair h k is =
     let f = encoding_of opened.encoding in
     let body = drop opened.start source in
-    let at = place-split f body key pair ok (subst (IsPlace key (held_groups_of f body)) is k.pair) in
+    let at = place-split f body key pair h.editable (subst (IsPlace key (held_groups_of f body)) is k.pair) in
     let left : length body ≡ length source - opened.start = length-drop opened.start source in
     omega arith
 
@@ -269,8 +269,8 @@ no_bom-begins b = elim (cases_Bool (begins_with utf_8_bom b)) [
 ]
 
 -- a source starts with its body where it begins with no byte order mark
-pub unmarked : {source : List ℕ} {e : Encoding} {opened : BodyStart} → IsInForce source e opened → (opened.start == 0) ≡ not (begins_like_bom source)
-unmarked {source} {e} {opened} h =
+pub unmarked : {source : List ℕ} {r : Repertoire} {opened : BodyStart} → IsInForce source r opened → (opened.start == 0) ≡ not (begins_like_bom source)
+unmarked {source} {r} {opened} h =
     let size : length (bom_of source) ≡ opened.start = ap length (bom-front h) ∙ length-take-le opened.start source h.within in
     ap (λ n. n == 0) (sym size) ∙ no_bom-begins source
 
@@ -291,30 +291,23 @@ pub returns-removed : (e : Encoding) (source key : List ℕ) (result : Result (V
 returns-removed e source key (Ok bytes) h = removed-edits h
 returns-removed e source key (Err error) h = h
 
-pub removed-kept : {e : Encoding} {opened : BodyStart} {old key new : List ℕ} {index : Index} → IsInForce old e opened → is_editable (encoding_of opened.encoding) ≡ true
-    → IsKeyRemoved e old key new
-    → AreSound (held_groups_of (encoding_of opened.encoding) (drop opened.start new)) × IsIndex (held_groups_of (encoding_of opened.encoding) (drop opened.start new)) index
-    → IsKept (IsKeyRemoved e old key new) e opened new index
-removed-kept {e} {opened} {old} {key} {new} h ok k kept =
-    record { meant = k; in_force = again new _ h k.whole (key_removed-in_force e old key new (editable h ok) k); sound = kept.0; is_index = kept.1 }
-
 -- The source with what is left of its body has the key removed.
-pub removed-bytes : {source : List ℕ} {e : Encoding} {opened : BodyStart} (key bytes : List ℕ) → IsInForce source e opened
+pub removed-bytes : {source : List ℕ} {r : Repertoire} {opened : BodyStart} (key bytes : List ℕ) → IsInForce source r opened
     → (let rest = without key (held_groups_of (encoding_of opened.encoding) (drop opened.start source)) in
     bytes ≡ take opened.start source ++ ((if opened.start == 0 && begins_like_bom rest then line_feed ∷ [] else []) ++ rest))
-    → IsKeyRemoved e source key bytes
-removed-bytes {source} {e} {opened} key bytes h made =
+    → IsKeyRemoved r.encoding source key bytes
+removed-bytes {source} {r} {opened} key bytes h made =
     let rest = without key (held_groups_of (encoding_of opened.encoding) (drop opened.start source)) in
-    let set : key_removed e source key ≡ bytes =
+    let set : key_removed r.encoding source key ≡ bytes =
     ap (λ v. key_removed_in v source key) h.in_force
     ∙ sym (made ∙ ap₂ (λ v b. v ++ ((if b && begins_like_bom rest then line_feed ∷ [] else []) ++ rest)) (sym (bom-front h)) (unmarked h)) in
-    subst (IsKeyRemoved e source key) set (key_removed-meets e source key)
+    subst (IsKeyRemoved r.encoding source key) set (key_removed-meets r.encoding source key)
 
 -- The source with the parts that are left has the key removed.
-pub removed-result : {source : List ℕ} {e : Encoding} {opened : BodyStart} (key bytes : List ℕ) (others : List BodySpan) → IsInForce source e opened
+pub removed-result : {source : List ℕ} {r : Repertoire} {opened : BodyStart} (key bytes : List ℕ) (others : List BodySpan) → IsInForce source r opened
     → AreOthersFound (encoding_of opened.encoding) (drop opened.start source) key others
-    → bytes ≡ left_bytes source opened.start others → IsKeyRemoved e source key bytes
-removed-result {source} {e} {opened} key bytes others h k made =
+    → bytes ≡ left_bytes source opened.start others → IsKeyRemoved r.encoding source key bytes
+removed-result {source} {r} {opened} key bytes others h k made =
     removed-bytes key bytes h
     (made ∙ ap (λ v. take opened.start source ++ ((if opened.start == 0 && begins_like_bom v then line_feed ∷ [] else []) ++ v)) k.bytes)
 

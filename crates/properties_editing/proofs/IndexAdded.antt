@@ -1,8 +1,9 @@
 -- The index of a body to which a pair with a new key was added.
 use Rattle.std.proofs.Common.{◌≡◌, ◌≢◌, ◌<◌, ◌≤◌, ℕ, ◌+◌, Bool, true, false, List, [], ◌∷◌, ◌++◌, None, All, take, drop, ◌-◌, ◌^◌, length, length-drop, refl, ap, ap₂, sym, ◌∙◌, inl, inr, append_assoc, length-append, subst, arith}
-use Rattle.std.specs.Prelude.{Result, Ok, Err, if◌then◌else◌}
+use Rattle.std.specs.Prelude.{if◌then◌else◌}
 use Rattle.properties_format.specs.Text.{LineEnding, lf, cr, scalar, line_ending_text, is_empty}
-use Rattle.properties_format.specs.Encoding.{Encoding, output_encoding}
+use Rattle.properties_format.specs.Encoding.{Encoding}
+use Rattle.properties_format.specs.Repertoire.{Repertoire, in_encoding}
 use Rattle.properties_format.specs.Lines.{HoldsNoLineEnd}
 use Rattle.properties_format.specs.Computed.Lines.{ends_in_cr}
 use Rattle.properties_format.specs.Computed.Cut.{decoded_line}
@@ -20,7 +21,7 @@ use Rattle.properties_format.proofs.Body.Groups.{held-body, held_groups_of-meets
 use Rattle.properties_format.proofs.Edited.AppendedPair.{appended_groups, appended-held}
 use Rattle.properties_format.proofs.Edited.Closed.{IsSeam, closed-by, opened_by, put-seam, value-seam}
 use Rattle.properties_format.proofs.Edited.LogicalLines.{ends-right}
-use Rattle.properties_format.proofs.Edited.Pair.{pair_text, pair-decoded, pair-whole, pair-outcome, pair-plain, editable-own}
+use Rattle.properties_format.proofs.Edited.Pair.{pair_text, pair-decoded, pair-whole, pair-outcome, pair-plain}
 use Rattle.properties_format.proofs.Edited.Steps.{final_group-push}
 use Rattle.properties_format.proofs.Items.Unique.{outcome_of-only}
 use Rattle.properties_format.proofs.Edited.Parts.{pair-some}
@@ -30,20 +31,20 @@ use Rattle.properties_format.proofs.Valued.Separators.{new_separator-fit, added-
 use Rattle.std.proofs.Math.Seq.{drop-append_seam}
 use Rattle.std.proofs.lemmas.List.{length-take-le, take-append-drop}
 use Rattle.properties_text.specs.Encoding.{encoding_of}
-use Rattle.properties_editing.specs.Private.BodyIndex.{AppendsPair, Changes, GrowsIndex, IsIndex, IsKept, IsPairAppended, last_span, opened_bytes, spans_of, stored_at}
+use Rattle.properties_editing.specs.Private.BodyIndex.{GrowsIndex, IsIndex, IsKept, IsPairAppended, last_span, opened_bytes, spans_of, stored_at}
 use Rattle.properties_editing.specs.Private.BodyKeys.{IsKeyFound, IsPlace, closing_bytes, closing_of}
 use Rattle.properties_editing.specs.Private.BodyValues.{IsLayoutAfter, unended_pair}
 use Rattle.properties_items.specs.Texts.{characters}
 use Rattle.properties_items.specs.LineEndings.{ending_of}
-use Rattle.properties_editing.specs.declared.edit.append.Layout.{Layout}
-use Rattle.properties_editing.specs.declared.edit.source.BodyStart.{BodyStart}
+use Rattle.properties_editing.specs.declared.append.Layout.{Layout}
+use Rattle.properties_editing.specs.declared.source.BodyStart.{BodyStart}
 use Rattle.std.proofs.lemmas.Bool.{cond-true}
-use Rattle.properties_editing.specs.Private.Sources.{IsInForce}
-use Rattle.properties_editing.proofs.Editing.{appended-result, set-kept}
-use Rattle.properties_editing.proofs.SetValues.{new_pair-result, value-kept}
-use Rattle.properties_editing.specs.declared.edit.index.Index.{Index}
-use Rattle.properties_editing.specs.declared.edit.find.Closing.{Closing}
-use Rattle.properties_editing.specs.declared.edit.find.Closing.TheVariants as closing
+use Rattle.properties_editing.specs.Private.Sources.{IsInForce, printed_in}
+use Rattle.properties_editing.proofs.Editing.{appended-result, printed-own}
+use Rattle.properties_editing.proofs.SetValues.{new_pair-result}
+use Rattle.properties_editing.specs.declared.index.Index.{Index}
+use Rattle.properties_editing.specs.declared.find.Closing.{Closing}
+use Rattle.properties_editing.specs.declared.find.Closing.TheVariants as closing
 use Rattle.properties_editing.proofs.BodyKeys.{separated, some-groups}
 use Rattle.properties_editing.proofs.IndexAppended.{appended-index, appended-sound}
 use Rattle.properties_editing.proofs.IndexFound.{found-place}
@@ -127,25 +128,25 @@ added-index e by second body key value line added old new ok seam p sounds h fit
 -- ---- the two new pairs
 
 -- The pair that setting a value adds.
-value-line : (e : Encoding) (only first : Bool) (body key value : List ℕ) (by : LineEnding) → is_editable e ≡ true → All scalar key → All scalar value
-    → IsPairLine e key value (added_bytes e only first key (separator_by key (last_between (held_groups_of e body))) value)
-value-line e only first body key value by ok k v =
-    let gs = held_groups_of e body in
+value-line : (r : Repertoire) (first : Bool) (body key value : List ℕ) (by : LineEnding) → is_editable r.encoding ≡ true → All scalar key → All scalar value
+    → IsPairLine r.encoding key value (added_bytes r first key (separator_by key (last_between (held_groups_of r.encoding body))) value)
+value-line r first body key value by ok k v =
+    let gs = held_groups_of r.encoding body in
     let sep = separator_by key (last_between gs) in
-    let p = added-pair e only first key sep value by ok k v (new_separator-fit gs key sep (new_separator-meets gs key)) in
+    let p = added-pair r first key sep value by ok k v (new_separator-fit gs key sep (new_separator-meets gs key)) in
     record { plain = p.plain; some = p.some; whole = p.whole; said = sym (outcome_of-only _ (given (pair key value)) p.has_pair) }
 
 -- The pair that setting a key adds.
-pair-line : (e : Encoding) (only first : Bool) (key value : List ℕ) → is_editable e ≡ true → All scalar key → All scalar value
-    → IsPairLine e key value (pair_bytes e only first key value)
-pair-line e only first key value ok k v =
-    let text : pair_text e only first key value ≡ decoded_line e (pair_bytes e only first key value) =
-    sym (pair-decoded e only first key value ok k v) in
+pair-line : (r : Repertoire) (first : Bool) (key value : List ℕ) → is_editable r.encoding ≡ true → All scalar key → All scalar value
+    → IsPairLine r.encoding key value (pair_bytes r first key value)
+pair-line r first key value ok k v =
+    let text : pair_text r first key value ≡ decoded_line r.encoding (pair_bytes r first key value) =
+    sym (pair-decoded r first key value ok k v) in
     record {
-      plain = pair-plain e only first key value ok k v;
-      some = pair-some e only first key value;
-      whole = subst (λ w. IsWhole (record { number = 0; text = w } ∷ [])) text (pair-whole e only first key value k v);
-      said = ap (λ w. outcome_of (joined (record { number = 0; text = w } ∷ []))) (sym text) ∙ pair-outcome e only first key value k v;
+      plain = pair-plain r first key value ok k v;
+      some = pair-some r first key value;
+      whole = subst (λ w. IsWhole (record { number = 0; text = w } ∷ [])) text (pair-whole r first key value k v);
+      said = ap (λ w. outcome_of (joined (record { number = 0; text = w } ∷ []))) (sym text) ∙ pair-outcome r first key value k v;
     }
 
 -- ---- in a source
@@ -197,56 +198,47 @@ module _ (opened : BodyStart) (old new key value line : List ℕ) (was is : Inde
 
   -- The pair that setting a value adds to a source,
   pub pair-added : (layout : Layout) → IsLayoutAfter (encoding_of opened.encoding) (drop opened.start old) was.closing key layout
-      → line ≡ unended_pair (output_encoding (encoding_of opened.encoding)) opened.ascii_only
+      → line ≡ unended_pair (printed_in opened)
       (is_empty (drop opened.start old ++ closing_bytes (line_ending_text (ending_of layout.ending)) was.closing)) key (characters layout.separator) value
       → IsPairAppended opened key value (line_ending_text (ending_of layout.ending)) line (line_ending_text (ending_of layout.ending)) old was new is
-      → (e : Encoding) → IsInForce old e opened → IsKept (IsValueSet e opened.ascii_only old key value new) e opened new is
-  pair-added layout l printed made e force =
+      → (r : Repertoire) → IsInForce old r opened → IsKept (IsValueSet r old key value new) opened new is
+  pair-added layout l printed made r force =
       let gs = held_groups_of f body in
       let by = ending_of layout.ending in
       let ending = line_ending_text by in
       let separation = closing_bytes ending was.closing in
       let first = is_empty (body ++ separation) in
-      let line_is = printed ∙ ap₂ (λ o s. added_bytes o opened.ascii_only first key s value) (editable-own f ok) l.separates in
-      let p = subst (IsPairLine f key value) (sym line_is) (value-line f opened.ascii_only first body key value by ok k v) in
+      let line_is = printed ∙ ap₂ (λ t s. added_bytes t first key s value) (printed-own force) l.separates in
+      let p = subst (IsPairLine f key value) (sym line_is) (value-line (in_encoding r f) first body key value by ok k v) in
       let seam = value-seam f gs (groups-lined f body gs ok (held_groups_of-meets f body)) by (l.ends f gs ok (held_groups_of-meets f body)) in
       let set =
-      (new_pair-result key value new layout force ok (found-none f body key was h none) refl l
+      (new_pair-result key value new layout force (found-none f body key was h none) refl l
       (made.bytes ∙ ap (λ w. old ++ (separation ++ (w ++ ending))) printed
       ∙ ap (λ c. old
       ++ (closing_bytes ending c
-      ++ (unended_pair (output_encoding f) opened.ascii_only (is_empty (body ++ closing_bytes ending c)) key (characters layout.separator) value ++ ending))) (sym l.closes))) in
-      value-kept force ok set (appended by by seam p made)
+      ++ (unended_pair (printed_in opened) (is_empty (body ++ closing_bytes ending c)) key (characters layout.separator) value ++ ending))) (sym l.closes))) in
+      (set, appended by by seam p made)
 
   -- and that setting a key does.
   pub key-added : (by : LineEnding) → by ≡ (if ends_in_cr old then cr else lf)
-      → line ≡ pair_bytes (output_encoding (encoding_of opened.encoding)) opened.ascii_only (is_empty (drop opened.start old ++ closing_bytes (line_ending_text by) was.closing)) key value
+      → line ≡ pair_bytes (printed_in opened) (is_empty (drop opened.start old ++ closing_bytes (line_ending_text by) was.closing)) key value
       → IsPairAppended opened key value (line_ending_text by) line (line_ending_text lf) old was new is
-      → (e : Encoding) → IsInForce old e opened → IsKept (IsKeySet e opened.ascii_only old key value new) e opened new is
-  key-added by ends printed made e force =
+      → (r : Repertoire) → IsInForce old r opened → IsKept (IsKeySet r old key value new) opened new is
+  key-added by ends printed made r force =
       let gs = held_groups_of f body in
       let ending = line_ending_text by in
       let separation = closing_bytes ending was.closing in
       let first = is_empty (body ++ separation) in
-      let line_is = printed ∙ ap (λ o. pair_bytes o opened.ascii_only first key value) (editable-own f ok) in
-      let p = subst (IsPairLine f key value) (sym line_is) (pair-line f opened.ascii_only first key value ok k v) in
+      let line_is = printed ∙ ap (λ t. pair_bytes t first key value) (printed-own force) in
+      let p = subst (IsPairLine f key value) (sym line_is) (pair-line (in_encoding r f) first key value ok k v) in
       let all : groups_bytes gs ≡ body = held-body f body gs ok (held_groups_of-meets f body) in
       let seam = put-seam f gs (groups-lined f body gs ok (held_groups_of-meets f body)) by (λ q.
       let whole : ends_in_cr old ≡ true =
       ap ends_in_cr (sym (take-append-drop opened.start old)) ∙ ends-right (take opened.start old) body (ap ends_in_cr (sym all) ∙ q) in
       ends ∙ cond-true (ends_in_cr old) cr lf whole) in
       let set =
-      (appended-result key value new force ok (found-none f body key was h none) refl
+      (appended-result key value new force (found-none f body key was h none) refl
       (made.bytes ∙ ap (λ w. old ++ (separation ++ (w ++ line_ending_text lf))) printed
       ∙ ap (λ b. let s : List ℕ = closing_bytes (line_ending_text b) was.closing in
-      old ++ (s ++ (pair_bytes (output_encoding f) opened.ascii_only (is_empty (body ++ s)) key value ++ line_ending_text lf))) ends)) in
-      set-kept force ok set (appended by lf seam p made)
-
--- What is returned where a pair was appended, and where memory ran out.
-pub appended-changes : {E : Type 0} (result : Result Unit E) (Meant : Encoding → Type 0) (opened : BodyStart)
-    (key value by line ending old new : List ℕ) (was is : Index)
-    → (IsPairAppended opened key value by line ending old was new is → (e : Encoding) → IsInForce old e opened → IsKept (Meant e) e opened new is)
-    → stored_at was.pairs.entries key ≡ None → AppendsPair opened key value by line ending old was result new is
-    → Changes Meant opened old was result new is
-appended-changes (Ok done) Meant opened key value by line ending old new was is made none h = made h
-appended-changes (Err error) Meant opened key value by line ending old new was is made none h = (h.0, h.1 none)
+      old ++ (s ++ (pair_bytes (printed_in opened) (is_empty (body ++ s)) key value ++ line_ending_text lf))) ends)) in
+      (set, appended by lf seam p made)

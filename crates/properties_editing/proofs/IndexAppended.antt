@@ -18,7 +18,7 @@ use Rattle.properties_format.specs.Edited.{final_group, is_editable, is_empty_li
 use Rattle.properties_format.specs.Computed.Items.{outcome_of}
 use Rattle.properties_format.specs.Computed.Edited.{IsSound}
 use Rattle.properties_editing.specs.Private.Sound.{AreSound, IsSoundFor}
-use Rattle.properties_editing.specs.declared.edit.source.Comments.TheVariants.{PassedOver}
+use Rattle.properties_editing.specs.declared.source.Comments.TheVariants.{PassedOver}
 use Rattle.properties_format.specs.Computed.Parts.{unended_bytes}
 use Rattle.properties_format.proofs.Edited.AppendedPair as appended
 use Rattle.properties_format.proofs.Edited.Closed.{AreClosedBy, IsLeft, opened_by}
@@ -27,8 +27,8 @@ use Rattle.properties_format.proofs.Valued.Added.{empty_line, outcomes-empty}
 use Rattle.properties_editing.specs.Private.BodyIndex.{GrowsIndex, IsIndex, IsListed, all_longer, longer, outcome, paired, pairs_from, span_of, spans_of, stored_places, stored_value}
 use Rattle.properties_items.specs.FoundItems.{outcome_pair}
 use Rattle.properties_editing.specs.Private.BodyKeys.{closing_of}
-use Rattle.properties_editing.specs.declared.edit.index.Index.{Index}
-use Rattle.properties_editing.specs.declared.edit.find.BodySpan.{BodySpan}
+use Rattle.properties_editing.specs.declared.index.Index.{Index}
+use Rattle.properties_editing.specs.declared.find.BodySpan.{BodySpan}
 use Rattle.properties_editing.proofs.Comments.{sound-join}
 use Rattle.properties_editing.proofs.IndexListed.{IsShift, listed-as, listed-shifted, moved, shift-append}
 use Rattle.properties_editing.proofs.IndexParsed.{listed-stored}

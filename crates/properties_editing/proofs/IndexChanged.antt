@@ -12,17 +12,17 @@ use Rattle.properties_format.specs.Body.{HeldLine, NoneHasKey, as_lines, ending_
 use Rattle.properties_format.specs.Edited.{final_group, is_empty_line, is_last_open, is_left_open}
 use Rattle.properties_format.specs.Computed.Edited.{IsSound}
 use Rattle.properties_editing.specs.Private.Sound.{AreSound, IsSoundFor}
-use Rattle.properties_editing.specs.declared.edit.source.Comments.TheVariants.{PassedOver}
+use Rattle.properties_editing.specs.declared.source.Comments.TheVariants.{PassedOver}
 use Rattle.properties_format.specs.Computed.Parts.{unended_bytes}
 use Rattle.properties_format.proofs.InTurn.Lines.{ending-of}
 use Rattle.properties_format.proofs.InTurn.Merged.{AreInTurn}
 use Rattle.properties_items.specs.FoundItems.{outcome_pair}
 use Rattle.properties_editing.specs.Private.BodyIndex.{FollowsPair, IsEndMoved, IsIndex, carried_to, outcome, paired, pairs_from, span_of, spans_of, stored_at}
 use Rattle.properties_editing.specs.Private.BodyKeys.{closing_of}
-use Rattle.properties_editing.specs.declared.edit.index.Index.{Index}
-use Rattle.properties_editing.specs.declared.edit.find.BodySpan.{BodySpan}
-use Rattle.properties_editing.specs.declared.edit.find.Closing.{Closing}
-use Rattle.properties_editing.specs.declared.edit.find.Closing.TheVariants.{OneEnding}
+use Rattle.properties_editing.specs.declared.index.Index.{Index}
+use Rattle.properties_editing.specs.declared.find.BodySpan.{BodySpan}
+use Rattle.properties_editing.specs.declared.find.Closing.{Closing}
+use Rattle.properties_editing.specs.declared.find.Closing.TheVariants.{OneEnding}
 use Rattle.properties_editing.proofs.IndexFound.{last-stored}
 use Rattle.properties_editing.proofs.IndexListed.{listed-as, listed-revalued}
 use Rattle.properties_editing.proofs.IndexSpans.{carried, carried-behind, end-moved, group-size, moved-behind, none-with, pairs-around, size-around}

@@ -11,7 +11,7 @@ use Rattle.properties_format.specs.Computed.Parts.{unended_bytes}
 use Rattle.properties_format.proofs.Body.Groups.{groups_bytes-append}
 use Rattle.properties_items.specs.FoundItems.{outcome_pair}
 use Rattle.properties_editing.specs.Private.BodyIndex.{IsListed, PairAt, last_value, live, outcome, paired, pairs_from, part_of, place_if, places_with, span_at, span_of}
-use Rattle.properties_editing.specs.declared.edit.find.BodySpan.{BodySpan}
+use Rattle.properties_editing.specs.declared.find.BodySpan.{BodySpan}
 use Rattle.properties_editing.proofs.IndexListed.{IsShift, changed_at, listed-as, listed-cut, listed-first, moved}
 use Rattle.properties_editing.proofs.IndexSpans.{group-size, none-with, pairs-around, pairs-join, shift-all, shift-option, span-is}
 

@@ -1,16 +1,17 @@
 -- A value in place, and the index then.
-use Rattle.std.proofs.Common.{◌≡◌, ◌==◌, ◌<◌, ◌≤◌, ℕ, ◌+◌, ◌-◌, ◌^◌, true, false, List, [], ◌∷◌, ◌++◌, All, length, take, drop, refl, ap, ap₂, sym, ◌∙◌, subst, inl, length-append, length-drop, arith}
+use Rattle.std.proofs.Common.{◌≡◌, ◌==◌, ◌<◌, ℕ, ◌+◌, ◌-◌, ◌^◌, true, false, List, [], ◌∷◌, ◌++◌, All, length, take, drop, refl, ap, ap₂, sym, ◌∙◌, subst, length-append, length-drop, arith}
 use Rattle.std.specs.Prelude.{Some, None}
 use Rattle.std.proofs.Math.Seq.{drop-append_seam}
 use Rattle.std.proofs.lemmas.Bool.{cond-true, cond-false}
 use Rattle.std.proofs.lemmas.List.{length-take-le}
 use Rattle.properties_format.specs.Text.{scalar}
-use Rattle.properties_format.specs.Encoding.{Encoding, output_encoding}
+use Rattle.properties_format.specs.Encoding.{Encoding}
+use Rattle.properties_format.specs.Repertoire.{Repertoire, in_encoding}
 use Rattle.properties_format.specs.Groups.{IsWhole, joined}
 use Rattle.properties_format.specs.Entries as content
 use Rattle.properties_format.specs.Items.{given}
 use Rattle.properties_format.specs.Body.{HeldLine, as_lines, groups_bytes, ending_bytes, last_ending}
-use Rattle.properties_format.specs.Edited.{bom_of, is_editable, is_empty_line, is_left_open, final_group, IsKeySet, pair_bytes}
+use Rattle.properties_format.specs.Edited.{bom_of, is_empty_line, is_left_open, final_group, IsKeySet, pair_bytes}
 use Rattle.properties_format.specs.Valued.{HasPair, IsValueSet}
 use Rattle.properties_format.specs.Computed.Body.{held_groups_of}
 use Rattle.properties_format.specs.Computed.Edited.{key_set, key_set_in, set_at}
@@ -25,17 +26,17 @@ use Rattle.properties_format.proofs.Edited.Replaced.{reput-of}
 use Rattle.properties_format.proofs.Items.Unique.{outcome_of-only}
 use Rattle.properties_format.proofs.InTurn.Merged.{AreInTurn, in-turn}
 use Rattle.properties_text.specs.Encoding.{encoding_of}
-use Rattle.properties_editing.specs.Private.BodyIndex.{FollowsPair, IsIndex, IsKept, KeepsNothing}
+use Rattle.properties_editing.specs.Private.BodyIndex.{FollowsPair, IsIndex, IsKept}
 use Rattle.properties_editing.specs.Private.BodyKeys.{IsPlaceOf, IsKeyFound, closing_of}
-use Rattle.properties_editing.specs.Private.BodyValues.{IsPairAlone, revalued_in}
-use Rattle.properties_editing.specs.Private.Sources.{IsInForce}
-use Rattle.properties_editing.specs.declared.edit.index.Index.{Index}
-use Rattle.properties_editing.specs.declared.edit.find.BodySpan.{BodySpan}
-use Rattle.properties_editing.specs.declared.edit.find.PairPlaces.{PairPlaces}
-use Rattle.properties_editing.specs.declared.edit.source.BodyStart.{BodyStart}
+use Rattle.properties_editing.specs.Private.BodyValues.{revalued_in}
+use Rattle.properties_editing.specs.Private.Sources.{IsInForce, printed_in, used_in}
+use Rattle.properties_editing.specs.declared.index.Index.{Index}
+use Rattle.properties_editing.specs.declared.find.BodySpan.{BodySpan}
+use Rattle.properties_editing.specs.declared.find.PairPlaces.{PairPlaces}
+use Rattle.properties_editing.specs.declared.source.BodyStart.{BodyStart}
 use Rattle.properties_editing.proofs.BodyKeys.{separated}
-use Rattle.properties_editing.proofs.Editing.{bom-front, editable, place-split, replaced-result, set-kept}
-use Rattle.properties_editing.proofs.SetValues.{alone-value, value-kept, revalued-result, found-alone}
+use Rattle.properties_editing.proofs.Editing.{bom-front, editable, replaced-result}
+use Rattle.properties_editing.proofs.SetValues.{alone-value, revalued-result}
 use Rattle.properties_editing.proofs.IndexChanged.{IsLastTold, changed-index, changed-sound, last-told, whole-closed}
 use Rattle.properties_editing.proofs.IndexFound.{said-of}
 use Rattle.properties_editing.proofs.IndexRevalued.{regrouped}
@@ -47,37 +48,19 @@ use Rattle.properties_editing.proofs.IndexSpans.{size-around}
 abbrev pub found_at : List (List HeldLine) → BodySpan → PairPlaces
 found_at gs pair = record { pair = Some pair; last = None; closing = closing_of (is_empty_line (final_group gs)) (is_left_open (final_group gs)) }
 
-pub found-at : (e : Encoding) (body key : List ℕ) (pair : BodySpan) → IsPlaceOf key (held_groups_of e body) pair
+pub key-found : (e : Encoding) (body key : List ℕ) (pair : BodySpan) → IsPlaceOf key (held_groups_of e body) pair
     → IsKeyFound e body key (found_at (held_groups_of e body) pair)
-found-at e body key pair at = record {
+key-found e body key pair at = record {
   pair = at;
   closing = λ ending. separated ending (is_empty_line (final_group (held_groups_of e body))) (is_left_open (final_group (held_groups_of e body)));
 }
 
-module _ (opened : BodyStart) (old : List ℕ) (ok : is_editable (encoding_of opened.encoding) ≡ true)
-    (start_in : opened.start ≤ length old) (pair : BodySpan) (key : List ℕ)
-    (at : IsPlaceOf key (held_groups_of (encoding_of opened.encoding) (drop opened.start old)) pair) where
-  pub pair-within : (pair.start ≤ pair.end) × (opened.start + pair.end ≤ length old)
-  pair-within =
-      let split = place-split (encoding_of opened.encoding) (drop opened.start old) key pair ok at in
-      let size : length (drop opened.start old) ≡ length old - opened.start = length-drop opened.start old in
-      (split.ordered, omega arith)
-
-  pub pair-alone : IsPairAlone (encoding_of opened.encoding) (take ((opened.start + pair.end) - (opened.start + pair.start)) (drop (opened.start + pair.start) old))
-  pair-alone =
-      let size : (opened.start + pair.end) - (opened.start + pair.start) ≡ pair.end - pair.start = omega arith in
-      rw size (found-alone old key opened pair ok (found-at (encoding_of opened.encoding) (drop opened.start old) key pair at) refl)
-
--- Where nothing is done, nothing changes.
-pub keeps-nothing : (groups : List (List HeldLine)) (index : Index) → IsIndex groups index → KeepsNothing index index
-keeps-nothing groups index h = record { stored = λ k. refl; spans = inl refl; closing = refl; ordered = h.ordered }
-
 -- ---- the source after it
 
 -- The group that a pair is in, and the source, after it was replaced.
-module _ (e : Encoding) (opened : BodyStart) (old new key value : List ℕ) (pair : BodySpan) (was is : Index)
-    (v : All scalar value) (h : IsInForce old e opened)
-    (ok : is_editable (encoding_of opened.encoding) ≡ true) (sound : AreSound (held_groups_of (encoding_of opened.encoding) (drop opened.start old)))
+module _ (r : Repertoire) (opened : BodyStart) (old new key value : List ℕ) (pair : BodySpan) (was is : Index)
+    (v : All scalar value) (h : IsInForce old r opened)
+    (sound : AreSound (held_groups_of (encoding_of opened.encoding) (drop opened.start old)))
     (at : IsPlaceOf key (held_groups_of (encoding_of opened.encoding) (drop opened.start old)) pair)
     (index : IsIndex (held_groups_of (encoding_of opened.encoding) (drop opened.start old)) was) (old_fits : length old < 2 ^ 63)
     (new_fits : length new < 2 ^ 63) where
@@ -98,14 +81,14 @@ module _ (e : Encoding) (opened : BodyStart) (old new key value : List ℕ) (pai
       let start_size : length (take opened.start old) ≡ opened.start = length-take-le opened.start old h.within in
       let front : new ≡ take opened.start old ++ edited_body = whole ∙ ap (λ w. w ++ edited_body) (bom-front h) in
       let rest : drop opened.start new ≡ edited_body = ap₂ drop (sym start_size) front ∙ drop-append_seam (take opened.start old) edited_body in
-      let all : groups_bytes gs ≡ body = held-body f body gs ok (held_groups_of-meets f body) in
+      let all : groups_bytes gs ≡ body = held-body f body gs h.editable (held_groups_of-meets f body) in
       let new_size : length new ≡ opened.start + length edited_body =
       ap length front ∙ length-append (take opened.start old) edited_body ∙ ap (λ n. n + length edited_body) start_size in
       let old_size : length body ≡ length old - opened.start = length-drop opened.start old in
       let next : List (List HeldLine) = p.before ++ group ∷ p.after in
       let next_groups : next ≡ held_groups_of f (drop opened.start new) = groups ∙ ap (held_groups_of f) (sym rest) in
       let next_size : length (groups_bytes next) ≡ length edited_body =
-      ap length (ap groups_bytes groups ∙ held-body f edited_body (held_groups_of f edited_body) ok (held_groups_of-meets f edited_body)) in
+      ap length (ap groups_bytes groups ∙ held-body f edited_body (held_groups_of f edited_body) h.editable (held_groups_of-meets f edited_body)) in
       let next_parts = size-around p.before group p.after in
       let old_whole = ap length (sym all ∙ ap groups_bytes at.division) in
       let old_parts : length body ≡ _ = old_whole ∙ size-around p.before p.group p.after in
@@ -115,7 +98,7 @@ module _ (e : Encoding) (opened : BodyStart) (old new key value : List ℕ) (pai
       let fits : length (groups_bytes next) < 2 ^ 64 = omega arith in
       let was_pair = said-of key p.group m.has in
       let is_pair = sym (outcome_of-only (joined (as_lines group)) (given (content.pair key value)) has) in
-      let turn = subst (AreInTurn f) at.division (in-turn f body gs ok (held_groups_of-meets f body)) in
+      let turn = subst (AreInTurn f) at.division (in-turn f body gs h.editable (held_groups_of-meets f body)) in
       let told : IsLastTold (opened.start + pair.end == length old) p.after =
       last-told f p.before p.group p.after (opened.start + pair.end) (length old) opened.start turn (omega arith) (omega arith) in
       let left = whole-closed group closed in (
@@ -134,60 +117,60 @@ module _ (e : Encoding) (opened : BodyStart) (old new key value : List ℕ) (pai
       → ((group : List HeldLine)
       × (held_groups_of (encoding_of opened.encoding) (take ((opened.start + pair.end) - (opened.start + pair.start)) (drop (opened.start + pair.start) old)) ≡ group ∷ [])
       × (has_value value group ≡ false)
-      × (new ≡ revalued_in (encoding_of opened.encoding) opened.ascii_only old (opened.start + pair.start) (opened.start + pair.end) value group))
+      × (new ≡ revalued_in (used_in opened) old (opened.start + pair.start) (opened.start + pair.end) value group))
       → FollowsPair key value pair.end (pair.end + length new - length old) (opened.start + pair.end == length old) was is
-      → IsKept (IsValueSet e opened.ascii_only old key value new) e opened new is
+      → IsKept (IsValueSet r old key value new) opened new is
   revalued-index k revalues follows =
       let f = encoding_of opened.encoding in
       let body = drop opened.start old in
       let gs = held_groups_of f body in
       let p = at.place in
       let m = subst (made.IsPlace key gs) at.is (last_place-meets key gs) in
-      let result = revalued-result key value new pair h ok (found-at f body key pair at) refl (revalues.0, revalues.1, revalues.3) in
-      let set_is : value_set e opened.ascii_only old key value ≡ new = sym (value_set-only e opened.ascii_only old key value new (editable h ok) result) in
-      let other : has_value value p.group ≡ false = sym (alone-value old key value opened pair ok at revalues.0 revalues.1) ∙ revalues.2 in
-      let edited_body = revalued_at f opened.ascii_only value p in
+      let result = revalued-result key value new pair h (key-found f body key pair at) refl (revalues.0, revalues.1, revalues.3) in
+      let set_is : value_set r old key value ≡ new = sym (value_set-only r old key value new (editable h) result) in
+      let other : has_value value p.group ≡ false = sym (alone-value old key value opened pair h.editable at revalues.0 revalues.1) ∙ revalues.2 in
+      let edited_body = revalued_at (in_encoding r f) value p in
       let whole : new ≡ bom_of old ++ edited_body =
       sym set_is
-      ∙ ap (λ w. value_set_in w opened.ascii_only old key value) h.in_force
-      ∙ ap (λ w. bom_of old ++ valued_at f opened.ascii_only gs key value w) at.is
+      ∙ ap (λ w. value_set_in w r old key value) h.in_force
+      ∙ ap (λ w. bom_of old ++ valued_at (in_encoding r f) gs key value w) at.is
       ∙ ap (λ w. bom_of old ++ w) (cond-false (has_value value p.group) (groups_bytes gs) edited_body other) in
-      let r = regrouped f opened.ascii_only body key value p ok v m in
-      let kept = followed-index r.group edited_body whole r.is_groups r.has_pair r.ending r.full r.whole follows in
-      value-kept h ok result kept
+      let next = regrouped (in_encoding r f) body key value p h.editable v m in
+      let kept = followed-index next.group edited_body whole next.is_groups next.has_pair next.ending next.full next.whole follows in
+      (result, kept)
 
   -- The printed pair is in its place.
   pub reput-index : All scalar key
       → new ≡ take (opened.start + pair.start) old
-      ++ (pair_bytes (output_encoding (encoding_of opened.encoding)) opened.ascii_only (pair.start == 0) key value
+      ++ (pair_bytes (printed_in opened) (pair.start == 0) key value
       ++ drop (opened.start + pair.end) old)
       → FollowsPair key value pair.end (pair.end + length new - length old) (opened.start + pair.end == length old) was is
-      → IsKept (IsKeySet e opened.ascii_only old key value new) e opened new is
+      → IsKept (IsKeySet r old key value new) opened new is
   reput-index k bytes follows =
       let f = encoding_of opened.encoding in
       let body = drop opened.start old in
       let gs = held_groups_of f body in
       let p = at.place in
       let m = subst (made.IsPlace key gs) at.is (last_place-meets key gs) in
-      let result = replaced-result key value new pair h ok (found-at f body key pair at) refl bytes in
-      let set_is : key_set e opened.ascii_only old key value ≡ new = sym (key_set-only e opened.ascii_only old key value new result) in
-      let edited_body = set_at f opened.ascii_only old gs key value (Some p) in
+      let result = replaced-result key value new pair h (key-found f body key pair at) refl bytes in
+      let set_is : key_set r old key value ≡ new = sym (key_set-only r old key value new result) in
+      let edited_body = set_at (in_encoding r f) old gs key value (Some p) in
       let whole : new ≡ bom_of old ++ edited_body =
-      sym set_is ∙ ap (λ w. key_set_in w opened.ascii_only old key value) h.in_force
-      ∙ ap (λ w. bom_of old ++ set_at f opened.ascii_only old gs key value w) at.is in
-      let r = reput-of f opened.ascii_only old body key value p.before p.group p.after ok k v m.has m.division in
-      let kept = followed-index r.group edited_body whole r.is_groups r.has_pair r.ending r.full r.whole follows in
-      set-kept h ok result kept
+      sym set_is ∙ ap (λ w. key_set_in w r old key value) h.in_force
+      ∙ ap (λ w. bom_of old ++ set_at (in_encoding r f) old gs key value w) at.is in
+      let next = reput-of (in_encoding r f) old body key value p.before p.group p.after h.editable k v m.has m.division in
+      let kept = followed-index next.group edited_body whole next.is_groups next.has_pair next.ending next.full next.whole follows in
+      (result, kept)
 
   -- The pair has the value.
   pub same-value : All scalar key
       → ((group : List HeldLine)
       × (held_groups_of (encoding_of opened.encoding) (take ((opened.start + pair.end) - (opened.start + pair.start)) (drop (opened.start + pair.start) old)) ≡ group ∷ [])
       × (has_value value group ≡ true))
-      → IsKept (IsValueSet e opened.ascii_only old key value old) e opened old was
+      → IsKept (IsValueSet r old key value old) opened old was
   same-value k there =
       let f = encoding_of opened.encoding in
-      let bytes : old ≡ revalued_in f opened.ascii_only old (opened.start + pair.start) (opened.start + pair.end) value there.0 =
+      let bytes : old ≡ revalued_in (used_in opened) old (opened.start + pair.start) (opened.start + pair.end) value there.0 =
       sym (cond-true (has_value value there.0) old _ there.2) in
-      let result = revalued-result key value old pair h ok (found-at f (drop opened.start old) key pair at) refl (there.0, there.1, bytes) in
-      value-kept h ok result (sound, index)
+      let result = revalued-result key value old pair h (key-found f (drop opened.start old) key pair at) refl (there.0, there.1, bytes) in
+      (result, (sound, index))

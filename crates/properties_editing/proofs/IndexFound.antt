@@ -16,9 +16,9 @@ use Rattle.properties_items.specs.FoundItems.{outcome_pair}
 use Rattle.properties_editing.specs.Private.BodyIndex.{IsIndex, PairAt, found_span, last_live, last_span, live, outcome, paired, pairs_from, part_of, places_of, span_at, span_of, span_or, spans_of, stored_at}
 use Rattle.properties_editing.specs.Private.BodyKeys.{IsPlace, IsPlaceOf}
 use Rattle.properties_editing.specs.Private.BodyValues.{IsLastPair}
-use Rattle.properties_editing.specs.declared.edit.index.Index.{Index}
-use Rattle.properties_editing.specs.declared.edit.index.IndexedPair.{IndexedPair}
-use Rattle.properties_editing.specs.declared.edit.find.BodySpan.{BodySpan}
+use Rattle.properties_editing.specs.declared.index.Index.{Index}
+use Rattle.properties_editing.specs.declared.index.IndexedPair.{IndexedPair}
+use Rattle.properties_editing.specs.declared.find.BodySpan.{BodySpan}
 use Rattle.properties_editing.proofs.IndexListed.{listed-last}
 use Rattle.properties_editing.proofs.IndexSpans.{listed-none, none-with, pairs-around}
 use Rattle.properties_editing.proofs.LastPairs.{last-after}
@@ -82,10 +82,8 @@ module _ {groups : List (List HeldLine)} {index : Index} (h : IsIndex groups ind
           subst (IsPlace key groups) (sym is) place
 
   -- A key that is nowhere isn't stored.
-  pub new-key : found_span index key ≡ None → stored_at index.pairs.entries key ≡ None
-  new-key nowhere =
-      let none : last_place key groups ≡ None = subst (IsPlace key groups) nowhere found-place in
-      none-stored (subst (made.IsPlace key groups) none (last_place-meets key groups))
+  pub new-key : IsPlace key groups None → stored_at index.pairs.entries key ≡ None
+  new-key none = none-stored (subst (made.IsPlace key groups) none (last_place-meets key groups))
 
 -- ---- the last pair
 

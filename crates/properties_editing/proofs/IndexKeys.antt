@@ -24,13 +24,13 @@ use Rattle.properties_format.specs.Body.{HeldLine, group_bytes}
 use Rattle.properties_format.specs.Computed.Keys.{Has, ComesBefore, AreFirstOf}
 use Rattle.properties_format.specs.Computed.Parts.{outcome_key}
 use Rattle.properties_items.specs.FoundItems.{outcome_pair}
-use Rattle.properties_editing.specs.Private.BodyIndex.{IsListed, PairAt, live, outcome, paired, pairs_from, part_of, place_if, places_of, places_with, span_in, span_of, stored_at, stored_places}
-use Rattle.properties_editing.specs.Private.BodyIndex.Keys.{AreFirsts, ArePlaced, IndexesSome, IsFirstIn, TellsKeys, group_keys, key_at}
+use Rattle.properties_editing.specs.Private.BodyIndex.{IsIndex, IsListed, PairAt, live, outcome, paired, pairs_from, part_of, place_if, places_of, places_with, span_in, span_of, stored_at, stored_places}
+use Rattle.properties_editing.specs.Private.BodyIndex.Keys.{AreFirsts, ArePlaced, IndexesSome, IsFirstIn, group_keys, key_at}
 use Rattle.properties_editing.specs.Documents.{characters_of}
 use Rattle.properties_items.specs.Texts.{characters}
-use Rattle.properties_editing.specs.declared.edit.index.Index.{Index}
-use Rattle.properties_editing.specs.declared.edit.index.IndexedPair.{IndexedPair}
-use Rattle.properties_editing.specs.declared.edit.find.BodySpan.{BodySpan}
+use Rattle.properties_editing.specs.declared.index.Index.{Index}
+use Rattle.properties_editing.specs.declared.index.IndexedPair.{IndexedPair}
+use Rattle.properties_editing.specs.declared.find.BodySpan.{BodySpan}
 use Rattle.properties_items.proofs.TextMaps.Values.{at_chars-sorted}
 
 -- ---- the keys of pairs
@@ -392,9 +392,9 @@ keys-mapped f [] = refl
 keys-mapped f (x ∷ xs) = ap (cons_option (f x)) (keys-mapped f xs)
 
 -- The keys at the places are those of the index.
-pub tells-keys : (index : Index) (firsts : List (Option (Bor (List ℕ)))) (keys : List (Bor (List ℕ))) → ArePlaced index.pairs.entries firsts
-    → characters_of keys ≡ filter_map key_at firsts → TellsKeys index keys
-tells-keys index firsts keys placed is groups i =
+pub tells-keys : {groups : List (List HeldLine)} {index : Index} (firsts : List (Option (Bor (List ℕ)))) (keys : List (Bor (List ℕ))) → IsIndex groups index
+    → ArePlaced index.pairs.entries firsts → characters_of keys ≡ filter_map key_at firsts → AreFirstOf (group_keys groups) (characters_of keys)
+tells-keys {groups} {index} firsts keys i placed is =
     subst (AreFirstOf (group_keys groups)) (keys-mapped key_at firsts ∙ sym is)
     (first-keys groups index.pairs.entries i.listed (map key_at firsts) placed)
 

@@ -10,7 +10,7 @@ use Rattle.std.proofs.lemmas.Slice.Eq.{bytes_eq-Decides}
 use Rattle.properties_format.specs.Computed.Maps.{first_value}
 use Rattle.properties_format.proofs.Maps.{first-assoc, first-none}
 use Rattle.properties_editing.specs.Private.BodyIndex.{IsListed, PairAt, last_value, live, paired, part_of, place_if, places_with, span_at}
-use Rattle.properties_editing.specs.declared.edit.find.BodySpan.{BodySpan}
+use Rattle.properties_editing.specs.declared.find.BodySpan.{BodySpan}
 
 -- what a key has, changed to this
 abbrev pub changed_at : {X : Type 0} → (List ℕ → X) → List ℕ → X → List ℕ → X

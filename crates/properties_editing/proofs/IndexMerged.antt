@@ -14,7 +14,7 @@ use Rattle.properties_format.specs.Edited.{is_editable}
 use Rattle.properties_format.specs.Computed.Body.{has_key, held_groups_of, is_pair_with}
 use Rattle.properties_format.specs.Computed.Cut.{decoded_line}
 use Rattle.properties_editing.specs.Private.Sound.{AreSound, IsSoundFor}
-use Rattle.properties_editing.specs.declared.edit.source.Comments.TheVariants.{PassedOver}
+use Rattle.properties_editing.specs.declared.source.Comments.TheVariants.{PassedOver}
 use Rattle.properties_format.specs.Computed.Items.{outcome_of}
 use Rattle.properties_format.specs.Computed.Parts.{unended_bytes, are_one_ending}
 use Rattle.properties_format.proofs.Body.Decoded.{decoded-nil}
@@ -24,7 +24,7 @@ use Rattle.properties_format.proofs.InTurn.Lines.{AreLinesBy, unended-some, with
 use Rattle.properties_format.proofs.InTurn.Merged.{AreInTurn, after-lf, merged, merged-groups, merged-one, merged-two, one-bytes, one-ending}
 use Rattle.properties_items.specs.FoundItems.{outcome_pair}
 use Rattle.properties_editing.specs.Private.BodyIndex.{outcome, paired, pairs_from, span_of}
-use Rattle.properties_editing.specs.declared.edit.find.BodySpan.{BodySpan}
+use Rattle.properties_editing.specs.declared.find.BodySpan.{BodySpan}
 use Rattle.properties_editing.proofs.IndexListed.{IsShift}
 use Rattle.properties_editing.proofs.IndexSpans.{carried, moved-behind, pairs-first}
 

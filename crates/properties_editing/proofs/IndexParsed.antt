@@ -12,7 +12,7 @@ use Rattle.properties_format.specs.Encoding.{Encoding}
 use Rattle.properties_format.specs.Body.{HeldLine, groups_bytes}
 use Rattle.properties_format.specs.Edited.{final_group, is_empty_line, is_left_open}
 use Rattle.properties_editing.specs.Private.Sound.{IsSoundFor}
-use Rattle.properties_editing.specs.declared.edit.source.Comments.{Comments}
+use Rattle.properties_editing.specs.declared.source.Comments.{Comments}
 use Rattle.properties_format.specs.Computed.Items.{outcome_of}
 use Rattle.properties_format.specs.Computed.Parts.{unended_bytes}
 use Rattle.properties_format.proofs.Edited.Steps.{final_group-push}
@@ -22,11 +22,11 @@ use Rattle.properties_editing.specs.Private.BodyIndex.{AddsGroup, AddsPair, IsIn
 use Rattle.properties_items.specs.FoundItems.{outcome_pair}
 use Rattle.properties_editing.specs.Private.BodyKeys.{closing_of}
 use Rattle.properties_items.specs.Texts.{characters}
-use Rattle.properties_editing.specs.declared.edit.groups.Group.{Group}
-use Rattle.properties_editing.specs.declared.edit.groups.GroupReader.{GroupReader}
-use Rattle.properties_editing.specs.declared.edit.index.Index.{Index}
-use Rattle.properties_editing.specs.declared.edit.index.IndexedPair.{IndexedPair}
-use Rattle.properties_editing.specs.declared.edit.find.BodySpan.{BodySpan}
+use Rattle.properties_editing.specs.declared.groups.Group.{Group}
+use Rattle.properties_editing.specs.declared.groups.GroupReader.{GroupReader}
+use Rattle.properties_editing.specs.declared.index.Index.{Index}
+use Rattle.properties_editing.specs.declared.index.IndexedPair.{IndexedPair}
+use Rattle.properties_editing.specs.declared.find.BodySpan.{BodySpan}
 use Rattle.properties_editing.proofs.BodyKeys.{HasRead, read-none, read-more}
 use Rattle.properties_editing.proofs.IndexListed.{changed_at, listed-as, listed-empty, listed-more}
 use Rattle.properties_editing.proofs.IndexSpans.{pairs-around}

@@ -9,6 +9,7 @@ use Rattle.std.proofs.Math.Seq.{drop-append_seam}
 use Rattle.std.proofs.lemmas.Bool.{cases_Bool, cond-true, cond-false}
 use Rattle.std.proofs.lemmas.Bool.Decides.{nat_tests}
 use Rattle.std.proofs.lemmas.List.{drop-drop, length-take-le, take-append-drop}
+use Rattle.properties_format.specs.Repertoire.{Repertoire}
 use Rattle.properties_format.specs.Text.{LineEnding, lf, cr, crlf, line_feed}
 use Rattle.properties_format.specs.Encoding.{Encoding, begins_like_bom}
 use Rattle.properties_format.specs.Entries as content
@@ -33,17 +34,17 @@ use Rattle.properties_items.specs.FoundItems.{outcome_pair}
 use Rattle.properties_editing.specs.Private.BodyKeys.{closing_of}
 use Rattle.properties_items.specs.Texts.{characters}
 use Rattle.properties_editing.specs.Private.Sources.{IsInForce}
-use Rattle.properties_editing.specs.declared.edit.index.Index.{Index}
-use Rattle.properties_editing.specs.declared.edit.index.IndexedPair.{IndexedPair}
-use Rattle.properties_editing.specs.declared.edit.find.BodySpan.{BodySpan}
-use Rattle.properties_editing.specs.declared.edit.source.BodyStart.{BodyStart}
-use Rattle.properties_editing.specs.declared.edit.find.Closing.{Closing}
-use Rattle.properties_editing.specs.declared.edit.find.Closing.TheVariants.{Nothing}
+use Rattle.properties_editing.specs.declared.index.Index.{Index}
+use Rattle.properties_editing.specs.declared.index.IndexedPair.{IndexedPair}
+use Rattle.properties_editing.specs.declared.find.BodySpan.{BodySpan}
+use Rattle.properties_editing.specs.declared.source.BodyStart.{BodyStart}
+use Rattle.properties_editing.specs.declared.find.Closing.{Closing}
+use Rattle.properties_editing.specs.declared.find.Closing.TheVariants.{Nothing}
 use Rattle.properties_editing.proofs.BodyGroups.{front-of}
 use Rattle.properties_editing.proofs.BodyKeys.{some-groups}
 use Rattle.properties_editing.proofs.Comments.{sound-join}
-use Rattle.properties_editing.specs.declared.edit.source.Comments.TheVariants.{PassedOver}
-use Rattle.properties_editing.proofs.Editing.{removed-bytes, removed-kept, unmarked}
+use Rattle.properties_editing.specs.declared.source.Comments.TheVariants.{PassedOver}
+use Rattle.properties_editing.proofs.Editing.{removed-bytes, unmarked}
 use Rattle.properties_editing.proofs.IndexChanged.{IsLastTold, final-behind, last-told, some-ending, turn-behind}
 use Rattle.properties_editing.proofs.IndexCut.{HasCut, HaveBytes, all_cut, cut-first, cut_from}
 use Rattle.properties_editing.proofs.IndexFound.{said-of}
@@ -523,8 +524,7 @@ front-turn e (g ∷ gs) mid new old is h k fits =
 
 -- ---- what a removal comes to
 
-module _ (e : Encoding) (opened : BodyStart) (old key : List ℕ) (force : IsInForce old e opened)
-    (ok : is_editable (encoding_of opened.encoding) ≡ true)
+module _ (r : Repertoire) (opened : BodyStart) (old key : List ℕ) (force : IsInForce old r opened)
     (sound : AreSound (held_groups_of (encoding_of opened.encoding) (drop opened.start old))) where
   abbrev f : Encoding
   f = encoding_of opened.encoding
@@ -547,15 +547,15 @@ module _ (e : Encoding) (opened : BodyStart) (old key : List ℕ) (force : IsInF
 
   removed-by : (new : List ℕ) (is : Index) (gs : List (List HeldLine)) → IsTurnOf f gs is
       → new ≡ front ++ ((if is_guarded then line_feed ∷ [] else []) ++ rest)
-      → drop opened.start new ≡ groups_bytes gs → IsKept (IsKeyRemoved e old key new) e opened new is
-  removed-by new is gs turn bytes back =
-      let kept = turn-index f gs is ok turn in
-      removed-kept force ok (removed-bytes key new force bytes)
-      (subst (λ v. AreSound (held_groups_of f v) × IsIndex (held_groups_of f v) is) (sym back) kept)
+      → drop opened.start new ≡ groups_bytes gs → IsKept (IsKeyRemoved r.encoding old key new) opened new is
+  removed-by new is gs turn bytes back = (
+    removed-bytes key new force bytes,
+    subst (λ v. AreSound (held_groups_of f v) × IsIndex (held_groups_of f v) is) (sym back) (turn-index f gs is force.editable turn),
+  )
 
   -- What is left is guarded if it begins like a byte order mark.
   pub removal-ends : (mid new : List ℕ) (cut is : Index) → IsCutWhole f key (held_groups_of f body) front mid cut → length new < 2 ^ 64
-      → GuardsFront (opened.start == 0 && begins_like_bom mid) mid cut new is → IsKept (IsKeyRemoved e old key new) e opened new is
+      → GuardsFront (opened.start == 0 && begins_like_bom mid) mid cut new is → IsKept (IsKeyRemoved r.encoding old key new) opened new is
   removal-ends mid new cut is w fits guards = elim (cases_Bool is_guarded) [
     | inl told ↦
         let both = both-true (opened.start == 0) (begins_like_bom rest) told in
@@ -591,11 +591,11 @@ module _ (e : Encoding) (opened : BodyStart) (old key : List ℕ) (force : IsInF
 
   -- No pair has the key.
   pub removed-none : (was is : Index) → IsIndex (held_groups_of f body) was → stored_at was.pairs.entries key ≡ None
-      → KeepsNothing was is → IsKept (IsKeyRemoved e old key old) e opened old is
+      → KeepsNothing was is → IsKept (IsKeyRemoved r.encoding old key old) opened old is
   removed-none was is index stored kept =
       let gs = held_groups_of f body in
       let none : NoneHasKey key gs = none-listed gs key index.listed (ap places_of stored) in
-      let rest_is : rest ≡ body = without-none key gs none ∙ held-body f body gs ok (held_groups_of-meets f body) in
+      let rest_is : rest ≡ body = without-none key gs none ∙ held-body f body gs force.editable (held_groups_of-meets f body) in
       let unguarded : (opened.start == 0 && begins_like_bom rest) ≡ false = elim (cases_Bool (opened.start == 0)) [
         | inl zero_start ↦
             let start : opened.start ≡ 0 = grind (arith, nat_tests) in
@@ -609,7 +609,7 @@ module _ (e : Encoding) (opened : BodyStart) (old key : List ℕ) (force : IsInF
       sym (take-append-drop opened.start old)
       ∙ ap (λ v. front ++ v) (sym rest_is)
       ∙ ap (λ v. front ++ (v ++ rest)) (sym (cond-false (opened.start == 0 && begins_like_bom rest) (line_feed ∷ []) [] unguarded)) in
-      removed-kept force ok (removed-bytes key old force bytes) (sound, kept-index gs was is index kept)
+      (removed-bytes key old force bytes, (sound, kept-index gs was is index kept))
     where
       not-true : (b : Bool) → not b ≡ true → b ≡ false
       not-true true h = absurd (cc)

@@ -16,8 +16,8 @@ use Rattle.properties_format.proofs.Edited.Made.{has_key-false, no_key-test}
 use Rattle.properties_format.proofs.InTurn.Lines.{bytes-unended}
 use Rattle.properties_items.specs.FoundItems.{outcome_pair}
 use Rattle.properties_editing.specs.Private.BodyIndex.{AreLongerTo, IsEndMoved, IsListed, PairAt, all_longer, carried_to, lengthened_span, longer, moved_part, outcome, paired, pairs_from, part_in, resized_part, span_at, span_in, span_of, spans_in}
-use Rattle.properties_editing.specs.declared.edit.index.BodyPart.{BodyPart}
-use Rattle.properties_editing.specs.declared.edit.find.BodySpan.{BodySpan}
+use Rattle.properties_editing.specs.declared.index.BodyPart.{BodyPart}
+use Rattle.properties_editing.specs.declared.find.BodySpan.{BodySpan}
 use Rattle.properties_editing.proofs.IndexListed.{IsShift, NoneWith, none-places, places-none}
 
 -- ---- sizes

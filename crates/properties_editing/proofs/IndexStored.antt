@@ -13,7 +13,7 @@ use Rattle.std.proofs.lemmas.Bool.{cases_Bool, cond-true, cond-false}
 use Rattle.std.proofs.lemmas.Slice.Eq.{bytes_eq-Decides}
 use Rattle.properties_editing.specs.Private.BodyIndex.{places_of, stored_at, stored_value}
 use Rattle.properties_items.specs.Texts.{characters}
-use Rattle.properties_editing.specs.declared.edit.index.IndexedPair.{IndexedPair}
+use Rattle.properties_editing.specs.declared.index.IndexedPair.{IndexedPair}
 use Rattle.properties_editing.proofs.IndexListed.{changed_at}
 use Rattle.properties_items.proofs.TextMaps.Values.{at_chars-sorted, at_chars-updated}
 

@@ -17,11 +17,11 @@ use Rattle.std.specs.BTreeMap.{IsOrdered}
 use Rattle.std.specs.String.{string_cmp}
 use Rattle.properties_editing.specs.Private.BodyIndex.{ending_size, last_value, pairs_from, part_in, span_at, span_in, span_of, spans_in, spans_of, stored_at, stored_places, stored_value}
 use Rattle.properties_editing.specs.Private.BodySweep.{AreLowered, CutsNext, IsAhead, IsNextCut, lowered}
-use Rattle.properties_editing.specs.declared.edit.index.BodyPart.{BodyPart}
-use Rattle.properties_editing.specs.declared.edit.index.Index.{Index}
-use Rattle.properties_editing.specs.declared.edit.index.sweep.Sweep.{Sweep}
-use Rattle.properties_editing.specs.declared.edit.find.BodySpan.{BodySpan}
-use Rattle.properties_editing.specs.declared.edit.find.Closing.TheVariants.{Nothing}
+use Rattle.properties_editing.specs.declared.index.BodyPart.{BodyPart}
+use Rattle.properties_editing.specs.declared.index.Index.{Index}
+use Rattle.properties_editing.specs.declared.index.sweep.Sweep.{Sweep}
+use Rattle.properties_editing.specs.declared.find.BodySpan.{BodySpan}
+use Rattle.properties_editing.specs.declared.find.Closing.TheVariants.{Nothing}
 use Rattle.properties_editing.proofs.IndexCut.{AreFrom, HasCut, all_cut, cut-own, cut_from, raised, raised_span}
 use Rattle.properties_editing.proofs.IndexListed.{changed_at, listed-as}
 use Rattle.properties_editing.proofs.IndexRemoved.{IsCutTo, after, cut-end, cut-step, end, first, g, left_bytes, n, skip, some-bytes, some-first, whole-size}

@@ -42,13 +42,13 @@ use Rattle.properties_format.specs.Split.{Logical, IsSplit}
 use Rattle.properties_format.proofs.Split.Unique.{split_of-meets}
 use Rattle.properties_format.proofs.Valued.Parts.{comment_line-no_pair}
 use Rattle.properties_editing.specs.Private.Sound.{IsSoundFor}
-use Rattle.properties_editing.specs.declared.edit.source.Comments.TheVariants.{PassedOver}
+use Rattle.properties_editing.specs.declared.source.Comments.TheVariants.{PassedOver}
 use Rattle.properties_format.specs.Escapes.{Meaning, means, breaks}
 use Rattle.properties_format.specs.Computed.Escapes.{meaning_of}
 use Rattle.properties_format.specs.Computed.Items.{comment_outcome, pair_outcome, split_outcome}
 use Rattle.properties_format.specs.Computed.Edited.{IsSound}
 use Rattle.properties_editing.specs.Private.BodyIndex.{is_pair, outcome}
-use Rattle.properties_editing.specs.declared.edit.find.BodySpan.{BodySpan}
+use Rattle.properties_editing.specs.declared.find.BodySpan.{BodySpan}
 
 -- ---- what separates key and value, if a line is a pair
 

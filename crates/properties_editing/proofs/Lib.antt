@@ -18,6 +18,7 @@ pub mod IndexMerged
 pub mod IndexKeys
 pub mod IndexRemoved
 pub mod IndexSwept
+pub mod IndexedSources
 pub mod BodyDocuments
 pub mod IndexAppended
 pub mod IndexChanged

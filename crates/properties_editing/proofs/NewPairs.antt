@@ -6,7 +6,8 @@ use Rattle.std.proofs.lemmas.Bool.{cases_Bool, cond-true, cond-false}
 use Rattle.std.proofs.lemmas.Bool.Decides.{nat_tests}
 use Rattle.std.proofs.lemmas.Str.{chars-nil}
 use Rattle.properties_format.specs.Text.{LineEnding, line_ending_text, is_blank, is_blanks, equals_sign, is_empty}
-use Rattle.properties_format.specs.Encoding.{Encoding, windows_1252}
+use Rattle.properties_format.specs.Encoding.{windows_1252}
+use Rattle.properties_format.specs.Repertoire.{Repertoire}
 use Rattle.properties_format.specs.Printing.{encoded_text, printed_value}
 use Rattle.properties_format.specs.Valued.{value_text, separator_after, shortened_after}
 use Rattle.properties_format.proofs.Printing.Characters.{encoded-ascii, encoded_text-ascii, line_end-ascii}
@@ -18,18 +19,18 @@ use Rattle.properties_items.proofs.RawTexts.{line_ending-bytes}
 -- ---- a value after its separator
 
 -- an equals sign comes first where nothing separates key and value
-pub value-unseparated : (e : Encoding) (only : Bool) (line raw all separator value : List ℕ) → separator ≡ [] → raw ≡ line ++ equals_sign ∷ []
-    → all ≡ raw ++ encoded_text e (printed_value e only false value) → all ≡ line ++ encoded_text e (value_text e only separator value)
-value-unseparated e only line raw all separator value none h k =
-    let back = encoded_text e (printed_value e only false value) in
+pub value-unseparated : (r : Repertoire) (line raw all separator value : List ℕ) → separator ≡ [] → raw ≡ line ++ equals_sign ∷ []
+    → all ≡ raw ++ encoded_text r.encoding (printed_value r false value) → all ≡ line ++ encoded_text r.encoding (value_text r separator value)
+value-unseparated r line raw all separator value none h k =
+    let back = encoded_text r.encoding (printed_value r false value) in
     k ∙ ap (λ v. v ++ back) h
     ∙ append_assoc line (equals_sign ∷ []) back
-    ∙ ap (λ v. line ++ v) (sym (ap (λ v. encoded_text e (value_text e only v value)) none ∙ ap (λ o. unwrap_or o [] ++ back) (encoded-ascii e equals_sign (lit< tt))))
+    ∙ ap (λ v. line ++ v) (sym (ap (λ v. encoded_text r.encoding (value_text r v value)) none ∙ ap (λ o. unwrap_or o [] ++ back) (encoded-ascii r.encoding equals_sign (lit< tt))))
 
 -- and none where something does
-pub value-separated : (e : Encoding) (only : Bool) (separator value : List ℕ) → separator ≢ [] → printed_value e only (is_blanks separator) value ≡ value_text e only separator value
-value-separated e only [] value some = absurd (some refl)
-value-separated e only (c ∷ cs) value some = refl
+pub value-separated : (r : Repertoire) (separator value : List ℕ) → separator ≢ [] → printed_value r (is_blanks separator) value ≡ value_text r separator value
+value-separated r [] value some = absurd (some refl)
+value-separated r (c ∷ cs) value some = refl
 
 -- a text without bytes has no characters,
 pub none-left : (x : List ℕ) → (length x == 0) ≡ true → chars x ≡ []

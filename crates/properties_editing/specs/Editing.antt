@@ -1,8 +1,9 @@
 -- The results of edits.
-use Rattle.std.specs.Prelude.{◌≡◌, ◌⊎◌, ℕ, Bool, true, false, List, Option, Result, Ok, Err, map, string_bytes}
+use Rattle.std.specs.Prelude.{◌≡◌, ◌⊎◌, ℕ, true, List, Option, Result, Ok, Err, map, string_bytes}
 use Rattle.std.specs.Str.{chars}
 use Rattle.std.specs.Global.{Vec}
 use Rattle.properties_format.specs.Encoding.{Encoding}
+use Rattle.properties_format.specs.Repertoire.{Repertoire, ascii_in, all_of}
 use Rattle.properties_format.specs.Escapes.{Malformed}
 use Rattle.properties_format.specs.Entries.{Entry}
 use Rattle.properties_format.specs.Maps.{IsMap}
@@ -37,33 +38,33 @@ pub record IsEdit (IsMeant : EditResult → Type 0) (Reads : List ℕ → Type 0
 
 -- The source with a key set, in ASCII only or not: its result, how it reads, that it keeps every group but the last
 -- pair with the key, and that in ASCII-only form nothing else is put in.
-pub record IsSet (e : Encoding) (only : Bool) (source key value bytes : List ℕ) : Type 0 where
-  pub edit : IsEdit (IsSetKeyResult e only source key value) (ReadsAfter (IsSetIn key value) (map_edited (put key value)) e source) bytes
-  pub keeps : KeepsOthers (AreOthersThanLast key) e source bytes
-  pub ascii : only ≡ true → IsInAscii source bytes
+pub record IsSet (r : Repertoire) (source key value bytes : List ℕ) : Type 0 where
+  pub edit : IsEdit (IsSetKeyResult r source key value) (ReadsAfter (IsSetIn key value) (map_edited (put key value)) r.encoding source) bytes
+  pub keeps : KeepsOthers (AreOthersThanLast key) r.encoding source bytes
+  pub ascii : r.ascii_only ≡ true → IsInAscii source bytes
 
-abbrev pub MakesSet : Encoding → Bool → List ℕ → List ℕ → List ℕ → Result (Vec ℕ) PropertiesError → Type 0
-MakesSet e only source key value (Ok bytes) = IsSet e only source key value bytes.items
-MakesSet e only source key value (Err error) = IsRefusal (IsSetKeyResult e only source key value) error
+abbrev pub MakesSet : Repertoire → List ℕ → List ℕ → List ℕ → Result (Vec ℕ) PropertiesError → Type 0
+MakesSet r source key value (Ok bytes) = IsSet r source key value bytes.items
+MakesSet r source key value (Err error) = IsRefusal (IsSetKeyResult r source key value) error
 
 abbrev pub SetsKey : Encoding → List ℕ → List ℕ → List ℕ → Result (Vec ℕ) PropertiesError → Type 0
-SetsKey e source key value result = MakesSet e false source key value result
+SetsKey e source key value result = MakesSet (all_of e) source key value result
 
 -- The source with the value of a key set, in ASCII only or not: its result, how it reads, that it keeps every group but
 -- the last pair with the key, that it keeps every byte outside that pair's value, and that in ASCII-only form nothing
 -- else is put in.
-pub record HasValueSet (e : Encoding) (only : Bool) (source key value bytes : List ℕ) : Type 0 where
-  pub edit : IsEdit (IsSetValueResult e only source key value) (ReadsAfter (IsSetIn key value) (map_edited (put key value)) e source) bytes
-  pub keeps : KeepsOthers (AreOthersThanLast key) e source bytes
-  pub keeps_front : KeepsFront e source key bytes
-  pub ascii : only ≡ true → IsInAscii source bytes
+pub record HasValueSet (r : Repertoire) (source key value bytes : List ℕ) : Type 0 where
+  pub edit : IsEdit (IsSetValueResult r source key value) (ReadsAfter (IsSetIn key value) (map_edited (put key value)) r.encoding source) bytes
+  pub keeps : KeepsOthers (AreOthersThanLast key) r.encoding source bytes
+  pub keeps_front : KeepsFront r.encoding source key bytes
+  pub ascii : r.ascii_only ≡ true → IsInAscii source bytes
 
-abbrev pub MakesValueSet : Encoding → Bool → List ℕ → List ℕ → List ℕ → Result (Vec ℕ) PropertiesError → Type 0
-MakesValueSet e only source key value (Ok bytes) = HasValueSet e only source key value bytes.items
-MakesValueSet e only source key value (Err error) = IsRefusal (IsSetValueResult e only source key value) error
+abbrev pub MakesValueSet : Repertoire → List ℕ → List ℕ → List ℕ → Result (Vec ℕ) PropertiesError → Type 0
+MakesValueSet r source key value (Ok bytes) = HasValueSet r source key value bytes.items
+MakesValueSet r source key value (Err error) = IsRefusal (IsSetValueResult r source key value) error
 
 abbrev pub SetsValue : Encoding → List ℕ → List ℕ → List ℕ → Result (Vec ℕ) PropertiesError → Type 0
-SetsValue e source key value result = MakesValueSet e false source key value result
+SetsValue e source key value result = MakesValueSet (all_of e) source key value result
 
 -- The source without a key: its result, how it reads, and that it keeps every group that isn't a pair with the key.
 pub record IsRemoved (e : Encoding) (source key bytes : List ℕ) : Type 0 where
@@ -86,39 +87,39 @@ edits_in edits = map edit_in edits
 
 -- The source after edits, in ASCII only or not: its result, how it reads, that each edit keeps the rest of what the one
 -- before it gave, and that in ASCII-only form nothing else is put in.
-pub record AreMade (e : Encoding) (only : Bool) (source : List ℕ) (edits : List format.Edit) (bytes : List ℕ) : Type 0 where
-  pub edit : IsEdit (IsEditAllResult e only source edits) (ReadsAfter (AreEditedIn edits) (map_after edits) e source) bytes
-  pub keeps : AreKept e only source edits bytes
-  pub ascii : only ≡ true → IsInAscii source bytes
+pub record AreMade (r : Repertoire) (source : List ℕ) (edits : List format.Edit) (bytes : List ℕ) : Type 0 where
+  pub edit : IsEdit (IsEditAllResult r source edits) (ReadsAfter (AreEditedIn edits) (map_after edits) r.encoding source) bytes
+  pub keeps : AreKept r source edits bytes
+  pub ascii : r.ascii_only ≡ true → IsInAscii source bytes
 
-abbrev pub MakesEdits : Encoding → Bool → List ℕ → List format.Edit → Result (Vec ℕ) PropertiesError → Type 0
-MakesEdits e only source edits (Ok bytes) = AreMade e only source edits bytes.items
-MakesEdits e only source edits (Err error) = IsRefusal (IsEditAllResult e only source edits) error
+abbrev pub MakesEdits : Repertoire → List ℕ → List format.Edit → Result (Vec ℕ) PropertiesError → Type 0
+MakesEdits r source edits (Ok bytes) = AreMade r source edits bytes.items
+MakesEdits r source edits (Err error) = IsRefusal (IsEditAllResult r source edits) error
 
 abbrev pub EditsAll : Encoding → List ℕ → List format.Edit → Result (Vec ℕ) PropertiesError → Type 0
-EditsAll e source edits result = MakesEdits e false source edits result
+EditsAll e source edits result = MakesEdits (all_of e) source edits result
 
 abbrev pub EditsAllAscii : Encoding → List ℕ → List format.Edit → Result (Vec ℕ) PropertiesError → Type 0
-EditsAllAscii e source edits result = MakesEdits e true source edits result
+EditsAllAscii e source edits result = MakesEdits (ascii_in e) source edits result
 
 -- The source after edits that ask nothing of comments: its result and that there is no other, that its pairs, their map
 -- and its logical lines are those of the source after the same edits, that its malformed escapes are in comments as
 -- well, that each edit keeps the rest of what the one before it gave, and that in ASCII-only form nothing else is put
 -- in.
-pub record ArePairsMade (e : Encoding) (only : Bool) (source : List ℕ) (edits : List format.Edit) (bytes : List ℕ) : Type 0 where
-  pub result : IsEditPairsResult e only source edits (edited bytes)
-  pub only_one : (other : EditResult) → IsEditPairsResult e only source edits other → other ≡ edited bytes
-  pub reads : (old new : List Entry) → ArePairs e source old → ArePairs e bytes new → AreEditedIn edits (contents old) (contents new)
-  pub lines : (old new : List (List ℕ)) → AreLogicalLines e source old → AreLogicalLines e bytes new → AreLinesEditedInTurn edits old new
-  pub mapped : (old new : List Entry) → ArePairs e source old → ArePairs e bytes new
+pub record ArePairsMade (r : Repertoire) (source : List ℕ) (edits : List format.Edit) (bytes : List ℕ) : Type 0 where
+  pub result : IsEditPairsResult r source edits (edited bytes)
+  pub only_one : (other : EditResult) → IsEditPairsResult r source edits other → other ≡ edited bytes
+  pub reads : (old new : List Entry) → ArePairs r.encoding source old → ArePairs r.encoding bytes new → AreEditedIn edits (contents old) (contents new)
+  pub lines : (old new : List (List ℕ)) → AreLogicalLines r.encoding source old → AreLogicalLines r.encoding bytes new → AreLinesEditedInTurn edits old new
+  pub mapped : (old new : List Entry) → ArePairs r.encoding source old → ArePairs r.encoding bytes new
       → (value_at : List ℕ → Option (List ℕ)) → IsMap old value_at → IsMap new (map_after edits value_at)
-  pub in_comments : EscapesAre e bytes AreInComments
-  pub keeps : AreKept e only source edits bytes
-  pub ascii : only ≡ true → IsInAscii source bytes
+  pub in_comments : EscapesAre r.encoding bytes AreInComments
+  pub keeps : AreKept r source edits bytes
+  pub ascii : r.ascii_only ≡ true → IsInAscii source bytes
 
-abbrev pub EditsPairs : Encoding → Bool → List ℕ → List format.Edit → Result (Vec ℕ) PropertiesError → Type 0
-EditsPairs e only source edits (Ok bytes) = ArePairsMade e only source edits bytes.items
-EditsPairs e only source edits (Err error) = IsRefusal (IsEditPairsResult e only source edits) error
+abbrev pub EditsPairs : Repertoire → List ℕ → List format.Edit → Result (Vec ℕ) PropertiesError → Type 0
+EditsPairs r source edits (Ok bytes) = ArePairsMade r source edits bytes.items
+EditsPairs r source edits (Err error) = IsRefusal (IsEditPairsResult r source edits) error
 
 -- Both are the same edit, with the same texts.
 abbrev pub IsSameEdit : Edit → Edit → Type 0

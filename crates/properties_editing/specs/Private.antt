@@ -4,5 +4,7 @@ pub mod BodyValues
 pub mod BodyIndex
 pub mod BodySweep
 pub mod BodyDocuments
+pub mod IndexedSources
+pub mod SourceChanges
 pub mod Sources
 pub mod Sound

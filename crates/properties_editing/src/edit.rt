@@ -1,38 +1,25 @@
 //! Sets and removes keys of a file, and keeps every other byte.
 
-ghost use Rattle.std.specs.Prelude.{◌≡◌, ◌≤◌, true, drop, length, OnOk, [], ◌∷◌};
 ghost use Rattle.std.specs.Str.{chars};
 ghost use Rattle.properties_format.specs.Laws.{SplittingCommutes};
 ghost use Rattle.properties_text.specs.Encoding.{encoding_of};
-ghost use Rattle.properties_format.specs.Edited.{is_editable, IsKeyRemoved, IsKeySet};
+ghost use Rattle.properties_format.specs.Edited.{IsKeyRemoved, IsKeySet};
 ghost use Rattle.properties_format.specs.Edits.{AreEdited};
 ghost use Rattle.properties_format.specs.Valued.{IsValueSet};
-ghost use Rattle.properties_format.specs.Computed.Body.{held_groups_of};
-ghost use Rattle.properties_editing.specs.Private.Sound.{AreSound, Returns};
-ghost use Rattle.properties_editing.specs.Private.BodyIndex.{IsIndex, MakesEdit};
+ghost use Rattle.properties_format.specs.Repertoire.{repertoire};
+ghost use Rattle.properties_editing.specs.Private.Sound.{Returns};
+ghost use Rattle.properties_editing.specs.Private.SourceChanges.{MakesEdit};
+ghost use Rattle.properties_editing.specs.Private.Sources.{asked_for};
 ghost use Rattle.properties_editing.specs.Editing.{EditsAll, EditsAllAscii, EditsPairs, RemovesKey, SetsKey, SetsValue, edit_in, edits_in};
 
-mod append;
-mod document;
-mod endings;
-mod find;
-mod groups;
-mod index;
-mod layout;
-mod new_value;
-mod remove;
-mod replace;
-mod source;
-
-use crate::edit::append::{layout_at, with_new_pair};
-pub use crate::edit::document::Document;
-use crate::edit::find::find_key;
-use crate::edit::index::Index;
-use crate::edit::index::changes::{put_pair, put_value, remove_pairs};
-use crate::edit::new_value::with_value;
-use crate::edit::remove::spans_without_key;
-use crate::edit::replace::{with_pair_appended, with_pair_replaced, with_spans_kept};
-use crate::edit::source::{BodyStart, Comments};
+use crate::append::{layout_at, with_new_pair};
+pub use crate::document::Document;
+use crate::find::find_key;
+use crate::index::changes::IndexedSource;
+use crate::new_value::with_other_value;
+use crate::remove::spans_without_key;
+use crate::replace::{with_pair_appended, with_pair_replaced, with_spans_kept};
+use crate::source::{Asked, BodyStart, Comments};
 use properties_items::error::PropertiesError;
 use properties_text::encoding::Encoding;
 use std::alloc::{AllocError, Global};
@@ -65,27 +52,25 @@ pub fn set_key(
     ensures sets { SetsKey (encoding_of encoding) source.now (chars key.now) (chars value.now) result }
     ensures splitting { SplittingCommutes (encoding_of encoding) source.now }
 {
-    set_key_with(alloc, source, encoding, false, Comments::Read, key, value)
+    set_key_with(alloc, source, Asked::all_of(encoding), key, value)
 }
 
-// Returns the source with a key set to a value, which are written in ASCII only or not.
+// Returns the source with a key set to a value.
 fn set_key_with(
     alloc: Global,
     source: &[u8],
-    encoding: Encoding,
-    ascii_only: bool,
-    comments: Comments,
+    asked: Asked,
     key: &str,
     value: &str,
 ) -> Result<Vec<u8>, PropertiesError>
-    ensures { Returns comments (encoding_of encoding) source.now (IsKeySet (encoding_of encoding) ascii_only source.now (chars key.now) (chars value.now)) result }
+    ensures { Returns asked.comments (encoding_of asked.encoding) source.now (IsKeySet (asked_for asked) source.now (chars key.now) (chars value.now)) result }
 {
     // UTF-16 is refused before any line is read.
-    let opened = BodyStart::open(source, encoding, ascii_only)?;
+    let opened = BodyStart::open(source, asked)?;
     let place = find_key(
         alloc,
         opened.encoding,
-        comments,
+        asked.comments,
         &source[opened.start..],
         key,
     )?;
@@ -132,28 +117,28 @@ pub fn set_value(
     value: &str,
 ) -> Result<Vec<u8>, PropertiesError>
     ensures sets { SetsValue (encoding_of encoding) source.now (chars key.now) (chars value.now) result }
-    ensures splitting { SplittingCommutes (encoding_of encoding) source.now }
 {
-    set_value_with(alloc, source, encoding, false, Comments::Read, key, value)
+    set_value_with(alloc, source, Asked::all_of(encoding), key, value)
 }
 
-// Returns the source with the value of a key set, which is written in ASCII only or not.
+// Returns the source with the value of a key set.
 fn set_value_with(
     alloc: Global,
     source: &[u8],
-    encoding: Encoding,
-    ascii_only: bool,
-    comments: Comments,
+    asked: Asked,
     key: &str,
     value: &str,
 ) -> Result<Vec<u8>, PropertiesError>
-    ensures { Returns comments (encoding_of encoding) source.now (IsValueSet (encoding_of encoding) ascii_only source.now (chars key.now) (chars value.now)) result }
+    ensures { Returns asked.comments (encoding_of asked.encoding) source.now (IsValueSet (asked_for asked) source.now (chars key.now) (chars value.now)) result }
 {
-    let opened = BodyStart::open(source, encoding, ascii_only)?;
+    let opened = BodyStart::open(source, asked)?;
     let body = &source[opened.start..];
-    let place = find_key(alloc, opened.encoding, comments, body, key)?;
+    let place = find_key(alloc, opened.encoding, asked.comments, body, key)?;
     let bytes = match place.pair {
-        Some(pair) => with_value(alloc, source, opened, pair, value)?,
+        Some(pair) => match with_other_value(alloc, source, opened, pair, value)? {
+            Some(bytes) => bytes,
+            None => source.to_vec(alloc)?,
+        },
         None => {
             let layout = layout_at(alloc, opened.encoding, body, place.closing, place.last, key)?;
             with_new_pair(alloc, source, opened, &layout, key, value)?
@@ -185,24 +170,23 @@ pub fn remove_key(
     ensures removes { RemovesKey (encoding_of encoding) source.now (chars key.now) result }
     ensures splitting { SplittingCommutes (encoding_of encoding) source.now }
 {
-    remove_key_with(alloc, source, encoding, Comments::Read, key)
+    remove_key_with(alloc, source, Asked::all_of(encoding), key)
 }
 
 // Returns the source without the pairs that have a key.
 fn remove_key_with(
     alloc: Global,
     source: &[u8],
-    encoding: Encoding,
-    comments: Comments,
+    asked: Asked,
     key: &str,
 ) -> Result<Vec<u8>, PropertiesError>
-    ensures { Returns comments (encoding_of encoding) source.now (IsKeyRemoved (encoding_of encoding) source.now (chars key.now)) result }
+    ensures { Returns asked.comments (encoding_of asked.encoding) source.now (IsKeyRemoved (encoding_of asked.encoding) source.now (chars key.now)) result }
 {
-    let opened = BodyStart::open(source, encoding, false)?;
+    let opened = BodyStart::open(source, asked)?;
     let others = spans_without_key(
         alloc,
         opened.encoding,
-        comments,
+        asked.comments,
         &source[opened.start..],
         key,
     )?;
@@ -244,7 +228,7 @@ pub fn edit_all(
     ensures edits { EditsAll (encoding_of encoding) source.now (edits_in edits.now) result }
     ensures splitting { SplittingCommutes (encoding_of encoding) source.now }
 {
-    edit_all_with(alloc, source, encoding, false, Comments::Read, edits)
+    edit_all_with(alloc, source, Asked::all_of(encoding), edits)
 }
 
 /// Returns the source after these edits, as [`edit_all`] does, and writes ASCII only: in a key or a value that an edit
@@ -266,9 +250,12 @@ pub fn edit_all_ascii(
     edits: &[Edit],
 ) -> Result<Vec<u8>, PropertiesError>
     ensures edits { EditsAllAscii (encoding_of encoding) source.now (edits_in edits.now) result }
-    ensures splitting { SplittingCommutes (encoding_of encoding) source.now }
 {
-    edit_all_with(alloc, source, encoding, true, Comments::Read, edits)
+    let asked = Asked {
+        ascii_only: true,
+        ..Asked::all_of(encoding)
+    };
+    edit_all_with(alloc, source, asked, edits)
 }
 
 /// Returns the source after these edits, as [`edit_all`] does, or as [`edit_all_ascii`] does if `ascii_only` is set, and
@@ -288,42 +275,34 @@ pub fn edit_pairs(
     ascii_only: bool,
     edits: &[Edit],
 ) -> Result<Vec<u8>, PropertiesError>
-    ensures edits { EditsPairs (encoding_of encoding) ascii_only source.now (edits_in edits.now) result }
+    ensures edits { EditsPairs (repertoire (encoding_of encoding) ascii_only) source.now (edits_in edits.now) result }
     ensures splitting { SplittingCommutes (encoding_of encoding) source.now }
 {
-    edit_all_with(
-        alloc,
-        source,
+    let asked = Asked {
         encoding,
         ascii_only,
-        Comments::PassedOver,
-        edits,
-    )
+        comments: Comments::PassedOver,
+    };
+    edit_all_with(alloc, source, asked, edits)
 }
 
-// Returns the source after these edits, which are written in ASCII only or not.
+// Returns the source after these edits.
 fn edit_all_with(
     alloc: Global,
     source: &[u8],
-    encoding: Encoding,
-    ascii_only: bool,
-    comments: Comments,
+    asked: Asked,
     edits: &[Edit],
 ) -> Result<Vec<u8>, PropertiesError>
-    ensures { Returns comments (encoding_of encoding) source.now (AreEdited (encoding_of encoding) ascii_only source.now (edits_in edits.now)) result }
+    ensures { Returns asked.comments (encoding_of asked.encoding) source.now (AreEdited (asked_for asked) source.now (edits_in edits.now)) result }
 {
     // One edit needs no index, which takes eight times the memory of a source, and more if its pairs are short.
     let [edit] = edits else {
-        return edit_in_turn(alloc, source, encoding, ascii_only, comments, edits);
+        return edit_in_turn(alloc, source, asked, edits);
     };
     match edit {
-        Edit::Put(key, value) => set_key_with(
-            alloc, source, encoding, ascii_only, comments, key, value,
-        ),
-        Edit::Remove(key) => remove_key_with(alloc, source, encoding, comments, key),
-        Edit::SetValue(key, value) => {
-            set_value_with(alloc, source, encoding, ascii_only, comments, key, value)
-        }
+        Edit::Put(key, value) => set_key_with(alloc, source, asked, key, value),
+        Edit::Remove(key) => remove_key_with(alloc, source, asked, key),
+        Edit::SetValue(key, value) => set_value_with(alloc, source, asked, key, value),
     }
 }
 
@@ -331,41 +310,27 @@ fn edit_all_with(
 fn edit_in_turn(
     alloc: Global,
     source: &[u8],
-    encoding: Encoding,
-    ascii_only: bool,
-    comments: Comments,
+    asked: Asked,
     edits: &[Edit],
 ) -> Result<Vec<u8>, PropertiesError>
-    ensures { Returns comments (encoding_of encoding) source.now (AreEdited (encoding_of encoding) ascii_only source.now (edits_in edits.now)) result }
+    ensures { Returns asked.comments (encoding_of asked.encoding) source.now (AreEdited (asked_for asked) source.now (edits_in edits.now)) result }
 {
-    let opened = BodyStart::open(source, encoding, ascii_only)?;
-    let mut index = Index::parse(alloc, opened.encoding, comments, &source[opened.start..])?;
-    let mut bytes = source.to_vec(alloc)?;
+    let mut edited = IndexedSource::open(alloc, source, asked)?;
     for edit in edits {
-        make_edit(alloc, &mut bytes, opened, &mut index, edit)?;
+        make_edit(&mut edited, edit)?;
     }
-    Ok(bytes)
+    Ok(edited.bytes)
 }
 
 // Makes an edit to a source.
-fn make_edit(
-    alloc: Global,
-    source: &mut Vec<u8>,
-    opened: BodyStart,
-    index: &mut Index,
-    edit: &Edit,
-) -> Result<(), AllocError>
-    requires editable { is_editable (encoding_of opened.encoding) ≡ true }
-    requires start { opened.start ≤ length source.old.items }
-    requires sound { AreSound (held_groups_of (encoding_of opened.encoding) (drop opened.start source.old.items)) }
-    requires is_index { IsIndex (held_groups_of (encoding_of opened.encoding) (drop opened.start source.old.items)) index.old }
-    ensures { OnOk result (MakesEdit opened (edit_in edit.now) source.old.items source.new.items index.new) }
+fn make_edit(source: &mut IndexedSource, edit: &Edit) -> Result<(), AllocError>
+    ensures { MakesEdit (edit_in edit.now) source.old result source.new }
 {
     match edit {
-        Edit::Put(key, value) => put_pair(alloc, source, opened, index, key, value),
-        Edit::SetValue(key, value) => put_value(alloc, source, opened, index, key, value),
+        Edit::Put(key, value) => source.put(key, value),
+        Edit::SetValue(key, value) => source.set_value(key, value),
         Edit::Remove(key) => {
-            remove_pairs(source, opened, index, key);
+            source.remove(key);
             Ok(())
         }
     }

@@ -4,6 +4,7 @@
 
 ghost use Rattle.std.specs.Prelude.{ℕ, Bool, List, Option};
 ghost use Rattle.properties_format.specs.Encoding.{Encoding};
+ghost use Rattle.properties_format.specs.Repertoire.{Repertoire};
 ghost use Rattle.properties_format.specs.Settings.{Settings};
 ghost use Rattle.properties_format.specs.Writing.{Call};
 ghost use Rattle.properties_format.specs.Edits.{Edit};
@@ -36,17 +37,17 @@ ghost use Rattle.properties_format.specs.EditLaws.{PassingOverIsReading, ValueIs
 /// ```
 pub fn editing()
     ensures absent { (e : Encoding) (source key : List ℕ) → RemovingNoPairChangesNothing e source key }
-    ensures twice { (e : Encoding) (only : Bool) (source key v w : List ℕ) → SettingTwiceIsSettingOnce e only source key v w }
-    ensures set { (e : Encoding) (only : Bool) (source key value : List ℕ) → SettingGivesTheValue e only source key value }
+    ensures twice { (r : Repertoire) (source key v w : List ℕ) → SettingTwiceIsSettingOnce r source key v w }
+    ensures set { (r : Repertoire) (source key value : List ℕ) → SettingGivesTheValue r source key value }
     ensures removed { (e : Encoding) (source key : List ℕ) → RemovingTakesTheValue e source key }
-    ensures own_value { (e : Encoding) (only : Bool) (source key value : List ℕ) → SettingItsOwnValueChangesNothing e only source key value }
-    ensures value_twice { (e : Encoding) (only : Bool) (source key v w : List ℕ) → SettingAValueTwiceIsSettingItOnce e only source key v w }
-    ensures value_again { (e : Encoding) (only : Bool) (source key value : List ℕ) → SettingAValueAgainChangesNothing e only source key value }
-    ensures value { (e : Encoding) (only : Bool) (source key value : List ℕ) → SettingAValueGivesIt e only source key value }
+    ensures own_value { (r : Repertoire) (source key value : List ℕ) → SettingItsOwnValueChangesNothing r source key value }
+    ensures value_twice { (r : Repertoire) (source key v w : List ℕ) → SettingAValueTwiceIsSettingItOnce r source key v w }
+    ensures value_again { (r : Repertoire) (source key value : List ℕ) → SettingAValueAgainChangesNothing r source key value }
+    ensures value { (r : Repertoire) (source key value : List ℕ) → SettingAValueGivesIt r source key value }
     ensures value_anew { (e : Encoding) (s : Settings) (before : List Call) (key old : List ℕ) (after : List Call) (value : List ℕ) → SettingAValueIsWritingAnew e s before key old after value }
-    ensures none { (e : Encoding) (only : Bool) (source : List ℕ) → NoEditsChangeNothing e only source }
-    ensures one { (e : Encoding) (only : Bool) (source : List ℕ) (edit : Edit) → OneEditIsItsCall e only source edit }
-    ensures lists { (e : Encoding) (only : Bool) (source : List ℕ) (xs ys : List Edit) → ListsOfEditsFollow e only source xs ys }
-    ensures passed_over { (e : Encoding) (only : Bool) (source : List ℕ) (edits : List Edit) → PassingOverIsReading e only source edits }
+    ensures none { (r : Repertoire) (source : List ℕ) → NoEditsChangeNothing r source }
+    ensures one { (r : Repertoire) (source : List ℕ) (edit : Edit) → OneEditIsItsCall r source edit }
+    ensures lists { (r : Repertoire) (source : List ℕ) (xs ys : List Edit) → ListsOfEditsFollow r source xs ys }
+    ensures passed_over { (r : Repertoire) (source : List ℕ) (edits : List Edit) → PassingOverIsReading r source edits }
     ensures among_pairs { (e : Encoding) (source key : List ℕ) (value : Option (List ℕ)) → ValueIsAmongPairs e source key value }
 {}

@@ -14,8 +14,8 @@ use Rattle.properties_lines.specs.Scanner.{HasRightFlags, bytes_of}
 use Rattle.properties_lines.specs.Private.HeldLines.{IsInBody, held_line, lines_left}
 use Rattle.properties_text.specs.Spelt.{IsWell}
 use Rattle.properties_lines.specs.LogicalLine.{bytes_with, HasText, IsSound, IsUnfinished}
-use Rattle.properties_editing.specs.declared.edit.groups.Group.{Group}
-use Rattle.properties_editing.specs.declared.edit.groups.GroupReader.{GroupReader}
+use Rattle.properties_editing.specs.declared.groups.Group.{Group}
+use Rattle.properties_editing.specs.declared.groups.GroupReader.{GroupReader}
 
 -- ---- the position of a reader
 

@@ -1,6 +1,6 @@
 -- Which pair a logical line is, and what an index of a body's pairs says.
 pub mod Keys
-use Rattle.std.specs.Prelude.{◌≡◌, ◌⊎◌, bytes_eq, nat_lt, ◌==◌, ℕ, ◌+◌, ◌-◌, ◌%◌, ◌^◌, ◌≤◌, ◌<◌, min, Bool, true, false, if◌then◌else◌, List, [], ◌∷◌, ◌++◌, map, length, take, drop, get_or, filter_map, suc, Option, Some, None, option_and_then, Result, Ok, Err}
+use Rattle.std.specs.Prelude.{◌≡◌, ◌⊎◌, bytes_eq, ◌==◌, ℕ, ◌+◌, ◌-◌, ◌%◌, ◌^◌, ◌≤◌, ◌<◌, min, Bool, true, false, if◌then◌else◌, List, [], ◌∷◌, ◌++◌, map, length, drop, get_or, filter_map, suc, Option, Some, None, option_and_then, Result, Ok, Err}
 use Rattle.std.specs.List.{cons_option}
 use Rattle.std.specs.Option.{is_some, option_map}
 use Rattle.std.specs.Map.{lookup, update}
@@ -10,13 +10,11 @@ use Rattle.std.specs.declared.string.String.{String}
 use Rattle.properties_format.specs.Text.{carriage_return, line_feed}
 use Rattle.properties_format.specs.Encoding.{Encoding}
 use Rattle.properties_format.specs.Groups.{joined}
-use Rattle.properties_format.specs.Entries.{comment, pair}
-use Rattle.properties_format.specs.Items.{Outcome, ignored, given, broken}
+use Rattle.properties_format.specs.Entries.{pair}
+use Rattle.properties_format.specs.Items.{Outcome}
 use Rattle.properties_format.specs.Body.{HeldLine, as_lines, group_bytes}
-use Rattle.properties_format.specs.Edited.{final_group, is_empty_line, is_left_open, IsKeySet, IsKeyRemoved}
-use Rattle.properties_format.specs.Edits.{Edit, IsEdited, AreEdited}
-use Rattle.properties_format.specs.Valued.{IsValueSet}
-use Rattle.properties_format.specs.Computed.Body.{held_groups_of, is_pair_with}
+use Rattle.properties_format.specs.Edited.{final_group, is_empty_line, is_left_open}
+use Rattle.properties_format.specs.Computed.Body.{held_groups_of}
 use Rattle.properties_editing.specs.Private.Sound.{AreSound, AreSoundFor, IsSoundFor}
 use Rattle.properties_format.specs.Computed.Items.{outcome_of}
 use Rattle.properties_format.specs.Computed.Lines.{begins_with_lf}
@@ -26,16 +24,15 @@ use Rattle.properties_text.specs.Encoding.{encoding_of}
 use Rattle.properties_editing.specs.Private.BodyKeys.{IsErrorOfGroups, IsFault, closing_bytes, closing_of}
 use Rattle.properties_items.specs.FoundItems.{outcome_pair, pair_characters}
 use Rattle.properties_items.specs.Texts.{characters}
-use Rattle.properties_editing.specs.Private.Sources.{IsInForce}
-use Rattle.properties_editing.specs.declared.edit.source.Comments.{Comments}
-use Rattle.properties_editing.specs.declared.edit.groups.Group.{Group}
-use Rattle.properties_editing.specs.declared.edit.index.Index.{Index}
-use Rattle.properties_editing.specs.declared.edit.index.IndexedPair.{IndexedPair}
-use Rattle.properties_editing.specs.declared.edit.index.BodyPart.{BodyPart}
-use Rattle.properties_editing.specs.declared.edit.find.BodySpan.{BodySpan}
-use Rattle.properties_editing.specs.declared.edit.find.Closing.{Closing}
-use Rattle.properties_editing.specs.declared.edit.find.Closing.TheVariants as closing
-use Rattle.properties_editing.specs.declared.edit.source.BodyStart.{BodyStart}
+use Rattle.properties_editing.specs.declared.source.Comments.{Comments}
+use Rattle.properties_editing.specs.declared.groups.Group.{Group}
+use Rattle.properties_editing.specs.declared.index.Index.{Index}
+use Rattle.properties_editing.specs.declared.index.IndexedPair.{IndexedPair}
+use Rattle.properties_editing.specs.declared.index.BodyPart.{BodyPart}
+use Rattle.properties_editing.specs.declared.find.BodySpan.{BodySpan}
+use Rattle.properties_editing.specs.declared.find.Closing.{Closing}
+use Rattle.properties_editing.specs.declared.find.Closing.TheVariants as closing
+use Rattle.properties_editing.specs.declared.source.BodyStart.{BodyStart}
 use Rattle.properties_items.specs.declared.error.PropertiesError.{PropertiesError}
 
 -- The pair that a logical line is, if it is one, was returned; or an error in the line with this number.
@@ -230,7 +227,7 @@ pub record IsEndMoved (place old_end new_end : ℕ) (old new : List (Option Body
   pub own : part_in new place ≡ option_map (resized_part old_end new_end) (part_in old place)
   pub behind : (i : ℕ) → place < i → i < length old → part_in new i ≡ option_map (moved_part old_end new_end) (part_in old i)
 
--- a part, after what ended in this place is so much longer
+-- a part, after each part that ends in this place has grown by so many bytes
 abbrev pub lengthened_span : ℕ → ℕ → BodySpan → BodySpan
 lengthened_span place more s = record { start = s.start; end = if s.end == place then min (place + more) (2 ^ 64 - 1) else s.end }
 
@@ -248,7 +245,7 @@ pub record AreLongerTo (place more count : ℕ) (old new : List (Option BodyPart
       → option_map span_in (part_in new i) ≡ option_and_then (longer place more) (option_map span_in (part_in old i))
   pub left : (i : ℕ) → count ≤ i → part_in new i ≡ part_in old i
 
--- A pair was stored that was appended, where what ended in this place is so much longer.
+-- A pair was stored that was appended, and each part that ended in this place grew by so many bytes.
 pub record GrowsIndex (key value : List ℕ) (span : BodySpan) (place more : ℕ) (old new : Index) : Type 0 where
   pub mid : Index
   pub keeps : KeepsPair key value span old mid
@@ -286,32 +283,10 @@ AppendsPair opened key value by line ending old was (Err error) new is = (new �
 
 -- ---- a source and its index after an edit
 
--- The source is what is meant, its body starts where it did, nothing in it is malformed but in comments, and the index
--- is that of its groups.
-pub record IsKept (Meant : Type 0) (e : Encoding) (opened : BodyStart) (source : List ℕ) (index : Index) : Type 0 where
-  pub meant : Meant
-  pub in_force : IsInForce source e opened
-  pub sound : AreSound (held_groups_of (encoding_of opened.encoding) (drop opened.start source))
-  pub is_index : IsIndex (held_groups_of (encoding_of opened.encoding) (drop opened.start source)) index
-
--- So it is in each encoding that may have been requested; or memory ran out, and nothing changed that is looked at.
-abbrev pub Changes : {E : Type 0} → (Encoding → Type 0) → BodyStart → List ℕ → Index → Result Unit E → List ℕ → Index → Type 0
-Changes Meant opened old was (Ok done) new is = (e : Encoding) → IsInForce old e opened → IsKept (Meant e) e opened new is
-Changes Meant opened old was (Err error) new is = (new ≡ old) × KeepsNothing was is
-
--- The value of a key was set, whether a pair has the key or none,
-abbrev pub PutsValue : {E : Type 0} → BodyStart → List ℕ → List ℕ → List ℕ → Index → Result Unit E → List ℕ → Index → Type 0
-PutsValue opened key value old was result new is = Changes (λ e. IsValueSet e opened.ascii_only old key value new) opened old was result new is
-
-abbrev pub AddsValue : {E : Type 0} → BodyStart → List ℕ → List ℕ → List ℕ → Index → Result Unit E → List ℕ → Index → Type 0
-AddsValue opened key value old was result new is = PutsValue opened key value old was result new is
-
--- or a printed pair was put in for it.
-abbrev pub PutsPair : {E : Type 0} → BodyStart → List ℕ → List ℕ → List ℕ → Index → Result Unit E → List ℕ → Index → Type 0
-PutsPair opened key value old was result new is = Changes (λ e. IsKeySet e opened.ascii_only old key value new) opened old was result new is
-
-abbrev pub AddsKey : {E : Type 0} → BodyStart → List ℕ → List ℕ → List ℕ → Index → Result Unit E → List ℕ → Index → Type 0
-AddsKey opened key value old was result new is = PutsPair opened key value old was result new is
+-- The source is what is meant, nothing in it is malformed but in comments, and the index is that of its groups.
+abbrev pub IsKept : Type 0 → BodyStart → List ℕ → Index → Type 0
+IsKept Meant opened source index =
+    let groups = held_groups_of (encoding_of opened.encoding) (drop opened.start source) in Meant × (AreSound groups × IsIndex groups index)
 
 -- ---- a key that is removed
 
@@ -331,20 +306,3 @@ pub record PutsFirst (old : List ℕ) (was : Index) (new : List ℕ) (is : Index
 abbrev pub GuardsFront : Bool → List ℕ → Index → List ℕ → Index → Type 0
 GuardsFront true old was new is = PutsFirst old was new is
 GuardsFront false old was new is = (new ≡ old) × (is ≡ was)
-
--- The key was removed.
-abbrev pub RemovesPairs : BodyStart → List ℕ → List ℕ → List ℕ → Index → Type 0
-RemovesPairs opened key old new is = (e : Encoding) → IsInForce old e opened → IsKept (IsKeyRemoved e old key new) e opened new is
-
--- ---- an edit
-
--- An edit was made,
-abbrev pub MakesEdit : BodyStart → Edit → List ℕ → List ℕ → Index → Type 0
-MakesEdit opened edit old new is =
-    (e : Encoding) → IsInForce old e opened
-    → IsKept (IsEdited e opened.ascii_only old edit new) e opened new is
-
--- or edits in turn.
-abbrev pub AreEditsMade : Encoding → BodyStart → List ℕ → List Edit → List ℕ → Index → Type 0
-AreEditsMade e opened source edits bytes index =
-    IsKept (AreEdited e opened.ascii_only source edits bytes) e opened bytes index

@@ -17,12 +17,12 @@ use Rattle.properties_editing.specs.Private.Sound.{AreSoundFor, IsSoundFor, pass
 use Rattle.properties_items.specs.FoundItems.{IsNoItem}
 use Rattle.properties_items.specs.Errors.{IsBareError}
 use Rattle.properties_editing.specs.Private.BodyValues.{FindsLastPair}
-use Rattle.properties_editing.specs.declared.edit.source.Comments.{Comments}
-use Rattle.properties_editing.specs.declared.edit.groups.Group.{Group}
-use Rattle.properties_editing.specs.declared.edit.find.Closing.{Closing}
-use Rattle.properties_editing.specs.declared.edit.find.Closing.TheVariants as closing
-use Rattle.properties_editing.specs.declared.edit.find.PairPlaces.{PairPlaces}
-use Rattle.properties_editing.specs.declared.edit.find.BodySpan.{BodySpan}
+use Rattle.properties_editing.specs.declared.source.Comments.{Comments}
+use Rattle.properties_editing.specs.declared.groups.Group.{Group}
+use Rattle.properties_editing.specs.declared.find.Closing.{Closing}
+use Rattle.properties_editing.specs.declared.find.Closing.TheVariants as closing
+use Rattle.properties_editing.specs.declared.find.PairPlaces.{PairPlaces}
+use Rattle.properties_editing.specs.declared.find.BodySpan.{BodySpan}
 use Rattle.properties_items.specs.declared.error.ErrorKind.TheVariants as kind
 use Rattle.properties_items.specs.declared.error.PropertiesError.{PropertiesError}
 

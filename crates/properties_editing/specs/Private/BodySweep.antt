@@ -3,11 +3,11 @@ use Rattle.std.specs.Prelude.{◌≡◌, ◌==◌, ℕ, ◌+◌, ◌-◌, ◌≤
 use Rattle.std.specs.List.{copy_within}
 use Rattle.std.specs.Option.{option_map}
 use Rattle.properties_editing.specs.Private.BodyIndex.{ending_size, part_in}
-use Rattle.properties_editing.specs.declared.edit.index.BodyPart.{BodyPart}
-use Rattle.properties_editing.specs.declared.edit.index.Index.{Index}
-use Rattle.properties_editing.specs.declared.edit.index.sweep.Sweep.{Sweep}
-use Rattle.properties_editing.specs.declared.edit.find.BodySpan.{BodySpan}
-use Rattle.properties_editing.specs.declared.edit.find.Closing.TheVariants as closing
+use Rattle.properties_editing.specs.declared.index.BodyPart.{BodyPart}
+use Rattle.properties_editing.specs.declared.index.Index.{Index}
+use Rattle.properties_editing.specs.declared.index.sweep.Sweep.{Sweep}
+use Rattle.properties_editing.specs.declared.find.BodySpan.{BodySpan}
+use Rattle.properties_editing.specs.declared.find.Closing.TheVariants as closing
 
 -- a part after so many bytes before it were cut out
 abbrev pub lowered : ℕ → Option BodyPart → Option BodyPart

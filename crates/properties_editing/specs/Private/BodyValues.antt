@@ -1,9 +1,11 @@
 -- How the value of a key is set in a body that is held in memory: where the value of a pair begins, and how a new pair is
 -- laid out.
 use Rattle.std.specs.Prelude.{◌≡◌, ℕ, ◌+◌, ◌-◌, ◌≤◌, Bool, true, false, if◌then◌else◌, List, [], ◌∷◌, ◌++◌, length, take, drop, Option, Some, None}
+use Rattle.std.specs.Global.{Vec}
 use Rattle.std.specs.Str.{chars, encode_utf8_all}
 use Rattle.properties_format.specs.Text as text
 use Rattle.properties_format.specs.Encoding.{Encoding}
+use Rattle.properties_format.specs.Repertoire.{Repertoire}
 use Rattle.properties_format.specs.Groups.{joined}
 use Rattle.properties_format.specs.Split.{IsPair}
 use Rattle.properties_format.specs.Computed.Split.{split_of}
@@ -24,10 +26,10 @@ use Rattle.properties_text.specs.declared.parse.Span.{Span}
 use Rattle.properties_items.specs.Texts.{characters}
 use Rattle.properties_items.specs.LineEndings.{ending_of}
 use Rattle.properties_items.specs.declared.line.LineEnding.{LineEnding}
-use Rattle.properties_editing.specs.declared.edit.append.Layout.{Layout}
-use Rattle.properties_editing.specs.declared.edit.find.BodySpan.{BodySpan}
-use Rattle.properties_editing.specs.declared.edit.find.Closing.{Closing}
-use Rattle.properties_editing.specs.declared.edit.new_value.NewValue.{NewValue}
+use Rattle.properties_editing.specs.declared.append.Layout.{Layout}
+use Rattle.properties_editing.specs.declared.find.BodySpan.{BodySpan}
+use Rattle.properties_editing.specs.declared.find.Closing.{Closing}
+use Rattle.properties_editing.specs.declared.new_value.NewValue.{NewValue}
 
 -- ---- where the value of a pair begins
 
@@ -70,30 +72,32 @@ pub record IsPairAlone (e : Encoding) (bytes : List ℕ) : Type 0 where
 
 -- The bytes are one group, which doesn't have the value. It gets the value, in ASCII only or not, if these bytes come
 -- after its front.
-pub record IsNewValue (e : Encoding) (only : Bool) (bytes value : List ℕ) (new : NewValue) : Type 0 where
+pub record IsNewValue (r : Repertoire) (bytes value : List ℕ) (new : NewValue) : Type 0 where
   pub group : List HeldLine
-  pub is_group : held_groups_of e bytes ≡ group ∷ []
+  pub is_group : held_groups_of r.encoding bytes ≡ group ∷ []
   pub other : has_value value group ≡ false
   pub within : new.front_size ≤ length bytes
-  pub front : take new.front_size bytes ≡ front_of e group
-  pub bytes_are : new.bytes ≡ encoded_text e (value_text e only (between_of group) value)
+  pub front : take new.front_size bytes ≡ front_of r.encoding group
+  pub bytes_are : new.bytes ≡ encoded_text r.encoding (value_text r (between_of group) value)
 
 -- How a pair by itself gets a value, or `None` if it has the value.
-abbrev pub GivesValue : Encoding → Bool → List ℕ → List ℕ → Option NewValue → Type 0
-GivesValue e only bytes value None = (group : List HeldLine) × (held_groups_of e bytes ≡ group ∷ []) × (has_value value group ≡ true)
-GivesValue e only bytes value (Some new) = IsNewValue e only bytes value new
+abbrev pub GivesValue : Repertoire → List ℕ → List ℕ → Option NewValue → Type 0
+GivesValue r bytes value None = (group : List HeldLine) × (held_groups_of r.encoding bytes ≡ group ∷ []) × (has_value value group ≡ true)
+GivesValue r bytes value (Some new) = IsNewValue r bytes value new
 
 -- a source with a value for the pair in this span of it
-abbrev pub revalued_in : Encoding → Bool → List ℕ → ℕ → ℕ → List ℕ → List HeldLine → List ℕ
-revalued_in e only source start end value group =
+abbrev pub revalued_in : Repertoire → List ℕ → ℕ → ℕ → List ℕ → List HeldLine → List ℕ
+revalued_in r source start end value group =
     if has_value value group then source
-    else take start source ++ (front_of e group ++ (encoded_text e (value_text e only (between_of group) value) ++ drop end source))
+    else take start source ++ (front_of r.encoding group ++ (encoded_text r.encoding (value_text r (between_of group) value) ++ drop end source))
 
--- The bytes are the source with a value for the pair in this span of it.
-abbrev pub Revalues : Encoding → Bool → List ℕ → ℕ → ℕ → List ℕ → List ℕ → Type 0
-Revalues e only source start end value bytes =
-    (group : List HeldLine) × (held_groups_of e (take (end - start) (drop start source)) ≡ group ∷ [])
-    × (bytes ≡ revalued_in e only source start end value group)
+-- The bytes are the source with a value for the pair in this span of it; or there are none, since the pair has the value.
+abbrev pub RevaluesOther : Repertoire → List ℕ → ℕ → ℕ → List ℕ → Option (Vec ℕ) → Type 0
+RevaluesOther r source start end value None =
+    (group : List HeldLine) × (held_groups_of r.encoding (take (end - start) (drop start source)) ≡ group ∷ []) × (has_value value group ≡ true)
+RevaluesOther r source start end value (Some bytes) =
+    (group : List HeldLine) × (held_groups_of r.encoding (take (end - start) (drop start source)) ≡ group ∷ []) × (has_value value group ≡ false)
+    × (bytes.items ≡ revalued_in r source start end value group)
 
 -- ---- a new pair
 
@@ -127,9 +131,9 @@ IsLastEnding body by =
     → ending_of by ≡ ending_among text.lf (held_in groups)
 
 -- the bytes of a new pair without its line ending, in ASCII only or not, which is the first of the body or not
-abbrev pub unended_pair : Encoding → Bool → Bool → List ℕ → List ℕ → List ℕ → List ℕ
-unended_pair e only first key separator value =
-    encoded_text e (printed_key e only first key ++ (separator ++ printed_value e only (is_blanks separator) value))
+abbrev pub unended_pair : Repertoire → Bool → List ℕ → List ℕ → List ℕ → List ℕ
+unended_pair r first key separator value =
+    encoded_text r.encoding (printed_key r first key ++ (separator ++ printed_value r (is_blanks separator) value))
 
 -- A new pair after the body is laid out like this.
 pub record IsLayoutAfter (e : Encoding) (body : List ℕ) (closing : Closing) (key : List ℕ) (layout : Layout) : Type 0 where

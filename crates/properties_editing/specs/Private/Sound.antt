@@ -9,8 +9,8 @@ use Rattle.properties_format.specs.EditedPairs.{IsPairsResult}
 use Rattle.properties_format.specs.Computed.Edited.{IsSound}
 use Rattle.properties_format.specs.Computed.Items.{outcome_of}
 use Rattle.properties_editing.specs.Editing.{IsRefusal}
-use Rattle.properties_editing.specs.declared.edit.source.Comments.{Comments}
-use Rattle.properties_editing.specs.declared.edit.source.Comments.TheVariants.{Read, PassedOver}
+use Rattle.properties_editing.specs.declared.source.Comments.{Comments}
+use Rattle.properties_editing.specs.declared.source.Comments.TheVariants.{Read, PassedOver}
 use Rattle.properties_items.specs.declared.error.PropertiesError.{PropertiesError}
 
 -- whether a logical line is passed over

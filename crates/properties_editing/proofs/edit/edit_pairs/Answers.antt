@@ -4,10 +4,11 @@ use Rattle.properties_editing.specs.Editing.{edits_in}
 use Rattle.properties_editing.proofs.Editing.{edits-scalars}
 use Rattle.properties_editing.proofs.EditsInTurn.{returns-pairs}
 use Rattle.properties_editing.proofs.edit.edit_pairs.Goals as goal
+use Rattle.properties_format.specs.Repertoire.{repertoire}
 
 pub returns-clause-edits : goal.returns-clause-edits
 returns-clause-edits c =
-    returns-pairs (encoding_of c.args.encoding) c.args.ascii_only c.args.source.now (edits_in c.args.edits.now) (edits-scalars c.args.edits.now) _ c.edit_all_with.ensures
+    returns-pairs (repertoire (encoding_of c.args.encoding) c.args.ascii_only) c.args.source.now (edits_in c.args.edits.now) (edits-scalars c.args.edits.now) _ c.edit_all_with.ensures
 
 pub returns-clause-splitting : goal.returns-clause-splitting
 returns-clause-splitting c = splitting-commutes (encoding_of c.args.encoding) c.args.source.now

@@ -5,12 +5,10 @@ use Rattle.std.specs.Option.{option_map}
 use Rattle.std.specs.Str.{chars}
 use Rattle.std.specs.declared.string.String.{String}
 use Rattle.properties_format.specs.Body.{HeldLine}
-use Rattle.properties_format.specs.Computed.Keys.{AreFirstOf}
 use Rattle.properties_format.specs.Computed.Parts.{outcome_key}
 use Rattle.properties_editing.specs.Private.BodyIndex.{IsIndex, outcome, places_of, stored_at}
-use Rattle.properties_editing.specs.Documents.{characters_of}
-use Rattle.properties_editing.specs.declared.edit.index.Index.{Index}
-use Rattle.properties_editing.specs.declared.edit.index.IndexedPair.{IndexedPair}
+use Rattle.properties_editing.specs.declared.index.Index.{Index}
+use Rattle.properties_editing.specs.declared.index.IndexedPair.{IndexedPair}
 
 -- the keys of the groups that are pairs, in order
 abbrev pub group_keys : List (List HeldLine) → List (List ℕ)
@@ -37,7 +35,3 @@ key_at place = option_map (λ key. chars key.now) place
 -- So it is of borrowed texts.
 abbrev pub ArePlaced : {Y : Type 0} → List (String Y × IndexedPair) → List (Option (Bor (List ℕ))) → Type 0
 ArePlaced entries firsts = AreFirsts entries (map key_at firsts)
-
--- These are the keys of the pairs of the groups that it is the index of, each once, in the order of their first pairs.
-abbrev pub TellsKeys : Index → List (Bor (List ℕ)) → Type 0
-TellsKeys index keys = (groups : List (List HeldLine)) → IsIndex groups index → AreFirstOf (group_keys groups) (characters_of keys)

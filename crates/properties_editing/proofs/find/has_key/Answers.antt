@@ -1,0 +1,26 @@
+use Rattle.std.proofs.Common.{ap, sym, ◌∙◌, subst, inl, inr}
+use Rattle.std.specs.Str.{chars}
+use Rattle.std.specs.Prelude.{bytes_eq}
+use Rattle.std.specs.Option.{option_map}
+use Rattle.properties_format.specs.Computed.Edited.{IsSound}
+use Rattle.properties_editing.specs.Private.BodyKeys.{key_told}
+use Rattle.properties_items.proofs.FoundItems.{found-item}
+use Rattle.properties_editing.proofs.Comments.{passed-no_pair}
+use Rattle.properties_editing.proofs.find.has_key.Goals as goal
+
+pub returns-in-Some : goal.returns-in-Some
+returns-in-Some c =
+    let found = rw c.in-Some.is at c.in_ok-found.ensures in
+    let item = found-item c.args.line.now c.in-Some.found found in
+    (inl (subst IsSound (sym item) tt), c.item_has_key.ensures ∙ ap (key_told (chars c.args.key.now)) (sym item))
+
+pub returns-in-None : goal.returns-in-None
+returns-in-None c =
+    let blank = rw c.in-None.is at c.in_ok-found.ensures in
+    (inl (subst IsSound (sym blank) tt), ap (key_told (chars c.args.key.now)) (sym blank))
+
+pub returns-then-are_passed_over : goal.returns-then-are_passed_over
+returns-then-are_passed_over c =
+    let passed = sym c.are_passed_over.ensures ∙ c.if-are_passed_over.true in
+    let none = passed-no_pair c.args.comments _ passed in
+    (inr passed, sym (ap (option_map (λ k. bytes_eq k (chars c.args.key.now))) none.0))

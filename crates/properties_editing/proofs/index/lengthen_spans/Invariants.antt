@@ -1,0 +1,5 @@
+use Rattle.properties_editing.specs.Private.BodyIndex.{AreLongerTo}
+use Rattle.properties_editing.proofs.index.lengthen_spans.Given as goal
+
+abbrev pub invariant-loop-i : goal.invariant-loop-i
+invariant-loop-i l = AreLongerTo l.fn.place l.fn.more l.i l.fn.spans.items l.spans.items

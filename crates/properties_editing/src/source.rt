@@ -1,0 +1,87 @@
+// The part of a source that is edited: the body after the byte order mark, in the encoding in force.
+
+ghost use Rattle.std.specs.Prelude.{◌≡◌, false};
+ghost use Rattle.std.specs.Str.{chars};
+ghost use Rattle.properties_editing.specs.Private.Sound.{passes_over};
+ghost use Rattle.properties_editing.specs.Private.Sources.{OpensSource, asked_for};
+ghost use Rattle.properties_editing.specs.declared.source.Asked.{Asked};
+ghost use Rattle.properties_editing.specs.declared.source.Comments.TheVariants.{Read};
+
+use properties_items::error::{ErrorKind, PropertiesError, make};
+use properties_lines::continuation::is_comment;
+use properties_text::encoding::Encoding;
+use properties_text::encoding::byte_order_mark::encoding_in_force;
+
+/// What is asked of the comments of a source.
+#[derive(Clone, Copy)]
+pub enum Comments {
+    /// They are read: a malformed escape in one refuses the source.
+    Read,
+    /// They are passed over once they are decoded: no escape in one is read.
+    PassedOver,
+}
+
+impl Comments {
+    /// Returns whether this logical line is a comment that is passed over.
+    #[inline(always)]
+    pub fn are_passed_over(self, line: &str) -> bool
+        ensures { result ≡ passes_over self (chars line.now) }
+    {
+        match self {
+            Comments::Read => false,
+            Comments::PassedOver => is_comment(line.as_bytes()),
+        }
+    }
+}
+
+/// What an edit is asked for.
+#[derive(Clone, Copy)]
+pub struct Asked {
+    /// The encoding of the source, unless a byte order mark selects another one.
+    pub encoding: Encoding,
+    /// Whether new texts are written in ASCII only: every other character as escapes.
+    pub ascii_only: bool,
+    /// Whether comments are read, or passed over.
+    pub comments: Comments,
+}
+
+impl Asked {
+    /// Asks for all characters of an encoding, and for comments that are read.
+    pub fn all_of(encoding: Encoding) -> Asked
+        ensures { let all : Asked = record { encoding = encoding; ascii_only = false; comments = Read } in result ≡ all }
+    {
+        Asked {
+            encoding,
+            ascii_only: false,
+            comments: Comments::Read,
+        }
+    }
+}
+
+/// What is known about a source before it is edited, and how new texts are written.
+#[derive(Clone, Copy)]
+pub struct BodyStart {
+    /// The encoding in force.
+    pub encoding: Encoding,
+    /// The position where the body starts, after any byte order mark.
+    pub start: usize,
+    /// Whether they are written in ASCII only.
+    pub ascii_only: bool,
+}
+
+impl BodyStart {
+    /// Opens a source. UTF-16 is refused.
+    pub fn open(source: &[u8], asked: Asked) -> Result<BodyStart, PropertiesError>
+        ensures { OpensSource source.now (asked_for asked) result }
+    {
+        let (encoding, start) = encoding_in_force(source, asked.encoding);
+        match encoding {
+            Encoding::WINDOWS_1252 | Encoding::UTF_8 => Ok(BodyStart {
+                encoding,
+                start,
+                ascii_only: asked.ascii_only,
+            }),
+            Encoding::UTF_16LE | Encoding::UTF_16BE => Err(make::bare(ErrorKind::Unsupported)),
+        }
+    }
+}
