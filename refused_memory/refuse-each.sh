@@ -1,5 +1,5 @@
 #!/bin/sh
-# Refuses each growth of each call that takes memory, one in each run, and names the calls that aren't right then.
+# Refuses each allocation of each call, one in each run, and lists the calls that don't recover.
 #
 #     refused_memory/refuse-each.sh
 #

@@ -4,7 +4,7 @@ use crate::same::{Bytes, same};
 use crate::streams::{AMPLE, Plan, owned, reader, sink};
 use counted_io::{CountedRead, CountedWrite, Tail};
 use propedit_arguments::{asked_for, explain};
-use properties_tools::propedit::asked::Request;
+use properties_tools::propedit::request::Request;
 use properties_tools::{propedit, propfilter};
 use std::alloc::{AllocError, Global};
 use std::process::Abort;

@@ -6,9 +6,9 @@ use propedit_arguments::{
     asked_for, explain, explain_name, explain_not_utf_8, marked_words, name_of_marked,
 };
 use properties_tools::arguments::words;
-use properties_tools::propedit::asked::{CheckedFiles, Command, Request, Source, Work};
 use properties_tools::propedit::error::Failure;
 use properties_tools::propedit::in_place::edit_file;
+use properties_tools::propedit::request::{CheckedFiles, Command, Request, Source, Work};
 use properties_tools::propedit::{exit_status, print_out_of_memory, run};
 use std::alloc::Global;
 use std::env;

@@ -1,15 +1,14 @@
 -- The words of edits, one edit after another.
-use Rattle.std.proofs.Common.{◌≡◌, ◌≢◌, ◌==◌, true, false, rules, ℕ, List, [], ◌∷◌, ◌++◌, length, map, ◌<◌}
-use Rattle.std.proofs.Common.{refl, ap, sym, ◌∙◌, arith, append_assoc, append-nil}
-use borrow.Author.Tests.{tests}
+use Rattle.std.proofs.Common.{◌≡◌, ◌≢◌, ◌==◌, false, ℕ, List, [], ◌∷◌, ◌++◌, length, map}
+use Rattle.std.proofs.Common.{refl, ap, sym, ◌∙◌, append_assoc, append-nil}
 use Rattle.std.specs.Prelude.{Result, Ok, Err, IsErr, string_bytes}
 use Rattle.std.specs.Global.{Vec}
 use Rattle.std.specs.declared.string.String.{String}
-use Rattle.std.proofs.lemmas.List.{length-map, map-append}
+use Rattle.std.proofs.lemmas.List.{map-append}
 use Rattle.properties_format.specs.Edits as format
 use Rattle.java_properties.specs.Editing.{edit_in, edits_in}
 use Rattle.properties_editing.specs.declared.edit.Edit as editor
-use Rattle.propedit_arguments.specs.Private.Edits.{Edit, set, remove, in_characters, edit_words, words_of, AreWordsOfEdits, BeginNoEdit, GivesEdits}
+use Rattle.propedit_arguments.specs.Private.Edits.{Edit, set, remove, in_characters, edit_words, words_of, BeginNoEdit, GivesEdits}
 use Rattle.propedit_arguments.specs.declared.mistake.Mistake.{Mistake}
 
 -- the words of one edit more
@@ -26,22 +25,6 @@ rest-of (set k v ∷ done) (remove l ∷ all) rest e = absurd (cc)
 rest-of (remove k ∷ done) [] rest e = absurd (cc)
 rest-of (remove k ∷ done) (set l w ∷ all) rest e = absurd (cc)
 rest-of (remove k ∷ done) (remove l ∷ all) rest e = rest-of done all rest (cc)
-
--- Fewer words are left after an edit.
-pub fewer-words : {Z : Type 0} (texts others : List (String Z)) (edit : Edit) → map string_bytes texts ≡ edit_words edit ++ map string_bytes others → length others < length texts
-fewer-words texts others (set k v) h =
-    let count : length (map string_bytes texts) ≡ length (edit_words (set k v) ++ map string_bytes others) = ap length h in
-    omega (arith, count, length-map texts string_bytes, length-map others string_bytes)
-fewer-words texts others (remove k) h =
-    let count : length (map string_bytes texts) ≡ length (edit_words (remove k) ++ map string_bytes others) = ap length h in
-    omega (arith, count, length-map texts string_bytes, length-map others string_bytes)
-
--- a test that there are no texts, where there are some
-some-length : {Z : Type 0} (texts : List (String Z)) (a : String Z) → (length (a ∷ texts) == 0) ≡ true → ⊥
-some-length texts a h =
-    let some : length (a ∷ texts) ≢ 0 = omega arith in
-    let e : (length (a ∷ texts) == 0) ≡ false = search (rules, tests) in
-    cc
 
 -- some texts, by a test
 some-words : {Z : Type 0} (texts : List (String Z)) → (length texts == 0) ≡ false → map string_bytes texts ≢ []
@@ -71,12 +54,6 @@ made-more words edits rest others edit made h next same is = record {
       ap edits_in is ∙ map-append edit_in edits (made ∷ []) ∙ ap (λ v. edits_in edits ++ (v ∷ [])) same
       ∙ ap (λ v. v ++ (in_characters edit ∷ [])) h.made ∙ sym (map-append in_characters h.done (edit ∷ []));
 }
-
--- all of them, where no texts are left, by a test
-pub made-all : {Z : Type 0} (words : List (List ℕ)) (edits : List format.Edit) (texts : List (String Z)) → HasMade words edits (map string_bytes texts)
-    → (length texts == 0) ≡ true → AreWordsOfEdits words edits
-made-all words edits [] h none = record { asked = h.done; is = h.is ∙ append-nil (words_of h.done); made = h.made }
-made-all words edits (a ∷ texts) h none = absurd (some-length texts a none)
 
 -- Where no edit comes next and texts are left, by a test, the words are those of no edits.
 pub no-edits : {Z : Type 0} (words : List (List ℕ)) (edits : List format.Edit) (texts : List (String Z)) → HasMade words edits (map string_bytes texts)

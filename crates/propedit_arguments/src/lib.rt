@@ -16,7 +16,7 @@ mod edits;
 pub mod mistake;
 mod not_utf_8;
 mod options;
-pub mod request;
+pub mod parse;
 
 pub use not_utf_8::{explain_name, explain_not_utf_8, marked_words, name_of_marked};
-pub use request::{asked_for, explain};
+pub use parse::{asked_for, explain};

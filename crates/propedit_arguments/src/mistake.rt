@@ -150,13 +150,7 @@ impl fmt::Display for Mistake<'_> {
             }
             Mistake::NoCommand => f.write_str("no command"),
             Mistake::UnknownCommand(word, next) => show_unknown_command(f, word, next),
-            Mistake::UnknownOption(long) => {
-                write!(f, "unknown option '--{}'", Escaped(long))?;
-                match option_meant(long) {
-                    Some(row) => write!(f, "; '--{}' is one", row.long),
-                    None => Ok(()),
-                }
-            }
+            Mistake::UnknownOption(long) => show_unknown_option(f, long),
             Mistake::UnknownLetter(word) => write!(f, "unknown option in '{}'", Escaped(word)),
             Mistake::NoOptionValue(row) => write!(f, "the option '{row}' lacks its {}", row.value),
             Mistake::OptionValue(row) => write!(f, "the option '{row}' takes no value"),
@@ -181,18 +175,7 @@ impl fmt::Display for Mistake<'_> {
                 "the option '-i FILE' needs a file, and '-' is standard input; './-' is a file",
             ),
             Mistake::NoEncoding(label, _) => show_unknown_encoding(f, label),
-            Mistake::NoTarget(word, row) => {
-                write!(
-                    f,
-                    "'{}' takes {TARGETS}, and not '{}'",
-                    row.name,
-                    Escaped(word)
-                )?;
-                match target_meant(word) {
-                    Some(hint) => write!(f, "; {hint}"),
-                    None => Ok(()),
-                }
-            }
+            Mistake::NoTarget(word, row) => show_no_target(f, word, row.name),
             Mistake::NoWord(row) => write!(f, "'{}' lacks its {}", row.name, row.words),
             Mistake::OptionAfter(word, row) => {
                 write!(
@@ -210,26 +193,9 @@ impl fmt::Display for Mistake<'_> {
                     row.name
                 )
             }
-            Mistake::NoEdit(word) => {
-                write!(f, "unknown edit '{}'", Escaped(word))?;
-                match command_meant(word) {
-                    Some(row) if row.is_edit() => write!(f, "; '{}' is one", row.name),
-                    _ => write!(
-                        f,
-                        ": after an edit comes set or remove, and {OPTIONS_FIRST}"
-                    ),
-                }
-            }
+            Mistake::NoEdit(word) => show_no_edit(f, word),
             Mistake::NoKey(name) => write!(f, "'{name}' lacks its KEY"),
-            Mistake::NoValue(key) => {
-                write!(f, "'set {}' lacks its VALUE", Escaped(key))?;
-                match key.split_once('=') {
-                    Some((key, value)) => {
-                        write!(f, "; write 'set {} {}'", Escaped(key), Escaped(value))
-                    }
-                    None => Ok(()),
-                }
-            }
+            Mistake::NoValue(key) => show_no_value(f, key),
             Mistake::Memory => f.write_str("Out of memory."),
         }
     }
@@ -253,6 +219,50 @@ fn show_unknown_command<W: fmt::Write>(
         }
         (None, Some(row)) => write!(f, "; a file is named as in '-f {shown} {}'", row.name),
         (None, None) => Ok(()),
+    }
+}
+
+// Prints that no option has this long name, and which one may be meant.
+fn show_unknown_option<W: fmt::Write>(f: &mut fmt::Formatter<W>, long: &str) -> fmt::Result {
+    write!(f, "unknown option '--{}'", Escaped(long))?;
+    match option_meant(long) {
+        Some(row) => write!(f, "; '--{}' is one", row.long),
+        None => Ok(()),
+    }
+}
+
+// Prints that a word is no edit, and which one may be meant, or what comes after an edit.
+fn show_no_edit<W: fmt::Write>(f: &mut fmt::Formatter<W>, word: &str) -> fmt::Result {
+    write!(f, "unknown edit '{}'", Escaped(word))?;
+    match command_meant(word) {
+        Some(row) if row.is_edit() => write!(f, "; '{}' is one", row.name),
+        _ => write!(
+            f,
+            ": after an edit comes set or remove, and {OPTIONS_FIRST}"
+        ),
+    }
+}
+
+// Prints that the setting of a key has no value, and how to write one that is joined to the key.
+fn show_no_value<W: fmt::Write>(f: &mut fmt::Formatter<W>, key: &str) -> fmt::Result {
+    write!(f, "'set {}' lacks its VALUE", Escaped(key))?;
+    match key.split_once('=') {
+        Some((key, value)) => write!(f, "; write 'set {} {}'", Escaped(key), Escaped(value)),
+        None => Ok(()),
+    }
+}
+
+// Prints that no conversion is to this encoding, and which one may be meant.
+fn show_no_target<W: fmt::Write>(
+    f: &mut fmt::Formatter<W>,
+    word: &str,
+    command: &str,
+) -> fmt::Result {
+    let shown = Escaped(word);
+    write!(f, "'{command}' takes {TARGETS}, and not '{shown}'")?;
+    match target_meant(word) {
+        Some(hint) => write!(f, "; {hint}"),
+        None => Ok(()),
     }
 }
 

@@ -4,7 +4,7 @@ ghost use Rattle.std.specs.Prelude.{◌≡◌};
 ghost use Rattle.counted_io.specs.Streams.{IsSameSink};
 
 use crate::mistake::Mistake;
-use crate::request::explain_mistake;
+use crate::parse::explain_mistake;
 use counted_io::CountedWrite;
 use properties_tools::propedit::{print_out_of_memory, print_usage_error};
 use std::alloc::{AllocError, Global};

@@ -3,7 +3,7 @@
 use crate::command_line::{CommandRow, OptionName, OptionRow, Usage, option_named, option_of};
 use crate::mistake::{Mistake, NoRequest};
 use java_properties::{Encoding, Spelling};
-use properties_tools::propedit::asked::{Command, Missing, Request, Source, TextEnd, Work};
+use properties_tools::propedit::request::{Command, Missing, Request, Source, TextEnd, Work};
 use std::alloc::Global;
 
 /// The FILE that is standard input.

@@ -5,6 +5,7 @@ use Rattle.std.specs.Prelude.{Bool, Option, Some, None, Result, Ok, Err}
 use Rattle.std.specs.declared.io.Error.{Error}
 use Rattle.counted_io.specs.Streams.{Reader, Sink, CameFromWrite}
 use Rattle.properties_format.specs.Encoding.{Encoding}
+use Rattle.properties_format.specs.Repertoire.{Repertoire, repertoire}
 use Rattle.properties_items.specs.declared.error.PropertiesError.{PropertiesError}
 use Rattle.properties_tools.specs.Filter.{Filters}
 
@@ -28,14 +29,15 @@ borrowed_sink sink = record {
   flush_gives = λ old result new. sink.flush_gives old.now result new.now;
 }
 
-module _ {R W : Type 0} (reader : Reader R) (sink : Sink W) (e : Encoding) (only : Bool) (input : MutBor R) (output : MutBor W) (input' : MutBor R) (output' : MutBor W) where
+module _ {R W : Type 0} (reader : Reader R) (sink : Sink W) (r : Repertoire) (input : MutBor R) (output : MutBor W) (input' : MutBor R)
+    (output' : MutBor W) where
   came : (cause : Option Error) → CameFromWrite (borrowed_sink sink) cause output' → CameFromWrite sink cause output'.now
   came None h = (h.0.now, h.1, h.2, h.3)
   came (Some error) h = (h.0.now, h.1, h.2)
 
   -- What filtering did to streams that were lent it did to the streams themselves: each fact is the same fact of them.
-  pub filters-borrowed : (result : Result Unit PropertiesError) → Filters (borrowed_reader reader) (borrowed_sink sink) e only input output result input' output'
-      → Filters reader sink e only input.now output.now result input'.now output'.now
+  pub filters-borrowed : (result : Result Unit PropertiesError) → Filters (borrowed_reader reader) (borrowed_sink sink) r input output result input' output'
+      → Filters reader sink r input.now output.now result input'.now output'.now
   filters-borrowed (Ok done) h = search rules
   filters-borrowed (Err error) (items, h) = (
     items,
@@ -72,6 +74,6 @@ module _ {R W : Type 0} (reader : Reader R) (sink : Sink W) (e : Encoding) (only
 -- equals stand for equals
 pub filters-same : {R W : Type 0} (reader : Reader R) (sink : Sink W) (result : Result Unit PropertiesError) (e e' : Encoding)
     (only only' : Bool) (input input' new new' : R) (output output' to to' : W)
-    → Filters reader sink e only input output result new to → e ≡ e' → only ≡ only' → input ≡ input' → output ≡ output' → new ≡ new' → to ≡ to'
-    → Filters reader sink e' only' input' output' result new' to'
+    → Filters reader sink (repertoire e only) input output result new to → e ≡ e' → only ≡ only' → input ≡ input' → output ≡ output' → new ≡ new' → to ≡ to'
+    → Filters reader sink (repertoire e' only') input' output' result new' to'
 filters-same reader sink result e e' only only' input input' new new' output output' to to' h a m b c d f = rw (← a, ← m, ← b, ← c, ← d, ← f) h

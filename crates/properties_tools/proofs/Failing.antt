@@ -12,7 +12,8 @@ pub plain_line : (place reason line : List ℕ) → line ≡ codes "propedit: " 
     → line ≡ printed_line (message place None reason)
 plain_line place reason line is = is ∙ simp append_assoc refl
 
-module _ (name : List ℕ) (failure : Failure) {place : List ℕ} (reason line : List ℕ) (is_place : place ≡ place_of name failure) (is_reason : IsReasonOf failure reason) where
+module _ (name : List ℕ) (failure : Failure) {place : List ℕ} (reason line : List ℕ) (is_place : place ≡ place_of name failure)
+    (is_reason : IsReasonOf failure reason) where
   message-line : (number : Option ℕ) → number ≡ number_of failure → line ≡ printed_line (message place number reason) → IsMessageLine name failure line
   message-line number is_number is = (
     message (place_of name failure) (number_of failure) reason,
@@ -22,9 +23,11 @@ module _ (name : List ℕ) (failure : Failure) {place : List ℕ} (reason line :
 
   -- a line with a number, as it is printed
   pub numbered-line : (number : ℕ) → Some number ≡ number_of failure
-      → line ≡ codes "propedit: " ++ (escaped place ++ (codes ":" ++ (decimal number ++ (codes ": " ++ (reason ++ (line_feed ∷ [])))))) → IsMessageLine name failure line
+      → line ≡ codes "propedit: " ++ (escaped place ++ (codes ":" ++ (decimal number ++ (codes ": " ++ (reason ++ (line_feed ∷ []))))))
+      → IsMessageLine name failure line
   numbered-line number is_number is = message-line (Some number) is_number (is ∙ simp append_assoc refl)
 
   -- and without one
-  pub unnumbered-line : None ≡ number_of failure → line ≡ codes "propedit: " ++ (escaped place ++ (codes ": " ++ (reason ++ (line_feed ∷ [])))) → IsMessageLine name failure line
+  pub unnumbered-line : None ≡ number_of failure → line ≡ codes "propedit: " ++ (escaped place ++ (codes ": " ++ (reason ++ (line_feed ∷ []))))
+      → IsMessageLine name failure line
   unnumbered-line is_number is = message-line None is_number (plain_line place reason line is)

@@ -1,9 +1,9 @@
 -- The errors of filtering hold no text that was refused, so they print some text.
 use Rattle.std.proofs.Common.{◌≡◌, ℕ, List, inl, inr, refl}
-use Rattle.std.specs.Prelude.{Bool, Option, Some, None, Err}
+use Rattle.std.specs.Prelude.{Option, Some, None, Err}
 use Rattle.std.specs.Option.{option_map}
 use Rattle.counted_io.specs.Streams.{Reader, Sink}
-use Rattle.properties_format.specs.Encoding.{Encoding}
+use Rattle.properties_format.specs.Repertoire.{Repertoire}
 use Rattle.java_properties.specs.DisplayTexts.{error_display}
 use Rattle.java_properties.specs.Errors.{refused_of}
 use Rattle.properties_items.specs.declared.error.PropertiesError.{PropertiesError}
@@ -16,9 +16,9 @@ nothing-of f (Some x) h = cc
 shown : (error : PropertiesError) → refused_of error ≡ None → (text : List ℕ) × (error_display error ≡ Some text)
 shown error h = let none = nothing-of _ error.refused h in rw none (_, refl)
 
-pub filter-shown : {R W : Type 0} (reader : Reader R) (sink : Sink W) (e : Encoding) (only : Bool) (input input' : R) (output output' : W) (error : PropertiesError)
-    → Filters reader sink e only input output (Err error) input' output' → (text : List ℕ) × (error_display error ≡ Some text)
-filter-shown reader sink e only input input' output output' error h = shown error (elim h.1.stops [
+pub filter-shown : {R W : Type 0} (reader : Reader R) (sink : Sink W) (r : Repertoire) (input input' : R) (output output' : W) (error : PropertiesError)
+    → Filters reader sink r input output (Err error) input' output' → (text : List ℕ) × (error_display error ≡ Some text)
+filter-shown reader sink r input input' output output' error h = shown error (elim h.1.stops [
   | inl k ↦ elim k.stops [
     | inl m ↦ m.is.its_text
     | inr (inl f) ↦ f.is.its_text

@@ -16,7 +16,7 @@ use Rattle.std.proofs.lemmas.Str.{encodes-chars, chars_from_encodes}
 use Rattle.properties_tools.specs.Private.LastPairs.{place_at}
 use Rattle.properties_tools.specs.Private.FirstKeys.{also_held, bytes_at, hash_from, in_slot, none_held, slot_for, AddsKey, IsFound, IsIndexed, KeepsKey, KeptPlace, TellsFirst}
 use Rattle.properties_tools.specs.Propedit.Texts.{end_byte, ended}
-use Rattle.properties_tools.specs.declared.propedit.asked.TextEnd.{TextEnd}
+use Rattle.properties_tools.specs.declared.propedit.request.TextEnd.{TextEnd}
 use Rattle.properties_tools.specs.declared.propedit.first_keys.FirstKeys.{FirstKeys}
 use Rattle.properties_tools.specs.declared.propedit.first_keys.Place.{Place}
 
@@ -29,7 +29,8 @@ kept-at text more p h =
     ap (take p.length) (drop-append-le p.start text more (omega arith)) ∙ take-append-le p.length (drop p.start text) more (omega arith)
 
 -- and what is appended is at its end.
-at-end : (text key more : List ℕ) (number : ℕ) → bytes_at (text ++ (key ++ more)) (record { start = length text; length = length key; line_number = number }) ≡ key
+at-end : (text key more : List ℕ) (number : ℕ)
+    → bytes_at (text ++ (key ++ more)) (record { start = length text; length = length key; line_number = number }) ≡ key
 at-end text key more number = ap (take (length key)) (drop-append_seam text (key ++ more)) ∙ take-append_seam key more
 
 -- ---- one key more
@@ -87,7 +88,8 @@ module _ (s : FirstKeys) (held : List ℕ → Option ℕ) (indexed : IsIndexed h
       subst (λ v. held v ≡ Some p.line_number) (chars_from_encodes k.0 bytes is (sym k.2 ∙ at)) k.1
 
   -- Another is in its slot, and it is not among the others.
-  pub nowhere : (p : Place) → in_slot s bytes ≡ Some p → (bytes_at s.text.items p ≡ bytes → ⊥) → place_at s.others.entries (chars bytes) ≡ None → held (chars bytes) ≡ None
+  pub nowhere : (p : Place) → in_slot s bytes ≡ Some p → (bytes_at s.text.items p ≡ bytes → ⊥) → place_at s.others.entries (chars bytes) ≡ None
+      → held (chars bytes) ≡ None
   nowhere p some other none = no-number (held (chars bytes)) (λ n h.
       let f = found n h in
       let same : f.0 ≡ p = let a = f.1 in cc in
@@ -136,14 +138,16 @@ module _ (held : List ℕ → Option ℕ) (s t : FirstKeys) (indexed : IsIndexed
 
     -- a key in an empty slot
     pub slot-filled : slot_for (length s.slots.items) bytes < length s.slots.items → in_slot s bytes ≡ None → p.start + p.length ≤ length s.text.items
-        → bytes_at s.text.items p ≡ bytes → t.slots.items ≡ set s.slots.items (slot_for (length s.slots.items) bytes) (Some p) → t.others ≡ s.others → t.text ≡ s.text
+        → bytes_at s.text.items p ≡ bytes → t.slots.items ≡ set s.slots.items (slot_for (length s.slots.items) bytes) (Some p) → t.others ≡ s.others
+        → t.text ≡ s.text
         → IsIndexed (also_held held (chars bytes) p.line_number) t
     unfolding also
     slot-filled below none fits at slots others text = record {
       some = let l = length-set s.slots.items here (Some p) in let m = ap length slots in let some = indexed.some in omega arith;
       ordered = subst (IsOrdered string_cmp) (sym others) indexed.ordered;
       within = λ i q h. elim (cases_Bool (i == here)) [
-        | inl same ↦ let e = at-here i q same h in subst (λ v. q.start + q.length ≤ length v.items) (sym text) (subst (λ v. v.start + v.length ≤ length s.text.items) e fits)
+        | inl same ↦ let e = at-here i q same h in
+            subst (λ v. q.start + q.length ≤ length v.items) (sym text) (subst (λ v. v.start + v.length ≤ length s.text.items) e fits)
         | inr other ↦ subst (λ v. q.start + q.length ≤ length v.items) (sym text) (indexed.within i q (elsewhere i q other h))
       ];
       sound = λ i q h. elim (cases_Bool (i == here)) [
@@ -181,8 +185,10 @@ module _ (held : List ℕ → Option ℕ) (s t : FirstKeys) (indexed : IsIndexed
         kept key n old =
             let f = indexed.every key n old in
             let i = slot_for (length s.slots.items) (encode_utf8_all key) in
-            let apart : i ≢ here = λ e. let x : get_or s.slots.items i None ≡ None = ap (λ v. get_or s.slots.items v None) e ∙ none in let y = f.1 in absurd (cc) in
-            let still : get_or t.slots.items i None ≡ Some f.0 = ap (λ v. get_or v i None) slots ∙ get_or-set_other s.slots.items here i (Some p) None apart ∙ f.1 in (
+            let apart : i ≢ here = λ e. let x : get_or s.slots.items i None ≡ None = ap (λ v. get_or s.slots.items v None) e ∙ none in
+            let y = f.1 in absurd (cc) in
+            let still : get_or t.slots.items i None ≡ Some f.0 = ap (λ v. get_or v i None) slots ∙ get_or-set_other s.slots.items here i (Some p) None apart
+            ∙ f.1 in (
               f.0,
               ap (λ v. get_or t.slots.items (slot_for v (encode_utf8_all key)) None) same-length ∙ still,
               elim f.2 [
@@ -194,9 +200,11 @@ module _ (held : List ℕ → Option ℕ) (s t : FirstKeys) (indexed : IsIndexed
         filled : IsFound t (chars bytes)
         filled =
             let spelt = encodes-chars bytes is in
-            let there : get_or t.slots.items here None ≡ Some p = ap (λ v. get_or v here None) slots ∙ get_or-set_at s.slots.items here here (Some p) None refl below in (
+            let there : get_or t.slots.items here None ≡ Some p = ap (λ v. get_or v here None) slots
+            ∙ get_or-set_at s.slots.items here here (Some p) None refl below in (
               p,
-              ap (λ v. get_or t.slots.items (slot_for (length t.slots.items) v) None) spelt ∙ ap (λ v. get_or t.slots.items (slot_for v bytes) None) same-length ∙ there,
+              ap (λ v. get_or t.slots.items (slot_for (length t.slots.items) v) None) spelt
+                  ∙ ap (λ v. get_or t.slots.items (slot_for v bytes) None) same-length ∙ there,
               inl (ap (λ v. bytes_at v.items p) text ∙ at ∙ sym spelt),
             )
 
@@ -238,13 +246,17 @@ module _ (held : List ℕ → Option ℕ) (s t : FirstKeys) (indexed : IsIndexed
 
         added : IsFound t (chars bytes)
         added =
-            let same = same-key (chars bytes) in
-            (q, slot (encode_utf8_all (chars bytes)) ∙ ap (in_slot s) (encodes-chars bytes is) ∙ some, inr (p.line_number, updates (chars bytes) ∙ (rw same refl)))
+            let same = same-key (chars bytes) in (
+              q,
+              slot (encode_utf8_all (chars bytes)) ∙ ap (in_slot s) (encodes-chars bytes is) ∙ some,
+              inr (p.line_number, updates (chars bytes) ∙ (rw same refl)),
+            )
 
 -- ---- a key that is sought, and one that is added
 
 -- no slots hold anything
-pub indexed-none : (s : FirstKeys) (n : ℕ) → 0 < n → s.slots.items ≡ replicate n None → s.others.entries ≡ [] → IsOrdered string_cmp s.others → IsIndexed none_held s
+pub indexed-none : (s : FirstKeys) (n : ℕ) → 0 < n → s.slots.items ≡ replicate n None → s.others.entries ≡ [] → IsOrdered string_cmp s.others
+    → IsIndexed none_held s
 indexed-none s n some slots none ordered = record {
   some = subst (λ v. 0 < length v) (sym slots) (let l = length-replicate n (the-none) in omega arith);
   ordered = ordered;
@@ -270,7 +282,8 @@ pub slot-is : (s : FirstKeys) (bytes : List ℕ) (slot : ℕ) (o : Option Place)
     → o ≡ get_or s.slots.items slot o → in_slot s bytes ≡ o
 slot-is s bytes slot o at below is = ap (λ v. get_or s.slots.items v None) (sym at) ∙ sym (get_or_default s.slots.items slot o None below) ∙ sym is
 
-pub slot-below : (s : FirstKeys) (bytes : List ℕ) (slot : ℕ) → 0 < length s.slots.items → slot ≡ slot_for (length s.slots.items) bytes → slot < length s.slots.items
+pub slot-below : (s : FirstKeys) (bytes : List ℕ) (slot : ℕ) → 0 < length s.slots.items → slot ≡ slot_for (length s.slots.items) bytes
+    → slot < length s.slots.items
 slot-below s bytes slot some at = subst (λ v. v < length s.slots.items) (sym at) (mod-lt (hash_from 0 bytes / 4294967296) some)
 
 -- Nothing is in its slot.
@@ -282,7 +295,8 @@ pub tells-at : (s : FirstKeys) (bytes : List ℕ) (p : Place) → IsUtf8 bytes �
     → TellsFirst (chars bytes) s (Some p.line_number)
 tells-at s bytes p is some same = λ held indexed. in-slot s held indexed bytes is p some ((bytes_eq-Decides (bytes_at s.text.items p) bytes).0 same)
 
-pub tells-other : (s : FirstKeys) (bytes : List ℕ) (p : Place) (o : Option ℕ) → IsUtf8 bytes → in_slot s bytes ≡ Some p → bytes_eq (bytes_at s.text.items p) bytes ≡ false
+pub tells-other : (s : FirstKeys) (bytes : List ℕ) (p : Place) (o : Option ℕ) → IsUtf8 bytes → in_slot s bytes ≡ Some p
+    → bytes_eq (bytes_at s.text.items p) bytes ≡ false
     → place_at s.others.entries (chars bytes) ≡ o → TellsFirst (chars bytes) s o
 tells-other s bytes p (Some n) is some differs there = λ held indexed. indexed.among (chars bytes) n there
 tells-other s bytes p None is some differs there = λ held indexed.
@@ -295,7 +309,8 @@ adds-none end s key number first tells = λ held indexed. inl (tells held indexe
 -- A key that isn't is appended to the text, and its place is kept.
 pub adds-one : (end : TextEnd) (s m t : FirstKeys) (bytes : List ℕ) (number : ℕ) (p : Place) → IsUtf8 bytes → TellsFirst (chars bytes) s None
     → m.slots.items ≡ s.slots.items → m.others ≡ s.others → m.text.items ≡ s.text.items ++ ended end (chars bytes)
-    → p ≡ record { start = length s.text.items; length = length bytes; line_number = number } → KeepsKey bytes p m t → AddsKey end (chars bytes) number s number t
+    → p ≡ record { start = length s.text.items; length = length bytes; line_number = number } → KeepsKey bytes p m t
+    → AddsKey end (chars bytes) number s number t
 adds-one end s m t bytes number p is tells slots others text at keeps = λ held indexed.
     inr (tells held indexed, refl, more held indexed (tells held indexed) keeps.1, ap (λ v. v.items) keeps.0 ∙ text)
   where
@@ -320,6 +335,7 @@ adds-one end s m t bytes number p is tells slots others text at keeps = λ held 
     more held indexed new kept =
         let grown = text-grown held s m indexed (ended end (chars bytes)) slots others text in
         subst (λ v. IsIndexed (also_held held (chars bytes) v) t) numbered (elim kept [
-          | inl (none, filled, same) ↦ slot-filled held m t grown bytes is new p (mod-lt (hash_from 0 bytes / 4294967296) grown.some) none fits place filled same keeps.0
+          | inl (none, filled, same) ↦ slot-filled held m t grown bytes is new p (mod-lt (hash_from 0 bytes / 4294967296) grown.some) none fits place filled
+              same keeps.0
           | inr ((q, some), same, ordered, updates) ↦ other-added held m t grown bytes is new p q some same keeps.0 ordered updates
         ])

@@ -1,5 +1,5 @@
 -- The lines of a body that have a flaw, found one after another.
-use Rattle.std.proofs.Common.{◌≡◌, ◌≢◌, ℕ, suc, ◌+◌, ◌<◌, ◌≤◌, ◌==◌, Bool, true, false, List, [], ◌∷◌, ◌++◌, length, get_or, take, drop}
+use Rattle.std.proofs.Common.{◌≡◌, ◌≢◌, ℕ, suc, ◌+◌, ◌<◌, ◌≤◌, ◌==◌, Bool, true, false, List, [], ◌∷◌, ◌++◌, length, get_or, drop}
 use Rattle.std.proofs.Common.{refl, sym, ap, subst, ◌∙◌, inl, inr, length-append, take_all, arith}
 use Rattle.std.specs.Prelude.{if◌then◌else◌, not, Option, Some, None, Result, Ok, Err}
 use Rattle.std.specs.Option.{is_some}
@@ -31,10 +31,10 @@ use Rattle.properties_lines.specs.declared.scanner.Front.TheVariants.{Mark, Feed
 use Rattle.properties_lines.specs.declared.scanner.RawLine.{RawLine}
 use Rattle.properties_lines.specs.declared.scanner.Scanner.{Scanner}
 use Rattle.properties_lines.proofs.HeldLines.{body-next, body-after, body-lines_left}
-use Rattle.properties_tools.specs.Propedit.Lines.{holds_zero, is_sought, is_utf_8, starts_with_mark, AreFlawed, AreFlawedIn, HasFlaw, HasFlawed, IsFirstFlawed, IsWellFormedIn, LacksFlaw}
+use Rattle.properties_tools.specs.Propedit.Lines.{holds_zero, is_sought, starts_with_bom, AreFlawed, AreFlawedIn, HasFlaw, HasFlawed, IsFirstFlawed, IsWellFormedIn, LacksFlaw}
 use Rattle.properties_tools.specs.Private.Flawed.{are_paired, is_flawed, is_well_formed, unit_in, numbers_from, numbers_left, FindsNext, HasFlawedIn, HasLinesOf, IsFound, IsScanning}
-use Rattle.properties_tools.specs.declared.propedit.lines.Flaw.{Flaw}
-use Rattle.properties_tools.specs.declared.propedit.lines.Flaw.TheVariants.{IllFormed, Zero}
+use Rattle.properties_tools.specs.declared.propedit.utf_8.Flaw.{Flaw}
+use Rattle.properties_tools.specs.declared.propedit.utf_8.Flaw.TheVariants.{IllFormed, Zero}
 use Rattle.properties_tools.proofs.Paired.{paired-well_formed, well_formed-paired}
 
 -- whether a byte is 0
@@ -170,7 +170,8 @@ module _ (flaw : Flaw) (e : Encoding) (source body : List ℕ) (f : Encoding) (i
 -- or if it isn't sought.
 pub lines-unsought : (flaw : Flaw) (e : Encoding) (source : List ℕ) (f : Encoding) → is_sought flaw e source ≡ false → HasLinesOf flaw e source f []
 lines-unsought flaw e source f unsought = λ numbers h.
-    subst (HasFlawed flaw e source) (h.only [] (no-bytes flaw f).are) (record { are = inr (unsought, refl); only = λ others k. elim k [ inl x ↦ absurd (cc) | inr x ↦ x.1 ] })
+    subst (HasFlawed flaw e source) (h.only [] (no-bytes flaw f).are)
+    (record { are = inr (unsought, refl); only = λ others k. elim k [ inl x ↦ absurd (cc) | inr x ↦ x.1 ] })
 
 -- No line is ill-formed in windows-1252.
 none-numbered : (ls : List Line) (numbers : List ℕ) → AreFlawed IllFormed windows_1252 ls numbers → numbers ≡ []
@@ -184,23 +185,27 @@ none-ill_formed body =
     subst (HasFlawedIn IllFormed windows_1252 body) (none-numbered (numbered 0 h.are.lines.ended h.are.lines.last end) _ h.are.are) h
 
 -- A byte 0 is sought in UTF-8 alone.
-pub unsought-other : (e : Encoding) (source body : List ℕ) (f : code.Encoding) → byte_order_mark e source ≡ record { encoding = encoding_of f; body = body } → f ≢ UTF_8
+pub unsought-other : (e : Encoding) (source body : List ℕ) (f : code.Encoding) → byte_order_mark e source ≡ record { encoding = encoding_of f; body = body }
+    → f ≢ UTF_8
     → is_sought Zero e source ≡ false
 unsought-other e source body WINDOWS_1252 is h = rw is refl
 unsought-other e source body UTF_8 is h = absurd (h refl)
 unsought-other e source body UTF_16LE is h = rw is refl
 unsought-other e source body UTF_16BE is h = rw is refl
 
-pub unsought-marked : (e : Encoding) (source body : List ℕ) → byte_order_mark e source ≡ record { encoding = utf_8; body = body } → starts_with_mark source ≡ true
+pub unsought-marked : (e : Encoding) (source body : List ℕ) → byte_order_mark e source ≡ record { encoding = utf_8; body = body }
+    → starts_with_bom source ≡ true
     → is_sought Zero e source ≡ false
 unsought-marked e source body is mark = rw (is, mark) refl
 
-pub sought-unmarked : (e : Encoding) (source body : List ℕ) → byte_order_mark e source ≡ record { encoding = utf_8; body = body } → starts_with_mark source ≡ false
+pub sought-unmarked : (e : Encoding) (source body : List ℕ) → byte_order_mark e source ≡ record { encoding = utf_8; body = body }
+    → starts_with_bom source ≡ false
     → is_sought Zero e source ≡ true
 sought-unmarked e source body is mark = rw (is, mark) refl
 
 -- Lines without a byte 0 have no flawed line.
-none-held : (n : ℕ) (ls : List Ended) (last : List ℕ) → holds_zero (bytes_together utf_8 ls last) ≡ false → numbers_from Zero utf_8 n (held_of utf_8 ls last) ≡ []
+none-held : (n : ℕ) (ls : List Ended) (last : List ℕ) → holds_zero (bytes_together utf_8 ls last) ≡ false
+    → numbers_from Zero utf_8 n (held_of utf_8 ls last) ≡ []
 none-held n [] last h = rw h refl
 none-held n (l ∷ ls) last h =
     let after = bytes_together utf_8 ls last in
@@ -213,7 +218,8 @@ none-held n (l ∷ ls) last h =
 pub none-zero : (body : List ℕ) → holds_zero body ≡ false → HasFlawedIn Zero utf_8 body []
 none-zero body h =
     let lines = cut_of utf_8 body in
-    subst (HasFlawedIn Zero utf_8 body) (none-held 0 lines.ended lines.last (ap holds_zero (sym (cut_of-meets utf_8 body).bytes) ∙ h)) (has-flawed Zero utf_8 body)
+    subst (HasFlawedIn Zero utf_8 body) (none-held 0 lines.ended lines.last (ap holds_zero (sym (cut_of-meets utf_8 body).bytes) ∙ h))
+    (has-flawed Zero utf_8 body)
 
 -- What comes before an ASCII character of a text is a text, and so is what comes after it.
 around-ascii : (x : List ℕ) (b : ℕ) (y : List ℕ) → b < 128 → IsUtf8 (x ++ b ∷ y) → IsUtf8 x × IsUtf8 y
@@ -256,7 +262,8 @@ pub none-ill_formed_utf_8 : (body : List ℕ) (n : ℕ) → IsLongestText body n
 none-ill_formed_utf_8 body n longest all =
     let lines = cut_of utf_8 body in
     let text : IsUtf8 body = subst IsUtf8 (take_all n body (omega arith)) longest.text in
-    subst (HasFlawedIn IllFormed utf_8 body) (well-held 0 lines.ended lines.last (subst IsUtf8 (cut_of-meets utf_8 body).bytes text)) (has-flawed IllFormed utf_8 body)
+    subst (HasFlawedIn IllFormed utf_8 body) (well-held 0 lines.ended lines.last (subst IsUtf8 (cut_of-meets utf_8 body).bytes text))
+    (has-flawed IllFormed utf_8 body)
 
 -- ---- the number of lines
 
@@ -295,7 +302,8 @@ few-held e body =
 -- ---- line by line
 
 -- at the start
-pub scanning-start : {e : Encoding} {source : List ℕ} (flaw : Flaw) (body : List ℕ) (s : Scanner) (f : code.Encoding) → HasLinesOf flaw e source (encoding_of f) body
+pub scanning-start : {e : Encoding} {source : List ℕ} (flaw : Flaw) (body : List ℕ) (s : Scanner) (f : code.Encoding)
+    → HasLinesOf flaw e source (encoding_of f) body
     → s.encoding ≡ f → Fits s body → s.at ≡ 0 → scanner_state s body ≡ record (start (encoding_of f)) { is_decided = true; held = body }
     → IsScanning body s × HasFlawed flaw e source (numbers_left flaw body s)
 scanning-start flaw body s f lines same fits at stands =
@@ -331,7 +339,8 @@ found-numbers flaw body s new has_flaw h g k =
     ap (numbers_from flaw (encoding_of s.encoding) s.passed) (body-lines_left s new body h.in_body g)
     ∙ ap (λ f. if is_flawed flaw f (bytes_of body new.line) then (s.passed + 1) ∷ numbers_from flaw f (s.passed + 1) (lines_left body new)
     else numbers_from flaw f (s.passed + 1) (lines_left body new)) (sym (body-next s new body h.in_body g).0)
-    ∙ ap (λ n. if is_flawed flaw e (bytes_of body new.line) then n ∷ numbers_from flaw e n (lines_left body new) else numbers_from flaw e n (lines_left body new)) number
+    ∙ ap (λ n. if is_flawed flaw e (bytes_of body new.line) then n ∷ numbers_from flaw e n (lines_left body new)
+    else numbers_from flaw e n (lines_left body new)) number
     ∙ ap (λ v. if v then new.passed ∷ numbers_left flaw body new else numbers_left flaw body new) k
 
 -- The first number to come is that of the source.
@@ -348,14 +357,16 @@ pub flags-ascii : {body : List ℕ} (line : RawLine) → IsFound utf_8 body line
 flags-ascii {body} line h k = is_utf8-from_IsUtf8 (bytes_of body line) (IsUtf8-from_ascii (bytes_of body line) (h.flags.ascii.0 k).1)
 
 -- what is neither windows-1252 nor UTF-8 is UTF-16
-pub utf_16-paired : (f : code.Encoding) (bytes : List ℕ) → f ≢ WINDOWS_1252 → f ≢ UTF_8 → are_paired (unit_in (encoding_of f)) false bytes ≡ is_well_formed (encoding_of f) bytes
+pub utf_16-paired : (f : code.Encoding) (bytes : List ℕ) → f ≢ WINDOWS_1252 → f ≢ UTF_8
+    → are_paired (unit_in (encoding_of f)) false bytes ≡ is_well_formed (encoding_of f) bytes
 utf_16-paired WINDOWS_1252 bytes h k = absurd (h refl)
 utf_16-paired UTF_8 bytes h k = absurd (k refl)
 utf_16-paired UTF_16LE bytes h k = refl
 utf_16-paired UTF_16BE bytes h k = refl
 
 -- whether a conversion succeeds
-pub ok-is_utf8 : {T E : Type 0} (P : T → Type 0) (Q : E → Type 0) (bytes : List ℕ) (r : Result T E) → MatchResult r (λ s. P s × IsUtf8 bytes) (λ e. ¬ (IsUtf8 bytes) × Q e)
+pub ok-is_utf8 : {T E : Type 0} (P : T → Type 0) (Q : E → Type 0) (bytes : List ℕ) (r : Result T E)
+    → MatchResult r (λ s. P s × IsUtf8 bytes) (λ e. ¬ (IsUtf8 bytes) × Q e)
     → is_ok r ≡ is_utf8 bytes
 ok-is_utf8 P Q bytes (Ok s) h = sym (is_utf8-from_IsUtf8 bytes h.1)
 ok-is_utf8 P Q bytes (Err e) h = elim (cases_Bool (is_utf8 bytes)) [

@@ -27,19 +27,19 @@ use Rattle.properties_format.specs.Escapes.{Meaning, means, breaks}
 use Rattle.properties_format.specs.Items.{Outcome, ignored, given, broken}
 use Rattle.properties_format.specs.Split.{Logical, IsSplit}
 use Rattle.properties_format.specs.Maps.{IsMap, IsValue}
-use Rattle.properties_format.specs.MalformedEscapes as format
 use Rattle.properties_format.specs.MalformedEscapes.{escapes_from}
-use Rattle.properties_format.specs.EditedPairs.{AreInComments, ArePairs, EscapesAre, pair_from}
+use Rattle.properties_format.specs.EditedPairs.{AreInComments, EscapesAre, pair_from}
 use Rattle.properties_format.specs.Pairs.{Pair}
 use Rattle.properties_format.specs.ItemsToCome.{ReaderState, start}
 use Rattle.properties_format.specs.Computed.Escapes.{meaning_of}
 use Rattle.properties_format.specs.Computed.Items.{comment_outcome, outcome_of, split_outcome}
 use Rattle.properties_format.specs.Computed.Keys.{Has, HasNot, ComesBefore, AreFirstOf}
-use Rattle.properties_format.specs.Computed.MalformedEscapes.{escapes_in, malformed_escapes_of}
+use Rattle.properties_format.specs.Computed.MalformedEscapes.{escapes_in}
 use Rattle.properties_format.specs.Computed.Split.{split_of}
-use Rattle.properties_format.proofs.Edits.PairValues.{pairs_in, pairs_in-push, pairs_of-meets}
+use Rattle.properties_format.proofs.Edits.PairValues.{pairs_in, pairs_in-push}
+use Rattle.properties_format.proofs.Found.{found-in_groups}
 use Rattle.properties_format.proofs.Keys.{contained, pair_key, pair_keys, are-keys}
-use Rattle.properties_format.proofs.MalformedEscapes.{escapes_in-append, escapes_in-groups, malformed_escapes_of-meets}
+use Rattle.properties_format.proofs.MalformedEscapes.{escapes-are}
 use Rattle.properties_format.proofs.Maps.{map-none, map-pair, value_in-only}
 use Rattle.properties_format.proofs.Changed.Maps.{other-test, same-test}
 use Rattle.properties_format.proofs.Split.Unique.{split_of-meets}
@@ -55,9 +55,9 @@ use Rattle.properties_items.specs.declared.error.PropertiesError.{PropertiesErro
 use Rattle.counted_io.specs.Streams.{Reader, HasRead, has_ended}
 use Rattle.java_properties.specs.MalformedEscapes.{FailsToFind, StopsFinding}
 use Rattle.java_properties.specs.Private.LineByLine.{Collected}
-use Rattle.java_properties.proofs.MalformedEscapes.{collected-start, collected-next, collected-lines, collected-groups, found-lost}
+use Rattle.java_properties.proofs.MalformedEscapes.{collected-start, collected-next, collected-lines, collected-lost}
 use Rattle.java_properties.proofs.SliceReads.{collected-slice, slice_reader, slice-whole}
-use Rattle.java_properties.proofs.SoughtPairs.{HasSoughtPairs, StopsAtPair, pairs-refused, pairs-error, slice-tells_pairs}
+use Rattle.java_properties.proofs.SoughtPairs.{HasSoughtPairs, StopsAtPair, comments-push, pairs-refused, pairs-error, slice-tells_pairs}
 use Rattle.properties_tools.specs.Propedit.Pairs.{keys_of, AreLastPairs}
 use Rattle.properties_tools.specs.Private.LastPairs.{pair_of, pairs_of, place_of, with_line, with_pair, FindsLastPairs, HasPlaces, PutsLine}
 use Rattle.properties_tools.proofs.LookedUp.{lost}
@@ -139,9 +139,16 @@ AllPairs-last R (x ∷ xs) y h all =
 -- a new key
 pub first-new : (all ks : List (List ℕ)) (key : List ℕ) → AreFirstOf all ks → HasNot key ks → AreFirstOf (all ++ key ∷ []) (ks ++ key ∷ [])
 first-new all ks key h new = record {
-  only = λ k m. elim (has-split k key ks m) [ inl l ↦ has-left k all (key ∷ []) (h.only k l) | inr e ↦ subst (λ v. Has v (all ++ key ∷ [])) e (has-last key all) ];
-  every = λ k m. elim (has-split k key all m) [ inl l ↦ has-left k ks (key ∷ []) (h.every k l) | inr e ↦ subst (λ v. Has v (ks ++ key ∷ [])) e (has-last key ks) ];
-  in_order = AllPairs-last (ComesBefore (all ++ key ∷ [])) ks key (λ i j d l m. grown key (h.in_order i j d l m)) (λ i d m. before (get_or ks i d) (contained (get_or ks i d) ks (i, m, same-at ks i d m)));
+  only = λ k m. elim (has-split k key ks m) [
+    | inl l ↦ has-left k all (key ∷ []) (h.only k l)
+    | inr e ↦ subst (λ v. Has v (all ++ key ∷ [])) e (has-last key all)
+  ];
+  every = λ k m. elim (has-split k key all m) [
+    | inl l ↦ has-left k ks (key ∷ []) (h.every k l)
+    | inr e ↦ subst (λ v. Has v (ks ++ key ∷ [])) e (has-last key ks)
+  ];
+  in_order = AllPairs-last (ComesBefore (all ++ key ∷ [])) ks key (λ i j d l m. grown key (h.in_order i j d l m))
+      (λ i d m. before (get_or ks i d) (contained (get_or ks i d) ks (i, m, same-at ks i d m)));
 }
   where
     none : HasNot key all
@@ -173,7 +180,8 @@ with_key key value (p ∷ ps) = elim (cases_Bool (bytes_eq p.0 key)) [
     differs : (x y : List ℕ) → bytes_eq x y ≡ false → x ≢ y
     differs x y e q = let t = (bytes_eq-Decides x y).1 q in cc
 
-first-with : (all : List (List ℕ)) (key value : List ℕ) (ps : List Pair) → AreFirstOf all (keys_of ps) → AreFirstOf (all ++ key ∷ []) (keys_of (with_pair key value ps))
+first-with : (all : List (List ℕ)) (key value : List ℕ) (ps : List Pair) → AreFirstOf all (keys_of ps)
+    → AreFirstOf (all ++ key ∷ []) (keys_of (with_pair key value ps))
 first-with all key value ps h = elim (with_key key value ps) [
   | inl k ↦ rw k.1 (first-same all (keys_of ps) key h k.0)
   | inr k ↦ rw k.1 (first-new all (keys_of ps) key h k.0)
@@ -211,7 +219,8 @@ pub set-with : (key value : List ℕ) (ps : List Pair) (n : ℕ) (p : Pair) → 
 set-with key value [] n p h at = absurd (cc)
 set-with key value (q ∷ ps) n p h at = elim (cases_Bool (bytes_eq q.0 key)) [
   | inl same ↦ rw same (here n (here-place (option_map (λ m. m + 1) (place_of (keys_of ps) key)) n (rw same at h)) at)
-  | inr other ↦ let found = some-place (place_of (keys_of ps) key) n (rw other at h) in rw other (there (λ m f a. set-with key value ps m p f a) n found.0 found.1 found.2 at)
+  | inr other ↦ let found = some-place (place_of (keys_of ps) key) n (rw other at h) in
+      rw other (there (λ m f a. set-with key value ps m p f a) n found.0 found.1 found.2 at)
 ]
   where
     here : (m : ℕ) → 0 ≡ m → p ≡ get_or (q ∷ ps) m p → set (q ∷ ps) m (p.0, value) ≡ (q.0, value) ∷ ps
@@ -237,10 +246,12 @@ pub place-new : (key : List ℕ) (ks : List (List ℕ)) (k : List ℕ) → place
 place-new key [] k h = refl
 place-new key (x ∷ ks) k h = elim (cases_Bool (bytes_eq x key)) [
   | inl same ↦ absurd (let n = rw same at h in cc)
-  | inr other ↦ ap (λ v. if bytes_eq x k then Some 0 else option_map (λ m. m + 1) v) (place-new key ks k (no-place (place_of ks key) (rw other at h))) ∙ chosen (cases_Bool (bytes_eq key k)) other
+  | inr other ↦ ap (λ v. if bytes_eq x k then Some 0 else option_map (λ m. m + 1) v) (place-new key ks k (no-place (place_of ks key) (rw other at h)))
+      ∙ chosen (cases_Bool (bytes_eq key k)) other
 ]
   where
-    chosen : (bytes_eq key k ≡ true) ⊎ (bytes_eq key k ≡ false) → bytes_eq x key ≡ false → (if bytes_eq x k then Some 0 else option_map (λ m. m + 1) (update bytes_eq (place_of ks) key (Some (length ks)) k))
+    chosen : (bytes_eq key k ≡ true) ⊎ (bytes_eq key k ≡ false) → bytes_eq x key ≡ false
+        → (if bytes_eq x k then Some 0 else option_map (λ m. m + 1) (update bytes_eq (place_of ks) key (Some (length ks)) k))
         ≡ update bytes_eq (place_of (x ∷ ks)) key (Some (length (x ∷ ks))) k
     chosen (inl same) other =
         let e : key ≡ k = (bytes_eq-Decides key k).0 same in
@@ -292,7 +303,8 @@ abbrev pub pair_value : List Pair → List ℕ → Option (List ℕ)
 pair_value [] key = None
 pair_value (p ∷ ps) key = if bytes_eq p.0 key then Some p.1 else pair_value ps key
 
-value-with : (key value : List ℕ) (ps : List Pair) (k : List ℕ) → pair_value (with_pair key value ps) k ≡ (if bytes_eq key k then Some value else pair_value ps k)
+value-with : (key value : List ℕ) (ps : List Pair) (k : List ℕ)
+    → pair_value (with_pair key value ps) k ≡ (if bytes_eq key k then Some value else pair_value ps k)
 value-with key value [] k = refl
 value-with key value (p ∷ ps) k = elim (cases_Bool (bytes_eq p.0 key)) [
   | inl same ↦
@@ -369,10 +381,6 @@ comment-escapes number x ignored c = tt
 comment-escapes number x (given content) c = tt
 comment-escapes number x (broken how) c = (c, tt)
 
-pub comments-join : (ms ns : List format.MalformedEscape) → AreInComments ms → AreInComments ns → AreInComments (ms ++ ns)
-comments-join [] ns h k = k
-comments-join (m ∷ ms) ns h k = (h.0, comments-join ms ns h.1 k)
-
 -- The input was read to its end, all malformed escapes are in comments, and these are its pairs, each key once and with its
 -- last value.
 pub record ReadsLastPairs {R : Type 0} (reader : Reader R) (e : Encoding) (from : R) (pairs : List Pair) (to : R) : Type 0 where
@@ -413,22 +421,21 @@ module _ {R : Type 0} {reader : Reader R} {e : Encoding} where
       → (n : JoinsNext reader s to number new next) → PutsLine number (chars new.line) ps (Ok tt) qs → HasCollected reader e from qs new.state next
   pairs-more {ps = ps} number new h n puts =
       let g = n.group.first ∷ n.group.others in
-      let here : AreInComments (escapes_in (g ∷ [])) =
-      subst (λ m. AreInComments (escapes_from m (joined g) (outcome_of (joined g)) [])) n.group.number
-      (subst (λ x. AreInComments (escapes_from number x (outcome_of x) [])) n.group.text puts.0) in
       rw puts.1 (record {
         groups = h.groups ++ g ∷ [];
         collected = collected-next number new h.collected n;
-        in_comments = subst AreInComments (sym (escapes_in-append h.groups (g ∷ []))) (comments-join (escapes_in h.groups) (escapes_in (g ∷ [])) h.in_comments here);
+        in_comments = comments-push h.groups g number (chars new.line) n.group.number n.group.text h.in_comments puts.0;
         last = rw n.group.text (last-line h.groups g ps h.last);
       })
 
   -- a line came that has no pair to put
-  pub pairs-lost : {from to next : R} {ps : List Pair} {s : ReaderState} {error : PropertiesError} (number : ℕ) (new : LineState) → HasCollected reader e from ps s to
-      → JoinsNext reader s to number new next → ((is_comment_line (chars new.line) ≡ false) × IsNoItem number (chars new.line) error) ⊎ IsBareError kind.Memory error
+  pub pairs-lost : {from to next : R} {ps : List Pair} {s : ReaderState} {error : PropertiesError} (number : ℕ) (new : LineState)
+      → HasCollected reader e from ps s to
+      → JoinsNext reader s to number new next
+      → ((is_comment_line (chars new.line) ≡ false) × IsNoItem number (chars new.line) error) ⊎ IsBareError kind.Memory error
       → StopsAtPair reader e from error next ⊎ (FailsToFind reader e from error next ⊎ StopsFinding reader e from error next)
   pairs-lost number new h n (inl why) = pairs-refused number new (sought h) n why
-  pairs-lost number new h n (inr says) = inr (inr (found-lost number new (record { groups = h.groups; collected = h.collected; escapes = refl }) n says))
+  pairs-lost number new h n (inr says) = inr (inr (collected-lost number new h.collected n says))
 
   -- no line came
   pub pairs-failed : {from to next : R} {ps : List Pair} {s t : ReaderState} {why : LineError} {error : PropertiesError} → HasCollected reader e from ps s to
@@ -443,14 +450,10 @@ module _ {R : Type 0} {reader : Reader R} {e : Encoding} where
     bytes = h.collected.bytes;
     read = h.collected.read;
     ended = h.collected.ended d;
-    in_comments = (
-      malformed_escapes_of e h.collected.bytes,
-      malformed_escapes_of-meets e h.collected.bytes,
-      subst AreInComments (escapes_in-groups e h.collected.bytes h.groups (collected-lines h.collected d)) h.in_comments,
-    );
+    in_comments = escapes-are AreInComments (collected-lines h.collected d) h.in_comments;
     are = record {
       entries = pairs_in h.groups;
-      are = subst (ArePairs e h.collected.bytes) (sym (ap pairs_in (collected-groups h.collected d))) (pairs_of-meets e h.collected.bytes);
+      are = found-in_groups _ (collected-lines h.collected d);
       keys = are-keys (pairs_in h.groups) (pair_keys (pairs_in h.groups)) (keys_of ps) refl h.last.keys;
       values = λ k m l.
           let value = own-values ps (λ i j f n o. (h.last.keys.in_order i j f n o).differ) k m l in
@@ -461,7 +464,8 @@ module _ {R : Type 0} {reader : Reader R} {e : Encoding} where
 -- ---- a slice
 
 -- What collecting the pairs of a slice returns. In a sound source it fails only for want of memory.
-pub slice-pairs : {Y Z : Type 0} (e : Encoding) (from to : Bor (List ℕ)) (result : Result (Vec (String Y × String Z)) PropertiesError) → length from.now + 1 < 2 ^ 64
+pub slice-pairs : {Y Z : Type 0} (e : Encoding) (from to : Bor (List ℕ)) (result : Result (Vec (String Y × String Z)) PropertiesError)
+    → length from.now + 1 < 2 ^ 64
     → CollectsPairs slice_reader e from result to → FindsLastPairs e from.now result
 slice-pairs e from to (Ok found) small h =
     subst (λ v. EscapesAre e v AreInComments × AreLastPairs e v (pairs_of found.items)) (slice-whole h.read h.ended) (h.in_comments, h.are)

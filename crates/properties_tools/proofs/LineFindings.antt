@@ -1,6 +1,6 @@
 -- What is wrong in the logical lines of a source, found line by line.
 use Rattle.std.proofs.Common.{◌≡◌, ◌≢◌, ℕ, ◌+◌, ◌^◌, ◌<◌, Bool, true, false, List, [], ◌∷◌, ◌++◌, length, map, refl, sym, ap, ap₂, ◌∙◌, inl, inr, subst, append-nil}
-use Rattle.std.specs.Prelude.{◌⊎◌, ◌==◌, Option, Some, None, Result, Ok, Err, bytes_eq}
+use Rattle.std.specs.Prelude.{◌⊎◌, Option, Some, None, Result, Ok, Err, bytes_eq}
 use Rattle.std.specs.Borrow.{Bor}
 use Rattle.std.specs.List.{flat_map}
 use Rattle.std.specs.Map.{update}
@@ -19,9 +19,9 @@ use Rattle.properties_format.specs.Groups.{first_number, is_comment_line, joined
 use Rattle.properties_format.specs.ItemsToCome.{ReaderState, start}
 use Rattle.properties_format.specs.MalformedEscapes.{escapes_from}
 use Rattle.properties_format.specs.Computed.Items.{outcome_of}
-use Rattle.properties_format.specs.Computed.MalformedEscapes.{escapes_in, malformed_escapes_of}
+use Rattle.properties_format.specs.Computed.MalformedEscapes.{escapes_in}
 use Rattle.properties_format.specs.Computed.Parts.{outcome_key}
-use Rattle.properties_format.proofs.MalformedEscapes.{escapes_in-groups, malformed_escapes_of-meets}
+use Rattle.properties_format.proofs.Found.{found-in_groups}
 use Rattle.properties_lines.specs.LineJoiner.{LineState, JoinsNext, JoinsError}
 use Rattle.properties_lines.specs.declared.error.LineError.{LineError}
 use Rattle.properties_items.specs.Errors.{kind_of, IsBareError, IsLineError}
@@ -32,11 +32,11 @@ use Rattle.java_properties.specs.KeyLines.{KeyEntry, KeyPlace}
 use Rattle.java_properties.specs.MalformedEscapes.{escape_records, FailsToFind, StopsFinding}
 use Rattle.java_properties.specs.Private.LineByLine.{Collected}
 use Rattle.java_properties.proofs.KeyLines.{entries-added, first-added, first_place, groups-key_lines, key_before, key_entries, keys_in, keys_in-push}
-use Rattle.java_properties.proofs.MalformedEscapes.{collected-groups, collected-lines, collected-next, collected-start, found-error, found-lost, found-push}
+use Rattle.java_properties.proofs.MalformedEscapes.{collected-lines, collected-next, collected-start, collected-error, collected-lost, found-push}
 use Rattle.java_properties.proofs.SliceReads.{collected-slice, slice_reader, slice-whole}
 use Rattle.java_properties.proofs.SourceFindings.{slice-error}
 use Rattle.properties_tools.specs.Private.FirstKeys.{also_held, none_held, IsIndexed}
-use Rattle.properties_tools.specs.Private.LineFindings.{AddsKey, AddsLine, AddsPair, FindsInLines, HasFindings}
+use Rattle.properties_tools.specs.Private.LineFindings.{AddsKey, AddsLine, FindsInLines, HasFindings}
 use Rattle.properties_tools.specs.Propedit.Check.{escape_finding, repeat_findings}
 use Rattle.properties_tools.specs.declared.propedit.check.Finding.{Finding}
 use Rattle.properties_tools.specs.declared.propedit.line_findings.LineFindings.{LineFindings}
@@ -68,7 +68,8 @@ pub record HasFound {R : Type 0} (reader : Reader R) (e : Encoding) (w : Bool) (
 
 -- ---- one key more
 
-module _ (w : Bool) (gs : List (List Line)) (g : List Line) (key : List ℕ) (number : ℕ) (is : number ≡ first_number g) (told : outcome_key (outcome_of (joined g)) ≡ Some key) where
+module _ (w : Bool) (gs : List (List Line)) (g : List Line) (key : List ℕ) (number : ℕ) (is : number ≡ first_number g)
+    (told : outcome_key (outcome_of (joined g)) ≡ Some key) where
   place : KeyPlace
   place = record { number = number; key = key }
 
@@ -89,7 +90,8 @@ module _ (w : Bool) (gs : List (List Line)) (g : List Line) (key : List ℕ) (nu
       ∙ ap (λ v. flat_map (repeat_findings w) (key_entries v)) (sym grown)
 
   -- where keys come first
-  pub first-push : (q : List ℕ) → first_place (keys_in (gs ++ g ∷ [])) q ≡ update bytes_eq (first_place (keys_in gs)) key (Some (unwrap_or (first_place (keys_in gs) key) number)) q
+  pub first-push : (q : List ℕ)
+      → first_place (keys_in (gs ++ g ∷ [])) q ≡ update bytes_eq (first_place (keys_in gs)) key (Some (unwrap_or (first_place (keys_in gs) key) number)) q
   unfolding place
   first-push q = ap (λ v. first_place v q) grown ∙ first-added (keys_in gs) place q
 
@@ -135,7 +137,8 @@ module _ {R : Type 0} {reader : Reader R} {e : Encoding} {w : Bool} where
   -- a logical line came
   pub found-more : {from to next : R} {old found : LineFindings} {s : ReaderState} (number : ℕ) (new : LineState) → HasFound reader e w from old s to
       → (n : JoinsNext reader s to number new next) → AddsLine w number (chars new.line) old (Ok tt) found → HasFound reader e w from found new.state next
-  found-more {from} {next = next} {old} {found} number new h n adds = by (outcome_key (outcome_of (joined g))) refl (subst (λ x. AddsKey w number (outcome_key (outcome_of x)) old found) n.group.text adds.1)
+  found-more {from} {next = next} {old} {found} number new h n adds =
+      by (outcome_key (outcome_of (joined g))) refl (subst (λ x. AddsKey w number (outcome_key (outcome_of x)) old found) n.group.text adds.1)
     where
       g : List Line
       g = n.group.first ∷ n.group.others
@@ -166,10 +169,12 @@ module _ {R : Type 0} {reader : Reader R} {e : Encoding} {w : Bool} where
               groups = h.groups ++ g ∷ [];
               collected = collected-next number new h.collected n;
               escapes = escapes;
-              repeats = pair.repeats ∙ ap (λ v. v ++ repeat_findings w (record { number = number; key = key; first = pair.first })) h.repeats ∙ repeats-push w h.groups g key number n.group.number told pair.first (ap (λ o. unwrap_or o number) (sym at));
+              repeats = pair.repeats ∙ ap (λ v. v ++ repeat_findings w (record { number = number; key = key; first = pair.first })) h.repeats
+                  ∙ repeats-push w h.groups g key number n.group.number told pair.first (ap (λ o. unwrap_or o number) (sym at));
               held = h.held;
               indexed = subst (IsIndexed h.held) (sym same) h.indexed;
-              first = λ q. held-before h.held (first_place (keys_in h.groups)) key number pair.first h.first is q ∙ sym (first-push w h.groups g key number n.group.number told q);
+              first = λ q. held-before h.held (first_place (keys_in h.groups)) key number pair.first h.first is q
+                  ∙ sym (first-push w h.groups g key number n.group.number told q);
             }
         | inr (none, is, indexed, text) ↦
             let at : first_place (keys_in h.groups) key ≡ None = sym (h.first key) ∙ none in
@@ -177,22 +182,26 @@ module _ {R : Type 0} {reader : Reader R} {e : Encoding} {w : Bool} where
               groups = h.groups ++ g ∷ [];
               collected = collected-next number new h.collected n;
               escapes = escapes;
-              repeats = pair.repeats ∙ ap (λ v. v ++ repeat_findings w (record { number = number; key = key; first = pair.first })) h.repeats ∙ repeats-push w h.groups g key number n.group.number told pair.first (is ∙ ap (λ o. unwrap_or o number) (sym at));
+              repeats = pair.repeats ∙ ap (λ v. v ++ repeat_findings w (record { number = number; key = key; first = pair.first })) h.repeats
+                  ∙ repeats-push w h.groups g key number n.group.number told pair.first (is ∙ ap (λ o. unwrap_or o number) (sym at));
               held = also_held h.held key number;
               indexed = indexed;
-              first = λ q. held-new h.held (first_place (keys_in h.groups)) key number h.first none q ∙ sym (first-push w h.groups g key number n.group.number told q);
+              first = λ q. held-new h.held (first_place (keys_in h.groups)) key number h.first none q
+                  ∙ sym (first-push w h.groups g key number n.group.number told q);
             }
       ]
 
   -- there was no memory for what is wrong in a line
-  pub findings-lost : {from to next : R} {found : LineFindings} {s : ReaderState} {error : PropertiesError} (number : ℕ) (new : LineState) → HasFound reader e w from found s to
+  pub findings-lost : {from to next : R} {found : LineFindings} {s : ReaderState} {error : PropertiesError} (number : ℕ) (new : LineState)
+      → HasFound reader e w from found s to
       → JoinsNext reader s to number new next → IsBareError kind.Memory error → FindsFound reader e w from (Err error) next
-  findings-lost number new h n is = inr (found-lost number new (record { groups = h.groups; collected = h.collected; escapes = refl }) n is)
+  findings-lost number new h n is = inr (collected-lost number new h.collected n is)
 
   -- no line came
-  pub findings-failed : {from to next : R} {found : LineFindings} {s t : ReaderState} {why : LineError} {error : PropertiesError} → HasFound reader e w from found s to
+  pub findings-failed : {from to next : R} {found : LineFindings} {s t : ReaderState} {why : LineError} {error : PropertiesError}
+      → HasFound reader e w from found s to
       → s.is_done ≡ false → JoinsError reader s to why t next → IsLineError why error → FindsFound reader e w from (Err error) next
-  findings-failed h live f says = found-error (record { groups = h.groups; collected = h.collected; escapes = refl }) live f says
+  findings-failed h live f says = collected-error h.collected live f says
 
   -- no more came
   pub findings-read : {from to next : R} {found : LineFindings} {s : ReaderState} → HasFound reader e w from found s to → s.is_done ≡ true → next ≡ to
@@ -204,11 +213,11 @@ module _ {R : Type 0} {reader : Reader R} {e : Encoding} {w : Bool} where
         h.collected.read,
         h.collected.ended d,
         record {
-          escapes = malformed_escapes_of e bytes;
-          malformed = malformed_escapes_of-meets e bytes;
-          escape_findings = h.escapes ∙ ap (λ v. map escape_finding (escape_records v)) (escapes_in-groups e bytes h.groups (collected-lines h.collected d));
+          escapes = escapes_in h.groups;
+          malformed = found-in_groups _ (collected-lines h.collected d);
+          escape_findings = h.escapes;
           keys = key_entries (keys_in h.groups);
-          are_keys = groups-key_lines e bytes h.groups (collected-groups h.collected d);
+          are_keys = groups-key_lines (collected-lines h.collected d);
           repeat_findings = h.repeats;
         },
       )
@@ -228,7 +237,8 @@ adds-item w number x content old new is adds kept = (
 -- ---- a malformed escape
 
 -- It is added, and no key.
-pub adds-malformed : (w : Bool) (number : ℕ) (x : List ℕ) (error : PropertiesError) (old new : LineFindings) → IsNoItem number x error → kind_of error ≢ kind.Memory
+pub adds-malformed : (w : Bool) (number : ℕ) (x : List ℕ) (error : PropertiesError) (old new : LineFindings) → IsNoItem number x error
+    → kind_of error ≢ kind.Memory
     → new.escapes.items ≡ old.escapes.items ++ escape_finding (record { line_number = number; kind = kind_of error; in_comment = is_comment_line x }) ∷ []
     → new.repeats ≡ old.repeats → new.keys ≡ old.keys → AddsLine w number x old (Ok tt) new
 adds-malformed w number x error old new (inl (how, broken, is)) other added repeats keys = (
@@ -250,4 +260,12 @@ slice-findings e w from to (Err error) small h = slice-error e from to error sma
 -- Where a slice is doesn't matter.
 pub found-at : {e : Encoding} {w : Bool} {from to next : Bor (List ℕ)} {found : LineFindings} {state : ReaderState} → to.now ≡ next.now
     → HasFound slice_reader e w from found state to → HasFound slice_reader e w from found state next
-found-at same h = record { groups = h.groups; collected = collected-slice same h.collected; escapes = h.escapes; repeats = h.repeats; held = h.held; indexed = h.indexed; first = h.first }
+found-at same h = record {
+  groups = h.groups;
+  collected = collected-slice same h.collected;
+  escapes = h.escapes;
+  repeats = h.repeats;
+  held = h.held;
+  indexed = h.indexed;
+  first = h.first;
+}

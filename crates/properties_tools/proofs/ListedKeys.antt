@@ -1,5 +1,5 @@
 -- The keys of a source that are listed, found line by line.
-use Rattle.std.proofs.Common.{◌≡◌, ◌≢◌, ℕ, zero, suc, ◌+◌, ◌^◌, ◌≤◌, ◌<◌, List, [], ◌∷◌, ◌++◌, length, refl, ap, sym, ◌∙◌, inl, inr, subst, arith, append-nil, append_assoc}
+use Rattle.std.proofs.Common.{◌≡◌, ◌≢◌, ℕ, zero, suc, ◌+◌, ◌^◌, ◌<◌, List, [], ◌∷◌, ◌++◌, length, refl, ap, sym, ◌∙◌, inl, inr, subst, arith, append-nil, append_assoc}
 use Rattle.std.specs.Prelude.{◌⊎◌, AllPairs, true, false, Option, Some, None, Result, Ok, Err, bytes_eq, encode_utf8_all}
 use Rattle.std.specs.Str.{chars}
 use Rattle.std.proofs.lemmas.Bool.{cases_Bool}
@@ -16,15 +16,15 @@ use Rattle.properties_format.specs.Entries.{comment, pair, Entry, item, malforme
 use Rattle.properties_format.specs.Items.{Outcome, ignored, given, broken}
 use Rattle.properties_format.specs.Maps.{HasNoPair, PairComesBefore, AreKeys}
 use Rattle.properties_format.specs.ItemsToCome.{ReaderState, start}
-use Rattle.properties_format.specs.MalformedEscapes.{escapes_from}
-use Rattle.properties_format.specs.EditedPairs.{AreInComments, ArePairs, pair_from}
+use Rattle.properties_format.specs.EditedPairs.{AreInComments, pair_from}
 use Rattle.properties_format.specs.Computed.Items.{outcome_of}
-use Rattle.properties_format.specs.Computed.MalformedEscapes.{escapes_in, malformed_escapes_of}
+use Rattle.properties_format.specs.Computed.MalformedEscapes.{escapes_in}
 use Rattle.properties_format.specs.Computed.Maps.{value_in}
 use Rattle.properties_format.specs.Computed.Parts.{outcome_key}
-use Rattle.properties_format.proofs.Edits.PairValues.{pairs_in, pairs_in-push, pairs_of-meets, pairs_of-only}
+use Rattle.properties_format.proofs.Edits.PairValues.{pairs_in, pairs_in-push, pairs_of-only}
+use Rattle.properties_format.proofs.Found.{found-in_groups}
 use Rattle.properties_format.proofs.Keys.{contained, contains, pair_key, pair_keys, are-keys}
-use Rattle.properties_format.proofs.MalformedEscapes.{escapes_in-append, escapes_in-groups, malformed_escapes_of-meets}
+use Rattle.properties_format.proofs.MalformedEscapes.{escapes-are}
 use Rattle.properties_lines.specs.LineJoiner.{LineState, JoinsNext, JoinsError}
 use Rattle.properties_lines.specs.declared.error.LineError.{LineError}
 use Rattle.properties_items.specs.Errors.{IsBareError, IsLineError}
@@ -33,15 +33,15 @@ use Rattle.properties_items.specs.declared.error.ErrorKind.TheVariants as kind
 use Rattle.properties_items.specs.declared.error.PropertiesError.{PropertiesError}
 use Rattle.java_properties.specs.MalformedEscapes.{FailsToFind, StopsFinding}
 use Rattle.java_properties.specs.Private.LineByLine.{Collected}
-use Rattle.java_properties.proofs.MalformedEscapes.{collected-start, collected-next, collected-lines, collected-groups, found-lost}
+use Rattle.java_properties.proofs.MalformedEscapes.{collected-start, collected-next, collected-lines, collected-lost}
 use Rattle.java_properties.proofs.SliceReads.{collected-slice, slice_reader, slice-whole}
-use Rattle.java_properties.proofs.SoughtPairs.{HasSoughtPairs, StopsAtPair, pairs-refused, pairs-error, slice-tells_pairs}
+use Rattle.java_properties.proofs.SoughtPairs.{HasSoughtPairs, StopsAtPair, comments-push, pairs-refused, pairs-error, slice-tells_pairs}
 use Rattle.properties_tools.proofs.LookedUp.{lost}
 use Rattle.properties_format.specs.Computed.Keys.{Has, HasNot, AreFirstOf}
 use Rattle.properties_tools.specs.Propedit.Listing.{is_key_listed, list_status, listed_keys, AreKeysOf}
 use Rattle.properties_tools.specs.Propedit.Texts.{end_byte, ended, ended_all}
-use Rattle.properties_tools.proofs.LastPairs.{first-same, first-new, has_not, has-left, has-last, has-split, comments-join}
-use Rattle.properties_tools.specs.declared.propedit.asked.TextEnd.{TextEnd}
+use Rattle.properties_tools.proofs.LastPairs.{first-same, first-new, has_not, has-left, has-last, has-split}
+use Rattle.properties_tools.specs.declared.propedit.request.TextEnd.{TextEnd}
 use Rattle.properties_tools.specs.Private.FirstKeys.{also_held, none_held, AddsKey, IsIndexed}
 use Rattle.properties_tools.specs.Private.ListedKeys.{FindsListed, HasListedText, ListsKey, ListsLine}
 use Rattle.properties_tools.specs.declared.propedit.first_keys.FirstKeys.{FirstKeys}
@@ -87,7 +87,8 @@ has-listed prefix key (k ∷ ks) h = elim (cases_Bool (is_key_listed prefix k)) 
     one : Has key (k ∷ listed_keys prefix ks) → (k ≡ key) ⊎ Has key (listed_keys prefix ks)
     one m = m
 
-listed-push : (prefix key : List ℕ) (ks : List (List ℕ)) → is_key_listed prefix key ≡ true → listed_keys prefix (ks ++ key ∷ []) ≡ listed_keys prefix ks ++ key ∷ []
+listed-push : (prefix key : List ℕ) (ks : List (List ℕ)) → is_key_listed prefix key ≡ true
+    → listed_keys prefix (ks ++ key ∷ []) ≡ listed_keys prefix ks ++ key ∷ []
 listed-push prefix key [] p = rw p refl
 listed-push prefix key (k ∷ ks) p = elim (cases_Bool (is_key_listed prefix k)) [
   | inl q ↦ rw q (ap (λ v. k ∷ v) (listed-push prefix key ks p))
@@ -112,7 +113,8 @@ pub record AreListed (prefix : List ℕ) (end : TextEnd) (all : List (List ℕ))
   pub text : s.text.items ≡ ended_all end (listed_keys prefix keys)
 
 -- one key more
-pub listed-more : (prefix : List ℕ) (end : TextEnd) (all : List (List ℕ)) (key : List ℕ) (s t : FirstKeys) → AreListed prefix end all s → ListsKey prefix end (Some key) s t
+pub listed-more : (prefix : List ℕ) (end : TextEnd) (all : List (List ℕ)) (key : List ℕ) (s t : FirstKeys) → AreListed prefix end all s
+    → ListsKey prefix end (Some key) s t
     → AreListed prefix end (all ++ key ∷ []) t
 listed-more prefix end all key s t h (inl (p, same)) = elim (has_or key h.keys) [
   | inl m ↦ rw same (there m)
@@ -166,12 +168,14 @@ listed-more prefix end all key s t h (inr (p, (number, first, adds))) = elim (ad
     ended-push e (j ∷ ks) k = ap (λ v. ended e j ++ v) (ended-push e ks k) ∙ sym (append_assoc (ended e j) (ended_all e ks) (ended e k))
 
 -- what a key that is listed adds
-pub lists-key : (prefix : List ℕ) (end : TextEnd) (key : List ℕ) (number first : ℕ) (s t : FirstKeys) → is_key_listed prefix key ≡ true → AddsKey end key number s first t
+pub lists-key : (prefix : List ℕ) (end : TextEnd) (key : List ℕ) (number first : ℕ) (s t : FirstKeys) → is_key_listed prefix key ≡ true
+    → AddsKey end key number s first t
     → ListsKey prefix end (Some key) s t
 lists-key prefix end key number first s t listed adds = inr (listed, (number, first, adds))
 
 -- These keys were collected from the groups that came, in which only comments are malformed.
-pub record HasListed {R : Type 0} (reader : Reader R) (e : Encoding) (from : R) (prefix : List ℕ) (end : TextEnd) (s : FirstKeys) (state : ReaderState) (to : R) : Type 0 where
+pub record HasListed {R : Type 0} (reader : Reader R) (e : Encoding) (from : R) (prefix : List ℕ) (end : TextEnd) (s : FirstKeys) (state : ReaderState)
+    (to : R) : Type 0 where
   pub groups : List (List Line)
   pub collected : Collected reader e from groups state to
   pub in_comments : AreInComments (escapes_in groups)
@@ -187,7 +191,8 @@ listed-line prefix end gs g s t h lists =
     same : t ≡ s → AreListed prefix end (pair_keys (pairs_in gs) ++ []) t
     same is = rw (is, append-nil) h
 
-    by : (o : Outcome) → ListsKey prefix end (outcome_key o) s t → AreListed prefix end (pair_keys (pairs_in gs) ++ pair_keys (pair_from (first_number g) o [])) t
+    by : (o : Outcome) → ListsKey prefix end (outcome_key o) s t
+        → AreListed prefix end (pair_keys (pairs_in gs) ++ pair_keys (pair_from (first_number g) o [])) t
     by ignored k = same k
     by (given (comment text)) k = same k
     by (given (pair key value)) k = listed-more prefix end (pair_keys (pairs_in gs)) key s t h k
@@ -195,7 +200,8 @@ listed-line prefix end gs g s t h lists =
 
 module _ {R : Type 0} {reader : Reader R} {e : Encoding} {prefix : List ℕ} {end : TextEnd} where
   -- before the first line
-  pub listed-none : (from : R) (state : ReaderState) (s : FirstKeys) → state ≡ start e → IsIndexed none_held s → s.text.items ≡ [] → HasListed reader e from prefix end s state from
+  pub listed-none : (from : R) (state : ReaderState) (s : FirstKeys) → state ≡ start e → IsIndexed none_held s → s.text.items ≡ []
+      → HasListed reader e from prefix end s state from
   listed-none from state s is indexed none = rw is (record {
     groups = [];
     collected = collected-start e from;
@@ -218,28 +224,29 @@ module _ {R : Type 0} {reader : Reader R} {e : Encoding} {prefix : List ℕ} {en
 
   -- a line came
   pub listed-next : {from to next : R} {s t : FirstKeys} {state : ReaderState} (number : ℕ) (new : LineState) → HasListed reader e from prefix end s state to
-      → (n : JoinsNext reader state to number new next) → ListsLine number (chars new.line) prefix end s (Ok tt) t → HasListed reader e from prefix end t new.state next
+      → (n : JoinsNext reader state to number new next) → ListsLine number (chars new.line) prefix end s (Ok tt) t
+      → HasListed reader e from prefix end t new.state next
   listed-next {s = s} {t = t} number new h n lists =
       let g = n.group.first ∷ n.group.others in
-      let here : AreInComments (escapes_in (g ∷ [])) =
-      subst (λ m. AreInComments (escapes_from m (joined g) (outcome_of (joined g)) [])) n.group.number
-      (subst (λ x. AreInComments (escapes_from number x (outcome_of x) [])) n.group.text lists.0) in
       record {
         groups = h.groups ++ g ∷ [];
         collected = collected-next number new h.collected n;
-        in_comments = subst AreInComments (sym (escapes_in-append h.groups (g ∷ []))) (comments-join (escapes_in h.groups) (escapes_in (g ∷ [])) h.in_comments here);
+        in_comments = comments-push h.groups g number (chars new.line) n.group.number n.group.text h.in_comments lists.0;
         listed = listed-line prefix end h.groups g s t h.listed (subst (λ x. ListsKey prefix end (outcome_key (outcome_of x)) s t) n.group.text lists.1);
       }
 
   -- a line came whose key isn't added
-  pub listed-lost : {from to next : R} {s : FirstKeys} {state : ReaderState} {error : PropertiesError} (number : ℕ) (new : LineState) → HasListed reader e from prefix end s state to
-      → JoinsNext reader state to number new next → ((is_comment_line (chars new.line) ≡ false) × IsNoItem number (chars new.line) error) ⊎ IsBareError kind.Memory error
+  pub listed-lost : {from to next : R} {s : FirstKeys} {state : ReaderState} {error : PropertiesError} (number : ℕ) (new : LineState)
+      → HasListed reader e from prefix end s state to
+      → JoinsNext reader state to number new next
+      → ((is_comment_line (chars new.line) ≡ false) × IsNoItem number (chars new.line) error) ⊎ IsBareError kind.Memory error
       → StopsAtPair reader e from error next ⊎ (FailsToFind reader e from error next ⊎ StopsFinding reader e from error next)
   listed-lost number new h n (inl why) = pairs-refused number new (sought h).1 n why
-  listed-lost number new h n (inr says) = inr (inr (found-lost number new (record { groups = h.groups; collected = h.collected; escapes = refl }) n says))
+  listed-lost number new h n (inr says) = inr (inr (collected-lost number new h.collected n says))
 
   -- no line came
-  pub listed-failed : {from to next : R} {s : FirstKeys} {state after : ReaderState} {why : LineError} {error : PropertiesError} → HasListed reader e from prefix end s state to
+  pub listed-failed : {from to next : R} {s : FirstKeys} {state after : ReaderState} {why : LineError} {error : PropertiesError}
+      → HasListed reader e from prefix end s state to
       → state.is_done ≡ false → JoinsError reader state to why after next → IsLineError why error
       → StopsAtPair reader e from error next ⊎ (FailsToFind reader e from error next ⊎ StopsFinding reader e from error next)
   listed-failed h live f says = pairs-error (sought h).1 live f says
@@ -254,16 +261,12 @@ module _ {R : Type 0} {reader : Reader R} {e : Encoding} {prefix : List ℕ} {en
         h.collected.read,
         h.collected.ended d,
         (
-          (
-            malformed_escapes_of e bytes,
-            malformed_escapes_of-meets e bytes,
-            subst AreInComments (escapes_in-groups e bytes h.groups (collected-lines h.collected d)) h.in_comments,
-          ),
+          escapes-are AreInComments (collected-lines h.collected d) h.in_comments,
           (
             h.listed.keys,
             record {
               entries = pairs_in h.groups;
-              are = subst (ArePairs e bytes) (sym (ap pairs_in (collected-groups h.collected d))) (pairs_of-meets e bytes);
+              are = found-in_groups _ (collected-lines h.collected d);
               each = are-keys (pairs_in h.groups) (pair_keys (pairs_in h.groups)) h.listed.keys refl h.listed.first;
             },
             h.listed.text,
@@ -290,10 +293,12 @@ status-some end (k ∷ ks) h = refl
 abbrev pub CollectsKeys : {R : Type 0} → Reader R → Encoding → List ℕ → TextEnd → R → Result (Vec ℕ) PropertiesError → R → Type 0
 CollectsKeys reader e prefix end from (Ok text) to =
     (bytes : List ℕ) × HasRead reader from bytes to × (has_ended reader to ≡ true) × HasListedText e bytes prefix end text.items
-CollectsKeys reader e prefix end from (Err error) to = StopsAtPair reader e from error to ⊎ (FailsToFind reader e from error to ⊎ StopsFinding reader e from error to)
+CollectsKeys reader e prefix end from (Err error) to =
+    StopsAtPair reader e from error to ⊎ (FailsToFind reader e from error to ⊎ StopsFinding reader e from error to)
 
 -- What collecting the keys of a slice returns. In a sound source it fails only for want of memory.
-pub slice-listed : (e : Encoding) (prefix : List ℕ) (end : TextEnd) (from to : Bor (List ℕ)) (result : Result (Vec ℕ) PropertiesError) → length from.now + 1 < 2 ^ 64
+pub slice-listed : (e : Encoding) (prefix : List ℕ) (end : TextEnd) (from to : Bor (List ℕ)) (result : Result (Vec ℕ) PropertiesError)
+    → length from.now + 1 < 2 ^ 64
     → CollectsKeys slice_reader e prefix end from result to → FindsListed e from.now prefix end result
 slice-listed e prefix end from to (Ok text) small h = subst (λ v. HasListedText e v prefix end text.items) (slice-whole h.1 h.2) h.3
 slice-listed e prefix end from to (Err error) small h =
@@ -331,7 +336,8 @@ asymmetric entries key other p q =
     one-first key other p.value q.value p.number q.number p.before q.before p.after q.after (sym p.division ∙ q.division) p.none_before q.none_before p.differ
 
 -- A key after the first comes after it.
-first-before : (entries : List Entry) (k key : List ℕ) (ks : List (List ℕ)) → AllPairs (PairComesBefore entries) (k ∷ ks) → Has key ks → PairComesBefore entries k key
+first-before : (entries : List Entry) (k key : List ℕ) (ks : List (List ℕ)) → AllPairs (PairComesBefore entries) (k ∷ ks) → Has key ks
+    → PairComesBefore entries k key
 first-before entries k key ks all h =
     let c = contains key ks h in
     subst (PairComesBefore entries k) c.2 (all zero (suc c.0) key (omega arith) (let l = c.1 in omega arith))

@@ -1,8 +1,7 @@
 -- Values of some keys that are looked up.
-use Rattle.std.proofs.Common.{◌≡◌, ℕ, ◌+◌, ◌<◌, Bool, true, false, List, [], ◌∷◌, ◌++◌, length, map, drop, get_or, zero, suc, refl, sym, ap, ◌∙◌, inl, inr, subst, arith}
+use Rattle.std.proofs.Common.{◌≡◌, ℕ, ◌+◌, ◌<◌, false, List, [], ◌∷◌, ◌++◌, length, map, drop, get_or, zero, suc, refl, sym, ap, ◌∙◌, inl, inr, subst, arith}
 use Rattle.std.specs.Prelude.{◌⊎◌, ◌==◌, Option, Some, None}
 use Rattle.std.specs.declared.string.String.{String}
-use Rattle.std.proofs.lemmas.List.{length-map}
 use native.Mathlib.Numerals.{unary_clauses}
 use Rattle.properties_format.specs.Encoding.{Encoding}
 use Rattle.properties_format.specs.Edits as format
@@ -69,7 +68,8 @@ module _ (e : Encoding) (source : List ℕ) where
   none-absent (k ∷ ks) (Some value ∷ vs) h is = ((value, h.0), none-absent ks vs h.1 is)
   none-absent (k ∷ ks) (None ∷ vs) h is = absurd (cc)
 
-  pub one-absent : (keys : List (List ℕ)) (values : List (Option (List ℕ))) (key : List ℕ) → HaveValues e source keys values → Some key ≡ first_without keys values
+  pub one-absent : (keys : List (List ℕ)) (values : List (Option (List ℕ))) (key : List ℕ) → HaveValues e source keys values
+      → Some key ≡ first_without keys values
       → IsFirstAbsent e source keys key
   one-absent [] values key h is = absurd (cc)
   one-absent (k ∷ ks) [] key h is = absurd h
@@ -81,7 +81,8 @@ module _ (e : Encoding) (source : List ℕ) where
       record { before = []; after = ks; division = ap (λ v. v ∷ ks) same; passed = tt; absent = subst (λ v. HasPairValue e source v None) same h.0 }
 
 -- One more edit sets a key,
-pub edits-put : (edits : List format.Edit) (edit : format.Edit) (key : List ℕ) → Some key ≡ key_set edit → keys_set (edits ++ edit ∷ []) ≡ keys_set edits ++ key ∷ []
+pub edits-put : (edits : List format.Edit) (edit : format.Edit) (key : List ℕ) → Some key ≡ key_set edit
+    → keys_set (edits ++ edit ∷ []) ≡ keys_set edits ++ key ∷ []
 edits-put [] (put k v) key is = ap (λ w. w ∷ []) (cc)
 edits-put [] (remove k) key is = absurd (cc)
 edits-put [] (set_value k v) key is = ap (λ w. w ∷ []) (cc)

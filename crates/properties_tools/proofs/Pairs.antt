@@ -4,7 +4,7 @@ use Rattle.std.proofs.Common.{refl, ap, sym, ◌∙◌, inl, inr, append-nil, ad
 use Rattle.std.specs.Prelude.{Result, Ok, Err}
 use Rattle.counted_io.specs.Streams.{Sink, HasWritten}
 use Rattle.counted_io.proofs.Streams.{faulted-more, written-flushed}
-use Rattle.properties_format.specs.Encoding.{Encoding}
+use Rattle.properties_format.specs.Repertoire.{Repertoire}
 use Rattle.properties_format.specs.Entries.{comment, pair, Entry, item, malformed, read_fault}
 use Rattle.properties_format.specs.Pairs.{Pair, pairs_in, calls_of}
 use Rattle.properties_format.specs.Writing.{pair_call, is_accepted, settings_after, line_count_after}
@@ -51,43 +51,43 @@ refused-kind only w key value kind.Memory live same reason = inl refl
 refused-kind only w key value other live same reason = absurd reason
 
 -- The pairs of these items were written by a new writer, which is now this one.
-pub record HasWrittenPairs {W : Type 0} (sink : Sink W) (e : Encoding) (only : Bool) (output : W) (items : List Entry) (w : Writing W) : Type 0 where
-  pub made : HasMade sink (pair_writer e only output) (pair_calls items) w
+pub record HasWrittenPairs {W : Type 0} (sink : Sink W) (r : Repertoire) (output : W) (items : List Entry) (w : Writing W) : Type 0 where
+  pub made : HasMade sink (pair_writer r output) (pair_calls items) w
 
 bare : {k l : ErrorKind} {error : PropertiesError} → l ≡ k → IsBareError l error → IsBareError k error
 bare same is = record { its_kind = is.its_kind ∙ same; its_line = is.its_line; its_cause = is.its_cause; its_text = is.its_text }
 
-module _ {W : Type 0} {sink : Sink W} {e : Encoding} {only : Bool} {output : W} {items : List Entry} {w : Writing W}
-    (h : HasWrittenPairs sink e only output items w) where
+module _ {W : Type 0} {sink : Sink W} {r : Repertoire} {output : W} {items : List Entry} {w : Writing W}
+    (h : HasWrittenPairs sink r output items w) where
   -- a comment is not written
-  pub pairs-comment : (number : ℕ) (text : List ℕ) → HasWrittenPairs sink e only output (items ++ (item number (comment text) ∷ [])) w
+  pub pairs-comment : (number : ℕ) (text : List ℕ) → HasWrittenPairs sink r output (items ++ (item number (comment text) ∷ [])) w
   pairs-comment number text = record { made = rw (pair_calls-append, append-nil) h.made }
 
   -- a pair is
   pub pairs-more : {new : Writing W} (number : ℕ) (key value : List ℕ) → HasWrittenLine sink w (pair key value) new
-      → HasWrittenPairs sink e only output (items ++ (item number (pair key value) ∷ [])) new
+      → HasWrittenPairs sink r output (items ++ (item number (pair key value) ∷ [])) new
   pairs-more number key value k = record { made = rw pair_calls-append (made-more h.made (pair-made key value k)) }
 
   -- the bytes that the sink took
-  pairs-written : HasWritten sink output (pair_lines e only items) w.sink
+  pairs-written : HasWritten sink output (pair_lines r items) w.sink
   pairs-written = h.made.written
 
   -- the writer has not failed, and is set as at first
   pub pairs-live : w.failed ≡ false
   pairs-live = ap (λ (v : Writing W). v.failed) h.made.after
 
-  pairs-settings : w.settings ≡ settings_with only
-  pairs-settings = ap (λ (v : Writing W). v.settings) h.made.after ∙ settings-kept only (pairs_in items)
+  pairs-settings : w.settings ≡ settings_with r.ascii_only
+  pairs-settings = ap (λ (v : Writing W). v.settings) h.made.after ∙ settings-kept r.ascii_only (pairs_in items)
 
   pairs-lines : w.lines ≡ pair_count items
-  pairs-lines = ap (λ (v : Writing W). v.lines) h.made.after ∙ lines-counted only 0 (pairs_in items) ∙ zero-add (pair_count items)
+  pairs-lines = ap (λ (v : Writing W). v.lines) h.made.after ∙ lines-counted r.ascii_only 0 (pairs_in items) ∙ zero-add (pair_count items)
 
-  pairs-next : (key value : List ℕ) → next_line w (pair key value) ≡ next_pair_line e only items key value
+  pairs-next : (key value : List ℕ) → next_line w (pair key value) ≡ next_pair_line r items key value
   pairs-next key value = let encoding = ap (λ (v : Writing W). v.encoding) h.made.after in rw (encoding, pairs-settings, pairs-lines) refl
 
   -- a write failed
   pub pairs-fail : {new : Writing W} {error : PropertiesError} (key value : List ℕ) → FailsInLine sink w (pair key value) error new
-      → FailsInPair sink e only output items key value error new.sink
+      → FailsInPair sink r output items key value error new.sink
   pairs-fail key value k = record {
     part = k.sent.part;
     begins = rw pairs-next at k.sent.begins;
@@ -99,10 +99,10 @@ module _ {W : Type 0} {sink : Sink W} {e : Encoding} {only : Bool} {output : W} 
 
   -- a pair was refused, and nothing was written
   pub pairs-refused : {new : Writing W} {error : PropertiesError} (key value : List ℕ) → RefusesLine w (pair key value) error new
-      → RefusesPair sink e only output items error new.sink
+      → RefusesPair sink r output items error new.sink
   pairs-refused {error = error} key value k = record {
     written = rw k.same pairs-written;
-    is = elim (refused-kind only w key value (kind_of error) pairs-live pairs-settings k.reason) [
+    is = elim (refused-kind r.ascii_only w key value (kind_of error) pairs-live pairs-settings k.reason) [
       | inl is ↦ inl (bare is k.is)
       | inr is ↦ inr (bare is.0 k.is, ap (λ n. n + 1) (sym pairs-lines) ∙ is.1)
     ];
@@ -110,20 +110,20 @@ module _ {W : Type 0} {sink : Sink W} {e : Encoding} {only : Bool} {output : W} 
 
   -- the flush after the last pair
   pub pairs-flushed : {new : Writing W} → HasFlushedSink sink w new
-      → HasWritten sink output (pair_lines e only items) new.sink × (sink.is_flushed new.sink ≡ true)
+      → HasWritten sink output (pair_lines r items) new.sink × (sink.is_flushed new.sink ≡ true)
   pairs-flushed k = (written-flushed pairs-written k.flushed, k.flushed.flushed)
 
   pub pairs-flush-failed : {new : Writing W} {error : PropertiesError} → FailsInFlush sink w error new
-      → FailsAfterPairs sink e only output items error new.sink
+      → FailsAfterPairs sink r output items error new.sink
   pairs-flush-failed k = record { middle = w.sink; written = pairs-written; source = k.cause; flushed = k.flushed; is = k.is }
 
   -- a flush whose result is dropped
   pub pairs-flush : (new : Writing W) (result : Result Unit PropertiesError) → Flushes sink w result new
-      → TakesAndFlushes sink output (pair_lines e only items) new.sink
+      → TakesAndFlushes sink output (pair_lines r items) new.sink
   pairs-flush new (Ok done) k = inl (pairs-flushed k)
   pairs-flush new (Err error) (inl k) = absurd (let live = pairs-live in let failed = k.failed in cc)
   pairs-flush new (Err error) (inr k) = inr (w.sink, pairs-written, (k.cause, k.flushed))
 
 -- before the first pair
-pub pairs-none : {W : Type 0} (sink : Sink W) (e : Encoding) (only : Bool) (output : W) → HasWrittenPairs sink e only output [] (pair_writer e only output)
-pairs-none sink e only output = record { made = made-none (pair_writer e only output) }
+pub pairs-none : {W : Type 0} (sink : Sink W) (r : Repertoire) (output : W) → HasWrittenPairs sink r output [] (pair_writer r output)
+pairs-none sink r output = record { made = made-none (pair_writer r output) }

@@ -24,6 +24,7 @@ starts-encoded k p =
     ) ((λ h. h), (λ h. h))
 
 -- The test of the bytes is that of the characters.
-pub starts-chars : (r : Bool) (key prefix : List ℕ) → IsUtf8 key → IsUtf8 prefix → r ≡ starts_with eqb key prefix → r ≡ starts_with eqb (chars key) (chars prefix)
+pub starts-chars : (r : Bool) (key prefix : List ℕ) → IsUtf8 key → IsUtf8 prefix → r ≡ starts_with eqb key prefix
+    → r ≡ starts_with eqb (chars key) (chars prefix)
 starts-chars r key prefix key-is prefix-is h =
     h ∙ ap₂ (λ v w. starts_with eqb v w) (sym (encodes-chars key key-is)) (sym (encodes-chars prefix prefix-is)) ∙ starts-encoded (chars key) (chars prefix)

@@ -1,9 +1,10 @@
 -- What filtering wrote is read back, and filtering it changes nothing.
-use Rattle.std.proofs.Common.{◌≡◌, ◌++◌, ℕ, Bool, false, List, [], refl, ◌∙◌, inl, inr, subst, append-nil}
+use Rattle.std.proofs.Common.{◌≡◌, ◌++◌, ℕ, List, [], refl, ◌∙◌, inl, inr, subst, append-nil}
 use Rattle.std.specs.Prelude.{◌⊎◌, Result, Ok, Err}
 use Rattle.counted_io.specs.Streams.{Reader, Sink, HasWritten, HasFaulted, IsProperPrefix}
 use Rattle.counted_io.proofs.Streams.{written-failed_flush}
 use Rattle.properties_format.specs.Encoding.{Encoding, output_encoding}
+use Rattle.properties_format.specs.Repertoire.{Repertoire, all_of}
 use Rattle.properties_format.specs.Entries.{Entry}
 use Rattle.properties_format.specs.Lines.{end}
 use Rattle.properties_format.specs.Items.{IsItems}
@@ -19,41 +20,41 @@ use Rattle.properties_tools.specs.Filter.{pair_lines, next_pair_line, StopsInRea
 
 module _ (e : Encoding) (items : List Entry) where
   -- filtering the lines of pairs writes the same
-  lines-same : pair_lines (output_encoding e) false (items_after 0 (pairs_in items)) ≡ pair_lines e false items
+  lines-same : pair_lines (all_of (output_encoding e)) (items_after 0 (pairs_in items)) ≡ pair_lines (all_of e) items
   lines-same = rw (output_encoding-own, pairs_in-items) refl
 
   module _ (scalars : ArePairsOfScalars (pairs_in items)) where
     -- the lines of pairs of scalar values are read back as these pairs
-    lines-read : items_of (output_encoding e) (pair_lines e false items) end ≡ items_after 0 (pairs_in items)
+    lines-read : items_of (output_encoding e) (pair_lines (all_of e) items) end ≡ items_after 0 (pairs_in items)
     lines-read = items_of-pairs (output_encoding e) default_settings (output_encoding-own e) default_settings-good
         (pairs_in items) (pairs-accepted (pairs_in items)) scalars
 
-    lines-back : IsItems (output_encoding e) (pair_lines e false items) end (items_after 0 (pairs_in items))
-    lines-back = subst (IsItems (output_encoding e) (pair_lines e false items) end) lines-read
-        (items_of-meets (output_encoding e) (pair_lines e false items) end)
+    lines-back : IsItems (output_encoding e) (pair_lines (all_of e) items) end (items_after 0 (pairs_in items))
+    lines-back = subst (IsItems (output_encoding e) (pair_lines (all_of e) items) end) lines-read
+        (items_of-meets (output_encoding e) (pair_lines (all_of e) items) end)
 
     -- and as nothing else
-    lines-only : (others : List Entry) → IsItems (output_encoding e) (pair_lines e false items) end others → others ≡ items_after 0 (pairs_in items)
-    lines-only others is = items_of-only (output_encoding e) (pair_lines e false items) end others is ∙ lines-read
+    lines-only : (others : List Entry) → IsItems (output_encoding e) (pair_lines (all_of e) items) end others → others ≡ items_after 0 (pairs_in items)
+    lines-only others is = items_of-only (output_encoding e) (pair_lines (all_of e) items) end others is ∙ lines-read
 
 -- ---- what the sink took
 
 -- the lines of the pairs, and then at most a part of one line more
-pub record Took {W : Type 0} (sink : Sink W) (e : Encoding) (only : Bool) (items : List Entry) (old new : W) : Type 0 where
+pub record Took {W : Type 0} (sink : Sink W) (r : Repertoire) (items : List Entry) (old new : W) : Type 0 where
   pub part : List ℕ
-  pub begins : (part ≡ []) ⊎ ((key : List ℕ) × (value : List ℕ) × IsProperPrefix part (next_pair_line e only items key value))
-  pub taken : HasWritten sink old (pair_lines e only items ++ part) new ⊎ HasFaulted sink old (pair_lines e only items ++ part) new
+  pub begins : (part ≡ []) ⊎ ((key : List ℕ) × (value : List ℕ) × IsProperPrefix part (next_pair_line r items key value))
+  pub taken : HasWritten sink old (pair_lines r items ++ part) new ⊎ HasFaulted sink old (pair_lines r items ++ part) new
 
-module _ {W : Type 0} {sink : Sink W} {e : Encoding} {only : Bool} {items : List Entry} {old new : W} where
+module _ {W : Type 0} {sink : Sink W} {r : Repertoire} {items : List Entry} {old new : W} where
   -- no more than the lines
-  whole : HasWritten sink old (pair_lines e only items) new ⊎ HasFaulted sink old (pair_lines e only items) new → Took sink e only items old new
+  whole : HasWritten sink old (pair_lines r items) new ⊎ HasFaulted sink old (pair_lines r items) new → Took sink r items old new
   whole h = record { part = []; begins = inl refl; taken = rw append-nil h }
 
   -- however filtering stopped
   pub took : {R : Type 0} {reader : Reader R} {input input' : R} {error : PropertiesError}
-      → StopsInReading reader sink e only input old items error input' new
-      ⊎ (StopsInWriting reader sink e only input old items error input' new ⊎ StopsInFlush reader sink e only input old items error input' new)
-      → Took sink e only items old new
+      → StopsInReading reader sink r input old items error input' new
+      ⊎ (StopsInWriting reader sink r input old items error input' new ⊎ StopsInFlush reader sink r input old items error input' new)
+      → Took sink r items old new
   took (inl h) = elim h.written [ inl k ↦ whole (inl k.0) | inr k ↦ whole (inr (written-failed_flush k.1 k.2.1)) ]
   took (inr (inl h)) = elim h.fails [
     | inl k ↦ record { part = k.part; begins = inr (h.key, h.value, k.begins); taken = inr k.faulted }
@@ -63,12 +64,12 @@ module _ {W : Type 0} {sink : Sink W} {e : Encoding} {only : Bool} {items : List
 
 -- What filtering says of its output.
 pub filters_settles : {R W : Type 0} (reader : Reader R) (sink : Sink W) (e : Encoding) (input input' : R) (output output' : W)
-    (result : Result Unit PropertiesError) → Filters reader sink e false input output result input' output'
+    (result : Result Unit PropertiesError) → Filters reader sink (all_of e) input output result input' output'
     → Settles reader sink e input output result input' output'
 filters_settles reader sink e input input' output output' (Ok done) h = record {
   items = h.items;
   reads = h.reads;
-  bytes = pair_lines e false h.items;
+  bytes = pair_lines (all_of e) h.items;
   written = h.written;
   back = lines-back e h.items h.scalars;
   only = lines-only e h.items h.scalars;

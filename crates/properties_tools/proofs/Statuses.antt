@@ -9,7 +9,7 @@ use Rattle.properties_items.specs.declared.error.PropertiesError.{PropertiesErro
 use Rattle.properties_tools.specs.Propedit.Change.{Changes}
 use Rattle.properties_tools.specs.Propedit.Failures.{failure_status, PrintsFailure}
 use Rattle.properties_tools.specs.Propedit.InPlace.{PrintsAbsent}
-use Rattle.properties_tools.specs.declared.propedit.asked.Change.{Change}
+use Rattle.properties_tools.specs.declared.propedit.request.Change.{Change}
 use Rattle.properties_tools.specs.declared.propedit.error.Failure.{Failure}
 use Rattle.properties_tools.specs.declared.propedit.error.Failure.TheVariants.{Absent, HoldsZero, NotUtf8, NotUtf8ByMark, NotUtf16, Malformed, Input, Output}
 
@@ -25,7 +25,8 @@ statuses (Input error) = inr refl
 statuses (Output error) = inr refl
 
 module _ {W : Type 0} (sink : Sink W) (old new : W) (path : List ℕ) (e : Encoding) (change : Change) (failure : Failure) (status : ℕ) where
-  of-status : ((error : PropertiesError) × (failure ≡ Input error)) ⊎ ((source : List ℕ) × Changes e source change (Err failure)) → status ≡ failure_status failure
+  of-status : ((error : PropertiesError) × (failure ≡ Input error)) ⊎ ((source : List ℕ) × Changes e source change (Err failure))
+      → status ≡ failure_status failure
       → PrintsFailure sink old path failure new → status ≡ 1 → ((key : String Global) × (failure ≡ Absent key)) ⊎ (failure_status failure ≡ 2)
       → PrintsAbsent sink old path e change new
   of-status why is prints one (inr two) = absurd (let k : 1 ≡ 2 = sym one ∙ is ∙ two in cc)
@@ -38,6 +39,7 @@ module _ {W : Type 0} (sink : Sink W) (old new : W) (path : List ℕ) (e : Encod
   }
 
   -- The status 1 says that a change is refused for a key.
-  pub absent-status : ((error : PropertiesError) × (failure ≡ Input error)) ⊎ ((source : List ℕ) × Changes e source change (Err failure)) → status ≡ failure_status failure
+  pub absent-status : ((error : PropertiesError) × (failure ≡ Input error)) ⊎ ((source : List ℕ) × Changes e source change (Err failure))
+      → status ≡ failure_status failure
       → PrintsFailure sink old path failure new → status ≡ 1 → PrintsAbsent sink old path e change new
   absent-status why is prints one = of-status why is prints one (statuses failure)

@@ -1,11 +1,10 @@
 -- Why a source is refused.
-use Rattle.std.proofs.Common.{◌≡◌, List, ℕ, true, false, [], ◌∷◌, ◌++◌, refl, sym, ap, ◌∙◌, inl, inr}
-use Rattle.std.specs.Prelude.{Option, Some, None}
+use Rattle.std.proofs.Common.{◌≡◌, List, ℕ, false, [], ◌∷◌, ◌++◌, refl, sym, ap, ◌∙◌, inl, inr}
+use Rattle.std.specs.Prelude.{Some, None}
 use Rattle.std.proofs.lemmas.Bool.{cases_Bool, cond-true, cond-false}
 use Rattle.properties_format.specs.EditedPairs.{AreInComments}
 use Rattle.properties_format.specs.Encoding.{Encoding}
 use Rattle.properties_format.specs.MalformedEscapes as format
-use Rattle.properties_format.specs.MalformedEscapes.{AreMalformedEscapes}
 use Rattle.java_properties.specs.MalformedEscapes.{escape_record, escape_records}
 use Rattle.java_properties.specs.SourceFindings.{HasMalformed}
 use Rattle.properties_items.specs.declared.findings.MalformedEscape.{MalformedEscape}
@@ -33,14 +32,23 @@ one-first [] found h = absurd (cc)
 one-first (m ∷ ms) found h = elim (cases_Bool m.in_comment) [
   | inl c ↦
       let k = one-first ms found (h ∙ cond-true m.in_comment _ _ c) in
-      record { before = m ∷ k.before; escape = k.escape; after = k.after; division = ap (λ v. m ∷ v) k.division; passed = (c, k.passed); in_pair = k.in_pair; is = k.is }
+      record {
+        before = m ∷ k.before;
+        escape = k.escape;
+        after = k.after;
+        division = ap (λ v. m ∷ v) k.division;
+        passed = (c, k.passed);
+        in_pair = k.in_pair;
+        is = k.is;
+      }
   | inr c ↦
       let k : Some found ≡ Some (escape_record m) = h ∙ cond-false m.in_comment _ _ c in
       record { before = []; escape = m; after = ms; division = refl; passed = tt; in_pair = c; is = cc }
 ]
 
 -- The bytes are sound, and this is the first escape of a pair among those that are malformed.
-pub first-malformed : {e : Encoding} {source : List ℕ} {found : List MalformedEscape} (escape : MalformedEscape) → HasSoundBytes e source → HasMalformed e source found
+pub first-malformed : {e : Encoding} {source : List ℕ} {found : List MalformedEscape} (escape : MalformedEscape) → HasSoundBytes e source
+    → HasMalformed e source found
     → Some escape ≡ first_in_pair found → IsFirstMalformed e source escape
 first-malformed {e} {source} escape bytes h is =
     let k = one-first h.escapes escape (is ∙ ap first_in_pair h.is) in

@@ -2,6 +2,7 @@
 use Rattle.std.specs.Prelude.{◌≡◌, ◌⊎◌, ℕ, Bool, true, false, List, [], ◌∷◌, Option, Some, None, Result, Ok, Err, codes}
 use Rattle.counted_io.specs.Streams.{Reader, Sink}
 use Rattle.properties_format.specs.Encoding.{Encoding, windows_1252}
+use Rattle.properties_format.specs.Repertoire.{Repertoire, repertoire}
 use Rattle.properties_format.specs.Names.{name_of}
 use Rattle.properties_items.specs.declared.error.PropertiesError.{PropertiesError}
 use Rattle.properties_text.specs.Encoding.{encoding_of}
@@ -25,25 +26,25 @@ ascii_word = codes "ascii"
 
 -- the arguments ask for this encoding, and for ASCII-only output or not: none for windows-1252, and one by its name,
 -- which the word for ASCII only may follow
-abbrev pub Asks : List (List ℕ) → Encoding → Bool → Type 0
-Asks [] e only = (e ≡ windows_1252) × (only ≡ false)
-Asks (name ∷ []) e only = (name ≡ name_of e) × (only ≡ false)
-Asks (name ∷ (word ∷ [])) e only = (name ≡ name_of e) × (word ≡ ascii_word) × (only ≡ true)
-Asks (name ∷ (word ∷ (other ∷ others))) e only = ⊥
+abbrev pub Asks : List (List ℕ) → Repertoire → Type 0
+Asks [] r = (r.encoding ≡ windows_1252) × (r.ascii_only ≡ false)
+Asks (name ∷ []) r = (name ≡ name_of r.encoding) × (r.ascii_only ≡ false)
+Asks (name ∷ (word ∷ [])) r = (name ≡ name_of r.encoding) × (word ≡ ascii_word) × (r.ascii_only ≡ true)
+Asks (name ∷ (word ∷ (other ∷ others))) r = ⊥
 
 -- an encoding, and whether ASCII-only output is asked for
-abbrev pub asked_of : Asked → Encoding × Bool
-asked_of asked = (encoding_of asked.encoding, asked.ascii_only)
+abbrev pub asked_of : Asked → Repertoire
+asked_of asked = repertoire (encoding_of asked.encoding) asked.ascii_only
 
 -- what they ask for, where they ask for something
-abbrev pub IsAsked : List (List ℕ) → Option (Encoding × Bool) → Type 0
-IsAsked arguments None = (e : Encoding) (only : Bool) → Asks arguments e only → ⊥
-IsAsked arguments (Some asked) = Asks arguments asked.0 asked.1
+abbrev pub IsAsked : List (List ℕ) → Option Repertoire → Type 0
+IsAsked arguments None = (r : Repertoire) → Asks arguments r → ⊥
+IsAsked arguments (Some r) = Asks arguments r
 
 -- the encoding of this name, where it is one, with ASCII-only output beside it, or not
-abbrev pub IsNamedWith : List ℕ → Bool → Option (Encoding × Bool) → Type 0
+abbrev pub IsNamedWith : List ℕ → Bool → Option Repertoire → Type 0
 IsNamedWith name only None = (e : Encoding) → name ≡ name_of e → ⊥
-IsNamedWith name only (Some asked) = (name ≡ name_of asked.0) × (asked.1 ≡ only)
+IsNamedWith name only (Some r) = (name ≡ name_of r.encoding) × (r.ascii_only ≡ only)
 
 -- ---- the program
 
@@ -56,18 +57,17 @@ status_of (Err error) = 1
 -- an error was printed on `errors`.
 pub record HasRun {R W E : Type 0} (reader : Reader R) (sink : Sink W) (error_sink : Sink E) (arguments : List (List ℕ)) (input : R) (output : W) (errors : E)
     (status : ℕ) (input' : R) (output' : W) (errors' : E) : Type 0 where
-  pub encoding : Encoding
-  pub only : Bool
-  pub asked : Asks arguments encoding only
+  pub allowed : Repertoire
+  pub asked : Asks arguments allowed
   pub result : Result Unit PropertiesError
-  pub filters : Filters reader sink encoding only input output result input' output'
+  pub filters : Filters reader sink allowed input output result input' output'
   pub answer : status ≡ status_of result
   pub prints : PrintsErrorOf error_sink errors result errors'
 
 -- The arguments ask for nothing that there is: nothing was read or written, and the usage was printed on `errors`.
 pub record RefusesArguments {R W E : Type 0} (error_sink : Sink E) (arguments : List (List ℕ)) (input : R) (output : W) (errors : E)
     (status : ℕ) (input' : R) (output' : W) (errors' : E) : Type 0 where
-  pub unasked : (e : Encoding) (only : Bool) → Asks arguments e only → ⊥
+  pub unasked : (r : Repertoire) → Asks arguments r → ⊥
   pub answer : status ≡ 2
   pub unread : input' ≡ input
   pub unwritten : output' ≡ output

@@ -1,7 +1,7 @@
 // The program `propedit`, over any streams.
 
+pub mod answer;
 pub mod answers;
-pub mod asked;
 pub mod change;
 pub mod check;
 pub mod error;
@@ -9,11 +9,11 @@ mod first_keys;
 pub mod get;
 pub mod in_place;
 mod line_findings;
-pub mod lines;
 pub mod list;
 pub mod pairs;
-pub mod printed;
-pub mod source;
+pub mod request;
+pub mod sound;
+pub mod utf_8;
 mod values;
 
 ghost use Rattle.std.specs.Prelude.{◌≡◌};
@@ -25,9 +25,9 @@ ghost use Rattle.properties_tools.specs.Propedit.Failures.{memory_words};
 
 use crate::messages::print_line;
 use crate::propedit::answers::{answer_to, name};
-use crate::propedit::asked::{Change, Work};
 use crate::propedit::change::change;
 use crate::propedit::error::{FAILED, Failure, NO_MEMORY, STANDARD_OUTPUT, print_failure};
+use crate::propedit::request::{Change, Work};
 use counted_io::{CountedRead, CountedWrite};
 use java_properties::{Encoding, read_source, write_source};
 use std::alloc::Global;
@@ -137,7 +137,7 @@ pub fn exit_status<E: CountedWrite>(
 ///
 /// ```text
 /// let mut output = Counted::new(Vec::new(alloc));
-/// propedit::print_text(alloc, "propedit 1.10.0\n", &mut output, &mut errors); // 0, and the output holds the text
+/// propedit::print_text(alloc, "propedit 1.11.0\n", &mut output, &mut errors); // 0, and the output holds the text
 /// ```
 pub fn print_text<W: CountedWrite, E: CountedWrite>(
     alloc: Global,

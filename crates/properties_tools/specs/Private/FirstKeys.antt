@@ -7,7 +7,7 @@ use Rattle.std.specs.String.{string_cmp}
 use Rattle.std.proofs.Math.ListN.{set}
 use Rattle.properties_tools.specs.Private.LastPairs.{place_at}
 use Rattle.properties_tools.specs.Propedit.Texts.{ended}
-use Rattle.properties_tools.specs.declared.propedit.asked.TextEnd.{TextEnd}
+use Rattle.properties_tools.specs.declared.propedit.request.TextEnd.{TextEnd}
 use Rattle.properties_tools.specs.declared.propedit.first_keys.FirstKeys.{FirstKeys}
 use Rattle.properties_tools.specs.declared.propedit.first_keys.Place.{Place}
 

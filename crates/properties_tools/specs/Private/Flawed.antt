@@ -11,8 +11,8 @@ use Rattle.properties_lines.specs.Scanner.{HasRightFlags, bytes_of}
 use Rattle.properties_lines.specs.declared.scanner.RawLine.{RawLine}
 use Rattle.properties_lines.specs.declared.scanner.Scanner.{Scanner}
 use Rattle.properties_tools.specs.Propedit.Lines.{holds_zero, AreFlawedIn, HasFlawed}
-use Rattle.properties_tools.specs.declared.propedit.lines.Flaw.{Flaw}
-use Rattle.properties_tools.specs.declared.propedit.lines.Flaw.TheVariants.{IllFormed, Zero}
+use Rattle.properties_tools.specs.declared.propedit.utf_8.Flaw.{Flaw}
+use Rattle.properties_tools.specs.declared.propedit.utf_8.Flaw.TheVariants.{IllFormed, Zero}
 
 -- ---- the bytes of a line
 

@@ -5,8 +5,7 @@ use Rattle.std.specs.declared.io.Error.{Error}
 use Rattle.properties_format.specs.Encoding.{Encoding}
 use Rattle.properties_items.specs.declared.error.PropertiesError.{PropertiesError}
 use Rattle.properties_tools.specs.Propedit.Change.{Changes}
-use Rattle.properties_tools.specs.declared.propedit.asked.Change.{Change}
-use Rattle.properties_tools.specs.declared.propedit.error.Failure.{Failure}
+use Rattle.properties_tools.specs.declared.propedit.request.Change.{Change}
 use Rattle.properties_tools.specs.declared.propedit.error.Failure.TheVariants.{Input}
 use Rattle.properties_tools.specs.declared.propedit.in_place.EditError.{EditError}
 use Rattle.properties_tools.specs.declared.propedit.in_place.EditError.TheVariants.{NotEdited, NotReplaced}

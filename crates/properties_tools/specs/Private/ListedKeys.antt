@@ -15,7 +15,7 @@ use Rattle.properties_tools.specs.Propedit.Listing.{is_key_listed, listed_keys, 
 use Rattle.properties_tools.specs.Propedit.Sources.{IsSound}
 use Rattle.properties_tools.specs.Propedit.Texts.{ended_all}
 use Rattle.properties_tools.specs.Private.FirstKeys.{AddsKey}
-use Rattle.properties_tools.specs.declared.propedit.asked.TextEnd.{TextEnd}
+use Rattle.properties_tools.specs.declared.propedit.request.TextEnd.{TextEnd}
 use Rattle.properties_tools.specs.declared.propedit.first_keys.FirstKeys.{FirstKeys}
 
 -- the key that a logical line adds, if it is listed

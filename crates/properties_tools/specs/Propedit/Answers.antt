@@ -10,14 +10,14 @@ use Rattle.properties_tools.specs.Propedit.Failures.{LacksMemory}
 use Rattle.properties_tools.specs.Propedit.Get.{Gets}
 use Rattle.properties_tools.specs.Propedit.Listing.{Lists}
 use Rattle.properties_tools.specs.Propedit.Pairs.{ListsValues}
-use Rattle.properties_tools.specs.declared.propedit.printed.Answer.{Answer}
-use Rattle.properties_tools.specs.declared.propedit.asked.Command.{Command}
-use Rattle.properties_tools.specs.declared.propedit.asked.Change.{Change}
-use Rattle.properties_tools.specs.declared.propedit.asked.Command.TheVariants.{Get, Check}
-use Rattle.properties_tools.specs.declared.propedit.asked.Command.TheVariants as command
-use Rattle.properties_tools.specs.declared.propedit.asked.Source.{Source}
-use Rattle.properties_tools.specs.declared.propedit.asked.Source.TheVariants.{StandardInput, File}
-use Rattle.properties_tools.specs.declared.propedit.asked.Work.{Work}
+use Rattle.properties_tools.specs.declared.propedit.answer.Answer.{Answer}
+use Rattle.properties_tools.specs.declared.propedit.request.Command.{Command}
+use Rattle.properties_tools.specs.declared.propedit.request.Change.{Change}
+use Rattle.properties_tools.specs.declared.propedit.request.Command.TheVariants.{Get, Check}
+use Rattle.properties_tools.specs.declared.propedit.request.Command.TheVariants as command
+use Rattle.properties_tools.specs.declared.propedit.request.Source.{Source}
+use Rattle.properties_tools.specs.declared.propedit.request.Source.TheVariants.{StandardInput, File}
+use Rattle.properties_tools.specs.declared.propedit.request.Work.{Work}
 use Rattle.properties_tools.specs.declared.propedit.error.Failure.{Failure}
 
 -- the name of a source in messages

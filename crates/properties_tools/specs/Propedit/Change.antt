@@ -1,5 +1,5 @@
 -- What a change gives: the bytes of a source after it.
-use Rattle.std.specs.Prelude.{◌≡◌, ◌⊎◌, ℕ, true, List, [], ◌∷◌, ◌++◌, Option, Some, None, Result, Ok, Err}
+use Rattle.std.specs.Prelude.{◌≡◌, ◌⊎◌, ℕ, true, List, [], ◌∷◌, ◌++◌, Some, None, Result, Ok, Err}
 use Rattle.std.specs.Global.{Global, Vec}
 use Rattle.std.specs.declared.string.String.{String}
 use Rattle.properties_format.specs.Converting.{IsConverted}
@@ -7,17 +7,18 @@ use Rattle.properties_format.specs.EditedPairs.{HasPairValue, IsEditPairsResult}
 use Rattle.properties_format.specs.Edits as format
 use Rattle.properties_format.specs.Edits.{put, remove, set_value}
 use Rattle.properties_format.specs.Encoding.{Encoding}
+use Rattle.properties_format.specs.Repertoire.{repertoire}
 use Rattle.properties_text.specs.Converted.{is_readable}
-use Rattle.properties_text.specs.Printing.{encoding_in, only_in}
+use Rattle.properties_text.specs.Printing.{in_format}
 use Rattle.java_properties.specs.Editing.{ArePairsMade, IsRefusal, edits_in}
 use Rattle.java_properties.specs.Maps.{characters}
 use Rattle.properties_items.specs.declared.error.PropertiesError.{PropertiesError}
 use Rattle.properties_tools.specs.Propedit.Failures.{LacksMemory}
 use Rattle.properties_tools.specs.Propedit.Sources.{HasSoundBytes, HasUnsoundBytes, IsSound, IsUnsound}
-use Rattle.properties_tools.specs.declared.propedit.asked.Change.{Change}
-use Rattle.properties_tools.specs.declared.propedit.asked.Change.TheVariants as change
-use Rattle.properties_tools.specs.declared.propedit.asked.Conversion.{Conversion}
-use Rattle.properties_tools.specs.declared.propedit.asked.Edits.{Edits}
+use Rattle.properties_tools.specs.declared.propedit.request.Change.{Change}
+use Rattle.properties_tools.specs.declared.propedit.request.Change.TheVariants as change
+use Rattle.properties_tools.specs.declared.propedit.request.Conversion.{Conversion}
+use Rattle.properties_tools.specs.declared.propedit.request.Edits.{Edits}
 use Rattle.properties_tools.specs.declared.propedit.error.Failure.{Failure}
 use Rattle.properties_tools.specs.declared.propedit.error.Failure.TheVariants.{Absent, Input}
 
@@ -53,13 +54,13 @@ pub record IsFirstAbsent (e : Encoding) (source : List ℕ) (keys : List (List �
 pub record MakesEdits (e : Encoding) (source : List ℕ) (edits : Edits) (bytes : List ℕ) : Type 0 where
   pub sound : IsSound e source
   pub existing : edits.existing ≡ true → HasKeys e source (keys_set (edits_in edits.list.items))
-  pub made : ArePairsMade e edits.ascii_only source (edits_in edits.list.items) bytes
+  pub made : ArePairsMade (repertoire e edits.ascii_only) source (edits_in edits.list.items) bytes
 
 -- The source is sound, but the edits aren't made: its encoding is not one that is edited, or memory ran out.
 pub record RefusesEdits (e : Encoding) (source : List ℕ) (edits : Edits) (failure : Failure) : Type 0 where
   pub sound : IsSound e source
   pub error : PropertiesError
-  pub refused : IsRefusal (IsEditPairsResult e edits.ascii_only source (edits_in edits.list.items)) error
+  pub refused : IsRefusal (IsEditPairsResult (repertoire e edits.ascii_only) source (edits_in edits.list.items)) error
   pub is : failure ≡ Input error
 
 -- The source is sound, and the edits can be made. But a pair of it has to have each key that is set, and this is the first
@@ -68,7 +69,7 @@ pub record RefusesAbsent (e : Encoding) (source : List ℕ) (edits : Edits) (fai
   pub sound : IsSound e source
   pub existing : edits.existing ≡ true
   pub bytes : List ℕ
-  pub made : ArePairsMade e edits.ascii_only source (edits_in edits.list.items) bytes
+  pub made : ArePairsMade (repertoire e edits.ascii_only) source (edits_in edits.list.items) bytes
   pub key : String Global
   pub first : IsFirstAbsent e source (keys_set (edits_in edits.list.items)) (characters key)
   pub is : failure ≡ Absent key
@@ -83,7 +84,7 @@ ChangesByEdits e source edits (Err failure) = IsUnsound e source failure ⊎ (Re
 -- The bytes of the source are sound, and these are those after the conversion.
 pub record MakesConversion (e : Encoding) (source : List ℕ) (c : Conversion) (bytes : List ℕ) : Type 0 where
   pub sound : HasSoundBytes e source
-  pub converted : IsConverted e (encoding_in c.target) (only_in c.target) (is_readable c.spelling) source bytes
+  pub converted : IsConverted e (in_format c.target) (is_readable c.spelling) source bytes
 
 -- What converting returns. A source with sound bytes is refused only if memory runs out.
 abbrev pub Converts : Encoding → List ℕ → Conversion → Result (Vec ℕ) Failure → Type 0

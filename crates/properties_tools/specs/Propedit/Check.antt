@@ -19,14 +19,14 @@ use Rattle.properties_items.specs.declared.error.PropertiesError.{PropertiesErro
 use Rattle.properties_items.specs.declared.findings.MalformedEscape.{MalformedEscape}
 use Rattle.properties_tools.specs.Messages.{escaped}
 use Rattle.properties_tools.specs.Propedit.Failures.{ill_formed_words, ill_formed_by_mark_words, not_utf_16_words, zero_words}
-use Rattle.properties_tools.specs.Propedit.Lines.{starts_with_mark, AreFlawedLines, IsFirstFlawed}
+use Rattle.properties_tools.specs.Propedit.Lines.{starts_with_bom, AreFlawedLines, IsFirstFlawed}
 use Rattle.properties_tools.specs.Propedit.Sources.{is_in_utf_16}
 use Rattle.properties_tools.specs.declared.propedit.check.Fault.{Fault}
 use Rattle.properties_tools.specs.declared.propedit.check.Fault.TheVariants.{HoldsZero, IllFormedLine, Escape, Repeats}
 use Rattle.properties_tools.specs.declared.propedit.check.Finding.{Finding}
 use Rattle.properties_tools.specs.declared.propedit.check.Words.{Words}
 use Rattle.properties_tools.specs.declared.propedit.check.Words.TheVariants.{WithEncoding, WithMark, NotUtf8, NotUtf16}
-use Rattle.properties_tools.specs.declared.propedit.lines.Flaw.TheVariants.{IllFormed, Zero}
+use Rattle.properties_tools.specs.declared.propedit.utf_8.Flaw.TheVariants.{IllFormed, Zero}
 
 -- ---- findings
 
@@ -38,7 +38,7 @@ zero_findings (Some number) = record { line_number = number; fault = HoldsZero }
 -- what is said of the first ill-formed line of a source: what helps, if it is not UTF-8 and no line has U+0000
 abbrev pub first_words : Encoding → List ℕ → Bool → Words
 first_words e source has_zero =
-    if is_in_utf_16 e source then NotUtf16 else (if starts_with_mark source then WithMark else (if has_zero then NotUtf8 else WithEncoding))
+    if is_in_utf_16 e source then NotUtf16 else (if starts_with_bom source then WithMark else (if has_zero then NotUtf8 else WithEncoding))
 
 -- and of those after it, which don't say it again
 abbrev pub words_after : Words → Words

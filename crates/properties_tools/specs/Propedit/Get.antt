@@ -5,8 +5,8 @@ use Rattle.properties_format.specs.EditedPairs.{HasPairValue}
 use Rattle.properties_format.specs.Encoding.{Encoding}
 use Rattle.properties_tools.specs.Propedit.Sources.{IsSound, IsUnsound}
 use Rattle.properties_tools.specs.Propedit.Texts.{ended}
-use Rattle.properties_tools.specs.declared.propedit.printed.Answer.{Answer}
-use Rattle.properties_tools.specs.declared.propedit.asked.TextEnd.{TextEnd}
+use Rattle.properties_tools.specs.declared.propedit.answer.Answer.{Answer}
+use Rattle.properties_tools.specs.declared.propedit.request.TextEnd.{TextEnd}
 use Rattle.properties_tools.specs.declared.propedit.error.Failure.{Failure}
 
 -- the value where there is one, and else the default

@@ -8,7 +8,7 @@ use Rattle.properties_format.specs.Encoding.{Encoding}
 use Rattle.properties_tools.specs.Messages.{escaped, printed_line, HasPrintedLine}
 use Rattle.properties_tools.specs.Propedit.Change.{Changes}
 use Rattle.properties_tools.specs.Propedit.Failures.{failure_status, message, PrintsFailure, PrintsOutOfMemory}
-use Rattle.properties_tools.specs.declared.propedit.asked.Change.{Change}
+use Rattle.properties_tools.specs.declared.propedit.request.Change.{Change}
 use Rattle.properties_tools.specs.declared.propedit.error.Failure.{Failure}
 use Rattle.properties_tools.specs.declared.propedit.error.Failure.TheVariants.{Absent}
 use Rattle.properties_tools.specs.declared.propedit.in_place.Problem.{Problem}

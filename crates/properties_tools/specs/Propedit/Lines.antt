@@ -12,8 +12,8 @@ use Rattle.java_properties.specs.Errors.{IsBareError}
 use Rattle.properties_items.specs.declared.error.ErrorKind.TheVariants as kind
 use Rattle.properties_items.specs.declared.error.PropertiesError.{PropertiesError}
 use Rattle.properties_tools.specs.Propedit.Utf16.{IsWellFormedUnits}
-use Rattle.properties_tools.specs.declared.propedit.lines.Flaw.{Flaw}
-use Rattle.properties_tools.specs.declared.propedit.lines.Flaw.TheVariants.{IllFormed, Zero}
+use Rattle.properties_tools.specs.declared.propedit.utf_8.Flaw.{Flaw}
+use Rattle.properties_tools.specs.declared.propedit.utf_8.Flaw.TheVariants.{IllFormed, Zero}
 
 -- ---- of the bytes of a line
 
@@ -57,8 +57,8 @@ pub record AreFlawedIn (flaw : Flaw) (e : Encoding) (body : List ℕ) (numbers :
 -- ---- of a source
 
 -- whether a source begins with the byte order mark of UTF-8
-abbrev pub starts_with_mark : List ℕ → Bool
-starts_with_mark source = starts_with nat_eq source (239 ∷ 187 ∷ 191 ∷ [])
+abbrev pub starts_with_bom : List ℕ → Bool
+starts_with_bom source = starts_with nat_eq source (239 ∷ 187 ∷ 191 ∷ [])
 
 -- whether an encoding is UTF-8, and whether it is one of the two of UTF-16
 abbrev pub is_utf_8 : Encoding → Bool
@@ -76,7 +76,7 @@ is_utf_16 utf_16be = true
 -- Whether a flaw is sought. A byte order mark says that the source isn't UTF-16, so a byte 0 is no flaw after one.
 abbrev pub is_sought : Flaw → Encoding → List ℕ → Bool
 is_sought IllFormed e source = true
-is_sought Zero e source = is_utf_8 (byte_order_mark e source).encoding && not (starts_with_mark source)
+is_sought Zero e source = is_utf_8 (byte_order_mark e source).encoding && not (starts_with_bom source)
 
 -- These are the numbers of the lines of a source that have this flaw, if it is sought.
 abbrev pub AreFlawedLines : Flaw → Encoding → List ℕ → List ℕ → Type 0

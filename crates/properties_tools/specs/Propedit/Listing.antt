@@ -7,8 +7,8 @@ use Rattle.properties_format.specs.Entries.{Entry}
 use Rattle.properties_format.specs.Maps.{AreKeys}
 use Rattle.properties_tools.specs.Propedit.Sources.{IsSound, IsUnsound}
 use Rattle.properties_tools.specs.Propedit.Texts.{ended_all}
-use Rattle.properties_tools.specs.declared.propedit.printed.Answer.{Answer}
-use Rattle.properties_tools.specs.declared.propedit.asked.TextEnd.{TextEnd}
+use Rattle.properties_tools.specs.declared.propedit.answer.Answer.{Answer}
+use Rattle.properties_tools.specs.declared.propedit.request.TextEnd.{TextEnd}
 use Rattle.properties_tools.specs.declared.propedit.error.Failure.{Failure}
 
 -- These are the keys of a source, each once, in the order of their first pairs. Comments are passed over.

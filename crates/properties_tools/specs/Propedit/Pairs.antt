@@ -10,9 +10,9 @@ use Rattle.properties_format.specs.Pairs.{Pair}
 use Rattle.properties_format.specs.Text.{equals_sign}
 use Rattle.properties_tools.specs.Propedit.Sources.{IsSound, IsUnsound}
 use Rattle.properties_tools.specs.Propedit.Texts.{ended, followed}
-use Rattle.properties_tools.specs.declared.propedit.printed.Answer.{Answer}
-use Rattle.properties_tools.specs.declared.propedit.asked.TextEnd.{TextEnd}
-use Rattle.properties_tools.specs.declared.propedit.asked.TextEnd.TheVariants.{LineFeed, Zero}
+use Rattle.properties_tools.specs.declared.propedit.answer.Answer.{Answer}
+use Rattle.properties_tools.specs.declared.propedit.request.TextEnd.{TextEnd}
+use Rattle.properties_tools.specs.declared.propedit.request.TextEnd.TheVariants.{LineFeed, Zero}
 use Rattle.properties_tools.specs.declared.propedit.error.Failure.{Failure}
 
 abbrev pub keys_of : List Pair → List (List ℕ)

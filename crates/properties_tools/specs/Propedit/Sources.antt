@@ -8,10 +8,10 @@ use Rattle.java_properties.specs.Errors.{IsBareError}
 use Rattle.java_properties.specs.MalformedEscapes.{escape_record}
 use Rattle.properties_items.specs.declared.error.ErrorKind.TheVariants as kind
 use Rattle.properties_items.specs.declared.findings.MalformedEscape.{MalformedEscape}
-use Rattle.properties_tools.specs.Propedit.Lines.{is_utf_16, starts_with_mark, AreFlawedLines, IsFirstFlawed}
+use Rattle.properties_tools.specs.Propedit.Lines.{is_utf_16, starts_with_bom, AreFlawedLines, IsFirstFlawed}
 use Rattle.properties_tools.specs.declared.propedit.error.Failure.{Failure}
 use Rattle.properties_tools.specs.declared.propedit.error.Failure.TheVariants.{Absent, HoldsZero, NotUtf8, NotUtf8ByMark, NotUtf16, Malformed, Input, Output}
-use Rattle.properties_tools.specs.declared.propedit.lines.Flaw.TheVariants.{IllFormed, Zero}
+use Rattle.properties_tools.specs.declared.propedit.utf_8.Flaw.TheVariants.{IllFormed, Zero}
 
 -- ---- refusals for bytes
 
@@ -28,8 +28,8 @@ pub record IsFirstIllFormed (e : Encoding) (source : List ℕ) (number : ℕ) : 
 -- the failure of a line that is not UTF-8
 abbrev pub IsNotUtf8 : List ℕ → ℕ → Failure → Type 0
 IsNotUtf8 source number failure =
-    ((starts_with_mark source ≡ false) × (failure ≡ NotUtf8 number))
-    ⊎ ((starts_with_mark source ≡ true) × (failure ≡ NotUtf8ByMark number))
+    ((starts_with_bom source ≡ false) × (failure ≡ NotUtf8 number))
+    ⊎ ((starts_with_bom source ≡ true) × (failure ≡ NotUtf8ByMark number))
 
 -- whether UTF-16 is in force
 abbrev pub is_in_utf_16 : Encoding → List ℕ → Bool
@@ -45,8 +45,8 @@ IsIllFormedLine e source number failure =
 -- there is none, its first ill-formed line.
 abbrev pub HasUnsoundBytes : Encoding → List ℕ → Failure → Type 0
 HasUnsoundBytes e source (HoldsZero number) = IsFirstFlawed Zero e source (Some number)
-HasUnsoundBytes e source (NotUtf8 number) = IsFirstIllFormed e source number × (is_in_utf_16 e source ≡ false) × (starts_with_mark source ≡ false)
-HasUnsoundBytes e source (NotUtf8ByMark number) = IsFirstIllFormed e source number × (is_in_utf_16 e source ≡ false) × (starts_with_mark source ≡ true)
+HasUnsoundBytes e source (NotUtf8 number) = IsFirstIllFormed e source number × (is_in_utf_16 e source ≡ false) × (starts_with_bom source ≡ false)
+HasUnsoundBytes e source (NotUtf8ByMark number) = IsFirstIllFormed e source number × (is_in_utf_16 e source ≡ false) × (starts_with_bom source ≡ true)
 HasUnsoundBytes e source (NotUtf16 number) = IsFirstIllFormed e source number × (is_in_utf_16 e source ≡ true)
 HasUnsoundBytes e source (Malformed escape) = ⊥
 HasUnsoundBytes e source (Absent key) = ⊥

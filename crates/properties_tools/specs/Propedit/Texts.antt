@@ -4,8 +4,8 @@ use Rattle.std.specs.Borrow.{Bor}
 use Rattle.std.specs.List.{flat_map}
 use Rattle.std.specs.Str.{chars}
 use Rattle.properties_format.specs.Text.{line_feed}
-use Rattle.properties_tools.specs.declared.propedit.asked.TextEnd.{TextEnd}
-use Rattle.properties_tools.specs.declared.propedit.asked.TextEnd.TheVariants.{LineFeed, Zero}
+use Rattle.properties_tools.specs.declared.propedit.request.TextEnd.{TextEnd}
+use Rattle.properties_tools.specs.declared.propedit.request.TextEnd.TheVariants.{LineFeed, Zero}
 
 abbrev pub end_byte : TextEnd → ℕ
 end_byte LineFeed = line_feed

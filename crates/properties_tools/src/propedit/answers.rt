@@ -4,14 +4,14 @@ ghost use Rattle.std.specs.Prelude.{◌≡◌};
 ghost use Rattle.properties_text.specs.Encoding.{encoding_of};
 ghost use Rattle.properties_tools.specs.Propedit.Answers.{Answers, Checks, ChangesTo, name_of};
 
-use crate::propedit::asked::{Change, Command, Source, Work};
+use crate::propedit::answer::Answer;
 use crate::propedit::change::change;
 use crate::propedit::check::report;
 use crate::propedit::error::Failure;
 use crate::propedit::get::get;
 use crate::propedit::list::list;
 use crate::propedit::pairs::list_values;
-use crate::propedit::printed::Answer;
+use crate::propedit::request::{Change, Command, Source, Work};
 use java_properties::Encoding;
 use std::alloc::Global;
 

@@ -9,9 +9,9 @@ ghost use Rattle.properties_tools.specs.Private.LookedUp.{first_without, key_set
 ghost use Rattle.properties_tools.specs.Propedit.Change.{keys_set, Changes, ChangesByEdits, Converts};
 ghost use Rattle.properties_tools.specs.Propedit.Texts.{borrowed_characters};
 
-use crate::propedit::asked::{Change, Conversion, Edits};
 use crate::propedit::error::Failure;
-use crate::propedit::source::{refuse_bytes, refuse_unsound};
+use crate::propedit::request::{Change, Conversion, Edits};
+use crate::propedit::sound::{refuse_bytes, refuse_unsound};
 use crate::propedit::values::values_of;
 use java_properties::{Edit, Encoding, convert, edit_pairs};
 use std::alloc::{AllocError, Global};

@@ -8,8 +8,8 @@ ghost use Rattle.properties_tools.specs.Propedit.Check.{comment_words, finding_l
 use crate::messages::Escaped;
 use crate::propedit::error::{HOLDS_ZERO, NOT_UTF_8, NOT_UTF_8_BY_MARK, NOT_UTF_16};
 use crate::propedit::line_findings::line_findings;
-use crate::propedit::lines::{Flaw, first_flawed_line, has_mark, ill_formed_lines};
-use crate::propedit::source::in_utf_16;
+use crate::propedit::sound::in_utf_16;
+use crate::propedit::utf_8::{Flaw, first_flawed_line, has_mark, ill_formed_lines};
 use java_properties::{Encoding, MalformedEscape, PropertiesError};
 use std::alloc::{AllocError, Global};
 use std::fmt;

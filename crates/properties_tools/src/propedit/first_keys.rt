@@ -6,8 +6,8 @@ ghost use Rattle.std.specs.Str.{chars};
 ghost use Rattle.std.specs.String.{string_cmp};
 ghost use Rattle.properties_tools.specs.Private.FirstKeys.{bytes_at, hash_after, none_held, slot_for, AddsKey, IndexesSome, IsIndexed, KeepsKey, TellsFirst};
 
-use crate::propedit::asked::TextEnd;
-use crate::propedit::printed::push_ended;
+use crate::propedit::answer::push_ended;
+use crate::propedit::request::TextEnd;
 use std::alloc::{AllocError, Global};
 use std::collections::BTreeMap;
 

@@ -8,10 +8,10 @@ ghost use Rattle.properties_tools.specs.Private.LookedUp.{value_texts};
 ghost use Rattle.properties_tools.specs.Propedit.Get.{value_or, Gets, Prints};
 ghost use Rattle.properties_tools.specs.Propedit.Texts.{borrowed_characters};
 
-use crate::propedit::asked::TextEnd;
+use crate::propedit::answer::{Answer, push_ended};
 use crate::propedit::error::Failure;
-use crate::propedit::printed::{Answer, push_ended};
-use crate::propedit::source::{refuse_bytes, refuse_unsound};
+use crate::propedit::request::TextEnd;
+use crate::propedit::sound::{refuse_bytes, refuse_unsound};
 use crate::propedit::values::values_of;
 use java_properties::Encoding;
 use std::alloc::{AllocError, Global};

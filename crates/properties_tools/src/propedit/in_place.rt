@@ -9,8 +9,8 @@ ghost use Rattle.properties_tools.specs.Propedit.InPlace.{problem_display, repla
 ghost use Rattle.properties_tools.specs.Private.InPlace.{folder_of, unsynced, IsEditError};
 
 use crate::messages::{Escaped, print_line};
-use crate::propedit::asked::{FileChange, Missing};
 use crate::propedit::error::{Failure, NO_MEMORY};
+use crate::propedit::request::{FileChange, Missing};
 use crate::propedit::{exit_status, replacement};
 use counted_io::CountedWrite;
 use std::alloc::{AllocError, Global};

@@ -11,12 +11,12 @@ ghost use Rattle.properties_tools.specs.Propedit.Check.{has_replacement};
 ghost use Rattle.properties_tools.specs.Private.FirstKeys.{IndexesSome};
 ghost use Rattle.properties_tools.specs.Private.LineFindings.{AddsKey, AddsLine, FindsInLines};
 
-use crate::propedit::asked::TextEnd;
 use crate::propedit::check::{Fault, Finding};
 use crate::propedit::first_keys::FirstKeys;
+use crate::propedit::request::TextEnd;
 use java_properties::{ContentRef, Encoding, ErrorKind, LineRef, MalformedEscape, PropertiesError};
 use properties_items::found::{cut_item, find_item};
-use properties_lines::join::is_comment;
+use properties_lines::continuation::is_comment;
 use properties_lines::joiner::LineJoiner;
 use std::alloc::{AllocError, Global};
 
@@ -51,10 +51,8 @@ pub(crate) fn line_findings(
     while let Some(number) = lines.next_text(&mut input) {
         found.add_line(alloc, number, lines.line(), is_well_formed)?;
     }
-    match lines.take_error() {
-        Some(error) => Err(PropertiesError::from(error)),
-        None => Ok(found),
-    }
+    lines.finish()?;
+    Ok(found)
 }
 
 impl LineFindings {

@@ -11,14 +11,14 @@ ghost use Rattle.properties_tools.specs.Propedit.Listing.{is_key_listed, Lists};
 ghost use Rattle.properties_tools.specs.Private.FirstKeys.{IndexesSome};
 ghost use Rattle.properties_tools.specs.Private.ListedKeys.{FindsListed, ListsKey, ListsLine};
 
-use crate::propedit::asked::TextEnd;
+use crate::propedit::answer::Answer;
 use crate::propedit::error::Failure;
 use crate::propedit::first_keys::FirstKeys;
-use crate::propedit::printed::Answer;
-use crate::propedit::source::{refuse_bytes, refuse_unsound};
+use crate::propedit::request::TextEnd;
+use crate::propedit::sound::{refuse_bytes, refuse_unsound};
 use java_properties::{ContentRef, Encoding, LineRef, PropertiesError};
 use properties_items::found::{cut_item, find_item};
-use properties_lines::join::is_comment;
+use properties_lines::continuation::is_comment;
 use properties_lines::joiner::LineJoiner;
 use std::alloc::{AllocError, Global};
 use std::borrow::CowStr;
@@ -71,10 +71,8 @@ fn listed(
     while let Some(number) = lines.next_text(&mut input) {
         add_line(alloc, &mut keys, number, lines.line(), prefix, end)?;
     }
-    match lines.take_error() {
-        Some(error) => Err(PropertiesError::from(error)),
-        None => Ok(keys.text),
-    }
+    lines.finish()?;
+    Ok(keys.text)
 }
 
 // Adds the key of a logical line, if it is a pair and its key is listed.

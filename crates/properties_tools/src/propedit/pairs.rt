@@ -8,13 +8,13 @@ ghost use Rattle.properties_text.specs.Encoding.{encoding_of};
 ghost use Rattle.properties_tools.specs.Propedit.Pairs.{ended_pair, is_pair_listed, separator_byte, ListsValues, PrintsPairs};
 ghost use Rattle.properties_tools.specs.Private.LastPairs.{pair_of, pairs_of, with_pair, FindsLastPairs, FindsLinePair, HasPlaces, PutsLine};
 
-use crate::propedit::asked::TextEnd;
+use crate::propedit::answer::{Answer, push_ended, push_followed};
 use crate::propedit::error::Failure;
-use crate::propedit::printed::{Answer, push_ended, push_followed};
-use crate::propedit::source::{refuse_bytes, refuse_unsound};
+use crate::propedit::request::TextEnd;
+use crate::propedit::sound::{refuse_bytes, refuse_unsound};
 use java_properties::{Encoding, PropertiesError};
 use properties_items::found::{find_item, item_pair};
-use properties_lines::join::is_comment;
+use properties_lines::continuation::is_comment;
 use properties_lines::joiner::LineJoiner;
 use std::alloc::{AllocError, Global};
 use std::collections::BTreeMap;
@@ -63,10 +63,8 @@ fn last_pairs(
     while let Some(number) = lines.next_text(&mut input) {
         put_line(alloc, &mut pairs, &mut places, number, lines.line())?;
     }
-    match lines.take_error() {
-        Some(error) => Err(PropertiesError::from(error)),
-        None => Ok(pairs),
-    }
+    lines.finish()?;
+    Ok(pairs)
 }
 
 // Puts the pair of a logical line among those before it, if it is one.

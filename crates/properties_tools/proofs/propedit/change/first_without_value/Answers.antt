@@ -29,7 +29,8 @@ returns-then-is_none c =
     let at = ap characters c.index-keys-place.is ∙ sym (get_or-map characters keys place key (characters key) within) in
     let size = c.requires ∙ sym (length-map keys characters) in
     ap (λ v. Some (chars v)) c.as_str.ensures.value
-    ∙ sym (c.loop-place.invariant ∙ without-one _ values (option_map characters) place c.index-values-place.result (characters key) size below c.index-values-place.is none at)
+    ∙ sym (c.loop-place.invariant
+    ∙ without-one _ values (option_map characters) place c.index-values-place.result (characters key) size below c.index-values-place.is none at)
 
 pub loop-place-preserved : goal.loop-place-preserved
 loop-place-preserved c =

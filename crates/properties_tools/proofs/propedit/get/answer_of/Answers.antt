@@ -7,7 +7,7 @@ use Rattle.java_properties.specs.Maps.{characters}
 use Rattle.properties_tools.specs.Propedit.Get.{ended_if, found_status, value_or}
 use Rattle.properties_tools.specs.Propedit.Texts.{borrowed_characters}
 use Rattle.properties_tools.specs.Private.LookedUp.{value_texts}
-use Rattle.properties_tools.specs.declared.propedit.asked.TextEnd.{TextEnd}
+use Rattle.properties_tools.specs.declared.propedit.request.TextEnd.{TextEnd}
 use Rattle.properties_tools.proofs.propedit.get.answer_of.Goals.{in-Some+in_ok-push_ended-in-Some, in-None}
 use Rattle.properties_tools.proofs.propedit.get.answer_of.Goals as goal
 
@@ -23,7 +23,8 @@ status-none (Some t ∷ texts) = status-none texts
 status-none (None ∷ texts) = refl
 
 -- what is printed with it
-printed : (end : TextEnd) (texts : List (Option (List ℕ))) (text : Option (List ℕ)) (old new : List ℕ) → old ≡ flat_map (ended_if end) texts → new ≡ old ++ ended_if end text
+printed : (end : TextEnd) (texts : List (Option (List ℕ))) (text : Option (List ℕ)) (old new : List ℕ) → old ≡ flat_map (ended_if end) texts
+    → new ≡ old ++ ended_if end text
     → new ≡ flat_map (ended_if end) (texts ++ text ∷ [])
 printed end texts text old new h k = k ∙ ap (λ v. v ++ ended_if end text) h ∙ flat_map_more (ended_if end) [] texts text
 
@@ -43,7 +44,8 @@ loop-value-preserved c =
           let is = sym (ap (option_map borrowed_characters) w.in-Some.is) ∙ c.value_or.ensures in
           let with = ap (λ v. texts ++ v ∷ []) is ∙ sym more in
           record {
-            text = printed c.args.end texts (Some (borrowed_characters w.in-Some.word)) c.loop-value.text.items c.match-value_or.text.items c.loop-value.invariant.text
+            text = printed c.args.end texts (Some (borrowed_characters w.in-Some.word)) c.loop-value.text.items c.match-value_or.text.items
+                c.loop-value.invariant.text
                 (ap (λ v. v.items) w.text-is ∙ w.in_ok-push_ended-in-Some.ensures)
                 ∙ ap (flat_map (ended_if c.args.end)) with;
             status = w.status-is ∙ c.loop-value.invariant.status ∙ sym (status-some texts (borrowed_characters w.in-Some.word)) ∙ ap found_status with;

@@ -3,7 +3,8 @@ use Rattle.properties_tools.proofs.Statuses.{absent-status}
 use Rattle.properties_tools.proofs.propedit.in_place.edit_file.Goals as goal
 
 pub returns-in-Err-NotReplaced-clause-prints : goal.returns-in-Err-NotReplaced-clause-prints
-returns-in-Err-NotReplaced-clause-prints g c = λ failed. rw (← c.as_str-path.ensures.value) (inr (c.in-Err-NotReplaced.error, c.print_replace_error.ensures.prints))
+returns-in-Err-NotReplaced-clause-prints g c =
+    λ failed. rw (← c.as_str-path.ensures.value) (inr (c.in-Err-NotReplaced.error, c.print_replace_error.ensures.prints))
 
 pub returns-in-Err-NotEdited-clause-absent : goal.returns-in-Err-NotEdited-clause-absent
 returns-in-Err-NotEdited-clause-absent g c = λ one.

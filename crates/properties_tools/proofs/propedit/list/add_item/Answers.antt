@@ -8,5 +8,6 @@ pub returns : goal.returns
 returns c =
     let content = sym c.content.ensures ∙ c.in-KVPair.is in
     let key = chars (cow_str_bytes c.in-KVPair.key) in
-    rw content (lists-key (chars c.args.prefix.now) c.args.end key c.line_number.result c.in_ok-first_line-in-KVPair.field-0 c.args.keys.now c.first_line.new.self
+    rw content (lists-key (chars c.args.prefix.now) c.args.end key c.line_number.result c.in_ok-first_line-in-KVPair.field-0 c.args.keys.now
+    c.first_line.new.self
     (sym c.is_listed.ensures ∙ c.if-not-is_listed.false) (rw c.as_str.ensures.value at c.in_ok-first_line-in-KVPair.ensures))

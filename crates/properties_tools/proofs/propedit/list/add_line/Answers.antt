@@ -19,7 +19,8 @@ told line bytes r b is same says h = is_comment_line-text line is ∙ ap is_comm
 
 pub returns-then-is_comment : goal.returns-then-is_comment
 returns-then-is_comment c =
-    let comment = told c.args.line.now c.as_bytes.result.now c.is_comment.result true c.utf8.line c.as_bytes.ensures.value c.is_comment.ensures c.if-is_comment.true in (
+    let comment = told c.args.line.now c.as_bytes.result.now c.is_comment.result true c.utf8.line c.as_bytes.ensures.value c.is_comment.ensures
+    c.if-is_comment.true in (
       comment-escapes c.args.line_number (chars c.args.line.now) _ comment,
       lists-none (chars c.args.prefix.now) c.args.end _ c.args.keys.now (comment-none (chars c.args.line.now) comment),
     )
@@ -27,7 +28,8 @@ returns-then-is_comment c =
 pub returns-in_err-found : goal.returns-in_err-found
 returns-in_err-found c =
     let error = err_from_is_err_and c.from_residual.result c.from_residual.ensures.1 in
-    let other = told c.args.line.now c.as_bytes.result.now c.is_comment.result false c.utf8.line c.as_bytes.ensures.value c.is_comment.ensures c.if-is_comment.false in
+    let other = told c.args.line.now c.as_bytes.result.now c.is_comment.result false c.utf8.line c.as_bytes.ensures.value c.is_comment.ensures
+    c.if-is_comment.false in
     rw (error.1, error.2) (inl (other, c.in_err-found.ensures))
 
 pub returns-in_err-add_item-in-Some : goal.returns-in_err-add_item-in-Some

@@ -1,4 +1,4 @@
-use Rattle.std.proofs.Common.{ap, refl, sym, ◌∙◌, arith}
+use Rattle.std.proofs.Common.{ap, refl, sym, arith}
 use Rattle.std.specs.Prelude.{Ok, Err}
 use Rattle.std.specs.Str.{chars}
 use Rattle.std.proofs.lemmas.Result.{err_from_is_err_and}
@@ -11,7 +11,8 @@ use Rattle.properties_tools.proofs.propedit.list.listed.Goals as goal
 
 pub loop-number-init : goal.loop-number-init
 loop-number-init c = record {
-  listed = listed-none (slice_of c.args.source.now) _ _ (ap (λ v. let w : LineState = v in w.state) c.new-lines.ensures.at) c.in_ok-keys.ensures.indexed c.in_ok-keys.ensures.empty;
+  listed = listed-none (slice_of c.args.source.now) _ _ (ap (λ v. let w : LineState = v in w.state) c.new-lines.ensures.at) c.in_ok-keys.ensures.indexed
+      c.in_ok-keys.ensures.empty;
   error = c.new-lines.ensures.error;
 }
 
@@ -26,16 +27,19 @@ returns-in_err-add_line c =
     let error = err_from_is_err_and c.from_residual-in_err-add_line.result c.from_residual-in_err-add_line.ensures.1 in
     let why = rw c.line.ensures at c.in_err-add_line.ensures in
     let lost = listed-lost c.in-Some.number c.next_text.new.self.at (listed-at refl c.loop-number.invariant.listed) c.in-Some.ensures.joins.0 why in
-    rw (error.1, error.2) (slice-listed (encoding_of c.args.encoding) (chars c.args.prefix.now) c.args.end (slice_of c.args.source.now) _ (Err _) (omega arith) lost)
+    rw (error.1, error.2)
+    (slice-listed (encoding_of c.args.encoding) (chars c.args.prefix.now) c.args.end (slice_of c.args.source.now) _ (Err _) (omega arith) lost)
 
-pub returns-in-Some-take_error : goal.returns-in-Some-take_error
-returns-in-Some-take_error c =
-    let stop = stopped c.in_default.ensures.joins c.loop-number.invariant.error (sym c.take_error.ensures.error ∙ c.in-Some-take_error.is) in
-    let failed = listed-failed (listed-at refl c.loop-number.invariant.listed) stop.0 stop.2 c.from.ensures in
-    slice-listed (encoding_of c.args.encoding) (chars c.args.prefix.now) c.args.end (slice_of c.args.source.now) _ (Err _) (omega arith) failed
+pub returns-in_err-finish : goal.returns-in_err-finish
+returns-in_err-finish c =
+    let stop = stopped c.in_default.ensures.joins c.loop-number.invariant.error (sym c.in_err-finish.ensures.error) in
+    let error = err_from_is_err_and c.from_residual-in_err-finish.result c.from_residual-in_err-finish.ensures.1 in
+    let failed = listed-failed (listed-at refl c.loop-number.invariant.listed) stop.0 stop.2 error.2 in
+    rw error.1 (slice-listed (encoding_of c.args.encoding) (chars c.args.prefix.now) c.args.end (slice_of c.args.source.now) _ (Err _) (omega arith) failed)
 
 pub returns : goal.returns
 returns c =
-    let end = ended c.in_default.ensures.joins (sym c.take_error.ensures.error ∙ c.in-None.is) in
+    let end = ended c.in_default.ensures.joins (sym c.in_ok-finish.ensures.error) in
     let read = listed-read (listed-at refl c.loop-number.invariant.listed) end.0 end.2 in
-    slice-listed (encoding_of c.args.encoding) (chars c.args.prefix.now) c.args.end (slice_of c.args.source.now) _ (Ok c.loop-number.keys.text) (omega arith) read
+    slice-listed (encoding_of c.args.encoding) (chars c.args.prefix.now) c.args.end (slice_of c.args.source.now) _ (Ok c.loop-number.keys.text) (omega arith)
+    read

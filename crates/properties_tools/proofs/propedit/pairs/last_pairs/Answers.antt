@@ -1,4 +1,4 @@
-use Rattle.std.proofs.Common.{ap, refl, sym, ◌∙◌, arith}
+use Rattle.std.proofs.Common.{ap, refl, sym, arith}
 use Rattle.std.specs.Global.{Global}
 use Rattle.std.specs.Prelude.{Ok, Err}
 use Rattle.std.proofs.lemmas.Result.{err_from_is_err_and}
@@ -39,14 +39,15 @@ returns-in_err-put_line c =
     let lost = pairs-lost c.in-Some.number c.next_text.new.self.at (collected-at refl c.loop-number.invariant.collected) c.in-Some.ensures.joins.0 why in
     rw (error.1, error.2) (slice-pairs {Y = Global} {Z = Global} (encoding_of c.args.encoding) (slice_of c.args.source.now) _ (Err _) (omega arith) lost)
 
-pub returns-in-Some-take_error : goal.returns-in-Some-take_error
-returns-in-Some-take_error c =
-    let stop = stopped c.in_default.ensures.joins c.loop-number.invariant.error (sym c.take_error.ensures.error ∙ c.in-Some-take_error.is) in
-    let failed = pairs-failed (collected-at refl c.loop-number.invariant.collected) stop.0 stop.2 c.from.ensures in
-    slice-pairs {Y = Global} {Z = Global} (encoding_of c.args.encoding) (slice_of c.args.source.now) _ (Err _) (omega arith) failed
+pub returns-in_err-finish : goal.returns-in_err-finish
+returns-in_err-finish c =
+    let stop = stopped c.in_default.ensures.joins c.loop-number.invariant.error (sym c.in_err-finish.ensures.error) in
+    let error = err_from_is_err_and c.from_residual-in_err-finish.result c.from_residual-in_err-finish.ensures.1 in
+    let failed = pairs-failed (collected-at refl c.loop-number.invariant.collected) stop.0 stop.2 error.2 in
+    rw error.1 (slice-pairs {Y = Global} {Z = Global} (encoding_of c.args.encoding) (slice_of c.args.source.now) _ (Err _) (omega arith) failed)
 
 pub returns : goal.returns
 returns c =
-    let end = ended c.in_default.ensures.joins (sym c.take_error.ensures.error ∙ c.in-None.is) in
+    let end = ended c.in_default.ensures.joins (sym c.in_ok-finish.ensures.error) in
     let read = pairs-read (pairs_of c.loop-number.pairs.items) (collected-at refl c.loop-number.invariant.collected) end.0 end.2 in
     slice-pairs (encoding_of c.args.encoding) (slice_of c.args.source.now) _ (Ok c.loop-number.pairs) (omega arith) read

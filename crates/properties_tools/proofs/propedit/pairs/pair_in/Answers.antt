@@ -16,13 +16,15 @@ told line bytes r b is same says h = is_comment_line-text line is ∙ ap is_comm
 
 pub returns-then-is_comment : goal.returns-then-is_comment
 returns-then-is_comment c =
-    let comment = told c.args.line.now c.as_bytes.result.now c.is_comment.result true c.utf8.line c.as_bytes.ensures.value c.is_comment.ensures c.if-is_comment.true in
+    let comment = told c.args.line.now c.as_bytes.result.now c.is_comment.result true c.utf8.line c.as_bytes.ensures.value c.is_comment.ensures
+    c.if-is_comment.true in
     (comment-escapes c.args.line_number (chars c.args.line.now) _ comment, comment-none (chars c.args.line.now) comment)
 
 pub returns-in_err-found : goal.returns-in_err-found
 returns-in_err-found c =
     let error = err_from_is_err_and c.from_residual.result c.from_residual.ensures.1 in
-    let other = told c.args.line.now c.as_bytes.result.now c.is_comment.result false c.utf8.line c.as_bytes.ensures.value c.is_comment.ensures c.if-is_comment.false in
+    let other = told c.args.line.now c.as_bytes.result.now c.is_comment.result false c.utf8.line c.as_bytes.ensures.value c.is_comment.ensures
+    c.if-is_comment.false in
     rw (error.1, error.2) (inl (other, c.in_err-found.ensures))
 
 pub returns-in_err-item_pair-in-Some : goal.returns-in_err-item_pair-in-Some
@@ -33,8 +35,11 @@ returns-in_err-item_pair-in-Some c =
 pub returns-in_ok-item_pair-in-Some : goal.returns-in_ok-item_pair-in-Some
 returns-in_ok-item_pair-in-Some c =
     let found = rw c.in-Some.is at c.in_ok-found.ensures in
-    let item = found-item c.args.line.now c.in-Some.found found in
-    (subst (λ o. AreInComments (escapes_from c.args.line_number (chars c.args.line.now) o [])) (sym item) tt, c.in_ok-item_pair-in-Some.ensures ∙ ap outcome_pair (sym item))
+    let item = found-item c.args.line.now c.in-Some.found found in (
+      subst (λ o. AreInComments (escapes_from c.args.line_number (chars c.args.line.now) o [])) (sym item) tt,
+      c.in_ok-item_pair-in-Some.ensures
+          ∙ ap outcome_pair (sym item),
+    )
 
 pub returns-in-None : goal.returns-in-None
 returns-in-None c =

@@ -51,7 +51,9 @@ returns-clause-placed c =
     let same = ap chars c.in_ok-clone.ensures.cases in
     let all = length-map items pair_of in
     let last : c.len.result ≡ length (pairs_of items) = omega arith in
-    let updates = subst (λ v. UpdatesBy string_cmp (λ x. slice_cmp nat_cmp (string_bytes copy) (string_bytes x)) c.args.places.now c.insert.new.self (Some v)) last c.in_ok-insert.ensures.updates in
-    let placed = places-new c.args.places.now c.insert.new.self copy (pairs_of items) value c.requires.placed (ap (λ v. place_of (keys_of (pairs_of items)) v) same ∙ none) updates in
+    let updates = subst (λ v. UpdatesBy string_cmp (λ x. slice_cmp nat_cmp (string_bytes copy) (string_bytes x)) c.args.places.now c.insert.new.self (Some v))
+    last c.in_ok-insert.ensures.updates in
+    let placed = places-new c.args.places.now c.insert.new.self copy (pairs_of items) value c.requires.placed
+    (ap (λ v. place_of (keys_of (pairs_of items)) v) same ∙ none) updates in
     let P : List (List ℕ × List ℕ) → Type 0 = λ v. HasPlaces c.insert.new.self.entries v in
     subst P (ap (λ v. pairs_of items ++ (v, value) ∷ []) same ∙ sym (ap pairs_of c.in_ok-push.ensures.items ∙ map-append pair_of items _)) placed

@@ -14,5 +14,6 @@ returns c =
     let start : c.len-2.result ≡ length c.args.self.now.text.items = omega arith in
     let mid : FirstKeys = record c.args.self.now { text = c.push_ended.new.text } in
     let new = rw c.in_default.is at c.held_line.ensures in
-    adds-one c.args.end c.args.self.now mid c.keep.new.self c.args.key.now c.args.line_number (at c.len-2.result) c.utf8.key new refl refl c.in_ok-push_ended.ensures (ap at start)
+    adds-one c.args.end c.args.self.now mid c.keep.new.self c.args.key.now c.args.line_number (at c.len-2.result) c.utf8.key new refl refl
+    c.in_ok-push_ended.ensures (ap at start)
     c.in_ok-keep.ensures

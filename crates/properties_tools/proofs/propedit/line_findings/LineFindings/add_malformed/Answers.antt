@@ -10,7 +10,8 @@ pub returns-in_ok-push-in_default : goal.returns-in_ok-push-in_default
 returns-in_ok-push-in_default c = λ w.
     let comment : c.is_comment.result ≡ is_comment_line (chars c.args.line.now) =
     c.is_comment.ensures ∙ ap is_comment_line c.as_bytes.ensures.value ∙ sym (is_comment_line-text c.args.line.now c.utf8.line) in
-    let added = ap₂ (λ k b. c.args.self.now.escapes.items ++ escape_finding (record { line_number = c.args.line_number; kind = k; in_comment = b }) ∷ []) c.kind.ensures comment in
+    let added = ap₂ (λ k b. c.args.self.now.escapes.items ++ escape_finding (record { line_number = c.args.line_number; kind = k; in_comment = b }) ∷ [])
+    c.kind.ensures comment in
     adds-malformed w c.args.line_number (chars c.args.line.now) c.args.error c.args.self.now
     (record { escapes = c.push.new.self; repeats = c.args.self.now.repeats; keys = c.args.self.now.keys }) c.requires
     (λ e. c.in_default.not-Memory (c.kind.ensures ∙ e)) (c.in_ok-push-in_default.ensures.items ∙ added) refl refl

@@ -1,0 +1,290 @@
+// What words ask for, and what is printed of words that ask for nothing.
+
+ghost use Rattle.std.specs.Prelude.{◌≡◌};
+ghost use Rattle.counted_io.specs.Streams.{IsSameSink};
+
+use crate::command_line::{CommandName, CommandRow, Help, Version, command_named, target_named};
+use crate::edits::edits_in;
+use crate::mistake::{Mistake, NoRequest};
+use crate::options::{Options, is_option, options_in};
+use counted_io::CountedWrite;
+use java_properties::Edit;
+use properties_tools::propedit::request::{
+    Change, CheckedFiles, Command, Conversion, Edits, FileChange, Request,
+};
+use properties_tools::propedit::{print_out_of_memory, print_text, print_usage_error};
+use std::alloc::{AllocError, Global};
+
+/// Returns what the words after the program's name ask for.
+///
+/// The error is a mistake in the words, a lack of memory, or a request for help or the version; `explain` prints it.
+///
+/// ```text
+/// match asked_for(alloc, &words) {
+///     Ok(request) => answer(&request),
+///     Err(error) => explain(alloc, error, &mut output, &mut errors),
+/// }
+/// ```
+pub fn asked_for<'a>(alloc: Global, words: &'a [String]) -> Result<Request, NoRequest<'a>> {
+    let (options, words) = options_in(alloc, words)?;
+    let [name, rest @ ..] = words else {
+        return Err(NoRequest::Wrong(Mistake::NoCommand));
+    };
+    let Some(row) = command_named(name.as_str()) else {
+        return Err(NoRequest::Wrong(unknown(name.as_str(), rest)));
+    };
+    if row.takes_plain_words() && asks_for_help(rest) {
+        return Err(NoRequest::Help);
+    }
+    options.refuse_useless(row)?;
+    match row.command {
+        CommandName::Get => Ok(get(alloc, row, &options, rest)?),
+        CommandName::List => Ok(list(alloc, row, &options, rest)?),
+        CommandName::Check => Ok(check(alloc, row, &options, rest)?),
+        CommandName::Set | CommandName::Remove => {
+            Ok(edit(alloc, row, &options, edits_in(alloc, words)?)?)
+        }
+        CommandName::Convert => Ok(convert(alloc, row, &options, rest)?),
+    }
+}
+
+/// Prints why words ask for nothing, and returns the exit status: help and the version on `output`, and a mistake, with
+/// the usage, on `errors`, with status 2. What can't be printed on `errors` is dropped.
+///
+/// ```text
+/// if let Err(error) = asked_for(alloc, &words) {
+///     return explain(alloc, error, &mut output, &mut errors);
+/// }
+/// ```
+pub fn explain<W: CountedWrite, E: CountedWrite>(
+    alloc: Global,
+    error: NoRequest<'_>,
+    output: &mut W,
+    errors: &mut E,
+) -> u8
+    ensures same_sink { IsSameSink W.CountedWrite output.old output.new }
+    ensures same_error_sink { IsSameSink E.CountedWrite errors.old errors.new }
+{
+    let text = match error {
+        NoRequest::Help => format!(in alloc; "{Help}"),
+        NoRequest::Version => format!(in alloc; "{Version}"),
+        NoRequest::Wrong(mistake) => return explain_mistake(alloc, mistake, errors),
+    };
+    match text {
+        Ok(text) => print_text(alloc, text.as_str(), output, errors),
+        Err(_) => print_out_of_memory(errors),
+    }
+}
+
+/// Prints on `errors` what is wrong with words, and the usage, and returns the status of wrong arguments, 2.
+pub fn explain_mistake<E: CountedWrite>(alloc: Global, mistake: Mistake<'_>, errors: &mut E) -> u8
+    ensures status { result ≡ 2 }
+    ensures same_error_sink { IsSameSink E.CountedWrite errors.old errors.new }
+{
+    if let Mistake::Memory = mistake {
+        return print_out_of_memory(errors);
+    }
+    let usage = mistake.usage();
+    match format!(in alloc;
+        "propedit: {mistake}\n\n{usage}For more information, try 'propedit --help'.\n"
+    ) {
+        Ok(text) => print_usage_error(errors, text.as_str()),
+        Err(_) => print_out_of_memory(errors),
+    }
+}
+
+// Returns what is wrong with a word in the place of a command, before these words.
+fn unknown<'a>(name: &'a str, rest: &'a [String]) -> Mistake<'a> {
+    let next = match rest {
+        [next, ..] => command_named(next.as_str()),
+        [] => None,
+    };
+    Mistake::UnknownCommand(name, next)
+}
+
+fn asks_for_help(words: &[String]) -> bool {
+    words
+        .iter()
+        .take_while(|word| word.as_str() != "--")
+        .any(|word| word.as_str() == "--help" || word.as_str() == "-h")
+}
+
+fn get<'a>(
+    alloc: Global,
+    row: &'static CommandRow,
+    options: &Options<'a>,
+    words: &'a [String],
+) -> Result<Request, Mistake<'a>> {
+    let keys = keys_in(alloc, row, words)?;
+    if keys.is_empty() {
+        return Err(Mistake::NoKey(row.name));
+    }
+    let default = match options.default() {
+        Some(value) => Some(String::from_str(alloc, value)?),
+        None => None,
+    };
+    options.work(alloc, row, Command::Get(keys, default, options.end()))
+}
+
+// Returns the keys that words are. A first `--` is dropped. Among several words, those that look like options come
+// after it, so that none is taken for a key that was meant as an option.
+fn keys_in<'a>(
+    alloc: Global,
+    row: &'static CommandRow,
+    words: &'a [String],
+) -> Result<Vec<String>, Mistake<'a>> {
+    let mut keys = Vec::new(alloc);
+    let mut in_doubt = None;
+    let mut dashes = false;
+    for word in words {
+        let word = word.as_str();
+        if word == "--" && !dashes {
+            dashes = true;
+            continue;
+        }
+        if is_option(word) && !dashes {
+            in_doubt = in_doubt.or(Some(word));
+        }
+        keys.push(String::from_str(alloc, word)?)?;
+    }
+    match in_doubt {
+        Some(word) if keys.len() > 1 => Err(Mistake::OptionAfter(word, row)),
+        _ => Ok(keys),
+    }
+}
+
+fn list<'a>(
+    alloc: Global,
+    row: &'static CommandRow,
+    options: &Options<'a>,
+    words: &'a [String],
+) -> Result<Request, Mistake<'a>> {
+    let prefix = String::from_str(alloc, only_word(row, words)?.unwrap_or(""))?;
+    let command = if options.lists_values() {
+        Command::ListValues(prefix, options.end())
+    } else {
+        Command::List(prefix, options.end())
+    };
+    options.work(alloc, row, command)
+}
+
+// Returns the word after a command that takes one at most. A first `--` is dropped.
+fn only_word<'a>(
+    row: &'static CommandRow,
+    words: &'a [String],
+) -> Result<Option<&'a str>, Mistake<'a>> {
+    let mut found = None;
+    let mut dashes = false;
+    for word in words {
+        let word = word.as_str();
+        if word == "--" && !dashes {
+            dashes = true;
+            continue;
+        }
+        let Some(first) = found else {
+            found = Some(word);
+            continue;
+        };
+        if is_option(first) {
+            return Err(Mistake::OptionAfter(first, row));
+        }
+        return Err(if is_option(word) {
+            Mistake::OptionAfter(word, row)
+        } else {
+            Mistake::Surplus(word, row)
+        });
+    }
+    Ok(found)
+}
+
+fn check<'a>(
+    alloc: Global,
+    row: &'static CommandRow,
+    options: &Options<'a>,
+    words: &'a [String],
+) -> Result<Request, Mistake<'a>> {
+    let mut paths = Vec::new(alloc);
+    let mut dashes = false;
+    for word in words {
+        let word = word.as_str();
+        if !dashes && word == "--" {
+            dashes = true;
+        } else if !dashes && is_option(word) {
+            return Err(Mistake::OptionAfter(word, row));
+        } else {
+            paths.push(String::from_str(alloc, word)?)?;
+        }
+    }
+    if paths.is_empty() {
+        return options.work(alloc, row, Command::Check);
+    }
+    options.refuse_file(row)?;
+    Ok(Request::CheckFiles(CheckedFiles {
+        encoding: options.encoding(row)?,
+        paths,
+    }))
+}
+
+fn edit<'a>(
+    alloc: Global,
+    row: &'static CommandRow,
+    options: &Options<'a>,
+    list: Vec<Edit>,
+) -> Result<Request, Mistake<'a>> {
+    if !list.iter().any(sets_value) {
+        options.refuse_for_set(row)?;
+    }
+    let edits = Edits {
+        list,
+        ascii_only: options.ascii_only(),
+        existing: options.existing(),
+    };
+    change(alloc, row, options, Change::Edits(edits))
+}
+
+fn sets_value(edit: &Edit) -> bool {
+    match edit {
+        Edit::Put(_, _) | Edit::SetValue(_, _) => true,
+        Edit::Remove(_) => false,
+    }
+}
+
+fn convert<'a>(
+    alloc: Global,
+    row: &'static CommandRow,
+    options: &Options<'a>,
+    words: &'a [String],
+) -> Result<Request, Mistake<'a>> {
+    let Some(word) = only_word(row, words)? else {
+        return Err(Mistake::NoWord(row));
+    };
+    if is_option(word) {
+        return Err(Mistake::OptionAfter(word, row));
+    }
+    let Some(target) = target_named(word) else {
+        return Err(Mistake::NoTarget(word, row));
+    };
+    let conversion = Conversion {
+        target,
+        spelling: options.spelling(),
+    };
+    change(alloc, row, options, Change::Conversion(conversion))
+}
+
+// Returns the request for a change of the source that the options name, or of the file to change in place.
+fn change<'a>(
+    alloc: Global,
+    row: &'static CommandRow,
+    options: &Options<'a>,
+    change: Change,
+) -> Result<Request, Mistake<'a>> {
+    let Some(path) = options.in_place() else {
+        return options.work(alloc, row, Command::Change(change));
+    };
+    Ok(Request::EditFile(FileChange {
+        path: String::from_str(alloc, path)?,
+        encoding: options.encoding(row)?,
+        change,
+        missing: options.missing(),
+    }))
+}
