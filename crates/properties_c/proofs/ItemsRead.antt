@@ -7,7 +7,7 @@ use Rattle.properties_format.specs.Entries.{malformed}
 use Rattle.properties_format.specs.Escapes.{Malformed, not_enough_digits, not_hex, invalid_character}
 use Rattle.properties_format.specs.Lines.{end}
 use Rattle.java_properties.specs.Errors.{kind_of, malformed_kind}
-use Rattle.java_properties.specs.ReadLines.{IsReading, StopsMalformed, StopsFailed, StopsEarly, entries_in}
+use Rattle.java_properties.specs.ReadLines.{IsReading, ReadsUpTo, entries_in}
 use Rattle.properties_items.specs.declared.error.PropertiesError.{PropertiesError}
 use Rattle.properties_items.specs.declared.line.Line.{Line}
 use Rattle.java_properties.proofs.SliceReads.{slice_reader, slice-faultless, slice-numbered}
@@ -51,8 +51,7 @@ items-whole {e} {source} {x} lines given same reading (inr r) = inr r
 -- An error of a slice is a malformed escape, or memory ran out.
 pub items-stopped : {e : Encoding} {source to : Bor (List ℕ)} {x : Crossing} (lines given : List Line) (error : PropertiesError) (status : Status) (line : ℕ)
     → given ≡ lines → length source.now + 1 < 2 ^ 64
-    → StopsMalformed slice_reader e source (entries_in lines) error to
-    ⊎ (StopsFailed slice_reader e source (entries_in lines) error to ⊎ StopsEarly slice_reader e source (entries_in lines) error to)
+    → ReadsUpTo slice_reader e source (entries_in lines) error to
     → status ≡ status_of_kind (kind_of error) → status ≢ NoMemory → line ≡ error_line error
     → Delivers (packed_items (entries_in given)) status line x ⊎ Refuses NoMemory 0 x → GivesItems e source.now x ⊎ Refuses NoMemory 0 x
 items-stopped {e} {source} {to} {x} lines given error status line same small (inl stops) is_status some is_line (inl d) =

@@ -3,7 +3,7 @@ use Rattle.std.proofs.Common.{◌≡◌, ℕ, ◌+◌, ◌≤◌, ◌<◌, List,
 use Rattle.std.specs.Prelude.{encode_utf8_all, string_bytes}
 use Rattle.std.specs.Str.{chars}
 use Rattle.std.specs.declared.string.String.{String}
-use Rattle.std.proofs.lemmas.List.{drop_more, drop-drop, drop_all, append-nil, take-append-drop}
+use Rattle.std.proofs.lemmas.List.{drop_more, drop-drop}
 use Rattle.std.proofs.lemmas.Str.{encodes-chars, IsUtf8-string_bytes}
 use Rattle.java_properties.specs.ReadLines.{entries_in}
 use Rattle.properties_items.specs.declared.line.Line.{Line}
@@ -45,11 +45,3 @@ ArePutBefore-more {lines} {i} {at} {next} {line} {r} {out} {new} {initial} here 
       front = rw (place, parts.0, append_assoc, ← from) before.front;
       after = rw (place, parts.1, ← drop-drop (length bytes) at out, before.after, drop-drop (length bytes) at initial);
     }
-
-pub ArePutBefore-all : {lines : List Line} {i at : ℕ} {out initial : List ℕ} → length lines ≤ i → ArePutBefore lines i at out initial
-    → out ≡ packed_lines lines ++ drop (length (packed_lines lines)) initial
-ArePutBefore-all {lines} {i} {at} {out} {initial} past h =
-    let none : packed_lines (drop i lines) ≡ [] = ap packed_lines (drop_all i lines past) in
-    let place : at ≡ length (packed_lines lines) = omega (arith, h.place, ap length none) in
-    let front : take at out ≡ packed_lines lines = sym (append-nil (take at out)) ∙ ap (λ v. take at out ++ v) (sym none) ∙ h.front in
-    sym (take-append-drop at out) ∙ ap (λ v. v ++ drop at out) front ∙ ap (λ v. packed_lines lines ++ v) (h.after ∙ ap (λ k. drop k initial) place)

@@ -1,5 +1,5 @@
 -- What is found and read in a slice, which is read to its end and without a fault.
-use Rattle.std.proofs.Common.{◌≡◌, ℕ, ◌+◌, List, [], ◌∷◌, ◌++◌, ap, sym, ◌∙◌, subst, refl, inl, inr}
+use Rattle.std.proofs.Common.{◌≡◌, ℕ, List, [], ◌∷◌, ◌++◌, ap, sym, ◌∙◌, subst, refl, inl, inr}
 use Rattle.std.specs.Prelude.{if◌then◌else◌}
 use Rattle.std.specs.List.{flat_map}
 use Rattle.std.specs.Borrow.{Bor}
@@ -11,9 +11,7 @@ use Rattle.properties_format.specs.MalformedEscapes as format
 use Rattle.java_properties.specs.Errors.{malformed_kind}
 use Rattle.java_properties.specs.MalformedEscapes.{escape_records}
 use Rattle.java_properties.specs.ReadLines.{IsReading, ReadsWhole, StopsMalformed}
-use Rattle.properties_items.specs.declared.error.ErrorKind.TheVariants as kind
 use Rattle.properties_items.specs.declared.error.PropertiesError.{PropertiesError}
-use Rattle.properties_items.specs.declared.findings.MalformedEscape.{MalformedEscape}
 use Rattle.java_properties.proofs.SliceReads.{slice_reader, slice-read, slice-whole}
 use Rattle.properties_c.specs.PackedFindings.{escape_bytes, escape_kind, finding_bytes}
 use Rattle.properties_c.specs.Private.Findings.{found_bytes, kind_of_finding}

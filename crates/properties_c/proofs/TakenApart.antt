@@ -1,5 +1,5 @@
 -- Packed lists that are taken apart from their fronts.
-use Rattle.std.proofs.Common.{◌≡◌, ℕ, ◌<◌, List, [], ◌∷◌, ◌++◌, length, map, sym, ◌∙◌, arith, append_assoc, ◌≢◌}
+use Rattle.std.proofs.Common.{◌≡◌, ℕ, ◌<◌, List, [], ◌∷◌, ◌++◌, length, map, sym, ◌∙◌, arith, append_assoc}
 use Rattle.std.proofs.lemmas.List.{append-nil, map-append}
 use Rattle.std.proofs.lemmas.List.Concat.{flat_map-append}
 use Rattle.properties_format.specs.Entries.{Content}
@@ -10,7 +10,7 @@ use Rattle.java_properties.specs.PropertiesWriter.{call_of}
 use Rattle.java_properties.specs.declared.writer.calls.Call.{Call}
 use Rattle.properties_c.specs.PackedLists.{Meaning, edits, lines, AreMeant, Begins}
 use Rattle.properties_c.specs.Records.{Record, IsSized}
-use Rattle.properties_c.specs.Private.Lists.{Splits, IsFirst, RefusesFirst, RefusesRecord, RefusesList}
+use Rattle.properties_c.specs.Private.Lists.{Splits, IsFirst, RefusesFirst, RefusesRecord}
 use Rattle.properties_c.specs.declared.status.Status.{Status}
 use Rattle.properties_c.specs.declared.status.Status.TheVariants.{NoMemory, NotUtf8, BadList}
 use Rattle.properties_c.proofs.Packing.{sizes}
@@ -46,14 +46,6 @@ Begins-more {A} {m} {list} {rest} {after} {things} {thing} before next = record 
 pub IsFirst-shorter : {A : Type 0} {m : Meaning A} {list rest : List ℕ} {thing : A} → IsFirst m list thing rest → length rest < length list
 IsFirst-shorter {A} {m} {list} {rest} h =
     grind (arith, sizes, h.splits.division)
-
--- A list is refused for what is after the things at its front.
-pub list-refused : {A : Type 0} (m : Meaning A) (list : List ℕ) (things : List A) (rest : List ℕ) (status : Status)
-    → Begins m list things rest → rest ≢ [] → RefusesFirst m rest status → RefusesList m list status
-list-refused m list things rest BadList begins more h = record { things = things; rest = rest; begins = begins; more = more; bad = h }
-list-refused m list things rest NotUtf8 begins more h = record { things = things; rest = rest; begins = begins; lacks = h }
-list-refused m list things rest NoMemory begins more h = tt
-list-refused m list things rest other begins more h = h
 
 -- ---- edits
 

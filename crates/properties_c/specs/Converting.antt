@@ -2,7 +2,7 @@
 use Rattle.std.specs.Prelude.{◌⊎◌, ℕ, Bool, List}
 use Rattle.properties_format.specs.Encoding.{Encoding}
 use Rattle.properties_format.specs.Converting.{IsConverted}
-use Rattle.properties_text.specs.Printing.{encoding_in, only_in}
+use Rattle.properties_text.specs.Printing.{in_format}
 use Rattle.properties_text.specs.declared.print.Repertoire.{Repertoire}
 use Rattle.properties_c.specs.Crossing.{Crossing, Delivers, Refuses}
 use Rattle.properties_c.specs.Inputs.{InEncoding, ToTarget}
@@ -11,7 +11,7 @@ use Rattle.properties_c.specs.declared.status.Status.TheVariants.{Done, NoMemory
 -- The source is converted to a target, readable or not, and the result is given.
 pub record GivesConverted (e : Encoding) (target : Repertoire) (readable : Bool) (source : List ℕ) (x : Crossing) : Type 0 where
   pub bytes : List ℕ
-  pub converted : IsConverted e (encoding_in target) (only_in target) readable source bytes
+  pub converted : IsConverted e (in_format target) readable source bytes
   pub given : Delivers bytes Done 0 x
 
 abbrev pub ConvertsAcross : List ℕ → ℕ → ℕ → Bool → Crossing → Type 0

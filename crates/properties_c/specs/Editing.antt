@@ -2,6 +2,7 @@
 use Rattle.std.specs.Prelude.{◌⊎◌, ℕ, Bool, true, false, List, [], ◌∷◌, Result, IsErrAnd}
 use Rattle.std.specs.Global.{Vec}
 use Rattle.properties_format.specs.Encoding.{Encoding}
+use Rattle.properties_format.specs.Repertoire.{Repertoire, repertoire}
 use Rattle.properties_format.specs.Edits.{Edit, put, remove, set_value}
 use Rattle.java_properties.specs.Editing.{EditsPairs, MakesEdits}
 use Rattle.java_properties.specs.Errors.{IsBareError}
@@ -12,13 +13,13 @@ use Rattle.properties_c.specs.Inputs.{InEncoding, WithFlags, WithText, for_edits
 use Rattle.properties_c.specs.PackedLists.{edits, WithList}
 use Rattle.properties_c.specs.declared.encoding.Flags.{Flags}
 
--- The result of edits, given whether comments are read, and whether what is put in is ASCII-only.
-abbrev pub EditsAs : Bool → Bool → Encoding → List ℕ → List Edit → Result (Vec ℕ) PropertiesError → Type 0
-EditsAs true only e source edits result = MakesEdits e only source edits result
-EditsAs false only e source edits result = EditsPairs e only source edits result
+-- The result of edits, given whether comments are read, and what may stand unescaped in what is put in.
+abbrev pub EditsAs : Bool → Repertoire → List ℕ → List Edit → Result (Vec ℕ) PropertiesError → Type 0
+EditsAs true r source edits result = MakesEdits r source edits result
+EditsAs false r source edits result = EditsPairs r source edits result
 
 abbrev pub MakesAll : Flags → Encoding → List ℕ → List Edit → Result (Vec ℕ) PropertiesError → Type 0
-MakesAll f e source edits result = EditsAs f.read_comments f.ascii_only e source edits result
+MakesAll f e source edits result = EditsAs f.read_comments (repertoire e f.ascii_only) source edits result
 
 -- The result of one edit, for which its texts are copied first: memory may run out then.
 abbrev pub MakesOne : Flags → Encoding → List ℕ → Edit → Result (Vec ℕ) PropertiesError → Type 0

@@ -5,8 +5,8 @@ ghost use Rattle.properties_text.specs.Converted.{is_readable};
 ghost use Rattle.properties_c.specs.Converting.{ConvertsAcross};
 ghost use Rattle.properties_c.specs.Crossing.{crossing};
 
-use crate::crossing::{deliver_result, refuse};
 use crate::encoding::{encoding_numbered, target_numbered};
+use crate::out::{deliver_result, refuse};
 use crate::status::Status;
 use java_properties::{Spelling, convert};
 use std::alloc::Global;

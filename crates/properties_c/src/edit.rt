@@ -7,9 +7,9 @@ ghost use Rattle.properties_text.specs.Encoding.{encoding_of};
 ghost use Rattle.properties_c.specs.Crossing.{crossing};
 ghost use Rattle.properties_c.specs.Editing.{EditsAcross, MakesAll, MakesOne, RemovesKeyAcross, SetsKeyAcross, SetsValueAcross};
 
-use crate::crossing::{deliver_result, refuse};
 use crate::encoding::{FOR_EDITS, FOR_KEYS, Flags, encoding_numbered, flags_numbered, text_of};
 use crate::lists::edits_of;
+use crate::out::{deliver_result, refuse};
 use crate::status::Status;
 use java_properties::{Edit, Encoding, PropertiesError, edit_all, edit_all_ascii, edit_pairs};
 use std::alloc::Global;

@@ -8,7 +8,7 @@ ghost use Rattle.properties_c.specs.Records.{record_in};
 ghost use Rattle.properties_c.specs.Private.Lines.{line_record, packed_lines};
 ghost use Rattle.properties_c.specs.declared.status.Status.TheVariants.{NoMemory};
 
-use crate::crossing::{answer, lack_room, refuse};
+use crate::out::{answer, lack_room, refuse};
 use crate::records::{Record, put_record, record_size};
 use crate::status::Status;
 use java_properties::{Line, LineContent};

@@ -14,13 +14,13 @@
 #![tactic(auto)]
 
 pub mod convert;
-mod crossing;
 pub mod edit;
 mod encoding;
 mod findings;
 mod items;
 mod lists;
 mod numbers;
+mod out;
 pub mod read;
 mod records;
 mod status;

@@ -5,10 +5,10 @@ ghost use Rattle.properties_text.specs.Encoding.{encoding_of};
 ghost use Rattle.properties_c.specs.Crossing.{crossing};
 ghost use Rattle.properties_c.specs.Reading.{FindingsAcross, GetsAcross, ItemsAcross, TellsAs};
 
-use crate::crossing::{deliver, deliver_result, fail, line_in, refuse};
 use crate::encoding::{FOR_KEYS, encoding_numbered, flags_numbered, text_of};
 use crate::findings::findings_in;
 use crate::items::deliver_items;
+use crate::out::{deliver, deliver_result, fail, line_in, refuse};
 use crate::status::{Status, status_of};
 use java_properties::{Encoding, PropertiesError, read_lines, value_among_pairs, value_of};
 use std::alloc::Global;

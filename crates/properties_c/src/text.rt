@@ -4,7 +4,7 @@ ghost use Rattle.std.specs.Prelude.{◌≡◌};
 ghost use Rattle.properties_c.specs.Crossing.{crossing};
 ghost use Rattle.properties_c.specs.Texts.{status_text, GivesTextAt, IsStatusAt};
 
-use crate::crossing::deliver;
+use crate::out::deliver;
 use crate::status::Status;
 
 /// Gives the text of the status with this number.

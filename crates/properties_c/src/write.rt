@@ -11,9 +11,9 @@ ghost use Rattle.java_properties.specs.PropertiesWriter.{new_writer};
 ghost use Rattle.properties_format.specs.Encoding.{output_encoding};
 ghost use Rattle.properties_c.specs.Private.Writes.{SetsAll, WritesCalls};
 
-use crate::crossing::{deliver, refuse};
 use crate::encoding::{FOR_LINES, Flags, encoding_numbered, flags_numbered, text_of};
 use crate::lists::calls_of;
+use crate::out::{deliver, refuse};
 use crate::status::{Status, status_of};
 use counted_io::{Counted, CountedWrite};
 use java_properties::{Call, Encoding, LineEnding, PropertiesWriter, run_calls};

@@ -4,7 +4,7 @@ use Rattle.std.specs.Global.{Vec}
 use Rattle.properties_format.specs.Encoding.{Encoding}
 use Rattle.properties_format.specs.Converting.{IsConverted}
 use Rattle.properties_text.specs.Encoding.{encoding_of}
-use Rattle.properties_text.specs.Printing.{encoding_in, only_in}
+use Rattle.properties_text.specs.Printing.{in_format}
 use Rattle.properties_text.specs.declared.print.Repertoire.{Repertoire}
 use Rattle.properties_items.specs.Errors.{IsBareError}
 use Rattle.properties_items.specs.declared.error.ErrorKind.TheVariants as kind
@@ -15,7 +15,7 @@ use Rattle.properties_c.specs.declared.status.Status.TheVariants.{NoMemory}
 use Rattle.properties_c.proofs.convert.todrenval_convert.Goals as goal
 
 crossed : (e : Encoding) (t : Repertoire) (readable : Bool) (source : List ℕ) (outcome : Result (Vec ℕ) PropertiesError) (x : Crossing)
-    → IfOk outcome (λ bytes. IsConverted e (encoding_in t) (only_in t) readable source bytes.items) → IfErr outcome (λ error. IsBareError kind.Memory error) → Crosses outcome x
+    → IfOk outcome (λ bytes. IsConverted e (in_format t) readable source bytes.items) → IfErr outcome (λ error. IsBareError kind.Memory error) → Crosses outcome x
     → GivesConverted e t readable source x ⊎ Refuses NoMemory 0 x
 crossed e t readable source (Ok bytes) x converted refused crosses = inl (record { bytes = bytes.items; converted = converted; given = crosses })
 crossed e t readable source (Err error) x converted refused crosses = inr (search rules)

@@ -1,4 +1,4 @@
-// What a call gives, on its way to C.
+// Writes what a call returns to where C wants it.
 
 ghost use Rattle.std.specs.Prelude.{◌≡◌};
 ghost use Rattle.properties_c.specs.Statuses.{error_line, status_of_kind};
@@ -24,14 +24,14 @@ pub fn answer(
     number_of(status)
 }
 
-/// Answers with a status alone.
+/// Returns a status, with no size and no line.
 pub fn refuse(status: Status, length: &mut usize, line: &mut usize) -> i32
     ensures { Answers status 0 0 result length.new line.new }
 {
     answer(status, 0, 0, length, line)
 }
 
-/// Answers that so much room is needed.
+/// Returns `NoRoom` with the size that is needed.
 pub fn lack_room(needed: usize, length: &mut usize, line: &mut usize) -> i32
     ensures { Answers NoRoom needed 0 result length.new line.new }
 {
@@ -50,7 +50,7 @@ pub fn deliver(bytes: &[u8], out: &mut [u8], length: &mut usize, line: &mut usiz
     answer(Status::Done, count, 0, length, line)
 }
 
-/// Answers with the status and the line of an error.
+/// Returns the status of an error, with its line.
 pub fn fail(error: &PropertiesError, length: &mut usize, line: &mut usize) -> i32
     ensures { Answers (status_of_kind (kind_of error.now)) 0 (error_line error.now) result length.new line.new }
 {
