@@ -176,7 +176,7 @@ class Repository:
                         self.pages[page], self.paths[page] = Page(open(path).read()), path
                     elif inside.startswith('src/') and name.endswith('.rt'):
                         self.files[crate, inside[4:-3]] = items(blanked(open(path).read()))
-        # `pub use` of a page hands it on under the name of the page that has the line.
+        # `pub use` of a page re-exports it under the name of the page that has the line.
         self.handed = {}
         for page, of in self.pages.items():
             for target in of.hands_on:
