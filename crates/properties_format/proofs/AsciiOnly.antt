@@ -6,9 +6,8 @@ use Rattle.std.specs.List.{AllByRecursion}
 use Rattle.std.proofs.lemmas.List.Elements.{All-from_recursion, recursion_from_All}
 use Rattle.std.proofs.lemmas.Bool.{cases_Bool, and_left, cond_both}
 use Rattle.properties_format.specs.Text.{line_ending_text, is_blanks}
-use Rattle.properties_format.specs.Encoding.{Encoding, windows_1252, utf_8, encoded, begins_like_bom}
-use Rattle.properties_format.specs.Repertoire.{Repertoire, ascii_in}
-use Rattle.properties_format.specs.Entries.{Content, comment, pair}
+use Rattle.properties_format.specs.Encoding.{Encoding, windows_1252, utf_8, encoded, begins_like_bom, Repertoire, ascii_in}
+use Rattle.properties_format.specs.Items.{Content, comment, pair}
 use Rattle.properties_format.specs.Settings.{Settings, IsGoodSeparator}
 use Rattle.properties_format.specs.Printing.{Place, in_key_or_value, in_comment, in_prefix, may_be_unescaped, literal, printed_character, printed_characters, encoded_text, is_bom_like, printed_key, is_free, printed_inside, printed_first, printed_rest, printed_value, printed_text, printed}
 use Rattle.properties_format.specs.Writing.{Call, prefix_call, separator_call, ascii_only_call, settings_after_call, settings_after, written_line, lines_with, line_bytes, wrote, items_read_back, ArePrefixesClean, AreOfScalars, AreGoodSettings}

@@ -1,31 +1,27 @@
 -- The laws of edits.
 use Rattle.std.proofs.Common.{◌≡◌, ◌↔◌, ℕ, ◌+◌, true, false, List, [], ◌∷◌, ◌++◌, length, Option, Some, None, refl, sym, ◌∙◌, inl, inr, subst, arith, ap}
 use Rattle.std.proofs.lemmas.Slice.Eq.{bytes_eq-Decides}
-use Rattle.properties_format.specs.Encoding.{Encoding, byte_order_mark, begins_like_bom}
-use Rattle.properties_format.specs.Repertoire.{Repertoire}
-use Rattle.properties_format.specs.Lines.{end}
-use Rattle.properties_format.specs.Groups.{joined}
-use Rattle.properties_format.specs.Entries.{Entry, AreItems}
-use Rattle.properties_format.specs.Items.{Outcome, IsItems}
+use Rattle.properties_format.specs.Encoding.{Encoding, byte_order_mark, begins_like_bom, Repertoire}
+use Rattle.properties_format.specs.Lines.{end, joined}
+use Rattle.properties_format.specs.Items.{Entry, AreItems, Outcome, IsItems}
 use Rattle.properties_format.specs.Computed.Items.{outcome_of, followed, items_of}
 use Rattle.properties_format.specs.Maps.{HasNoPair, IsMap}
 use Rattle.properties_format.specs.Body.{HeldLine, as_lines, NoneHasKey, groups_bytes}
 use Rattle.properties_format.specs.Edited.{EditResult, guarding_lf, is_editable, edited, IsSetKeyResult}
 use Rattle.properties_format.specs.Edits.{Edit, put, remove, IsEditAllResult}
 use Rattle.properties_format.specs.Changed.{map_edited}
-use Rattle.properties_format.specs.Computed.Body.{held_groups_of, is_pair_with, entries_in}
-use Rattle.properties_format.specs.Computed.Edited.{without, result_of, set_key_result}
-use Rattle.properties_format.specs.Computed.Edits.{edit_made, edits_made, edit_all_result}
+use Rattle.properties_format.specs.Computed.Body.{held_groups_of, is_pair_with}
+use Rattle.properties_format.specs.Computed.Edited.{without}
 use Rattle.properties_format.specs.EditLaws.{RemovingNoPairChangesNothing, SettingTwiceIsSettingOnce, HasMap, DiffersAt, SettingGivesTheValue, RemovingTakesTheValue, ListsOfEditsFollow}
 use Rattle.properties_format.specs.Laws.{HasOne}
 use Rattle.properties_format.proofs.Laws.{one}
 use Rattle.properties_format.proofs.Items.Unique.{items_of-only}
 use Rattle.properties_format.proofs.Maps.{map-only}
 use Rattle.properties_format.proofs.Body.Groups.{held_groups_of-meets, held-body}
-use Rattle.properties_format.proofs.Body.Numbers.{items_of-groups}
+use Rattle.properties_format.proofs.Body.Numbers.{items_of-groups, entries_in}
 use Rattle.properties_format.proofs.Edited.Made.{has_key-false, key_set-only, key_removed-only, no_key-test}
-use Rattle.properties_format.proofs.Edited.Results.{set_key_result-meets, set_key_result-only, result_by-edited}
-use Rattle.properties_format.proofs.Edits.Results.{edits_made-only, edit_all_result-meets, edit_all_result-only}
+use Rattle.properties_format.proofs.Edited.Results.{set_key_result-meets, set_key_result-only, result_by-edited, result_of}
+use Rattle.properties_format.proofs.Edits.Results.{edits_made-only, edit_all_result-meets, edit_all_result-only, edit_made, edits_made}
 use Rattle.properties_format.proofs.Edited.ByteOrderMarks.{has_bom, source-whole}
 use Rattle.properties_format.proofs.Changed.Maps.{other-test, same-test}
 use Rattle.properties_format.proofs.Edited.Twice.{set-twice}
@@ -85,11 +81,11 @@ same-results First Second one two same result =
 
 -- Setting a key has one result,
 abbrev pub one-set : (r : Repertoire) (source key value : List ℕ) → HasOne (IsSetKeyResult r source key value)
-one-set r source key value = one (set_key_result r source key value) (set_key_result-meets r source key value) (set_key_result-only r source key value)
+one-set r source key value = one _ (set_key_result-meets r source key value) (set_key_result-only r source key value)
 
 -- and so does a list of edits.
 abbrev pub one-edit_all : (r : Repertoire) (source : List ℕ) (edits : List Edit) → HasOne (IsEditAllResult r source edits)
-one-edit_all r source edits = one (edit_all_result r source edits) (edit_all_result-meets r source edits) (edit_all_result-only r source edits)
+one-edit_all r source edits = one _ (edit_all_result-meets r source edits) (edit_all_result-only r source edits)
 
 -- Setting a key twice equals setting it once, to the later value.
 pub setting-twice : (t : Repertoire) (source key first second : List ℕ) → SettingTwiceIsSettingOnce t source key first second
@@ -143,6 +139,6 @@ pub lists-follow : (t : Repertoire) (source : List ℕ) (first second : List Edi
 lists-follow t source first second scalars between h result =
     let r = readable t.encoding source h.0 h.1 in
     let next = (edits-contents t source first between r scalars h.2).readable in
-    let same : edit_all_result t source (first ++ second) ≡ edit_all_result t between second =
+    let same : result_of t.encoding source (edits_made t source (first ++ second)) ≡ result_of t.encoding between (edits_made t between second) =
     rw (result-made t.encoding source _ r, result-made t.encoding between _ next, edits_made-append t source first second, edits_made-only t source first between h.0 h.2) in
     same-results _ _ (one-edit_all t source (first ++ second)) (one-edit_all t between second) same result

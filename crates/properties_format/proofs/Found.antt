@@ -1,9 +1,8 @@
 -- What is found in an input exists and is unique.
 use Rattle.std.proofs.Common.{◌≡◌, ℕ, List, [], ◌∷◌, ◌++◌, refl, ap, ap₂, ◌∙◌}
 use Rattle.properties_format.specs.Encoding.{Encoding}
-use Rattle.properties_format.specs.Lines.{InputEnd, Line}
-use Rattle.properties_format.specs.Groups.{HasGroups, joined, first_number}
-use Rattle.properties_format.specs.Computed.Groups.{groups_in}
+use Rattle.properties_format.specs.Lines.{InputEnd, Line, HasGroups, joined, first_number}
+use Rattle.properties_format.specs.Computed.Lines.{groups_in}
 use Rattle.properties_format.specs.Items.{Outcome}
 use Rattle.properties_format.specs.Computed.Items.{outcome_of}
 use Rattle.properties_format.specs.Found.{AreFoundIn, AreFound}

@@ -1,11 +1,10 @@
 -- The keys of entries, each in the position of the first pair with it.
 use Rattle.std.proofs.Common.{◌≡◌, ◌≢◌, ℕ, zero, suc, List, [], ◌∷◌, ◌++◌, refl, ap, sym, ◌∙◌, inl, inr, subst, arith}
 use Rattle.std.specs.Prelude.{Option, Some, None, Contains, filter_map}
-use Rattle.properties_format.specs.Entries.{comment, pair, Entry, item, malformed, read_fault}
+use Rattle.properties_format.specs.Items.{pair, Entry, item}
 use Rattle.properties_format.specs.Maps.{HasNoPair, IsLastValue, IsValue, PairComesBefore, AreKeys}
-use Rattle.properties_format.specs.Computed.Keys.{Has, HasNot, AreFirstOf}
-use Rattle.properties_format.specs.Computed.Maps.{value_in}
-use Rattle.properties_format.proofs.Maps.{value_in-meets}
+use Rattle.properties_format.specs.Computed.Maps.{Has, HasNot, AreFirstOf}
+use Rattle.properties_format.proofs.Maps.{value_in-meets, value_in}
 
 -- ---- keys in a list
 
@@ -24,9 +23,7 @@ contains key (k ∷ ks) (inr h) = let m = contains key ks h in (suc m.0, (let l 
 -- the key of a pair
 abbrev pub pair_key : Entry → Option (List ℕ)
 pair_key (item n (pair key value)) = Some key
-pair_key (item n (comment text)) = None
-pair_key (malformed kind n) = None
-pair_key (read_fault n) = None
+pair_key entry = None
 
 -- the keys of the pairs, in order
 abbrev pub pair_keys : List Entry → List (List ℕ)
@@ -36,9 +33,7 @@ no-pair : (key : List ℕ) (entries : List Entry) → HasNoPair key entries → 
 no-pair key [] n h = h
 no-pair key (item m (pair k v) ∷ entries) n (inl e) = n.0 e
 no-pair key (item m (pair k v) ∷ entries) n (inr h) = no-pair key entries n.1 h
-no-pair key (item m (comment text) ∷ entries) n h = no-pair key entries n h
-no-pair key (malformed kind m ∷ entries) n h = no-pair key entries n h
-no-pair key (read_fault m ∷ entries) n h = no-pair key entries n h
+no-pair key (entry ∷ entries) n h = no-pair key entries n h
 
 -- The key of a pair has a value.
 key-value : (key : List ℕ) (entries : List Entry) → Has key (pair_keys entries) → (value : List ℕ) × IsLastValue entries key value
@@ -52,9 +47,7 @@ key-value key entries h = of-value (value_in entries key) (value_in-meets entrie
 value-key : (key value : List ℕ) (n : ℕ) (before after : List Entry) → Has key (pair_keys (before ++ (item n (pair key value) ∷ after)))
 value-key key value n [] after = inl refl
 value-key key value n (item m (pair k v) ∷ before) after = inr (value-key key value n before after)
-value-key key value n (item m (comment text) ∷ before) after = value-key key value n before after
-value-key key value n (malformed kind m ∷ before) after = value-key key value n before after
-value-key key value n (read_fault m ∷ before) after = value-key key value n before after
+value-key key value n (entry ∷ before) after = value-key key value n before after
 
 -- One more entry at the front keeps the order of two keys, if it isn't a pair with the later one.
 pair_before-on : (entry : Entry) {entries : List Entry} {key other : List ℕ}
@@ -81,9 +74,7 @@ pair_before (item m (pair k v) ∷ entries) (x ∷ xs) ys key other e n a =
     let same : x ≡ k = cc in
     let rest : pair_keys entries ≡ xs ++ key ∷ ys = cc in
     pair_before-on (item m (pair k v)) (λ others none. ((λ q. n.0 (same ∙ q)), none)) (pair_before entries xs ys key other rest n.1 a)
-pair_before (item m (comment text) ∷ entries) xs ys key other e n a = pair_before-on _ (λ others none. none) (pair_before entries xs ys key other e n a)
-pair_before (malformed kind m ∷ entries) xs ys key other e n a = pair_before-on _ (λ others none. none) (pair_before entries xs ys key other e n a)
-pair_before (read_fault m ∷ entries) xs ys key other e n a = pair_before-on _ (λ others none. none) (pair_before entries xs ys key other e n a)
+pair_before (entry ∷ entries) xs ys key other e n a = pair_before-on _ (λ others none. none) (pair_before entries xs ys key other e n a)
 
 -- The keys of the pairs, each once in the order of their first pairs, are the keys of the entries.
 pub are-keys : (entries : List Entry) (all keys : List (List ℕ)) → pair_keys entries ≡ all → AreFirstOf all keys → AreKeys entries keys

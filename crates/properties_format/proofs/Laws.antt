@@ -1,25 +1,20 @@
 -- The three laws.
 use Rattle.std.proofs.Common.{◌≡◌, ℕ, ◌+◌, List, [], ◌∷◌, ◌++◌, refl, ap, sym, ◌∙◌, ap₂, subst}
 use Rattle.std.specs.Prelude.{Some}
-use Rattle.properties_format.specs.Pieces.{piece}
+use Rattle.properties_format.specs.Text.{piece}
 use Rattle.properties_format.specs.Encoding.{Encoding, byte_order_mark, ascii_bytes, IsPieces, IsDecoded}
 use Rattle.properties_format.specs.Computed.Encoding.{pieces_of, decoded_of}
-use Rattle.properties_format.specs.Lines.{InputEnd, end, Line, IsLines, numbered_lines}
-use Rattle.properties_format.specs.Computed.Lines.{lines_of}
-use Rattle.properties_format.specs.Groups.{IsGroups, joined}
-use Rattle.properties_format.specs.Computed.Groups.{groups_of}
+use Rattle.properties_format.specs.Lines.{InputEnd, end, Line, IsLines, numbered_lines, IsGroups, joined}
+use Rattle.properties_format.specs.Computed.Lines.{lines_of, groups_of}
 use Rattle.properties_format.specs.Split.{IsSplit}
 use Rattle.properties_format.specs.Computed.Split.{split_of}
 use Rattle.properties_format.specs.Escapes.{IsMeaning}
 use Rattle.properties_format.specs.Computed.Escapes.{meaning_of}
-use Rattle.properties_format.specs.Entries.{comment, pair, Entry, item, malformed, read_fault}
-use Rattle.properties_format.specs.Items.{IsItems}
+use Rattle.properties_format.specs.Items.{pair, Entry, item, IsItems}
 use Rattle.properties_format.specs.Computed.Items.{items_of}
 use Rattle.properties_format.specs.Maps.{HasNoPair, IsLastValue, IsValue}
-use Rattle.properties_format.specs.Computed.Maps.{value_in}
 use Rattle.properties_format.specs.Settings.{Settings}
-use Rattle.properties_format.specs.Writing.{Call, wrote}
-use Rattle.properties_format.specs.Pairs.{Pair, pairs_in, calls_of, items_after}
+use Rattle.properties_format.specs.Writing.{Call, wrote, Pair, pairs_in, calls_of, items_after}
 use Rattle.properties_format.specs.Laws.{HasOne, HasOneReading, ReadingInvertsWriting, EqualBytesOfEqualPairs, WritingAnewChangesNothing, HasPair, HasNoKey, AreDistinct, MapIsReadBack, SplittingCommutes, LineEndsSeparatePieces}
 use Rattle.properties_format.proofs.Encodings.Pieces.{pieces_of-meets, pieces_of-only, decoded_of-meets, decoded_of-only}
 use Rattle.properties_format.proofs.Encodings.Cuts.{pieces_of-cut_ascii}
@@ -31,7 +26,7 @@ use Rattle.properties_format.proofs.Groups.Only.{groups_of-only}
 use Rattle.properties_format.proofs.Split.Unique.{split_of-meets, split_of-only}
 use Rattle.properties_format.proofs.Escapes.Unique.{meaning_of-meets, meaning_of-only}
 use Rattle.properties_format.proofs.Items.Unique.{items_of-meets, items_of-only}
-use Rattle.properties_format.proofs.Maps.{value_in-only, map-only}
+use Rattle.properties_format.proofs.Maps.{value_in-only, map-only, value_in}
 use Rattle.properties_format.proofs.ReadBack.Law.{items_of-wrote, IsItems-wrote}
 use Rattle.properties_format.proofs.ReadBack.Lists.{items_of-pairs, pairs_in-items, pairs-equal, pairs-settle}
 
@@ -106,10 +101,8 @@ writing-anew e s ps h entries is = pairs-settle e s h.encoding h.settings ps ent
 -- The pairs in two lists of entries.
 pairs_in-append : (xs ys : List Entry) → pairs_in (xs ++ ys) ≡ pairs_in xs ++ pairs_in ys
 pairs_in-append [] ys = refl
-pairs_in-append (item n (comment text) ∷ xs) ys = pairs_in-append xs ys
 pairs_in-append (item n (pair key value) ∷ xs) ys = ap (λ v. (key, value) ∷ v) (pairs_in-append xs ys)
-pairs_in-append (malformed kind n ∷ xs) ys = pairs_in-append xs ys
-pairs_in-append (read_fault n ∷ xs) ys = pairs_in-append xs ys
+pairs_in-append (entry ∷ xs) ys = pairs_in-append xs ys
 
 -- In the items of pairs without the key, no item is a pair with it.
 pub no-pair : (n : ℕ) (key : List ℕ) (ps : List Pair) → HasNoKey key ps → HasNoPair key (items_after n ps)

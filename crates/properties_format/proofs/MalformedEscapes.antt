@@ -2,21 +2,24 @@
 use Rattle.std.proofs.Common.{◌≡◌, ℕ, ◌+◌, List, [], ◌∷◌, ◌++◌, refl, ap, sym, ◌∙◌, zero-add}
 use Rattle.properties_format.specs.Encoding.{Encoding}
 use Rattle.properties_format.specs.Computed.Encoding.{decoded_of}
-use Rattle.properties_format.specs.Lines.{InputEnd, end, fault, Line, line_ends, numbered_lines}
-use Rattle.properties_format.specs.Computed.Lines.{lines_of}
-use Rattle.properties_format.specs.Groups.{HasGroups}
+use Rattle.properties_format.specs.Lines.{InputEnd, end, fault, Line, line_ends, numbered_lines, HasGroups}
+use Rattle.properties_format.specs.Computed.Lines.{lines_of, groups_in}
 use Rattle.properties_format.specs.Items.{Entry, read_fault, Outcome, ignored}
 use Rattle.properties_format.specs.Computed.Items.{outcome_of, followed}
 use Rattle.properties_format.specs.ItemsToCome.{ReaderState, start}
 use Rattle.properties_format.specs.Computed.ItemsToCome.{items_to_come, natural_to_come, last_to_come, entries_of_logical, entries_pending}
-use Rattle.properties_format.specs.MalformedEscapes.{MalformedEscape, escapes_from, AreMalformedEscapes, IsCutLine}
-use Rattle.properties_format.specs.EditedPairs.{EscapesAre}
-use Rattle.properties_format.specs.Computed.MalformedEscapes.{escapes_in, malformed_escapes_of}
+use Rattle.properties_format.specs.Found.{MalformedEscape, escapes_from, AreMalformedEscapes, IsCutLine}
+use Rattle.properties_format.specs.Edits.{EscapesAre}
+use Rattle.properties_format.specs.Computed.Found.{escapes_in}
 use Rattle.properties_format.proofs.Encodings.Pieces.{decoded_of-meets}
 use Rattle.properties_format.proofs.Lines.Meets.{lines_of-meets}
 use Rattle.properties_format.proofs.Groups.Input.{groups_in-only}
 use Rattle.properties_format.proofs.Found.{found-in_groups, found-meets, found-only, found_in-append}
 use Rattle.properties_format.proofs.ItemsToCome.Entries.{items_to_come-pending}
+
+-- the malformed escapes of an input
+unfoldable pub malformed_escapes_of : Encoding → List ℕ → List MalformedEscape
+malformed_escapes_of e bytes = escapes_in (groups_in e bytes end)
 
 -- The computed escapes are the malformed escapes of the input.
 pub malformed_escapes_of-meets : (e : Encoding) (bytes : List ℕ) → AreMalformedEscapes e bytes (malformed_escapes_of e bytes)

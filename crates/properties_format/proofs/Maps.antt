@@ -3,9 +3,19 @@ use Rattle.std.proofs.Common.{rules, arith, ◌≡◌, ℕ, Bool, true, false, i
 use Rattle.std.specs.Prelude.{Option, Some, None, bytes_eq}
 use Rattle.std.proofs.lemmas.Bool.{cond-true, cond-false, false_from_ne_true}
 use Rattle.std.proofs.lemmas.Slice.Eq.{bytes_eq-Decides}
-use Rattle.properties_format.specs.Entries.{comment, pair, Entry, item, malformed, read_fault}
+use Rattle.properties_format.specs.Items.{comment, pair, Entry, item}
 use Rattle.properties_format.specs.Maps.{HasNoPair, IsValue, IsMap}
-use Rattle.properties_format.specs.Computed.Maps.{value_of, first_value, value_in}
+use Rattle.properties_format.specs.Computed.Maps.{first_value}
+
+-- the value of one entry, if it is a pair with this key
+abbrev pub value_of : Entry → List ℕ → Option (List ℕ)
+value_of (item n (pair k v)) key = if bytes_eq k key then Some v else None
+value_of entry key = None
+
+-- the value of a key, searched for from the last entry
+abbrev pub value_in : List Entry → List ℕ → Option (List ℕ)
+value_in [] key = None
+value_in (entry ∷ entries) key = first_value (value_in entries key) (value_of entry key)
 
 abbrev IsPairOf : List ℕ → List ℕ → Entry → Type 0
 IsPairOf key value entry = (n : ℕ) × (entry ≡ item n (pair key value))
@@ -41,9 +51,7 @@ value_in-meets (entry ∷ entries) key = with_front entry entries key (value_in 
 none-in : (entries : List Entry) (key : List ℕ) → HasNoPair key entries → value_in entries key ≡ None
 none-in [] key h = refl
 none-in (item n (pair k v) ∷ entries) key h = grind (arith, none-in entries key h.1, cond-false, false_from_ne_true, bytes_eq-Decides)
-none-in (item n (comment text) ∷ entries) key h = ap (λ r. first_value r None) (none-in entries key h)
-none-in (malformed kind n ∷ entries) key h = ap (λ r. first_value r None) (none-in entries key h)
-none-in (read_fault n ∷ entries) key h = ap (λ r. first_value r None) (none-in entries key h)
+none-in (entry ∷ entries) key h = ap (λ r. first_value r None) (none-in entries key h)
 
 -- the last pair with the key gives the value
 last-in : (before : List Entry) (n : ℕ) (key value : List ℕ) (after : List Entry) → HasNoPair key after

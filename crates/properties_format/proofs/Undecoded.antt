@@ -1,22 +1,18 @@
 -- What looks at no non-ASCII character sees the same in bytes of windows-1252 and in their characters.
 use Rattle.std.proofs.Common.{rules, ◌≡◌, ℕ, suc, ◌<◌, ◌≤◌, ◌==◌, ◌%◌, Bool, true, false, List, [], ◌∷◌, ◌++◌, length, map, reverse, refl, sym, ap, ap₂, ◌∙◌, inl, inr, arith}
 use Rattle.std.proofs.lemmas.Bool.{cases_Bool}
-use Rattle.std.proofs.lemmas.List.{map-append, take-map, drop-map}
+use Rattle.std.proofs.lemmas.List.{map-append}
 use mathlib.Core.List.{reverse_aux}
-use Rattle.properties_format.specs.Text.{backslash, is_blank, is_separator, is_comment_sign, without_leading_blanks}
+use Rattle.properties_format.specs.Text.{backslash, is_blank, is_separator, is_comment_sign, without_leading_blanks, characters, begins}
 use Rattle.properties_format.specs.Windows1252.{windows_1252_character}
-use Rattle.properties_format.specs.Groups.{leading_backslashes, ending_backslashes, is_open, begins_with_comment_sign, is_comment_line, without_last, without_open_backslash, addition, joined_after, last_group}
-use Rattle.properties_format.specs.Lines.{Line, InputEnd}
-use Rattle.properties_format.specs.Split.{comment, pair}
+use Rattle.properties_format.specs.Lines.{leading_backslashes, ending_backslashes, is_open, is_comment_line, without_last, without_open_backslash, addition, joined_after, last_group, Line, InputEnd, joined}
+use Rattle.properties_format.specs.Split.{comment, pair, Logical, blank}
 use Rattle.properties_format.specs.Encoding.{windows_1252}
-use Rattle.properties_format.specs.Pieces.{characters}
 use Rattle.properties_format.specs.Computed.Encoding.{pieces_within, pieces_of}
-use Rattle.properties_format.specs.Computed.Cut.{decoded_line}
+use Rattle.properties_format.specs.Computed.Cut.{decoded_line, characters_of}
 use Rattle.properties_format.specs.Computed.Split.{without_trailing_blanks, unless_last_blank, trimmed, Cut, with_front, cut_key, past_separator, pair_of, split_full, split_of}
-use Rattle.properties_format.specs.Computed.Groups.{groups_after}
+use Rattle.properties_format.specs.Computed.Lines.{groups_after, groups_of}
 use Rattle.properties_format.proofs.Encodings.Windows1252.{windows_1252-ascii}
-use Rattle.properties_format.proofs.Split.Unique.{split_of-meets, split_of-only}
-use Rattle.properties_format.specs.Computed.Undecoded.{characters_of, decoded, in_text, LineCommutes, JoiningCommutes, SplittingCommutes}
 
 -- ---- one character
 
@@ -76,7 +72,7 @@ pub opens : (d : List ℕ) → is_open (characters_of d) ≡ is_open d
 opens d = ap (λ n. n % 2 == 1) (ending d)
 
 pub comments : (d : List ℕ) → is_comment_line (characters_of d) ≡ is_comment_line d
-comments d = ap begins_with_comment_sign (leading-blanks d) ∙ search (rules, same-comment_sign)
+comments d = ap (begins is_comment_sign) (leading-blanks d) ∙ search (rules, same-comment_sign)
 
 last-off : (d : List ℕ) → without_last (characters_of d) ≡ characters_of (without_last d)
 last-off (b ∷ c ∷ d) = ap (λ v. windows_1252_character b ∷ v) (last-off (c ∷ d))
@@ -88,10 +84,11 @@ closed d = grind (arith, opens, last-off)
 pub adds : (d : List ℕ) → addition (characters_of d) ≡ characters_of (addition d)
 adds d = ap without_open_backslash (leading-blanks d) ∙ closed (without_leading_blanks d)
 
-pub line-commutes : (d : List ℕ) → LineCommutes d
-line-commutes d = search (rules, decodes, leading-blanks, ending, comments, closed, map-append, adds)
-
 -- ---- groups
+
+-- a line of bytes as a line of text
+abbrev pub decoded : Line → Line
+decoded l = record { number = l.number; text = characters_of l.text }
 
 after : (ls : List Line) → joined_after (map decoded ls) ≡ characters_of (joined_after ls)
 after [] = refl
@@ -104,10 +101,21 @@ after-group : (p ls : List Line) (e : InputEnd) → groups_after (map decoded p)
 after-group p [] e = last-one p e
 after-group p (l ∷ ls) e = search (rules, map-append, after-group [] ls e, after-group (p ++ l ∷ []) ls e, comments, opens)
 
-pub joining-commutes : (ls : List Line) → JoiningCommutes ls
-joining-commutes ls = record { joined_is = search (rules, comments, closed, after, map-append); groups_are = λ e. after-group [] ls e }
+-- Lines are joined alike,
+pub joined-text : (ls : List Line) → joined (map decoded ls) ≡ characters_of (joined ls)
+joined-text ls = search (rules, comments, closed, after, map-append)
+
+-- and divided into groups alike.
+pub groups-text : (ls : List Line) (e : InputEnd) → groups_of (map decoded ls) e ≡ map (map decoded) (groups_of ls e)
+groups-text ls e = after-group [] ls e
 
 -- ---- splitting
+
+-- what bytes are split into, as text
+abbrev pub in_text : Logical → Logical
+in_text blank = blank
+in_text (comment text) = comment (characters_of text)
+in_text (pair key value) = pair (characters_of key) (characters_of value)
 
 cut_text : Cut → Cut
 cut_text cut = record { key = characters_of cut.key; rest = characters_of cut.rest }
@@ -132,6 +140,3 @@ full (b ∷ d) = elim (cases_Bool (is_comment_sign b)) [
 pub splits : (d : List ℕ) → split_of (characters_of d) ≡ in_text (split_of d)
 unfolding split_of
 splits d = ap split_full (leading-blanks d) ∙ full (without_leading_blanks d)
-
-pub splitting-commutes : (d : List ℕ) → SplittingCommutes d
-splitting-commutes d = grind (arith, splits, split_of-only, split_of-meets, drop-map, take-map)

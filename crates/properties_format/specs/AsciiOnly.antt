@@ -4,20 +4,13 @@
 use Rattle.std.specs.Prelude.{◌≡◌, ◌⊎◌, All, ℕ, ◌<◌, nat_lt, true, if◌then◌else◌, List, [], ◌∷◌}
 use Rattle.properties_format.specs.Encoding.{windows_1252, utf_8}
 use Rattle.properties_format.specs.Lines.{end}
-use Rattle.properties_format.specs.Entries.{Entry}
-use Rattle.properties_format.specs.Items.{IsItems}
-use Rattle.properties_format.specs.Writing.{Call, comment_call, pair_call, prefix_call, separator_call, ending_call, flush_call, ascii_only_call, readable_call}
+use Rattle.properties_format.specs.Items.{Entry, IsItems}
+use Rattle.properties_format.specs.Writing.{Call, ascii_only_call}
 
 -- The call doesn't turn ASCII-only output off.
 abbrev pub KeepsAsciiOnly : Call → Type 0
-KeepsAsciiOnly (comment_call text) = Unit {0}
-KeepsAsciiOnly (pair_call key value) = Unit {0}
-KeepsAsciiOnly (prefix_call prefix) = Unit {0}
-KeepsAsciiOnly (separator_call separator) = Unit {0}
-KeepsAsciiOnly (ending_call line_ending) = Unit {0}
-KeepsAsciiOnly flush_call = Unit {0}
 KeepsAsciiOnly (ascii_only_call on) = on ≡ true
-KeepsAsciiOnly (readable_call on) = Unit {0}
+KeepsAsciiOnly call = Unit {0}
 
 -- None of the calls turns ASCII-only output off.
 abbrev pub AllKeepAsciiOnly : List Call → Type 0

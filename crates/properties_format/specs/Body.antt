@@ -4,11 +4,9 @@
 use Rattle.std.specs.Prelude.{◌≡◌, ℕ, List, [], ◌∷◌, ◌++◌, Option, Some, None}
 use Rattle.properties_format.specs.Text.{LineEnding, line_ending_text}
 use Rattle.properties_format.specs.Encoding.{Encoding}
-use Rattle.properties_format.specs.Lines.{Ended, Lines, end, Line}
+use Rattle.properties_format.specs.Lines.{Ended, Lines, end, Line, IsGroups, joined}
 use Rattle.properties_format.specs.Cut.{IsCut, IsDecodedLine}
-use Rattle.properties_format.specs.Groups.{IsGroups, joined}
-use Rattle.properties_format.specs.Entries.{pair}
-use Rattle.properties_format.specs.Items.{given, IsOutcome}
+use Rattle.properties_format.specs.Items.{pair, given, IsOutcome}
 
 -- a natural line of a body: its bytes, the text that they decode to, and its line ending, which the last line doesn't
 -- have

@@ -1,13 +1,11 @@
 -- What an edit changes: in a source's contents, in its map and in its bytes.
 -- Source: java.util.Properties of Java SE 7, setProperty and load (a later pair takes the place of an earlier one).
 use Rattle.std.specs.Prelude.{◌≡◌, ◌≢◌, ◌⊎◌, bytes_eq, ℕ, if◌then◌else◌, List, [], ◌∷◌, ◌++◌, Option, Some, None}
-use Rattle.properties_format.specs.Encoding.{Encoding, byte_order_mark}
-use Rattle.properties_format.specs.Repertoire.{Repertoire}
-use Rattle.properties_format.specs.Lines.{end}
-use Rattle.properties_format.specs.Entries.{Content, comment, pair, Entry, item, malformed, read_fault, AreItems}
-use Rattle.properties_format.specs.Items.{IsItems}
+use Rattle.properties_format.specs.Encoding.{Encoding, byte_order_mark, Repertoire}
+use Rattle.properties_format.specs.Lines.{end, Line, joined}
+use Rattle.properties_format.specs.Items.{Content, comment, pair, Entry, item, AreItems, IsItems, Outcome, ignored, given, IsOutcome}
 use Rattle.properties_format.specs.Maps.{IsMap}
-use Rattle.properties_format.specs.Body.{AreGroupsOf, HasKey, HeldLine, NoneHasKey, group_bytes}
+use Rattle.properties_format.specs.Body.{AreGroupsOf, HasKey, HeldLine, NoneHasKey, group_bytes, as_groups}
 use Rattle.properties_format.specs.Edits.{Edit, put, remove, set_value, IsEdited}
 use Rattle.properties_format.specs.Valued.{KeepsFront}
 
@@ -15,8 +13,7 @@ use Rattle.properties_format.specs.Valued.{KeepsFront}
 abbrev pub contents : List Entry → List Content
 contents [] = []
 contents (item n content ∷ entries) = content ∷ contents entries
-contents (malformed kind n ∷ entries) = contents entries
-contents (read_fault n ∷ entries) = contents entries
+contents (entry ∷ entries) = contents entries
 
 -- None of these is a pair with the key.
 abbrev pub HoldNoPair : List ℕ → List Content → Type 0
@@ -86,6 +83,11 @@ abbrev pub OccurIn : List (List HeldLine) → List ℕ → Type 0
 OccurIn [] bytes = Unit {0}
 OccurIn (g ∷ gs) bytes = (front : List ℕ) × (back : List ℕ) × (bytes ≡ front ++ (group_bytes g ++ back)) × OccurIn gs back
 
+-- These are the others of a list: every one that is so is left out, and the rest are unchanged.
+abbrev pub AreLeft : {A : Type 0} → (A → Type 0) → List A → List A → Type 0
+AreLeft IsSo [] left = left ≡ []
+AreLeft {A} IsSo (x ∷ xs) left = IsSo x × AreLeft IsSo xs left ⊎ ¬ (IsSo x) × (more : List A) × (left ≡ x ∷ more) × AreLeft IsSo xs more
+
 -- these are the groups except the last pair with the key
 abbrev pub AreOthersThanLast : List ℕ → List (List HeldLine) → List (List HeldLine) → Type 0
 AreOthersThanLast key groups others =
@@ -93,12 +95,6 @@ AreOthersThanLast key groups others =
     ⊎ (before : List (List HeldLine)) × (group : List HeldLine) × (after : List (List HeldLine)) × (groups ≡ before ++ group ∷ after) × HasKey key group
     × NoneHasKey key after
     × (others ≡ before ++ after)
-
--- these are the groups except the pairs with the key
-abbrev pub AreOthers : List ℕ → List (List HeldLine) → List (List HeldLine) → Type 0
-AreOthers key [] others = others ≡ []
-AreOthers key (g ∷ gs) others =
-    HasKey key g × AreOthers key gs others ⊎ ¬ (HasKey key g) × (more : List (List HeldLine)) × (others ≡ g ∷ more) × AreOthers key gs more
 
 -- The bytes of such groups of the source are in the result, in order.
 abbrev pub KeepsOthers : (List (List HeldLine) → List (List HeldLine) → Type 0) → Encoding → List ℕ → List ℕ → Type 0
@@ -111,7 +107,7 @@ KeepsOthers Others e source result =
 -- set in place, every byte outside it.
 abbrev pub KeepsRest : Encoding → List ℕ → Edit → List ℕ → Type 0
 KeepsRest e source (put key value) result = KeepsOthers (AreOthersThanLast key) e source result
-KeepsRest e source (remove key) result = KeepsOthers (AreOthers key) e source result
+KeepsRest e source (remove key) result = KeepsOthers (AreLeft (HasKey key)) e source result
 KeepsRest e source (set_value key value) result = KeepsOthers (AreOthersThanLast key) e source result × KeepsFront e source key result
 
 -- The result is the source after these edits, each of which keeps the rest of what the one before it gave.
@@ -119,3 +115,58 @@ abbrev pub AreKept : Repertoire → List ℕ → List Edit → List ℕ → Type
 AreKept r source [] result = result ≡ source
 AreKept r source (edit ∷ edits) result =
     (next : List ℕ) × IsEdited r source edit next × KeepsRest r.encoding source edit next × AreKept r next edits result
+
+-- ---- The logical lines of a source that can be edited: an edit changes pairs, and leaves every other line as it is.
+
+-- the logical line of a group, given its outcome, before those of the groups after it; blank lines are left out
+abbrev pub line_before : Outcome → List ℕ → List (List ℕ) → List (List ℕ)
+line_before ignored x xs = xs
+line_before outcome x xs = x ∷ xs
+
+-- These are the logical lines of the groups, in order, without blank ones.
+abbrev pub AreLinesOf : List (List Line) → List (List ℕ) → Type 0
+AreLinesOf [] xs = xs ≡ []
+AreLinesOf (group ∷ groups) xs =
+    (outcome : Outcome) × (rest : List (List ℕ)) × IsOutcome (joined group) outcome × (xs ≡ line_before outcome (joined group) rest) × AreLinesOf groups rest
+
+-- These are the logical lines of a source.
+pub record AreLogicalLines (e : Encoding) (source : List ℕ) (xs : List (List ℕ)) : Type 0 where
+  pub groups : List (List HeldLine)
+  pub held : AreGroupsOf (byte_order_mark e source).encoding (byte_order_mark e source).body groups
+  pub are : AreLinesOf (as_groups groups) xs
+
+-- The line is a pair with this key.
+abbrev pub IsPairWith : List ℕ → List ℕ → Type 0
+IsPairWith key x = (value : List ℕ) × IsOutcome x (given (pair key value))
+
+-- None of the lines is a pair with this key.
+abbrev pub NoneIsPair : List ℕ → List (List ℕ) → Type 0
+NoneIsPair key [] = Unit {0}
+NoneIsPair key (x ∷ xs) = ¬ (IsPairWith key x) × NoneIsPair key xs
+
+-- The last pair with the key is a line that is a pair with this value now, and all other lines are unchanged.
+pub record IsLastLineChanged (key value : List ℕ) (old new : List (List ℕ)) : Type 0 where
+  pub before : List (List ℕ)
+  pub line : List ℕ
+  pub after : List (List ℕ)
+  pub changed : List ℕ
+  pub was : old ≡ before ++ line ∷ after
+  pub has_key : IsPairWith key line
+  pub no_later : NoneIsPair key after
+  pub now : new ≡ before ++ changed ∷ after
+  pub has_value : IsOutcome changed (given (pair key value))
+
+-- The key is set: the last pair with it has the new value; or, if no pair has the key, there is a new last line.
+abbrev pub AreLinesSet : List ℕ → List ℕ → List (List ℕ) → List (List ℕ) → Type 0
+AreLinesSet key value old new =
+    IsLastLineChanged key value old new ⊎ NoneIsPair key old × (line : List ℕ) × (new ≡ old ++ line ∷ []) × IsOutcome line (given (pair key value))
+
+-- the lines after one edit, and after several in order
+abbrev pub AreLinesEdited : Edit → List (List ℕ) → List (List ℕ) → Type 0
+AreLinesEdited (put key value) old new = AreLinesSet key value old new
+AreLinesEdited (remove key) old new = AreLeft (IsPairWith key) old new
+AreLinesEdited (set_value key value) old new = AreLinesSet key value old new
+
+abbrev pub AreLinesEditedInTurn : List Edit → List (List ℕ) → List (List ℕ) → Type 0
+AreLinesEditedInTurn [] old new = new ≡ old
+AreLinesEditedInTurn (edit ∷ edits) old new = (next : List (List ℕ)) × AreLinesEdited edit old next × AreLinesEditedInTurn edits next new

@@ -5,15 +5,12 @@
 -- that has to be escaped is dropped, escapes of ASCII characters stay, and so does a surrogate without its other half.
 use Rattle.std.specs.Prelude.{◌≡◌, ◌↔◌, All, ℕ, nat_lt, Bool, true, false, if◌then◌else◌, List, [], ◌∷◌, ◌++◌}
 use Rattle.properties_format.specs.Text.{backslash, byte, LineEnding}
-use Rattle.properties_format.specs.Encoding.{Encoding, utf_8, output_encoding, begins_like_bom, IsDecoded}
-use Rattle.properties_format.specs.Repertoire.{Repertoire, ascii_in, all_of}
-use Rattle.properties_format.specs.Lines.{InputEnd, Line, Ended, Lines, IsLines}
-use Rattle.properties_format.specs.Groups.{HasGroups, joined, first_number}
-use Rattle.properties_format.specs.Items.{Outcome, ignored, given, broken, IsOutcome, IsItems}
+use Rattle.properties_format.specs.Encoding.{Encoding, utf_8, output_encoding, begins_like_bom, IsDecoded, Repertoire, ascii_in, all_of}
+use Rattle.properties_format.specs.Lines.{InputEnd, Line, Ended, Lines, IsLines, HasGroups, joined, first_number}
+use Rattle.properties_format.specs.Items.{Outcome, ignored, given, broken, IsOutcome, IsItems, Entry, item, malformed, read_fault}
 use Rattle.properties_format.specs.Laws.{HasOne}
 use Rattle.properties_format.specs.AsciiOnly.{AreAsciiBytes, AreItemsInBoth}
-use Rattle.properties_format.specs.Escapes.{Malformed, letter_u, Spelling, itself, escaped, unicode, surrogates, last, spelling_text, spelling_character, IsSpelling, NoSpelling}
-use Rattle.properties_format.specs.Entries.{Entry, item, malformed, read_fault}
+use Rattle.properties_format.specs.Escapes.{Malformed, letter_u, Spelling, unicode, surrogates, spelling_text, spelling_character, IsSpelling, NoSpelling}
 use Rattle.properties_format.specs.Printing.{may_be_unescaped, unicode_escape, encoded_text}
 
 -- A unit of a text: a spelling of a character, or a `\u` at which no spelling begins.
@@ -43,11 +40,9 @@ AreUnits (u ∷ us) rest = IsUnit u (units_before us rest) × AreUnits us rest
 
 -- whether a spelling is a `\u` escape, or two
 abbrev pub is_unicode : Spelling → Bool
-is_unicode (itself c) = false
-is_unicode (escaped c) = false
 is_unicode (unicode d) = true
 is_unicode (surrogates high low) = true
-is_unicode last = false
+is_unicode spelling = false
 
 -- What becomes of a spelling. The spelling of an ASCII character stays. A character that the output has is written as
 -- itself if the result is to be readable; otherwise its spelling stays. A character that the output lacks is written as
@@ -99,9 +94,8 @@ AreSameEntries es fs = ⊥
 -- None of the entries is a malformed escape.
 abbrev pub HoldNoMalformed : List Entry → Type 0
 HoldNoMalformed [] = Unit {0}
-HoldNoMalformed (item number content ∷ entries) = HoldNoMalformed entries
 HoldNoMalformed (malformed kind number ∷ entries) = ⊥
-HoldNoMalformed (read_fault number ∷ entries) = HoldNoMalformed entries
+HoldNoMalformed (entry ∷ entries) = HoldNoMalformed entries
 
 -- The outcomes of two logical lines are the same, except that an escape may be malformed in another way.
 abbrev pub AreSameOutcomes : Outcome → Outcome → Type 0

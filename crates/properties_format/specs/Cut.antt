@@ -2,26 +2,23 @@
 -- by itself. A unit is one byte, or two bytes in UTF-16. The text of an ended line is its bytes here, until it is
 -- decoded. Source: java.util.Properties of Java SE 7, load (what ends a line); The Unicode Standard, D77 (code units).
 use Rattle.std.specs.Prelude.{◌≡◌, ℕ, List, [], ◌∷◌, ◌++◌}
-use Rattle.properties_format.specs.Text.{line_feed, carriage_return, LineEnding, lf, cr, crlf}
+use Rattle.properties_format.specs.Text.{line_feed, carriage_return, LineEnding, lf, cr, crlf, Piece, characters}
 use Rattle.properties_format.specs.Lines.{Ended, Lines, HoldsNoLineEnd, BeginsWithNoLoneLf}
-use Rattle.properties_format.specs.Pieces.{Piece, characters}
 use Rattle.properties_format.specs.Utf16.{low_first, high_first}
-use Rattle.properties_format.specs.Encoding.{Encoding, windows_1252, utf_8, utf_16le, utf_16be, IsPieces, IsAligned, ascii_bytes, byte_order_mark}
+use Rattle.properties_format.specs.Encoding.{Encoding, utf_16le, utf_16be, IsPieces, IsAligned, ascii_bytes, byte_order_mark}
 
 -- ---- Units.
 
 -- the units of two bytes each; an odd byte at the end belongs to none
 abbrev pub units_of_two : (ℕ → ℕ → ℕ) → List ℕ → List ℕ
-units_of_two unit [] = []
-units_of_two unit (a ∷ []) = []
 units_of_two unit (a ∷ b ∷ d) = unit a b ∷ units_of_two unit d
+units_of_two unit d = []
 
 -- the units of some bytes, as numbers
 abbrev pub units : Encoding → List ℕ → List ℕ
-units windows_1252 d = d
-units utf_8 d = d
 units utf_16le d = units_of_two low_first d
 units utf_16be d = units_of_two high_first d
+units e d = d
 
 -- No unit of the bytes is a CR or an LF.
 abbrev pub HoldsNoLineEndUnit : Encoding → List ℕ → Type 0
@@ -61,9 +58,8 @@ IsDecodedLine e d x = (ps : List Piece) × IsPieces e d ps × (x ≡ characters 
 -- Lines of bytes are decoded one by one to these lines, and keep their ends.
 abbrev pub AreDecodedLines : Encoding → List Ended → List Ended → Type 0
 AreDecodedLines e [] [] = Unit {0}
-AreDecodedLines e [] (t ∷ ts) = ⊥
-AreDecodedLines e (l ∷ ls) [] = ⊥
 AreDecodedLines e (l ∷ ls) (t ∷ ts) = IsDecodedLine e l.text t.text × (l.by ≡ t.by) × AreDecodedLines e ls ts
+AreDecodedLines e ls ts = ⊥
 
 -- The bytes b are split into lines after any byte order mark, and these are the lines, each decoded by itself.
 pub record IsByline (e : Encoding) (b : List ℕ) (lines : Lines) : Type 0 where

@@ -2,17 +2,14 @@
 -- Source: java.util.Properties of Java SE 7, setProperty and load (a later pair takes the place of an earlier one).
 use Rattle.std.specs.Prelude.{◌≡◌, ◌≢◌, ◌↔◌, All, ℕ, ◌+◌, true, List, [], ◌∷◌, ◌++◌, Option, Some, None}
 use Rattle.properties_format.specs.Text.{scalar}
-use Rattle.properties_format.specs.Encoding.{Encoding}
-use Rattle.properties_format.specs.Repertoire.{Repertoire, repertoire_of}
+use Rattle.properties_format.specs.Encoding.{Encoding, Repertoire}
+use Rattle.properties_format.specs.Settings.{repertoire_of, Settings}
 use Rattle.properties_format.specs.Lines.{end}
-use Rattle.properties_format.specs.Entries.{Entry}
-use Rattle.properties_format.specs.Items.{IsItems}
+use Rattle.properties_format.specs.Items.{Entry, IsItems}
 use Rattle.properties_format.specs.Maps.{HasNoPair, IsMap, HasValue}
-use Rattle.properties_format.specs.Settings.{Settings}
 use Rattle.properties_format.specs.Writing.{Call, pair_call, is_accepted, settings_after, line_count_after, wrote, items_read_back}
 use Rattle.properties_format.specs.Edited.{EditResult, edited, ItemsAre, IsSetKeyResult, IsRemoveKeyResult}
-use Rattle.properties_format.specs.Edits.{Edit, put, remove, set_value, AreScalarEdits, IsEditAllResult}
-use Rattle.properties_format.specs.EditedPairs.{AreInPairs, EscapesAre, HasPairValue, IsEditPairsResult}
+use Rattle.properties_format.specs.Edits.{Edit, put, remove, set_value, AreScalarEdits, IsEditAllResult, AreInPairs, EscapesAre, HasPairValue, IsEditPairsResult}
 use Rattle.properties_format.specs.Valued.{IsSetValueResult}
 use Rattle.properties_format.specs.Laws.{AreReadBack}
 

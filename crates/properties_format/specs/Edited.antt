@@ -2,13 +2,10 @@
 -- Source: java.util.Properties of Java SE 7, load (a later pair takes the place of an earlier one) and store (how a pair is written).
 use Rattle.std.specs.Prelude.{◌≡◌, ◌⊎◌, ℕ, ◌&&◌, not, Bool, true, false, if◌then◌else◌, List, [], ◌∷◌, ◌++◌}
 use Rattle.properties_format.specs.Text.{line_feed, equals_sign, lf, cr, line_ending_text, is_empty}
-use Rattle.properties_format.specs.Encoding.{Encoding, windows_1252, utf_8, utf_16le, utf_16be, byte_order_mark, begins_with, begins_like_bom, utf_8_bom, utf_16be_bom, utf_16le_bom}
-use Rattle.properties_format.specs.Repertoire.{Repertoire, in_force}
-use Rattle.properties_format.specs.Lines.{end, ends_in_cr}
-use Rattle.properties_format.specs.Groups.{is_open, is_comment_line}
+use Rattle.properties_format.specs.Encoding.{Encoding, windows_1252, utf_8, byte_order_mark, begins_with, begins_like_bom, utf_8_bom, utf_16be_bom, utf_16le_bom, Repertoire, in_force}
+use Rattle.properties_format.specs.Lines.{end, ends_in_cr, is_open, is_comment_line}
 use Rattle.properties_format.specs.Escapes.{Malformed}
-use Rattle.properties_format.specs.Entries.{Entry, item, malformed, read_fault, AreItems}
-use Rattle.properties_format.specs.Items.{IsItems}
+use Rattle.properties_format.specs.Items.{Entry, malformed, AreItems, IsItems}
 use Rattle.properties_format.specs.Printing.{in_key_or_value, printed_characters, encoded_text, printed_key}
 use Rattle.properties_format.specs.Body.{AreGroupsOf, HasKey, HeldLine, NoneHasKey, ending_bytes, group_bytes, groups_bytes, last_ending}
 
@@ -37,9 +34,8 @@ final_group (g ∷ h ∷ gs) = final_group (h ∷ gs)
 
 -- whether the group is one line without bytes
 abbrev pub is_empty_line : List HeldLine → Bool
-is_empty_line [] = false
 is_empty_line (h ∷ []) = is_empty h.bytes
-is_empty_line (h ∷ i ∷ hs) = false
+is_empty_line group = false
 
 -- whether the last line of the group is open
 abbrev pub is_last_open : List HeldLine → Bool
@@ -57,15 +53,15 @@ is_left_open (h ∷ hs) = not (is_comment_line h.text) && is_last_open (h ∷ hs
 abbrev pub added_ending : List ℕ → List ℕ
 added_ending source = line_ending_text (if ends_in_cr source then cr else lf)
 
--- what separates the appended pair from the last group: nothing, one line ending, or two, which also end a group that
--- is left open
-abbrev pub separation : List ℕ → List HeldLine → List ℕ
-separation source group = if is_empty_line group then [] else (if is_left_open group then added_ending source ++ added_ending source else added_ending source)
+-- what separates a new pair from the last group, made of this line ending: nothing, one, or two, which also end a group
+-- that is left open
+abbrev pub separation_by : List ℕ → List HeldLine → List ℕ
+separation_by ending group = if is_empty_line group then [] else (if is_left_open group then ending ++ ending else ending)
 
 -- No pair has the key, and the printed pair is appended at the end, with an LF.
 pub record IsAppended (r : Repertoire) (source : List ℕ) (groups : List (List HeldLine)) (key value result : List ℕ) : Type 0 where
   pub no_pair : NoneHasKey key groups
-  pub bytes : let front : List ℕ = groups_bytes groups ++ separation source (final_group groups) in result ≡ front ++ (pair_bytes r (is_empty front) key value ++ line_feed ∷ [])
+  pub bytes : let front : List ℕ = groups_bytes groups ++ separation_by (added_ending source) (final_group groups) in result ≡ front ++ (pair_bytes r (is_empty front) key value ++ line_feed ∷ [])
 
 -- the byte order mark at the front of the bytes, or nothing if there is none
 abbrev pub bom_of : List ℕ → List ℕ
@@ -117,15 +113,13 @@ pub data EditResult : Type 0 where
 abbrev pub is_editable : Encoding → Bool
 is_editable windows_1252 = true
 is_editable utf_8 = true
-is_editable utf_16le = false
-is_editable utf_16be = false
+is_editable e = false
 
 -- The first malformed entry is of this kind and has this line number.
 abbrev pub IsFirstMalformed : Malformed → ℕ → List Entry → Type 0
 IsFirstMalformed kind n [] = ⊥
-IsFirstMalformed kind n (item m content ∷ entries) = IsFirstMalformed kind n entries
 IsFirstMalformed kind n (malformed other m ∷ entries) = (other ≡ kind) × (m ≡ n)
-IsFirstMalformed kind n (read_fault m ∷ entries) = IsFirstMalformed kind n entries
+IsFirstMalformed kind n (entry ∷ entries) = IsFirstMalformed kind n entries
 
 -- The entries of the source, read to its end, have this property.
 abbrev pub ItemsAre : Encoding → List ℕ → (List Entry → Type 0) → Type 0

@@ -2,11 +2,10 @@
 -- encoded.
 -- Source: WHATWG Encoding Standard, sections 4.3 (output encodings), 6 (byte order marks) and 8 to 14 (the decoders).
 use Rattle.std.specs.Prelude.{◌≡◌, ℕ, ◌%◌, ◌==◌, ◌&&◌, ◌||◌, Bool, true, false, if◌then◌else◌, List, [], ◌∷◌, ◌++◌, length, drop, Option, Some, None, encode_utf8}
-use Rattle.properties_format.specs.Pieces.{Piece, characters}
 use Rattle.properties_format.specs.Windows1252.{windows_1252_byte, IsWindows1252Piece}
 use Rattle.properties_format.specs.Utf8.{IsUtf8Piece}
 use Rattle.properties_format.specs.Utf16.{low_first, high_first, IsUtf16Piece}
-pub use Rattle.properties_format.specs.Pieces.{Piece, characters}
+pub use Rattle.properties_format.specs.Text.{Piece, characters}
 
 -- the four encodings
 pub data Encoding : Type 0 where
@@ -20,9 +19,7 @@ pub data Encoding : Type 0 where
 -- the encoding in which a writer writes: UTF-8 for the UTF-16 encodings, otherwise the encoding itself
 abbrev pub output_encoding : Encoding → Encoding
 output_encoding windows_1252 = windows_1252
-output_encoding utf_8 = utf_8
-output_encoding utf_16le = utf_8
-output_encoding utf_16be = utf_8
+output_encoding e = utf_8
 
 -- the byte as a list, if there is one
 abbrev pub one_byte : Option ℕ → Option (List ℕ)
@@ -32,9 +29,7 @@ one_byte (Some b) = Some (b ∷ [])
 -- the bytes of a character in the output encoding, if it can be encoded
 abbrev pub encoded : Encoding → ℕ → Option (List ℕ)
 encoded windows_1252 c = one_byte (windows_1252_byte c)
-encoded utf_8 c = Some (encode_utf8 c)
-encoded utf_16le c = Some (encode_utf8 c)
-encoded utf_16be c = Some (encode_utf8 c)
+encoded e c = Some (encode_utf8 c)
 
 -- ---- Byte order marks.
 
@@ -92,14 +87,40 @@ IsDecoded e b x = (ps : List Piece) × IsPieces (byte_order_mark e b).encoding (
 
 -- the bytes of an ASCII character
 abbrev pub ascii_bytes : Encoding → ℕ → List ℕ
-ascii_bytes windows_1252 c = c ∷ []
-ascii_bytes utf_8 c = c ∷ []
 ascii_bytes utf_16le c = c ∷ 0 ∷ []
 ascii_bytes utf_16be c = 0 ∷ c ∷ []
+ascii_bytes e c = c ∷ []
 
 -- The bytes end at a unit's boundary: in UTF-16, their number is even.
 abbrev pub IsAligned : Encoding → List ℕ → Type 0
-IsAligned windows_1252 d = Unit {0}
-IsAligned utf_8 d = Unit {0}
 IsAligned utf_16le d = length d % 2 ≡ 0
 IsAligned utf_16be d = length d % 2 ≡ 0
+IsAligned e d = Unit {0}
+
+-- ---- What may stand unescaped in what is printed.
+-- Source: java.util.Properties of Java SE 7, store (a character that the output lacks is escaped).
+
+-- the characters of an encoding, or the ASCII characters alone, which are the same bytes in every encoding for output
+pub record Repertoire : Type 0 where
+  pub encoding : Encoding
+  pub ascii_only : Bool
+
+-- a repertoire of an encoding, of ASCII only if the flag says so
+abbrev pub repertoire : Encoding → Bool → Repertoire
+repertoire e only = record { encoding = e; ascii_only = only }
+
+-- all characters of an encoding
+abbrev pub all_of : Encoding → Repertoire
+all_of e = repertoire e false
+
+-- the ASCII characters, in this encoding
+abbrev pub ascii_in : Encoding → Repertoire
+ascii_in e = repertoire e true
+
+-- a repertoire in another encoding
+abbrev pub in_encoding : Repertoire → Encoding → Repertoire
+in_encoding r e = record r { encoding = e }
+
+-- a repertoire in the encoding that is in force in a source
+abbrev pub in_force : Repertoire → List ℕ → Repertoire
+in_force r source = in_encoding r (byte_order_mark r.encoding source).encoding

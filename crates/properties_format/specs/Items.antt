@@ -1,12 +1,39 @@
--- The items of an input: its contents from the first line to the last, or to the first error.
+-- The items of an input, each with its line number: its contents from the first line to the last, or to the first error.
 -- Source: java.util.Properties of Java SE 7, load.
-use Rattle.std.specs.Prelude.{◌≡◌, ◌⊎◌, ℕ, ◌+◌, List, [], ◌∷◌}
-use Rattle.properties_format.specs.Encoding.{Encoding}
-use Rattle.properties_format.specs.Lines.{InputEnd, end, fault, more, Line, line_ends}
-use Rattle.properties_format.specs.Groups.{HasGroups, joined, first_number}
-use Rattle.properties_format.specs.Split.{Logical, IsSplit}
+use Rattle.std.specs.Prelude.{ℕ, ◌<◌, List, [], ◌∷◌, ◌≡◌, ◌⊎◌, ◌+◌}
 use Rattle.properties_format.specs.Escapes.{Malformed, Means, Breaks}
-pub use Rattle.properties_format.specs.Entries.{Content, comment, pair, Entry, item, malformed, read_fault, number_of, NumbersAscend}
+use Rattle.properties_format.specs.Encoding.{Encoding}
+use Rattle.properties_format.specs.Lines.{InputEnd, fault, Line, line_ends, HasGroups, joined, first_number}
+use Rattle.properties_format.specs.Split.{Logical, IsSplit}
+
+-- the content of a line: the text of a comment, or a key and its value
+pub data Content : Type 0 where
+  comment : List ℕ → Content
+  pair : List ℕ → List ℕ → Content
+
+-- an item, with the number of its first line; a malformed escape, with the number of the first line; or a failed read,
+-- with the number of the line in which it failed
+pub data Entry : Type 0 where
+  item : ℕ → Content → Entry
+  malformed : Malformed → ℕ → Entry
+  read_fault : ℕ → Entry
+
+-- the line number of an entry
+abbrev pub number_of : Entry → ℕ
+number_of (item number content) = number
+number_of (malformed kind number) = number
+number_of (read_fault number) = number
+
+-- The line numbers of the entries ascend, and all are above this one.
+abbrev pub NumbersAscend : ℕ → List Entry → Type 0
+NumbersAscend n [] = Unit {0}
+NumbersAscend n (entry ∷ entries) = (n < number_of entry) × NumbersAscend (number_of entry) entries
+
+-- All entries are items: no escape is malformed, and no read failed.
+abbrev pub AreItems : List Entry → Type 0
+AreItems [] = Unit {0}
+AreItems (item number content ∷ entries) = AreItems entries
+AreItems (entry ∷ entries) = ⊥
 
 -- the outcome of a logical line: nothing, a content, or a malformed escape
 pub data Outcome : Type 0 where
@@ -60,9 +87,8 @@ IsOutcome x (broken kind) = BreaksComment x kind ⊎ (BreaksKey x kind ⊎ Break
 
 -- what the ending adds after n line endings: if a read failed, the error has the number of the line in which it failed
 abbrev pub last_entries : ℕ → InputEnd → List Entry
-last_entries n end = []
 last_entries n fault = read_fault (n + 1) ∷ []
-last_entries n more = []
+last_entries n ending = []
 
 -- The entries of a group's outcome and of the groups after it. A malformed escape is the last entry.
 abbrev pub IsFollowed : ℕ → Outcome → (List Entry → Type 0) → List Entry → Type 0

@@ -1,11 +1,9 @@
 -- The items that a reader will still return, at any point between two of its calls.
 -- Source: java.util.Properties of Java SE 7, load.
 use Rattle.std.specs.Prelude.{◌≡◌, ◌≢◌, ◌⊎◌, ℕ, ◌+◌, ◌^◌, Bool, true, false, if◌then◌else◌, List, [], ◌∷◌, ◌++◌}
-use Rattle.properties_format.specs.Text.{line_feed}
-use Rattle.properties_format.specs.Pieces.{Piece, characters}
+use Rattle.properties_format.specs.Text.{line_feed, Piece, characters}
 use Rattle.properties_format.specs.Encoding.{Encoding, InForce, byte_order_mark, IsPieces}
-use Rattle.properties_format.specs.Lines.{InputEnd, more, Line, Lines, IsLines, line_ends, numbered}
-use Rattle.properties_format.specs.Groups.{IsGroups}
+use Rattle.properties_format.specs.Lines.{InputEnd, more, Line, Lines, IsLines, line_ends, numbered, IsGroups}
 use Rattle.properties_format.specs.Items.{Entry, AreEntries, last_entries}
 
 -- The state of a reader: the encoding in force, or the requested one as long as it is undecided whether the input

@@ -1,19 +1,16 @@
 -- The three laws of the format: every input has exactly one reading, reading inverts writing, and splitting into lines
 -- commutes with decoding.
 use Rattle.std.specs.Prelude.{◌≡◌, ◌≢◌, ◌↔◌, ℕ, true, List, [], ◌∷◌, ◌++◌, Option, Some}
-use Rattle.properties_format.specs.Text.{is_line_end}
-use Rattle.properties_format.specs.Pieces.{Piece, piece}
+use Rattle.properties_format.specs.Text.{is_line_end, Piece, piece}
 use Rattle.properties_format.specs.Encoding.{Encoding, output_encoding, byte_order_mark, ascii_bytes, IsPieces, IsDecoded, IsAligned}
-use Rattle.properties_format.specs.Lines.{InputEnd, end, Line, Lines, IsLines, numbered_lines}
+use Rattle.properties_format.specs.Lines.{InputEnd, end, Line, Lines, IsLines, numbered_lines, IsGroups, joined}
 use Rattle.properties_format.specs.Cut.{IsByline}
-use Rattle.properties_format.specs.Groups.{IsGroups, joined}
 use Rattle.properties_format.specs.Split.{IsSplit}
 use Rattle.properties_format.specs.Escapes.{IsMeaning}
 use Rattle.properties_format.specs.Items.{Entry, IsItems}
 use Rattle.properties_format.specs.Maps.{IsMap}
 use Rattle.properties_format.specs.Settings.{Settings}
-use Rattle.properties_format.specs.Writing.{Call, wrote, items_read_back, ArePrefixesClean, AreOfScalars, AreGoodSettings}
-use Rattle.properties_format.specs.Pairs.{Pair, pairs_in, calls_of, AreAccepted, ArePairsOfScalars}
+use Rattle.properties_format.specs.Writing.{Call, wrote, items_read_back, ArePrefixesClean, AreOfScalars, AreGoodSettings, Pair, pairs_in, calls_of, AreAccepted, ArePairsOfScalars}
 
 -- ---- One reading.
 

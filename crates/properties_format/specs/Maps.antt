@@ -2,17 +2,14 @@
 -- Source: java.util.Properties of Java SE 7, load (a later pair with a key takes the place of an earlier one).
 use Rattle.std.specs.Prelude.{◌≡◌, ◌≢◌, ◌↔◌, ℕ, List, [], ◌∷◌, ◌++◌, Option, Some, None, Contains, AllPairs}
 use Rattle.properties_format.specs.Encoding.{Encoding}
-use Rattle.properties_format.specs.Entries.{comment, pair, Entry, item, malformed, read_fault, AreItems}
-use Rattle.properties_format.specs.Items.{IsItems}
+use Rattle.properties_format.specs.Items.{pair, Entry, item, AreItems, IsItems}
 use Rattle.properties_format.specs.Lines.{end}
 
 -- No entry is a pair with this key.
 abbrev pub HasNoPair : List ℕ → List Entry → Type 0
 HasNoPair key [] = Unit {0}
 HasNoPair key (item n (pair k v) ∷ entries) = (k ≢ key) × HasNoPair key entries
-HasNoPair key (item n (comment text) ∷ entries) = HasNoPair key entries
-HasNoPair key (malformed kind n ∷ entries) = HasNoPair key entries
-HasNoPair key (read_fault n ∷ entries) = HasNoPair key entries
+HasNoPair key (entry ∷ entries) = HasNoPair key entries
 
 -- The last pair with this key has this value: the entries are some entries, that pair, and entries without the key.
 pub record IsLastValue (entries : List Entry) (key value : List ℕ) : Type 0 where

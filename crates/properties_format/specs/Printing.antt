@@ -4,10 +4,9 @@
 use Rattle.std.specs.Prelude.{ℕ, ◌+◌, ◌-◌, ◌/◌, ◌%◌, ◌==◌, ◌&&◌, ◌||◌, not, nat_lt, Bool, if◌then◌else◌, List, [], ◌∷◌, ◌++◌, is_some, unwrap_or}
 use Rattle.std.specs.Char.{digit_char}
 use Rattle.properties_format.specs.Text.{line_ending_text, tab, line_feed, form_feed, carriage_return, space, backslash, is_empty, is_blanks, is_comment_sign, is_separator}
-use Rattle.properties_format.specs.Encoding.{Encoding, encoded, begins_like_bom}
-use Rattle.properties_format.specs.Repertoire.{Repertoire, repertoire_of}
-use Rattle.properties_format.specs.Entries.{Content, comment, pair}
-use Rattle.properties_format.specs.Settings.{Settings}
+use Rattle.properties_format.specs.Encoding.{Encoding, encoded, begins_like_bom, Repertoire}
+use Rattle.properties_format.specs.Settings.{repertoire_of, Settings}
+use Rattle.properties_format.specs.Items.{Content, comment, pair}
 
 -- which part of a printed line a character belongs to
 pub data Place : Type 0 where

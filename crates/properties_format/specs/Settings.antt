@@ -2,6 +2,7 @@
 -- Source: java.util.Properties of Java SE 7, store (a comment begins with a number sign; an equals sign separates a key
 -- from its value), and load (which comments and separators are read back).
 use Rattle.std.specs.Prelude.{◌≡◌, ◌≢◌, ◌⊎◌, ℕ, Bool, true, false, List, [], ◌∷◌, ◌++◌}
+use Rattle.properties_format.specs.Encoding.{Encoding, Repertoire, repertoire}
 use Rattle.properties_format.specs.Lines.{HoldsNoLineEnd}
 use Rattle.properties_format.specs.Split.{AreBlanks}
 use Rattle.properties_format.specs.Text.{LineEnding, lf, space, number_sign, equals_sign, is_comment_sign, is_separator}
@@ -49,3 +50,7 @@ pub record IsBlankSeparator (separator : List ℕ) : Type 0 where
 -- A good separator has a sign or is blanks only.
 abbrev pub IsGoodSeparator : List ℕ → Type 0
 IsGoodSeparator separator = IsSignedSeparator separator ⊎ IsBlankSeparator separator
+
+-- what a writer with these settings may write unescaped
+abbrev pub repertoire_of : Encoding → Settings → Repertoire
+repertoire_of e s = repertoire e s.ascii_only

@@ -2,7 +2,7 @@
 -- carriage return, which no line contains, has no special meaning here.
 -- Source: java.util.Properties of Java SE 7, load.
 use Rattle.std.specs.Prelude.{◌≡◌, ◌≢◌, ◌==◌, ℕ, Bool, true, false, List, [], ◌∷◌, ◌++◌}
-use Rattle.properties_format.specs.Text.{backslash, is_blank, is_comment_sign, is_separator}
+use Rattle.properties_format.specs.Text.{backslash, is_blank, is_comment_sign, is_separator, begins}
 
 -- What a line is: blank; a comment with its text; or a pair with its key and its value.
 pub data Logical : Type 0 where
@@ -14,11 +14,6 @@ pub data Logical : Type 0 where
 abbrev pub AreBlanks : List ℕ → Type 0
 AreBlanks [] = Unit {0}
 AreBlanks (c ∷ cs) = (is_blank c ≡ true) × AreBlanks cs
-
--- whether the text begins with a character of this kind
-abbrev pub begins : (ℕ → Bool) → List ℕ → Bool
-begins kind [] = false
-begins kind (c ∷ cs) = kind c
 
 -- whether the text ends with a character of this kind
 abbrev pub ends : (ℕ → Bool) → List ℕ → Bool

@@ -66,6 +66,11 @@ abbrev pub without_leading_blanks : List ℕ → List ℕ
 without_leading_blanks [] = []
 without_leading_blanks (c ∷ cs) = if is_blank c then without_leading_blanks cs else c ∷ cs
 
+-- whether the text begins with a character of this kind
+abbrev pub begins : (ℕ → Bool) → List ℕ → Bool
+begins kind [] = false
+begins kind (c ∷ cs) = kind c
+
 -- whether a character is a CR or an LF
 abbrev pub is_line_end : ℕ → Bool
 is_line_end c = c == line_feed || c == carriage_return
@@ -89,3 +94,19 @@ abbrev pub line_ending_text : LineEnding → List ℕ
 line_ending_text lf = line_feed ∷ []
 line_ending_text cr = carriage_return ∷ []
 line_ending_text crlf = carriage_return ∷ line_feed ∷ []
+
+-- ---- The pieces of a decoded text: some bytes, and the one character that they decode to.
+
+-- some bytes, and the character that they decode to
+pub record Piece : Type 0 where
+  pub bytes : List ℕ
+  pub character : ℕ
+
+-- the piece with these bytes and this character
+abbrev pub piece : List ℕ → ℕ → Piece
+piece bytes character = record { bytes = bytes; character = character }
+
+-- the characters of the pieces, in order
+abbrev pub characters : List Piece → List ℕ
+characters [] = []
+characters (p ∷ ps) = p.character ∷ characters ps

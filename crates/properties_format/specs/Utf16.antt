@@ -1,9 +1,21 @@
--- UTF-16 in either byte order: units of two bytes, and the replacement of unpaired surrogates.
--- Source: The Unicode Standard, D91 (UTF-16); WHATWG Encoding Standard, section 14.2.
-use Rattle.std.specs.Prelude.{◌≡◌, ℕ, ◌+◌, ◌*◌, true, false, List, [], ◌∷◌}
-use Rattle.properties_format.specs.Pieces.{Piece, piece}
-use Rattle.properties_format.specs.Text.{replacement}
-use Rattle.properties_format.specs.Surrogates.{is_high, is_low, pair_character}
+-- UTF-16 in either byte order: units of two bytes, surrogates, and the replacement of unpaired surrogates.
+-- Source: The Unicode Standard, section 3.8 (surrogates) and D91 (UTF-16); WHATWG Encoding Standard, section 14.2.
+use Rattle.std.specs.Prelude.{ℕ, ◌+◌, ◌-◌, ◌*◌, ◌&&◌, ◌||◌, nat_le, nat_lt, Bool, ◌≡◌, true, false, List, [], ◌∷◌}
+use Rattle.properties_format.specs.Text.{Piece, piece, replacement}
+
+-- whether a unit is a high surrogate, a low surrogate, and either of them
+abbrev pub is_high : ℕ → Bool
+is_high u = nat_le 0xd800 u && nat_lt u 0xdc00
+
+abbrev pub is_low : ℕ → Bool
+is_low u = nat_le 0xdc00 u && nat_lt u 0xe000
+
+abbrev pub is_surrogate : ℕ → Bool
+is_surrogate u = is_high u || is_low u
+
+-- the character of a high and a low surrogate
+abbrev pub pair_character : ℕ → ℕ → ℕ
+pair_character high low = 0x1_0000 + (high - 0xd800) * 0x400 + (low - 0xdc00)
 
 -- the unit of two bytes, with the low byte first or the high byte first
 abbrev pub low_first : ℕ → ℕ → ℕ

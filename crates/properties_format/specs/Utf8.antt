@@ -2,8 +2,7 @@
 -- Source: The Unicode Standard, table 3-7 (well-formed byte sequences) and section 3.9 (U+FFFD for maximal subparts);
 -- WHATWG Encoding Standard, section 8.1.1.
 use Rattle.std.specs.Prelude.{◌≡◌, ℕ, ◌+◌, ◌*◌, ◌%◌, ◌^◌, ◌≤◌, ◌⊎◌, List, [], ◌∷◌, ◌++◌}
-use Rattle.properties_format.specs.Pieces.{Piece, piece}
-use Rattle.properties_format.specs.Text.{replacement}
+use Rattle.properties_format.specs.Text.{Piece, piece, replacement}
 
 -- a range of bytes, both ends included
 pub record Range : Type 0 where
@@ -39,9 +38,8 @@ IsIn r b = (r.least ≤ b) × (b ≤ r.most)
 -- There are as many bytes as ranges, and each byte is in its range.
 abbrev pub FitsRow : List Range → List ℕ → Type 0
 FitsRow [] [] = Unit {0}
-FitsRow [] (b ∷ bs) = ⊥
-FitsRow (r ∷ rs) [] = ⊥
 FitsRow (r ∷ rs) (b ∷ bs) = IsIn r b × FitsRow rs bs
+FitsRow rs bs = ⊥
 
 -- The bytes fit a row of the list.
 abbrev pub FitsSome : List (List Range) → List ℕ → Type 0

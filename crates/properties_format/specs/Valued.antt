@@ -4,16 +4,14 @@
 -- a key, its separator and its value are distinguished).
 use Rattle.std.specs.Prelude.{◌≡◌, ◌⊎◌, ℕ, ◌&&◌, Bool, true, false, if◌then◌else◌, List, [], ◌∷◌, ◌++◌, None, unwrap_or}
 use Rattle.properties_format.specs.Text.{LineEnding, lf, line_ending_text, equals_sign, is_blank, is_blanks, is_empty}
-use Rattle.properties_format.specs.Encoding.{Encoding, byte_order_mark}
-use Rattle.properties_format.specs.Repertoire.{Repertoire, in_force}
+use Rattle.properties_format.specs.Encoding.{Encoding, byte_order_mark, Repertoire, in_force}
 use Rattle.properties_format.specs.Cut.{IsDecodedLine}
-use Rattle.properties_format.specs.Groups.{is_open, joined}
+use Rattle.properties_format.specs.Lines.{is_open, joined}
 use Rattle.properties_format.specs.Split.{AreBlanks, IsPair}
-use Rattle.properties_format.specs.Entries.{pair}
-use Rattle.properties_format.specs.Items.{given, IsOutcome}
+use Rattle.properties_format.specs.Items.{pair, given, IsOutcome}
 use Rattle.properties_format.specs.Printing.{printed_key, printed_value, encoded_text}
 use Rattle.properties_format.specs.Body.{HeldLine, AreGroupsOf, HasKey, NoneHasKey, as_lines, held_in, group_bytes, groups_bytes, ending_bytes, last_ending}
-use Rattle.properties_format.specs.Edited.{bom_of, final_group, is_empty_line, is_left_open, EditResult, IsEditResult}
+use Rattle.properties_format.specs.Edited.{bom_of, final_group, EditResult, IsEditResult, separation_by}
 
 -- ---- How a value is spelt.
 
@@ -121,11 +119,6 @@ ending_among by (h ∷ hs) = ending_among (unwrap_or h.ending by) hs
 -- the last line ending among these groups, or an LF if there is none
 abbrev pub ending_in : List (List HeldLine) → List ℕ
 ending_in groups = line_ending_text (ending_among lf (held_in groups))
-
--- what separates a new pair from the last group, made of this line ending: nothing, one, or two, which also end a group
--- that is left open
-abbrev pub separation_by : List ℕ → List HeldLine → List ℕ
-separation_by ending group = if is_empty_line group then [] else (if is_left_open group then ending ++ ending else ending)
 
 -- the bytes of a new pair after these bytes, with its line ending
 abbrev pub new_pair_bytes : Repertoire → List ℕ → List ℕ → List ℕ → List ℕ → List ℕ → List ℕ

@@ -1,7 +1,7 @@
 -- windows-1252: each byte is one character, by one table.
 -- Source: WHATWG Encoding Standard, section 9 and index windows-1252.
 use Rattle.std.specs.Prelude.{◌≡◌, ℕ, ◌+◌, ◌-◌, ◌==◌, ◌&&◌, not, Bool, if◌then◌else◌, nat_lt, nat_le, slice_index, List, [], ◌∷◌, Option, Some, None}
-use Rattle.properties_format.specs.Pieces.{Piece, piece}
+use Rattle.properties_format.specs.Text.{Piece, piece}
 
 -- the characters of the bytes 80 to 9F
 abbrev pub windows_1252_table : List ℕ

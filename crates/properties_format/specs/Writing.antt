@@ -4,7 +4,7 @@ use Rattle.std.specs.Prelude.{◌≡◌, All, ℕ, ◌+◌, ◌==◌, ◌&&◌, 
 use Rattle.properties_format.specs.Text.{scalar, LineEnding, backslash, is_blanks, is_comment_sign, is_empty}
 use Rattle.properties_format.specs.Encoding.{Encoding}
 use Rattle.properties_format.specs.Computed.Split.{trimmed}
-use Rattle.properties_format.specs.Entries.{Content, comment, pair, Entry, item}
+use Rattle.properties_format.specs.Items.{Content, comment, pair, Entry, item}
 use Rattle.properties_format.specs.Settings.{Settings, IsGoodPrefix, IsGoodSeparator}
 use Rattle.properties_format.specs.Computed.Settings.{is_good_prefix, is_good_separator}
 use Rattle.properties_format.specs.Printing.{printed}
@@ -23,25 +23,19 @@ pub data Call : Type 0 where
 -- whether a writer accepts a call: only good prefixes and separators; every pair, except one with an empty key under a
 -- separator of blanks only; and every other call
 abbrev pub is_accepted : Settings → Call → Bool
-is_accepted s (comment_call text) = true
 is_accepted s (pair_call key value) = not (is_empty key && is_blanks s.kv_separator)
 is_accepted s (prefix_call prefix) = is_good_prefix prefix
 is_accepted s (separator_call separator) = is_good_separator separator
-is_accepted s (ending_call line_ending) = true
-is_accepted s flush_call = true
-is_accepted s (ascii_only_call on) = true
-is_accepted s (readable_call on) = true
+is_accepted s call = true
 
 -- the settings after one call, and after a list of calls
 abbrev pub settings_after_call : Settings → Call → Settings
-settings_after_call s (comment_call text) = s
-settings_after_call s (pair_call key value) = s
 settings_after_call s (prefix_call prefix) = if is_good_prefix prefix then record s { comment_prefix = prefix } else s
 settings_after_call s (separator_call separator) = if is_good_separator separator then record s { kv_separator = separator } else s
 settings_after_call s (ending_call line_ending) = record s { line_ending = line_ending }
-settings_after_call s flush_call = s
 settings_after_call s (ascii_only_call on) = record s { ascii_only = on }
 settings_after_call s (readable_call on) = record s { readable = on }
+settings_after_call s call = s
 
 abbrev pub settings_after : Settings → List Call → Settings
 settings_after s [] = s
@@ -56,12 +50,7 @@ answers s (call ∷ calls) = is_accepted s call ∷ answers (settings_after_call
 abbrev pub written_line : Settings → Call → Option Content
 written_line s (comment_call text) = Some (comment text)
 written_line s (pair_call key value) = if is_accepted s (pair_call key value) then Some (pair key value) else None
-written_line s (prefix_call prefix) = None
-written_line s (separator_call separator) = None
-written_line s (ending_call line_ending) = None
-written_line s flush_call = None
-written_line s (ascii_only_call on) = None
-written_line s (readable_call on) = None
+written_line s call = None
 
 -- the number of lines after a line, if there is one
 abbrev pub lines_with : ℕ → Option Content → ℕ
@@ -117,13 +106,7 @@ HoldsNoBackslash (c ∷ cs) = ((c == backslash) ≡ false) × HoldsNoBackslash c
 abbrev pub ArePrefixesClean : Settings → List Call → Type 0
 ArePrefixesClean s [] = Unit {0}
 ArePrefixesClean s (comment_call text ∷ calls) = HoldsNoBackslash s.comment_prefix × ArePrefixesClean s calls
-ArePrefixesClean s (pair_call key value ∷ calls) = ArePrefixesClean s calls
-ArePrefixesClean s (prefix_call prefix ∷ calls) = ArePrefixesClean (settings_after_call s (prefix_call prefix)) calls
-ArePrefixesClean s (separator_call separator ∷ calls) = ArePrefixesClean (settings_after_call s (separator_call separator)) calls
-ArePrefixesClean s (ending_call line_ending ∷ calls) = ArePrefixesClean (settings_after_call s (ending_call line_ending)) calls
-ArePrefixesClean s (flush_call ∷ calls) = ArePrefixesClean s calls
-ArePrefixesClean s (ascii_only_call on ∷ calls) = ArePrefixesClean (settings_after_call s (ascii_only_call on)) calls
-ArePrefixesClean s (readable_call on ∷ calls) = ArePrefixesClean (settings_after_call s (readable_call on)) calls
+ArePrefixesClean s (call ∷ calls) = ArePrefixesClean (settings_after_call s call) calls
 
 -- Each text of the call consists of scalar values.
 abbrev pub IsOfScalars : Call → Type 0
@@ -131,10 +114,7 @@ IsOfScalars (comment_call text) = All scalar text
 IsOfScalars (pair_call key value) = All scalar key × All scalar value
 IsOfScalars (prefix_call prefix) = All scalar prefix
 IsOfScalars (separator_call separator) = All scalar separator
-IsOfScalars (ending_call line_ending) = Unit {0}
-IsOfScalars flush_call = Unit {0}
-IsOfScalars (ascii_only_call on) = Unit {0}
-IsOfScalars (readable_call on) = Unit {0}
+IsOfScalars call = Unit {0}
 
 -- Each text of these calls consists of scalar values.
 abbrev pub AreOfScalars : List Call → Type 0
@@ -146,3 +126,34 @@ pub record AreGoodSettings (s : Settings) : Type 0 where
   pub prefix : IsGoodPrefix s.comment_prefix
   pub scalars : All scalar s.comment_prefix
   pub separator : IsGoodSeparator s.kv_separator
+
+-- ---- Lists of pairs: the calls that write them, and the items that are read back.
+
+-- a key and its value
+abbrev pub Pair : Type 0
+Pair = List ℕ × List ℕ
+
+-- the pairs among these entries, in order
+abbrev pub pairs_in : List Entry → List Pair
+pairs_in [] = []
+pairs_in (item number (pair key value) ∷ entries) = (key, value) ∷ pairs_in entries
+pairs_in (entry ∷ entries) = pairs_in entries
+
+-- the calls that write these pairs
+abbrev pub calls_of : List Pair → List Call
+calls_of [] = []
+calls_of (p ∷ pairs) = pair_call p.0 p.1 ∷ calls_of pairs
+
+-- the pairs as items, one per line, after n lines
+abbrev pub items_after : ℕ → List Pair → List Entry
+items_after n [] = []
+items_after n (p ∷ pairs) = item (n + 1) (pair p.0 p.1) ∷ items_after (n + 1) pairs
+
+-- Each pair is accepted, and consists of scalar values.
+abbrev pub AreAccepted : Settings → List Pair → Type 0
+AreAccepted s [] = Unit {0}
+AreAccepted s (p ∷ pairs) = (is_accepted s (pair_call p.0 p.1) ≡ true) × AreAccepted s pairs
+
+abbrev pub ArePairsOfScalars : List Pair → Type 0
+ArePairsOfScalars [] = Unit {0}
+ArePairsOfScalars (p ∷ pairs) = (All scalar p.0 × All scalar p.1) × ArePairsOfScalars pairs

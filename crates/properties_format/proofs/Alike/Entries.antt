@@ -2,13 +2,11 @@
 use Rattle.std.proofs.Common.{rules, arith, ◌≡◌, ℕ, Bool, true, false, List, [], ◌∷◌, ◌++◌, map, refl, ap, ap₂}
 use Rattle.std.specs.Prelude.{not, ◌||◌}
 use Rattle.std.proofs.lemmas.List.{map-append}
-use Rattle.properties_format.specs.Lines.{InputEnd, end, fault, more}
-use Rattle.properties_format.specs.Groups.{joined, last_group, first_number}
-use Rattle.properties_format.specs.Computed.Groups.{closes, groups_after}
+use Rattle.properties_format.specs.Lines.{InputEnd, end, joined, last_group, first_number}
+use Rattle.properties_format.specs.Computed.Lines.{closes, groups_after}
 use Rattle.properties_format.specs.Escapes.{Malformed, Meaning}
 use Rattle.properties_format.specs.Computed.Escapes.{meaning_of}
-use Rattle.properties_format.specs.Entries.{comment, pair, Entry, item, read_fault}
-use Rattle.properties_format.specs.Items.{Outcome, ignored, given, broken}
+use Rattle.properties_format.specs.Items.{comment, pair, Entry, item, read_fault, Outcome, ignored, given, broken}
 use Rattle.properties_format.specs.Computed.Items.{comment_outcome, pair_outcome, split_outcome, outcome_of, followed, entries_of}
 use Rattle.properties_format.specs.Converting.{AreSameEntries, HoldNoMalformed, AreSameOutcomes, AreSameGroups}
 use Rattle.properties_format.proofs.Items.Unique.{outcome_of-only}
@@ -48,10 +46,8 @@ closes_parts [] l = comment_parts l.parts || not (ends_open l.parts)
 closes_parts (p ∷ ps) l = not (ends_open l.parts)
 
 abbrev pub last_parts : List PartLine → InputEnd → List (List PartLine)
-last_parts [] ending = []
 last_parts (l ∷ ls) end = (l ∷ ls) ∷ []
-last_parts (l ∷ ls) fault = []
-last_parts (l ∷ ls) more = []
+last_parts ls ending = []
 
 -- the groups of these lines after lines of a group that is still open
 abbrev pub groups_parts : List PartLine → List PartLine → InputEnd → List (List PartLine)

@@ -1,8 +1,7 @@
 -- The items of two texts of parts.
 use Rattle.std.proofs.Common.{◌≡◌, Bool, true, false, List, [], map, length, ap, ap₂, ◌∙◌}
 use Rattle.properties_format.specs.Lines.{InputEnd, line_ends, numbered_lines}
-use Rattle.properties_format.specs.Computed.Lines.{lines_of}
-use Rattle.properties_format.specs.Computed.Groups.{groups_of}
+use Rattle.properties_format.specs.Computed.Lines.{lines_of, groups_of}
 use Rattle.properties_format.specs.Computed.Items.{entries_of, items_of_lines}
 use Rattle.properties_format.specs.Converting.{AreSameEntries, AreSameGroups}
 use Rattle.properties_format.proofs.Alike.Parts.{Part, text, AreParts}

@@ -3,9 +3,8 @@ use Rattle.std.proofs.Common.{rules, ◌≡◌, ℕ, ◌==◌, Bool, true, false
 use Rattle.std.specs.Prelude.{if◌then◌else◌, ◌%◌, reverse}
 use Rattle.std.proofs.lemmas.Bool.{cases_Bool, eqb-true, and_parts}
 use Rattle.std.proofs.lemmas.List.{reverse-append}
-use Rattle.properties_format.specs.Text.{backslash, is_blank, is_comment_sign, without_leading_blanks}
-use Rattle.properties_format.specs.Lines.{Line}
-use Rattle.properties_format.specs.Groups.{leading_backslashes, is_open, begins_with_comment_sign, is_comment_line, without_open_backslash, joined_after, joined}
+use Rattle.properties_format.specs.Text.{backslash, is_blank, is_comment_sign, without_leading_blanks, begins}
+use Rattle.properties_format.specs.Lines.{Line, leading_backslashes, is_open, is_comment_line, without_open_backslash, joined_after, joined}
 use Rattle.properties_format.specs.Escapes.{letter_u, Spelling, itself, escaped, unicode, surrogates, last, spelling_text, Four, are_hexadecimal, four_text}
 use Rattle.properties_format.proofs.Escapes.Laws.{IsWhole}
 use Rattle.properties_format.proofs.Escapes.Digits.{hexadecimal-plain}
@@ -17,10 +16,8 @@ use Rattle.properties_format.proofs.Alike.Parts.{Part, same, after_backslash, pa
 -- whether the last part is a backslash by itself
 abbrev pub ends_open : List Part → Bool
 ends_open [] = false
-ends_open (same c ∷ ps) = ends_open ps
-ends_open (after_backslash c ∷ ps) = ends_open ps
-ends_open (past p q ∷ ps) = ends_open ps
 ends_open (lone ∷ ps) = true
+ends_open (p ∷ ps) = ends_open ps
 
 -- Two more backslashes at the end of a text that is reversed.
 leading-two : (z : List ℕ) → (leading_backslashes (z ++ backslash ∷ backslash ∷ []) % 2 == 1) ≡ (leading_backslashes z % 2 == 1)
@@ -61,10 +58,8 @@ opens side ps h1 = grind (arith)
 -- the parts without a backslash by itself at the end
 abbrev pub closed : List Part → List Part
 closed [] = []
-closed (same c ∷ ps) = same c ∷ closed ps
-closed (after_backslash c ∷ ps) = after_backslash c ∷ closed ps
-closed (past p q ∷ ps) = past p q ∷ closed ps
 closed (lone ∷ ps) = []
+closed (p ∷ ps) = p ∷ closed ps
 
 closed-none : (ps : List Part) → ends_open ps ≡ false → closed ps ≡ ps
 closed-none (same c ∷ ps) h = ap (λ v. same c ∷ v) (closed-none ps h)
@@ -122,20 +117,17 @@ skip-parts ps h1 = grind (arith)
 
 -- whether the first part is a comment sign
 abbrev pub sign : List Part → Bool
-sign [] = false
 sign (same c ∷ ps) = is_comment_sign c
-sign (after_backslash c ∷ ps) = false
-sign (past p q ∷ ps) = false
-sign (lone ∷ ps) = false
+sign ps = false
 
-pub signs : (side : Bool) (ps : List Part) → AreParts ps → begins_with_comment_sign (text side ps) ≡ sign ps
+pub signs : (side : Bool) (ps : List Part) → AreParts ps → begins is_comment_sign (text side ps) ≡ sign ps
 signs side ps h1 = search (rules, on-beyond)
 
 abbrev pub comment_parts : List Part → Bool
 comment_parts ps = sign (skip ps)
 
 pub comments : (side : Bool) (ps : List Part) → AreParts ps → is_comment_line (text side ps) ≡ comment_parts ps
-comments side ps h = ap begins_with_comment_sign (skips side ps h) ∙ signs side (skip ps) (skip-parts ps h)
+comments side ps h = ap (begins is_comment_sign) (skips side ps h) ∙ signs side (skip ps) (skip-parts ps h)
 
 -- ---- lines that are joined
 

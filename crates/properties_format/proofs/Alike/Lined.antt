@@ -3,7 +3,7 @@ use Rattle.std.proofs.Common.{rules, ◌≡◌, ℕ, suc, ◌+◌, ◌==◌, ◌
 use Rattle.std.specs.Prelude.{if◌then◌else◌}
 use Rattle.std.proofs.lemmas.Bool.{cases_Bool}
 use Rattle.properties_format.specs.Text.{backslash, line_feed, carriage_return, is_line_end, LineEnding, lf, cr, crlf}
-use Rattle.properties_format.specs.Lines.{Ended, Lines, InputEnd, end, fault, more, HoldsNoLineEnd, numbered}
+use Rattle.properties_format.specs.Lines.{Ended, Lines, InputEnd, end, HoldsNoLineEnd, numbered}
 use Rattle.properties_format.specs.Computed.Lines.{is_lone_lf, cr_before, character_before, before, lines_of}
 use Rattle.properties_format.specs.Escapes.{letter_u, Spelling, itself, escaped, unicode, surrogates, last, spelling_text, spelling_character, Four, are_hexadecimal, four_text}
 use Rattle.properties_format.proofs.Escapes.Laws.{IsWhole}
@@ -38,9 +38,7 @@ empty_line by ls = record { parts = []; by = by } ∷ ls
 
 abbrev is_lone_part : List Part → LineEnding → Bool
 is_lone_part [] lf = true
-is_lone_part [] cr = false
-is_lone_part [] crlf = false
-is_lone_part (p ∷ ps) by = false
+is_lone_part ps by = false
 
 abbrev cr_parts : List PartEnded → List PartEnded
 cr_parts [] = empty_line cr []
@@ -98,11 +96,7 @@ plain-part side p x lines h e =
 -- ---- a line ending at the front
 
 lone-on : (side : Bool) (ps : List Part) (by : LineEnding) → is_lone_lf (text side ps) by ≡ is_lone_part ps by
-lone-on side [] lf = refl
-lone-on side [] cr = refl
-lone-on side [] crlf = refl
-lone-on side (same c ∷ ps) by = refl
-lone-on side (after_backslash c ∷ ps) by = refl
+lone-on side [] by = grind (arith)
 lone-on side (past p q ∷ ps) by = spelling-lone (on side p q) (text side ps) by
   where
     spelling-lone : (s : Spelling) (y : List ℕ) (by : LineEnding) → is_lone_lf (spelling_text s ++ y) by ≡ false
@@ -111,7 +105,7 @@ lone-on side (past p q ∷ ps) by = spelling-lone (on side p q) (text side ps) b
     spelling-lone (unicode d) y by = refl
     spelling-lone (surrogates high low) y by = refl
     spelling-lone last y by = refl
-lone-on side (lone ∷ ps) by = refl
+lone-on side ps by = refl
 
 cr-on : (side : Bool) (ls : List PartEnded) → cr_before (map (ended_on side) ls) ≡ map (ended_on side) (cr_parts ls)
 cr-on side [] = refl
@@ -213,8 +207,7 @@ line-parts (lone ∷ ps) h = rw h.0 (record { ended = tt; last = (refl, tt) })
 
 abbrev pub numbered_parts : ℕ → List PartEnded → List Part → InputEnd → List PartLine
 numbered_parts n [] tail end = record { number = n + 1; parts = tail } ∷ []
-numbered_parts n [] tail fault = []
-numbered_parts n [] tail more = []
+numbered_parts n [] tail ending = []
 numbered_parts n (l ∷ ls) tail ending = record { number = n + 1; parts = l.parts } ∷ numbered_parts (n + 1) ls tail ending
 
 pub numbers : (side : Bool) (n : ℕ) (ls : List PartEnded) (tail : List Part) (e : InputEnd)

@@ -3,7 +3,7 @@ use Rattle.std.proofs.Common.{rules, ◌≡◌, ℕ, zero, suc, ◌==◌, ◌≤
 use Rattle.std.specs.Prelude.{not}
 use Rattle.std.proofs.lemmas.Bool.{cases_Bool, eqb-true}
 use Rattle.properties_format.specs.Text.{backslash}
-use Rattle.properties_format.specs.Surrogates.{is_high, is_low, is_surrogate}
+use Rattle.properties_format.specs.Utf16.{is_high, is_low, is_surrogate}
 use Rattle.properties_format.specs.Escapes.{Malformed, letter_u, Spelling, itself, escaped, unicode, surrogates, last, spelling_text, spelling_character, IsSpelling, is_hexadecimal, Four, are_hexadecimal, four_text, code_unit, Meaning, means, breaks}
 use Rattle.properties_format.specs.Computed.Escapes.{first_spelling, meaning_of}
 use Rattle.properties_format.proofs.Escapes.First.{spelling_of-none, first_spelling-found, IsFirst, IsFound}

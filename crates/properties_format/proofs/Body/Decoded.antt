@@ -1,7 +1,7 @@
 -- In an encoding that can be edited, a CR or an LF is one byte, so the lines of undecoded bytes are those of a text
 -- with these numbers.
 use Rattle.std.proofs.Common.{◌≡◌, ℕ, true, List, [], ap, arith}
-use Rattle.properties_format.specs.Pieces.{characters}
+use Rattle.properties_format.specs.Text.{characters}
 use Rattle.properties_format.specs.Encoding.{Encoding}
 use Rattle.properties_format.specs.Lines.{Lines, HoldsNoLineEnd, IsLines}
 use Rattle.properties_format.specs.Computed.Lines.{lines_of}

@@ -1,15 +1,12 @@
 -- The groups of a body: the computed groups are groups of the body, and the only ones. All groups but the last end in a
 -- line ending, and are groups by themselves.
-use Rattle.std.proofs.Common.{◌≡◌, ◌≢◌, ◌<◌, ◌⊎◌, ℕ, true, false, List, [], ◌∷◌, ◌++◌, Some, None, refl, ap, ap₂, sym, ◌∙◌, inl, inr, append_assoc, arith}
-use Rattle.std.proofs.Common.{append-nil, subst, lit<}
+use Rattle.std.proofs.Common.{◌≡◌, ◌≢◌, ◌<◌, ◌⊎◌, ℕ, true, false, List, [], ◌∷◌, ◌++◌, Some, None, refl, ap, ap₂, sym, ◌∙◌, inl, inr, append_assoc, arith, append-nil, subst, lit<}
 use Rattle.std.proofs.lemmas.Bool.{cases_Bool}
 use Rattle.properties_format.proofs.Encodings.PieceEnds.{none-right}
 use Rattle.properties_format.specs.Text.{line_feed, carriage_return, LineEnding, lf, cr, crlf, line_ending_text}
 use Rattle.properties_format.specs.Encoding.{Encoding}
-use Rattle.properties_format.specs.Lines.{Ended, Lines, end, Line, put_together, AreLines}
-use Rattle.properties_format.specs.Computed.Lines.{lines_of}
-use Rattle.properties_format.specs.Groups.{IsWhole, AreWhole, IsUnfinished, last_group}
-use Rattle.properties_format.specs.Computed.Groups.{closes, groups_after}
+use Rattle.properties_format.specs.Lines.{Ended, Lines, end, Line, put_together, AreLines, IsWhole, AreWhole, IsUnfinished, last_group}
+use Rattle.properties_format.specs.Computed.Lines.{lines_of, closes, groups_after}
 use Rattle.properties_format.specs.Body.{HeldLine, AreHeld, as_lines, as_groups, held_in, AreGroupsOf, group_bytes, groups_bytes, last_ending}
 use Rattle.properties_format.specs.Edited.{is_editable}
 use Rattle.properties_format.specs.Computed.Body.{held_of, held_lines_of, held_groups_after, held_groups_of}

@@ -3,19 +3,18 @@ use Rattle.std.proofs.Common.{◌≡◌, ℕ, ◌+◌, List, [], ◌∷◌, ◌+
 use Rattle.std.proofs.lemmas.Bool.{cases_Bool}
 use Rattle.std.proofs.lemmas.List.{length_push}
 use Rattle.properties_format.specs.Encoding.{Encoding, byte_order_mark}
-use Rattle.properties_format.specs.Lines.{Ended, end, Line, Lines, numbered, numbered_lines, line_ends}
+use Rattle.properties_format.specs.Lines.{Ended, end, Line, Lines, numbered, numbered_lines, line_ends, joined_after, joined, first_number}
 use Rattle.properties_format.specs.Computed.Encoding.{decoded_of}
-use Rattle.properties_format.specs.Computed.Lines.{lines_of}
-use Rattle.properties_format.specs.Computed.Cut.{cut_of, decoded_line, decoded_ended}
-use Rattle.properties_format.specs.Groups.{joined_after, joined, first_number}
-use Rattle.properties_format.specs.Computed.Groups.{closes, groups_after, groups_of}
+use Rattle.properties_format.specs.Computed.Lines.{lines_of, closes, groups_after, groups_of}
+use Rattle.properties_format.specs.Computed.Cut.{cut_of, decoded_line}
 use Rattle.properties_format.specs.Computed.Items.{outcome_of, followed, entries_of, items_of}
 use Rattle.properties_format.specs.Body.{HeldLine, as_lines}
-use Rattle.properties_format.specs.Computed.Body.{held_of, held_lines_of, held_groups_after, held_groups_of, entries_in}
+use Rattle.properties_format.specs.Computed.Body.{held_of, held_lines_of, held_groups_after, held_groups_of}
 use Rattle.properties_format.proofs.Lines.Plain.{one-more}
 use Rattle.properties_format.proofs.Groups.Steps.{groups_after-close, groups_after-leave}
-use Rattle.properties_format.proofs.Cut.Byline.{decoded_lines-cut}
+use Rattle.properties_format.proofs.Cut.Byline.{decoded_lines-cut, decoded_ended}
 use Rattle.properties_format.proofs.Body.Groups.{groups-close, groups-leave}
+use Rattle.properties_format.specs.Items.{Entry}
 
 -- the lines of a body, numbered from this number on
 abbrev numbered_from : ℕ → List HeldLine → List Line
@@ -107,6 +106,11 @@ module _ {A : Type 0} (f : ℕ → List ℕ → A → A) (of_text : List (List L
       ∙ folded-after 1 1 [] (held_lines_of i.encoding i.body) refl
 
 -- ---- items
+
+-- the entries of the groups, each with the number of its first line; the first group starts at line n
+abbrev pub entries_in : ℕ → List (List HeldLine) → List Entry
+entries_in n [] = []
+entries_in n (g ∷ gs) = followed n (outcome_of (joined (as_lines g))) (entries_in (n + length g) gs)
 
 -- The items of a source are the contents of its body's groups.
 pub items_of-groups : (e : Encoding) (source : List ℕ)

@@ -1,20 +1,16 @@
 -- The contents among logical lines, and what edits do to them. Comments count or not, and no malformed line does.
-use Rattle.std.proofs.Common.{◌≡◌, ℕ, Bool, true, false, List, [], ◌∷◌, ◌++◌, refl, ap, inl, inr, arith}
-use Rattle.properties_format.specs.Entries.{Content, comment, pair}
-use Rattle.properties_format.specs.Items.{Outcome, ignored, given, broken, IsOutcome}
+use Rattle.std.proofs.Common.{◌≡◌, ℕ, Bool, true, List, [], ◌∷◌, ◌++◌, refl, ap, inl, inr, arith}
+use Rattle.properties_format.specs.Items.{Content, comment, pair, Outcome, given, IsOutcome}
 use Rattle.properties_format.specs.Edits.{Edit, put, remove, set_value}
-use Rattle.properties_format.specs.Changed.{IsSetIn, IsRemovedIn, HoldNoPair, IsEditedIn, AreEditedIn}
-use Rattle.properties_format.specs.LogicalLines.{AreLinesSet, AreLinesLeft, AreLinesEdited, AreLinesEditedInTurn, NoneIsPair}
+use Rattle.properties_format.specs.Changed.{IsSetIn, IsRemovedIn, HoldNoPair, IsEditedIn, AreEditedIn, AreLinesSet, AreLeft, AreLinesEdited, AreLinesEditedInTurn, NoneIsPair, IsPairWith}
 use Rattle.properties_format.specs.Computed.Items.{outcome_of}
 use Rattle.properties_format.proofs.Items.Unique.{outcome_of-meets, outcome_of-only}
 
 -- the content of a line, given its outcome, before others
 abbrev pub content_before : Outcome → Bool → List Content → List Content
-content_before ignored comments cs = cs
 content_before (given (comment text)) true cs = comment text ∷ cs
-content_before (given (comment text)) false cs = cs
 content_before (given (pair key value)) comments cs = pair key value ∷ cs
-content_before (broken kind) comments cs = cs
+content_before outcome comments cs = cs
 
 -- the contents among the lines, with comments or without
 abbrev pub contents_among : Bool → List (List ℕ) → List Content
@@ -61,7 +57,7 @@ module _ (b : Bool) where
   kept-contents key o cs left n h = grind (arith)
 
   -- and where a key is removed from the lines, it is removed from the contents.
-  left-contents : (key : List ℕ) (old new : List (List ℕ)) → AreLinesLeft key old new → IsRemovedIn key (contents_among b old) (contents_among b new)
+  left-contents : (key : List ℕ) (old new : List (List ℕ)) → AreLeft (IsPairWith key) old new → IsRemovedIn key (contents_among b old) (contents_among b new)
   left-contents key [] new h = rw h
   left-contents key (x ∷ xs) new (inl h) = rw (contents-pair x key h.0.0 xs h.0.1) (inl (refl, left-contents key xs new h.1))
   left-contents key (x ∷ xs) new (inr h) =

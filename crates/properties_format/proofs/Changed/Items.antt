@@ -2,13 +2,13 @@
 use Rattle.std.proofs.Common.{◌≡◌, ℕ, ◌+◌, List, [], ◌∷◌, length, true, refl, arith}
 use Rattle.properties_format.specs.Encoding.{Encoding, byte_order_mark}
 use Rattle.properties_format.specs.Lines.{end}
-use Rattle.properties_format.specs.Entries.{AreItems}
+use Rattle.properties_format.specs.Items.{AreItems}
 use Rattle.properties_format.specs.Computed.Items.{outcome_of, items_of}
 use Rattle.properties_format.specs.Body.{HeldLine, as_groups}
 use Rattle.properties_format.specs.Changed.{contents}
-use Rattle.properties_format.specs.Computed.Body.{held_groups_of, entries_in}
+use Rattle.properties_format.specs.Computed.Body.{held_groups_of}
 use Rattle.properties_format.specs.Computed.Edited.{IsSound}
-use Rattle.properties_format.proofs.Body.Numbers.{items_of-groups}
+use Rattle.properties_format.proofs.Body.Numbers.{items_of-groups, entries_in}
 use Rattle.properties_format.proofs.Changed.Contents.{contents_among}
 use Rattle.properties_format.proofs.Edited.Fronts.{logical_lines}
 use Rattle.properties_format.proofs.Edits.Lines.{OfEach, logical_lines_of}

@@ -1,11 +1,9 @@
 -- What an edited source says: the items of the source with the edit made to what they say.
 use Rattle.std.proofs.Common.{◌≡◌, ℕ, true, List, subst, All}
 use Rattle.properties_format.specs.Text.{scalar}
-use Rattle.properties_format.specs.Encoding.{Encoding, byte_order_mark}
-use Rattle.properties_format.specs.Repertoire.{Repertoire, all_of}
+use Rattle.properties_format.specs.Encoding.{Encoding, byte_order_mark, Repertoire, all_of}
 use Rattle.properties_format.specs.Lines.{end}
-use Rattle.properties_format.specs.Entries.{Content, pair, AreItems}
-use Rattle.properties_format.specs.Items.{given}
+use Rattle.properties_format.specs.Items.{Content, pair, AreItems, given}
 use Rattle.properties_format.specs.Computed.Items.{items_of}
 use Rattle.properties_format.specs.Computed.Edited.{IsSound}
 use Rattle.properties_format.specs.Edited.{IsKeySet, IsKeyRemoved, is_editable}

@@ -3,13 +3,12 @@ use Rattle.std.proofs.Common.{◌≡◌, ◌≢◌, ℕ, true, false, if◌then�
 use Rattle.std.specs.Prelude.{bytes_eq}
 use Rattle.std.proofs.lemmas.Bool.{cases_Bool, false_from_ne_true}
 use Rattle.std.proofs.lemmas.Slice.Eq.{bytes_eq-Decides}
-use Rattle.properties_format.specs.Entries.{Content, comment, pair, Entry, item, malformed, read_fault}
+use Rattle.properties_format.specs.Items.{Content, comment, pair, Entry, item}
 use Rattle.properties_format.specs.Maps.{IsMap}
-use Rattle.properties_format.specs.Computed.Maps.{first_value, value_in}
+use Rattle.properties_format.specs.Computed.Maps.{first_value}
 use Rattle.properties_format.specs.Edits.{Edit, put, remove, set_value}
-use Rattle.properties_format.specs.Changed.{contents, HoldNoPair, IsSetIn, IsRemovedIn, IsEditedIn, AreEditedIn, map_edited}
-use Rattle.properties_format.specs.Changed.{map_after}
-use Rattle.properties_format.proofs.Maps.{value_in-meets, map-only, first-assoc, first-none}
+use Rattle.properties_format.specs.Changed.{contents, HoldNoPair, IsSetIn, IsRemovedIn, IsEditedIn, AreEditedIn, map_edited, map_after}
+use Rattle.properties_format.proofs.Maps.{value_in-meets, map-only, first-assoc, first-none, value_in}
 
 -- ---- the value of a key in a list of contents
 
@@ -26,8 +25,7 @@ value-contents : (entries : List Entry) (key : List ℕ) → value_in entries ke
 value-contents [] key = refl
 value-contents (item n (pair k v) ∷ entries) key = rw (value-contents entries key)
 value-contents (item n (comment text) ∷ entries) key = rw (value-contents entries key)
-value-contents (malformed kind n ∷ entries) key = first-none (value_in entries key) ∙ value-contents entries key
-value-contents (read_fault n ∷ entries) key = first-none (value_in entries key) ∙ value-contents entries key
+value-contents (entry ∷ entries) key = first-none (value_in entries key) ∙ value-contents entries key
 
 -- In two lists of contents, the value is that in the second, or else that in the first.
 value-append : (cs ds : List Content) (key : List ℕ) → value_among (cs ++ ds) key ≡ first_value (value_among ds key) (value_among cs key)

@@ -1,10 +1,9 @@
 -- The other groups of a source are in the edited source, in order.
 use Rattle.std.proofs.Common.{◌≡◌, ℕ, List, [], ◌∷◌, ◌++◌, refl, ap, sym, ◌∙◌, inl, inr, append_assoc}
-use Rattle.properties_format.specs.Encoding.{Encoding, byte_order_mark}
-use Rattle.properties_format.specs.Repertoire.{Repertoire}
+use Rattle.properties_format.specs.Encoding.{Encoding, byte_order_mark, Repertoire}
 use Rattle.properties_format.specs.Body.{AreGroupsOf, HasKey, HeldLine, NoneHasKey, group_bytes, groups_bytes}
 use Rattle.properties_format.specs.Edited.{bom_of, IsKeySet, IsWithout, guarding_lf, IsKeyRemoved}
-use Rattle.properties_format.specs.Changed.{OccurIn, AreOthersThanLast, AreOthers, KeepsOthers}
+use Rattle.properties_format.specs.Changed.{OccurIn, AreOthersThanLast, AreLeft, KeepsOthers}
 
 -- Groups with other bytes before them.
 pub occur-after : (gs : List (List HeldLine)) (x y : List ℕ) → OccurIn gs y → OccurIn gs (x ++ y)
@@ -58,13 +57,13 @@ key_set-keeps t source key value result h = elim h.edited [
 
 -- What is left without a key contains the groups that aren't pairs with it, in order.
 others-occur : (key : List ℕ) (gs : List (List HeldLine)) (rest : List ℕ) → IsWithout key gs rest
-    → (others : List (List HeldLine)) × AreOthers key gs others × OccurIn others rest
+    → (others : List (List HeldLine)) × AreLeft (HasKey key) gs others × OccurIn others rest
 others-occur key [] rest h = ([], refl, tt)
 others-occur key (g ∷ gs) rest (inl h) = let m = others-occur key gs rest h.1 in (m.0, inl (h.0, m.1), m.2)
 others-occur key (g ∷ gs) rest (inr h) = let m = others-occur key gs h.1 h.3 in (g ∷ m.0, inr (h.0, m.0, refl, m.1), ([], h.1, h.2, m.2))
 
 -- If a key is removed, every group that isn't a pair with the key is unchanged.
-pub key_removed-keeps : (e : Encoding) (source key result : List ℕ) → IsKeyRemoved e source key result → KeepsOthers (AreOthers key) e source result
+pub key_removed-keeps : (e : Encoding) (source key result : List ℕ) → IsKeyRemoved e source key result → KeepsOthers (AreLeft (HasKey key)) e source result
 key_removed-keeps e source key result h =
     let m = others-occur key h.groups h.rest h.without in
     (h.groups, m.0, h.held, m.1, rw h.whole (occur-after m.0 (bom_of source) _ (occur-after m.0 (guarding_lf source h.rest) h.rest m.2)))

@@ -1,10 +1,9 @@
 -- What is guaranteed of an editor's result, if there is one.
 use Rattle.std.proofs.Common.{◌≡◌, ℕ, true, List, All, subst, Option}
 use Rattle.properties_format.specs.Text.{scalar}
-use Rattle.properties_format.specs.Encoding.{Encoding, byte_order_mark}
-use Rattle.properties_format.specs.Repertoire.{Repertoire}
+use Rattle.properties_format.specs.Encoding.{Encoding, byte_order_mark, Repertoire}
 use Rattle.properties_format.specs.Lines.{end}
-use Rattle.properties_format.specs.Entries.{Content, Entry, AreItems}
+use Rattle.properties_format.specs.Items.{Content, Entry, AreItems}
 use Rattle.properties_format.specs.Maps.{IsMap}
 use Rattle.properties_format.specs.Edited.{edited, is_editable, ItemsAre, IsSetKeyResult, IsRemoveKeyResult}
 use Rattle.properties_format.specs.Edits.{put, remove}

@@ -4,8 +4,7 @@ use Rattle.std.specs.Prelude.{nat_lt, ◌&&◌, if◌then◌else◌}
 use Rattle.std.specs.List.{AllByRecursion}
 use Rattle.std.proofs.lemmas.Bool.{cases_Bool}
 use Rattle.properties_format.specs.Text.{backslash, scalar}
-use Rattle.properties_format.specs.Encoding.{Encoding, utf_8, begins_like_bom}
-use Rattle.properties_format.specs.Repertoire.{Repertoire, all_of}
+use Rattle.properties_format.specs.Encoding.{Encoding, utf_8, begins_like_bom, Repertoire, all_of}
 use Rattle.properties_format.specs.Printing.{may_be_unescaped, unicode_escape, literal, encoded_text}
 use Rattle.properties_format.proofs.Printing.Characters.{may_be_unescaped-ascii}
 use Rattle.properties_format.specs.Escapes.{letter_u, Spelling, itself, escaped, unicode, surrogates, last, spelling_text, spelling_character, IsSpelling, NoSpelling, four_text}

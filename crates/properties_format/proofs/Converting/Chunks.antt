@@ -1,6 +1,6 @@
 -- The computed units are the units of a text.
 use Rattle.std.proofs.Common.{rules, ◌≡◌, ℕ, Bool, List, [], ◌∷◌, ◌++◌, Some, refl, ap, ◌∙◌, arith}
-use Rattle.properties_format.specs.Repertoire.{Repertoire}
+use Rattle.properties_format.specs.Encoding.{Repertoire}
 use Rattle.properties_format.specs.Escapes.{Spelling, spelling_text}
 use Rattle.properties_format.proofs.Escapes.First.{spelling_of, spelling_of-only}
 use Rattle.properties_format.specs.Converting.{TextUnit, spelt, unit_text, units_before, IsUnit, AreUnits, converted_unit, converted_units}

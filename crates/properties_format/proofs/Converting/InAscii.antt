@@ -2,8 +2,7 @@
 use Rattle.std.proofs.Common.{arith, rules, ◌≡◌, ℕ, Bool, List, [], ◌∷◌, ◌++◌, refl, ap, ap₂, subst, sym, ◌∙◌, ltb-true, ltb-false, lit<}
 use Rattle.std.specs.Prelude.{nat_lt}
 use Rattle.properties_format.specs.Text.{backslash}
-use Rattle.properties_format.specs.Encoding.{Encoding, utf_8}
-use Rattle.properties_format.specs.Repertoire.{ascii_in}
+use Rattle.properties_format.specs.Encoding.{Encoding, utf_8, ascii_in}
 use Rattle.properties_format.specs.Lines.{end}
 use Rattle.properties_format.specs.Printing.{may_be_unescaped, unicode_escape, encoded_text}
 use Rattle.properties_format.specs.Escapes.{letter_u, Spelling, spelling_text, spelling_character, IsSpelling}

@@ -5,14 +5,12 @@ use Rattle.std.specs.List.{AllByRecursion}
 use Rattle.std.proofs.lemmas.Bool.{cases_Bool}
 use Rattle.std.proofs.lemmas.List.{length-append, get_or-append-add}
 use Rattle.std.proofs.lemmas.List.Elements.{recursion_from_All}
-use Rattle.properties_format.specs.Text.{backslash, byte}
-use Rattle.properties_format.specs.Pieces.{characters}
-use Rattle.properties_format.specs.Encoding.{Encoding, windows_1252, utf_8, one_byte, begins_like_bom}
-use Rattle.properties_format.specs.Repertoire.{Repertoire, all_of}
+use Rattle.properties_format.specs.Text.{backslash, byte, characters}
+use Rattle.properties_format.specs.Encoding.{Encoding, windows_1252, utf_8, one_byte, begins_like_bom, Repertoire, all_of}
 use Rattle.properties_format.specs.Printing.{may_be_unescaped, encoded_text}
 use Rattle.properties_format.specs.Escapes.{letter_u, is_hexadecimal, Four, four_text, are_hexadecimal, escaped_character, Spelling, itself, escaped, unicode, surrogates, last, spelling_text, spelling_character, NoSpelling}
 use Rattle.properties_format.specs.Computed.Encoding.{pieces_of, decoded_of}
-use Rattle.properties_format.specs.Computed.Undecoded.{characters_of}
+use Rattle.properties_format.specs.Computed.Cut.{characters_of}
 use Rattle.properties_format.proofs.AsciiOnly.{ascii-unmarked, ascii-of}
 use Rattle.properties_format.proofs.Encodings.ByteOrderMarks.{decoded_of-unmarked}
 use Rattle.properties_format.proofs.Encodings.Pieces.{decoded_of-meets, decoded_of-only}
@@ -181,12 +179,9 @@ none-more rest y a n (surrogates high low) z e h =
 none-more rest y a n last z e h = let f : z ≡ [] = h in absurd (cc)
 
 unit-more : (u : TextUnit) (rest y : List ℕ) → IsClosed (unit_text u ++ rest) → IsApart y → IsUnit u rest → IsUnit u (rest ++ y)
-unit-more (spelt (itself c)) rest y k a h = h
-unit-more (spelt (escaped c)) rest y k a h = h
-unit-more (spelt (unicode d)) rest y k a h = h
-unit-more (spelt (surrogates high low)) rest y k a h = h
 unit-more (spelt last) rest y k a h = absurd (k 0 (ap (λ v. length (backslash ∷ v)) h) refl)
 unit-more stray rest y k a h = none-more rest y a h
+unit-more (spelt p) rest y k a h = h
 
 -- The units of a run, and of what comes after it.
 run-units : (r : Repertoire) (us : List TextUnit) (y : List ℕ) → IsClosed (units_before us []) → IsApart y → AreUnits us []

@@ -5,12 +5,10 @@ use Rattle.std.specs.List.{AllByRecursion}
 use Rattle.std.proofs.lemmas.List.Elements.{recursion_from_All, All-drop}
 use Rattle.std.proofs.lemmas.Bool.{cond_both}
 use Rattle.properties_format.specs.Text.{byte, scalar}
-use Rattle.properties_format.specs.Encoding.{Encoding, InForce, output_encoding, byte_order_mark, begins_with, utf_8_bom, utf_16be_bom, utf_16le_bom}
-use Rattle.properties_format.specs.Repertoire.{Repertoire}
+use Rattle.properties_format.specs.Encoding.{Encoding, InForce, output_encoding, byte_order_mark, begins_with, utf_8_bom, utf_16be_bom, utf_16le_bom, Repertoire}
 use Rattle.properties_format.specs.Lines.{InputEnd, numbered_lines}
 use Rattle.properties_format.specs.Computed.Encoding.{decoded_of}
-use Rattle.properties_format.specs.Computed.Lines.{lines_of}
-use Rattle.properties_format.specs.Computed.Groups.{groups_of}
+use Rattle.properties_format.specs.Computed.Lines.{lines_of, groups_of}
 use Rattle.properties_format.specs.Computed.Items.{items_of}
 use Rattle.properties_format.proofs.Encodings.ByteOrderMarks.{decoded_of-unmarked}
 use Rattle.properties_format.proofs.Encodings.Pieces.{decoded_of-only}

@@ -2,8 +2,7 @@
 use Rattle.std.proofs.Common.{rules, ◌≡◌, ℕ, zero, suc, ◌≤◌, Bool, List, [], ◌∷◌, ◌++◌, length, Option, Some, None, refl, ap, ap₂, subst, sym, ◌∙◌, arith}
 use Rattle.std.proofs.lemmas.List.{append_cancel_left}
 use Rattle.properties_format.specs.Text.{backslash}
-use Rattle.properties_format.specs.Encoding.{Encoding}
-use Rattle.properties_format.specs.Repertoire.{Repertoire}
+use Rattle.properties_format.specs.Encoding.{Encoding, Repertoire}
 use Rattle.properties_format.specs.Printing.{encoded_text}
 use Rattle.properties_format.specs.Escapes.{letter_u, Spelling, NoSpelling}
 use Rattle.properties_format.specs.Computed.Encoding.{decoded_of}

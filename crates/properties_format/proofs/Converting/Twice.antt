@@ -3,8 +3,7 @@ use Rattle.std.proofs.Common.{◌≡◌, ℕ, Bool, true, List, ap, subst, sym, 
 use Rattle.std.specs.Prelude.{All}
 use Rattle.std.specs.List.{AllByRecursion}
 use Rattle.properties_format.specs.Text.{byte, scalar}
-use Rattle.properties_format.specs.Encoding.{Encoding, utf_8, output_encoding}
-use Rattle.properties_format.specs.Repertoire.{Repertoire, all_of}
+use Rattle.properties_format.specs.Encoding.{Encoding, utf_8, output_encoding, Repertoire, all_of}
 use Rattle.properties_format.specs.Printing.{encoded_text}
 use Rattle.properties_format.specs.Computed.Encoding.{decoded_of}
 use Rattle.properties_format.proofs.Encodings.Pieces.{decoded_of-meets, decoded_of-only}

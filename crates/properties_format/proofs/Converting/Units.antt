@@ -4,8 +4,7 @@ use Rattle.std.specs.Prelude.{nat_lt, is_some, if◌then◌else◌}
 use Rattle.std.specs.List.{AllByRecursion}
 use Rattle.std.proofs.lemmas.Bool.{cases_Bool, and_parts}
 use Rattle.properties_format.specs.Text.{backslash, scalar}
-use Rattle.properties_format.specs.Encoding.{Encoding, encoded, begins_like_bom}
-use Rattle.properties_format.specs.Repertoire.{Repertoire}
+use Rattle.properties_format.specs.Encoding.{Encoding, encoded, begins_like_bom, Repertoire}
 use Rattle.properties_format.specs.Printing.{may_be_unescaped, unicode_escape, encoded_text}
 use Rattle.properties_format.specs.Escapes.{letter_u, Spelling, itself, escaped, unicode, surrogates, last, spelling_text, spelling_character, IsSpelling, Four, are_hexadecimal, four_text, is_hexadecimal}
 use Rattle.properties_format.proofs.Encodings.Characters.{pair-scalar}

@@ -2,14 +2,13 @@
 -- the decoded text.
 use Rattle.std.proofs.Common.{◌≡◌, ℕ, ◌<◌, ◌⊎◌, true, List, [], ◌∷◌, ◌++◌, refl, ap, ap₂, sym, ◌∙◌, subst, inl, inr, append_assoc, arith}
 use Rattle.std.proofs.lemmas.Bool.{cases_Bool}
-use Rattle.properties_format.specs.Text.{is_line_end, LineEnding, line_ending_text}
+use Rattle.properties_format.specs.Text.{is_line_end, LineEnding, line_ending_text, characters}
 use Rattle.properties_format.specs.Lines.{Ended, Lines, put_together, HoldsNoLineEnd, BeginsWithNoLoneLf, AreLines, IsLines}
-use Rattle.properties_format.specs.Pieces.{characters}
 use Rattle.properties_format.specs.Encoding.{Encoding, IsAligned, IsDecoded, byte_order_mark}
 use Rattle.properties_format.specs.Cut.{HoldsNoLineEndUnit, line_ending_bytes, bytes_together, AreCut, IsCut, IsDecodedLine, AreDecodedLines, IsByline}
 use Rattle.properties_format.specs.Computed.Encoding.{pieces_of, decoded_of}
 use Rattle.properties_format.specs.Computed.Lines.{lines_of}
-use Rattle.properties_format.specs.Computed.Cut.{cut_of, decoded_line, decoded_ended, decoded_lines, byline_of}
+use Rattle.properties_format.specs.Computed.Cut.{cut_of, decoded_line}
 use Rattle.properties_format.proofs.Encodings.Pieces.{pieces_of-meets, pieces_of-only, decoded_of-only}
 use Rattle.properties_format.proofs.Encodings.Characters.{pieces_of-ascii}
 use Rattle.properties_format.proofs.Encodings.Cuts.{characters-cut_ascii, cut-at_ascii}
@@ -19,6 +18,20 @@ use Rattle.properties_format.proofs.Lines.Only.{lines_of-plain, lines_of-only}
 use Rattle.properties_format.proofs.Cut.Units.{no_end_unit-at}
 use Rattle.properties_format.proofs.Cut.Only.{cut_of-only}
 use Rattle.properties_format.proofs.Cut.Meets.{cut_of-meets}
+
+-- ---- The lines, each decoded by itself.
+
+-- the lines, each decoded by itself
+abbrev pub decoded_ended : Encoding → List Ended → List Ended
+decoded_ended e [] = []
+decoded_ended e (l ∷ ls) = record { text = decoded_line e l.text; by = l.by } ∷ decoded_ended e ls
+
+abbrev pub decoded_lines : Encoding → Lines → Lines
+decoded_lines e lines = record { ended = decoded_ended e lines.ended; last = decoded_line e lines.last }
+
+-- the lines of the bytes after any byte order mark, each decoded by itself
+abbrev pub byline_of : Encoding → List ℕ → Lines
+byline_of e b = decoded_lines (byte_order_mark e b).encoding (cut_of (byte_order_mark e b).encoding (byte_order_mark e b).body)
 
 -- ---- The decoded text.
 

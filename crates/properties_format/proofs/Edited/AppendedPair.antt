@@ -2,15 +2,13 @@
 use Rattle.std.proofs.Common.{◌≡◌, ◌≢◌, ℕ, true, List, [], ◌∷◌, ◌++◌, Some, None, refl, ap, sym, ◌∙◌, inl, inr, append-nil, subst}
 use Rattle.properties_format.specs.Text.{LineEnding, line_ending_text}
 use Rattle.properties_format.specs.Encoding.{Encoding}
-use Rattle.properties_format.specs.Lines.{Ended, HoldsNoLineEnd}
+use Rattle.properties_format.specs.Lines.{Ended, HoldsNoLineEnd, IsWhole, joined}
 use Rattle.properties_format.specs.Computed.Cut.{decoded_line}
-use Rattle.properties_format.specs.Groups.{IsWhole, joined}
-use Rattle.properties_format.specs.Entries.{pair}
-use Rattle.properties_format.specs.Items.{given}
+use Rattle.properties_format.specs.Items.{pair, given}
 use Rattle.properties_format.specs.Body.{HeldLine, HasKey, as_groups, as_lines, groups_bytes}
-use Rattle.properties_format.specs.Valued.{HasPair, separation_by}
-use Rattle.properties_format.specs.LogicalLines.{AreLinesSet, NoneIsPair}
-use Rattle.properties_format.specs.Edited.{is_editable}
+use Rattle.properties_format.specs.Valued.{HasPair}
+use Rattle.properties_format.specs.Changed.{AreLinesSet, NoneIsPair}
+use Rattle.properties_format.specs.Edited.{is_editable, separation_by}
 use Rattle.properties_format.specs.Computed.Items.{outcome_of}
 use Rattle.properties_format.specs.Computed.Body.{held_groups_of, is_pair_with}
 use Rattle.properties_format.proofs.Body.Decoded.{decoded-nil}

@@ -1,16 +1,11 @@
 -- The encoding in force of an edited source is that of the source: the byte order mark stays, and no new one appears.
-use Rattle.std.proofs.Common.{◌≡◌, ◌⊎◌, ℕ, Bool, true, false, List, [], ◌∷◌, ◌++◌, length, drop, refl, ap, ◌∙◌, inl, arith}
-use Rattle.std.proofs.Common.{inr, append_assoc, append-nil, lit<}
+use Rattle.std.proofs.Common.{◌≡◌, ◌⊎◌, ℕ, Bool, true, false, List, [], ◌∷◌, ◌++◌, length, drop, refl, ap, ◌∙◌, inl, arith, inr, append_assoc, append-nil, lit<}
 use Rattle.std.specs.Prelude.{None}
 use Rattle.properties_format.specs.Text.{line_feed, carriage_return, equals_sign, LineEnding, lf, cr, crlf, line_ending_text, is_empty}
-use Rattle.properties_format.specs.Encoding.{Encoding, utf_8, byte_order_mark, begins_with, begins_like_bom, utf_8_bom}
-use Rattle.properties_format.specs.Repertoire.{Repertoire, in_encoding}
+use Rattle.properties_format.specs.Encoding.{Encoding, utf_8, byte_order_mark, begins_with, begins_like_bom, utf_8_bom, Repertoire, in_encoding}
 use Rattle.properties_format.specs.Printing.{in_key_or_value, printed_characters, encoded_text, printed_key}
 use Rattle.properties_format.specs.Body.{HeldLine, AreGroupsOf, group_bytes, groups_bytes, last_ending}
-use Rattle.properties_format.specs.Valued.{separation_by}
-use Rattle.properties_format.specs.Edited.{pair_bytes}
-use Rattle.properties_format.specs.Edited.{final_group, is_empty_line, bom_of, IsKeySet, guarding_lf, IsKeyRemoved}
-use Rattle.properties_format.specs.Edited.{is_editable}
+use Rattle.properties_format.specs.Edited.{pair_bytes, final_group, is_empty_line, bom_of, IsKeySet, guarding_lf, IsKeyRemoved, is_editable, separation_by}
 use Rattle.properties_format.proofs.Encodings.ByteOrderMarks.{byte_order_mark-none}
 use Rattle.properties_format.proofs.Printing.Characters.{encoded-ascii, encoded_text-append}
 use Rattle.properties_format.proofs.ReadBack.Law.{default_settings-good}
@@ -144,7 +139,7 @@ key_set-in_force t source key value result ok h =
     let f = byte_order_mark t.encoding source in
     let gs = held-groups f.encoding f.body h.groups ok h.held in
     rw h.whole (in_force t.encoding source h.body ok (λ n. let u = groups-unmarked t.encoding source h.groups ok h.held n in elim h.edited [
-      | inl r ↦ rw r.bytes (changed-unmarked f.encoding h.groups r.before r.group r.after _ r.division gs u (λ q. rw q (first-unmarked _ key value _)))
+      | inl r ↦ rw r.bytes (changed-unmarked f.encoding h.groups r.before r.group r.after _ r.division gs u (λ q. rw q (first-unmarked (in_encoding t f.encoding) key value _)))
       | inr r ↦ rw r.bytes
           (added-unmarked f.encoding _ h.groups (λ x. pair_bytes (in_encoding t f.encoding) (is_empty x) key value ++ line_feed ∷ []) gs
           u (first-unmarked (in_encoding t f.encoding) key value (line_feed ∷ [])))

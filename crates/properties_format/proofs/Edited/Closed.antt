@@ -5,16 +5,14 @@ use Rattle.std.proofs.lemmas.Bool.{cases_Bool, cond-true}
 use Rattle.properties_format.specs.Text.{LineEnding, lf, cr, carriage_return, line_ending_text}
 use Rattle.properties_format.specs.Computed.Lines.{ends_in_cr}
 use Rattle.properties_format.specs.Encoding.{Encoding}
-use Rattle.properties_format.specs.Lines.{Ended, BeginsWithNoLoneLf, AreLines}
+use Rattle.properties_format.specs.Lines.{Ended, BeginsWithNoLoneLf, AreLines, IsWhole, joined}
 use Rattle.properties_format.specs.Computed.Cut.{decoded_line}
-use Rattle.properties_format.specs.Groups.{IsWhole, joined}
 use Rattle.properties_format.specs.Items.{ignored}
 use Rattle.properties_format.specs.Body.{HeldLine, as_lines, held_in, group_bytes, groups_bytes, ending_bytes, last_ending}
-use Rattle.properties_format.specs.Edited.{is_empty_line, is_left_open}
+use Rattle.properties_format.specs.Edited.{is_empty_line, is_left_open, separation_by}
 use Rattle.properties_format.specs.Computed.Items.{outcome_of}
-use Rattle.properties_format.specs.Computed.Body.{held_of}
-use Rattle.properties_format.specs.Computed.Parts.{unended_bytes}
-use Rattle.properties_format.specs.Valued.{ending_among, separation_by}
+use Rattle.properties_format.specs.Computed.Body.{held_of, unended_bytes}
+use Rattle.properties_format.specs.Valued.{ending_among}
 use Rattle.properties_format.proofs.Body.Decoded.{decoded-nil}
 use Rattle.properties_format.proofs.Lines.Plain.{plain-last}
 use Rattle.properties_format.proofs.Body.Groups.{IsLastFit, AreFit, as_lines-append, held_ended, held-last, cut-off, groups-bytes, lines-front, group_bytes-append, groups_bytes-append}

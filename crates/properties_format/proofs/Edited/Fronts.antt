@@ -3,12 +3,10 @@
 use Rattle.std.proofs.Common.{◌≡◌, ℕ, ◌+◌, Bool, true, false, List, [], ◌∷◌, ◌++◌, refl, ap, ◌∙◌, inr, arith}
 use Rattle.properties_format.specs.Text.{line_feed}
 use Rattle.properties_format.specs.Encoding.{Encoding}
-use Rattle.properties_format.specs.Lines.{Ended, Lines, end, more, Line, numbered, line_ends}
-use Rattle.properties_format.specs.Computed.Lines.{lines_of, ends_in_cr, rest_of_end, lines_to_come}
-use Rattle.properties_format.specs.Groups.{IsWhole, joined}
-use Rattle.properties_format.specs.Computed.Groups.{groups_of}
+use Rattle.properties_format.specs.Lines.{Ended, Lines, end, more, Line, numbered, line_ends, IsWhole, joined}
+use Rattle.properties_format.specs.Computed.Lines.{lines_of, ends_in_cr, rest_of_end, lines_to_come, groups_of}
 use Rattle.properties_format.specs.Items.{ignored}
-use Rattle.properties_format.specs.LogicalLines.{line_before, AreLinesOf}
+use Rattle.properties_format.specs.Changed.{line_before, AreLinesOf}
 use Rattle.properties_format.specs.Computed.Items.{outcome_of, split_outcome}
 use Rattle.properties_format.proofs.Lines.Append.{lines_to_come-append}
 use Rattle.properties_format.proofs.Groups.Only.{groups_of-before}

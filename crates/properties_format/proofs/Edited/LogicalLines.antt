@@ -2,18 +2,14 @@
 use Rattle.std.proofs.Common.{◌≡◌, ◌⊎◌, ℕ, ◌&&◌, not, true, false, List, [], ◌∷◌, ◌++◌, refl, ap, sym, ◌∙◌, inl, inr, append-nil, arith}
 use Rattle.std.proofs.lemmas.Bool.{cases_Bool}
 use Rattle.properties_format.specs.Encoding.{Encoding, begins_like_bom}
-use Rattle.properties_format.specs.Lines.{end, Line}
-use Rattle.properties_format.specs.Computed.Lines.{ends_in_cr}
-use Rattle.properties_format.specs.Groups.{EndsClosed, AreOpen, IsWhole, joined}
-use Rattle.properties_format.specs.Computed.Groups.{groups_of}
-use Rattle.properties_format.specs.Entries.{pair}
-use Rattle.properties_format.specs.Items.{Outcome, given}
+use Rattle.properties_format.specs.Lines.{end, Line, EndsClosed, AreOpen, IsWhole, joined}
+use Rattle.properties_format.specs.Computed.Lines.{ends_in_cr, groups_of}
+use Rattle.properties_format.specs.Items.{pair, Outcome, given}
 use Rattle.properties_format.specs.Computed.Items.{outcome_of}
 use Rattle.properties_format.specs.Body.{HeldLine, as_lines, as_groups, group_bytes, groups_bytes, HasKey, NoneHasKey}
-use Rattle.properties_format.specs.Edited.{is_last_open, is_left_open}
-use Rattle.properties_format.specs.Edited.{IsWithout, guarding_lf}
+use Rattle.properties_format.specs.Edited.{is_last_open, is_left_open, IsWithout, guarding_lf}
 use Rattle.properties_format.specs.Valued.{HasPair}
-use Rattle.properties_format.specs.LogicalLines.{line_before, IsPairWith, NoneIsPair, AreLinesSet, AreLinesLeft}
+use Rattle.properties_format.specs.Changed.{line_before, IsPairWith, NoneIsPair, AreLinesSet, AreLeft}
 use Rattle.properties_format.proofs.Lines.Plain.{ends_in_cr-append}
 use Rattle.properties_format.proofs.Groups.Steps.{closes-closed}
 use Rattle.properties_format.proofs.Groups.Meets.{close-whole}
@@ -115,13 +111,13 @@ pair-lines before g h after key value k n p = inl (record {
 -- ---- removing a key
 
 -- A group without the key stays.
-kept-lines : (key : List ℕ) (o : Outcome) (x : List ℕ) (xs left : List (List ℕ)) → ¬ (IsPairWith key x) → AreLinesLeft key xs left
-    → AreLinesLeft key (line_before o x xs) (line_before o x left)
+kept-lines : (key : List ℕ) (o : Outcome) (x : List ℕ) (xs left : List (List ℕ)) → ¬ (IsPairWith key x) → AreLeft (IsPairWith key) xs left
+    → AreLeft (IsPairWith key) (line_before o x xs) (line_before o x left)
 kept-lines key o x xs left n h = grind (arith)
 
 -- The logical lines of the groups without the key are what is left of the lines.
 left-lines : (e : Encoding) (key : List ℕ) (gs : List (List HeldLine)) (rest : List ℕ) → AreHeldGroups e gs → IsWithout key gs rest
-    → AreLinesLeft key (logical_lines (as_groups gs)) (logical_lines_in e rest)
+    → AreLeft (IsPairWith key) (logical_lines (as_groups gs)) (logical_lines_in e rest)
 left-lines e key [] rest h w = absurd h
 left-lines e key (g ∷ []) rest h (inl w) = rw (w.1, lines-nil e, lines-pair key g [] w.0) (inl (w.0, refl))
 left-lines e key (g ∷ []) rest h (inr w) =
@@ -132,7 +128,7 @@ left-lines e key (g ∷ i ∷ gs) rest h (inr w) =
 
 -- A body without the groups with the key has the same logical lines, without the pairs with the key.
 pub removed-lines : (e : Encoding) (source key : List ℕ) (gs : List (List HeldLine)) (rest : List ℕ) → AreHeldGroups e gs → IsWithout key gs rest
-    → AreLinesLeft key (logical_lines (as_groups gs)) (logical_lines_in e (guarding_lf source rest ++ rest))
+    → AreLeft (IsPairWith key) (logical_lines (as_groups gs)) (logical_lines_in e (guarding_lf source rest ++ rest))
 removed-lines e source key gs rest h w = elim (cases_Bool (not (begins_like_bom source) && begins_like_bom rest)) [
   | inl k ↦ rw (k, lines-lf e rest) (left-lines e key gs rest h w)
   | inr k ↦ rw k (left-lines e key gs rest h w)

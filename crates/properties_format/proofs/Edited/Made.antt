@@ -2,18 +2,16 @@
 use Rattle.std.proofs.Common.{◌≡◌, ◌⊎◌, ℕ, true, false, List, [], ◌∷◌, ◌++◌, Option, Some, None, refl, ap, sym, ◌∙◌, inl, inr, arith}
 use Rattle.std.proofs.lemmas.Bool.{false_from_ne_true}
 use Rattle.std.proofs.lemmas.Slice.Eq.{bytes_eq-Decides}
-use Rattle.properties_format.specs.Encoding.{Encoding, byte_order_mark}
-use Rattle.properties_format.specs.Repertoire.{Repertoire, in_encoding}
-use Rattle.properties_format.specs.Groups.{joined}
-use Rattle.properties_format.specs.Entries.{pair}
-use Rattle.properties_format.specs.Items.{given}
-use Rattle.properties_format.specs.Body.{HeldLine, as_lines, HasKey, NoneHasKey}
-use Rattle.properties_format.specs.Edited.{IsReplaced, IsAppended, IsKeySet, IsWithout, IsKeyRemoved}
+use Rattle.properties_format.specs.Encoding.{Encoding, byte_order_mark, Repertoire, in_encoding, InForce}
+use Rattle.properties_format.specs.Lines.{joined}
+use Rattle.properties_format.specs.Items.{pair, given}
+use Rattle.properties_format.specs.Body.{HeldLine, as_lines, HasKey, NoneHasKey, ending_bytes, groups_bytes, last_ending}
+use Rattle.properties_format.specs.Edited.{IsReplaced, IsAppended, IsKeySet, IsWithout, IsKeyRemoved, pair_bytes, final_group, bom_of, guarding_lf, separation_by, added_ending}
 use Rattle.properties_format.specs.Computed.Body.{held_groups_of, is_pair_with, has_key}
-use Rattle.properties_format.specs.Computed.Edited.{KeyPlace, place_after, last_place, set_at, key_set, without}
-use Rattle.properties_format.specs.Computed.Edited.{key_removed}
+use Rattle.properties_format.specs.Computed.Edited.{KeyPlace, place_after, last_place, without}
 use Rattle.properties_format.proofs.Items.Unique.{outcome_of-meets, outcome_of-only}
 use Rattle.properties_format.proofs.Body.Groups.{held_groups_of-meets, held_groups_of-only}
+use Rattle.properties_format.specs.Text.{line_feed, is_empty}
 
 -- ---- which groups have the key
 
@@ -64,6 +62,24 @@ last_place-some key (f ∷ before) g after h k = ap (place_after key f (before +
 
 -- ---- setting a key
 
+-- the body with the pair at this place, or appended at the end if there is none
+abbrev pub set_at : Repertoire → List ℕ → List (List HeldLine) → List ℕ → List ℕ → Option KeyPlace → List ℕ
+set_at r source groups key value (Some p) =
+    groups_bytes p.before ++ (pair_bytes r (is_empty (groups_bytes p.before)) key value ++ (ending_bytes (last_ending p.group) ++ groups_bytes p.after))
+set_at r source groups key value None =
+    let front : List ℕ = groups_bytes groups ++ separation_by (added_ending source) (final_group groups) in
+    front ++ (pair_bytes r (is_empty front) key value ++ line_feed ∷ [])
+
+-- the source with the key set, given the encoding in force and the body
+abbrev pub key_set_in : InForce → Repertoire → List ℕ → List ℕ → List ℕ → List ℕ
+key_set_in f r source key value =
+    let groups = held_groups_of f.encoding f.body in
+    bom_of source ++ set_at (in_encoding r f.encoding) source groups key value (last_place key groups)
+
+-- the source with the key set, given the requested encoding
+abbrev pub key_set : Repertoire → List ℕ → List ℕ → List ℕ → List ℕ
+key_set r source key value = key_set_in (byte_order_mark r.encoding source) r source key value
+
 -- The last pair with the key is replaced at its place, or a pair is appended if there is none.
 set-meets : (r : Repertoire) (source key value : List ℕ) (gs : List (List HeldLine)) (o : Option KeyPlace) → IsPlace key gs o
     → IsReplaced r gs key value (set_at r source gs key value o) ⊎ IsAppended r source gs key value (set_at r source gs key value o)
@@ -103,6 +119,14 @@ key_set-only r source key value result h =
     rw (← held_groups_of-only f.encoding f.body h.groups h.held, h.whole, set-only (in_encoding r f.encoding) source key value h.groups h.body h.edited)
 
 -- ---- removing a key
+
+-- the source without the key, given the encoding in force and the body
+abbrev pub key_removed_in : InForce → List ℕ → List ℕ → List ℕ
+key_removed_in f source key = let rest = without key (held_groups_of f.encoding f.body) in bom_of source ++ (guarding_lf source rest ++ rest)
+
+-- the source without the key, given the requested encoding
+abbrev pub key_removed : Encoding → List ℕ → List ℕ → List ℕ
+key_removed e source key = key_removed_in (byte_order_mark e source) source key
 
 -- The computed bytes are those of the groups without the key.
 pub without-meets : (key : List ℕ) (gs : List (List HeldLine)) → IsWithout key gs (without key gs)

@@ -1,12 +1,11 @@
 -- Groups that are printed pairs, that have one line more, or that are empty lines.
 use Rattle.std.proofs.Common.{◌≡◌, ◌≢◌, ℕ, Bool, List, [], ◌∷◌, ◌++◌, Option, refl, sym, inr, append_assoc, append-nil}
 use Rattle.properties_format.specs.Text.{LineEnding}
-use Rattle.properties_format.specs.Encoding.{Encoding}
-use Rattle.properties_format.specs.Repertoire.{Repertoire}
-use Rattle.properties_format.specs.Groups.{IsWhole}
+use Rattle.properties_format.specs.Encoding.{Encoding, Repertoire}
+use Rattle.properties_format.specs.Lines.{IsWhole}
 use Rattle.properties_format.specs.Body.{HeldLine, as_lines, group_bytes}
 use Rattle.properties_format.specs.Edited.{pair_bytes}
-use Rattle.properties_format.specs.Computed.Parts.{unended_bytes}
+use Rattle.properties_format.specs.Computed.Body.{unended_bytes}
 use Rattle.properties_format.proofs.Body.Decoded.{decoded-nil}
 use Rattle.properties_format.proofs.Edited.ByteOrderMarks.{pair-ascii}
 use Rattle.properties_format.proofs.InTurn.Lines.{AreLinesBy}

@@ -3,19 +3,17 @@ use Rattle.std.proofs.Common.{◌≡◌, ℕ, true, List, [], ◌∷◌, ◌++�
 use Rattle.std.specs.Prelude.{if◌then◌else◌}
 use Rattle.std.proofs.lemmas.Bool.{cond-true}
 use Rattle.properties_format.specs.Text.{scalar, LineEnding, lf, cr, line_ending_text, is_empty}
-use Rattle.properties_format.specs.Encoding.{Encoding, byte_order_mark}
-use Rattle.properties_format.specs.Repertoire.{Repertoire, in_encoding}
+use Rattle.properties_format.specs.Encoding.{Encoding, byte_order_mark, Repertoire, in_encoding}
 use Rattle.properties_format.specs.Computed.Lines.{ends_in_cr}
 use Rattle.properties_format.specs.Computed.Cut.{decoded_line}
-use Rattle.properties_format.specs.Groups.{IsWhole, joined}
-use Rattle.properties_format.specs.Entries.{pair}
-use Rattle.properties_format.specs.Items.{given, IsOutcome}
+use Rattle.properties_format.specs.Lines.{IsWhole, joined}
+use Rattle.properties_format.specs.Items.{pair, given, IsOutcome}
 use Rattle.properties_format.specs.Body.{HeldLine, as_groups, as_lines, groups_bytes, last_ending}
-use Rattle.properties_format.specs.Edited.{bom_of, final_group, is_editable, pair_bytes, separation}
+use Rattle.properties_format.specs.Edited.{bom_of, final_group, is_editable, pair_bytes, separation_by, added_ending}
 use Rattle.properties_format.specs.Valued.{HasPair}
-use Rattle.properties_format.specs.LogicalLines.{AreLinesSet, NoneIsPair}
+use Rattle.properties_format.specs.Changed.{AreLinesSet, NoneIsPair}
 use Rattle.properties_format.specs.Computed.Body.{held_groups_of}
-use Rattle.properties_format.specs.Computed.Edited.{KeyPlace, key_set, last_place, set_at}
+use Rattle.properties_format.specs.Computed.Edited.{KeyPlace, last_place}
 use Rattle.properties_format.specs.Computed.Items.{outcome_of}
 use Rattle.properties_format.proofs.Items.Unique.{outcome_of-meets}
 use Rattle.properties_format.proofs.Body.Groups.{held_groups_of-meets, held-body}
@@ -25,7 +23,7 @@ use Rattle.properties_format.proofs.Edited.Closed.{closed-by, put-seam}
 use Rattle.properties_format.proofs.Edited.Fronts.{logical_lines}
 use Rattle.properties_format.proofs.Edited.LogicalLines.{ends-right, pair-lines, none-lines}
 use Rattle.properties_format.proofs.Edited.Made as made
-use Rattle.properties_format.proofs.Edited.Made.{key_set-body, key_set-meets}
+use Rattle.properties_format.proofs.Edited.Made.{key_set-body, key_set-meets, key_set, set_at}
 use Rattle.properties_format.proofs.Edited.Pair.{pair_text, pair-decoded, pair-whole, pair-outcome, pair-plain}
 use Rattle.properties_format.proofs.Edited.Parts.{pair-some}
 use Rattle.properties_format.proofs.Edited.Replaced.{reput-of}
@@ -40,7 +38,7 @@ pub record IsPutLast (r : Repertoire) (source key value : List ℕ) (gs : List (
   pub is_groups : closed ++ group ∷ (empty_line r.encoding None ∷ []) ∷ [] ≡ held_groups_of r.encoding (set_at r source gs key value None)
   pub has_pair : HasPair key value group
   pub ending : last_ending group ≡ Some lf
-  pub bytes : groups_bytes closed ≡ groups_bytes gs ++ separation source (final_group gs)
+  pub bytes : groups_bytes closed ≡ groups_bytes gs ++ separation_by (added_ending source) (final_group gs)
   pub lines_set : NoneIsPair key (logical_lines (as_groups gs))
       → AreLinesSet key value (logical_lines (as_groups gs)) (logical_lines (as_groups (held_groups_of r.encoding (set_at r source gs key value None))))
 
@@ -56,7 +54,7 @@ module _ (t : Repertoire) (source key value body : List ℕ) (ok : is_editable t
       let seam = put-seam t.encoding all lined by (λ q. cond-true (ends_in_cr source) cr lf (ends (ap ends_in_cr (sym bytes) ∙ q))) in
       let c = closed-by t.encoding by all lined seam in
       let final : final_group all ≡ c.final = ap final_group c.division ∙ final_group-push c.before c.final in
-      let front = groups_bytes all ++ separation source (final_group all) in
+      let front = groups_bytes all ++ separation_by (added_ending source) (final_group all) in
       let first = is_empty front in
       let pb = pair_bytes t first key value in
       let text : pair_text t first key value ≡ decoded_line t.encoding pb = sym (pair-decoded t first key value ok k v) in
@@ -69,14 +67,14 @@ module _ (t : Repertoire) (source key value body : List ℕ) (ok : is_editable t
       let own : List HeldLine = line t.encoding by lf all key value pb ok c plain some whole said ∷ [] in
       let groups =
       appended-held t.encoding by lf all key value pb ok c plain some whole said (set_at t source all key value None)
-      (ap (λ g. (groups_bytes all ++ separation source g) ++ (pb ++ line_ending_text lf)) final) in
+      (ap (λ g. (groups_bytes all ++ separation_by (added_ending source) g) ++ (pb ++ line_ending_text lf)) final) in
       record {
         closed = c.before ++ c.left;
         group = own;
         is_groups = groups;
         has_pair = subst (IsOutcome (joined (as_lines own))) said (outcome_of-meets (joined (as_lines own)));
         ending = refl;
-        bytes = c.bytes ∙ ap (λ g. groups_bytes all ++ separation source g) (sym final);
+        bytes = c.bytes ∙ ap (λ g. groups_bytes all ++ separation_by (added_ending source) g) (sym final);
         lines_set = λ n.
             subst (λ w. AreLinesSet key value (logical_lines (as_groups all)) (logical_lines (as_groups w))) groups
             (appended-lines t.encoding by lf all key value pb ok c plain some whole said n);

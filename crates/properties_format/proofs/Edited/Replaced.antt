@@ -2,18 +2,16 @@
 use Rattle.std.proofs.Common.{◌≡◌, ◌≢◌, ℕ, true, false, List, [], ◌∷◌, ◌++◌, Some, refl, append_assoc, append-nil, subst}
 use Rattle.std.specs.Prelude.{All}
 use Rattle.properties_format.specs.Text.{scalar, is_empty}
-use Rattle.properties_format.specs.Repertoire.{Repertoire}
-use Rattle.properties_format.specs.Groups.{IsWhole, joined}
-use Rattle.properties_format.specs.Entries.{pair}
-use Rattle.properties_format.specs.Items.{given}
+use Rattle.properties_format.specs.Encoding.{Repertoire}
+use Rattle.properties_format.specs.Lines.{IsWhole, joined}
+use Rattle.properties_format.specs.Items.{pair, given}
 use Rattle.properties_format.specs.Computed.Items.{outcome_of}
 use Rattle.properties_format.specs.Computed.Cut.{decoded_line}
 use Rattle.properties_format.specs.Body.{HeldLine, as_lines, HasKey, AreGroupsOf, groups_bytes, ending_bytes, last_ending}
 use Rattle.properties_format.specs.Edited.{is_editable, is_empty_line, pair_bytes}
 use Rattle.properties_format.specs.Valued.{HasPair}
-use Rattle.properties_format.specs.Computed.Body.{held_groups_of}
-use Rattle.properties_format.specs.Computed.Edited.{KeyPlace, set_at}
-use Rattle.properties_format.specs.Computed.Parts.{unended_bytes}
+use Rattle.properties_format.specs.Computed.Body.{held_groups_of, unended_bytes}
+use Rattle.properties_format.specs.Computed.Edited.{KeyPlace}
 use Rattle.properties_format.proofs.Items.Unique.{outcome_of-meets}
 use Rattle.properties_format.proofs.Body.Groups.{held_groups_of-meets, held_groups_of-only, groups_bytes-append}
 use Rattle.properties_format.proofs.Edited.Pair.{pair-decoded, pair-whole, pair-outcome, pair-plain}
@@ -21,6 +19,7 @@ use Rattle.properties_format.proofs.Valued.Lined.{AreLined, groups-lined, lined-
 use Rattle.properties_format.proofs.Edited.Parts.{pair-some}
 use Rattle.properties_format.proofs.Valued.Fronts.{no_lines-no_pair}
 use Rattle.properties_format.proofs.Valued.Made.{raw-pair}
+use Rattle.properties_format.proofs.Edited.Made.{set_at}
 
 -- A group that ends in a line with bytes is no empty line.
 pub push-full : (kept : List HeldLine) (l : HeldLine) → l.bytes ≢ [] → is_empty_line (kept ++ l ∷ []) ≡ false

@@ -1,39 +1,29 @@
 -- The computed result of an editor is a result of that edit, and the only one.
-use Rattle.std.proofs.Common.{◌≡◌, ℕ, ◌+◌, length, true, List, [], ◌∷◌, refl, inl, inr, arith}
+use Rattle.std.proofs.Common.{◌≡◌, ℕ, ◌+◌, length, true, List, [], ◌∷◌, refl, inl, inr, arith, ap, length-append, ◌++◌}
 use Rattle.std.proofs.lemmas.Bool.{cases_Bool}
-use Rattle.properties_format.specs.Encoding.{Encoding, byte_order_mark}
-use Rattle.properties_format.specs.Repertoire.{Repertoire}
+use Rattle.properties_format.specs.Encoding.{Encoding, byte_order_mark, Repertoire}
 use Rattle.properties_format.specs.Lines.{end}
 use Rattle.properties_format.specs.Escapes.{Malformed}
-use Rattle.properties_format.specs.Entries.{Entry, item, malformed, read_fault, AreItems}
-use Rattle.properties_format.specs.Body.{HeldLine}
+use Rattle.properties_format.specs.Items.{Entry, item, malformed, AreItems}
+use Rattle.properties_format.specs.Body.{HeldLine, held_in}
 use Rattle.properties_format.specs.Computed.Items.{items_of}
-use Rattle.properties_format.specs.Computed.Body.{entries_in}
-use Rattle.properties_format.specs.Edited.{EditResult, edited, unsupported, unreadable, is_editable, IsFirstMalformed}
-use Rattle.properties_format.specs.Edited.{IsEditResult, IsSetKeyResult, IsRemoveKeyResult}
-use Rattle.properties_format.specs.Computed.Edited.{result_by, result_of}
-use Rattle.properties_format.specs.Computed.Edited.{set_key_result, remove_key_result}
+use Rattle.properties_format.specs.Edited.{EditResult, edited, unsupported, unreadable, is_editable, IsFirstMalformed, IsEditResult, IsSetKeyResult, IsRemoveKeyResult}
 use Rattle.properties_format.proofs.Items.Unique.{items_of-meets, items_of-only}
-use Rattle.properties_format.proofs.Body.Numbers.{items_of-groups}
-use Rattle.properties_format.proofs.Edited.Made.{key_set-meets, key_set-only, key_removed-only}
+use Rattle.properties_format.proofs.Body.Numbers.{items_of-groups, entries_in}
+use Rattle.properties_format.proofs.Edited.Made.{key_set-meets, key_set-only, key_removed-only, key_set, key_removed}
+use Rattle.std.specs.Prelude.{if◌then◌else◌}
 
--- ---- no read of a source in memory fails
+-- ---- the computed result
 
--- no read failed
-abbrev HasNoFault : List Entry → Type 0
-HasNoFault [] = Unit {0}
-HasNoFault (item n content ∷ entries) = HasNoFault entries
-HasNoFault (malformed kind n ∷ entries) = HasNoFault entries
-HasNoFault (read_fault n ∷ entries) = ⊥
+-- the result, given the entries of the source: its first malformed entry, or these bytes if it has none
+abbrev pub result_by : List Entry → List ℕ → EditResult
+result_by [] result = edited result
+result_by (malformed kind n ∷ entries) result = unreadable kind n
+result_by (entry ∷ entries) result = result_by entries result
 
--- No read failed in the entries of groups.
-groups-no_fault : (n : ℕ) (gs : List (List HeldLine)) → HasNoFault (entries_in n gs)
-groups-no_fault n [] = tt
-groups-no_fault n (g ∷ gs) = grind (arith, groups-no_fault (n + length g) gs)
-
--- No read failed in the entries of a source.
-source-no_fault : (e : Encoding) (source : List ℕ) → HasNoFault (items_of e source end)
-source-no_fault e source = rw (items_of-groups e source) (groups-no_fault 1 _)
+-- the result of an edit that makes these bytes of the source; the encoding is tested first
+abbrev pub result_of : Encoding → List ℕ → List ℕ → EditResult
+result_of e source result = if is_editable (byte_order_mark e source).encoding then result_by (items_of e source end) result else unsupported
 
 -- ---- results
 
@@ -43,12 +33,13 @@ IsBy entries made (edited result) = AreItems entries × (result ≡ made)
 IsBy entries made unsupported = ⊥
 IsBy entries made (unreadable kind n) = IsFirstMalformed kind n entries
 
--- The computed result is what the items say.
-result_by-meets : (entries : List Entry) (made : List ℕ) → HasNoFault entries → IsBy entries made (result_by entries made)
-result_by-meets [] made h = (tt, refl)
-result_by-meets (item n content ∷ entries) made h = grind (arith, result_by-meets entries made h)
-result_by-meets (malformed kind n ∷ entries) made h = (refl, refl)
-result_by-meets (read_fault n ∷ entries) made h = absurd h
+-- The computed result is what the items say: no read of a source in memory fails.
+result_by-groups : (n : ℕ) (gs : List (List HeldLine)) (made : List ℕ) → IsBy (entries_in n gs) made (result_by (entries_in n gs) made)
+result_by-groups n [] made = (tt, refl)
+result_by-groups n (g ∷ gs) made = grind (arith, result_by-groups (n + length g) gs made)
+
+result_by-meets : (e : Encoding) (source made : List ℕ) → IsBy (items_of e source end) made (result_by (items_of e source end) made)
+result_by-meets e source made = rw (items_of-groups e source) (result_by-groups 1 _ made)
 
 -- If no item is malformed, the result is these bytes.
 pub result_by-edited : (entries : List Entry) (made : List ℕ) → AreItems entries → result_by entries made ≡ edited made
@@ -59,10 +50,9 @@ result_by-edited entries made h = absurd h
 -- Otherwise the result is the first malformed item.
 result_by-unreadable : (entries : List Entry) (made : List ℕ) (kind : Malformed) (n : ℕ) → IsFirstMalformed kind n entries
     → result_by entries made ≡ unreadable kind n
-result_by-unreadable (item m content ∷ entries) made kind n h = result_by-unreadable entries made kind n h
 result_by-unreadable (malformed other m ∷ entries) made kind n h = rw (h.0, h.1)
-result_by-unreadable (read_fault m ∷ entries) made kind n h = result_by-unreadable entries made kind n h
 result_by-unreadable [] made kind n h = absurd h
+result_by-unreadable (entry ∷ entries) made kind n h = result_by-unreadable entries made kind n h
 
 -- The encoding in force can be edited.
 pub result-editable : (e : Encoding) (source made : List ℕ) → is_editable (byte_order_mark e source).encoding ≡ true
@@ -78,7 +68,7 @@ by-result e source made Makes r ok m h = grind (arith, items_of-meets e source e
 pub result_of-meets : (e : Encoding) (source made : List ℕ) (Makes : List ℕ → Type 0) → (is_editable (byte_order_mark e source).encoding ≡ true → Makes made)
     → IsEditResult e source Makes (result_of e source made)
 result_of-meets e source made Makes m = elim (cases_Bool (is_editable (byte_order_mark e source).encoding)) [
-  | inl ok ↦ rw ok (by-result e source made Makes _ ok (m ok) (result_by-meets (items_of e source end) made (source-no_fault e source)))
+  | inl ok ↦ rw ok (by-result e source made Makes _ ok (m ok) (result_by-meets e source made))
   | inr h ↦ rw h h
 ]
 
@@ -93,14 +83,24 @@ result_of-only e source made Makes (unreadable kind n) one (ok, items) =
     rw (ok, result_by-unreadable (items_of e source end) made kind n (rw (items_of-only e source end items.0 items.1) at items.2))
 
 -- What is computed is a result of setting a key.
-pub set_key_result-meets : (r : Repertoire) (source key value : List ℕ) → IsSetKeyResult r source key value (set_key_result r source key value)
+pub set_key_result-meets : (r : Repertoire) (source key value : List ℕ)
+    → IsSetKeyResult r source key value (result_of r.encoding source (key_set r source key value))
 set_key_result-meets r source key value = result_of-meets r.encoding source _ _ (λ ok. key_set-meets r source key value)
 
 -- No other result is one of setting a key.
 pub set_key_result-only : (t : Repertoire) (source key value : List ℕ) (r : EditResult) → IsSetKeyResult t source key value r
-    → r ≡ set_key_result t source key value
+    → r ≡ result_of t.encoding source (key_set t source key value)
 set_key_result-only t source key value r h = result_of-only t.encoding source _ _ r (λ ok. key_set-only t source key value) h
 
 -- No other result is one of removing a key.
-pub remove_key_result-only : (e : Encoding) (source key : List ℕ) (r : EditResult) → IsRemoveKeyResult e source key r → r ≡ remove_key_result e source key
+pub remove_key_result-only : (e : Encoding) (source key : List ℕ) (r : EditResult) → IsRemoveKeyResult e source key r
+    → r ≡ result_of e source (key_removed e source key)
 remove_key_result-only e source key r h = result_of-only e source _ _ r (λ ok. key_removed-only e source key) h
+
+-- ---- groups before others
+
+-- After groups without malformed escapes, the first malformed escape is that of the following groups.
+pub result-after : (n : ℕ) (gs hs : List (List HeldLine)) (made : List ℕ) → AreItems (entries_in n gs)
+    → result_by (entries_in n (gs ++ hs)) made ≡ result_by (entries_in (n + length (held_in gs)) hs) made
+result-after n [] hs made h = let same : n ≡ n + 0 = omega arith in ap (λ m. result_by (entries_in m hs) made) same
+result-after n (g ∷ gs) hs made h = grind (arith, length-append, result-after (n + length g) gs hs made)

@@ -1,17 +1,16 @@
 -- The groups of a body, and an edit of them, after the next line and after the next group.
-use Rattle.std.proofs.Common.{◌≡◌, ℕ, false, List, [], ◌∷◌, ◌++◌, refl, ap, append_assoc, ◌+◌, length-append, arith}
-use Rattle.std.specs.Prelude.{◌&&◌, not, length, Option, Some, None}
+use Rattle.std.proofs.Common.{◌≡◌, ℕ, false, List, [], ◌∷◌, ◌++◌, refl, ap, append_assoc, arith}
+use Rattle.std.specs.Prelude.{◌&&◌, not, Option, Some, None}
 use Rattle.properties_format.specs.Text.{LineEnding, cr}
 use Rattle.properties_format.specs.Encoding.{Encoding, IsAligned}
-use Rattle.properties_format.specs.Lines.{Lines}
+use Rattle.properties_format.specs.Lines.{Lines, is_open, is_comment_line}
 use Rattle.properties_format.specs.Computed.Lines.{begins_with_lf}
 use Rattle.properties_format.specs.Cut.{units, HoldsNoLineEndUnit, line_ending_bytes}
 use Rattle.properties_format.specs.Computed.Cut.{decoded_line}
-use Rattle.properties_format.specs.Groups.{is_open, is_comment_line}
-use Rattle.properties_format.specs.Body.{HeldLine, HasKey, held_in, last_ending}
+use Rattle.properties_format.specs.Body.{HeldLine, HasKey, last_ending}
 use Rattle.properties_format.specs.Edited.{final_group, is_last_open, is_left_open, is_empty_line}
-use Rattle.properties_format.specs.Computed.Body.{held_of, held_lines_of, has_key, entries_in}
-use Rattle.properties_format.specs.Computed.Edited.{KeyPlace, last_place, without, AreSound, result_by}
+use Rattle.properties_format.specs.Computed.Body.{held_of, held_lines_of, has_key}
+use Rattle.properties_format.specs.Computed.Edited.{KeyPlace, last_place, without}
 use Rattle.properties_format.proofs.Cut.Steps.{cut_of-line}
 use Rattle.properties_format.proofs.Cut.Only.{cut_of-plain}
 use Rattle.properties_format.proofs.Edited.Made.{last_place-some}
@@ -77,11 +76,3 @@ is_left_open-push i g h = ap (λ b. not (is_comment_line i.text) && b) (is_last_
 pub is_empty_line-push : (i : HeldLine) (g : List HeldLine) (h : HeldLine) → is_empty_line (i ∷ g ++ h ∷ []) ≡ false
 is_empty_line-push i [] h = refl
 is_empty_line-push i (j ∷ g) h = refl
-
--- ---- the first malformed escape
-
--- After groups without malformed escapes, the first malformed escape is that of the following groups.
-pub result-after : (n : ℕ) (gs hs : List (List HeldLine)) (made : List ℕ) → AreSound gs
-    → result_by (entries_in n (gs ++ hs)) made ≡ result_by (entries_in (n + length (held_in gs)) hs) made
-result-after n [] hs made h = let same : n ≡ n + 0 = omega arith in ap (λ m. result_by (entries_in m hs) made) same
-result-after n (g ∷ gs) hs made h = grind (arith, length-append, result-after (n + length g) gs hs made h.1)

@@ -2,16 +2,15 @@
 use Rattle.std.proofs.Common.{◌≡◌, ℕ, true, List, [], ◌∷◌, All, Option, Some, None, ap, sym, ◌∙◌}
 use Rattle.std.proofs.lemmas.List.{append_cancel_right}
 use Rattle.properties_format.specs.Text.{scalar}
-use Rattle.properties_format.specs.Encoding.{byte_order_mark}
-use Rattle.properties_format.specs.Repertoire.{Repertoire, in_encoding}
+use Rattle.properties_format.specs.Encoding.{byte_order_mark, Repertoire, in_encoding}
 use Rattle.properties_format.specs.Computed.Lines.{ends_in_cr}
 use Rattle.properties_format.specs.Body.{HeldLine}
 use Rattle.properties_format.specs.Edited.{bom_of, is_editable}
 use Rattle.properties_format.specs.Computed.Body.{held_groups_of}
-use Rattle.properties_format.specs.Computed.Edited.{KeyPlace, key_set, key_set_in, last_place, set_at}
+use Rattle.properties_format.specs.Computed.Edited.{KeyPlace, last_place}
 use Rattle.properties_format.proofs.Edited.ByteOrderMarks.{source-whole}
 use Rattle.properties_format.proofs.Edited.Made as made
-use Rattle.properties_format.proofs.Edited.Made.{last_place-meets, last_place-some}
+use Rattle.properties_format.proofs.Edited.Made.{last_place-meets, last_place-some, key_set, key_set_in, set_at}
 use Rattle.properties_format.proofs.Edited.Replaced.{reput-of}
 use Rattle.properties_format.proofs.Edited.AppendedPair.{empty-other}
 use Rattle.properties_format.proofs.Edited.Put.{ends-alike, put-in_force, put-last}

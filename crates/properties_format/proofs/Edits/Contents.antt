@@ -1,6 +1,6 @@
 -- What a source says after edits in turn.
 use Rattle.std.proofs.Common.{ℕ, List, [], ◌∷◌, ap, sym, subst}
-use Rattle.properties_format.specs.Repertoire.{Repertoire}
+use Rattle.properties_format.specs.Encoding.{Repertoire}
 use Rattle.properties_format.specs.Edited.{edited}
 use Rattle.properties_format.specs.Edits.{Edit, AreEdited, AreScalarEdits, IsEditAllResult}
 use Rattle.properties_format.specs.Changed.{AreEditedIn, map_after, ReadsAfter}

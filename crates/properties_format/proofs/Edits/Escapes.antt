@@ -1,29 +1,24 @@
 -- The malformed escapes of a source, by its logical lines; and that edits leave all of them in comments, if they are
 -- there.
 use Rattle.std.proofs.Common.{◌≡◌, ◌⊎◌, ℕ, ◌+◌, true, List, [], ◌∷◌, length, refl, sym, inl, inr, subst}
-use Rattle.properties_format.specs.Encoding.{Encoding, byte_order_mark}
-use Rattle.properties_format.specs.Repertoire.{Repertoire}
-use Rattle.properties_format.specs.Lines.{end, Line, numbered_lines}
-use Rattle.properties_format.specs.Groups.{is_comment_line, joined, first_number}
+use Rattle.properties_format.specs.Encoding.{Encoding, byte_order_mark, Repertoire}
+use Rattle.properties_format.specs.Lines.{end, Line, numbered_lines, is_comment_line, joined, first_number}
 use Rattle.properties_format.specs.Escapes.{Malformed}
-use Rattle.properties_format.specs.Entries.{pair}
-use Rattle.properties_format.specs.Items.{Outcome, ignored, given, broken, IsOutcome}
+use Rattle.properties_format.specs.Items.{pair, Outcome, ignored, given, broken, IsOutcome}
 use Rattle.properties_format.specs.Body.{HeldLine, as_lines, as_groups}
-use Rattle.properties_format.specs.MalformedEscapes.{MalformedEscape, escapes_from}
+use Rattle.properties_format.specs.Found.{MalformedEscape, escapes_from}
 use Rattle.properties_format.specs.Edited.{edited}
-use Rattle.properties_format.specs.Edits.{Edit, AreScalarEdits}
-use Rattle.properties_format.specs.LogicalLines.{line_before}
-use Rattle.properties_format.specs.EditedPairs.{AreInComments, EscapesAre, IsEditPairsResult}
+use Rattle.properties_format.specs.Edits.{Edit, AreScalarEdits, AreInComments, EscapesAre, IsEditPairsResult}
+use Rattle.properties_format.specs.Changed.{line_before}
 use Rattle.properties_format.specs.Computed.Encoding.{decoded_of}
-use Rattle.properties_format.specs.Computed.Lines.{lines_of}
-use Rattle.properties_format.specs.Computed.Groups.{groups_of}
+use Rattle.properties_format.specs.Computed.Lines.{lines_of, groups_of}
 use Rattle.properties_format.specs.Computed.Items.{outcome_of}
 use Rattle.properties_format.specs.Computed.Body.{held_groups_of}
-use Rattle.properties_format.specs.Computed.MalformedEscapes.{escapes_in, malformed_escapes_of}
+use Rattle.properties_format.specs.Computed.Found.{escapes_in}
 use Rattle.properties_format.proofs.Body.Numbers.{folded-source}
 use Rattle.properties_format.proofs.Edited.Fronts.{with_line, logical_lines}
 use Rattle.properties_format.proofs.Items.Unique.{outcome_of-meets, outcome_of-only}
-use Rattle.properties_format.proofs.MalformedEscapes.{malformed_escapes_of-meets, malformed_escapes_of-only}
+use Rattle.properties_format.proofs.MalformedEscapes.{malformed_escapes_of-meets, malformed_escapes_of-only, malformed_escapes_of}
 use Rattle.properties_format.proofs.Edits.Lines.{OfEach, logical_lines_of, edits-lines, edits-each}
 
 -- ---- the logical lines of a text are those of the body's groups

@@ -3,17 +3,15 @@ use Rattle.std.proofs.Common.{◌≡◌, ◌⊎◌, ℕ, true, cond, List, [], �
 use Rattle.std.specs.Prelude.{Option}
 use Rattle.std.proofs.lemmas.Bool.{cond_both}
 use Rattle.properties_format.specs.Text.{LineEnding, lf, line_feed}
-use Rattle.properties_format.specs.Encoding.{Encoding, windows_1252, utf_8, byte_order_mark, begins_like_bom, characters}
-use Rattle.properties_format.specs.Repertoire.{ascii_in}
+use Rattle.properties_format.specs.Encoding.{Encoding, windows_1252, utf_8, byte_order_mark, begins_like_bom, characters, ascii_in}
 use Rattle.properties_format.specs.Lines.{end}
 use Rattle.properties_format.specs.Computed.Encoding.{pieces_of, decoded_of}
 use Rattle.properties_format.specs.Computed.Items.{items_of}
 use Rattle.properties_format.specs.Printing.{encoded_text}
 use Rattle.properties_format.specs.Body.{HeldLine, AreGroupsOf, held_in, ending_bytes, group_bytes, groups_bytes, last_ending}
-use Rattle.properties_format.specs.Edited.{is_empty_line, is_left_open, bom_of, IsReplaced, IsAppended, IsKeySet, IsWithout, guarding_lf, IsKeyRemoved, is_editable, edited, IsSetKeyResult}
-use Rattle.properties_format.specs.Valued.{ending_among, ending_in, separation_by, IsBodyValued, IsValueSet, IsSetValueResult}
-use Rattle.properties_format.specs.Edits.{Edit, put, remove, set_value, IsEdited, AreEdited, IsEditAllResult}
-use Rattle.properties_format.specs.EditedPairs.{IsEditPairsResult}
+use Rattle.properties_format.specs.Edited.{is_empty_line, is_left_open, bom_of, IsReplaced, IsAppended, IsKeySet, IsWithout, guarding_lf, IsKeyRemoved, is_editable, edited, IsSetKeyResult, separation_by}
+use Rattle.properties_format.specs.Valued.{ending_among, ending_in, IsBodyValued, IsValueSet, IsSetValueResult}
+use Rattle.properties_format.specs.Edits.{Edit, put, remove, set_value, IsEdited, AreEdited, IsEditAllResult, IsEditPairsResult}
 use Rattle.properties_format.specs.AsciiOnly.{AreAsciiBytes, AreItemsInBoth, beyond_ascii, IsSubsequence, PutsInAscii, IsInAscii}
 use Rattle.properties_format.proofs.Encodings.ByteOrderMarks.{decoded_of-unmarked}
 use Rattle.properties_format.proofs.Printing.Characters.{AreAscii, AreAscii-append, AreEncodable-ascii, encoded_text-ascii, line_end-ascii}

@@ -1,7 +1,6 @@
 -- Edits in turn: each keeps the rest of what the one before it gave.
 use Rattle.std.proofs.Common.{◌≡◌, ℕ, true, List, [], ◌∷◌}
-use Rattle.properties_format.specs.Encoding.{byte_order_mark}
-use Rattle.properties_format.specs.Repertoire.{Repertoire}
+use Rattle.properties_format.specs.Encoding.{byte_order_mark, Repertoire}
 use Rattle.properties_format.specs.Edited.{is_editable, edited}
 use Rattle.properties_format.specs.Edits.{Edit, put, remove, set_value, IsEdited, AreEdited, IsEditAllResult}
 use Rattle.properties_format.specs.Changed.{KeepsRest, AreKept}

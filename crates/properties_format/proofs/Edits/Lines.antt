@@ -1,15 +1,13 @@
 -- The logical lines of a source after edits in turn. Nothing is asked of the lines: any of them may be malformed.
 use Rattle.std.proofs.Common.{◌≡◌, ℕ, true, List, [], ◌∷◌, ◌++◌, ap, sym, inl, inr, subst, All}
 use Rattle.properties_format.specs.Text.{scalar}
-use Rattle.properties_format.specs.Encoding.{Encoding, InForce, byte_order_mark}
-use Rattle.properties_format.specs.Repertoire.{Repertoire, in_encoding}
-use Rattle.properties_format.specs.Entries.{pair}
-use Rattle.properties_format.specs.Items.{given, IsOutcome}
+use Rattle.properties_format.specs.Encoding.{Encoding, InForce, byte_order_mark, Repertoire, in_encoding}
+use Rattle.properties_format.specs.Items.{pair, given, IsOutcome}
 use Rattle.properties_format.specs.Body.{as_groups}
 use Rattle.properties_format.specs.Edited.{IsKeySet, IsKeyRemoved, guarding_lf, is_editable}
 use Rattle.properties_format.specs.Edits.{Edit, put, remove, set_value, IsEdited, AreEdited, IsScalarEdit, AreScalarEdits}
 use Rattle.properties_format.specs.Valued.{IsValueSet}
-use Rattle.properties_format.specs.LogicalLines.{AreLogicalLines, AreLinesSet, AreLinesLeft, AreLinesEdited, AreLinesEditedInTurn}
+use Rattle.properties_format.specs.Changed.{AreLogicalLines, AreLinesSet, AreLeft, AreLinesEdited, AreLinesEditedInTurn, IsPairWith}
 use Rattle.properties_format.specs.Computed.Body.{held_groups_of}
 use Rattle.properties_format.specs.Computed.Edited.{last_place}
 use Rattle.properties_format.proofs.Body.Groups.{held-groups, held-body, held_groups_of-meets, held_groups_of-only}
@@ -50,7 +48,7 @@ key_set-lines r source key value result ok k v h =
 
 -- After a key is removed, the pairs with it are gone.
 key_removed-lines : (e : Encoding) (source key result : List ℕ) → is_editable (byte_order_mark e source).encoding ≡ true → IsKeyRemoved e source key result
-    → AreLinesLeft key (logical_lines_of e source) (logical_lines_of e result)
+    → AreLeft (IsPairWith key) (logical_lines_of e source) (logical_lines_of e result)
 key_removed-lines e source key result ok h =
     let f = byte_order_mark e source in
     let body = guarding_lf source h.rest ++ h.rest in
@@ -115,7 +113,7 @@ module _ (P : List ℕ → Type 0) (of_pair : (x key value : List ℕ) → IsOut
   set-each key value old new (inr h) r = rw h.2 (each-join old (h.1 ∷ []) r (of_pair h.1 key value h.3, tt))
 
   -- A key is removed.
-  left-each : (key : List ℕ) (old new : List (List ℕ)) → AreLinesLeft key old new → OfEach P old → OfEach P new
+  left-each : (key : List ℕ) (old new : List (List ℕ)) → AreLeft (IsPairWith key) old new → OfEach P old → OfEach P new
   left-each key [] new h r = rw h tt
   left-each key (x ∷ xs) new (inl h) r = left-each key xs new h.1 r.1
   left-each key (x ∷ xs) new (inr h) r = rw h.2 (r.0, left-each key xs h.1 h.3 r.1)

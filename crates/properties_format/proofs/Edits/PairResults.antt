@@ -2,25 +2,21 @@
 use Rattle.std.proofs.Common.{◌≡◌, ℕ, true, List, [], ◌∷◌, refl, sym, ◌∙◌, inl, inr, subst, arith}
 use Rattle.std.specs.Prelude.{if◌then◌else◌}
 use Rattle.std.proofs.lemmas.Bool.{cases_Bool, cond-true}
-use Rattle.properties_format.specs.Encoding.{Encoding, byte_order_mark}
-use Rattle.properties_format.specs.Repertoire.{Repertoire}
+use Rattle.properties_format.specs.Encoding.{Encoding, byte_order_mark, Repertoire}
 use Rattle.properties_format.specs.Lines.{end, InputEnd, Line, line_ends, numbered_lines}
 use Rattle.properties_format.specs.Computed.Encoding.{decoded_of}
-use Rattle.properties_format.specs.Computed.Lines.{lines_of}
-use Rattle.properties_format.specs.Computed.Groups.{groups_of}
-use Rattle.properties_format.specs.Entries.{AreItems}
+use Rattle.properties_format.specs.Computed.Lines.{lines_of, groups_of}
+use Rattle.properties_format.specs.Items.{AreItems}
 use Rattle.properties_format.specs.Escapes.{Malformed}
-use Rattle.properties_format.specs.MalformedEscapes.{MalformedEscape}
+use Rattle.properties_format.specs.Found.{MalformedEscape}
 use Rattle.properties_format.specs.Computed.Items.{entries_of, items_of}
-use Rattle.properties_format.specs.Computed.MalformedEscapes.{escapes_in, malformed_escapes_of}
-use Rattle.properties_format.specs.Computed.Edited.{result_by, result_of}
-use Rattle.properties_format.specs.Computed.Edits.{edits_made}
+use Rattle.properties_format.specs.Computed.Found.{escapes_in}
 use Rattle.properties_format.specs.Edited.{EditResult, edited, unsupported, unreadable, is_editable}
-use Rattle.properties_format.specs.Edits.{Edit, IsEditAllResult}
-use Rattle.properties_format.specs.EditedPairs.{AreInComments, AreInPairs, EscapesAre, IsFirstInPair, IsPairsResult, IsEditPairsResult}
+use Rattle.properties_format.specs.Edits.{Edit, IsEditAllResult, AreInComments, AreInPairs, EscapesAre, IsFirstInPair, IsPairsResult, IsEditPairsResult}
 use Rattle.properties_format.specs.EditLaws.{PassingOverIsReading}
-use Rattle.properties_format.proofs.MalformedEscapes.{malformed_escapes_of-meets, malformed_escapes_of-only}
-use Rattle.properties_format.proofs.Edits.Results.{edit_all_result-meets, edit_all_result-only, edits_made-meets, edits_made-only}
+use Rattle.properties_format.proofs.MalformedEscapes.{malformed_escapes_of-meets, malformed_escapes_of-only, malformed_escapes_of}
+use Rattle.properties_format.proofs.Edits.Results.{edit_all_result-meets, edit_all_result-only, edits_made-meets, edits_made-only, edits_made}
+use Rattle.properties_format.proofs.Edited.Results.{result_by, result_of}
 
 -- the result, given the malformed escapes of the source: the first that is in a pair, or these bytes if none is
 abbrev pub result_by_pairs : List MalformedEscape → List ℕ → EditResult

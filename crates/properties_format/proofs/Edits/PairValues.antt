@@ -1,29 +1,22 @@
 -- The pairs of a source: they exist and are unique, and their map changes as the edits say, whatever the comments are.
 use Rattle.std.proofs.Common.{◌≡◌, ℕ, false, List, [], ◌∷◌, ◌++◌, Option, refl, ap, sym, ◌∙◌, subst}
-use Rattle.properties_format.specs.Encoding.{Encoding}
-use Rattle.properties_format.specs.Repertoire.{Repertoire}
-use Rattle.properties_format.specs.Lines.{end, Line, line_ends}
-use Rattle.properties_format.specs.Groups.{joined, first_number}
-use Rattle.properties_format.specs.Entries.{comment, pair, Entry, item, AreItems}
-use Rattle.properties_format.specs.Items.{Outcome, ignored, given, broken}
+use Rattle.properties_format.specs.Encoding.{Encoding, Repertoire}
+use Rattle.properties_format.specs.Lines.{end, Line, line_ends, joined, first_number}
+use Rattle.properties_format.specs.Items.{comment, pair, Entry, item, AreItems, Outcome, ignored, given, broken}
 use Rattle.properties_format.specs.Maps.{IsMap, IsValue}
 use Rattle.properties_format.specs.Edited.{edited}
-use Rattle.properties_format.specs.Edits.{Edit, AreScalarEdits}
-use Rattle.properties_format.specs.Changed.{AreEditedIn, contents, map_after}
-use Rattle.properties_format.specs.LogicalLines.{line_before}
-use Rattle.properties_format.specs.EditedPairs.{AreInComments, pair_from, ArePairs, IsEditPairsResult}
+use Rattle.properties_format.specs.Edits.{Edit, AreScalarEdits, AreInComments, pair_from, ArePairs, IsEditPairsResult}
+use Rattle.properties_format.specs.Changed.{AreEditedIn, contents, map_after, line_before}
 use Rattle.properties_format.specs.EditLaws.{ValueIsAmongPairs}
 use Rattle.properties_format.specs.Computed.Encoding.{decoded_of}
-use Rattle.properties_format.specs.Computed.Lines.{lines_of}
-use Rattle.properties_format.specs.Computed.Groups.{groups_in}
+use Rattle.properties_format.specs.Computed.Lines.{lines_of, groups_in}
 use Rattle.properties_format.specs.Computed.Items.{outcome_of, followed, entries_of, items_of}
 use Rattle.properties_format.specs.Computed.Found.{found_in}
-use Rattle.properties_format.specs.Computed.MalformedEscapes.{malformed_escapes_of}
-use Rattle.properties_format.specs.Computed.Maps.{value_of, first_value, value_in}
+use Rattle.properties_format.specs.Computed.Maps.{first_value}
 use Rattle.properties_format.proofs.Items.Unique.{items_of-only}
 use Rattle.properties_format.proofs.Found.{found-meets, found-only, found_in-append}
-use Rattle.properties_format.proofs.MalformedEscapes.{malformed_escapes_of-meets}
-use Rattle.properties_format.proofs.Maps.{first-none, value_in-meets, value_in-only}
+use Rattle.properties_format.proofs.MalformedEscapes.{malformed_escapes_of-meets, malformed_escapes_of}
+use Rattle.properties_format.proofs.Maps.{first-none, value_in-meets, value_in-only, value_of, value_in}
 use Rattle.properties_format.proofs.Changed.Contents.{content_before, contents_among, edits-among}
 use Rattle.properties_format.proofs.Changed.Maps.{map-after}
 use Rattle.properties_format.proofs.Edited.Fronts.{logical_lines}
@@ -36,10 +29,8 @@ abbrev pub pairs_in : List (List Line) → List Entry
 pairs_in groups = found_in (λ number x. pair_from number) groups
 
 pair-append : (n : ℕ) (o : Outcome) (xs ys : List Entry) → pair_from n o (xs ++ ys) ≡ pair_from n o xs ++ ys
-pair-append n ignored xs ys = refl
-pair-append n (given (comment text)) xs ys = refl
 pair-append n (given (pair key value)) xs ys = refl
-pair-append n (broken kind) xs ys = refl
+pair-append n outcome xs ys = refl
 
 -- those of one more group come last
 pub pairs_in-push : (gs : List (List Line)) (g : List Line) → pairs_in (gs ++ g ∷ []) ≡ pairs_in gs ++ pair_from (first_number g) (outcome_of (joined g)) []
@@ -59,9 +50,8 @@ pairs_of-only e bytes pairs h = found-only (λ number x. pair_from number) e byt
 contents-step : (n : ℕ) (x : List ℕ) (o : Outcome) (rest : List Entry) (xs : List (List ℕ)) → o ≡ outcome_of x → contents rest ≡ contents_among false xs
     → contents (pair_from n o rest) ≡ contents_among false (line_before o x xs)
 contents-step n x ignored rest xs s h = h
-contents-step n x (given (comment text)) rest xs s h = h ∙ ap (λ o. content_before o false (contents_among false xs)) s
 contents-step n x (given (pair key value)) rest xs s h = ap (λ v. pair key value ∷ v) h ∙ ap (λ o. content_before o false (contents_among false xs)) s
-contents-step n x (broken kind) rest xs s h = h ∙ ap (λ o. content_before o false (contents_among false xs)) s
+contents-step n x outcome rest xs s h = h ∙ ap (λ o. content_before o false (contents_among false xs)) s
 
 contents-pairs : (gs : List (List Line)) → contents (pairs_in gs) ≡ contents_among false (logical_lines gs)
 contents-pairs [] = refl

@@ -1,15 +1,24 @@
 -- What is computed for edits in turn is the source after them, and nothing else is.
 use Rattle.std.proofs.Common.{◌≡◌, ℕ, true, List, [], ◌∷◌, refl}
-use Rattle.properties_format.specs.Encoding.{byte_order_mark}
-use Rattle.properties_format.specs.Repertoire.{Repertoire}
+use Rattle.properties_format.specs.Encoding.{byte_order_mark, Repertoire}
 use Rattle.properties_format.specs.Edited.{EditResult, is_editable}
 use Rattle.properties_format.specs.Edits.{Edit, put, remove, set_value, IsEdited, AreEdited, IsEditAllResult}
-use Rattle.properties_format.specs.Computed.Edits.{edit_made, edits_made, edit_all_result}
-use Rattle.properties_format.proofs.Edited.Made.{key_set-meets, key_set-only, key_removed-meets, key_removed-only}
-use Rattle.properties_format.proofs.Edited.Results.{result_of-meets, result_of-only}
+use Rattle.properties_format.proofs.Edited.Made.{key_set-meets, key_set-only, key_removed-meets, key_removed-only, key_set, key_removed}
+use Rattle.properties_format.proofs.Edited.Results.{result_of-meets, result_of-only, result_of}
 use Rattle.properties_format.proofs.Edited.ByteOrderMarks.{key_set-in_force, key_removed-in_force}
-use Rattle.properties_format.proofs.Valued.Made.{value_set-meets, value_set-only}
+use Rattle.properties_format.proofs.Valued.Made.{value_set-meets, value_set-only, value_set}
 use Rattle.properties_format.proofs.Valued.Marks.{value_set-in_force}
+
+-- the source after this edit
+abbrev pub edit_made : Repertoire → List ℕ → Edit → List ℕ
+edit_made r source (put key value) = key_set r source key value
+edit_made r source (remove key) = key_removed r.encoding source key
+edit_made r source (set_value key value) = value_set r source key value
+
+-- the source after these edits, each made to what the one before it gave
+abbrev pub edits_made : Repertoire → List ℕ → List Edit → List ℕ
+edits_made r source [] = source
+edits_made r source (edit ∷ edits) = edits_made r (edit_made r source edit) edits
 
 -- what is computed is the source after the edit
 edit_made-meets : (r : Repertoire) (source : List ℕ) (edit : Edit) → is_editable (byte_order_mark r.encoding source).encoding ≡ true
@@ -48,10 +57,11 @@ edits_made-only r source [] result ok h = h
 edits_made-only r source (edit ∷ edits) result ok h = rw (← edit_made-only r source edit h.0 ok h.1) (edits_made-only r h.0 edits result (edit-editable r source edit h.0 ok h.1) h.2)
 
 -- The result of edits in turn is what is computed, and nothing else is.
-pub edit_all_result-meets : (r : Repertoire) (source : List ℕ) (edits : List Edit) → IsEditAllResult r source edits (edit_all_result r source edits)
+pub edit_all_result-meets : (r : Repertoire) (source : List ℕ) (edits : List Edit)
+    → IsEditAllResult r source edits (result_of r.encoding source (edits_made r source edits))
 edit_all_result-meets r source edits = result_of-meets r.encoding source _ _ (edits_made-meets r source edits)
 
 -- No other result is one of edits in turn.
 pub edit_all_result-only : (t : Repertoire) (source : List ℕ) (edits : List Edit) (r : EditResult) → IsEditAllResult t source edits r
-    → r ≡ edit_all_result t source edits
+    → r ≡ result_of t.encoding source (edits_made t source edits)
 edit_all_result-only t source edits r h = result_of-only t.encoding source _ _ r (λ ok result. edits_made-only t source edits result ok) h

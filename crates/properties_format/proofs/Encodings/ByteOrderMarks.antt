@@ -1,9 +1,8 @@
 -- Which bytes at the front determine the byte order mark.
 use Rattle.std.proofs.Common.{◌≡◌, ℕ, false, List, ◌++◌, ap, arith}
-use Rattle.properties_format.specs.Pieces.{characters}
+use Rattle.properties_format.specs.Text.{characters}
 use Rattle.properties_format.specs.Encoding.{Encoding, InForce, byte_order_mark, begins_like_bom}
-use Rattle.properties_format.specs.Computed.Encoding.{pieces_of, decoded_of}
-use Rattle.properties_format.specs.Computed.Waiting.{awaits_bom}
+use Rattle.properties_format.specs.Computed.Encoding.{pieces_of, decoded_of, awaits_bom}
 
 -- an encoding in force and its body, followed by more bytes
 abbrev pub followed : InForce → List ℕ → InForce

@@ -4,11 +4,9 @@ use Rattle.std.proofs.Common.{rules, ◌≡◌, ℕ, ◌<◌, true, false, List,
 use Rattle.std.specs.List.{AllByRecursion}
 use Rattle.std.proofs.lemmas.List.Elements.{recursion_from_All, All-nil, All-cons}
 use Rattle.std.proofs.lemmas.Option.{none-some, same_Some}
-use Rattle.properties_format.specs.Text.{byte, scalar}
-use Rattle.properties_format.specs.Pieces.{Piece, piece, characters}
+use Rattle.properties_format.specs.Text.{byte, scalar, Piece, piece, characters}
 use Rattle.properties_format.specs.Windows1252.{windows_1252_byte}
-use Rattle.properties_format.specs.Surrogates.{is_high, is_low, pair_character}
-use Rattle.properties_format.specs.Utf16.{low_first, high_first, plain}
+use Rattle.properties_format.specs.Utf16.{is_high, is_low, pair_character, low_first, high_first, plain}
 use Rattle.properties_format.specs.Encoding.{Encoding, windows_1252, utf_8, utf_16le, utf_16be, output_encoding, one_byte, encoded, IsPiece, IsPieces, ascii_bytes}
 use Rattle.properties_format.specs.Computed.Encoding.{pieces_of}
 use Rattle.properties_format.proofs.Encodings.Windows1252.{windows_1252_character-byte, windows_1252-scalar, windows_1252-ascii, windows_1252_character-ascii}
@@ -64,11 +62,6 @@ piece-ascii e p rest h k = grind (arith, windows_1252-ascii)
 -- The character of a high and a low surrogate is a scalar value.
 pub pair-scalar : (u v : ℕ) → is_high u ≡ true → is_low v ≡ true → scalar (pair_character u v)
 pair-scalar u v h k = grind (arith)
-
--- The front of a list of bytes is a list of bytes.
-front-bytes : (xs ys : List ℕ) → AllByRecursion byte (xs ++ ys) → AllByRecursion byte xs
-front-bytes [] ys h = tt
-front-bytes (x ∷ xs) ys h = (h.0, front-bytes xs ys h.1)
 
 -- The rest of a list of bytes is a list of bytes.
 back-bytes : (xs ys : List ℕ) → AllByRecursion byte (xs ++ ys) → AllByRecursion byte ys

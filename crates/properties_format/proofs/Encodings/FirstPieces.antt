@@ -1,6 +1,6 @@
 -- What is known about the first piece of some bytes, in each encoding.
 use Rattle.std.proofs.Common.{◌≡◌, ℕ, List, ◌∷◌, ◌++◌}
-use Rattle.properties_format.specs.Pieces.{Piece}
+use Rattle.properties_format.specs.Text.{Piece}
 
 -- the bytes are those of the piece and a rest before which it is a piece
 abbrev pub Meets : (Piece → List ℕ → Type 0) → Piece → List ℕ → Type 0

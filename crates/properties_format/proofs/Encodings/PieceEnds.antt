@@ -1,10 +1,8 @@
 -- How far a piece depends on what follows it.
 use Rattle.std.proofs.Common.{rules, ◌≡◌, ℕ, ◌%◌, ◌<◌, true, false, List, [], ◌∷◌, ◌++◌, length, refl, ap, arith, length-append}
-use Rattle.properties_format.specs.Text.{replacement}
-use Rattle.properties_format.specs.Pieces.{Piece, piece}
+use Rattle.properties_format.specs.Text.{replacement, Piece, piece}
 use Rattle.properties_format.specs.Utf8.{tail, IsIn, NextBreaks, IsUtf8Piece, whole, stray, broken}
-use Rattle.properties_format.specs.Surrogates.{is_high, is_low}
-use Rattle.properties_format.specs.Utf16.{low_first, high_first, IsUtf16Piece, pair, plain, low_alone, high_alone, high_last, byte_last, both_last}
+use Rattle.properties_format.specs.Utf16.{is_high, is_low, low_first, high_first, IsUtf16Piece, pair, plain, low_alone, high_alone, high_last, byte_last, both_last}
 use Rattle.properties_format.specs.Encoding.{Encoding, windows_1252, utf_8, utf_16le, utf_16be, IsPiece, IsAligned, ascii_bytes}
 use Rattle.properties_format.proofs.Encodings.Utf8Rows.{next-tail}
 use Rattle.properties_format.proofs.Encodings.Utf8Pieces.{begins-front}

@@ -1,11 +1,9 @@
 -- The first piece of UTF-16 is the computed one, and no other.
 use Rattle.std.proofs.Common.{arith, ◌≡◌, ℕ, true, false, nat_le, nat_lt, List, [], ◌∷◌, refl, ◌∙◌, inl, inr}
 use Rattle.std.proofs.lemmas.Bool.{cond-true, cond-false, cases_Bool, and_parts, leb-true, le-ltb, and_right}
-use Rattle.properties_format.specs.Text.{replacement}
-use Rattle.properties_format.specs.Pieces.{Piece, piece}
-use Rattle.properties_format.specs.Surrogates.{is_high, is_low, pair_character}
-use Rattle.properties_format.specs.Utf16.{IsUtf16Piece, pair, plain, low_alone, high_alone, high_last, byte_last, both_last}
-use Rattle.properties_format.specs.Computed.Utf16.{high_piece, first_utf_16_piece}
+use Rattle.properties_format.specs.Text.{replacement, Piece, piece}
+use Rattle.properties_format.specs.Utf16.{is_high, is_low, pair_character, IsUtf16Piece, pair, plain, low_alone, high_alone, high_last, byte_last, both_last}
+use Rattle.properties_format.specs.Computed.Encoding.{high_piece, first_utf_16_piece}
 use Rattle.properties_format.proofs.Encodings.FirstPieces.{Meets, IsRead}
 
 -- A low surrogate isn't a high one.

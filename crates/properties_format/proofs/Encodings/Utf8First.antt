@@ -5,8 +5,7 @@ use Rattle.std.proofs.Math.Seq.{take-append_seam}
 use Rattle.std.proofs.lemmas.Bool.{cases_Bool, cond-true, cond-false}
 use Rattle.properties_format.specs.Text.{scalar, replacement}
 use Rattle.properties_format.specs.Utf8.{Range, well_formed_rows, FitsRow, sequence_character}
-use Rattle.properties_format.specs.Computed.Utf8.{is_in, ranges_after, fitting, utf_8_piece_by, first_utf_8_piece}
-use Rattle.properties_format.specs.Computed.Waiting.{fits_short, awaits_byte}
+use Rattle.properties_format.specs.Computed.Encoding.{is_in, ranges_after, fitting, utf_8_piece_by, first_utf_8_piece, fits_short, awaits_byte}
 use Rattle.properties_format.proofs.Encodings.Utf8Rows.{fitting-fits, row-sequence}
 use Rattle.properties_format.proofs.Encodings.Utf8Sequences.{sequence-scalar}
 

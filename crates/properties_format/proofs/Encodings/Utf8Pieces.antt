@@ -2,10 +2,9 @@
 use Rattle.std.proofs.Common.{rules, ◌≡◌, ℕ, ◌<◌, List, [], ◌∷◌, ◌++◌, length, Option, Some, None, refl, sym, ap, ◌∙◌, inl, inr, arith, eq-eqb, ne_eqb}
 use Rattle.std.proofs.lemmas.Bool.{cond-true, cond-false}
 use Rattle.std.proofs.lemmas.Option.{none-some, same_Some}
-use Rattle.properties_format.specs.Text.{replacement}
-use Rattle.properties_format.specs.Pieces.{Piece, piece}
+use Rattle.properties_format.specs.Text.{replacement, Piece, piece}
 use Rattle.properties_format.specs.Utf8.{Range, well_formed_rows, Begins, BeginsLonger, NextBreaks, IsUtf8Piece, whole, stray, broken}
-use Rattle.properties_format.specs.Computed.Utf8.{ranges_after, fitting, utf_8_piece, utf_8_piece_by, first_utf_8_piece}
+use Rattle.properties_format.specs.Computed.Encoding.{ranges_after, fitting, utf_8_piece, utf_8_piece_by, first_utf_8_piece}
 use Rattle.properties_format.proofs.Encodings.Utf8Rows.{FitsFront, Fitted, front-of_row, length-row, shorter-than_row, row-of_front, longer-of_front, fitting-row, fitting-broken, fitting-fits, sequence-row, row-sequence, sequence-nonempty}
 use Rattle.properties_format.proofs.Encodings.FirstPieces.{Meets, IsRead}
 

@@ -3,7 +3,7 @@ use Rattle.std.proofs.Common.{◌≡◌, ℕ, suc, ◌<◌, ◌≤◌, ◌&&◌,
 use Rattle.std.proofs.lemmas.Bool.{and_parts, and_from, leb-true, le-leb, both_ways, false_from_ne_true, cases_Bool, cond-true, cond-false}
 use Rattle.std.proofs.lemmas.Option.{none-some, same_Some}
 use Rattle.properties_format.specs.Utf8.{Range, well_formed_rows, tail, IsIn, FitsRow, FitsSome}
-use Rattle.properties_format.specs.Computed.Utf8.{is_in, ranges_after, fitting}
+use Rattle.properties_format.specs.Computed.Encoding.{is_in, ranges_after, fitting}
 
 -- a byte that passes the test is in the range
 pub in-range : (r : Range) (b : ℕ) → is_in r b ≡ true → IsIn r b

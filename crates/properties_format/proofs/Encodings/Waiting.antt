@@ -1,11 +1,9 @@
 -- Bytes that don't wait for more determine their first piece.
 use Rattle.std.proofs.Common.{rules, arith, ◌≡◌, ℕ, false, List, ◌∷◌, ◌++◌, length, drop, ap, ◌∙◌, append_assoc}
 use Rattle.std.proofs.Math.Seq.{drop-append_seam}
-use Rattle.properties_format.specs.Pieces.{Piece, characters}
-use Rattle.properties_format.specs.Computed.Utf16.{first_utf_16_piece}
+use Rattle.properties_format.specs.Text.{Piece, characters}
+use Rattle.properties_format.specs.Computed.Encoding.{first_utf_16_piece, first_piece, pieces_of, awaits_unit, awaits_more}
 use Rattle.properties_format.specs.Encoding.{Encoding}
-use Rattle.properties_format.specs.Computed.Encoding.{first_piece, pieces_of}
-use Rattle.properties_format.specs.Computed.Waiting.{awaits_unit, awaits_more}
 use Rattle.properties_format.proofs.Encodings.Pieces.{first-meets, pieces_of-piece}
 
 -- In UTF-16, what follows bytes that don't wait doesn't change their first piece.

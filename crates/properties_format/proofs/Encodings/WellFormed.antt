@@ -8,8 +8,7 @@ use Rattle.std.proofs.lemmas.Str.{chars-encodes, chars-IsAscii}
 use Rattle.std.proofs.lemmas.Str.Ascii.{All-from_ascii}
 use Rattle.std.proofs.lemmas.List.Elements.{recursion_from_All}
 use Rattle.std.specs.List.{AllByRecursion}
-use Rattle.properties_format.specs.Text.{scalar}
-use Rattle.properties_format.specs.Pieces.{characters}
+use Rattle.properties_format.specs.Text.{scalar, characters}
 use Rattle.properties_format.specs.Utf8.{AreSequences, IsWellFormedText, sequence_character}
 use Rattle.properties_format.specs.Encoding.{windows_1252, utf_8}
 use Rattle.properties_format.specs.Computed.Encoding.{pieces_of}

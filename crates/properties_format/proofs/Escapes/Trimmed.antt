@@ -2,8 +2,8 @@
 -- blanks at its ends.
 use Rattle.std.proofs.Common.{◌≡◌, ◌&&◌, ℕ, true, false, if◌then◌else◌, List, [], ◌∷◌, ◌++◌, map, refl, ap, sym, ◌∙◌, inl, inr}
 use Rattle.std.proofs.lemmas.Bool.{cases_Bool, both_ways, and_parts, cond_both}
-use Rattle.properties_format.specs.Text.{is_blank, without_leading_blanks}
-use Rattle.properties_format.specs.Split.{begins, ends}
+use Rattle.properties_format.specs.Text.{is_blank, without_leading_blanks, begins}
+use Rattle.properties_format.specs.Split.{ends}
 use Rattle.properties_format.specs.Computed.Split.{without_trailing_blanks, unless_last_blank, trimmed}
 use Rattle.properties_format.specs.Escapes.{escaped_character, is_hexadecimal, Four, are_hexadecimal, code_unit, pair_character, Spelling, itself, escaped, unicode, surrogates, last, spelling_text, spelling_character, spellings_before, means}
 use Rattle.properties_format.specs.Computed.Escapes.{meaning_of}

@@ -1,17 +1,16 @@
 -- Each text means one text, or is malformed in one way.
 use Rattle.std.proofs.Common.{rules, arith, ◌≡◌, ℕ, pred, length, List, [], ◌∷◌, ◌++◌, map, Option, Some, None, refl, ap, sym, ◌∙◌, subst, append-nil}
 use Rattle.properties_format.specs.Text.{backslash}
-use Rattle.properties_format.specs.Escapes.{letter_u, Malformed, four_text, Spelling, itself, escaped, unicode, surrogates, last, spelling_text, spelling_character, IsSpelling, spellings_before, AreSpellings, Means, NoSpelling, malformed_by, Breaks, Meaning, means, breaks, IsMeaning}
+use Rattle.properties_format.specs.Escapes.{letter_u, Malformed, four_text, Spelling, escaped, unicode, surrogates, spelling_text, spelling_character, IsSpelling, spellings_before, AreSpellings, Means, NoSpelling, malformed_by, Breaks, Meaning, means, breaks, IsMeaning}
 use Rattle.properties_format.specs.Computed.Escapes.{first_spelling, in_front, text_in_front, fault_of, meaning_past, meaning_of}
 use Rattle.properties_format.proofs.Escapes.First.{spelling_of, spelling_of-only, spelling_of-none, IsFound, first_spelling-found}
 
 -- the text of a spelling after its first character
 abbrev pub spelling_tail : Spelling → List ℕ
-spelling_tail (itself c) = []
 spelling_tail (escaped c) = c ∷ []
 spelling_tail (unicode d) = letter_u ∷ four_text d
 spelling_tail (surrogates high low) = (letter_u ∷ four_text high) ++ (backslash ∷ letter_u ∷ four_text low)
-spelling_tail last = []
+spelling_tail spelling = []
 
 -- ---- one step of the computation
 

@@ -7,7 +7,8 @@ use Rattle.properties_format.specs.Encoding.{Encoding, windows_1252, utf_8, utf_
 use Rattle.properties_format.specs.Cut.{IsCut}
 use Rattle.properties_format.specs.Computed.Encoding.{pieces_of, decoded_of}
 use Rattle.properties_format.specs.Computed.Lines.{lines_of}
-use Rattle.properties_format.specs.Computed.Cut.{cut_of, byline_of}
+use Rattle.properties_format.specs.Computed.Cut.{cut_of}
+use Rattle.properties_format.proofs.Cut.Byline.{byline_of}
 
 abbrev ended : List ℕ → LineEnding → Ended
 ended text by = record { text = text; by = by }

@@ -2,8 +2,7 @@
 use Rattle.std.proofs.Common.{◌≡◌, ℕ, List, [], ◌∷◌, refl}
 use Rattle.std.specs.Prelude.{map, codes}
 use Rattle.std.specs.Char.{encode_utf8}
-use Rattle.properties_format.specs.Encoding.{Encoding, windows_1252, utf_8, utf_16le, utf_16be}
-use Rattle.properties_format.specs.Repertoire.{ascii_in, all_of}
+use Rattle.properties_format.specs.Encoding.{Encoding, windows_1252, utf_8, utf_16le, utf_16be, ascii_in, all_of}
 use Rattle.properties_format.specs.Computed.Encoding.{pieces_of}
 use Rattle.properties_format.specs.Lines.{end}
 use Rattle.properties_format.specs.Computed.Split.{split_of}
@@ -14,8 +13,9 @@ use Rattle.properties_format.specs.Computed.Items.{items_of}
 use Rattle.properties_format.specs.Edited.{EditResult, edited, unsupported, unreadable}
 use Rattle.properties_format.specs.Edits.{Edit, put, remove}
 use Rattle.properties_format.specs.Computed.Body.{held_groups_of}
-use Rattle.properties_format.specs.Computed.Edited.{set_key_result, remove_key_result}
-use Rattle.properties_format.specs.Computed.Edits.{edit_all_result}
+use Rattle.properties_format.proofs.Edited.Made.{key_set, key_removed}
+use Rattle.properties_format.proofs.Edited.Results.{result_of}
+use Rattle.properties_format.proofs.Edits.Results.{edits_made}
 
 -- encoding, source, key, value, and the source with the key set to the value
 abbrev set : List (Encoding × List ℕ × List ℕ × List ℕ × EditResult)
@@ -72,7 +72,8 @@ set =
     ∷ (windows_1252, codes "a=1\n\\u1=x", codes "a", codes "b", unreadable not_enough_digits 2)
     ∷ []
 
-each_set : map (λ (e, source, key, value, result). set_key_result (all_of e) source key value) set ≡ map (λ (e, source, key, value, result). result) set
+each_set : map (λ (e, source, key, value, result). result_of e source (key_set (all_of e) source key value)) set
+    ≡ map (λ (e, source, key, value, result). result) set
 unfolding items_of pieces_of split_of meaning_of held_groups_of encode_utf8
 each_set = refl
 
@@ -88,7 +89,8 @@ set_in_ascii =
     ∷ (windows_1252, [], codes "þÿ", codes "x", edited (codes "\\u00fe\\u00ff=x\n"))
     ∷ []
 
-each_set_in_ascii : map (λ (e, source, key, value, result). set_key_result (ascii_in e) source key value) set_in_ascii ≡ map (λ (e, source, key, value, result). result) set_in_ascii
+each_set_in_ascii : map (λ (e, source, key, value, result). result_of e source (key_set (ascii_in e) source key value)) set_in_ascii
+    ≡ map (λ (e, source, key, value, result). result) set_in_ascii
 unfolding items_of pieces_of split_of meaning_of held_groups_of encode_utf8
 each_set_in_ascii = refl
 
@@ -124,7 +126,7 @@ removed =
     ∷ (utf_16be, [], codes "a", unsupported)
     ∷ []
 
-each_removed : map (λ (e, source, key, result). remove_key_result e source key) removed ≡ map (λ (e, source, key, result). result) removed
+each_removed : map (λ (e, source, key, result). result_of e source (key_removed e source key)) removed ≡ map (λ (e, source, key, result). result) removed
 unfolding items_of pieces_of split_of meaning_of held_groups_of encode_utf8
 each_removed = refl
 
@@ -145,6 +147,7 @@ edits =
     ∷ (windows_1252, codes "x\ra\n\nb", remove (codes "a") ∷ remove (codes "x") ∷ [], edited (codes "b"))
     ∷ []
 
-each_edited : map (λ (e, source, edits, result). edit_all_result (all_of e) source edits) edits ≡ map (λ (e, source, edits, result). result) edits
+each_edited : map (λ (e, source, edits, result). result_of e source (edits_made (all_of e) source edits)) edits
+    ≡ map (λ (e, source, edits, result). result) edits
 unfolding items_of pieces_of split_of meaning_of held_groups_of
 each_edited = refl

@@ -1,10 +1,8 @@
 -- Worked examples of groups, of logical lines, and of the line in which a read fails.
 use Rattle.std.proofs.Common.{◌≡◌, ℕ, ◌+◌, List, [], ◌∷◌, refl}
 use Rattle.std.specs.Prelude.{map, codes}
-use Rattle.properties_format.specs.Lines.{Line, line_ends, numbered_lines, InputEnd, end, fault, more}
-use Rattle.properties_format.specs.Computed.Lines.{lines_of}
-use Rattle.properties_format.specs.Groups.{ending_backslashes}
-use Rattle.properties_format.specs.Computed.Logical.{logical_lines}
+use Rattle.properties_format.specs.Lines.{Line, line_ends, numbered_lines, InputEnd, end, fault, more, ending_backslashes}
+use Rattle.properties_format.specs.Computed.Lines.{lines_of, logical_lines}
 
 -- natural lines, numbered
 abbrev natural : ℕ → List (List ℕ) → List Line

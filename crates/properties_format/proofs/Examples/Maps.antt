@@ -9,7 +9,7 @@ use Rattle.properties_format.specs.Computed.Escapes.{meaning_of}
 use Rattle.properties_format.specs.Computed.Items.{items_of}
 use Rattle.properties_format.specs.Settings.{default_settings}
 use Rattle.properties_format.specs.Writing.{pair_call, wrote}
-use Rattle.properties_format.specs.Computed.Maps.{value_in}
+use Rattle.properties_format.proofs.Maps.{value_in}
 
 -- an input in windows-1252, a key, and its value in the map
 abbrev rows : List (List ℕ × List ℕ × Option (List ℕ))

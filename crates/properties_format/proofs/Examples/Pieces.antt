@@ -1,7 +1,7 @@
 -- Which bytes decode to which character, and which byte order marks are dropped.
 use Rattle.std.proofs.Common.{◌≡◌, ℕ, List, [], ◌∷◌, refl, true, false}
 use Rattle.std.specs.Prelude.{map}
-use Rattle.properties_format.specs.Pieces.{Piece, piece}
+use Rattle.properties_format.specs.Text.{Piece, piece}
 use Rattle.properties_format.specs.Encoding.{Encoding, windows_1252, utf_8, utf_16le, utf_16be, byte_order_mark, begins_like_bom}
 use Rattle.properties_format.specs.Computed.Encoding.{pieces_of}
 

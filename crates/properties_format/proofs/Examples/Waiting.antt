@@ -2,7 +2,7 @@
 use Rattle.std.proofs.Common.{◌≡◌, ℕ, List, [], ◌∷◌, refl, Bool, true, false}
 use Rattle.std.specs.Prelude.{map}
 use Rattle.properties_format.specs.Encoding.{Encoding, windows_1252, utf_8, utf_16le, utf_16be}
-use Rattle.properties_format.specs.Computed.Waiting.{awaits_bom, awaits_more}
+use Rattle.properties_format.specs.Computed.Encoding.{awaits_bom, awaits_more}
 
 -- the first bytes of an input, and whether a byte order mark may still come of them
 abbrev marks : List (List ℕ × Bool)

@@ -1,8 +1,7 @@
 -- The logical line of a group, line by line, and the number of the group.
 use Rattle.std.proofs.Common.{arith, ◌≡◌, true, false, List, [], ◌∷◌, ◌++◌, refl, ◌∙◌, append_assoc, append-nil}
 use Rattle.properties_format.specs.Text.{without_leading_blanks}
-use Rattle.properties_format.specs.Lines.{Line}
-use Rattle.properties_format.specs.Groups.{is_open, is_comment_line, without_open_backslash, joined_after, joined}
+use Rattle.properties_format.specs.Lines.{Line, is_open, is_comment_line, without_open_backslash, joined_after, joined}
 use Rattle.properties_format.proofs.Groups.Open.{without_open_backslash-closed}
 
 -- ---- logical lines

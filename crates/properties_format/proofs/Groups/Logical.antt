@@ -1,11 +1,8 @@
 -- The logical lines, given the next natural line.
 use Rattle.std.proofs.Common.{arith, ◌≡◌, ℕ, ◌+◌, ◌⊎◌, true, false, List, [], ◌∷◌, ◌++◌, refl, inl, inr}
 use Rattle.properties_format.specs.Text.{LineEnding, cr, line_ending_text}
-use Rattle.properties_format.specs.Lines.{HoldsNoLineEnd, Line, InputEnd, end, fault, more}
-use Rattle.properties_format.specs.Computed.Lines.{begins_with_lf, lines_to_come}
-use Rattle.properties_format.specs.Groups.{is_open, is_comment_line, without_open_backslash, joined, addition}
-use Rattle.properties_format.specs.Computed.Groups.{groups_after, groups_of}
-use Rattle.properties_format.specs.Computed.Logical.{logical, logical_lines, joins_after}
+use Rattle.properties_format.specs.Lines.{HoldsNoLineEnd, Line, InputEnd, is_open, is_comment_line, without_open_backslash, joined, addition}
+use Rattle.properties_format.specs.Computed.Lines.{begins_with_lf, lines_to_come, groups_after, groups_of, logical, logical_lines, joins_after}
 use Rattle.properties_format.proofs.Lines.Steps.{lines_to_come-line}
 use Rattle.properties_format.proofs.Groups.Steps.{groups_of-comment_line, groups_of-closed, groups_of-open, groups_after-closed, groups_after-open}
 use Rattle.properties_format.proofs.Groups.Joined.{joined-one, joined-push}
@@ -23,9 +20,7 @@ joins_after-closed number text l ls e h = rw (h, joins_after) refl
 -- The logical lines after an open group depend only on its number and its joined lines.
 pub logical-after : (m : Line) (ms ls : List Line) (e : InputEnd) → is_comment_line m.text ≡ false
     → logical (groups_after (m ∷ ms) ls e) ≡ joins_after m.number (joined (m ∷ ms)) ls e
-logical-after m ms [] end h = refl
-logical-after m ms [] fault h = refl
-logical-after m ms [] more h = refl
+logical-after m ms [] e h = grind (arith)
 logical-after m ms (l ∷ ls) e h =
     grind (arith, groups_after-open, logical-after m (ms ++ l ∷ []) ls e h, joined-push, joins_after-open, groups_after-closed, joins_after-closed)
 

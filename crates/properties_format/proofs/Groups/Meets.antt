@@ -1,9 +1,8 @@
 -- The computed groups are groups of the lines.
 use Rattle.std.proofs.Common.{rules, arith, ◌≡◌, true, false, List, [], ◌∷◌, ◌++◌, ap, sym, ◌∙◌, inl, inr, append_assoc, append-nil}
 use Rattle.std.proofs.lemmas.Bool.{cases_Bool, or_parts, not-false, not-true}
-use Rattle.properties_format.specs.Lines.{Line, InputEnd}
-use Rattle.properties_format.specs.Groups.{is_open, EndsClosed, AreOpen, IsWhole, IsUnfinished, lines_in, IsGroups}
-use Rattle.properties_format.specs.Computed.Groups.{closes, groups_after, groups_of}
+use Rattle.properties_format.specs.Lines.{Line, InputEnd, is_open, EndsClosed, AreOpen, IsWhole, IsUnfinished, lines_in, IsGroups}
+use Rattle.properties_format.specs.Computed.Lines.{closes, groups_after, groups_of}
 use Rattle.properties_format.proofs.Groups.Steps.{groups_after-close, groups_after-leave}
 
 -- Open lines, followed by one that isn't open.

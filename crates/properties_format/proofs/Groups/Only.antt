@@ -1,8 +1,7 @@
 -- Lines have exactly one list of groups.
 use Rattle.std.proofs.Common.{arith, ◌≡◌, false, List, [], ◌∷◌, ◌++◌, ap, sym, ◌∙◌, append_assoc, append-nil}
-use Rattle.properties_format.specs.Lines.{Line, InputEnd}
-use Rattle.properties_format.specs.Groups.{is_comment_line, EndsClosed, AreOpen, IsWhole, AreWhole, IsUnfinished, lines_in, last_group, IsGroups}
-use Rattle.properties_format.specs.Computed.Groups.{groups_after, groups_of}
+use Rattle.properties_format.specs.Lines.{Line, InputEnd, is_comment_line, EndsClosed, AreOpen, IsWhole, AreWhole, IsUnfinished, lines_in, last_group, IsGroups}
+use Rattle.properties_format.specs.Computed.Lines.{groups_after, groups_of}
 use Rattle.properties_format.proofs.Groups.Steps.{groups_of-comment_line, groups_of-closed, groups_of-open, groups_after-closed, groups_after-open}
 
 -- An open group, and the lines that finish it.

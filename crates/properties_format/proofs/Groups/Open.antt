@@ -4,7 +4,7 @@ use Rattle.std.specs.Prelude.{reverse, not, ◌%◌, if◌then◌else◌}
 use Rattle.std.proofs.lemmas.Bool.Decides.{eqb_tells}
 use Rattle.std.proofs.lemmas.List.{reverse-append}
 use Rattle.properties_format.specs.Text.{backslash, is_blank}
-use Rattle.properties_format.specs.Groups.{leading_backslashes, ending_backslashes, is_open, without_last, without_open_backslash}
+use Rattle.properties_format.specs.Lines.{leading_backslashes, ending_backslashes, is_open, without_last, without_open_backslash}
 
 -- One more character at the end.
 pub ending_backslashes-push : (x : List ℕ) (c : ℕ) → ending_backslashes (x ++ c ∷ []) ≡ (if c == backslash then suc (ending_backslashes x) else 0)

@@ -1,8 +1,7 @@
 -- The groups, given the next line, both at the start of a group and in an open group.
 use Rattle.std.proofs.Common.{arith, ◌≡◌, true, false, List, [], ◌∷◌, ◌++◌, refl}
-use Rattle.properties_format.specs.Lines.{Line, InputEnd}
-use Rattle.properties_format.specs.Groups.{is_open, is_comment_line}
-use Rattle.properties_format.specs.Computed.Groups.{closes, groups_after, groups_of}
+use Rattle.properties_format.specs.Lines.{Line, InputEnd, is_open, is_comment_line}
+use Rattle.properties_format.specs.Computed.Lines.{closes, groups_after, groups_of}
 
 -- A line that finishes its group.
 pub groups_after-close : (p : List Line) (l : Line) (ls : List Line) (e : InputEnd) → closes p l ≡ true

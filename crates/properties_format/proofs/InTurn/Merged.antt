@@ -1,17 +1,15 @@
 -- Groups in which a CR may come before a single LF: the groups of their bytes are these, with each such CR and LF made
 -- one line ending.
-use Rattle.std.proofs.Common.{◌≡◌, ◌≢◌, ℕ, ◌&&◌, true, false, List, [], ◌∷◌, ◌++◌, Option, Some, None, refl, ap, sym, ◌∙◌, inl, inr, append_assoc, append-nil, if◌then◌else◌, arith}
+use Rattle.std.proofs.Common.{◌≡◌, ◌≢◌, ℕ, ◌&&◌, true, false, List, [], ◌∷◌, ◌++◌, Option, Some, None, refl, ap, sym, ◌∙◌, inl, inr, append_assoc, append-nil, if◌then◌else◌, arith, Bool}
 use Rattle.std.proofs.lemmas.Bool.{cases_Bool}
 use Rattle.properties_format.specs.Text.{LineEnding, lf, cr, crlf, line_feed, is_empty}
 use Rattle.properties_format.specs.Encoding.{Encoding}
-use Rattle.properties_format.specs.Lines.{Ended, AreLines}
+use Rattle.properties_format.specs.Lines.{Ended, AreLines, is_open, IsWhole}
 use Rattle.properties_format.specs.Computed.Lines.{begins_with_lf}
-use Rattle.properties_format.specs.Groups.{is_open, IsWhole}
 use Rattle.properties_format.specs.Body.{HeldLine, as_lines, held_in, AreGroupsOf, ending_bytes, group_bytes, groups_bytes, last_ending}
 use Rattle.properties_format.specs.Edited.{is_editable, final_group}
 use Rattle.properties_format.specs.Computed.Cut.{cut_of, decoded_line}
-use Rattle.properties_format.specs.Computed.Body.{held_of, held_lines_of}
-use Rattle.properties_format.specs.Computed.Parts.{unended_bytes, is_by_lf, is_by_cr, are_one_ending}
+use Rattle.properties_format.specs.Computed.Body.{held_of, held_lines_of, unended_bytes}
 use Rattle.properties_format.proofs.Lines.Plain.{plain-no_lf, no_lf_first}
 use Rattle.properties_format.proofs.Cut.Meets.{cut_of-meets}
 use Rattle.properties_format.proofs.Body.Decoded.{decoded-nil}
@@ -72,6 +70,19 @@ in-turn e body gs ok h = held-turn e gs (held-groups e body gs ok h)
 
 -- ---- a CR and a single LF
 
+-- whether the line ending is an LF, and whether it is a CR
+abbrev is_by_lf : Option LineEnding → Bool
+is_by_lf (Some lf) = true
+is_by_lf o = false
+
+abbrev is_by_cr : Option LineEnding → Bool
+is_by_cr (Some cr) = true
+is_by_cr o = false
+
+-- whether the first group ends in a CR and the second is an LF by itself, so that they form one line ending
+abbrev pub are_one_ending : List HeldLine → List HeldLine → Bool
+are_one_ending g h = is_by_cr (last_ending g) && (is_by_lf (last_ending h) && is_empty (unended_bytes h))
+
 -- the groups, with each CR and the single LF after it made one line ending
 abbrev pub merged : List (List HeldLine) → List (List HeldLine)
 merged [] = []
@@ -85,10 +96,6 @@ merged-one g h gs k = rw k refl
 -- Any other group at the front is unchanged.
 pub merged-two : (g h : List HeldLine) (gs : List (List HeldLine)) → are_one_ending g h ≡ false → merged (g ∷ h ∷ gs) ≡ g ∷ merged (h ∷ gs)
 merged-two g h gs k = rw k refl
-
--- A text that passes the test for an empty one is empty.
-pub empty-is : (x : List ℕ) → is_empty x ≡ true → x ≡ []
-empty-is x k = grind (arith)
 
 -- The first group ends in a CR, and the second is a single LF.
 pub record IsOneEnding (g h : List HeldLine) : Type 0 where

@@ -3,15 +3,13 @@ use Rattle.std.proofs.Common.{◌≡◌, false, List, [], ◌∷◌, Some, ap, s
 use Rattle.std.proofs.lemmas.Bool.{cases_Bool}
 use Rattle.properties_format.specs.Text.{cr, crlf}
 use Rattle.properties_format.specs.Body.{HeldLine, last_ending}
-use Rattle.properties_format.specs.Computed.Parts.{are_one_ending}
 use Rattle.properties_format.proofs.InTurn.Lines.{with_ending, ending-with}
-use Rattle.properties_format.proofs.InTurn.Merged.{merged, merged-one, merged-two, one-ending}
+use Rattle.properties_format.proofs.InTurn.Merged.{merged, merged-one, merged-two, one-ending, are_one_ending}
 
 -- no two of the groups have one line ending
 abbrev pub AreUnmerged : List (List HeldLine) → Type 0
-AreUnmerged [] = Unit {0}
-AreUnmerged (g ∷ []) = Unit {0}
 AreUnmerged (g ∷ h ∷ gs) = (are_one_ending g h ≡ false) × AreUnmerged (h ∷ gs)
+AreUnmerged gs = Unit {0}
 
 -- Groups that stay are such.
 pub merged-unmerged : (gs : List (List HeldLine)) → merged gs ≡ gs → AreUnmerged gs

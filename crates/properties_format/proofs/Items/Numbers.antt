@@ -2,10 +2,8 @@
 use Rattle.std.proofs.Common.{ℕ, ◌+◌, ◌<◌, ◌≤◌, List, [], ◌∷◌, ◌++◌, length, arith, append_assoc, subst, zero-add}
 use Rattle.properties_format.specs.Encoding.{Encoding}
 use Rattle.properties_format.specs.Computed.Encoding.{decoded_of}
-use Rattle.properties_format.specs.Lines.{InputEnd, end, fault, more, Ended, Line, Lines, line_ends, numbered}
-use Rattle.properties_format.specs.Computed.Lines.{lines_of}
-use Rattle.properties_format.specs.Groups.{AreWhole, lines_in, last_group, IsGroups, first_number}
-use Rattle.properties_format.specs.Computed.Groups.{groups_of, groups_in}
+use Rattle.properties_format.specs.Lines.{InputEnd, end, Ended, Line, Lines, line_ends, numbered, AreWhole, lines_in, last_group, IsGroups, first_number}
+use Rattle.properties_format.specs.Computed.Lines.{lines_of, groups_of, groups_in}
 use Rattle.properties_format.specs.Items.{Entry, NumbersAscend, last_entries}
 use Rattle.properties_format.specs.Computed.Items.{entries_of, items_of}
 use Rattle.properties_format.proofs.Groups.Meets.{groups_of-meets}
@@ -23,8 +21,7 @@ FirstsWithin low high (g ∷ gs) = (low < first_number g) × FirstsWithin (first
 -- 1 if the ending adds a last line, otherwise 0
 abbrev last_line : InputEnd → ℕ
 last_line end = 1
-last_line fault = 0
-last_line more = 0
+last_line ending = 0
 
 -- ---- lines
 

@@ -2,10 +2,8 @@
 use Rattle.std.proofs.Common.{◌≡◌, ℕ, List, [], ◌∷◌, refl, ap, ap₂, ◌∙◌, inl, inr}
 use Rattle.properties_format.specs.Encoding.{Encoding}
 use Rattle.properties_format.specs.Computed.Encoding.{decoded_of}
-use Rattle.properties_format.specs.Lines.{InputEnd, Line, line_ends}
-use Rattle.properties_format.specs.Computed.Lines.{lines_of}
-use Rattle.properties_format.specs.Groups.{joined, first_number}
-use Rattle.properties_format.specs.Computed.Groups.{groups_in}
+use Rattle.properties_format.specs.Lines.{InputEnd, Line, line_ends, joined, first_number}
+use Rattle.properties_format.specs.Computed.Lines.{lines_of, groups_in}
 use Rattle.properties_format.specs.Split.{Logical, IsSplit}
 use Rattle.properties_format.specs.Computed.Split.{split_of}
 use Rattle.properties_format.specs.Escapes.{Meaning, means, breaks, IsMeaning}

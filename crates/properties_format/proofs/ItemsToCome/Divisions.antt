@@ -1,14 +1,13 @@
 -- What comes as defined by divisions, and as computed, is the same.
 use Rattle.std.proofs.Common.{arith, ◌≡◌, ℕ, ◌+◌, false, List, ◌∷◌, ◌++◌, refl, ap, sym, ◌∙◌, inl, inr}
 use Rattle.std.proofs.lemmas.Bool.{cases_Bool}
-use Rattle.properties_format.specs.Pieces.{characters}
+use Rattle.properties_format.specs.Text.{characters}
 use Rattle.properties_format.specs.Computed.Encoding.{pieces_of}
 use Rattle.properties_format.specs.Lines.{InputEnd, Line, line_ends, numbered}
 use Rattle.properties_format.specs.Computed.Lines.{lines_of}
 use Rattle.properties_format.specs.Items.{Entry, last_entries}
 use Rattle.properties_format.specs.ItemsToCome.{ReaderState, in_force, IsItemsToCome, AreLinesToCome, ComesFirst, LinesComeFirst}
-use Rattle.properties_format.specs.Computed.ItemsToCome.{text_to_come, items_to_come, natural_to_come, last_to_come}
-use Rattle.properties_format.specs.Computed.ReaderSteps.{ReadsLines, ReadsEntry}
+use Rattle.properties_format.specs.Computed.ItemsToCome.{text_to_come, items_to_come, natural_to_come, last_to_come, ReadsLines, ReadsEntry}
 use Rattle.properties_format.proofs.Encodings.Pieces.{pieces_of-meets, pieces_of-only}
 use Rattle.properties_format.proofs.Lines.Meets.{lines_of-meets}
 use Rattle.properties_format.proofs.Lines.Only.{lines_of-only}

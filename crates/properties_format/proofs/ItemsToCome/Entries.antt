@@ -1,13 +1,11 @@
 -- The entries to come, one logical line at a time, and one natural line at a time while lines are joined.
 use Rattle.std.proofs.Common.{arith, ◌≡◌, ℕ, true, false, List, [], ◌∷◌, ◌++◌, Option, Some, None, refl, ap, ap₂, append_assoc}
-use Rattle.properties_format.specs.Lines.{InputEnd, Line}
-use Rattle.properties_format.specs.Groups.{is_open, is_comment_line, without_open_backslash, joined, first_number}
-use Rattle.properties_format.specs.Computed.Logical.{logical}
+use Rattle.properties_format.specs.Lines.{InputEnd, Line, is_open, is_comment_line, without_open_backslash, joined, first_number}
+use Rattle.properties_format.specs.Computed.Lines.{logical}
 use Rattle.properties_format.specs.Items.{last_entries}
 use Rattle.properties_format.specs.Computed.Items.{outcome_of, followed, entries_of}
 use Rattle.properties_format.specs.ItemsToCome.{ReaderState}
-use Rattle.properties_format.specs.Computed.ItemsToCome.{items_to_come, natural_to_come, last_to_come, entries_of_logical, logical_pending, entries_pending}
-use Rattle.properties_format.specs.Computed.ReaderSteps.{Gives}
+use Rattle.properties_format.specs.Computed.ItemsToCome.{items_to_come, natural_to_come, last_to_come, entries_of_logical, logical_pending, entries_pending, Gives}
 use Rattle.properties_format.proofs.Groups.Logical.{logical_lines-open}
 use Rattle.properties_format.proofs.ItemsToCome.Lines.{natural-done}
 

@@ -1,20 +1,16 @@
 -- The natural lines to come, step by step: bytes are read, the byte order mark is determined, an LF is skipped, a line
 -- is taken, the input ends.
-use Rattle.std.proofs.Common.{rules, arith, ◌≡◌, ◌==◌, ℕ, ◌+◌, ◌<◌, Bool, true, false, List, [], ◌∷◌, ◌++◌, length, refl, ap, ap₂, sym, ◌∙◌, inl, inr}
-use Rattle.std.proofs.Common.{append_assoc, append-nil, eqb-true, add-zero}
+use Rattle.std.proofs.Common.{rules, arith, ◌≡◌, ◌==◌, ℕ, ◌+◌, ◌<◌, Bool, true, false, List, [], ◌∷◌, ◌++◌, length, refl, ap, ap₂, sym, ◌∙◌, inl, inr, append_assoc, append-nil, eqb-true, add-zero}
 use Rattle.std.proofs.lemmas.Bool.{or_cases}
-use Rattle.properties_format.specs.Text.{line_feed, carriage_return, is_line_end, LineEnding, lf}
-use Rattle.properties_format.specs.Pieces.{characters}
-use Rattle.properties_format.specs.Encoding.{InForce, ascii_bytes, byte_order_mark}
-use Rattle.properties_format.specs.Computed.Encoding.{pieces_of}
-use Rattle.properties_format.specs.Computed.Waiting.{awaits_bom}
+use Rattle.properties_format.specs.Text.{line_feed, carriage_return, is_line_end, LineEnding, lf, characters}
+use Rattle.properties_format.specs.Encoding.{InForce, ascii_bytes, byte_order_mark, IsAligned}
+use Rattle.properties_format.specs.Computed.Encoding.{pieces_of, awaits_bom}
 use Rattle.properties_format.specs.Computed.Cut.{decoded_line}
 use Rattle.properties_format.specs.Lines.{HoldsNoLineEnd, InputEnd, end, more, numbered}
 use Rattle.properties_format.specs.Computed.Lines.{begins_with_lf, rest_of_end, lines_of}
 use Rattle.properties_format.specs.Items.{last_entries}
 use Rattle.properties_format.specs.ItemsToCome.{ReaderState, in_force}
-use Rattle.properties_format.specs.Computed.ItemsToCome.{text_to_come, natural_to_come, last_to_come}
-use Rattle.properties_format.specs.Computed.ReaderSteps.{Gives, after_read, after_decided, after_passed, after_line, next_line, HoldsLine, HoldsNoEnd}
+use Rattle.properties_format.specs.Computed.ItemsToCome.{text_to_come, natural_to_come, last_to_come, Gives, after_decided, after_passed, next_line, HoldsNoEnd}
 use Rattle.properties_format.proofs.Encodings.ByteOrderMarks.{byte_order_mark-append, followed}
 use Rattle.properties_format.proofs.Lines.Only.{lines_of-plain}
 use Rattle.properties_format.proofs.Lines.Plain.{one-more, plain-no_lf, without_leading_lf-none}
@@ -22,10 +18,26 @@ use Rattle.properties_format.proofs.Cut.Units.{lf_first-append}
 use Rattle.properties_format.proofs.Cut.Byline.{no_end-decoded, end-ascii}
 use Rattle.properties_format.proofs.Cut.Steps.{line_in_front}
 use Rattle.properties_format.proofs.Cut.ToCome.{decoded-no_lf}
-use Rattle.properties_format.specs.Cut.{units}
+use Rattle.properties_format.specs.Cut.{units, HoldsNoLineEndUnit}
 use Rattle.properties_format.proofs.Lines.Steps.{lines_of-line, lines_of-cr, cr_end}
 use Rattle.properties_format.proofs.Encodings.Cuts.{characters-cut_ascii}
 use Rattle.properties_format.proofs.Encodings.Characters.{pieces_of-ascii}
+
+-- ---- the steps
+
+-- the state after a line was taken that this character ended, with these bytes left
+abbrev pub after_line : ReaderState → ℕ → List ℕ → ReaderState
+after_line s c rest = record s { held = rest; passed = s.passed + 1; after_cr = c == carriage_return }
+
+-- The bytes that are held are the line l, the line ending c, and the rest.
+pub record HoldsLine (s : ReaderState) (l : List ℕ) (c : ℕ) (rest : List ℕ) : Type 0 where
+  pub going : s.is_done ≡ false
+  pub decided : s.is_decided ≡ true
+  pub passed : s.after_cr ≡ false
+  pub held : s.held ≡ l ++ (ascii_bytes s.encoding c ++ rest)
+  pub ends : is_line_end c ≡ true
+  pub aligned : IsAligned s.encoding l
+  pub none : HoldsNoLineEndUnit s.encoding l
 
 -- ---- states with equal text to come
 
@@ -46,7 +58,7 @@ text-decided s d h = rw h refl
 -- ---- reading, and the byte order mark
 
 -- Bytes that are read are held, and come before those to come.
-pub gives-read : (s : ReaderState) (r d : List ℕ) (ending : InputEnd) → Gives s (r ++ d) [] (after_read s r) d ending
+pub gives-read : (s : ReaderState) (r d : List ℕ) (ending : InputEnd) → Gives s (r ++ d) [] (record s { held = s.held ++ r }) d ending
 gives-read s r d ending = search (append_assoc, gives-text)
 
 -- Held bytes that don't wait for more determine the byte order mark.

@@ -1,16 +1,14 @@
 -- Steps of a reader, one after the other, from natural lines to logical lines.
-use Rattle.std.proofs.Common.{arith, ◌≡◌, ℕ, true, false, List, [], ◌∷◌, ◌++◌, length, ◌<◌, Some, None, refl, ap, ◌∙◌, append_assoc}
+use Rattle.std.proofs.Common.{arith, ◌≡◌, ℕ, true, false, List, [], ◌∷◌, ◌++◌, length, ◌<◌, Some, None, refl, ap, ◌∙◌, append_assoc, Option}
 use Rattle.properties_format.specs.Text.{line_feed}
 use Rattle.properties_format.specs.Encoding.{ascii_bytes}
 use Rattle.properties_format.specs.Cut.{units}
 use Rattle.properties_format.specs.Computed.Lines.{begins_with_lf}
-use Rattle.properties_format.specs.Lines.{InputEnd, Line}
-use Rattle.properties_format.specs.Groups.{is_open, is_comment_line, without_open_backslash}
+use Rattle.properties_format.specs.Lines.{InputEnd, Line, is_open, is_comment_line, without_open_backslash}
 use Rattle.properties_format.specs.Items.{Entry}
 use Rattle.properties_format.specs.ItemsToCome.{ReaderState}
-use Rattle.properties_format.specs.Computed.ItemsToCome.{items_to_come}
-use Rattle.properties_format.specs.Computed.ReaderSteps.{after_read, after_passed, HoldsLine, next_line, after_line, ReadsLines, ReadsOn}
-use Rattle.properties_format.proofs.ItemsToCome.Lines.{gives-read, gives-passed_lf, gives-passed_none, gives-line}
+use Rattle.properties_format.specs.Computed.ItemsToCome.{items_to_come, after_passed, next_line, ReadsLines, entries_pending}
+use Rattle.properties_format.proofs.ItemsToCome.Lines.{gives-read, gives-passed_lf, gives-passed_none, gives-line, HoldsLine, after_line}
 use Rattle.properties_format.proofs.ItemsToCome.Entries.{items_to_come-pending, gives-on, pending-open}
 
 -- ---- natural lines
@@ -28,7 +26,7 @@ pub lines-then : {s t u : ReaderState} {r : List ℕ} {ls ms : List Line} → Re
 lines-then h k = record { gives = λ d ending. gives-on (h.gives d ending) (k.gives d ending) }
 
 -- Bytes are read and held.
-pub lines-read : (s : ReaderState) (r : List ℕ) → ReadsLines s r [] (after_read s r)
+pub lines-read : (s : ReaderState) (r : List ℕ) → ReadsLines s r [] (record s { held = s.held ++ r })
 lines-read s r = record { gives = λ d ending. gives-read s r d ending }
 
 -- An LF unit after a CR is skipped.
@@ -46,6 +44,10 @@ pub lines-take : (s : ReaderState) (l : List ℕ) (c : ℕ) (rest : List ℕ) �
 lines-take s l c rest h = record { gives = λ d ending. gives-line s l c rest d ending h }
 
 -- ---- logical lines that are started
+
+-- Reading r, the reader doesn't return an item yet, and a logical line may have been started.
+pub record ReadsOn (before : ReaderState) (r : List ℕ) (pending : Option Line) (after : ReaderState) : Type 0 where
+  pub items : (d : List ℕ) (ending : InputEnd) → items_to_come before (r ++ d) ending ≡ entries_pending pending after d ending
 
 -- At first, no logical line has been started.
 pub on-start : (s : ReaderState) → ReadsOn s [] None s

@@ -2,12 +2,11 @@
 use Rattle.std.proofs.Common.{arith, ◌≡◌, ℕ, ◌+◌, Bool, true, false, List, [], refl, ap, sym, ◌∙◌, inl, inr, zero-add}
 use Rattle.std.proofs.lemmas.Bool.{cases_Bool}
 use Rattle.std.proofs.lemmas.Bool.Decides.{eqb_tells}
-use Rattle.properties_format.specs.Pieces.{Piece, characters}
+use Rattle.properties_format.specs.Text.{Piece, characters}
 use Rattle.properties_format.specs.Encoding.{Encoding}
 use Rattle.properties_format.specs.Computed.Encoding.{pieces_of}
 use Rattle.properties_format.specs.Lines.{InputEnd, line_ends, numbered}
-use Rattle.properties_format.specs.Computed.Lines.{rest_of_end, lines_of}
-use Rattle.properties_format.specs.Computed.Groups.{groups_of}
+use Rattle.properties_format.specs.Computed.Lines.{rest_of_end, lines_of, groups_of}
 use Rattle.properties_format.specs.Items.{Entry}
 use Rattle.properties_format.specs.Computed.Items.{entries_of, items_of}
 use Rattle.properties_format.specs.ItemsToCome.{ReaderState, start, in_force, IsAfterEnd, AreFurtherEntries, IsItemsToCome}

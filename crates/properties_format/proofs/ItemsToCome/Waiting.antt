@@ -1,8 +1,8 @@
 -- Which bytes decide what comes next: whether there is a byte order mark at the front, or an LF after a CR.
 use Rattle.std.proofs.Common.{◌≡◌, true, false, arith}
-use Rattle.properties_format.specs.Computed.Waiting.{awaits_bom}
+use Rattle.properties_format.specs.Computed.Encoding.{awaits_bom}
 use Rattle.properties_format.specs.ItemsToCome.{ReaderState}
-use Rattle.properties_format.specs.Computed.ReaderSteps.{after_decided, HoldsNoEnd}
+use Rattle.properties_format.specs.Computed.ItemsToCome.{after_decided, HoldsNoEnd}
 
 -- ---- A byte order mark.
 

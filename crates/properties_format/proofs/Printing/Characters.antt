@@ -5,11 +5,10 @@ use Rattle.std.specs.Char.{digit_char}
 use Rattle.std.proofs.lemmas.Bool.{cond_both, and_from, and_parts}
 use Rattle.std.proofs.lemmas.Str.{encode_ascii}
 use Rattle.properties_format.specs.Text.{scalar, line_ending_text, LineEnding, is_blank, is_separator, is_line_end, space, backslash}
-use Rattle.properties_format.specs.Encoding.{Encoding, encoded}
-use Rattle.properties_format.specs.Repertoire.{Repertoire, repertoire_of}
-use Rattle.properties_format.specs.Entries.{Content, comment, pair}
+use Rattle.properties_format.specs.Encoding.{Encoding, encoded, Repertoire}
+use Rattle.properties_format.specs.Settings.{repertoire_of, Settings, IsGoodSeparator}
+use Rattle.properties_format.specs.Items.{Content, comment, pair}
 use Rattle.properties_format.specs.Split.{AreBlanks}
-use Rattle.properties_format.specs.Settings.{Settings, IsGoodSeparator}
 use Rattle.properties_format.specs.Printing.{Place, in_key_or_value, in_comment, in_prefix, unit_escape, high_surrogate, low_surrogate, unicode_escape, may_be_unescaped, literal, is_special, letter_escape, has_letter, printed_character, printed_characters, encoded_text, is_bom_like, with_first_escaped, printed_key, is_free, printed_inside, printed_first, printed_rest, printed_value, written_value, printed_text, printed}
 use Rattle.properties_format.proofs.Encodings.Windows1252.{windows_1252_byte-ascii}
 

@@ -5,18 +5,15 @@ use Rattle.std.specs.List.{AllByRecursion}
 use Rattle.std.proofs.lemmas.List.Elements.{recursion_from_All}
 use Rattle.std.proofs.lemmas.Bool.{cond_both}
 use Rattle.properties_format.specs.Text.{scalar, line_ending_text}
-use Rattle.properties_format.specs.Encoding.{Encoding, output_encoding, characters}
-use Rattle.properties_format.specs.Repertoire.{Repertoire, repertoire_of}
+use Rattle.properties_format.specs.Encoding.{Encoding, output_encoding, characters, Repertoire}
+use Rattle.properties_format.specs.Settings.{repertoire_of, Settings}
 use Rattle.properties_format.specs.Computed.Encoding.{pieces_of}
-use Rattle.properties_format.specs.Entries.{Content, comment, pair}
-use Rattle.properties_format.specs.Settings.{Settings}
-use Rattle.properties_format.specs.Printing.{Place, in_key_or_value, printed_character, printed_characters, encoded_text, is_bom_like, with_first_escaped}
-use Rattle.properties_format.specs.Printing.{printed_key, is_free, printed_inside, printed_first, printed_rest, printed_value, written_value, printed_text}
-use Rattle.properties_format.specs.Writing.{Call, comment_call, pair_call, prefix_call, separator_call, ending_call, flush_call, ascii_only_call, readable_call, settings_after_call, written_line, lines_with, AreOfScalars, AreGoodSettings}
+use Rattle.properties_format.specs.Items.{Content, comment, pair}
+use Rattle.properties_format.specs.Printing.{Place, in_key_or_value, printed_character, printed_characters, encoded_text, is_bom_like, with_first_escaped, printed_key, is_free, printed_inside, printed_first, printed_rest, printed_value, written_value, printed_text}
+use Rattle.properties_format.specs.Writing.{Call, comment_call, pair_call, settings_after_call, written_line, lines_with, AreOfScalars, AreGoodSettings}
 use Rattle.properties_format.proofs.Encodings.Pieces.{pieces_of-nil}
 use Rattle.properties_format.proofs.Encodings.Characters.{pieces_of-encoded}
-use Rattle.properties_format.proofs.Printing.Characters.{AreEncodable, AreEncodable-append, AreAscii, line_end-ascii, unicode_escape-ascii, good_separator-ascii, printed-either}
-use Rattle.properties_format.proofs.Printing.Characters.{printed_text-encodable, AreEncodable-ascii, printed-encodable, free-plain}
+use Rattle.properties_format.proofs.Printing.Characters.{AreEncodable, AreEncodable-append, AreAscii, line_end-ascii, unicode_escape-ascii, good_separator-ascii, printed-either, printed_text-encodable, AreEncodable-ascii, printed-encodable, free-plain}
 use Rattle.properties_format.proofs.ReadBack.Lines.{line_text, wrote_text, settings_after_call-good}
 
 -- ---- what can be encoded decodes to itself
@@ -136,11 +133,4 @@ wrote_text-writable e s n (comment_call text ∷ calls) g h =
 wrote_text-writable e s n (pair_call key value ∷ calls) g h =
     let o = written_line s (pair_call key value) in
     grind (arith, writable-append, pair-writable, wrote_text-writable e s (lines_with n o) calls g h.1)
-wrote_text-writable e s n (prefix_call prefix ∷ calls) g h = wrote_text-writable e _ n calls (settings_after_call-good s (prefix_call prefix) g h.0) h.1
-wrote_text-writable e s n (separator_call separator ∷ calls) g h =
-    wrote_text-writable e (settings_after_call s (separator_call separator)) n calls (settings_after_call-good s (separator_call separator) g h.0) h.1
-wrote_text-writable e s n (ending_call line_ending ∷ calls) g h =
-    wrote_text-writable e (settings_after_call s (ending_call line_ending)) n calls (settings_after_call-good s (ending_call line_ending) g h.0) h.1
-wrote_text-writable e s n (flush_call ∷ calls) g h = wrote_text-writable e s n calls g h.1
-wrote_text-writable e s n (ascii_only_call on ∷ calls) g h = wrote_text-writable e _ n calls (settings_after_call-good s (ascii_only_call on) g h.0) h.1
-wrote_text-writable e s n (readable_call on ∷ calls) g h = wrote_text-writable e _ n calls (settings_after_call-good s (readable_call on) g h.0) h.1
+wrote_text-writable e s n (call ∷ calls) g h = wrote_text-writable e (settings_after_call s call) n calls (settings_after_call-good s call g h.0) h.1

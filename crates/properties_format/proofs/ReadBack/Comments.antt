@@ -4,13 +4,12 @@ use Rattle.std.proofs.Common.{rules, ◌≡◌, ◌⊎◌, ℕ, ◌<◌, ◌==�
 use Rattle.std.specs.List.{AllByRecursion}
 use Rattle.std.proofs.lemmas.Bool.{cond-true}
 use Rattle.properties_format.specs.Text.{scalar, backslash, is_line_end, is_comment_sign}
-use Rattle.properties_format.specs.Repertoire.{Repertoire}
-use Rattle.properties_format.specs.Lines.{HoldsNoLineEnd}
-use Rattle.properties_format.specs.Groups.{is_comment_line}
+use Rattle.properties_format.specs.Encoding.{Repertoire}
+use Rattle.properties_format.specs.Lines.{HoldsNoLineEnd, is_comment_line}
 use Rattle.properties_format.specs.Split.{AreBlanks}
 use Rattle.properties_format.specs.Computed.Split.{trimmed}
 use Rattle.properties_format.specs.Escapes.{Spelling, itself, spelling_text, spelling_character, spellings_before}
-use Rattle.properties_format.specs.Entries.{comment}
+use Rattle.properties_format.specs.Items.{comment}
 use Rattle.properties_format.specs.Settings.{IsGoodPrefix}
 use Rattle.properties_format.specs.Printing.{in_comment, in_prefix, unicode_escape, may_be_unescaped, literal, printed_characters}
 use Rattle.properties_format.specs.Writing.{tail_of, HoldsNoBackslash}

@@ -5,17 +5,14 @@ use Rattle.std.proofs.lemmas.List.Elements.{recursion_from_All}
 use Rattle.std.proofs.lemmas.Bool.{not-true, cond_both}
 use Rattle.properties_format.specs.Text.{scalar, LineEnding, line_ending_text, is_blanks, is_empty}
 use Rattle.properties_format.specs.Encoding.{Encoding}
-use Rattle.properties_format.specs.Repertoire.{repertoire_of}
-use Rattle.properties_format.specs.Lines.{HoldsNoLineEnd, Line, end}
-use Rattle.properties_format.specs.Computed.Lines.{begins_with_lf, lines_to_come}
-use Rattle.properties_format.specs.Groups.{joined}
-use Rattle.properties_format.specs.Computed.Groups.{groups_of}
-use Rattle.properties_format.specs.Entries.{Content, comment, pair, Entry, item}
+use Rattle.properties_format.specs.Settings.{repertoire_of, Settings}
+use Rattle.properties_format.specs.Lines.{HoldsNoLineEnd, Line, end, joined}
+use Rattle.properties_format.specs.Computed.Lines.{begins_with_lf, lines_to_come, groups_of}
+use Rattle.properties_format.specs.Items.{Content, comment, pair, Entry, item}
 use Rattle.properties_format.specs.Computed.Items.{entries_of}
-use Rattle.properties_format.specs.Settings.{Settings}
 use Rattle.properties_format.specs.Computed.Settings.{is_good_separator}
 use Rattle.properties_format.specs.Printing.{in_key_or_value, in_comment, in_prefix, printed_characters, printed_key, printed_value, written_value, encoded_text, printed_text}
-use Rattle.properties_format.specs.Writing.{Call, comment_call, pair_call, prefix_call, separator_call, ending_call, flush_call, ascii_only_call, readable_call, settings_after_call, written_line, lines_with, wrote, content_read_back, item_read_back, items_read_back, HoldsNoBackslash, ArePrefixesClean, IsOfScalars, AreOfScalars, AreGoodSettings}
+use Rattle.properties_format.specs.Writing.{Call, comment_call, pair_call, prefix_call, separator_call, settings_after_call, written_line, lines_with, wrote, content_read_back, item_read_back, items_read_back, HoldsNoBackslash, ArePrefixesClean, IsOfScalars, AreOfScalars, AreGoodSettings}
 use Rattle.properties_format.proofs.Lines.Plain.{plain-no_lf}
 use Rattle.properties_format.proofs.Lines.Steps.{lines_to_come-end}
 use Rattle.properties_format.proofs.Groups.Joined.{joined-comment_line, joined-closed}
@@ -75,9 +72,9 @@ pair-written e s first key value g some h k =
     let blank = is_blanks s.kv_separator in
     cond_both s.readable (printed_value (repertoire_of e s) blank value) (printed_characters (repertoire_of e s) in_key_or_value value)
     (λ v. IsReadAs (front ++ (s.kv_separator ++ v)) (pair key value))
-    (λ _. pair-read_loosely front _ s.kv_separator key value keyed (value-loose _ blank value all)
+    (λ _. pair-read_loosely front _ s.kv_separator key value keyed (value-loose (repertoire_of e s) blank value all)
     (value-begins (repertoire_of e s) blank value all) g.separator some)
-    (λ _. pair-read front _ s.kv_separator key value keyed (texts-printed _ value all) g.separator some)
+    (λ _. pair-read front _ s.kv_separator key value keyed (texts-printed (repertoire_of e s) value all) g.separator some)
 
 -- A pair, under good settings; if the key is empty, the separator isn't blanks only.
 pub pair-line : (e : Encoding) (s : Settings) (first : Bool) (key value : List ℕ) → AreGoodSettings s → (key ≡ [] → is_blanks s.kv_separator ≡ false)
@@ -127,10 +124,7 @@ separator-good s separator b h1 h2 = grind (arith, IsGoodSeparator-from_test)
 pub settings_after_call-good : (s : Settings) (call : Call) → AreGoodSettings s → IsOfScalars call → AreGoodSettings (settings_after_call s call)
 settings_after_call-good s (prefix_call prefix) g h = search (rules, IsGoodPrefix-from_test)
 settings_after_call-good s (separator_call separator) g h = separator-good s separator (is_good_separator separator) refl g
-settings_after_call-good s (ending_call line_ending) g h = record { prefix = g.prefix; scalars = g.scalars; separator = g.separator }
-settings_after_call-good s (ascii_only_call on) g h = record { prefix = g.prefix; scalars = g.scalars; separator = g.separator }
-settings_after_call-good s (readable_call on) g h = record { prefix = g.prefix; scalars = g.scalars; separator = g.separator }
-settings_after_call-good s call g h = g
+settings_after_call-good s call g h = record { prefix = g.prefix; scalars = g.scalars; separator = g.separator }
 
 -- ---- calls
 
@@ -153,14 +147,4 @@ text-read e m s n (comment_call text ∷ calls) g c h =
     line-then m n s.line_ending _ _ _ _
     (comment-line e s (n == 0) text g c.0 h.0) (text-read e m s (n + 1) calls g c.1 h.1)
 text-read e m s n (pair_call key value ∷ calls) g c h = pair-step e m s n key value calls _ refl g h.0.0 h.0.1 (λ k. text-read e m s k calls g c h.1) _ refl
-text-read e m s n (prefix_call prefix ∷ calls) g c h =
-    text-read e m (settings_after_call s (prefix_call prefix)) n calls (settings_after_call-good s (prefix_call prefix) g h.0) c h.1
-text-read e m s n (separator_call separator ∷ calls) g c h =
-    text-read e m (settings_after_call s (separator_call separator)) n calls (settings_after_call-good s (separator_call separator) g h.0) c h.1
-text-read e m s n (ending_call line_ending ∷ calls) g c h =
-    text-read e m (settings_after_call s (ending_call line_ending)) n calls (settings_after_call-good s (ending_call line_ending) g h.0) c h.1
-text-read e m s n (flush_call ∷ calls) g c h = text-read e m s n calls g c h.1
-text-read e m s n (ascii_only_call on ∷ calls) g c h =
-    text-read e m (settings_after_call s (ascii_only_call on)) n calls (settings_after_call-good s (ascii_only_call on) g h.0) c h.1
-text-read e m s n (readable_call on ∷ calls) g c h =
-    text-read e m (settings_after_call s (readable_call on)) n calls (settings_after_call-good s (readable_call on) g h.0) c h.1
+text-read e m s n (call ∷ calls) g c h = text-read e m (settings_after_call s call) n calls (settings_after_call-good s call g h.0) c h.1

@@ -1,13 +1,11 @@
 -- Lists of pairs that are written are read back unchanged.
 use Rattle.std.proofs.Common.{◌≡◌, ℕ, ◌+◌, List, [], ◌∷◌, refl, ap, ◌∙◌}
 use Rattle.properties_format.specs.Encoding.{Encoding, output_encoding}
-use Rattle.properties_format.specs.Entries.{Entry}
+use Rattle.properties_format.specs.Items.{Entry, IsItems}
 use Rattle.properties_format.specs.Lines.{end}
-use Rattle.properties_format.specs.Items.{IsItems}
 use Rattle.properties_format.specs.Computed.Items.{items_of}
 use Rattle.properties_format.specs.Settings.{Settings}
-use Rattle.properties_format.specs.Writing.{wrote, items_read_back, ArePrefixesClean, AreOfScalars, AreGoodSettings}
-use Rattle.properties_format.specs.Pairs.{Pair, pairs_in, calls_of, items_after, AreAccepted, ArePairsOfScalars}
+use Rattle.properties_format.specs.Writing.{wrote, items_read_back, ArePrefixesClean, AreOfScalars, AreGoodSettings, Pair, pairs_in, calls_of, items_after, AreAccepted, ArePairsOfScalars}
 use Rattle.properties_format.proofs.Items.Unique.{items_of-only}
 use Rattle.properties_format.proofs.ReadBack.Law.{items_of-wrote}
 

@@ -3,14 +3,12 @@ use Rattle.std.proofs.Common.{rules, ◌≡◌, ◌≢◌, ℕ, ◌&&◌, Bool, 
 use Rattle.std.specs.List.{AllByRecursion}
 use Rattle.std.proofs.lemmas.Bool.{cond_both}
 use Rattle.properties_format.specs.Text.{scalar, is_blanks}
-use Rattle.properties_format.specs.Repertoire.{Repertoire}
-use Rattle.properties_format.specs.Lines.{HoldsNoLineEnd}
-use Rattle.properties_format.specs.Groups.{is_open}
+use Rattle.properties_format.specs.Encoding.{Repertoire}
+use Rattle.properties_format.specs.Lines.{HoldsNoLineEnd, is_open}
 use Rattle.properties_format.specs.Split.{Logical, AreBlanks, IsBetween, blanks, separator}
 use Rattle.properties_format.specs.Computed.Split.{split_of}
 use Rattle.properties_format.specs.Escapes.{Spelling, spelling_text, spelling_character, spellings_before}
-use Rattle.properties_format.specs.Entries.{Content, pair}
-use Rattle.properties_format.specs.Items.{given}
+use Rattle.properties_format.specs.Items.{Content, pair, given}
 use Rattle.properties_format.specs.Computed.Items.{pair_outcome, split_outcome, outcome_of}
 use Rattle.properties_format.specs.Settings.{IsGoodSeparator}
 use Rattle.properties_format.specs.Printing.{in_key_or_value, printed_characters, is_bom_like, with_first_escaped, printed_key}
@@ -22,8 +20,7 @@ use Rattle.properties_format.proofs.Split.Unique.{split_of-pair}
 use Rattle.properties_format.proofs.Split.Laws.{split_of-empty_key}
 use Rattle.properties_format.proofs.Settings.Tests.{is_blanks-from}
 use Rattle.properties_format.proofs.ReadBack.Spellings.{unicode-printed}
-use Rattle.properties_format.proofs.ReadBack.Texts.{AreSafe, AreSafelyPrinted, printed-cons, texts-printed, printed-means, printed-plain, printed-closed, are_safe-key, BeginsFull, safe-begins}
-use Rattle.properties_format.proofs.ReadBack.Texts.{are_safe-begin}
+use Rattle.properties_format.proofs.ReadBack.Texts.{AreSafe, AreSafelyPrinted, printed-cons, texts-printed, printed-means, printed-plain, printed-closed, are_safe-key, BeginsFull, safe-begins, are_safe-begin}
 use Rattle.properties_format.proofs.ReadBack.Values.{AreLooselyPrinted, loose-means, loosely-plain, loosely-closed, BeginsAfter}
 
 -- What a line's text is read as, if it is a line of its own.

@@ -3,10 +3,9 @@ use Rattle.std.proofs.Common.{rules, ◌≡◌, ◌⊎◌, ℕ, ◌<◌, ◌≤�
 use Rattle.std.specs.Prelude.{nat_lt}
 use Rattle.std.proofs.lemmas.Bool.{or_cases, or_parts, cond_both}
 use Rattle.properties_format.specs.Text.{scalar, line_feed, carriage_return, space, backslash, is_blank, is_line_end, is_comment_sign, is_separator}
-use Rattle.properties_format.specs.Repertoire.{Repertoire}
+use Rattle.properties_format.specs.Encoding.{Repertoire}
 use Rattle.properties_format.specs.Escapes.{letter_u, escaped_character, are_hexadecimal, code_unit, is_high, is_low, is_surrogate, pair_character, Spelling, itself, escaped, unicode, surrogates, last, spelling_text, spelling_character, IsSpelling}
-use Rattle.properties_format.specs.Printing.{in_key_or_value, in_comment, unit_escape, high_surrogate, low_surrogate, unicode_escape, may_be_unescaped, literal, is_special, letter_escape, has_letter}
-use Rattle.properties_format.specs.Printing.{printed_character}
+use Rattle.properties_format.specs.Printing.{in_key_or_value, in_comment, unit_escape, high_surrogate, low_surrogate, unicode_escape, may_be_unescaped, literal, is_special, letter_escape, has_letter, printed_character}
 use Rattle.properties_format.proofs.Escapes.Digits.{unit_digits, unit_digits-hexadecimal, unit_digits-unit, high_surrogate-high, low_surrogate-low}
 use Rattle.properties_format.proofs.Escapes.Trimmed.{KeepsBlanks, KeepsBlanks-itself, KeepsBlanks-escaped, KeepsBlanks-unicode, KeepsBlanks-surrogates}
 use Rattle.properties_format.proofs.Printing.Characters.{may_be_unescaped-ascii, below-scalar, blank-ascii}

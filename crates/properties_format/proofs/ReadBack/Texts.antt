@@ -2,11 +2,10 @@
 use Rattle.std.proofs.Common.{rules, ◌≡◌, ℕ, ◌==◌, true, false, List, [], ◌∷◌, ◌++◌, map, refl, ap, sym, ◌∙◌, inl, inr, append_assoc, append-nil, arith, eqb-true, ap₂}
 use Rattle.std.specs.List.{AllByRecursion}
 use Rattle.std.proofs.lemmas.Bool.{cases_Bool}
-use Rattle.properties_format.specs.Text.{scalar, backslash, is_blank, is_comment_sign, is_separator}
-use Rattle.properties_format.specs.Repertoire.{Repertoire}
-use Rattle.properties_format.specs.Lines.{HoldsNoLineEnd}
-use Rattle.properties_format.specs.Groups.{is_open}
-use Rattle.properties_format.specs.Split.{IsKey, begins}
+use Rattle.properties_format.specs.Text.{scalar, backslash, is_blank, is_comment_sign, is_separator, begins}
+use Rattle.properties_format.specs.Encoding.{Repertoire}
+use Rattle.properties_format.specs.Lines.{HoldsNoLineEnd, is_open}
+use Rattle.properties_format.specs.Split.{IsKey}
 use Rattle.properties_format.specs.Escapes.{letter_u, Four, four_text, are_hexadecimal, Spelling, itself, escaped, unicode, surrogates, last, spelling_text, spelling_character, spellings_before, means}
 use Rattle.properties_format.specs.Computed.Escapes.{meaning_of}
 use Rattle.properties_format.specs.Printing.{in_key_or_value, printed_characters}

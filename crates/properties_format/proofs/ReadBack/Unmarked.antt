@@ -3,13 +3,12 @@ use Rattle.std.proofs.Common.{◌≡◌, ℕ, ◌<◌, Bool, true, false, if◌t
 use Rattle.std.specs.Prelude.{nat_lt, Some, None}
 use Rattle.std.proofs.lemmas.Bool.{cond_both}
 use Rattle.properties_format.specs.Text.{backslash, is_comment_sign}
-use Rattle.properties_format.specs.Encoding.{Encoding, begins_like_bom}
-use Rattle.properties_format.specs.Repertoire.{Repertoire, repertoire_of}
+use Rattle.properties_format.specs.Encoding.{Encoding, begins_like_bom, Repertoire}
+use Rattle.properties_format.specs.Settings.{repertoire_of, Settings, IsGoodPrefix, IsGoodSeparator}
 use Rattle.properties_format.specs.Split.{AreBlanks}
-use Rattle.properties_format.specs.Entries.{Content, comment, pair}
-use Rattle.properties_format.specs.Settings.{Settings, IsGoodPrefix, IsGoodSeparator}
+use Rattle.properties_format.specs.Items.{Content, comment, pair}
 use Rattle.properties_format.specs.Printing.{in_key_or_value, in_prefix, unit_escape, unicode_escape, printed_characters, encoded_text, is_bom_like, with_first_escaped, printed_key, printed_text}
-use Rattle.properties_format.specs.Writing.{Call, comment_call, pair_call, prefix_call, separator_call, ending_call, flush_call, ascii_only_call, readable_call, settings_after_call, lines_with, AreOfScalars, AreGoodSettings}
+use Rattle.properties_format.specs.Writing.{Call, comment_call, pair_call, settings_after_call, lines_with, AreOfScalars, AreGoodSettings}
 use Rattle.properties_format.proofs.Printing.Characters.{encoded-ascii, encoded_text-append, blank-ascii, good_separator-ascii}
 use Rattle.properties_format.proofs.ReadBack.Pairs.{separator-some}
 use Rattle.properties_format.proofs.ReadBack.Comments.{prefix-printed, sign-ascii}
@@ -101,14 +100,4 @@ pub wrote_text-unmarked : (e : Encoding) (s : Settings) (calls : List Call) → 
 wrote_text-unmarked e s [] g h = refl
 wrote_text-unmarked e s (comment_call text ∷ calls) g h = printed-unmarked e s (comment text) (wrote_text e s 1 calls) g
 wrote_text-unmarked e s (pair_call key value ∷ calls) g h = grind (arith, pair-step, wrote_text-unmarked e s calls g h.1)
-wrote_text-unmarked e s (prefix_call prefix ∷ calls) g h =
-    wrote_text-unmarked e (settings_after_call s (prefix_call prefix)) calls (settings_after_call-good s (prefix_call prefix) g h.0) h.1
-wrote_text-unmarked e s (separator_call separator ∷ calls) g h =
-    wrote_text-unmarked e (settings_after_call s (separator_call separator)) calls (settings_after_call-good s (separator_call separator) g h.0) h.1
-wrote_text-unmarked e s (ending_call line_ending ∷ calls) g h =
-    wrote_text-unmarked e (settings_after_call s (ending_call line_ending)) calls (settings_after_call-good s (ending_call line_ending) g h.0) h.1
-wrote_text-unmarked e s (flush_call ∷ calls) g h = wrote_text-unmarked e s calls g h.1
-wrote_text-unmarked e s (ascii_only_call on ∷ calls) g h =
-    wrote_text-unmarked e (settings_after_call s (ascii_only_call on)) calls (settings_after_call-good s (ascii_only_call on) g h.0) h.1
-wrote_text-unmarked e s (readable_call on ∷ calls) g h =
-    wrote_text-unmarked e (settings_after_call s (readable_call on)) calls (settings_after_call-good s (readable_call on) g h.0) h.1
+wrote_text-unmarked e s (call ∷ calls) g h = wrote_text-unmarked e (settings_after_call s call) calls (settings_after_call-good s call g h.0) h.1

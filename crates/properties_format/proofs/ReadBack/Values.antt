@@ -3,11 +3,9 @@
 use Rattle.std.proofs.Common.{rules, ◌≡◌, ◌⊎◌, ℕ, ◌==◌, ◌&&◌, ◌||◌, Bool, true, false, List, [], ◌∷◌, ◌++◌, map, refl, ap, ap₂, sym, ◌∙◌, inl, inr, append_assoc, append-nil, eqb-true, lit<, subst, arith}
 use Rattle.std.specs.List.{AllByRecursion}
 use Rattle.std.proofs.lemmas.Bool.{cond_both}
-use Rattle.properties_format.specs.Text.{scalar, space, backslash, is_blank, is_line_end, is_separator, is_empty}
-use Rattle.properties_format.specs.Repertoire.{Repertoire}
-use Rattle.properties_format.specs.Lines.{HoldsNoLineEnd}
-use Rattle.properties_format.specs.Groups.{is_open}
-use Rattle.properties_format.specs.Split.{begins}
+use Rattle.properties_format.specs.Text.{scalar, space, backslash, is_blank, is_line_end, is_separator, is_empty, begins}
+use Rattle.properties_format.specs.Encoding.{Repertoire}
+use Rattle.properties_format.specs.Lines.{HoldsNoLineEnd, is_open}
 use Rattle.properties_format.specs.Escapes.{Spelling, itself, spelling_text, spelling_character, spellings_before, means}
 use Rattle.properties_format.specs.Computed.Escapes.{meaning_of}
 use Rattle.properties_format.specs.Printing.{in_key_or_value, unit_escape, printed_character, is_free, printed_inside, printed_first, printed_last, printed_rest, printed_value}

@@ -1,8 +1,8 @@
 -- Blanks at the front and at the end of a text, and the text without them.
 use Rattle.std.proofs.Common.{arith, ◌≡◌, ℕ, Bool, false, List, [], ◌∷◌, ◌++◌, refl, ap, ◌∙◌, inl, inr}
 use Rattle.std.proofs.lemmas.Bool.{cases_Bool, both_ways}
-use Rattle.properties_format.specs.Text.{is_blank, without_leading_blanks}
-use Rattle.properties_format.specs.Split.{AreBlanks, begins, ends, IsTrimmed}
+use Rattle.properties_format.specs.Text.{is_blank, without_leading_blanks, begins}
+use Rattle.properties_format.specs.Split.{AreBlanks, ends, IsTrimmed}
 use Rattle.properties_format.specs.Computed.Split.{without_trailing_blanks, unless_last_blank, trimmed}
 
 -- Blanks that don't begin with a blank are an empty text.

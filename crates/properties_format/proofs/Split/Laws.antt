@@ -1,8 +1,8 @@
 -- Facts about split lines, for code that prints or parses them.
 use Rattle.std.proofs.Common.{◌≡◌, ℕ, ◌==◌, true, false, List, [], ◌∷◌, ◌++◌, refl, ap, sym, ◌∙◌, arith}
 use Rattle.std.proofs.lemmas.Bool.{and_parts}
-use Rattle.properties_format.specs.Text.{backslash, is_blank, is_comment_sign, is_separator}
-use Rattle.properties_format.specs.Split.{Logical, pair, AreBlanks, begins, plain, escaped, IsKey, separator, IsSplit}
+use Rattle.properties_format.specs.Text.{backslash, is_blank, is_comment_sign, is_separator, begins}
+use Rattle.properties_format.specs.Split.{Logical, pair, AreBlanks, plain, escaped, IsKey, separator, IsSplit}
 use Rattle.properties_format.specs.Computed.Split.{split_of}
 use Rattle.properties_format.specs.Escapes.{letter_u, is_hexadecimal, Four, four_text, are_hexadecimal}
 use Rattle.properties_format.proofs.Escapes.Digits.{hexadecimal-plain}

@@ -1,8 +1,8 @@
 -- Each line is blank, a comment or a pair, in exactly one way.
 use Rattle.std.proofs.Common.{rules, ◌≡◌, ◌≢◌, ℕ, true, false, List, [], ◌∷◌, ◌++◌, refl, ap, sym, ◌∙◌, inl, inr, append_assoc, append-nil, arith}
 use Rattle.std.proofs.lemmas.Bool.{cases_Bool}
-use Rattle.properties_format.specs.Text.{is_blank, is_comment_sign, is_separator, without_leading_blanks}
-use Rattle.properties_format.specs.Split.{Logical, blank, comment, pair, AreBlanks, begins, IsKey, IsBetween, nothing, blanks, separator, IsSplit}
+use Rattle.properties_format.specs.Text.{is_blank, is_comment_sign, is_separator, without_leading_blanks, begins}
+use Rattle.properties_format.specs.Split.{Logical, blank, comment, pair, AreBlanks, IsKey, IsBetween, nothing, blanks, separator, IsSplit}
 use Rattle.properties_format.specs.Computed.Split.{Cut, trimmed, cut_key, past_separator, pair_of, split_full, split_of}
 use Rattle.properties_format.proofs.Split.Blanks.{without_leading_blanks-only, without_leading_blanks-blanks, IsPast, without_leading_blanks-meets, trimmed-meets, trimmed-only}
 use Rattle.properties_format.proofs.Split.Keys.{ends_here, cut_key-only, IsCut, cut_key-meets}

@@ -3,9 +3,8 @@ use Rattle.std.proofs.Common.{arith, ◌≡◌, ◌≢◌, ℕ, List, [], ◌∷
 use Rattle.std.specs.Prelude.{unwrap_or}
 use Rattle.properties_format.specs.Text.{LineEnding}
 use Rattle.properties_format.specs.Encoding.{Encoding}
-use Rattle.properties_format.specs.Lines.{Ended}
+use Rattle.properties_format.specs.Lines.{Ended, joined}
 use Rattle.properties_format.specs.Computed.Cut.{decoded_line}
-use Rattle.properties_format.specs.Groups.{joined}
 use Rattle.properties_format.specs.Body.{HeldLine, as_lines}
 use Rattle.properties_format.specs.Items.{ignored}
 use Rattle.properties_format.specs.Computed.Items.{outcome_of}

@@ -3,14 +3,11 @@ use Rattle.std.proofs.Common.{◌≡◌, ◌≢◌, ℕ, ◌+◌, ◌==◌, ◌&
 use Rattle.std.proofs.lemmas.Bool.{cond_both, not-true}
 use Rattle.properties_format.specs.Text.{LineEnding, line_ending_text, is_blanks, is_empty}
 use Rattle.properties_format.specs.Encoding.{Encoding, begins_like_bom}
-use Rattle.properties_format.specs.Repertoire.{repertoire_of}
-use Rattle.properties_format.specs.Lines.{HoldsNoLineEnd, BeginsWithNoLoneLf}
+use Rattle.properties_format.specs.Settings.{repertoire_of, Settings}
+use Rattle.properties_format.specs.Lines.{HoldsNoLineEnd, BeginsWithNoLoneLf, IsWhole}
 use Rattle.properties_format.specs.Computed.Cut.{decoded_line}
-use Rattle.properties_format.specs.Groups.{IsWhole}
-use Rattle.properties_format.specs.Entries.{Content, comment, pair}
-use Rattle.properties_format.specs.Items.{given}
+use Rattle.properties_format.specs.Items.{Content, comment, pair, given}
 use Rattle.properties_format.specs.Computed.Items.{outcome_of}
-use Rattle.properties_format.specs.Settings.{Settings}
 use Rattle.properties_format.specs.Printing.{printed_key, printed_value, printed_text, encoded_text}
 use Rattle.properties_format.specs.Writing.{Call, comment_call, pair_call, is_accepted, settings_after_call, settings_after, lines_with, line_count_after, line_bytes, wrote, item_read_back, items_read_back, ArePrefixesClean, AreOfScalars, AreGoodSettings}
 use Rattle.properties_format.specs.Body.{HeldLine, AreGroupsOf, as_lines, group_bytes, groups_bytes, NoneHasKey}
@@ -21,7 +18,6 @@ use Rattle.properties_format.specs.EditLaws.{SettingAValueIsWritingAnew}
 use Rattle.properties_format.specs.Laws.{AreReadBack}
 use Rattle.properties_format.specs.Computed.Body.{is_pair_with}
 use Rattle.properties_format.specs.Computed.Edited.{last_place}
-use Rattle.properties_format.specs.Computed.Valued.{valued_at, value_set_in}
 use Rattle.properties_format.proofs.Encodings.ByteOrderMarks.{byte_order_mark-none}
 use Rattle.properties_format.proofs.Printing.Characters.{encoded_text-append, encoded_text-ascii, line_end-ascii}
 use Rattle.properties_format.proofs.ReadBack.Lines.{IsLineReadAs, comment-line, pair-line, joined-alone, settings_after_call-good, wrote-text}
@@ -40,7 +36,7 @@ use Rattle.properties_format.proofs.Valued.Lined.{AreLined, lined-groups}
 use Rattle.properties_format.proofs.Valued.Revalued.{text-own}
 use Rattle.properties_format.proofs.Valued.Separators.{added_line, added-pair, text-some}
 use Rattle.properties_format.proofs.Valued.Groups.{added-text, one-value}
-use Rattle.properties_format.proofs.Valued.Made.{value_set-only}
+use Rattle.properties_format.proofs.Valued.Made.{value_set-only, valued_at, value_set_in}
 
 -- Lined groups, the first of which isn't an empty line that an LF ends.
 abbrev AreLeft : Encoding → List (List HeldLine) → Type 0
@@ -153,7 +149,8 @@ setting-value_anew e s before key old after value r accepted on none result h =
     let (f, b) = parts e s before (pair_call key old ∷ after) r in
     let front = are-written e s 0 before ok f.settings f.prefixes f.scalars in
     let back = are-written e at (n + 1) after ok b.settings b.prefixes b.scalars.1 in
-    let p = added-pair _ (n == 0) key at.kv_separator old at.line_ending ok b.scalars.0.0 b.scalars.0.1 (record { good = b.settings.separator; signed = signed at key accepted }) in
+    let p = added-pair (repertoire_of e at) (n == 0) key at.kv_separator old at.line_ending ok b.scalars.0.0 b.scalars.0.1
+    (record { good = b.settings.separator; signed = signed at key accepted }) in
     let line : List ℕ → List HeldLine = λ v. added_line (repertoire_of e at) (n == 0) key at.kv_separator v at.line_ending ∷ [] in
     let last = empty_line e None ∷ [] in
     let later = back.groups ++ last ∷ [] in
@@ -171,7 +168,7 @@ setting-value_anew e s before key old after value r accepted on none result h =
     value_set-only (repertoire_of e at) (file old) key value result h.0 h.2
     ∙ ap (λ w. value_set_in w (repertoire_of e at) (file old) key value) whole
     ∙ ap₂ (λ b g. b ++ valued_at (repertoire_of e at) g key value (last_place key g)) (no-bom (file old) unmarked) (sym held)
-    ∙ ap (valued_at _ all key value) (last_place-some key front.groups _ later (old, p.has_pair) (back.none key _ none (empty-other e key, tt)))
+    ∙ ap (valued_at (repertoire_of e at) all key value) (last_place-some key front.groups _ later (old, p.has_pair) (back.none key _ none (empty-other e key, tt)))
     ∙ cond_both _ _ _ (λ w. w ≡ file value)
     (λ k. bytes old ∙ ap file (one-value key old value (line old) p.has_pair k))
     (λ k. ap (λ w. groups_bytes front.groups ++ w)

@@ -1,15 +1,14 @@
 -- The front of a pair: the computed front is the front of its group, and the only one.
-use Rattle.std.proofs.Common.{rules, ◌≡◌, ◌≢◌, ◌⊎◌, ◌<◌, ◌≤◌, ℕ, not, Bool, true, false, List, [], ◌∷◌, ◌++◌, arith}
-use Rattle.std.proofs.Common.{None, length, drop, refl, ap, ap₂, sym, ◌∙◌, inl, inr, arith, append_assoc, append-nil, length-append, subst}
+use Rattle.std.proofs.Common.{rules, ◌≡◌, ◌≢◌, ◌⊎◌, ◌<◌, ◌≤◌, ℕ, not, Bool, true, false, List, [], ◌∷◌, ◌++◌, arith, None, length, drop, refl, ap, ap₂, sym, ◌∙◌, inl, inr, append_assoc, append-nil, length-append, subst}
 use Rattle.std.specs.Prelude.{nat_le, if◌then◌else◌}
 use Rattle.std.proofs.Math.Seq.{drop-append_seam}
 use Rattle.std.proofs.lemmas.Bool.{cases_Bool, not-true}
 use Rattle.std.proofs.lemmas.List.{append_cancel_left}
-use Rattle.properties_format.specs.Text.{backslash, is_blank, without_leading_blanks}
+use Rattle.properties_format.specs.Text.{backslash, is_blank, without_leading_blanks, begins}
 use Rattle.properties_format.specs.Encoding.{Encoding}
 use Rattle.properties_format.specs.Cut.{IsDecodedLine}
-use Rattle.properties_format.specs.Groups.{is_open, is_comment_line, without_last, without_open_backslash, joined_after, joined}
-use Rattle.properties_format.specs.Split.{AreBlanks, begins, ends, IsBetween, IsPair}
+use Rattle.properties_format.specs.Lines.{is_open, is_comment_line, without_last, without_open_backslash, joined_after, joined}
+use Rattle.properties_format.specs.Split.{AreBlanks, ends, IsBetween, IsPair}
 use Rattle.properties_format.specs.Computed.Split.{ends_key}
 use Rattle.properties_format.specs.Computed.Cut.{decoded_line}
 use Rattle.properties_format.specs.Body.{HeldLine, as_lines, ending_bytes, group_bytes}

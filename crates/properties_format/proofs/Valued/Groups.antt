@@ -4,17 +4,16 @@ use Rattle.std.proofs.Common.{arith, ◌≡◌, ◌≢◌, ℕ, true, false, Lis
 use Rattle.std.specs.Prelude.{All}
 use Rattle.std.proofs.lemmas.Bool.{cases_Bool, cond-true, cond-false}
 use Rattle.properties_format.specs.Text.{scalar, LineEnding, lf, line_ending_text, is_blanks, is_empty}
-use Rattle.properties_format.specs.Repertoire.{Repertoire}
-use Rattle.properties_format.specs.Groups.{joined}
-use Rattle.properties_format.specs.Entries.{pair}
-use Rattle.properties_format.specs.Items.{given}
+use Rattle.properties_format.specs.Encoding.{Repertoire}
+use Rattle.properties_format.specs.Lines.{joined}
+use Rattle.properties_format.specs.Items.{pair, given}
 use Rattle.properties_format.specs.Printing.{encoded_text, printed_key, printed_value}
 use Rattle.properties_format.specs.Body.{HeldLine, as_lines, as_groups, held_in, AreGroupsOf, group_bytes, groups_bytes, ending_bytes, last_ending, NoneHasKey}
-use Rattle.properties_format.specs.Edited.{final_group, is_editable}
-use Rattle.properties_format.specs.Valued.{value_text, HasPair, IsThere, IsRevalued, ending_among, ending_in, separation_by, IsBodyValued}
+use Rattle.properties_format.specs.Edited.{final_group, is_editable, separation_by}
+use Rattle.properties_format.specs.Valued.{value_text, HasPair, IsThere, IsRevalued, ending_among, ending_in, IsBodyValued}
 use Rattle.properties_format.specs.Computed.Body.{held_groups_of}
 use Rattle.properties_format.specs.Computed.Edited.{KeyPlace, last_place}
-use Rattle.properties_format.specs.Computed.Valued.{last_between, separator_by, has_value, revalued_at, added_at, valued_at}
+use Rattle.properties_format.specs.Computed.Valued.{last_between, separator_by, has_value}
 use Rattle.properties_format.proofs.Items.Unique.{outcome_of-only}
 use Rattle.properties_format.proofs.Printing.Characters.{encoded_text-append}
 use Rattle.properties_format.proofs.Body.Groups.{IsLastFit, AreFit, group_bytes-append, groups_bytes-append, held-body, held_groups_of-meets}
@@ -22,15 +21,14 @@ use Rattle.properties_format.proofs.Edited.Fronts.{logical_lines}
 use Rattle.properties_format.proofs.Edited.LogicalLines.{pair-lines, none-lines}
 use Rattle.properties_format.proofs.Edited.Made.{last_place-none, last_place-some}
 use Rattle.properties_format.proofs.Valued.Fronts.{front_of-only}
-use Rattle.properties_format.proofs.Valued.Made.{group-decoded, has_value-true, new_separator-meets, valued-only}
-use Rattle.properties_format.proofs.Valued.Lined.{AreLined, groups-lined, lined-groups}
-use Rattle.properties_format.proofs.Valued.Lined.{fit-parts, fit-first, changed-lined, plain-lines, group-plain}
+use Rattle.properties_format.proofs.Valued.Made.{group-decoded, has_value-true, new_separator-meets, valued-only, revalued_at, valued_at}
+use Rattle.properties_format.proofs.Valued.Lined.{AreLined, groups-lined, lined-groups, fit-parts, fit-first, changed-lined, plain-lines, group-plain}
 use Rattle.properties_format.proofs.Valued.Revalued.{between_after, value_after, missing}
 use Rattle.properties_format.proofs.Valued.Pair.{after-bytes, new_line, changed-pair}
 use Rattle.properties_format.proofs.Valued.Separators.{added_bytes, added_line, added-pair, new_separator-fit}
 use Rattle.properties_format.proofs.Edited.AppendedPair.{appended_groups, appended-held, appended-lines, empty-other}
 use Rattle.properties_format.proofs.Edited.Closed.{closed-by, value-seam}
-use Rattle.properties_format.specs.LogicalLines.{AreLinesSet}
+use Rattle.properties_format.specs.Changed.{AreLinesSet}
 use Rattle.properties_format.proofs.Edited.Steps.{final_group-push, last_ending-push}
 
 -- ---- the body with a value set
@@ -143,7 +141,7 @@ added-text r between sep value h1 h2 = grind (arith)
 
 -- No pair has the key, and a new one is added.
 added-valued : (r : Repertoire) (source_body : List ℕ) (gs : List (List HeldLine)) (key value body : List ℕ) → is_editable r.encoding ≡ true → All scalar key
-    → All scalar value → AreGroupsOf r.encoding source_body gs → NoneHasKey key gs → body ≡ added_at r gs key value → IsValued r gs key value body
+    → All scalar value → AreGroupsOf r.encoding source_body gs → NoneHasKey key gs → body ≡ valued_at r gs key value None → IsValued r gs key value body
 added-valued r source_body gs key value body ok k v held none s =
     let l = groups-lined r.encoding source_body gs ok held in
     let by = ending_among lf (held_in gs) in
@@ -157,7 +155,7 @@ added-valued r source_body gs key value body ok k v held none s =
     let g = added_line r first key sep value by ∷ [] in
     let said = sym (outcome_of-only (joined (as_lines g)) (given (pair key value)) p.has_pair) in
     let groups = appended_groups r.encoding by by gs key value pb ok c p.plain p.some p.whole said in
-    let made : List ℕ → List ℕ = added_at r gs key in
+    let made : List ℕ → List ℕ = λ x. valued_at r gs key x None in
     let closed_bytes : groups_bytes (c.before ++ c.left) ≡ front = c.bytes ∙ ap (λ w. groups_bytes gs ++ separation_by (ending_in gs) w) (sym final) in
     let are : groups ≡ held_groups_of r.encoding body =
     appended-held r.encoding by by gs key value pb ok c p.plain p.some p.whole said body (s ∙ ap (λ w. (groups_bytes gs ++ separation_by (ending_in gs) w) ++ (pb ++ ending_in gs)) final) in

@@ -1,8 +1,7 @@
 -- The head of a line: the bytes of the characters up to a position in its text. There is only one such head.
 use Rattle.std.proofs.Common.{◌≡◌, ◌⊎◌, ◌<◌, ℕ, true, List, [], ◌∷◌, ◌++◌, length, take, refl, ap, sym, ◌∙◌, inl, inr, arith, append_assoc, append-nil, length-append, lit<}
 use Rattle.std.proofs.lemmas.List.{append_cancel_right}
-use Rattle.properties_format.specs.Text.{backslash}
-use Rattle.properties_format.specs.Pieces.{Piece, characters}
+use Rattle.properties_format.specs.Text.{backslash, Piece, characters}
 use Rattle.properties_format.specs.Encoding.{Encoding, IsPieces, IsAligned, ascii_bytes}
 use Rattle.properties_format.specs.Computed.Encoding.{pieces_of}
 use Rattle.properties_format.specs.Computed.Cut.{decoded_line}

@@ -1,8 +1,7 @@
 -- With ASCII-only output on, what is printed for a value or for a pair is ASCII, and the same in every encoding.
 use Rattle.std.proofs.Common.{rules, arith, ◌≡◌, ℕ, Bool, List, ◌++◌, sym, ◌∙◌, subst}
 use Rattle.properties_format.specs.Text.{is_blanks}
-use Rattle.properties_format.specs.Encoding.{Encoding}
-use Rattle.properties_format.specs.Repertoire.{ascii_in}
+use Rattle.properties_format.specs.Encoding.{Encoding, ascii_in}
 use Rattle.properties_format.specs.Settings.{IsGoodSeparator}
 use Rattle.properties_format.specs.Printing.{printed_key, encoded_text, printed_value}
 use Rattle.properties_format.specs.Edited.{pair_bytes}

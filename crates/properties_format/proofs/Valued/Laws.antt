@@ -1,12 +1,9 @@
 -- The laws of setting a value.
 use Rattle.std.proofs.Common.{rules, arith, ◌≡◌, ℕ, ◌+◌, true, List, [], ◌∷◌, ◌++◌, length, Option, Some, None, refl, ap, sym, ◌∙◌, inl, inr, subst}
 use Rattle.std.proofs.lemmas.Bool.{cases_Bool, cond-true, false_from_ne_true}
-use Rattle.properties_format.specs.Encoding.{Encoding, byte_order_mark}
-use Rattle.properties_format.specs.Repertoire.{Repertoire, in_encoding}
-use Rattle.properties_format.specs.Lines.{end}
-use Rattle.properties_format.specs.Groups.{joined}
-use Rattle.properties_format.specs.Entries.{pair, Entry, item, AreItems}
-use Rattle.properties_format.specs.Items.{Outcome, ignored, given, broken, IsOutcome}
+use Rattle.properties_format.specs.Encoding.{Encoding, byte_order_mark, Repertoire, in_encoding}
+use Rattle.properties_format.specs.Lines.{end, joined}
+use Rattle.properties_format.specs.Items.{pair, Entry, item, AreItems, Outcome, ignored, given, broken, IsOutcome}
 use Rattle.properties_format.specs.Computed.Items.{outcome_of, followed, items_of}
 use Rattle.properties_format.specs.Maps.{HasNoPair, IsLastValue, HasValue}
 use Rattle.properties_format.specs.Body.{HeldLine, as_lines, NoneHasKey, groups_bytes}
@@ -14,23 +11,24 @@ use Rattle.properties_format.specs.Edited.{bom_of, edited}
 use Rattle.properties_format.specs.Edits.{put}
 use Rattle.properties_format.specs.EditLaws.{SettingItsOwnValueChangesNothing, SettingAValueTwiceIsSettingItOnce, SettingAValueAgainChangesNothing, SettingAValueGivesIt}
 use Rattle.properties_format.specs.Valued.{HasPair, IsSetValueResult}
-use Rattle.properties_format.specs.Computed.Body.{held_groups_of, entries_in}
+use Rattle.properties_format.specs.Computed.Body.{held_groups_of}
 use Rattle.properties_format.specs.Computed.Edited.{KeyPlace, last_place}
-use Rattle.properties_format.specs.Computed.Valued.{has_value, revalued_at, valued_at, value_set, set_value_result}
+use Rattle.properties_format.specs.Computed.Valued.{has_value}
 use Rattle.properties_format.specs.Laws.{HasOne}
 use Rattle.properties_format.proofs.Laws.{one}
 use Rattle.properties_format.proofs.Items.Unique.{items_of-meets, items_of-only, outcome_of-meets, outcome_of-only}
 use Rattle.properties_format.proofs.Maps.{value_in-only}
 use Rattle.properties_format.proofs.Body.Groups.{held_groups_of-meets, held-body}
-use Rattle.properties_format.proofs.Body.Numbers.{items_of-groups}
+use Rattle.properties_format.proofs.Body.Numbers.{items_of-groups, entries_in}
 use Rattle.properties_format.proofs.Edited.Made.{last_place-meets}
 use Rattle.properties_format.proofs.Edited.ByteOrderMarks.{source-whole}
 use Rattle.properties_format.proofs.Changed.Laws.{IsReadable, value_set-contents}
 use Rattle.properties_format.proofs.Changed.Read.{readable}
 use Rattle.properties_format.proofs.EditLaws.{result-made, same-results, maps-differ, set-differs}
-use Rattle.properties_format.proofs.Valued.Made.{HasPair-test, value_set-only, set_value_result-meets, set_value_result-only}
+use Rattle.properties_format.proofs.Valued.Made.{HasPair-test, value_set-only, set_value_result-meets, set_value_result-only, revalued_at, valued_at, value_set}
 use Rattle.properties_format.proofs.Valued.Groups.{IsNotAt, one-value}
 use Rattle.properties_format.proofs.Valued.Read.{set_value-reads, value_set-again}
+use Rattle.properties_format.proofs.Edited.Results.{result_of}
 
 -- ---- the value of a key in a source
 
@@ -129,7 +127,8 @@ setting-value_twice t source key first second k v w other between h result =
     let r = readable t.encoding source h.0 h.1 in
     let next = (value_set-contents t source key first between r k v h.2).readable in
     let bytes = value_set-again t source key first second between h.0 k v h.2 (search (rules, false_from_ne_true, place-has)) in
-    let same : set_value_result t between key second ≡ set_value_result t source key second = search (result-made) in
+    let same : result_of t.encoding between (value_set t between key second)
+    ≡ result_of t.encoding source (value_set t source key second) = search (result-made) in
     same-results _ _ (one-value_set t between key second) (one-value_set t source key second) same result
 
 -- Setting a value a second time changes no byte.

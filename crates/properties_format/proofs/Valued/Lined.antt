@@ -2,18 +2,16 @@
 use Rattle.std.proofs.Common.{arith, rules, ◌≡◌, ◌≢◌, ℕ, true, List, [], ◌∷◌, ◌++◌, Option, Some, None, refl, ap, ap₂, sym, ◌∙◌, inl, inr, append_assoc, append-nil, subst}
 use Rattle.properties_format.specs.Text.{LineEnding, cr}
 use Rattle.properties_format.specs.Encoding.{Encoding}
-use Rattle.properties_format.specs.Lines.{Ended, Lines, end, HoldsNoLineEnd, BeginsWithNoLoneLf, AreLines, IsLines}
+use Rattle.properties_format.specs.Lines.{Ended, Lines, end, HoldsNoLineEnd, BeginsWithNoLoneLf, AreLines, IsLines, IsWhole, IsGroups, lines_in}
 use Rattle.properties_format.specs.Cut.{IsCut}
 use Rattle.properties_format.specs.Computed.Cut.{decoded_line}
-use Rattle.properties_format.specs.Groups.{IsWhole, IsGroups, lines_in}
 use Rattle.properties_format.specs.Body.{HeldLine, as_lines, as_groups, held_in, AreGroupsOf, groups_bytes, last_ending}
 use Rattle.properties_format.specs.Edited.{is_editable}
 use Rattle.properties_format.specs.Computed.Body.{held_of}
 use Rattle.properties_format.proofs.Lines.Only.{lines_of-only}
 use Rattle.properties_format.proofs.Cut.Meets.{cut_of-meets}
 use Rattle.properties_format.proofs.Body.Decoded.{IsCut-lines, cut_of-lines}
-use Rattle.properties_format.proofs.Body.Groups.{held_of-meets, held_of-only, as_lines-append, IsLastFit, AreFit, fit, held-last}
-use Rattle.properties_format.proofs.Body.Groups.{held_ended, cut-off, lines-front, lines-back, held-bytes, groups-bytes, fit-some}
+use Rattle.properties_format.proofs.Body.Groups.{held_of-meets, held_of-only, as_lines-append, IsLastFit, AreFit, fit, held-last, held_ended, cut-off, lines-front, lines-back, held-bytes, groups-bytes, fit-some}
 
 -- Lined groups: their lines are lines of a text, each decoded by itself; all groups but the last are whole; and the
 -- last is whole or ends open.

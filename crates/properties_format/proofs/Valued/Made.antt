@@ -2,30 +2,28 @@
 use Rattle.std.proofs.Common.{arith, rules, ◌≡◌, ℕ, true, List, [], ◌∷◌, ◌++◌, Option, Some, None, refl, ap, sym, ◌∙◌, inl, inr}
 use Rattle.std.proofs.lemmas.Bool.{cases_Bool, cond-false, false_from_ne_true, cond-true}
 use Rattle.std.proofs.lemmas.Slice.Eq.{bytes_eq-Decides}
-use Rattle.properties_format.specs.Encoding.{Encoding, byte_order_mark}
-use Rattle.properties_format.specs.Repertoire.{Repertoire, in_encoding}
-use Rattle.properties_format.specs.Lines.{Ended}
-use Rattle.properties_format.specs.Groups.{joined}
+use Rattle.properties_format.specs.Encoding.{Encoding, byte_order_mark, Repertoire, in_encoding, InForce}
+use Rattle.properties_format.specs.Lines.{Ended, joined}
 use Rattle.properties_format.specs.Split.{Logical, IsPair}
 use Rattle.properties_format.specs.Computed.Split.{split_of}
-use Rattle.properties_format.specs.Entries.{pair}
-use Rattle.properties_format.specs.Items.{given}
+use Rattle.properties_format.specs.Items.{pair, given}
 use Rattle.properties_format.specs.Computed.Items.{outcome_of}
-use Rattle.properties_format.specs.Body.{HeldLine, AreHeld, AreGroupsOf, as_lines, held_in, groups_bytes, HasKey}
-use Rattle.properties_format.specs.Edited.{bom_of, is_editable, EditResult}
-use Rattle.properties_format.specs.Valued.{HasPair, NoPairs, IsNewSeparator, IsBodyValued, IsValueSet, IsSetValueResult}
+use Rattle.properties_format.specs.Body.{HeldLine, AreHeld, AreGroupsOf, as_lines, held_in, groups_bytes, HasKey, ending_bytes, last_ending}
+use Rattle.properties_format.specs.Edited.{bom_of, is_editable, EditResult, final_group, separation_by}
+use Rattle.properties_format.specs.Valued.{HasPair, NoPairs, IsNewSeparator, IsBodyValued, IsValueSet, IsSetValueResult, value_text, ending_in, new_pair_bytes}
 use Rattle.properties_format.specs.Computed.Body.{held_groups_of}
 use Rattle.properties_format.specs.Computed.Edited.{KeyPlace, last_place}
-use Rattle.properties_format.specs.Computed.Valued.{front_of, between_of, between_if_pair, or_else, last_between, separator_by, is_pair_to, has_value, revalued_at, valued_at, value_set}
-use Rattle.properties_format.specs.Computed.Valued.{set_value_result}
+use Rattle.properties_format.specs.Computed.Valued.{front_of, between_of, between_if_pair, or_else, last_between, separator_by, is_pair_to, has_value}
 use Rattle.properties_format.proofs.Items.Unique.{outcome_of-meets, outcome_of-only}
 use Rattle.properties_format.proofs.Split.Unique.{split_of-meets, split_of-only}
 use Rattle.properties_format.proofs.Cut.Byline.{decoded_line-only}
 use Rattle.properties_format.proofs.Body.Groups.{held_groups_of-meets, held_groups_of-only}
 use Rattle.properties_format.proofs.Edited.Made.{IsPlace, last_place-meets, last_place-none, last_place-some}
-use Rattle.properties_format.proofs.Edited.Results.{result_of-meets, result_of-only}
+use Rattle.properties_format.proofs.Edited.Results.{result_of-meets, result_of-only, result_of}
 use Rattle.properties_format.proofs.Valued.Parts.{between_in-pair}
 use Rattle.properties_format.proofs.Valued.Fronts.{AreDecoded, front_of-meets, front_of-only}
+use Rattle.properties_format.specs.Printing.{encoded_text}
+use Rattle.std.specs.Prelude.{if◌then◌else◌}
 
 -- ---- the lines of a body are decoded
 
@@ -147,6 +145,29 @@ new_separator-meets groups key = of-last (last_pair groups)
 
 -- ---- setting a value
 
+-- the body in which the pair at this place gets the value
+abbrev pub revalued_at : Repertoire → List ℕ → KeyPlace → List ℕ
+revalued_at r value p =
+    groups_bytes p.before
+    ++ (front_of r.encoding p.group ++ (encoded_text r.encoding (value_text r (between_of p.group) value) ++ (ending_bytes (last_ending p.group) ++ groups_bytes p.after)))
+
+-- the body with the value set, given the place of the last pair with the key, if there is one
+abbrev pub valued_at : Repertoire → List (List HeldLine) → List ℕ → List ℕ → Option KeyPlace → List ℕ
+valued_at r groups key value (Some p) = if has_value value p.group then groups_bytes groups else revalued_at r value p
+valued_at r groups key value None =
+    let front : List ℕ = groups_bytes groups ++ separation_by (ending_in groups) (final_group groups) in
+    front ++ new_pair_bytes r front key (separator_by key (last_between groups)) value (ending_in groups)
+
+-- the source with the value set, given the encoding in force and the body
+abbrev pub value_set_in : InForce → Repertoire → List ℕ → List ℕ → List ℕ → List ℕ
+value_set_in f r source key value =
+    let groups = held_groups_of f.encoding f.body in
+    bom_of source ++ valued_at (in_encoding r f.encoding) groups key value (last_place key groups)
+
+-- the source with the value set, given the requested encoding
+abbrev pub value_set : Repertoire → List ℕ → List ℕ → List ℕ → List ℕ
+value_set r source key value = value_set_in (byte_order_mark r.encoding source) r source key value
+
 -- The group of a pair is a pair as it is written.
 pub raw-pair : (key : List ℕ) (g : List HeldLine) → HasKey key g → (k : List ℕ) × (v : List ℕ) × IsPair (joined (as_lines g)) k v
 raw-pair key g (value, h) = (h.raw_key, h.raw_value, h.split)
@@ -222,10 +243,11 @@ value_set-only r source key value result ok h =
     ∙ ap (λ v. bom_of source ++ valued_at (in_encoding r f.encoding) v key value (last_place key v)) (held_groups_of-only f.encoding f.body h.groups h.held)
 
 -- What is computed is a result of setting a value.
-pub set_value_result-meets : (r : Repertoire) (source key value : List ℕ) → IsSetValueResult r source key value (set_value_result r source key value)
+pub set_value_result-meets : (r : Repertoire) (source key value : List ℕ)
+    → IsSetValueResult r source key value (result_of r.encoding source (value_set r source key value))
 set_value_result-meets r source key value = search (rules, result_of-meets, value_set-meets)
 
 -- No other result is one of setting a value.
 pub set_value_result-only : (t : Repertoire) (source key value : List ℕ) (r : EditResult) → IsSetValueResult t source key value r
-    → r ≡ set_value_result t source key value
+    → r ≡ result_of t.encoding source (value_set t source key value)
 set_value_result-only t source key value r h = search (rules, result_of-only, value_set-only)

@@ -2,8 +2,7 @@
 -- appears.
 use Rattle.std.proofs.Common.{◌≡◌, ◌<◌, ℕ, true, false, List, [], ◌∷◌, ◌++◌, ap, sym, ◌∙◌, inl, inr, append_assoc, append-nil, arith}
 use Rattle.properties_format.specs.Text.{LineEnding, lf, line_ending_text, is_blanks}
-use Rattle.properties_format.specs.Encoding.{Encoding, byte_order_mark, begins_like_bom}
-use Rattle.properties_format.specs.Repertoire.{Repertoire, in_encoding}
+use Rattle.properties_format.specs.Encoding.{Encoding, byte_order_mark, begins_like_bom, Repertoire, in_encoding}
 use Rattle.properties_format.specs.Printing.{encoded_text, printed_key, printed_value}
 use Rattle.properties_format.specs.Body.{HeldLine, held_in, ending_bytes, group_bytes, groups_bytes, last_ending}
 use Rattle.properties_format.specs.Edited.{is_editable}

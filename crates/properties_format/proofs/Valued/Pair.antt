@@ -4,12 +4,10 @@ use Rattle.std.proofs.Common.{rules, arith, ◌≡◌, ◌≢◌, ℕ, true, fal
 use Rattle.std.specs.Prelude.{All}
 use Rattle.std.proofs.lemmas.List.Elements.{recursion_from_All}
 use Rattle.properties_format.specs.Text.{scalar, equals_sign, LineEnding, is_blanks}
-use Rattle.properties_format.specs.Encoding.{Encoding}
-use Rattle.properties_format.specs.Repertoire.{Repertoire}
-use Rattle.properties_format.specs.Lines.{HoldsNoLineEnd}
+use Rattle.properties_format.specs.Encoding.{Encoding, Repertoire}
+use Rattle.properties_format.specs.Lines.{HoldsNoLineEnd, is_open, is_comment_line, IsWhole, joined}
 use Rattle.properties_format.specs.Cut.{IsDecodedLine}
 use Rattle.properties_format.specs.Computed.Cut.{decoded_line}
-use Rattle.properties_format.specs.Groups.{is_open, is_comment_line, IsWhole, joined}
 use Rattle.properties_format.specs.Split.{Logical, AreBlanks}
 use Rattle.properties_format.specs.Escapes.{Means}
 use Rattle.properties_format.specs.Printing.{encoded_text}
@@ -29,8 +27,7 @@ use Rattle.properties_format.proofs.Body.Groups.{IsLastFit}
 use Rattle.properties_format.proofs.Valued.Heads.{ascii-among}
 use Rattle.properties_format.proofs.Valued.Fronts.{open-past, open-indent, joined_by, is_first_after, front-unmarked, front-text}
 use Rattle.properties_format.proofs.ReadBack.Values.{value-loose, loose-means, loosely-plain, loosely-closed, value-begins}
-use Rattle.properties_format.proofs.Valued.Revalued.{open-closed, added-closed, between_after, value_after, missing, value_text-parts}
-use Rattle.properties_format.proofs.Valued.Revalued.{between_after-parts, pair-anew, longer-joined, longer-whole, text-own, after-front}
+use Rattle.properties_format.proofs.Valued.Revalued.{open-closed, added-closed, between_after, value_after, missing, value_text-parts, between_after-parts, pair-anew, longer-joined, longer-whole, text-own, after-front}
 use Rattle.properties_format.proofs.Encodings.PieceEnds.{no-front}
 
 -- ---- what is missing between key and value

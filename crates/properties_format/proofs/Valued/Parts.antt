@@ -2,9 +2,9 @@
 -- value.
 use Rattle.std.proofs.Common.{◌≡◌, ℕ, ◌-◌, true, false, List, ◌++◌, length, take, ap, ap₂, ◌∙◌, arith, append_assoc, length-append}
 use Rattle.std.proofs.Math.Seq.{take-append_seam}
-use Rattle.properties_format.specs.Text.{is_comment_sign, without_leading_blanks}
-use Rattle.properties_format.specs.Groups.{is_comment_line}
-use Rattle.properties_format.specs.Split.{begins, IsPair}
+use Rattle.properties_format.specs.Text.{is_comment_sign, without_leading_blanks, begins}
+use Rattle.properties_format.specs.Lines.{is_comment_line}
+use Rattle.properties_format.specs.Split.{IsPair}
 use Rattle.properties_format.specs.Computed.Split.{Cut, cut_key}
 use Rattle.properties_format.specs.Computed.Valued.{without_end, after_key, written_value, between_in, before_value}
 use Rattle.properties_format.proofs.Split.Blanks.{without_leading_blanks-only}

@@ -2,18 +2,15 @@
 use Rattle.std.proofs.Common.{rules, ◌≡◌, ℕ, true, List, [], ◌∷◌, ◌++◌, refl, ap, ap₂, sym, ◌∙◌, inl, inr, append_assoc, subst, All}
 use Rattle.std.proofs.lemmas.List.{append_cancel_right}
 use Rattle.properties_format.specs.Text.{scalar}
-use Rattle.properties_format.specs.Encoding.{Encoding, InForce, byte_order_mark}
-use Rattle.properties_format.specs.Repertoire.{Repertoire, in_encoding}
+use Rattle.properties_format.specs.Encoding.{Encoding, InForce, byte_order_mark, Repertoire, in_encoding}
 use Rattle.properties_format.specs.Printing.{encoded_text}
 use Rattle.properties_format.specs.Body.{HasKey, HeldLine, NoneHasKey, group_bytes, groups_bytes, ending_bytes, last_ending}
-use Rattle.properties_format.specs.Edited.{bom_of, final_group, edited, is_editable}
+use Rattle.properties_format.specs.Edited.{bom_of, final_group, edited, is_editable, separation_by}
 use Rattle.properties_format.specs.Edits.{put}
 use Rattle.properties_format.specs.Changed.{IsSetIn, map_edited, AreOthersThanLast, ReadsAfter, KeepsOthers}
-use Rattle.properties_format.specs.Valued.{IsAlikeAround, value_text, ending_in, separation_by, new_pair_bytes, IsFrontOf, IsValueSet, IsSetValueResult, KeepsFront}
-use Rattle.properties_format.specs.Computed.Body.{held_groups_of}
+use Rattle.properties_format.specs.Valued.{IsAlikeAround, value_text, ending_in, new_pair_bytes, IsFrontOf, IsValueSet, IsSetValueResult, KeepsFront}
+use Rattle.properties_format.specs.Computed.Body.{held_groups_of, unended_bytes}
 use Rattle.properties_format.specs.Computed.Edited.{last_place}
-use Rattle.properties_format.specs.Computed.Parts.{unended_bytes}
-use Rattle.properties_format.specs.Computed.Valued.{valued_at, value_set}
 use Rattle.properties_format.proofs.Body.Groups.{held_groups_of-only, held-body, groups_bytes-append}
 use Rattle.properties_format.proofs.Edited.ByteOrderMarks.{source-whole}
 use Rattle.properties_format.proofs.Changed.Laws.{value_set-contents}
@@ -22,7 +19,7 @@ use Rattle.properties_format.proofs.Changed.Maps.{map-edited}
 use Rattle.properties_format.proofs.Changed.Occur.{all-kept, occur-after, occur-alone, others-kept}
 use Rattle.properties_format.proofs.InTurn.Lines.{bytes-unended}
 use Rattle.properties_format.proofs.Valued.Lined.{last_ending-append}
-use Rattle.properties_format.proofs.Valued.Made.{group-decoded}
+use Rattle.properties_format.proofs.Valued.Made.{group-decoded, valued_at, value_set}
 use Rattle.properties_format.proofs.Valued.Fronts.{front_of-meets}
 use Rattle.properties_format.proofs.Valued.Groups.{IsNotAt, IsValued, body-valued}
 use Rattle.properties_format.proofs.Valued.Marks.{front-bytes, value_set-in_force}
@@ -177,7 +174,7 @@ value_set-keeps_front t source key value result ok h =
           )
       | inr (inr r) ↦
           let separation = separation_by (ending_in h.groups) (final_group h.groups) in
-          let more = separation ++ new_pair_bytes _ _ key r.separator value _ in (
+          let more = separation ++ new_pair_bytes (in_encoding t f.encoding) _ key r.separator value _ in (
             h.groups,
             h.held,
             inr (

@@ -3,12 +3,11 @@
 use Rattle.std.proofs.Common.{rules, arith, ◌≡◌, ◌≢◌, ◌⊎◌, ◌<◌, ℕ, ◌==◌, not, Bool, true, false, List, [], ◌∷◌, ◌++◌, Option, refl, ap, sym, ◌∙◌, inl, inr, append_assoc, append-nil, subst, eqb-true}
 use Rattle.std.specs.Prelude.{if◌then◌else◌}
 use Rattle.std.proofs.lemmas.Bool.{cases_Bool}
-use Rattle.properties_format.specs.Text.{backslash, equals_sign, LineEnding, is_blank, is_blanks, is_comment_sign}
-use Rattle.properties_format.specs.Encoding.{Encoding}
-use Rattle.properties_format.specs.Repertoire.{Repertoire}
+use Rattle.properties_format.specs.Text.{backslash, equals_sign, LineEnding, is_blank, is_blanks, is_comment_sign, begins}
+use Rattle.properties_format.specs.Encoding.{Encoding, Repertoire}
 use Rattle.properties_format.specs.Computed.Cut.{decoded_line}
-use Rattle.properties_format.specs.Groups.{is_open, is_comment_line, EndsClosed, AreOpen, IsWhole, joined}
-use Rattle.properties_format.specs.Split.{AreBlanks, begins, ends, KeyUnit, plain, escaped, last, units_before, AreUnits, IsBetween, nothing, blanks, separator, IsPair}
+use Rattle.properties_format.specs.Lines.{is_open, is_comment_line, EndsClosed, AreOpen, IsWhole, joined}
+use Rattle.properties_format.specs.Split.{AreBlanks, ends, KeyUnit, plain, escaped, last, units_before, AreUnits, IsBetween, nothing, blanks, separator, IsPair}
 use Rattle.properties_format.specs.Computed.Split.{ends_key}
 use Rattle.properties_format.specs.Printing.{encoded_text, printed_value}
 use Rattle.properties_format.specs.Body.{HeldLine, as_lines}
@@ -26,8 +25,7 @@ use Rattle.properties_format.proofs.ReadBack.Bytes.{AreWritable, text-decoded}
 use Rattle.properties_format.proofs.Body.Groups.{IsLastFit}
 use Rattle.properties_format.proofs.Edited.Pair.{alone-whole, editable-own}
 use Rattle.properties_format.proofs.Valued.Heads.{ascii-end, ascii-among}
-use Rattle.properties_format.proofs.Valued.Fronts.{indented, open-indent, indent-head, shut-closed, joined_by, joined-by, is_first_after, joined_by-append}
-use Rattle.properties_format.proofs.Valued.Fronts.{right-some, ends-last, ends-right, ends_key-ascii, between-end, front-text, pair-some}
+use Rattle.properties_format.proofs.Valued.Fronts.{indented, open-indent, indent-head, shut-closed, joined_by, joined-by, is_first_after, joined_by-append, right-some, ends-last, ends-right, ends_key-ascii, between-end, front-text, pair-some}
 use Rattle.properties_format.proofs.Encodings.PieceEnds.{no-front, none-right}
 
 -- ---- whether two texts together are open

@@ -4,12 +4,10 @@ use Rattle.std.specs.Prelude.{All}
 use Rattle.std.proofs.lemmas.Bool.{cases_Bool, cond_both}
 use Rattle.std.proofs.lemmas.List.Elements.{recursion_from_All}
 use Rattle.properties_format.specs.Text.{scalar, equals_sign, LineEnding, is_blank, is_blanks, is_separator, is_empty}
-use Rattle.properties_format.specs.Encoding.{Encoding}
-use Rattle.properties_format.specs.Repertoire.{Repertoire}
-use Rattle.properties_format.specs.Lines.{HoldsNoLineEnd}
+use Rattle.properties_format.specs.Encoding.{Encoding, Repertoire}
+use Rattle.properties_format.specs.Lines.{HoldsNoLineEnd, is_open, IsWhole, joined}
 use Rattle.properties_format.specs.Cut.{IsDecodedLine}
 use Rattle.properties_format.specs.Computed.Cut.{decoded_line}
-use Rattle.properties_format.specs.Groups.{is_open, IsWhole, joined}
 use Rattle.properties_format.specs.Split.{AreBlanks, IsBetween, nothing, blanks, separator, IsPair}
 use Rattle.properties_format.specs.Escapes.{Spelling, spelling_character, spellings_before}
 use Rattle.properties_format.specs.Settings.{IsGoodSeparator}

@@ -6,7 +6,7 @@ use Rattle.std.proofs.Math.Seq.{drop-append_seam}
 use Rattle.std.proofs.lemmas.Bool.{cases_Bool}
 use Rattle.properties_format.specs.Text.{backslash}
 use Rattle.properties_format.specs.Encoding.{Encoding}
-use Rattle.properties_format.specs.Groups.{is_open}
+use Rattle.properties_format.specs.Lines.{is_open}
 use Rattle.properties_format.specs.Split.{ends}
 use Rattle.properties_format.specs.Computed.Split.{ends_key}
 use Rattle.properties_format.specs.Computed.Cut.{decoded_line}

@@ -1,15 +1,13 @@
 -- A group without its last line ending: its bytes are one group, with the same parts as before.
 use Rattle.std.proofs.Common.{rules, arith, ◌≡◌, ◌⊎◌, ℕ, true, List, [], ◌∷◌, ◌++◌, Some, None, refl, ap, sym, ◌∙◌, append-nil, subst}
 use Rattle.properties_format.specs.Encoding.{Encoding}
-use Rattle.properties_format.specs.Lines.{Ended, AreLines}
-use Rattle.properties_format.specs.Groups.{IsWhole, joined}
+use Rattle.properties_format.specs.Lines.{Ended, AreLines, IsWhole, joined}
 use Rattle.properties_format.specs.Split.{IsPair}
 use Rattle.properties_format.specs.Body.{HeldLine, as_lines, held_in, AreGroupsOf, ending_bytes, group_bytes, groups_bytes}
 use Rattle.properties_format.specs.Edited.{is_editable}
 use Rattle.properties_format.specs.Valued.{IsFrontOf}
-use Rattle.properties_format.specs.Computed.Body.{held_of, held_groups_of}
+use Rattle.properties_format.specs.Computed.Body.{held_of, held_groups_of, unended_bytes}
 use Rattle.properties_format.specs.Computed.Cut.{decoded_line}
-use Rattle.properties_format.specs.Computed.Parts.{unended_bytes}
 use Rattle.properties_format.specs.Computed.Valued.{between_in, front_of, between_of, is_pair_to, has_value}
 use Rattle.properties_format.specs.Computed.Items.{outcome_of}
 use Rattle.properties_format.proofs.Body.Groups.{EndsOpen, IsLastFit, held_ended, cut-off, held_groups_of-only, lines-front, lines-back, fit-some}
@@ -36,9 +34,8 @@ unended-held e ls last = refl
 
 -- the ended lines except the last
 abbrev all_but_last : List Ended → List Ended
-all_but_last [] = []
-all_but_last (l ∷ []) = []
 all_but_last (l ∷ m ∷ ls) = l ∷ all_but_last (m ∷ ls)
+all_but_last ls = []
 
 -- the text of the last
 abbrev last_text : List Ended → List ℕ

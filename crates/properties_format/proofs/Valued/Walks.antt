@@ -1,7 +1,6 @@
 -- A walk along the lines of a pair's group to the end of its front. It keeps track of what is left of the text before
 -- the value, by sizes in UTF-8.
-use Rattle.std.proofs.Common.{rules, ◌≡◌, ◌≢◌, ◌<◌, ◌≤◌, ℕ, ◌+◌, Bool, true, false, List, [], ◌∷◌, ◌++◌, length}
-use Rattle.std.proofs.Common.{take, drop, refl, inl, inr, ap, sym, ◌∙◌, arith, append_assoc, append-nil, length-append, subst}
+use Rattle.std.proofs.Common.{rules, ◌≡◌, ◌≢◌, ◌<◌, ◌≤◌, ℕ, ◌+◌, Bool, true, false, List, [], ◌∷◌, ◌++◌, length, take, drop, refl, inl, inr, ap, sym, ◌∙◌, arith, append_assoc, append-nil, length-append, subst}
 use Rattle.std.specs.Prelude.{nat_le, if◌then◌else◌}
 use Rattle.std.specs.Str.{IsUtf8, chars, all_scalars, encode_utf8_all}
 use Rattle.std.proofs.Math.Utf8 as std_utf8
@@ -11,17 +10,16 @@ use Rattle.std.proofs.lemmas.List.{append_cancel_left, append_cancel_right}
 use Rattle.std.proofs.lemmas.Str.{encodes-append, length-le-encodes, encodes-chars, chars-encodes, scalars-chars}
 use Rattle.properties_format.specs.Text.{backslash}
 use Rattle.properties_format.specs.Encoding.{Encoding}
-use Rattle.properties_format.specs.Groups.{is_open, joined}
+use Rattle.properties_format.specs.Lines.{is_open, joined}
 use Rattle.properties_format.specs.Split.{AreBlanks, IsPair}
 use Rattle.properties_format.specs.Computed.Cut.{decoded_line}
 use Rattle.properties_format.specs.Body.{HeldLine, as_lines}
 use Rattle.properties_format.specs.Edited.{is_editable}
-use Rattle.properties_format.specs.Computed.Parts.{unended_bytes}
+use Rattle.properties_format.specs.Computed.Body.{unended_bytes}
 use Rattle.properties_format.specs.Computed.Valued.{without_indent, added_by, before_value, front_in, front_of, between_of, ascii_count, after_ascii}
 use Rattle.properties_format.proofs.Body.Decoded.{decoded-nil}
 use Rattle.properties_format.proofs.Valued.Parts.{pair-line, before_value-pair}
-use Rattle.properties_format.proofs.Valued.Fronts.{indented, open-indent, open_backslash, shut-whole, joined_by, joined-by}
-use Rattle.properties_format.proofs.Valued.Fronts.{split-longer, MayEnd, may-later, AreDecoded, pair-end, pair-some, pair-unmarked, no_lines-no_pair, front_of-meets}
+use Rattle.properties_format.proofs.Valued.Fronts.{indented, open-indent, open_backslash, shut-whole, joined_by, joined-by, split-longer, MayEnd, may-later, AreDecoded, pair-end, pair-some, pair-unmarked, no_lines-no_pair, front_of-meets}
 use Rattle.properties_format.proofs.Valued.Steps.{front_size-inside}
 use Rattle.properties_format.proofs.Valued.Read.{front-unended}
 use Rattle.properties_format.proofs.Encodings.PieceEnds.{no-front}

@@ -1,14 +1,13 @@
--- The groups of a body, computed line by line, and its items, computed from its groups.
-use Rattle.std.specs.Prelude.{ℕ, ◌+◌, length, Bool, true, false, List, [], ◌∷◌, ◌++◌, Some, None, bytes_eq}
+-- The groups of a body, computed line by line, and the parts of a group.
+use Rattle.std.specs.Prelude.{ℕ, Bool, true, false, List, [], ◌∷◌, ◌++◌, Some, None, bytes_eq, if◌then◌else◌, Option}
 use Rattle.properties_format.specs.Encoding.{Encoding}
-use Rattle.properties_format.specs.Lines.{Ended}
+use Rattle.properties_format.specs.Lines.{Ended, joined}
 use Rattle.properties_format.specs.Computed.Cut.{cut_of, decoded_line}
-use Rattle.properties_format.specs.Groups.{joined}
-use Rattle.properties_format.specs.Computed.Groups.{closes}
-use Rattle.properties_format.specs.Entries.{comment, pair, Entry}
-use Rattle.properties_format.specs.Items.{Outcome, ignored, given, broken}
-use Rattle.properties_format.specs.Computed.Items.{outcome_of, followed}
-use Rattle.properties_format.specs.Body.{HeldLine, as_lines}
+use Rattle.properties_format.specs.Computed.Lines.{closes, ends_in_cr}
+use Rattle.properties_format.specs.Items.{pair, Outcome, given}
+use Rattle.properties_format.specs.Computed.Items.{outcome_of}
+use Rattle.properties_format.specs.Body.{HeldLine, as_lines, ending_bytes}
+use Rattle.properties_format.specs.Text.{LineEnding, lf, cr}
 
 -- the lines of bytes, each decoded by itself
 abbrev pub held_of : Encoding → List Ended → List ℕ → List HeldLine
@@ -39,16 +38,26 @@ held_groups_of e body = held_groups_after [] (held_lines_of e body)
 
 -- whether the outcome is a pair with the key
 abbrev pub is_pair_with : List ℕ → Outcome → Bool
-is_pair_with key ignored = false
-is_pair_with key (given (comment text)) = false
 is_pair_with key (given (pair k v)) = bytes_eq k key
-is_pair_with key (broken kind) = false
+is_pair_with key outcome = false
 
 -- whether the group is a pair with the key
 abbrev pub has_key : List ℕ → List HeldLine → Bool
 has_key key group = is_pair_with key (outcome_of (joined (as_lines group)))
 
--- the entries of the groups, each with the number of its first line; the first group starts at line n
-abbrev pub entries_in : ℕ → List (List HeldLine) → List Entry
-entries_in n [] = []
-entries_in n (g ∷ gs) = followed n (outcome_of (joined (as_lines g))) (entries_in (n + length g) gs)
+-- ---- The parts of a group: its bytes up to the last line ending, and that ending.
+
+-- the bytes of a group up to its last line ending
+abbrev pub unended_bytes : List HeldLine → List ℕ
+unended_bytes [] = []
+unended_bytes (h ∷ []) = h.bytes
+unended_bytes (h ∷ i ∷ hs) = h.bytes ++ (ending_bytes h.ending ++ unended_bytes (i ∷ hs))
+
+-- the key of an outcome, if it is a pair
+abbrev pub outcome_key : Outcome → Option (List ℕ)
+outcome_key (given (pair key value)) = Some key
+outcome_key outcome = None
+
+-- a line ending that doesn't form a CR LF with these bytes before it
+abbrev pub safe_ending : List ℕ → LineEnding
+safe_ending bytes = if ends_in_cr bytes then cr else lf

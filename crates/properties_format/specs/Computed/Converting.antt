@@ -1,6 +1,6 @@
 -- The units of a text, and what becomes of them, computed from the first character.
 use Rattle.std.specs.Prelude.{ℕ, zero, suc, pred, Bool, List, [], ◌∷◌, length, Some, None}
-use Rattle.properties_format.specs.Repertoire.{Repertoire}
+use Rattle.properties_format.specs.Encoding.{Repertoire}
 use Rattle.properties_format.specs.Escapes.{spelling_text}
 use Rattle.properties_format.specs.Computed.Escapes.{first_spelling}
 use Rattle.properties_format.specs.Converting.{TextUnit, spelt, stray, converted_units}

@@ -1,9 +1,8 @@
 -- What a text means, computed from its first character.
 use Rattle.std.specs.Prelude.{◌==◌, ◌&&◌, ℕ, zero, suc, pred, length, if◌then◌else◌, List, [], ◌∷◌, Option, Some, None}
-use Rattle.properties_format.specs.Hexadecimal.{Four, are_hexadecimal, code_unit}
-use Rattle.properties_format.specs.Surrogates.{is_high, is_low}
+use Rattle.properties_format.specs.Escapes.{Four, are_hexadecimal, code_unit, Malformed, not_enough_digits, letter_u, Spelling, itself, escaped, unicode, surrogates, last, spelling_text, spelling_character, malformed_by, Meaning, means, breaks}
+use Rattle.properties_format.specs.Utf16.{is_high, is_low}
 use Rattle.properties_format.specs.Text.{backslash}
-use Rattle.properties_format.specs.Escapes.{Malformed, not_enough_digits, letter_u, Spelling, itself, escaped, unicode, surrogates, last, spelling_text, spelling_character, malformed_by, Meaning, means, breaks}
 
 -- the spelling of a high surrogate, given the text after its escape: the two escapes, if that text begins with the
 -- escape of a low surrogate

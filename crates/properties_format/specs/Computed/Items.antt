@@ -2,16 +2,13 @@
 use Rattle.std.specs.Prelude.{ℕ, List, [], ◌∷◌}
 use Rattle.properties_format.specs.Encoding.{Encoding}
 use Rattle.properties_format.specs.Computed.Encoding.{decoded_of}
-use Rattle.properties_format.specs.Lines.{InputEnd, Line, Lines, line_ends, numbered_lines}
-use Rattle.properties_format.specs.Computed.Lines.{lines_of}
-use Rattle.properties_format.specs.Groups.{joined, first_number}
-use Rattle.properties_format.specs.Computed.Groups.{groups_of}
+use Rattle.properties_format.specs.Lines.{InputEnd, Line, Lines, line_ends, numbered_lines, joined, first_number}
+use Rattle.properties_format.specs.Computed.Lines.{lines_of, groups_of}
 use Rattle.properties_format.specs.Split.{Logical}
 use Rattle.properties_format.specs.Computed.Split.{split_of}
 use Rattle.properties_format.specs.Escapes.{Meaning, means, breaks}
 use Rattle.properties_format.specs.Computed.Escapes.{meaning_of}
-use Rattle.properties_format.specs.Entries.{comment, pair, Entry, item, malformed}
-use Rattle.properties_format.specs.Items.{Outcome, ignored, given, broken, last_entries}
+use Rattle.properties_format.specs.Items.{comment, pair, Entry, item, malformed, Outcome, ignored, given, broken, last_entries}
 
 -- the outcome of a comment, given what its text resolves to
 abbrev pub comment_outcome : Meaning → Outcome

@@ -1,16 +1,16 @@
 -- The items that a reader will still return, computed: the natural lines to come, the logical lines to come, and their
 -- entries.
-use Rattle.std.specs.Prelude.{ℕ, ◌+◌, if◌then◌else◌, List, [], ◌∷◌, Option, Some, None}
-use Rattle.properties_format.specs.Pieces.{characters}
+use Rattle.std.specs.Prelude.{ℕ, ◌+◌, if◌then◌else◌, List, [], ◌∷◌, Option, Some, None, ◌≡◌, true, false, ◌++◌}
+use Rattle.properties_format.specs.Text.{characters}
 use Rattle.properties_format.specs.Computed.Encoding.{pieces_of}
 use Rattle.properties_format.specs.Lines.{InputEnd, Line, Lines, line_ends, numbered}
-use Rattle.properties_format.specs.Computed.Lines.{rest_of_end, lines_of}
-use Rattle.properties_format.specs.Computed.Groups.{groups_of}
-use Rattle.properties_format.specs.Computed.Logical.{logical_lines, joins_after}
-use Rattle.properties_format.specs.Entries.{Entry}
-use Rattle.properties_format.specs.Items.{last_entries}
+use Rattle.properties_format.specs.Computed.Lines.{rest_of_end, lines_of, groups_of, logical_lines, joins_after}
+use Rattle.properties_format.specs.Items.{Entry, last_entries}
 use Rattle.properties_format.specs.ItemsToCome.{ReaderState, in_force}
 use Rattle.properties_format.specs.Computed.Items.{outcome_of, followed, entries_of}
+use Rattle.properties_format.specs.Encoding.{byte_order_mark}
+use Rattle.properties_format.specs.Computed.Cut.{decoded_line}
+use Rattle.properties_format.specs.Cut.{HoldsNoLineEndUnit}
 
 -- the characters to come, without an LF that belongs to the line ending before
 abbrev pub text_to_come : ReaderState → List ℕ → List ℕ
@@ -48,3 +48,47 @@ logical_pending (Some join) ls ending = joins_after join.number join.text ls end
 -- the entries to come, if a logical line may have been started
 unfoldable pub entries_pending : Option Line → ReaderState → List ℕ → InputEnd → List Entry
 entries_pending pending s d ending = entries_of_logical (logical_pending pending (natural_to_come s d ending) ending) (last_to_come s d ending)
+
+-- ---- A step of a reader: what it returns, and what is left to come.
+
+-- If x comes and then this ending, the reader first returns these natural lines, and then what it returns in the state
+-- after them if y comes.
+pub record Gives (before : ReaderState) (x : List ℕ) (lines : List Line) (after : ReaderState) (y : List ℕ) (ending : InputEnd) : Type 0 where
+  pub natural : natural_to_come before x ending ≡ lines ++ natural_to_come after y ending
+  pub last : last_to_come before x ending ≡ last_to_come after y ending
+
+-- ---- the steps
+
+-- the state after the bytes that are held decided whether the input begins with a byte order mark
+abbrev pub after_decided : ReaderState → ReaderState
+after_decided s =
+    let m = byte_order_mark s.encoding s.held in record s { encoding = m.encoding; is_decided = true; held = m.body }
+
+-- the state after the whole of the line ending before was passed, with these bytes left
+abbrev pub after_passed : ReaderState → List ℕ → ReaderState
+after_passed s rest = record s { held = rest; after_cr = false }
+
+-- the next line, made of these bytes
+abbrev pub next_line : ReaderState → List ℕ → Line
+next_line s l = record { number = s.passed + 1; text = decoded_line s.encoding l }
+
+-- The bytes that are held contain no line ending.
+pub record HoldsNoEnd (s : ReaderState) : Type 0 where
+  pub going : s.is_done ≡ false
+  pub decided : s.is_decided ≡ true
+  pub none : HoldsNoLineEndUnit s.encoding s.held
+
+-- ---- steps one after the other, whatever follows them
+
+-- Reading r, the reader first returns these natural lines.
+pub record ReadsLines (before : ReaderState) (r : List ℕ) (lines : List Line) (after : ReaderState) : Type 0 where
+  pub gives : (d : List ℕ) (ending : InputEnd) → Gives before (r ++ d) lines after d ending
+
+-- Reading r, the reader completes this logical line.
+pub record ReadsLogical (before : ReaderState) (r : List ℕ) (line : Line) (after : ReaderState) : Type 0 where
+  pub items : (d : List ℕ) (ending : InputEnd)
+      → items_to_come before (r ++ d) ending ≡ followed line.number (outcome_of line.text) (items_to_come after d ending)
+
+-- Reading r, the reader returns this entry.
+pub record ReadsEntry (before : ReaderState) (r : List ℕ) (entry : Entry) (after : ReaderState) : Type 0 where
+  pub items : (d : List ℕ) (ending : InputEnd) → items_to_come before (r ++ d) ending ≡ entry ∷ items_to_come after d ending

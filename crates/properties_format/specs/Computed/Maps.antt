@@ -1,20 +1,32 @@
--- The value of a key, searched for from the last entry.
-use Rattle.std.specs.Prelude.{ℕ, List, [], ◌∷◌, Option, Some, None, if◌then◌else◌, bytes_eq}
-use Rattle.properties_format.specs.Entries.{comment, pair, Entry, item, malformed, read_fault}
-
--- the value of one entry, if it is a pair with this key
-abbrev pub value_of : Entry → List ℕ → Option (List ℕ)
-value_of (item n (pair k v)) key = if bytes_eq k key then Some v else None
-value_of (item n (comment text)) key = None
-value_of (malformed kind n) key = None
-value_of (read_fault n) key = None
+-- The first of two values, and the keys of a list.
+use Rattle.std.specs.Prelude.{ℕ, List, [], ◌∷◌, Option, Some, None, ◌≡◌, ◌≢◌, ◌⊎◌, ◌++◌, AllPairs}
 
 -- the first value if there is one, otherwise the second
 abbrev pub first_value : Option (List ℕ) → Option (List ℕ) → Option (List ℕ)
 first_value (Some v) other = Some v
 first_value None other = other
 
--- the value of a key, searched for from the last entry
-abbrev pub value_in : List Entry → List ℕ → Option (List ℕ)
-value_in [] key = None
-value_in (entry ∷ entries) key = first_value (value_in entries key) (value_of entry key)
+-- ---- The keys of a list, in the order in which they first occur.
+
+-- The key is one of these keys; or it is none of them.
+abbrev pub Has : List ℕ → List (List ℕ) → Type 0
+Has key [] = ⊥
+Has key (k ∷ ks) = (k ≡ key) ⊎ Has key ks
+
+abbrev pub HasNot : List ℕ → List (List ℕ) → Type 0
+HasNot key [] = Unit {0}
+HasNot key (k ∷ ks) = (k ≢ key) × HasNot key ks
+
+-- One key occurs before the first occurrence of another.
+pub record ComesBefore (all : List (List ℕ)) (key other : List ℕ) : Type 0 where
+  pub before : List (List ℕ)
+  pub after : List (List ℕ)
+  pub division : all ≡ before ++ key ∷ after
+  pub none_before : HasNot other before
+  pub differ : key ≢ other
+
+-- These are the keys of the list, each once, in the order of their first occurrences.
+pub record AreFirstOf (all keys : List (List ℕ)) : Type 0 where
+  pub only : (key : List ℕ) → Has key keys → Has key all
+  pub every : (key : List ℕ) → Has key all → Has key keys
+  pub in_order : AllPairs (ComesBefore all) keys

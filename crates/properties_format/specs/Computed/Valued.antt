@@ -1,23 +1,16 @@
--- The source with the value of a key set in place, computed group by group. The repertoire says what may stand
--- unescaped in the value.
-use Rattle.std.specs.Prelude.{ℕ, zero, suc, ◌-◌, nat_le, nat_lt, Bool, true, false, if◌then◌else◌, List, [], ◌∷◌, ◌++◌, length, take, drop, Option, Some, None, bytes_eq}
-use Rattle.properties_format.specs.Text.{equals_sign, without_leading_blanks}
-use Rattle.properties_format.specs.Pieces.{Piece}
-use Rattle.properties_format.specs.Encoding.{Encoding, InForce, byte_order_mark}
-use Rattle.properties_format.specs.Repertoire.{Repertoire, in_encoding}
+-- The parts of a logical line that an edit keeps when it sets a value: the front of a pair, and the separator and the
+-- sizes of a new one, computed from the first character.
+use Rattle.std.specs.Prelude.{ℕ, suc, ◌-◌, nat_le, nat_lt, Bool, true, false, if◌then◌else◌, List, [], ◌∷◌, ◌++◌, length, take, drop, Option, Some, None, bytes_eq}
+use Rattle.properties_format.specs.Text.{equals_sign, without_leading_blanks, Piece}
+use Rattle.properties_format.specs.Encoding.{Encoding}
 use Rattle.properties_format.specs.Computed.Encoding.{pieces_of}
-use Rattle.properties_format.specs.Groups.{without_open_backslash, joined}
+use Rattle.properties_format.specs.Lines.{without_open_backslash, joined}
 use Rattle.properties_format.specs.Split.{Logical}
 use Rattle.properties_format.specs.Computed.Split.{cut_key, past_separator, split_of}
-use Rattle.properties_format.specs.Entries.{comment, pair}
-use Rattle.properties_format.specs.Items.{Outcome, ignored, given, broken}
+use Rattle.properties_format.specs.Items.{pair, Outcome, given}
 use Rattle.properties_format.specs.Computed.Items.{outcome_of}
-use Rattle.properties_format.specs.Printing.{encoded_text}
-use Rattle.properties_format.specs.Body.{HeldLine, as_lines, ending_bytes, groups_bytes, last_ending}
-use Rattle.properties_format.specs.Edited.{final_group, bom_of, EditResult}
-use Rattle.properties_format.specs.Valued.{value_text, separator_after, ending_in, separation_by, new_pair_bytes}
-use Rattle.properties_format.specs.Computed.Body.{held_groups_of}
-use Rattle.properties_format.specs.Computed.Edited.{KeyPlace, last_place, result_of}
+use Rattle.properties_format.specs.Body.{HeldLine, as_lines, ending_bytes}
+use Rattle.properties_format.specs.Valued.{separator_after}
 
 -- ---- the parts of a logical line
 
@@ -88,9 +81,8 @@ between_of group = between_in (joined (as_lines group))
 
 -- what separates the key from the value, if the line is a pair
 abbrev pub between_if_pair : Logical → List ℕ → Option (List ℕ)
-between_if_pair Logical.blank x = None
-between_if_pair (Logical.comment text) x = None
 between_if_pair (Logical.pair key value) x = Some (between_in x)
+between_if_pair line x = None
 
 -- the first if there is one, otherwise the second
 abbrev pub or_else : Option (List ℕ) → Option (List ℕ) → Option (List ℕ)
@@ -112,45 +104,12 @@ separator_by key (Some between) = separator_after key between
 
 -- whether the outcome is a pair with the value
 abbrev pub is_pair_to : List ℕ → Outcome → Bool
-is_pair_to value ignored = false
-is_pair_to value (given (comment text)) = false
 is_pair_to value (given (pair k v)) = bytes_eq v value
-is_pair_to value (broken kind) = false
+is_pair_to value outcome = false
 
 -- whether the group is a pair with the value
 abbrev pub has_value : List ℕ → List HeldLine → Bool
 has_value value group = is_pair_to value (outcome_of (joined (as_lines group)))
-
--- the body in which the pair at this place gets the value
-abbrev pub revalued_at : Repertoire → List ℕ → KeyPlace → List ℕ
-revalued_at r value p =
-    groups_bytes p.before
-    ++ (front_of r.encoding p.group ++ (encoded_text r.encoding (value_text r (between_of p.group) value) ++ (ending_bytes (last_ending p.group) ++ groups_bytes p.after)))
-
--- the body with a new pair at its end
-abbrev pub added_at : Repertoire → List (List HeldLine) → List ℕ → List ℕ → List ℕ
-added_at r groups key value =
-    let front : List ℕ = groups_bytes groups ++ separation_by (ending_in groups) (final_group groups) in
-    front ++ new_pair_bytes r front key (separator_by key (last_between groups)) value (ending_in groups)
-
--- the body with the value set, given the place of the last pair with the key, if there is one
-abbrev pub valued_at : Repertoire → List (List HeldLine) → List ℕ → List ℕ → Option KeyPlace → List ℕ
-valued_at r groups key value (Some p) = if has_value value p.group then groups_bytes groups else revalued_at r value p
-valued_at r groups key value None = added_at r groups key value
-
--- the source with the value set, given the encoding in force and the body
-abbrev pub value_set_in : InForce → Repertoire → List ℕ → List ℕ → List ℕ → List ℕ
-value_set_in f r source key value =
-    let groups = held_groups_of f.encoding f.body in
-    bom_of source ++ valued_at (in_encoding r f.encoding) groups key value (last_place key groups)
-
--- the source with the value set, given the requested encoding
-abbrev pub value_set : Repertoire → List ℕ → List ℕ → List ℕ → List ℕ
-value_set r source key value = value_set_in (byte_order_mark r.encoding source) r source key value
-
--- the result of setting a value
-abbrev pub set_value_result : Repertoire → List ℕ → List ℕ → List ℕ → EditResult
-set_value_result r source key value = result_of r.encoding source (value_set r source key value)
 
 -- ---- sizes in bytes
 
@@ -161,6 +120,5 @@ ascii_count (b ∷ d) = if nat_lt b 0x80 then suc (ascii_count d) else ascii_cou
 
 -- the index after this many ASCII characters at the front
 abbrev pub after_ascii : ℕ → List ℕ → ℕ
-after_ascii zero d = 0
-after_ascii (suc n) [] = 0
 after_ascii (suc n) (b ∷ d) = if nat_lt b 0x80 then suc (after_ascii n d) else suc (after_ascii (suc n) d)
+after_ascii n d = 0
