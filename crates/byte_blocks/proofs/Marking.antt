@@ -12,8 +12,29 @@ use Rattle.std.proofs.lemmas.List.Sums.{fails_before_first, passes_at_first, pre
 use Rattle.std.proofs.lemmas.Simd.{leading_from_mask_l, trailing_mask_l, mask_l-lt}
 use Rattle.memchr.specs.Find.{IsFirstByte}
 use Rattle.byte_blocks.specs.Marks.{lowest_bits, clear_front, IsFirstMark}
-use Rattle.byte_blocks.specs.Bits.{bits-of_mask, mask-of_bits, length-lowest_bits}
+use Rattle.byte_blocks.specs.Bits.{mask-of_bits}
 use native.Mathlib.Nat.{pow-succ'}
+
+-- ---- the lowest bits
+
+parts : (is_set : Bool) (n : ℕ) → (((cond is_set 1 0 + 2 * n) % 2 == 1) ≡ is_set) × ((cond is_set 1 0 + 2 * n) / 2 ≡ n)
+parts true n = ((let odd : (1 + 2 * n) % 2 ≡ 1 = omega arith in rw odd refl), omega arith)
+parts false n = ((let even : (0 + 2 * n) % 2 ≡ 0 = omega arith in rw even refl), omega arith)
+
+-- The lowest bits of a number that is made of bits are those bits.
+pub bits-of_mask : (n : ℕ) (bits : List Bool) → length bits ≡ n → lowest_bits n (mask_l bits) ≡ bits
+unfolding lowest_bits
+bits-of_mask zero [] long = refl
+bits-of_mask zero (b ∷ bits) long = absurd (omega arith)
+bits-of_mask (suc n) [] long = absurd (omega arith)
+bits-of_mask (suc n) (b ∷ bits) long =
+    let p = parts b (mask_l bits) in
+    ap₂ (λ first rest. first ∷ rest) p.0 (ap (lowest_bits n) p.1 ∙ bits-of_mask n bits (omega arith))
+
+pub length-lowest_bits : (n number : ℕ) → length (lowest_bits n number) ≡ n
+unfolding lowest_bits
+length-lowest_bits zero number = refl
+length-lowest_bits (suc n) number = ap suc (length-lowest_bits n (number / 2))
 
 -- ---- from a test to the bits
 

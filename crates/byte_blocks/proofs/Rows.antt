@@ -8,7 +8,7 @@ use Rattle.std.proofs.lemmas.Nat.{pow_pos, one_shl, ones-le}
 use Rattle.std.proofs.lemmas.Simd.{swz_l, SwzOk, SwzOk-from_below, length-swz_l, mask_l-lt, take_more_put_chunk}
 use native.Mathlib.Nat.{pow-succ', mul_assoc, mod-lt, mod-eq_of_lt, add-mul-mod_self_left}
 use Rattle.byte_blocks.specs.Marks.{lowest_bits}
-use Rattle.byte_blocks.specs.Bits.{bits-of_mask}
+use Rattle.byte_blocks.proofs.Marking.{bits-of_mask}
 use Rattle.byte_blocks.proofs.Comparing.{swizzled}
 
 -- ---- a row

@@ -7,10 +7,10 @@ use Rattle.std.proofs.lemmas.Bool.{agree_below_at}
 use Rattle.std.proofs.lemmas.List.{length-append, length-take, length-take-le, length-drop, take_at, take_all, take-take, take-append-drop, drop_at, drop-drop, map-append, get_or-take, get_or-drop}
 use Rattle.std.proofs.lemmas.Nat.{ones_le_self}
 use Rattle.std.proofs.lemmas.Simd.{swz_l, SwzOk, ones-mask_l_cons, pick_l_left, pick_l-range_with_len}
-use Rattle.byte_blocks.specs.Marks.{lowest_bits, clear_front}
-use Rattle.byte_blocks.specs.Bits.{mask-of_bits, length-lowest_bits}
-use Rattle.byte_blocks.specs.Moving.{spread}
+use Rattle.byte_blocks.specs.Marks.{lowest_bits, clear_front, spread}
+use Rattle.byte_blocks.specs.Bits.{mask-of_bits}
 use Rattle.byte_blocks.specs.declared.spread.lanes.TheConstants.{LANES}
+use Rattle.byte_blocks.proofs.Marking.{length-lowest_bits}
 use Rattle.byte_blocks.proofs.Rows.{IsRow, is_row, row-from_test, row-below, row-picks, swizzled-long, take_past, stored, first-bits, front-bits, back-bits}
 
 -- ---- the table

@@ -1,4 +1,3 @@
 pub mod Marks
 pub mod Bits
 pub mod Classes
-pub mod Moving

@@ -1,8 +1,7 @@
 // Writes a block with other bytes inserted before some of its bytes.
 
 ghost use Rattle.std.specs.Prelude.{◌≡◌, ◌+◌, ◌*◌, ◌%◌, ◌^◌, ◌<◌, ◌≤◌, ◌++◌, length, take, drop, count_ones};
-ghost use Rattle.byte_blocks.specs.Marks.{lowest_bits};
-ghost use Rattle.byte_blocks.specs.Moving.{spread};
+ghost use Rattle.byte_blocks.specs.Marks.{lowest_bits, spread};
 
 use super::marks::Marks;
 use lanes::LANES;

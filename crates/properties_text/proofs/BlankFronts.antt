@@ -1,11 +1,14 @@
 -- Blanks at the front of a text.
 use Rattle.std.proofs.Common.{◌≡◌, ℕ, zero, suc, ◌+◌, ◌<◌, true, false, List, length, drop, get_or, refl, sym, ap, ◌∙◌, inl, inr, arith}
-use Rattle.std.specs.Prelude.{Some}
+use Rattle.std.specs.Prelude.{Bool, not, Some}
 use Rattle.std.proofs.lemmas.Bool.{cases_lt, cond-true, not-true, not_from_false, true_from_ne_false}
 use Rattle.std.proofs.lemmas.List.{get_or_past, at_drop_more, drop_more, drop_all}
 use Rattle.memchr.specs.Find.{Nowhere, Passes, IsFirstByte}
 use Rattle.properties_format.specs.Text.{is_blank, without_leading_blanks}
-use Rattle.properties_text.specs.Parsing.{is_no_blank}
+
+-- whether a character isn't a blank
+abbrev pub is_no_blank : ℕ → Bool
+is_no_blank c = not (is_blank c)
 
 -- An index at which a blank is found lies inside the text.
 pub blank-inside : (xs : List ℕ) (i : ℕ) → is_blank (get_or xs i 0) ≡ true → i < length xs

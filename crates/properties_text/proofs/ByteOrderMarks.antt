@@ -1,10 +1,9 @@
 -- Whether bytes begin like a byte order mark, by what was found at their front.
 use Rattle.std.proofs.Common.{◌≡◌, ℕ, false, true, List, refl, sym, ap, ◌∙◌, inl, inr}
 use Rattle.std.proofs.lemmas.Bool.{cases_Bool}
-use Rattle.properties_format.specs.Encoding.{Encoding, windows_1252, utf_8, utf_16le, utf_16be, InForce, byte_order_mark, begins_with, begins_like_bom}
-use Rattle.properties_format.specs.Encoding.{utf_8_bom, utf_16be_bom, utf_16le_bom}
+use Rattle.properties_format.specs.Encoding.{Encoding, windows_1252, utf_8, utf_16le, utf_16be, InForce, byte_order_mark, begins_with, begins_like_bom, utf_8_bom, utf_16be_bom, utf_16le_bom}
 use Rattle.properties_format.proofs.Encodings.ByteOrderMarks.{byte_order_mark-none}
-use Rattle.properties_text.specs.Decoding.{FindsByteOrderMark, IsInForce, IsUnmarked}
+use Rattle.properties_text.specs.Encoding.{FindsByteOrderMark, IsInForce, IsUnmarked}
 use Rattle.properties_text.specs.declared.encoding.Encoding as named
 use Rattle.properties_text.specs.declared.encoding.byte_order_mark.ByteOrderMark.{ByteOrderMark}
 use Rattle.properties_text.specs.declared.encoding.byte_order_mark.ByteOrderMark.TheVariants.{Present, Absent, Undecided}

@@ -1,7 +1,7 @@
 -- What converting a front of some bytes comes to, in either encoding.
 use Rattle.std.proofs.Common.{◌≡◌, ℕ, Fits, w8, suc, ◌+◌, ◌-◌, ◌<◌, ◌≤◌, ◌==◌, Bool, true, false, List, [], ◌∷◌, ◌++◌, length, take, drop, get_or, refl, sym, ap, ap₂, ◌∙◌, subst, inl, inr, append_assoc, arith, lit<, lt-ltb, ne_eqb, eqb-true}
-use Rattle.std.specs.Prelude.{nat_le, ◌&&◌, ◌⊎◌}
-use Rattle.std.specs.List.{All}
+use Rattle.std.specs.Prelude.{nat_le, ◌&&◌, ◌⊎◌, encode_utf8}
+use Rattle.std.specs.List.{All, AllByRecursion}
 use lib.Utf8.{encodes, scalars, scalar as is_scalar}
 use Rattle.std.proofs.lemmas.Bool.{cases_Bool, cases_lt, and_from}
 use Rattle.std.proofs.lemmas.Bool.Decides.{nat_tests}
@@ -9,12 +9,9 @@ use Rattle.std.proofs.lemmas.List.{take_rest, length-map, length-append, length-
 use Rattle.std.proofs.lemmas.List.Elements.{All-head, All-tail, All-drop, All-from_get_or, recursion_from_All}
 use Rattle.std.proofs.lemmas.Str.{encodes-chars, chars-nil, chars-encodes}
 use Rattle.std.proofs.Math.Seq.{take-append_seam}
-use Rattle.std.specs.List.{AllByRecursion}
-use Rattle.std.specs.Prelude.{encode_utf8}
 use Rattle.std.specs.Str.{IsUtf8, chars}
-use Rattle.properties_format.specs.Text.{backslash, byte, scalar}
+use Rattle.properties_format.specs.Text.{backslash, byte, scalar, characters}
 use Rattle.properties_format.specs.Encoding.{Encoding, InForce, windows_1252, utf_8, begins_like_bom}
-use Rattle.properties_format.specs.Pieces.{characters}
 use Rattle.properties_format.specs.Computed.Encoding.{pieces_of, decoded_of}
 use Rattle.properties_format.proofs.Encodings.Pieces.{decoded_of-meets}
 use Rattle.properties_format.proofs.Encodings.WellFormed.{char-from_scalar}
@@ -31,9 +28,8 @@ use Rattle.properties_format.proofs.Converting.Laws.{text-scalars}
 use Rattle.properties_format.proofs.Converting.Again.{below-stays, respelt-itself, respelt-unicode, respelt-held, respelt-kept, respelt-lacked}
 use Rattle.properties_format.proofs.Converting.Itself.{IsClosed, IsApart, run-stays, utf_8-stays, windows-stays, windows-bytes}
 use Rattle.properties_format.proofs.Converting.Chunks.{converted_of-unit, converted_of-empty, converted_of-is, units_of-meets}
-use Rattle.properties_text.specs.Spelt.{text_in, IsWell, IsFirst, IsRead}
-use Rattle.properties_text.specs.Encoding.{encoding_of}
-use Rattle.properties_text.specs.Decoding.{IsBody, text_of}
+use Rattle.properties_text.specs.Escaping.{text_in, IsWell, IsFirst, IsRead}
+use Rattle.properties_text.specs.Encoding.{encoding_of, IsBody, text_of}
 use Rattle.properties_text.specs.declared.encoding.Encoding as named
 use Rattle.properties_text.specs.Printing.{in_format}
 use Rattle.properties_text.specs.PrintedTexts.{is_copied}
@@ -154,9 +150,9 @@ pub itself-unit : {t : Repertoire} {e : LineEncoding} {old text new : List ℕ} 
     → IsUnitFront t readable e old at text end (drop it.length text) new
 itself-unit {t} {e} {old} {text} {new} {at} {end} {it} readable w n h put = record {
   unit = TextUnit.spelt (itself it.character);
-  begins = h.characters;
+  begins = h.is;
   is_unit = ne_eqb it.character backslash (λ q.
-      let back = ascii-back e text it.character (text_in e (drop it.length text)) w h.characters (omega (arith, q)) in
+      let back = ascii-back e text it.character (text_in e (drop it.length text)) w h.is (omega (arith, q)) in
       n (ap (λ v. get_or v 0 0) back.1 ∙ q));
   well = h.well;
   shorter = omega (arith, h.some, h.within, length-drop it.length text);
@@ -224,22 +220,22 @@ few-characters (surrogates high low) = omega arith
 few-characters last = omega arith
 
 stays : {e : LineEncoding} {text : List ℕ} {it : Spelt} (t : Repertoire) (readable : Bool) → IsWell e text → (h : IsRead e text it)
-    → AreAscii (spelling_text h.spells.spelling)
-    → respelt (in_format t) readable h.spells.spelling ≡ spelling_text h.spells.spelling → Stays t readable e text it h.spells.spelling
+    → AreAscii (spelling_text h.is.spelling)
+    → respelt (in_format t) readable h.is.spelling ≡ spelling_text h.is.spelling → Stays t readable e text it h.is.spelling
 stays {e} {text} {it} t readable w h a f =
-    let p = h.spells.spelling in
-    let k = raw e text (spelling_text p) it.length w h.well h.within a h.spells.whole in
+    let p = h.is.spelling in
+    let k = raw e text (spelling_text p) it.length w h.well h.within a h.is.whole in
     record {
       few = omega (arith, k.1, few-characters p);
       front = k.0 ∙ sym (encoded_text-ascii (in_format t).encoding (spelling_text p) a) ∙ ap (encoded_text (in_format t).encoding) (sym f);
     }
 
 pub ascii-stays : {e : LineEncoding} {text : List ℕ} {it : Spelt} (t : Repertoire) (readable : Bool) → IsWell e text → (h : IsRead e text it)
-    → it.character < 0x80 → Stays t readable e text it h.spells.spelling
+    → it.character < 0x80 → Stays t readable e text it h.is.spelling
 ascii-stays {e} {text} {it} t readable w h k =
-    let p = h.spells.spelling in
-    let below : spelling_character p < 0x80 = subst (λ n. n < 0x80) h.spells.character k in
-    stays t readable w h (below-ascii p (text_in e (drop it.length text)) h.spells.stands below)
+    let p = h.is.spelling in
+    let below : spelling_character p < 0x80 = subst (λ n. n < 0x80) h.is.character k in
+    stays t readable w h (below-ascii p (text_in e (drop it.length text)) h.is.stands below)
     (below-stays (in_format t) readable p (lt-ltb (spelling_character p) 0x80 below))
 
 -- which spellings are `\u` escapes, by the second byte
@@ -252,11 +248,11 @@ two-characters (surrogates high low) x y h k e = refl
 two-characters last x y h k e = absurd (grind (arith))
 
 pub unicode-is : {e : LineEncoding} {text : List ℕ} {it : Spelt} → IsWell e text → (h : IsRead e text it) → get_or text 0 0 ≡ backslash → 1 < length text
-    → get_or text 1 0 ≡ letter_u → 0x80 ≤ it.character → is_unicode h.spells.spelling ≡ true
+    → get_or text 1 0 ≡ letter_u → 0x80 ≤ it.character → is_unicode h.is.spelling ≡ true
 unicode-is {e} {text} {it} w h f l g k =
     let a = after-u e text w (omega arith, f, g) in
-    two-characters h.spells.spelling (text_in e (drop it.length text)) (text_in e (drop 2 text)) h.spells.stands (subst (λ n. 0x80 ≤ n) h.spells.character k)
-    (sym h.spells.whole ∙ a.characters)
+    two-characters h.is.spelling (text_in e (drop it.length text)) (text_in e (drop 2 text)) h.is.stands (subst (λ n. 0x80 ≤ n) h.is.character k)
+    (sym h.is.whole ∙ a.characters)
 
 unicode-begins : (p : Spelling) (x : List ℕ) → is_unicode p ≡ true → (y : List ℕ) × (spelling_text p ++ x ≡ backslash ∷ letter_u ∷ y)
 unicode-begins (itself c) x h = absurd (cc)
@@ -266,11 +262,11 @@ unicode-begins (surrogates high low) x h = (four_text high ++ backslash ∷ lett
 unicode-begins last x h = absurd (cc)
 
 pub unicode-not : {e : LineEncoding} {text : List ℕ} {it : Spelt} → IsWell e text → (h : IsRead e text it)
-    → (1 < length text → (get_or text 1 0 == letter_u) ≡ false) → is_unicode h.spells.spelling ≡ false
-unicode-not {e} {text} {it} w h n = elim (cases_Bool (is_unicode h.spells.spelling)) [
+    → (1 < length text → (get_or text 1 0 == letter_u) ≡ false) → is_unicode h.is.spelling ≡ false
+unicode-not {e} {text} {it} w h n = elim (cases_Bool (is_unicode h.is.spelling)) [
   | inl k ↦
-      let b = unicode-begins h.spells.spelling (text_in e (drop it.length text)) k in
-      let a = ascii-all e text (backslash ∷ letter_u ∷ []) b.0 w (lit< tt, (lit< tt, tt)) (h.spells.whole ∙ b.1) in
+      let b = unicode-begins h.is.spelling (text_in e (drop it.length text)) k in
+      let a = ascii-all e text (backslash ∷ letter_u ∷ []) b.0 w (lit< tt, (lit< tt, tt)) (h.is.whole ∙ b.1) in
       let l : 1 < length text = omega (arith, ap length a.whole) in
       let f = n l in
       let g : get_or text 1 0 ≡ letter_u = ap (λ v. get_or v 1 0) a.whole in
@@ -279,23 +275,23 @@ unicode-not {e} {text} {it} w h n = elim (cases_Bool (is_unicode h.spells.spelli
 ]
 
 pub escape-stays : {e : LineEncoding} {text : List ℕ} {it : Spelt} {m : Bool} (t : Repertoire) (readable : Bool) → IsWell e text → (h : IsRead e text it)
-    → 0x80 ≤ it.character → is_unicode h.spells.spelling ≡ true → m ≡ may_be_unescaped (in_format t) it.character → (m && readable) ≡ false
-    → Stays t readable e text it h.spells.spelling
+    → 0x80 ≤ it.character → is_unicode h.is.spelling ≡ true → m ≡ may_be_unescaped (in_format t) it.character → (m && readable) ≡ false
+    → Stays t readable e text it h.is.spelling
 escape-stays {e} {text} {it} {m} t readable w h k u f n =
-    let p = h.spells.spelling in
-    let z : 0x80 ≤ spelling_character p = subst (λ c. 0x80 ≤ c) h.spells.character k in
-    let g : may_be_unescaped (in_format t) (spelling_character p) ≡ m = ap (may_be_unescaped (in_format t)) (sym h.spells.character) ∙ sym f in
-    stays t readable w h (unicode-ascii p (whole-past p (text_in e (drop it.length text)) h.spells.stands z) u)
+    let p = h.is.spelling in
+    let z : 0x80 ≤ spelling_character p = subst (λ c. 0x80 ≤ c) h.is.character k in
+    let g : may_be_unescaped (in_format t) (spelling_character p) ≡ m = ap (may_be_unescaped (in_format t)) (sym h.is.character) ∙ sym f in
+    stays t readable w h (unicode-ascii p (whole-past p (text_in e (drop it.length text)) h.is.stands z) u)
     (respelt-unicode (in_format t) readable p m readable z u g refl n)
 
 -- A spelling whose bytes were put.
 pub spelling-unit : {t : Repertoire} {readable : Bool} {e : LineEncoding} {old text new rest x : List ℕ} {at end : ℕ} {it : Spelt} → (h : IsRead e text it)
-    → rest ≡ drop it.length text → take end new ≡ take at old ++ x → x ≡ unit_in t readable (TextUnit.spelt h.spells.spelling)
+    → rest ≡ drop it.length text → take end new ≡ take at old ++ x → x ≡ unit_in t readable (TextUnit.spelt h.is.spelling)
     → IsUnitFront t readable e old at text end rest new
 spelling-unit {e = e} {old} {text} {at = at} {it = it} h r put same = record {
-  unit = TextUnit.spelt h.spells.spelling;
-  begins = h.spells.whole ∙ ap (λ v. spelling_text h.spells.spelling ++ text_in e v) (sym r);
-  is_unit = subst (λ v. IsSpelling h.spells.spelling (text_in e v)) (sym r) h.spells.stands;
+  unit = TextUnit.spelt h.is.spelling;
+  begins = h.is.whole ∙ ap (λ v. spelling_text h.is.spelling ++ text_in e v) (sym r);
+  is_unit = subst (λ v. IsSpelling h.is.spelling (text_in e v)) (sym r) h.is.stands;
   well = subst (IsWell e) (sym r) h.well;
   shorter = omega (arith, h.some, h.within, length-drop it.length text, ap length r);
   put = put ∙ ap (λ v. take at old ++ v) same;
@@ -303,13 +299,13 @@ spelling-unit {e = e} {old} {text} {at = at} {it = it} h r put same = record {
 
 -- A character that is put instead of its spelling.
 pub literal-put : {e : LineEncoding} {text : List ℕ} {it : Spelt} {m : Bool} (t : Repertoire) (readable : Bool) → (h : IsRead e text it) → 0x80 ≤ it.character
-    → m ≡ may_be_unescaped (in_format t) it.character → ((m ≡ true) × (readable ≡ true)) ⊎ ((m ≡ false) × (is_unicode h.spells.spelling ≡ false))
-    → encoded_text (in_format t).encoding (literal (in_format t) it.character) ≡ unit_in t readable (TextUnit.spelt h.spells.spelling)
+    → m ≡ may_be_unescaped (in_format t) it.character → ((m ≡ true) × (readable ≡ true)) ⊎ ((m ≡ false) × (is_unicode h.is.spelling ≡ false))
+    → encoded_text (in_format t).encoding (literal (in_format t) it.character) ≡ unit_in t readable (TextUnit.spelt h.is.spelling)
 literal-put {it = it} {m} t readable h k f b =
-    let p = h.spells.spelling in
-    let z : 0x80 ≤ spelling_character p = subst (λ c. 0x80 ≤ c) h.spells.character k in
-    let g : may_be_unescaped (in_format t) (spelling_character p) ≡ m = ap (may_be_unescaped (in_format t)) (sym h.spells.character) ∙ sym f in
-    let same : literal (in_format t) it.character ≡ literal (in_format t) (spelling_character p) = ap (literal (in_format t)) h.spells.character in
+    let p = h.is.spelling in
+    let z : 0x80 ≤ spelling_character p = subst (λ c. 0x80 ≤ c) h.is.character k in
+    let g : may_be_unescaped (in_format t) (spelling_character p) ≡ m = ap (may_be_unescaped (in_format t)) (sym h.is.character) ∙ sym f in
+    let same : literal (in_format t) it.character ≡ literal (in_format t) (spelling_character p) = ap (literal (in_format t)) h.is.character in
     ap (encoded_text (in_format t).encoding) (elim b [
       | inl c ↦ same ∙ sym (respelt-held (in_format t) readable p z (g ∙ c.0) c.1)
       | inr c ↦ same ∙ sym (respelt-lacked (in_format t) readable p z (g ∙ c.0) c.1)
@@ -329,20 +325,20 @@ held-literal t c h = rw h refl
 
 pub backslash-put : {e : LineEncoding} {text : List ℕ} {it : Spelt} {m : Bool} (t : Repertoire) (readable : Bool) → IsWell e text → (h : IsRead e text it)
     → get_or text 0 0 ≡ backslash → 0x80 ≤ it.character → m ≡ may_be_unescaped (in_format t) it.character → m ≡ true → readable ≡ false
-    → is_unicode h.spells.spelling ≡ false
-    → (backslash ∷ []) ++ encoded_text (in_format t).encoding (literal (in_format t) it.character) ≡ unit_in t readable (TextUnit.spelt h.spells.spelling)
+    → is_unicode h.is.spelling ≡ false
+    → (backslash ∷ []) ++ encoded_text (in_format t).encoding (literal (in_format t) it.character) ≡ unit_in t readable (TextUnit.spelt h.is.spelling)
 backslash-put {e} {text} {it} t readable w h b k f on off u =
-    let p = h.spells.spelling in
+    let p = h.is.spelling in
     let c = it.character in
-    let z : 0x80 ≤ spelling_character p = subst (λ n. 0x80 ≤ n) h.spells.character k in
-    let g : may_be_unescaped (in_format t) (spelling_character p) ≡ true = ap (may_be_unescaped (in_format t)) (sym h.spells.character) ∙ sym f ∙ on in
+    let z : 0x80 ≤ spelling_character p = subst (λ n. 0x80 ≤ n) h.is.character k in
+    let g : may_be_unescaped (in_format t) (spelling_character p) ≡ true = ap (may_be_unescaped (in_format t)) (sym h.is.character) ∙ sym f ∙ on in
     let begins = first-backslash e text w (omega (arith, h.some, h.within)) b in
-    let s : spelling_text p ≡ backslash ∷ spelling_character p ∷ [] = escaped-text p (text_in e (drop it.length text)) begins.0 h.spells.stands z u
-    (sym h.spells.whole ∙ begins.1) in
+    let s : spelling_text p ≡ backslash ∷ spelling_character p ∷ [] = escaped-text p (text_in e (drop it.length text)) begins.0 h.is.stands z u
+    (sym h.is.whole ∙ begins.1) in
     ap (λ v. (backslash ∷ []) ++ encoded_text (in_format t).encoding v) (held-literal t c (sym f ∙ on))
     ∙ ap (λ v. v ++ encoded_text (in_format t).encoding (c ∷ [])) (sym (encoded_text-ascii (in_format t).encoding (backslash ∷ []) (lit< tt, tt)))
     ∙ sym (encoded_text-append (in_format t).encoding (backslash ∷ []) (c ∷ []))
-    ∙ ap (λ v. encoded_text (in_format t).encoding (backslash ∷ v ∷ [])) h.spells.character
+    ∙ ap (λ v. encoded_text (in_format t).encoding (backslash ∷ v ∷ [])) h.is.character
     ∙ ap (encoded_text (in_format t).encoding) (sym s ∙ sym (respelt-kept (in_format t) readable p z g off))
   where
     first-backslash : (e : LineEncoding) (text : List ℕ) → IsWell e text → 0 < length text → get_or text 0 0 ≡ backslash
@@ -483,7 +479,7 @@ front_bytes t bytes it e b s f =
     ap₂ (λ x y. x ++ y) (sym (encoded_text-ascii (in_format t).encoding (unicode_escape it.character) (unicode_escape-ascii it.character)))
     (take_rest bytes it.length ∙ sym (same-bytes t rest h.well all))
     ∙ sym (encoded_text-append (in_format t).encoding (unicode_escape it.character) (text_in (line_in t) rest))
-    ∙ ap (λ v. encoded_text (in_format t).encoding (first_escaped v)) (sym h.characters)
+    ∙ ap (λ v. encoded_text (in_format t).encoding (first_escaped v)) (sym h.is)
 
 -- ---- a source
 

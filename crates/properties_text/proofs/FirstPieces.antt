@@ -5,12 +5,11 @@ use Rattle.std.proofs.lemmas.Bool.{cond-true}
 use Rattle.std.proofs.lemmas.Option.{none-some, same_Some}
 use Rattle.properties_format.specs.Text.{replacement}
 use Rattle.properties_format.specs.Utf8.{Range, from_to, well_formed_rows, FitsRow, IsWellFormed, IsWellFormedText, sequence_character}
-use Rattle.properties_format.specs.Computed.Utf8.{is_in, ranges_after, fitting, first_utf_8_piece}
-use Rattle.properties_format.specs.Computed.Waiting.{awaits_byte}
+use Rattle.properties_format.specs.Computed.Encoding.{is_in, ranges_after, fitting, first_utf_8_piece, awaits_byte}
 use Rattle.properties_format.proofs.Encodings.Utf8First.{first_utf_8_piece-whole, first_utf_8_piece-broken, fitting-take}
 use Rattle.properties_format.proofs.Encodings.Utf8Rows.{is_in-true, fitting-fits, fitting-row, length-row, sequence-row, row-sequence, sequence-nonempty}
 use Rattle.properties_format.proofs.Encodings.WellFormed.{IsUtf8-from_well_formed, well_formed-from_IsUtf8}
-use Rattle.properties_text.specs.Decoding.{ShowsPiece, IsLongestText}
+use Rattle.properties_text.specs.Encoding.{ShowsPiece, IsLongestText}
 
 module _ (b : ℕ) (rs : List Range) (d : List ℕ) (n : ℕ) (row : ranges_after well_formed_rows b ≡ Some rs) (fits : n ≡ length (fitting rs d)) where
   -- As many bytes fit as the row has.

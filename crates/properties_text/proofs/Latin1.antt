@@ -14,13 +14,12 @@ use Rattle.properties_format.proofs.Encodings.Utf8Characters.{encode-two}
 use Rattle.properties_format.specs.Windows1252.{is_in_table, windows_1252_character}
 use Rattle.properties_format.specs.Encoding.{windows_1252}
 use Rattle.properties_format.proofs.Encodings.Waiting.{characters-step}
-use Rattle.properties_text.specs.Decoding.{text_of}
+use Rattle.properties_text.specs.Encoding.{text_of}
 use Rattle.properties_text.specs.declared.encoding.Encoding.TheVariants.{WINDOWS_1252}
-use Rattle.properties_text.specs.Private.Latin1.{lead_byte, last_byte}
+use Rattle.properties_text.specs.Private.Tails.{lead_byte, last_byte}
 use Rattle.properties_text.proofs.TextFronts.{decoded-more}
 use Rattle.byte_blocks.specs.Classes.{is_past_ascii}
-use Rattle.byte_blocks.specs.Marks.{clear_front}
-use Rattle.byte_blocks.specs.Moving.{spread}
+use Rattle.byte_blocks.specs.Marks.{clear_front, spread}
 use Rattle.byte_blocks.proofs.Marking.{fails-before}
 
 -- ---- one character

@@ -7,13 +7,13 @@ use Rattle.std.specs.Char.{IsScalar, encode_utf8}
 use Rattle.std.proofs.lemmas.Bool.{and_from, cases_lt}
 use Rattle.std.proofs.lemmas.List.{nil_from_length, drop-take, length-drop, length-take-le}
 use Rattle.std.proofs.lemmas.Str.{IsUtf8-append, IsUtf8-drop, IsCharBoundary-from_take, chars-append, chars-encodes}
-use Rattle.properties_format.specs.Pieces.{characters}
+use Rattle.properties_format.specs.Text.{characters}
 use Rattle.properties_format.specs.Encoding.{Encoding, windows_1252, utf_8, utf_16le, utf_16be}
 use Rattle.properties_format.specs.Computed.Encoding.{first_piece, pieces_of}
 use Rattle.properties_format.proofs.Encodings.Pieces.{pieces_of-nil}
 use Rattle.properties_format.proofs.Encodings.Waiting.{characters-step}
 use Rattle.properties_format.proofs.Encodings.WellFormed.{IsUtf8-from_well_formed, characters-ascii, characters-text}
-use Rattle.properties_text.specs.Decoding.{IsLongestText, IsText}
+use Rattle.properties_text.specs.Encoding.{IsLongestText, IsText}
 
 -- All bytes are well-formed if the longest well-formed front has all of them, and otherwise not.
 pub whole-text : (bs : List ℕ) (n : ℕ) → IsLongestText bs n → length bs ≤ n → IsUtf8 bs

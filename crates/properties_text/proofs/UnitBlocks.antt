@@ -11,7 +11,7 @@ use Rattle.byte_blocks.proofs.Marking.{fails-before}
 use Rattle.properties_format.specs.Encoding.{utf_16le, utf_16be}
 use Rattle.properties_format.proofs.Encodings.Waiting.{characters-step}
 use Rattle.properties_text.proofs.TextFronts.{decoded-more}
-use Rattle.properties_text.specs.Decoding.{text_of, unit_of, evens, odds, lows_of, highs_of, utf_16_of}
+use Rattle.properties_text.specs.Encoding.{text_of, unit_of, evens, odds, lows_of, highs_of, utf_16_of}
 use Rattle.properties_text.specs.declared.encoding.utf_16.ByteOrder.{ByteOrder}
 use Rattle.properties_text.specs.declared.encoding.utf_16.ByteOrder.TheVariants.{LowFirst, HighFirst}
 

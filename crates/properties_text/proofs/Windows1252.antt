@@ -4,7 +4,7 @@ use Rattle.std.specs.Char.{encode_utf8}
 use Rattle.std.proofs.Math.Utf8.{scalar}
 use Rattle.std.proofs.lemmas.Bool.{and_parts, agree_below_at, eqb-true, leb-true}
 use Rattle.properties_format.specs.Windows1252.{windows_1252_character}
-use Rattle.properties_text.specs.Decoding.{IsTextOfByte}
+use Rattle.properties_text.specs.Encoding.{IsTextOfByte}
 use Rattle.properties_text.specs.declared.encoding.windows_1252.ByteText.{ByteText}
 use Rattle.properties_text.specs.declared.encoding.windows_1252.texts.TheConstants.{TEXTS}
 use Rattle.byte_blocks.proofs.Rows.{starts, starts-take}

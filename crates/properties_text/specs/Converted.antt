@@ -4,8 +4,8 @@ use Rattle.properties_format.specs.Text.{backslash}
 use Rattle.properties_format.specs.Printing.{encoded_text}
 use Rattle.properties_format.specs.Converting.{TextUnit, unit_text, IsUnit, converted_unit}
 use Rattle.properties_format.specs.Computed.Converting.{converted_of}
-use Rattle.properties_text.specs.Spelt.{text_in, IsWell}
-use Rattle.properties_text.specs.Decoding.{text_of}
+use Rattle.properties_text.specs.Escaping.{text_in, IsWell}
+use Rattle.properties_text.specs.Encoding.{text_of}
 use Rattle.properties_text.specs.declared.encoding.Encoding.{Encoding}
 use Rattle.properties_text.specs.Printing.{in_format}
 use Rattle.properties_text.specs.declared.encoding.line.LineEncoding.{LineEncoding}

@@ -2,7 +2,7 @@
 use Rattle.std.specs.Prelude.{◌≡◌, ◌≤◌, ◌+◌, ◌-◌, ◌||◌, ◌==◌, not, ℕ, Bool, List, length, take, drop, Option, Some, None}
 use Rattle.std.specs.Str.{chars, IsCharBoundary}
 use Rattle.byte_blocks.specs.Classes.{is_control}
-use Rattle.properties_format.specs.Text.{backslash, is_blank}
+use Rattle.properties_format.specs.Text.{backslash}
 use Rattle.properties_format.specs.Printing.{is_special}
 use Rattle.properties_format.specs.Computed.Split.{ends_key}
 use Rattle.properties_format.specs.Split.{Logical, blank, comment, pair, IsComment, IsPair, IsSplit}
@@ -17,10 +17,6 @@ stays_in_key c = not (c == backslash || ends_key c)
 -- whether a character is special or a control character
 abbrev pub may_end : ℕ → Bool
 may_end c = is_control c || is_special c
-
--- whether a character isn't a blank
-abbrev pub is_no_blank : ℕ → Bool
-is_no_blank c = not (is_blank c)
 
 -- the bytes of a line at this position
 abbrev pub bytes_in : List ℕ → Span → List ℕ

@@ -3,12 +3,12 @@ use Rattle.std.specs.Prelude.{◌≡◌, ◌⊎◌, ◌≤◌, ◌<◌, ◌+◌,
 use Rattle.properties_format.specs.Escapes as format_escapes
 use Rattle.properties_format.specs.Escapes.{Meaning, means, breaks}
 use Rattle.properties_format.specs.Computed.Escapes.{meaning_of, text_in_front}
-use Rattle.properties_text.specs.Escaping.{malformed_in}
-use Rattle.properties_text.specs.Spelt.{text_in, IsWell, Spells}
+use Rattle.properties_text.specs.Escaping.{malformed_in, text_in, IsWell, IsReadBy}
 use Rattle.properties_text.specs.Printing.{puts_of, key_bytes, printed_bytes}
 use Rattle.properties_text.specs.declared.encoding.line.Spelt.{Spelt}
 use Rattle.properties_text.specs.declared.escape.Malformed.{Malformed}
 use Rattle.std.specs.List.{All}
+use Rattle.std.specs.Result.{result_map_both}
 use Rattle.properties_text.specs.declared.encoding.line.LineEncoding.{LineEncoding}
 use Rattle.properties_text.specs.declared.encoding.line.LineEncoding.TheVariants.{Windows1252, Utf8}
 use Rattle.properties_text.specs.declared.escape.UnescapeError.{UnescapeError}
@@ -43,11 +43,8 @@ printed_in e t escaped bytes = printed_by t (meaning_in e escaped bytes)
 -- whether non-ASCII bytes are copied
 abbrev pub is_copied : LineEncoding → Repertoire → Bool
 is_copied Windows1252 repertoire.Windows1252 = true
-is_copied Windows1252 repertoire.Utf8 = false
-is_copied Windows1252 repertoire.Ascii = false
-is_copied Utf8 repertoire.Windows1252 = false
 is_copied Utf8 repertoire.Utf8 = true
-is_copied Utf8 repertoire.Ascii = false
+is_copied e t = false
 
 -- a byte after the first of a character of UTF-8
 abbrev pub is_inside : ℕ → Bool
@@ -64,15 +61,11 @@ past (b ∷ bs) = if is_inside b then past bs else b ∷ bs
 
 abbrev pub inside_in : LineEncoding → Repertoire → List ℕ → List ℕ
 inside_in Utf8 repertoire.Utf8 bytes = inside bytes
-inside_in Utf8 repertoire.Windows1252 bytes = []
-inside_in Utf8 repertoire.Ascii bytes = []
-inside_in Windows1252 t bytes = []
+inside_in e t bytes = []
 
 abbrev pub past_in : LineEncoding → Repertoire → List ℕ → List ℕ
 past_in Utf8 repertoire.Utf8 bytes = past bytes
-past_in Utf8 repertoire.Windows1252 bytes = bytes
-past_in Utf8 repertoire.Ascii bytes = bytes
-past_in Windows1252 t bytes = bytes
+past_in e t bytes = bytes
 
 -- what the rest of a text comes to, whose front was printed, perhaps up to inside a character
 abbrev pub rest_in : LineEncoding → Repertoire → Bool → List ℕ → Meaning
@@ -108,18 +101,6 @@ Prints m bytes old at new (Err error.Memory) = Unit {0}
 
 -- ---- reading
 
--- So many bytes at the front spell this character, or are it if a backslash stands for itself.
-abbrev pub StandsBy : Bool → LineEncoding → List ℕ → Spelt → Type 0
-StandsBy true e bytes spelt = Spells e bytes spelt
-StandsBy false e bytes spelt = text_in e bytes ≡ spelt.character ∷ text_in e (drop spelt.length bytes)
-
--- The bytes begin with so many that are this character, or spell it.
-pub record IsReadBy (escaped : Bool) (e : LineEncoding) (bytes : List ℕ) (spelt : Spelt) : Type 0 where
-  pub some : 0 < spelt.length
-  pub within : spelt.length ≤ length bytes
-  pub stands : StandsBy escaped e bytes spelt
-  pub well : IsWell e (drop spelt.length bytes)
-
 -- The result of reading the first character of bytes.
 abbrev pub ReadsBy : Bool → LineEncoding → List ℕ → Result Spelt Malformed → Type 0
 ReadsBy escaped e bytes (Ok spelt) = IsReadBy escaped e bytes spelt
@@ -137,10 +118,8 @@ PutsStops e t escaped old at text from new (Err error.Memory) = Unit {0}
 
 -- The result of printing the rest of a text: all of it was read and put; or how it is malformed; or memory ran out.
 abbrev pub PrintsRest : LineEncoding → Repertoire → Bool → List ℕ → ℕ → List ℕ → ℕ → List ℕ → Result ℕ UnescapeError → Type 0
-PrintsRest e t escaped old at text from new (Ok end) =
-    ArePut e t escaped (from_on e t escaped old at text from) text record { read = length text; end = end } new
-PrintsRest e t escaped old at text from new (Err (error.Malformed malformed)) = rest_in e t escaped (drop from text) ≡ breaks (malformed_in malformed)
-PrintsRest e t escaped old at text from new (Err error.Memory) = Unit {0}
+PrintsRest e t escaped old at text from new result =
+    PutsStops e t escaped old at text from new (result_map_both (λ end. record { read = length text; end = end }) (λ e. e) result)
 
 -- Bytes were put one by one, none of which is a stop.
 pub record IsRunPut (holds : ℕ → Bool) (old : List ℕ) (at : ℕ) (text : List ℕ) (from : ℕ) (put : Put) (new : List ℕ) : Type 0 where

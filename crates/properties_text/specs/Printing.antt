@@ -1,7 +1,7 @@
 -- What is appended when a text is printed, by its place in the line.
 use Rattle.std.specs.Prelude.{◌≡◌, ℕ, nat_lt, ◌==◌, ◌&&◌, ◌-◌, Bool, not, if◌then◌else◌, List, [], ◌∷◌, ◌++◌, length, take, get_or, Result, OnOk}
 use Rattle.properties_format.specs.Printing as format
-use Rattle.properties_format.specs.Repertoire as meant
+use Rattle.properties_format.specs.Encoding as meant
 use Rattle.properties_format.specs.Text.{tab, line_feed, form_feed, space, backslash, is_separator}
 use Rattle.properties_format.specs.Encoding.{windows_1252, utf_8}
 use Rattle.properties_text.specs.declared.print.Repertoire.{Repertoire}

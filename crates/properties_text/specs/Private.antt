@@ -1,3 +1,1 @@
-pub mod Latin1
-pub mod Labels
 pub mod Tails

@@ -4,7 +4,7 @@ ghost use Rattle.std.specs.Prelude.{◌≡◌, ◌<◌, IfOk, true, length};
 ghost use Rattle.properties_format.specs.Converting.{IsConverted, first_escaped};
 ghost use Rattle.properties_format.specs.Printing.{encoded_text};
 ghost use Rattle.properties_text.specs.Encoding.{encoding_of};
-ghost use Rattle.properties_text.specs.Spelt.{IsWell, text_in};
+ghost use Rattle.properties_text.specs.Escaping.{IsWell, text_in};
 ghost use Rattle.properties_text.specs.Printing.{in_format};
 ghost use Rattle.properties_text.specs.Converted.{is_readable, body_bytes, line_in};
 

@@ -3,8 +3,7 @@
 ghost use Rattle.std.specs.Prelude.{◌≡◌};
 ghost use Rattle.std.specs.Option.{option_map};
 ghost use Rattle.properties_format.specs.Encoding.{output_encoding};
-ghost use Rattle.properties_format.specs.Labels.{IsLabelled};
-ghost use Rattle.properties_format.specs.Names.{name_of, IsNamed};
+ghost use Rattle.properties_format.specs.Names.{IsLabelled, name_of, IsNamed};
 ghost use Rattle.properties_text.specs.Encoding.{encoding_of};
 
 mod ascii;

@@ -5,10 +5,9 @@ ghost use Rattle.std.specs.Str.{chars};
 ghost use Rattle.std.specs.String.{string_bytes};
 ghost use Rattle.memchr.specs.Find.{IsFirstByte, is_byte};
 ghost use Rattle.properties_format.specs.Text.{backslash};
-ghost use Rattle.properties_format.specs.Groups.{ending_backslashes};
+ghost use Rattle.properties_format.specs.Lines.{ending_backslashes};
 ghost use Rattle.properties_text.specs.declared.escape.UnescapeError.TheVariants.{Memory};
-ghost use Rattle.properties_text.specs.Spelt.{IsWell, Checks};
-ghost use Rattle.properties_text.specs.Escaping.{holds_backslash, is_borrowed_result, Unescapes, Appends, ResolvesFront};
+ghost use Rattle.properties_text.specs.Escaping.{IsWell, Checks, holds_backslash, is_borrowed_result, Unescapes, Appends, ResolvesFront};
 
 use crate::encoding::{LineEncoding, put_character};
 use byte_blocks::{Byte, find};

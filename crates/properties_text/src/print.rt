@@ -4,14 +4,13 @@ ghost use Rattle.std.specs.Prelude.{◌≡◌, ◌≤◌, ◌<◌, ◌++◌, ◌
 ghost use Rattle.std.specs.Str.{chars};
 ghost use Rattle.memchr.specs.Find.{IsFirstByte};
 ghost use Rattle.properties_format.specs.Text.{backslash};
-ghost use Rattle.properties_format.specs.Encoding.{begins_like_bom};
-ghost use Rattle.properties_format.specs.Repertoire.{all_of};
+ghost use Rattle.properties_format.specs.Encoding.{begins_like_bom, all_of};
 ghost use Rattle.properties_format.specs.Escapes.{means};
 ghost use Rattle.properties_format.specs.Computed.Escapes.{meaning_of};
 ghost use Rattle.properties_format.specs.Printing.{unicode_escape, literal, encoded_text};
 ghost use Rattle.properties_text.specs.Encoding.{line_of};
 ghost use Rattle.properties_text.specs.Parsing.{IsSpan, bytes_in};
-ghost use Rattle.properties_text.specs.Spelt.{text_in, IsWell};
+ghost use Rattle.properties_text.specs.Escaping.{text_in, IsWell};
 ghost use Rattle.properties_text.specs.Printing.{in_format, AppendsOnOk, character_bytes, text_bytes, put_of, puts_of, value_bytes, rest_bytes, inside_bytes, key_bytes, escaped_key, is_first_escaped, last_run};
 ghost use Rattle.properties_text.specs.PrintedTexts.{is_copied, StopsIn, meaning_in, Prints, bytes_of, key_of, value_of, IsPair, PrintsPair, ReadsBy, PrintsMeant};
 
@@ -300,7 +299,8 @@ pub fn print_text(
     Ok(())
 }
 
-/// Appends a value with as few escapes as the format allows, after blanks only or after a separator.
+/// Appends a value as people write it, without the backslashes that a key needs inside: after blanks only, or after a
+/// separator.
 ///
 /// Spaces, separators and comment signs are not escaped, except at the ends: a space at the start is escaped with a
 /// backslash, and so is a separator at the start if only blanks come before it. A space at the end is `\u0020`, which

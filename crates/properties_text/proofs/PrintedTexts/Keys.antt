@@ -7,7 +7,7 @@ use Rattle.properties_format.specs.Encoding.{begins_like_bom}
 use Rattle.properties_format.specs.Escapes.{Meaning, means}
 use Rattle.properties_format.specs.Printing.{in_key_or_value, unicode_escape}
 use Rattle.properties_text.specs.Printing.{in_format, puts_of, key_bytes, escaped_key}
-use Rattle.properties_text.specs.PrintedTexts.{meaning_by, meaning_in, IsReadBy, IsPut, Prints}
+use Rattle.properties_text.specs.PrintedTexts.{meaning_by, meaning_in, IsPut, Prints}
 use Rattle.properties_text.specs.declared.encoding.line.LineEncoding.{LineEncoding}
 use Rattle.properties_text.specs.declared.encoding.line.Spelt.{Spelt}
 use Rattle.properties_text.specs.declared.escape.UnescapeError.{UnescapeError}
@@ -16,6 +16,7 @@ use Rattle.properties_text.specs.declared.print.Repertoire.{Repertoire}
 use Rattle.properties_text.proofs.Printing.Characters.{first_escaped_more}
 use Rattle.properties_text.proofs.PrintedTexts.Runs.{read-meaning, empty-means, front-kept, fewer-kept}
 use Rattle.properties_text.proofs.Spelt.Escapes.{no-text}
+use Rattle.properties_text.specs.Escaping.{IsReadBy}
 
 -- ---- what was put
 
@@ -105,10 +106,10 @@ pub escaped-rest : {e : LineEncoding} {escaped : Bool} {text rest mid written : 
 escaped-rest {e} {escaped} {text} {first = first} r old new at between (Ok end) read is back put h = record {
   within = h.within;
   meant = first.character ∷ h.meant;
-  meaning = read-meaning escaped e text first read.stands ∙ rw (← is, h.meaning) refl;
+  meaning = read-meaning escaped e text first read.is ∙ rw (← is, h.meaning) refl;
   printed = h.printed ∙ ap (λ v. v ++ puts_of r h.meant) (ap (take between) back ∙ put)
       ∙ first_escaped_more (in_format r) in_key_or_value (take at old) h.meant first.character;
 }
 escaped-rest {e} {escaped} {text} {first = first} r old new at between (Err (error.Malformed kind)) read is back put h =
-    read-meaning escaped e text first read.stands ∙ rw (← is, h) refl
+    read-meaning escaped e text first read.is ∙ rw (← is, h) refl
 escaped-rest r old new at between (Err error.Memory) read is back put h = tt

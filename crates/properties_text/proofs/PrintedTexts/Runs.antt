@@ -13,10 +13,9 @@ use Rattle.properties_format.specs.Escapes as format
 use Rattle.properties_format.specs.Escapes.{Meaning, means, breaks}
 use Rattle.properties_format.specs.Computed.Escapes.{in_front, text_in_front}
 use Rattle.properties_format.proofs.Escapes.Unique.{text_in_front-means, text_in_front-breaks, meaning_of-empty}
-use Rattle.properties_text.specs.Escaping.{malformed_in}
+use Rattle.properties_text.specs.Escaping.{malformed_in, text_in, IsWell, IsReadBy, StandsBy, IsFirst}
 use Rattle.properties_text.specs.Printing.{printed_byte, printed_bytes, with_backslashes, put_of, puts_of}
-use Rattle.properties_text.specs.Spelt.{text_in, IsWell, IsFirst}
-use Rattle.properties_text.specs.PrintedTexts.{meaning_by, meaning_in, printed_by, printed_in, is_copied, is_inside, past_in, rest_in, StopsIn, ArePut, StandsBy, IsReadBy, ReadsBy, from_on, PutsStops, PrintsRest, IsRunPut, IsPut, Prints}
+use Rattle.properties_text.specs.PrintedTexts.{meaning_by, meaning_in, printed_by, printed_in, is_copied, is_inside, past_in, rest_in, StopsIn, ArePut, ReadsBy, from_on, PutsStops, PrintsRest, IsRunPut, IsPut, Prints}
 use Rattle.properties_text.specs.declared.encoding.line.LineEncoding.{LineEncoding}
 use Rattle.properties_text.specs.declared.encoding.line.LineEncoding.TheVariants.{Windows1252, Utf8}
 use Rattle.properties_text.specs.declared.encoding.line.Spelt.{Spelt}
@@ -38,15 +37,16 @@ use Rattle.properties_text.proofs.PrintedTexts.Steps.{printed-one, rest-well, pa
 -- Any other character stands for itself.
 pub reads-itself : (escaped : Bool) (e : LineEncoding) (bs : List ℕ) (spelt : Spelt) → IsWell e bs → (get_or bs 0 0 ≡ backslash → escaped ≡ false)
     → IsFirst e bs spelt → ReadsBy escaped e bs (Ok spelt)
-reads-itself false e bs spelt w other h = record { some = h.some; within = h.within; stands = h.characters; well = h.well }
+reads-itself false e bs spelt w other h = h
 reads-itself true e bs spelt w other h = record {
   some = h.some;
   within = h.within;
-  stands = record {
+  scalar = h.scalar;
+  is = record {
     spelling = format.itself spelt.character;
-    whole = h.characters;
+    whole = h.is;
     stands = ne_eqb spelt.character backslash (λ q.
-        let back = ascii-back e bs spelt.character (text_in e (drop spelt.length bs)) w h.characters (omega (arith, q)) in
+        let back = ascii-back e bs spelt.character (text_in e (drop spelt.length bs)) w h.is (omega (arith, q)) in
         let both : true ≡ false = other (ap (λ v. get_or v 0 0) back.1 ∙ q) in
         cc);
     character = refl;
@@ -99,7 +99,7 @@ module _ {holds : ℕ → Bool} {e : LineEncoding} {t : Repertoire} {whole : Mea
       let left : drop spelt.length bs ≡ drop put.read text = drop-drop spelt.length so_far.read text ∙ ap (λ n. drop n text) (sym at) in
       let well : IsWell e (drop put.read text) = subst (IsWell e) left h.well in
       let own = own-stop holds e t text so_far.read s inside stop held.well in
-      let meaning = read-meaning (holds backslash) e bs spelt h.stands in
+      let meaning = read-meaning (holds backslash) e bs spelt h.is in
       put-step (put_of t spelt.character) (omega (arith, held.read, h.within, length-drop so_far.read text, at))
       (subst (IsWell e) (sym (past-well e t (drop put.read text) well)) well)
       (rw (rest-well e t (holds backslash) bs own, meaning, printed-one, left, rest-well e t (holds backslash) (drop put.read text) well) refl)

@@ -8,8 +8,7 @@ use Rattle.std.specs.Str.{IsUtf8}
 use Rattle.std.proofs.lemmas.Bool.{cases_lt, not-false, cond-false, and_from, and_left, and_right, lt-leb, le-leb}
 use Rattle.std.proofs.lemmas.Str.{IsCharBoundary-start}
 use Rattle.std.proofs.lemmas.List.Elements.{All-head, All-tail}
-use Rattle.properties_format.specs.Encoding.{utf_8, windows_1252, one_byte, encoded}
-use Rattle.properties_format.specs.Repertoire.{ascii_in, all_of}
+use Rattle.properties_format.specs.Encoding.{utf_8, windows_1252, one_byte, encoded, ascii_in, all_of}
 use Rattle.properties_format.specs.Text.{backslash}
 use Rattle.properties_format.specs.Windows1252.{windows_1252_character, windows_1252_byte}
 use Rattle.properties_format.specs.Escapes.{Meaning, means, breaks}
@@ -21,7 +20,7 @@ use Rattle.properties_format.proofs.Escapes.Laws.{meaning_of-itself}
 use Rattle.properties_format.proofs.Escapes.Unique.{text_in_front-means, text_in_front-breaks}
 use Rattle.properties_format.proofs.Printing.Characters.{encoded_text-append}
 use Rattle.properties_text.specs.Printing.{printed_byte, printed_bytes, in_format, put_of}
-use Rattle.properties_text.specs.Spelt.{text_in, IsWell}
+use Rattle.properties_text.specs.Escaping.{text_in, IsWell}
 use Rattle.properties_text.specs.PrintedTexts.{meaning_by, meaning_in, printed_by, printed_in, is_copied, is_inside, inside, past, past_in, rest_in, StopsIn}
 use Rattle.properties_text.specs.declared.encoding.line.LineEncoding.{LineEncoding}
 use Rattle.properties_text.specs.declared.encoding.line.LineEncoding.TheVariants.{Windows1252, Utf8}

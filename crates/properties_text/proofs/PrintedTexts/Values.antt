@@ -13,8 +13,8 @@ use Rattle.properties_format.specs.Computed.Escapes.{in_front, text_in_front, me
 use Rattle.properties_format.proofs.Escapes.Laws.{meaning_of-plain_front}
 use Rattle.properties_format.proofs.Escapes.Unique.{text_in_front-means, text_in_front-breaks, meaning_of-meets}
 use Rattle.properties_text.specs.Printing.{in_format, put_of, value_bytes, rest_bytes, inside_bytes, is_first_escaped, last_run}
-use Rattle.properties_text.specs.Spelt.{text_in, IsWell}
-use Rattle.properties_text.specs.PrintedTexts.{meaning_by, meaning_in, IsReadBy, PrintsMeant}
+use Rattle.properties_text.specs.Escaping.{text_in, IsWell, IsReadBy}
+use Rattle.properties_text.specs.PrintedTexts.{meaning_by, meaning_in, PrintsMeant}
 use Rattle.properties_text.specs.declared.encoding.line.LineEncoding.{LineEncoding}
 use Rattle.properties_text.specs.declared.encoding.line.LineEncoding.TheVariants.{Windows1252, Utf8}
 use Rattle.properties_text.specs.declared.encoding.line.Spelt.{Spelt}
@@ -109,7 +109,7 @@ module _ {e : LineEncoding} {r : Repertoire} {escaped : Bool} {before text rest 
         let step : meaning_in e escaped rest ≡ text_in_front run (in_front c (meaning_in e escaped left)) =
         rest-meaning
         ∙ ap₂ (λ x y. text_in_front x (meaning_in e escaped y)) (sym run_is) (sym others_is)
-        ∙ ap (text_in_front run) (read-meaning escaped e others spelt read.stands) in
+        ∙ ap (text_in_front run) (read-meaning escaped e others spelt read.is) in
         record {
           well = read.well;
           done = held.done ++ (run ++ c ∷ []);
@@ -162,7 +162,7 @@ module _ {e : LineEncoding} {escaped : Bool} {bytes : List ℕ} {first : Spelt} 
       → PrintsMeant (meaning_in e escaped bytes) (rest_bytes r) line result new
       → PrintsMeant (meaning_in e escaped bytes) (value_bytes r after_blanks) line result new
   value-plain new (Ok done) plain h =
-      let f = begins-with first.character (meaning_in e escaped rest) h.0 (sym (read-meaning escaped e bytes first read.stands) ∙ h.1) in
+      let f = begins-with first.character (meaning_in e escaped rest) h.0 (sym (read-meaning escaped e bytes first read.is) ∙ h.1) in
       let own = ap (is_first_escaped after_blanks first.character) (left-empty e escaped rest f.0 read.well f.1) ∙ plain in
       let value = first-plain (in_format r) after_blanks first.character f.0 own in
       (h.0, h.1, h.2 ∙ rw f.2 (ap (λ v. line ++ encoded_text (in_format r).encoding v) (sym value)))
@@ -174,9 +174,9 @@ module _ {e : LineEncoding} {escaped : Bool} {bytes : List ℕ} {first : Spelt} 
       → more ≡ line ++ put_of r first.character → PrintsMeant (meaning_in e escaped rest) (rest_bytes r) more result new
       → PrintsMeant (meaning_in e escaped bytes) (value_bytes r after_blanks) line result new
   value-escaped more new (Ok done) own put h =
-      let meaning = read-meaning escaped e bytes first read.stands in
+      let meaning = read-meaning escaped e bytes first read.is in
       let is = ap (is_first_escaped after_blanks first.character) (left-empty e escaped rest h.0 read.well h.1) ∙ own in
       (first.character ∷ h.0, meaning ∙ ap (in_front first.character) h.1, after-first (in_format r) after_blanks line more new first.character h.0 is put h.2)
   value-escaped more new (Err (error.Malformed kind)) own put h =
-      read-meaning escaped e bytes first read.stands ∙ ap (in_front first.character) h
+      read-meaning escaped e bytes first read.is ∙ ap (in_front first.character) h
   value-escaped more new (Err error.Memory) own put h = tt

@@ -5,8 +5,7 @@ use Rattle.std.proofs.lemmas.Bool.{cases_Bool, cases_lt, agree_below_at, false_f
 use Rattle.std.proofs.lemmas.Bool.Decides.{nat_tests}
 use Rattle.properties_format.specs.Text.{space, backslash}
 use Rattle.properties_format.specs.Windows1252.{windows_1252_byte, windows_1252_table, is_in_table, place_from}
-use Rattle.properties_format.specs.Encoding.{windows_1252, one_byte, encoded}
-use Rattle.properties_format.specs.Repertoire.{Repertoire, all_of}
+use Rattle.properties_format.specs.Encoding.{windows_1252, one_byte, encoded, Repertoire, all_of}
 use Rattle.properties_format.specs.Printing.{in_key_or_value, unit_escape, unicode_escape, may_be_unescaped, is_special, has_letter, letter_escape, printed_character, encoded_text}
 use Rattle.properties_format.proofs.Printing.Characters.{encoded_text-ascii, encoded-ascii, special-ascii, letter_escape-ascii}
 use Rattle.properties_text.specs.Printing.{printed_byte, printed_bytes, backslashes_before, last_of}

@@ -1,6 +1,5 @@
 -- What is printed for a value that is set in place: runs of characters that need no escape, and by turns one that may.
-use Rattle.std.proofs.Common.{◌≡◌, ◌≢◌, ℕ, suc, ◌-◌, ◌<◌, ◌≤◌, ◌==◌, ◌&&◌, ◌||◌, Bool, true, false, not, nat_lt, if◌then◌else◌, List, [], ◌∷◌, ◌++◌, length, take, get_or, refl, ap, sym, ◌∙◌, subst, inl, inr}
-use Rattle.std.proofs.Common.{append_assoc, append-nil, arith, le-ltb, eqb-true, ne_eqb}
+use Rattle.std.proofs.Common.{◌≡◌, ◌≢◌, ℕ, suc, ◌-◌, ◌<◌, ◌≤◌, ◌==◌, ◌&&◌, ◌||◌, Bool, true, false, not, nat_lt, if◌then◌else◌, List, [], ◌∷◌, ◌++◌, length, take, get_or, refl, ap, sym, ◌∙◌, subst, inl, inr, append_assoc, append-nil, arith, le-ltb, eqb-true, ne_eqb}
 use Rattle.std.specs.Prelude.{Some, None}
 use Rattle.std.specs.List.{All}
 use Rattle.std.specs.Str.{chars}
@@ -12,15 +11,16 @@ use Rattle.std.proofs.lemmas.List.Elements.{All-head, All-tail, All-nil, All-con
 use Rattle.memchr.specs.Find.{IsFirstByte}
 use Rattle.byte_blocks.specs.Classes.{is_control, is_past_ascii}
 use Rattle.properties_format.specs.Text.{space, backslash, is_separator, is_comment_sign, is_empty}
-use Rattle.properties_format.specs.Repertoire.{Repertoire}
+use Rattle.properties_format.specs.Encoding.{Repertoire}
 use Rattle.properties_format.specs.Printing.{in_key_or_value, is_special, has_letter, unicode_escape, printed_character, encoded_text, is_free, printed_inside, printed_first, printed_last, printed_rest, printed_value}
 use Rattle.properties_format.specs.Writing.{HoldsNoBackslash}
 use Rattle.properties_format.proofs.Printing.Characters.{encoded_text-append, encoded_text-ascii, unicode_escape-ascii}
 use Rattle.properties_text.specs.Printing.{is_first_escaped, last_run}
-use Rattle.properties_text.specs.Spelt.{text_in, IsWell}
+use Rattle.properties_text.specs.Escaping.{text_in, IsWell}
 use Rattle.properties_text.specs.declared.encoding.line.LineEncoding.{LineEncoding}
 use Rattle.properties_text.proofs.Printing.Bytes.{ascii-printed}
 use Rattle.properties_text.proofs.Spelt.First.{ascii-first}
+use Rattle.properties_format.proofs.Valued.Fronts.{right-some}
 
 -- A text without bytes has no characters.
 pub none-left : (x : List ℕ) → (length x == 0) ≡ true → chars x ≡ []
@@ -43,10 +43,6 @@ plain b h =
     let p = or_parts (is_past_ascii b) (is_control b || b == 0x5c) h in
     let q = or_parts (is_control b) (b == 0x5c) p.1 in
     record { ascii = grind (arith, nat_tests, p.0); printable = grind (arith, nat_tests, q.0); other = q.1 }
-
-append-some : (xs cs : List ℕ) → cs ≢ [] → xs ++ cs ≢ []
-append-some [] cs some = some
-append-some (x ∷ xs) cs some = λ none. cc none
 
 longer-run : (b c : ℕ) (bs : List ℕ) → last_run (b ∷ c ∷ bs) ≡ b ∷ last_run (c ∷ bs)
 longer-run b c bs =
@@ -84,7 +80,7 @@ module _ (r : Repertoire) where
       → encoded_text r.encoding (printed_rest r (xs ++ cs)) ≡ xs ++ encoded_text r.encoding (printed_rest r cs)
   run-before [] cs all some = refl
   run-before (x ∷ xs) cs all some =
-      ap (encoded_text r.encoding) (more-after x (xs ++ cs) (append-some xs cs some))
+      ap (encoded_text r.encoding) (more-after x (xs ++ cs) (right-some xs cs some))
       ∙ encoded_text-append r.encoding (printed_inside r x) (printed_rest r (xs ++ cs))
       ∙ ap (λ v. v ++ encoded_text r.encoding (printed_rest r (xs ++ cs))) (plain-inside x (plain x (All-head (λ b. stops b ≡ false) x xs all)))
       ∙ ap (λ v. x ∷ v) (run-before xs cs (All-tail (λ b. stops b ≡ false) x xs all) some)

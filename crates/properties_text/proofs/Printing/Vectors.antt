@@ -7,7 +7,7 @@ use Rattle.std.proofs.lemmas.List.Elements.{All-head, All-tail}
 use Rattle.std.proofs.lemmas.Simd.{splat_is_map}
 use Rattle.properties_format.specs.Text.{space, backslash}
 use Rattle.properties_format.specs.Printing.{is_special}
-use Rattle.byte_blocks.specs.Moving.{spread}
+use Rattle.byte_blocks.specs.Marks.{spread}
 use Rattle.properties_text.specs.Printing.{printed_byte, printed_bytes, with_backslashes}
 
 -- ---- backslashes

@@ -10,8 +10,7 @@ use Rattle.properties_format.specs.Escapes.{letter_u, escaped, unicode, surrogat
 use Rattle.properties_format.specs.Computed.Escapes.{in_front, with_low, meaning_of}
 use Rattle.properties_format.proofs.Escapes.Laws.{IsMalformedUnit}
 use Rattle.properties_format.proofs.Escapes.Unique.{meaning_of-spelling}
-use Rattle.properties_text.specs.Escaping.{malformed_in}
-use Rattle.properties_text.specs.Spelt.{text_in, IsWell, IsFirst, Spells, IsRead, Reads, digits_in, BeginsUnit, HasDigits, LacksDigits, HasLow, LacksLow, CountsFour}
+use Rattle.properties_text.specs.Escaping.{malformed_in, text_in, IsWell, Spells, Reads, digits_in, BeginsUnit, HasDigits, LacksDigits, HasLow, LacksLow, CountsFour, IsFirst, IsRead}
 use Rattle.properties_text.specs.declared.encoding.line.LineEncoding.{LineEncoding}
 use Rattle.properties_text.specs.declared.encoding.line.LineEncoding.TheVariants.{Windows1252, Utf8}
 use Rattle.properties_text.specs.declared.encoding.line.Spelt.{Spelt}
@@ -193,7 +192,7 @@ reads-unit {e} {bs} {value} w b h in_range is s =
       some = omega arith;
       within = h.within;
       scalar = s;
-      spells = record {
+      is = record {
         spelling = unicode u.0.digits;
         whole = a.characters ∙ ap (λ v. backslash ∷ letter_u ∷ v) u.0.whole;
         stands = (u.0.hexadecimal, sym (ap is_surrogate u.0.writes) ∙ scalar-unit value in_range);
@@ -216,7 +215,7 @@ reads-pair {e} {bs} {high} w b h l s =
       some = omega arith;
       within = omega (arith, l.digits.within, length-drop 6 bs);
       scalar = s;
-      spells = record {
+      is = record {
         spelling = surrogates u.0.digits v.0.digits;
         whole = a.characters
             ∙ ap (λ x. backslash ∷ letter_u ∷ x) (u.0.whole ∙ ap (λ x. four_text u.0.digits ++ x) (a'.characters
@@ -238,7 +237,7 @@ reads-ascii {e} {bs} w some b other small is s =
       some = omega arith;
       within = some;
       scalar = s;
-      spells = record {
+      is = record {
         spelling = escaped x;
         whole = a.characters ∙ ap (λ v. v ∷ x ∷ text_in e (drop 2 bs)) b;
         stands = ne_eqb x letter_u other;
@@ -261,7 +260,7 @@ reads-end {e} {bs} w one b =
       some = omega arith;
       within = omega arith;
       scalar = refl;
-      spells = record {
+      is = record {
         spelling = last;
         whole = a.characters ∙ ap (λ v. v ∷ text_in e (drop 1 bs)) b;
         stands = no-text e (drop 1 bs) (omega (arith, length-drop 1 bs));
@@ -278,7 +277,7 @@ reads-past {e} {bs} {first} w some b past f =
     let c = first.character in
     let rest = text_in e (drop first.length (drop 1 bs)) in
     let wide : 0x80 ≤ c = elim (cases_lt c 0x80) [
-      | inl h ↦ absurd (let back = ascii-back e (drop 1 bs) c rest a.well f.characters h in
+      | inl h ↦ absurd (let back = ascii-back e (drop 1 bs) c rest a.well f.is h in
           let is : get_or bs 1 0 ≡ c = sym (dropped bs 1 0) ∙ ap (λ v. get_or v 0 0) back.1 in omega arith)
       | inr h ↦ h
     ] in
@@ -287,9 +286,9 @@ reads-past {e} {bs} {first} w some b past f =
       some = omega arith;
       within = omega (arith, f.within, length-drop 1 bs);
       scalar = f.scalar;
-      spells = record {
+      is = record {
         spelling = escaped c;
-        whole = a.characters ∙ ap₂ (λ x v. x ∷ v) b f.characters ∙ ap (λ v. backslash ∷ c ∷ text_in e v) left;
+        whole = a.characters ∙ ap₂ (λ x v. x ∷ v) b f.is ∙ ap (λ v. backslash ∷ c ∷ text_in e v) left;
         stands = ne_eqb c letter_u (λ q. absurd (omega arith));
         character = sym (other-character c (λ q. absurd (omega arith)) (λ q. absurd (omega arith)) (λ q. absurd (omega arith)) (λ q. absurd (omega arith)));
       };

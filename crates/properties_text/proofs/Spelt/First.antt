@@ -14,11 +14,11 @@ use Rattle.properties_format.specs.Text.{scalar as is_scalar}
 use Rattle.std.proofs.lemmas.Bool.Decides.{nat_tests}
 use Rattle.properties_format.specs.Utf8.{sequence_character}
 use Rattle.properties_format.specs.Windows1252.{windows_1252_character}
-use Rattle.properties_format.specs.Computed.Undecoded.{characters_of}
+use Rattle.properties_format.specs.Computed.Cut.{characters_of}
 use Rattle.properties_format.proofs.Encodings.Utf8Characters.{encode-one, encode-two, encode-three, encode-four, encode-is_sequence}
 use Rattle.properties_format.proofs.Encodings.WellFormed.{scalar-from_char}
 use Rattle.properties_format.proofs.Encodings.Windows1252.{windows_1252-ascii, windows_1252_character-ascii}
-use Rattle.properties_text.specs.Spelt.{text_in, IsWell, IsFirst, length_by_first}
+use Rattle.properties_text.specs.Escaping.{text_in, IsWell, length_by_first, IsFirst}
 use Rattle.properties_text.specs.declared.encoding.line.LineEncoding.{LineEncoding}
 use Rattle.properties_text.specs.declared.encoding.line.LineEncoding.TheVariants.{Windows1252, Utf8}
 use Rattle.properties_text.specs.declared.encoding.line.Spelt.{Spelt}
@@ -62,7 +62,7 @@ begins bs rest c n u s e is =
       some = omega (arith, size, some);
       within = omega (arith, size, ap length e, length-append (encode c) rest);
       scalar = subst IsScalar (sym code) s;
-      characters = a.characters ∙ ap₂ (λ x v. x ∷ chars v) (sym code) (sym left);
+      is = a.characters ∙ ap₂ (λ x v. x ∷ chars v) (sym code) (sym left);
       well = subst IsUtf8 (sym left) a.utf8;
     }
 

@@ -10,10 +10,9 @@ use Rattle.properties_format.specs.Escapes.{means}
 use Rattle.properties_format.specs.Windows1252.{windows_1252_character}
 use Rattle.properties_format.specs.Writing.{HoldsNoBackslash}
 use Rattle.properties_format.specs.Computed.Escapes.{text_in_front, meaning_of}
-use Rattle.properties_format.specs.Computed.Undecoded.{characters_of}
+use Rattle.properties_format.specs.Computed.Cut.{characters_of}
 use Rattle.properties_format.proofs.Escapes.Laws.{meaning_of-plain_front, meaning_of-plain}
-use Rattle.properties_text.specs.Escaping.{holds_backslash}
-use Rattle.properties_text.specs.Spelt.{text_in, IsWell, IsRead}
+use Rattle.properties_text.specs.Escaping.{holds_backslash, text_in, IsWell, IsRead}
 use Rattle.properties_text.specs.declared.encoding.line.LineEncoding.{LineEncoding}
 use Rattle.properties_text.specs.declared.encoding.line.LineEncoding.TheVariants.{Windows1252, Utf8}
 use Rattle.properties_text.specs.declared.encoding.line.Spelt.{Spelt}
@@ -79,5 +78,5 @@ one-read e text rest at spelt held s r = record {
   well = r.well;
   done = held.done ++ (s.front ++ spelt.character ∷ []);
   resolved = resolved_many s.front (text_in e (drop at rest)) (spelt.character ∷ [])
-      held.resolved s.meaning (spells-meaning e (drop at rest) spelt r.spells) refl;
+      held.resolved s.meaning (spells-meaning e (drop at rest) spelt r.is) refl;
 }

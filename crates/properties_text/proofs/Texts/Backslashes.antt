@@ -5,7 +5,7 @@ use lib.Utf8.{encodes}
 use Rattle.std.specs.Str.{IsUtf8, chars}
 use Rattle.std.proofs.lemmas.Str.{encodes-chars}
 use Rattle.properties_format.specs.Text.{backslash}
-use Rattle.properties_format.specs.Groups.{ending_backslashes}
+use Rattle.properties_format.specs.Lines.{ending_backslashes}
 use Rattle.properties_format.proofs.Groups.Open.{ending_backslashes-none, ending_backslashes-after}
 use Rattle.properties_text.proofs.Scanning.{take-last}
 use Rattle.properties_text.proofs.Texts.Characters.{AreWide, one, wide, encoded, wide-no_backslash}

@@ -6,8 +6,8 @@ use lib.Utf8.{encode, encodes, scalars}
 use Rattle.std.specs.Str.{IsUtf8, IsCharBoundary, chars}
 use Rattle.std.proofs.lemmas.Str.{encodes-chars, encodes-append, IsCharBoundary-from_take}
 use Rattle.std.proofs.lemmas.Bool.{cases_Bool}
-use Rattle.properties_format.specs.Text.{backslash, without_leading_blanks}
-use Rattle.properties_format.specs.Groups.{is_open, begins_with_comment_sign, is_comment_line, without_last, without_open_backslash}
+use Rattle.properties_format.specs.Text.{backslash, without_leading_blanks, begins, is_comment_sign}
+use Rattle.properties_format.specs.Lines.{is_open, is_comment_line, without_last, without_open_backslash}
 use Rattle.properties_format.proofs.Groups.Open.{open-ends, without_last-push}
 use Rattle.properties_text.proofs.Texts.Characters.{one, wide, encoded, wide-no_comment_sign, scalars-parts, IsPart, part_by}
 use Rattle.properties_text.proofs.Texts.Backslashes.{ending_backslashes-encodes, ending_backslashes-text}
@@ -16,7 +16,7 @@ use Rattle.properties_text.proofs.Texts.Split.{without_leading_blanks-part}
 -- ---- comment lines
 
 -- A comment sign comes first in bytes exactly if it does in characters.
-comment_line-encodes : (cs : List ℕ) → begins_with_comment_sign (encodes cs) ≡ begins_with_comment_sign cs
+comment_line-encodes : (cs : List ℕ) → begins is_comment_sign (encodes cs) ≡ begins is_comment_sign cs
 comment_line-encodes [] = refl
 comment_line-encodes (c ∷ cs) = elim (encoded c) [
   | one s e ↦ rw e refl

@@ -6,8 +6,8 @@ use Rattle.std.proofs.Math.Seq.{drop-append-add}
 use Rattle.std.proofs.lemmas.Bool.{cases_lt, both_ways}
 use Rattle.std.proofs.lemmas.List.{drop_more, drop-drop, take_rest, length-drop, length-take, length-append}
 use Rattle.std.proofs.lemmas.Str.{IsUtf8-drop, IsCharBoundary-after_ascii, IsCharBoundary-from_drop, IsCharBoundary-from_take, IsCharBoundary-from_rest}
-use Rattle.properties_format.specs.Text.{is_blank, is_comment_sign, without_leading_blanks}
-use Rattle.properties_format.specs.Split.{pair, begins, AreBlanks, IsComment, IsPair, IsSplit}
+use Rattle.properties_format.specs.Text.{is_blank, is_comment_sign, without_leading_blanks, begins}
+use Rattle.properties_format.specs.Split.{pair, AreBlanks, IsComment, IsPair, IsSplit}
 use Rattle.properties_format.specs.Computed.Split.{trimmed, split_full, split_of}
 use Rattle.properties_format.proofs.Split.Blanks.{without_leading_blanks-only, core-begins}
 use Rattle.properties_format.proofs.Split.Unique.{split_of-meets, sign-full}

@@ -2,8 +2,7 @@
 
 ghost use Rattle.std.specs.Prelude.{◌≡◌};
 ghost use Rattle.properties_format.specs.Encoding.{begins_like_bom};
-ghost use Rattle.properties_text.specs.Decoding.{FindsByteOrderMark, IsBody};
-ghost use Rattle.properties_text.specs.Encoding.{encoding_of};
+ghost use Rattle.properties_text.specs.Encoding.{FindsByteOrderMark, IsBody, encoding_of};
 
 use super::Encoding;
 

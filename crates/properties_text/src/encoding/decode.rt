@@ -4,8 +4,7 @@ ghost use Rattle.std.specs.Prelude.{◌↔◌, ◌⊎◌, IsSome, ◌≡◌, ◌
 ghost use Rattle.std.specs.Char.{encode_utf8, IsScalar};
 ghost use Rattle.std.specs.List.{AllByRecursion};
 ghost use Rattle.std.specs.Str.{IsUtf8};
-ghost use Rattle.properties_text.specs.Encoding.{encoding_of};
-ghost use Rattle.properties_text.specs.Decoding.{IsText, DecodesFront, utf_16_of, lows_of, highs_of};
+ghost use Rattle.properties_text.specs.Encoding.{encoding_of, IsText, DecodesFront, utf_16_of, lows_of, highs_of};
 ghost use Rattle.properties_text.specs.declared.encoding.Encoding.TheVariants.{WINDOWS_1252};
 
 use super::first_piece::first_piece;

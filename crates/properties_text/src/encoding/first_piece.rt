@@ -2,8 +2,7 @@
 
 ghost use Rattle.std.specs.Prelude.{◌≡◌, ◌<◌, ◌≤◌, ◌+◌, length, false};
 ghost use Rattle.properties_format.specs.Text.{replacement, scalar};
-ghost use Rattle.properties_text.specs.Encoding.{encoding_of};
-ghost use Rattle.properties_text.specs.Decoding.{IsFirstPiece};
+ghost use Rattle.properties_text.specs.Encoding.{encoding_of, IsFirstPiece};
 
 use super::utf_16::{self, ByteOrder};
 use super::windows_1252::character_of;

@@ -1,8 +1,7 @@
 // The labels of the encodings.
 
 ghost use Rattle.std.specs.Prelude.{◌↔◌, map, IsTrue};
-ghost use Rattle.properties_format.specs.Labels.{IsOneOf};
-ghost use Rattle.properties_text.specs.Private.Labels.{borrowed_text};
+ghost use Rattle.properties_format.specs.Names.{IsOneOf};
 
 pub const WINDOWS_1252: &[&str] = &[
     "ansi_x3.4-1968",
@@ -47,7 +46,7 @@ pub const UTF_16BE: &[&str] = &["unicodefffe", "utf-16be"];
 
 /// Whether the text is one of these labels, but for ASCII case.
 pub fn is_one_of(text: &str, labels: &[&str]) -> bool
-    ensures { IsTrue result ↔ IsOneOf (map borrowed_text labels.now) text.now }
+    ensures { IsTrue result ↔ IsOneOf (map (λ label. label.now) labels.now) text.now }
 {
     let [label, others @ ..] = labels else {
         return false;

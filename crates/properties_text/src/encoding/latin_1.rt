@@ -3,7 +3,7 @@
 ghost use Rattle.std.specs.Prelude.{◌≡◌, ◌+◌, ◌*◌, ◌≤◌, ◌++◌, true, length, take, map, encode_utf8_all};
 ghost use Rattle.std.specs.Str.{all_scalars};
 ghost use Rattle.properties_format.specs.Windows1252.{is_in_table};
-ghost use Rattle.properties_text.specs.Private.Latin1.{lead_byte, last_byte};
+ghost use Rattle.properties_text.specs.Private.Tails.{lead_byte, last_byte};
 
 use byte_blocks::{ByteClass, Marks, PastAscii, Within, put_spread};
 use std::simd::prelude::*;

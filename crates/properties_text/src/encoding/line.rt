@@ -3,7 +3,7 @@
 ghost use Rattle.std.specs.Prelude.{◌≡◌, ◌<◌, length};
 ghost use Rattle.properties_format.specs.Encoding.{output_encoding};
 ghost use Rattle.properties_text.specs.Encoding.{encoding_of, line_of};
-ghost use Rattle.properties_text.specs.Spelt.{IsWell, IsFirst};
+ghost use Rattle.properties_text.specs.Escaping.{IsWell, IsFirst};
 
 use super::windows_1252::character_of;
 use super::{Encoding, utf_8};

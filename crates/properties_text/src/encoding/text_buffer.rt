@@ -2,7 +2,7 @@
 
 ghost use Rattle.std.specs.Prelude.{◌≡◌, ◌⊎◌, ◌≤◌, ◌<◌, ◌+◌, ◌++◌, List, ℕ, [], length, IfOk, OnOk, OnErr};
 ghost use Rattle.std.specs.Str.{chars, IsUtf8};
-ghost use Rattle.properties_text.specs.Decoding.{text_of, KeepsText, PassesText};
+ghost use Rattle.properties_text.specs.Encoding.{text_of, KeepsText, PassesText};
 
 use super::decode::decode_run;
 use super::{Encoding, utf_8};

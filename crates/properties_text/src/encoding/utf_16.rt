@@ -1,10 +1,9 @@
 // UTF-16: units of two bytes. A high and a low surrogate together encode one character.
 
 ghost use Rattle.std.specs.Prelude.{◌≡◌, ℕ, ◌∷◌, true};
-ghost use Rattle.properties_format.specs.Surrogates.{is_high, is_low, pair_character};
-ghost use Rattle.properties_format.specs.Computed.Utf16.{first_utf_16_piece, high_piece};
-ghost use Rattle.properties_format.specs.Computed.Waiting.{awaits_unit};
-ghost use Rattle.properties_text.specs.Decoding.{ShowsPiece, unit_of};
+ghost use Rattle.properties_format.specs.Utf16.{is_high, is_low, pair_character};
+ghost use Rattle.properties_format.specs.Computed.Encoding.{first_utf_16_piece, high_piece, awaits_unit};
+ghost use Rattle.properties_text.specs.Encoding.{ShowsPiece, unit_of};
 
 use super::first_piece::FirstPiece;
 

@@ -4,10 +4,10 @@ ghost use Rattle.std.specs.Prelude.{ℕ, ◌≡◌, ◌++◌, ◌+◌, ◌*◌, 
 ghost use Rattle.std.specs.Simd.Lanes.{mask_l};
 ghost use Rattle.std.specs.Str.{IsUtf8};
 ghost use Rattle.properties_format.specs.Utf8.{well_formed_rows, sequence_character, IsWellFormedText};
-ghost use Rattle.properties_format.specs.Computed.Utf8.{is_in, ranges_after, fitting};
+ghost use Rattle.properties_format.specs.Computed.Encoding.{is_in, ranges_after, fitting};
 ghost use Rattle.properties_format.specs.Encoding.{utf_8};
-ghost use Rattle.properties_text.specs.Decoding.{IsFirstPiece, IsLongestText, range_of};
-ghost use Rattle.properties_text.specs.Spelt.{IsFirst, length_by_first};
+ghost use Rattle.properties_text.specs.Encoding.{IsFirstPiece, IsLongestText, range_of};
+ghost use Rattle.properties_text.specs.Escaping.{IsFirst, length_by_first};
 ghost use Rattle.properties_text.specs.Private.Tails.{ones, GoesOn};
 ghost use Rattle.properties_text.specs.declared.encoding.line.LineEncoding.TheVariants.{Utf8};
 

@@ -3,7 +3,7 @@
 ghost use Rattle.std.specs.Prelude.{◌≡◌, ◌↔◌, IfSome, IsSome, is_some};
 ghost use Rattle.std.specs.Str.{IsAscii};
 ghost use Rattle.properties_format.specs.Windows1252.{windows_1252_table, windows_1252_character, windows_1252_byte, place_from};
-ghost use Rattle.properties_text.specs.Decoding.{IsTextOfByte};
+ghost use Rattle.properties_text.specs.Encoding.{IsTextOfByte};
 
 use super::ascii::is_ascii;
 use texts::TEXTS;

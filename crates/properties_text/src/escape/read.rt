@@ -4,8 +4,7 @@ ghost use Rattle.std.specs.Prelude.{◌≡◌, ◌≢◌, ◌<◌, ◌≤◌, �
 ghost use Rattle.std.specs.Char.{IsScalar};
 ghost use Rattle.properties_format.specs.Text.{backslash};
 ghost use Rattle.properties_format.specs.Escapes.{letter_u, is_high, is_low, pair_character, escaped_character};
-ghost use Rattle.properties_text.specs.Escaping.{digit_value};
-ghost use Rattle.properties_text.specs.Spelt.{IsWell, IsRead, Reads, BeginsUnit, HasDigits, LacksDigits, HasLow, LacksLow, CountsFour};
+ghost use Rattle.properties_text.specs.Escaping.{digit_value, IsWell, IsRead, Reads, BeginsUnit, HasDigits, LacksDigits, HasLow, LacksLow, CountsFour};
 
 use super::Malformed;
 use crate::encoding::{LineEncoding, Spelt, pair_character};

@@ -4,7 +4,7 @@ ghost use Rattle.std.specs.Prelude.{◌≡◌, ◌≤◌, ◌<◌, ◌+◌, ◌�
 ghost use Rattle.properties_format.specs.Text.{backslash};
 ghost use Rattle.properties_format.specs.Escapes.{letter_u, NoSpelling};
 ghost use Rattle.properties_format.specs.Printing.{may_be_unescaped};
-ghost use Rattle.properties_text.specs.Spelt.{text_in, IsWell, IsRead};
+ghost use Rattle.properties_text.specs.Escaping.{text_in, IsWell, IsRead};
 ghost use Rattle.properties_text.specs.Printing.{in_format};
 ghost use Rattle.properties_text.specs.Converted.{converted_in, is_stop, StaysUpTo, IsConvertedFront, IsUnitFront};
 

@@ -4,7 +4,7 @@
 ghost use Rattle.std.specs.Prelude.{◌≡◌, ◌+◌, ◌-◌, ◌*◌, ◌<◌, ◌≤◌, ◌++◌, ℕ, Bool, true, false, length, take, drop, get_or, IfOk, IsOkUnless};
 ghost use Rattle.properties_text.specs.declared.escape.UnescapeError.TheVariants.{Memory};
 ghost use Rattle.properties_format.specs.Text.{backslash};
-ghost use Rattle.properties_text.specs.Spelt.{IsWell};
+ghost use Rattle.properties_text.specs.Escaping.{IsWell};
 ghost use Rattle.properties_format.specs.Printing.{literal, encoded_text};
 ghost use Rattle.properties_text.specs.Printing.{in_format, put_of, puts_of};
 ghost use Rattle.properties_text.specs.PrintedTexts.{past_in, ReadsBy, PutsStops, PrintsRest, IsRunPut, StopsIn, meaning_in, Prints, bytes_of};
@@ -21,7 +21,7 @@ use std::alloc::AllocError;
 use std::simd::prelude::*;
 
 // For how many bytes of a text room is made at once.
-const PART: usize = 4096;
+const AT_ONCE: usize = 4096;
 
 // The room beyond two bytes for each byte of a text: what a block may overwrite, or a character be printed as.
 const ROOM_FOR_BLOCK: usize = 32;
@@ -294,7 +294,7 @@ fn print_run<Stops: ByteClass>(
     ensures same { take at out.new.items ≡ take at out.old.items }
     ensures longer { length out.old.items ≤ length out.new.items }
 {
-    let count = PART.min(part.size - from);
+    let count = AT_ONCE.min(part.size - from);
     make_room(out, at, 2 * count + ROOM_FOR_BLOCK)?;
     let front = Part {
         bytes: part.bytes,

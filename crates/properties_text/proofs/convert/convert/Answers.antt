@@ -7,7 +7,7 @@ use Rattle.properties_format.specs.Encoding.{begins_like_bom}
 use Rattle.properties_text.specs.Encoding.{encoding_of}
 use Rattle.properties_format.specs.Printing.{encoded_text}
 use Rattle.properties_format.specs.Converting.{first_escaped}
-use Rattle.properties_text.specs.Spelt.{IsWell, text_in}
+use Rattle.properties_text.specs.Escaping.{IsWell, text_in}
 use Rattle.properties_text.specs.Printing.{in_format}
 use Rattle.properties_text.specs.Converted.{is_readable, body_bytes, line_in}
 use Rattle.properties_text.proofs.Converted.{plain-source, marked-source, source-bytes, source-written}

@@ -1,7 +1,7 @@
 use Rattle.std.proofs.Common.{◌≡◌, ◌-◌, length, ap, ◌∙◌}
 use Rattle.std.specs.Str.{chars}
 use Rattle.std.proofs.lemmas.Bool.{ne_eqb}
-use Rattle.properties_format.specs.Groups.{ending_backslashes}
+use Rattle.properties_format.specs.Lines.{ending_backslashes}
 use Rattle.properties_text.proofs.Texts.Backslashes.{counted_all, counted_stop}
 use Rattle.properties_text.proofs.escape.count_ending_backslashes.Goals as goal
 use Rattle.properties_text.proofs.escape.count_ending_backslashes.Goals.{then-loop-start-test+else-bytes-start-eq92, else-loop-start-test}

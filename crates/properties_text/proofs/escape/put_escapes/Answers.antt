@@ -45,7 +45,7 @@ loop-run-preserved c =
     let put = c.put_character-end.ensures in
     let left = c.range_from-rest.ensures.value in
     let means : meaning_of (chars rest) ≡ in_front escape.character (meaning_of (chars c.range_from-rest.result.now)) =
-    rw (left, ← c.as_bytes.ensures.value) (spells-meaning Utf8 _ escape c.in_ok-escape.ensures.spells) in
+    rw (left, ← c.as_bytes.ensures.value) (spells-meaning Utf8 _ escape c.in_ok-escape.ensures.is) in
     let more = units-more c.args.text.now c.loop-run.run c.put_character-end.new.run (chars rest) (chars c.range_from-rest.result.now)
     c.loop-run.end c.put_character-end.result escape.character held.is_text c.in_ok-escape.ensures.scalar put.text held.meaning means in
     let read = c.in_ok-escape.ensures in

@@ -1,7 +1,6 @@
 use Rattle.std.proofs.Common.{◌+◌, ◌∙◌, arith}
 use Rattle.byte_blocks.proofs.Searching.{none-in_block, first-in_block}
-use Rattle.properties_text.specs.Parsing.{is_no_blank}
-use Rattle.properties_text.proofs.BlankFronts.{past-blanks, up-to-first}
+use Rattle.properties_text.proofs.BlankFronts.{is_no_blank, past-blanks, up-to-first}
 use Rattle.properties_text.proofs.parse.count_blanks.Goals as goal
 
 pub returns-in-Some-clause-rest : goal.returns-in-Some-clause-rest

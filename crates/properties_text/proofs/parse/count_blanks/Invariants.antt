@@ -1,6 +1,6 @@
 use Rattle.std.proofs.Common.{◌≤◌, ◌-◌, length}
 use Rattle.memchr.specs.Find.{Nowhere, Passes}
-use Rattle.properties_text.specs.Parsing.{is_no_blank}
+use Rattle.properties_text.proofs.BlankFronts.{is_no_blank}
 use Rattle.properties_text.proofs.parse.count_blanks.Given as goal
 
 abbrev pub invariant-loop-at : goal.invariant-loop-at

@@ -1,7 +1,7 @@
 use Rattle.std.proofs.Common.{◌++◌, take, length, sym, ap, subst, ◌∙◌, arith}
 use Rattle.std.proofs.lemmas.List.{length-take-le, with_items_is}
 use Rattle.properties_format.specs.Printing.{unicode_escape}
-use Rattle.properties_text.specs.Spelt.{IsWell}
+use Rattle.properties_text.specs.Escaping.{IsWell}
 use Rattle.properties_text.proofs.PrintedTexts.Keys.{escaped-rest, rest-at}
 use Rattle.properties_text.proofs.PrintedTexts.Runs.{front-kept, fewer-kept}
 use Rattle.properties_text.proofs.print.print_with_first_escaped.Goals as goal

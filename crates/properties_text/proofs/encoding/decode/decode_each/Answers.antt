@@ -4,7 +4,7 @@ use Rattle.std.specs.Str.{chars}
 use Rattle.std.proofs.lemmas.List.{drop_more, length-drop, take-take, length-take-le, take_rest}
 use Rattle.properties_format.specs.Encoding.{windows_1252}
 use Rattle.properties_format.specs.Windows1252.{windows_1252_character}
-use Rattle.properties_text.specs.Decoding.{text_of}
+use Rattle.properties_text.specs.Encoding.{text_of}
 use Rattle.properties_text.specs.declared.encoding.Encoding.TheVariants.{WINDOWS_1252}
 use Rattle.byte_blocks.proofs.Rows.{take_past}
 use Rattle.properties_text.proofs.TextFronts.{decoded-one}

@@ -1,8 +1,7 @@
 use Rattle.std.proofs.Common.{◌++◌, ◌≡◌, ◌∷◌, ◌∙◌, ◌<◌, rules, arith, sym, ap, length, take, drop, get_or}
 use Rattle.std.specs.Str.{chars}
 use Rattle.std.proofs.lemmas.List.{drop_more, length-drop, take_rest}
-use Rattle.properties_text.specs.Encoding.{encoding_of}
-use Rattle.properties_text.specs.Decoding.{text_of}
+use Rattle.properties_text.specs.Encoding.{encoding_of, text_of}
 use Rattle.properties_text.proofs.TextFronts.{decoded-one}
 use Rattle.properties_text.proofs.encoding.decode.decode_run_of.Goals as goal
 

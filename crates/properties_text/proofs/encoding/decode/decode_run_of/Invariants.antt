@@ -1,6 +1,6 @@
 use Rattle.std.proofs.Common.{◌≡◌, ◌≤◌, ◌+◌, ◌*◌, ◌++◌, length, take}
 use Rattle.std.specs.Str.{chars, IsUtf8}
-use Rattle.properties_text.specs.Decoding.{text_of}
+use Rattle.properties_text.specs.Encoding.{text_of}
 use Rattle.properties_text.proofs.encoding.decode.decode_run_of.Given as goal
 
 -- The text so far, followed by the text of the rest, is the text of all bytes.

@@ -2,8 +2,7 @@ use Rattle.std.proofs.Common.{◌≡◌, ◌∷◌, ◌++◌, ◌*◌, ◌<◌, 
 use Rattle.std.proofs.Math.Seq.{take-add}
 use Rattle.std.specs.Str.{chars}
 use Rattle.std.proofs.lemmas.List.{drop_more, length-drop, take_rest}
-use Rattle.properties_text.specs.Encoding.{encoding_of}
-use Rattle.properties_text.specs.Decoding.{text_of, utf_16_of, lows_of, highs_of}
+use Rattle.properties_text.specs.Encoding.{encoding_of, text_of, utf_16_of, lows_of, highs_of}
 use Rattle.properties_text.proofs.TextFronts.{decoded-one}
 use Rattle.properties_text.proofs.UnitBlocks.{units-decoded}
 use Rattle.properties_text.proofs.encoding.decode.decode_utf_16.Goals as goal

@@ -1,6 +1,6 @@
 use Rattle.std.proofs.Common.{sym, ◌∙◌}
 use Rattle.std.proofs.lemmas.List.{length-map}
-use Rattle.properties_text.specs.Decoding.{range_of}
+use Rattle.properties_text.specs.Encoding.{range_of}
 use Rattle.properties_text.proofs.FirstPieces.{shows-whole, shows-broken}
 use Rattle.properties_text.proofs.encoding.utf_8.first_piece.Goals as goal
 

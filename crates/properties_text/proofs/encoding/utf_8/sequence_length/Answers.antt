@@ -1,6 +1,6 @@
 use Rattle.std.proofs.Common.{sym, ◌∙◌}
 use Rattle.std.proofs.lemmas.List.{length-map}
-use Rattle.properties_text.specs.Decoding.{range_of}
+use Rattle.properties_text.specs.Encoding.{range_of}
 use Rattle.properties_text.proofs.FirstPieces.{ascii-sequence, first-sequence, longest-stray, longest-broken}
 use Rattle.properties_text.proofs.encoding.utf_8.sequence_length.Goals as goal
 

@@ -1,5 +1,5 @@
 use Rattle.std.proofs.Common.{length, sym, subst, ap, ◌∙◌}
-use Rattle.properties_text.specs.Decoding.{IsLongestText}
+use Rattle.properties_text.specs.Encoding.{IsLongestText}
 use Rattle.properties_text.proofs.encoding.utf_8.text_front.Goals as goal
 
 pub returns-clause-longest : goal.returns-clause-longest

@@ -1,5 +1,5 @@
 use Rattle.std.proofs.Common.{◌≡◌, ◌+◌, ◌-◌, ◌≤◌, length}
-use Rattle.properties_text.specs.Spelt.{IsWell, text_in}
+use Rattle.properties_text.specs.Escaping.{IsWell, text_in}
 use Rattle.properties_text.proofs.escape.read.what_is_wrong.Given as goal
 
 -- So many characters were counted.

@@ -2,7 +2,7 @@ use Rattle.std.proofs.Common.{◌≤◌, List, ℕ, length, take, sym, subst, �
 use Rattle.std.specs.Vec.{with_items}
 use Rattle.std.proofs.lemmas.List.{length-take-le, with_items_is}
 use Rattle.properties_format.specs.Text.{backslash}
-use Rattle.properties_text.specs.Spelt.{IsWell}
+use Rattle.properties_text.specs.Escaping.{IsWell}
 use Rattle.properties_text.specs.PrintedTexts.{ArePut, from_on, IsRunPut}
 use Rattle.properties_text.proofs.PrintedTexts.Runs.{put-all, put-none, put-run, rest-printed, run-kept, fewer-kept, small-take}
 use Rattle.properties_text.proofs.PrintedTexts.Steps.{past-well}

@@ -1,6 +1,6 @@
 use Rattle.std.proofs.Common.{◌≡◌, ◌≤◌, ◌++◌, length}
 use Rattle.std.specs.Str.{chars, IsUtf8}
-use Rattle.properties_text.specs.Decoding.{text_of}
+use Rattle.properties_text.specs.Encoding.{text_of}
 use Rattle.properties_text.proofs.encoding.text_buffer.TextBuffer.push_decoded.Given as goal
 
 -- The text so far, followed by the text of the rest, is the old text followed by the text of all bytes.
