@@ -49,16 +49,18 @@ pub reads_at : {R : Type 0} (reader : Reader R) (place : ℕ) (buffer part tail 
     → ReadConsumes (reader.remaining old) (reader.remaining new) result part → CountsFault (reader.faults old) (reader.faults new) result
     → ShowsEnd (reader.at_end new) result part → reader.read_gives old result new
     → ReadsAt reader place buffer old result (take place buffer ++ (part ++ tail)) new
-reads_at reader place buffer part tail old new (Ok count) h l most moved same ended given = record {
-  bytes = take count part;
-  read = record { moved = moved.0; faultless = same };
-  front = taken-front place count buffer part tail h most.0;
-  counted = grind (arith, common_steps);
-  within = omega arith;
-  ended = λ e.
-      let none : count ≡ 0 = none-taken count part most.0 e in
-      let room : 0 < length part = omega arith in
-      ended-by reader new (ended none room) (moved.1 none room);
-}
+reads_at reader place buffer part tail old new (Ok count) h l most moved same ended given = (
+  record {
+    bytes = take count part;
+    read = record { moved = moved.0; faultless = same };
+    added = taken-front place count buffer part tail h most.0;
+    counted = grind (arith, common_steps);
+    ended = λ e.
+        let none : count ≡ 0 = none-taken count part most.0 e in
+        let room : 0 < length part = omega arith in
+        ended-by reader new (ended none room) (moved.1 none room);
+  },
+  omega arith,
+)
 reads_at reader place buffer part tail old new (Err e) h l most moved same ended given =
     (front-kept place buffer part tail h, record { moved = keeps-consumes _ _ moved; risen = same; given = (old, given) })

@@ -7,15 +7,12 @@ use Rattle.counted_io.specs.Streams.{Reader}
 use Rattle.counted_io.proofs.Streams.{read-none, read-more, failed-more}
 use Rattle.properties_format.specs.Encoding.{output_encoding}
 use Rattle.properties_format.specs.Lines as format
-use Rattle.properties_format.specs.Lines.{InputEnd, end, fault, more}
-use Rattle.properties_format.specs.Groups.{is_open, is_comment_line, addition, without_open_backslash, joined, joined_after}
-use Rattle.properties_format.specs.Groups.{AreOpen, EndsClosed, IsWhole, IsUnfinished}
-use Rattle.properties_format.specs.Entries.{Entry, read_fault}
+use Rattle.properties_format.specs.Lines.{InputEnd, end, fault, more, is_open, is_comment_line, addition, without_open_backslash, joined, joined_after, AreOpen, EndsClosed, IsWhole, IsUnfinished}
+use Rattle.properties_format.specs.Items.{Entry, read_fault}
 use Rattle.properties_format.specs.ItemsToCome.{ReaderState, PassesSome, PassesAll, IsLazyItems}
 use Rattle.properties_format.specs.Computed.Items.{outcome_of, followed}
-use Rattle.properties_format.specs.Computed.ItemsToCome.{items_to_come, natural_to_come, last_to_come, entries_pending, entries_of_logical, logical_pending}
-use Rattle.properties_format.specs.Computed.Logical.{logical, logical_lines, joins_after}
-use Rattle.properties_format.specs.Computed.ReaderSteps.{Gives, ReadsLines}
+use Rattle.properties_format.specs.Computed.ItemsToCome.{items_to_come, natural_to_come, last_to_come, entries_pending, entries_of_logical, logical_pending, Gives, ReadsLines}
+use Rattle.properties_format.specs.Computed.Lines.{logical, logical_lines, joins_after}
 use Rattle.properties_format.proofs.Groups.Joined.{joined-comment_line, joined-closed, joined-unmarked, joined_after-append}
 use Rattle.properties_format.proofs.Groups.Logical.{joins_after-open}
 use Rattle.properties_format.proofs.Groups.Only.{groups_of-before, groups_of-unfinished}
@@ -23,16 +20,14 @@ use Rattle.properties_format.proofs.ItemsToCome.Divisions.{are_to_come, lines_co
 use Rattle.properties_format.proofs.ItemsToCome.Entries.{gives-on, pending-done, items_to_come-pending}
 use Rattle.properties_format.proofs.ItemsToCome.Lines.{natural-done}
 use Rattle.properties_format.proofs.ItemsToCome.Steps.{lines-start, lines-on, on-start, on-open}
-use Rattle.properties_text.specs.Escaping.{holds_backslash}
+use Rattle.properties_text.specs.Escaping.{holds_backslash, text_in, IsWell}
 use Rattle.properties_lines.specs.LineReader.{LineReading, Finds, FindsNext, Passes, IsLazy, HasRightLineFlags, FindsError, found_line}
 use Rattle.properties_text.specs.Encoding.{line_of}
-use Rattle.properties_text.specs.Spelt.{text_in, IsWell}
 use Rattle.properties_text.specs.declared.encoding.line.LineEncoding.{LineEncoding}
 use Rattle.properties_lines.specs.LogicalLine.{bytes_at, bytes_with, is_natural, IsLineIn, HasText, IsTextOf, IsNotContinued, OpensJoin, unfinished_text}
 use Rattle.properties_lines.specs.declared.logical.Place.{Place}
 use Rattle.properties_lines.specs.declared.logical.Place.TheVariants.{Natural, Decoded, Joined}
-use Rattle.properties_lines.specs.LineJoiner.{line_text, join_of, numbered_bytes, EndJoin, IsLazyJoin, GoesOn, JoinsAll, JoinError, JoinsNone, JoinsOn}
-use Rattle.properties_lines.specs.LineJoiner.{LineJoining, Comes, Joins, Advances, JoinsNoLine, JoinsBytes, JoinsGroup, JoinsLine, JoinsError, ReadsWhole, ReadsNone, ReadsRest}
+use Rattle.properties_lines.specs.LineJoiner.{line_text, join_of, numbered_bytes, EndJoin, IsLazyJoin, JoinsLines, JoinsAll, JoinError, JoinsNone, JoinsOn, LineJoining, Comes, Joins, Advances, JoinsNoLine, JoinsBytes, JoinsGroup, JoinsLine, JoinsError, ReadsWhole, ReadsNone, ReadsRest}
 use Rattle.properties_lines.specs.declared.error.LineError.TheVariants as why
 use Rattle.properties_lines.specs.declared.error.LineError.{LineError}
 use Rattle.properties_lines.specs.declared.logical.LogicalLine.{LogicalLine}
@@ -134,13 +129,18 @@ pending-open {t = t} {y = y} {ls} {ending} number text o g =
     ap₂ (λ v w. entries_of_logical (joins_after number text v ending) w) g.natural g.last
     ∙ ap (λ v. entries_of_logical v (last_to_come t y ending)) (joins-open number text ls (natural_to_come t y ending) ending o)
 
+-- Open lines were joined to an unfinished line.
+abbrev pub GoesOn : {R : Type 0} → Reader R → ReaderState → R → (old_text text : List ℕ) → ReaderState → R → Type 0
+GoesOn reader old from old_text text new to = JoinsLines reader AreOpen old from old_text text new to
+
 module _ {R : Type 0} {reader : Reader R} where
-  pub goes-start : (s : ReaderState) (from : R) (text : List ℕ) → GoesOn reader s from text [] text s from
+  pub goes-start : (s : ReaderState) (from : R) (text : List ℕ) → GoesOn reader s from text text s from
   goes-start s from text = record {
+    bytes = [];
     read = read-none from;
     lines = [];
     passes = passes-start s;
-    are_open = tt;
+    are_such = tt;
     is = sym (append-nil text);
     encoding = λ d. (d, refl);
     done = λ e. e;
@@ -150,13 +150,13 @@ module _ {R : Type 0} {reader : Reader R} where
   }
 
   -- what comes of the join, where the reading goes on
-  goes-pending : {s t : ReaderState} {from to : R} {old r text : List ℕ} → GoesOn reader s from old r text t to → t.is_done ≡ false
+  goes-pending : {s t : ReaderState} {from to : R} {old text : List ℕ} → (h : GoesOn reader s from old text t to) → t.is_done ≡ false
       → (number : ℕ) (d : List ℕ) (ending : InputEnd)
-      → entries_pending (join_of number old) s (r ++ d) ending ≡ entries_pending (join_of number text) t d ending
-  goes-pending {old = old} h g number d ending = rw h.is (pending-open number old h.are_open ((passes-live h.passes g).gives d ending))
+      → entries_pending (join_of number old) s (h.bytes ++ d) ending ≡ entries_pending (join_of number text) t d ending
+  goes-pending {old = old} h g number d ending = rw h.is (pending-open number old h.are_such ((passes-live h.passes g).gives d ending))
 
   -- what was held at first did not close the join, if what is held now gives no line
-  lazy-none : {s t : ReaderState} {from to : R} {old r text : List ℕ} → GoesOn reader s from old r text t to → t.is_done ≡ false
+  lazy-none : {s t : ReaderState} {from to : R} {old text : List ℕ} → GoesOn reader s from old text t to → t.is_done ≡ false
       → natural_to_come t [] more ≡ []
       → (number : ℕ) → entries_pending (join_of number old) s [] more ≡ []
   lazy-none {s} {t} {old = old} {text = text} h g none = elim h.lazy [
@@ -166,23 +166,24 @@ module _ {R : Type 0} {reader : Reader R} where
   ]
 
   -- how lazy it stays
-  lazy-more : {s t : ReaderState} {from to next : R} {old r q text : List ℕ} → GoesOn reader s from old r text t to → t.is_done ≡ false → IsLazy t to q next
-      → IsLazyJoin s from old (r ++ q) next
-  lazy-more {s} {t} {from} {to} {next} {old} {r} {q} h g (inr none) = inr (lazy-none h g none)
-  lazy-more {s} {t} {from} {to} {next} {old} {r} {q} h g (inl e) = elim h.lazy [
+  lazy-more : {s t : ReaderState} {from to next : R} {old q text : List ℕ} → (h : GoesOn reader s from old text t to) → t.is_done ≡ false → IsLazy t to q next
+      → IsLazyJoin s from old (h.bytes ++ q) next
+  lazy-more {s} {t} {from} {to} {next} {old} {q} h g (inr none) = inr (lazy-none h g none)
+  lazy-more {s} {t} {from} {to} {next} {old} {q} h g (inl e) = elim h.lazy [
     | inl k ↦ inl (e.0 ∙ k.0, ap₂ (λ v w. v ++ w) k.1 e.1)
     | inr k ↦ inr k
   ]
 
   -- an open line came
-  pub goes-more : {s t : ReaderState} {from to next : R} {old r text new : List ℕ} (number : ℕ) (found : LineReading) → GoesOn reader s from old r text t to
-      → (h : FindsNext reader t to number found next) → is_open (line_text found) ≡ true → new ≡ text ++ addition (line_text found)
-      → GoesOn reader s from old (r ++ h.bytes) new found.state next
-  goes-more {s} {t} {old = old} {text = text} {new} number found h n o e = record {
+  pub goes-more : {s t : ReaderState} {from to next : R} {old text new : List ℕ} (number : ℕ) (found : LineReading) → GoesOn reader s from old text t to
+      → FindsNext reader t to number found next → is_open (line_text found) ≡ true → new ≡ text ++ addition (line_text found)
+      → GoesOn reader s from old new found.state next
+  goes-more {s} {t} {old = old} {text} {new} number found h n o e = record {
+    bytes = h.bytes ++ n.bytes;
     read = read-more h.read n.read;
     lines = h.lines ++ found_line number found ∷ [];
     passes = passes-on h.passes n.live n.passes;
-    are_open = are-open h.lines (found_line number found) h.are_open o;
+    are_such = are-open h.lines (found_line number found) h.are_such o;
     is = added-more old text new h.lines (found_line number found) h.is e;
     encoding = encoding-on s t found.state h.encoding n.encoding;
     done = λ k. let d = h.done k in let l = n.live in absurd (cc);
@@ -192,15 +193,15 @@ module _ {R : Type 0} {reader : Reader R} where
   }
 
   -- another line came
-  pub joins-closed : {s t : ReaderState} {from to next : R} {old r text new : List ℕ} (number : ℕ) (found : LineReading) → GoesOn reader s from old r text t to
+  pub joins-closed : {s t : ReaderState} {from to next : R} {old text new : List ℕ} (number : ℕ) (found : LineReading) → GoesOn reader s from old text t to
       → FindsNext reader t to number found next → is_open (line_text found) ≡ false → new ≡ text ++ addition (line_text found)
       → JoinsAll reader s from old new found.state next
-  joins-closed {s} {t} {old = old} {r} {text} {new} number found h n o e = record {
-    bytes = r ++ n.bytes;
+  joins-closed {s} {t} {old = old} {text} {new} number found h n o e = record {
+    bytes = h.bytes ++ n.bytes;
     read = read-more h.read n.read;
     lines = h.lines ++ found_line number found ∷ [];
     passes = passes-on h.passes n.live n.passes;
-    end_join = inl (λ m k. ends-closed m h.lines (found_line number found) k h.are_open o);
+    are_such = inl (λ m k. ends-closed m h.lines (found_line number found) k h.are_such o);
     is = added-more old text new h.lines (found_line number found) h.is e;
     encoding = encoding-on s t found.state h.encoding n.encoding;
     done = λ k. let d = h.done k in let l = n.live in absurd (cc);
@@ -210,45 +211,45 @@ module _ {R : Type 0} {reader : Reader R} where
   }
 
   -- no line came
-  pub joins-done : {s t u : ReaderState} {from to next : R} {old r text : List ℕ} → GoesOn reader s from old r text t to → t.is_done ≡ true → u ≡ t → next ≡ to
+  pub joins-done : {s t u : ReaderState} {from to next : R} {old text : List ℕ} → GoesOn reader s from old text t to → t.is_done ≡ true → u ≡ t → next ≡ to
       → JoinsAll reader s from old text u next
   joins-done h d same kept = rw (same, kept) (search rules)
 
   -- memory ran out
-  pub join-no_room : {s t : ReaderState} {from to next : R} {old r text : List ℕ} {e : LineError} (number : ℕ) (found : LineReading) (u : ReaderState)
-      → GoesOn reader s from old r text t to → FindsNext reader t to number found next → e ≡ why.Memory → JoinError reader s from old e u next
-  join-no_room {r = r} number found u h n is =
-      inr (inr (record { bytes = r ++ n.bytes; read = read-more h.read n.read; is = is; lazy = lazy-more h n.live n.lazy }))
+  pub join-no_room : {s t : ReaderState} {from to next : R} {old text : List ℕ} {e : LineError} (number : ℕ) (found : LineReading) (u : ReaderState)
+      → GoesOn reader s from old text t to → FindsNext reader t to number found next → e ≡ why.Memory → JoinError reader s from old e u next
+  join-no_room number found u h n is =
+      inr (inr (record { bytes = h.bytes ++ n.bytes; read = read-more h.read n.read; is = is; lazy = lazy-more h n.live n.lazy }))
 
   -- a line could not be found
-  pub join-refused : {s t u : ReaderState} {from to next : R} {old r text : List ℕ} {e : LineError} → GoesOn reader s from old r text t to → t.is_done ≡ false
+  pub join-refused : {s t u : ReaderState} {from to next : R} {old text : List ℕ} {e : LineError} → GoesOn reader s from old text t to → t.is_done ≡ false
       → FindsError reader t to e u next → JoinError reader s from old e u next
-  join-refused {t = t} {r = r} {text} h g (inl f) = inl (record {
-    bytes = r ++ f.bytes;
+  join-refused {t = t} {text = text} h g (inl f) = inl (record {
+    bytes = h.bytes ++ f.bytes;
     error = f.error;
     number = t.passed + 1;
     failed = failed-more h.read f.failed;
     is = f.is;
-    entries = λ first. goes-pending h g first f.bytes fault
+    items = λ first. goes-pending h g first f.bytes fault
         ∙ pending-broken (join_of first text) t f.bytes (read_fault (t.passed + 1)) f.natural f.last;
     lazy = lazy-none h g f.lazy;
   })
-  join-refused {t = t} {r = r} h g (inr (inl f)) = rw f.untouched (inr (inl (record {
-    bytes = r;
+  join-refused {t = t} h g (inr (inl f)) = rw f.untouched (inr (inl (record {
+    bytes = h.bytes;
     read = h.read;
     passes = record { last = t; passes = some-come h.passes g; passed = f.passed };
     is = f.is;
     lazy = h.lazy;
   })))
-  join-refused {r = r} h g (inr (inr f)) =
-      inr (inr (record { bytes = r ++ f.room.bytes; read = read-more h.read f.room.read; is = f.is; lazy = lazy-more h g f.room.lazy }))
+  join-refused h g (inr (inr f)) =
+      inr (inr (record { bytes = h.bytes ++ f.bytes; read = read-more h.read f.read; is = f.is; lazy = lazy-more h g f.lazy }))
 
   -- where lines go on, they went on at first
-  pub goes-live : {s t : ReaderState} {from to : R} {old r text : List ℕ} → GoesOn reader s from old r text t to → t.is_done ≡ false → s.is_done ≡ false
+  pub goes-live : {s t : ReaderState} {from to : R} {old text : List ℕ} → GoesOn reader s from old text t to → t.is_done ≡ false → s.is_done ≡ false
   goes-live {s} h g = elim (cases_Bool s.is_done) [ inl e ↦ let d = h.done e in absurd (cc) | inr e ↦ e ]
 
   -- and so the join couldn't be read to its end
-  pub joins-lost : {from at to : R} {old r text : List ℕ} (before lines found after : LineReading) → GoesOn reader before.state from old r text lines.state at
+  pub joins-lost : {from at to : R} {old text : List ℕ} (before lines found after : LineReading) → GoesOn reader before.state from old text lines.state at
       → FindsNext reader lines.state at found.state.passed found to → after ≡ failed found why.Memory → JoinsNone reader before from old after to
   joins-lost before lines found after h n e = rw e (record {
     live = goes-live h n.live;
@@ -259,8 +260,8 @@ module _ {R : Type 0} {reader : Reader R} where
   })
 
   -- no more lines came
-  pub joins-over : {from at to : R} {old r text : List ℕ} (before lines after : LineReading) (failed : Bool)
-      → GoesOn reader before.state from old r text lines.state at
+  pub joins-over : {from at to : R} {old text : List ℕ} (before lines after : LineReading) (failed : Bool)
+      → GoesOn reader before.state from old text lines.state at
       → lines.error ≡ None → Finds reader lines at false after to → failed ≡ is_some after.error → JoinsOn reader before from old (not failed) after to text
   joins-over before lines after failed h e (inl n) f =
       let state = ap (λ v. let w : LineReading = v in w.state) n.1 in
@@ -340,7 +341,7 @@ join-group {s = s} {t} {u} {r = r} l p c o j = record {
   passes = all-lines p;
   number = refl;
   text = j.is ∙ sym (joined-unmarked l j.lines c);
-  ends = by-end j.end_join;
+  ends = by-end j.are_such;
 }
   where
     by-end : EndJoin j.lines u → IsWhole (l ∷ j.lines) ⊎ (u.is_done ≡ true) × IsUnfinished (l ∷ j.lines)
@@ -435,7 +436,7 @@ module _ {R : Type 0} {reader : Reader R} where
     is = f.is;
     lazy = inl (refl, refl);
   })))
-  joins-refused {s} (inr (inr f)) = inr (inr (record { bytes = f.room.bytes; read = f.room.read; is = f.is; lazy = lazy-items s f.room.lazy }))
+  joins-refused {s} (inr (inr f)) = inr (inr (record { bytes = f.bytes; read = f.read; is = f.is; lazy = lazy-items s f.lazy }))
 
   -- a join was not read to its end
   pub joins-broken : {s u : ReaderState} {from to next : R} {e : LineError} (number : ℕ) (mid : LineReading) → FindsNext reader s from number mid to
@@ -449,7 +450,7 @@ module _ {R : Type 0} {reader : Reader R} where
         number = f.number;
         failed = failed-more n.read f.failed;
         is = f.is;
-        items = on.items f.bytes fault ∙ f.entries number;
+        items = on.items f.bytes fault ∙ f.items number;
         lazy = elim n.lazy [
           | inl h ↦ ap (λ v. items_to_come s (v ++ []) more) (sym h.1) ∙ on.items [] more ∙ f.lazy number
           | inr h ↦ items_to_come-pending s [] more ∙ pending-lazy None s h

@@ -1,24 +1,21 @@
 -- Natural lines of a reader.
-use Rattle.std.proofs.Common.{inl, inr, ◌≡◌, ◌≢◌, ◌⊎◌, ◌≤◌, ◌+◌, ◌-◌, ℕ, Bool, true, false, List, [], ◌∷◌, ◌++◌, drop, length, refl, sym, ap, subst, ◌∙◌, append-nil, add-zero, arith}
+use Rattle.std.proofs.Common.{inl, inr, ◌≡◌, ◌≢◌, ◌⊎◌, ◌≤◌, ◌+◌, ◌-◌, ℕ, Bool, true, false, List, [], ◌∷◌, ◌++◌, drop, length, refl, sym, ap, subst, ◌∙◌, append-nil, add-zero, arith, ◌<◌, ◌^◌}
 use Rattle.std.specs.Prelude.{Option, Some, None, if◌then◌else◌}
 use Rattle.std.proofs.lemmas.Bool.{cases_Bool}
-use Rattle.counted_io.specs.Streams.{Reader, HasRead}
+use Rattle.counted_io.specs.Streams.{Reader, HasRead, has_ended}
 use Rattle.counted_io.proofs.Streams.{read-none, read-more, failed-more}
 use Rattle.properties_format.specs.Lines as format
 use Rattle.properties_format.specs.Lines.{Ended, end, fault, more, numbered}
 use Rattle.properties_format.specs.Computed.Lines.{lines_of}
-use Rattle.properties_format.specs.Entries.{read_fault}
-use Rattle.properties_format.specs.Items.{last_entries}
+use Rattle.properties_format.specs.Items.{read_fault, last_entries}
 use Rattle.properties_format.specs.ItemsToCome.{ReaderState}
-use Rattle.properties_format.specs.Computed.ItemsToCome.{text_to_come, natural_to_come, last_to_come}
-use Rattle.properties_format.specs.Computed.ReaderSteps.{Gives, ReadsLines, after_read}
+use Rattle.properties_format.specs.Computed.ItemsToCome.{text_to_come, natural_to_come, last_to_come, Gives, ReadsLines}
 use Rattle.properties_format.proofs.ItemsToCome.Entries.{gives-on}
 use Rattle.properties_format.proofs.ItemsToCome.Steps.{lines-start, lines-on, lines-then, lines-read}
 use Rattle.properties_text.specs.Encoding.{encoding_of}
 use Rattle.properties_lines.specs.Scanner.{is_decided, after_cr, scanner_state, bytes_of, Fits, Scans, KeepsEncoding}
 use Rattle.properties_lines.specs.LineReader as reading
-use Rattle.properties_lines.specs.LineReader.{LineReading, found_line, reads_left, HoldsLine, HoldsNone, ScansHeld, ReleasesOrKeeps}
-use Rattle.properties_lines.specs.LineReader.{Along, IsAtEnd, ReadsBytes, HasFailedFor, IsReadError, Finds, FindsNext, FindsError}
+use Rattle.properties_lines.specs.LineReader.{LineReading, found_line, reads_left, HoldsLine, HoldsNone, ScansHeld, IsLazy, ReleasesOrKeeps, ReadsBytes, HasFailedFor, IsReadError, Finds, FindsNext, FindsError}
 use Rattle.properties_lines.specs.declared.error.LineError.{LineError}
 use Rattle.properties_lines.specs.declared.error.LineError.TheVariants as why
 use Rattle.properties_lines.specs.declared.scanner.Scan.{Scan}
@@ -175,6 +172,22 @@ releases-on a b c d h e k = elim k [
 pub encoding-on : (s t u : ReaderState) → KeepsEncoding s t → KeepsEncoding t u → KeepsEncoding s u
 encoding-on s t u h k d = let a = h d in let b = k a.0 in (b.0, b.1 ∙ a.1)
 
+-- These bytes were read, and no line was passed.
+pub record Along {R : Type 0} (reader : Reader R) (old : ReaderState) (from : R) (bytes : List ℕ) (new : ReaderState) (to : R) : Type 0 where
+  pub read : HasRead reader from bytes to
+  pub gives : ReadsLines old bytes [] new
+  pub passed : new.passed ≡ old.passed
+  pub done : new.is_done ≡ old.is_done
+  pub encoding : KeepsEncoding old new
+  pub lazy : IsLazy old from bytes to
+
+-- The reader is at its end, and no line with a line ending is held.
+pub record IsAtEnd {R : Type 0} (reader : Reader R) (state : ReaderState) (at : R) : Type 0 where
+  pub ended : has_ended reader at ≡ true
+  pub none : natural_to_come state [] more ≡ []
+  pub live : state.is_done ≡ false
+  pub numbered : state.passed + 1 < 2 ^ 64
+
 module _ {R : Type 0} {reader : Reader R} where
   pub along-start : (s : ReaderState) (from : R) → Along reader s from [] s from
   along-start s from = record { read = read-none from; gives = lines-start s; passed = refl; done = refl; encoding = λ d. (d, refl); lazy = inl (refl, refl) }
@@ -187,7 +200,7 @@ module _ {R : Type 0} {reader : Reader R} where
 
   -- what was held gave no line, and bytes were read
   along-held : {s : ReaderState} {t u : LineReading} {from to next : R} {r : List ℕ} (q : List ℕ) → Along reader s from r t.state to → HoldsNone t u → HasRead reader to q next
-      → Along reader s from (r ++ q) (after_read u.state q) next
+      → Along reader s from (r ++ q) (record u.state { held = u.state.held ++ q }) next
   along-held {s} {t} {u} q h k m = record {
     read = read-more h.read m;
     gives = lines-on h.gives (lines-on k.alike (lines-read u.state q));
@@ -252,7 +265,9 @@ module _ {R : Type 0} {reader : Reader R} where
       → IsReadError reader u to e next → FindsError reader s from e new next
   refused {r = r} next new why.Memory h k same =
       inr (inr (record {
-        room = record { bytes = r; read = rw same h.read; lazy = inr (along-none h k.none) };
+        bytes = r;
+        read = rw same h.read;
+        lazy = inr (along-none h k.none);
         numbered = omega (arith, k.numbered, h.passed);
         is = refl;
       }))

@@ -9,13 +9,13 @@ use Rattle.std.proofs.lemmas.List.{map-append}
 use Rattle.std.proofs.lemmas.Str.{chars-append, IsUtf8-append, IsUtf8-from_ascii}
 use Rattle.properties_format.specs.Encoding.{Encoding, windows_1252, utf_8, utf_16le, utf_16be, output_encoding}
 use Rattle.properties_format.specs.Text.{without_leading_blanks}
-use Rattle.properties_format.specs.Groups.{is_open, is_comment_line, without_open_backslash, addition}
+use Rattle.properties_format.specs.Lines.{is_open, is_comment_line, without_open_backslash, addition}
 use Rattle.properties_format.specs.Windows1252.{windows_1252_character}
 use Rattle.properties_format.specs.Computed.Cut.{decoded_line}
 use Rattle.properties_format.proofs.Encodings.WellFormed.{IsUtf8-from_well_formed}
 use Rattle.properties_format.proofs.Undecoded.{decodes, comments, opens, closed, adds as added}
 use Rattle.properties_text.specs.Encoding.{line_of}
-use Rattle.properties_text.specs.Spelt.{text_in, IsWell}
+use Rattle.properties_text.specs.Escaping.{text_in, IsWell}
 use Rattle.properties_text.specs.declared.encoding.line.LineEncoding.{LineEncoding}
 use Rattle.properties_text.specs.declared.encoding.line.LineEncoding.TheVariants.{Windows1252, Utf8}
 use Rattle.properties_text.proofs.TextFronts.{text-decoded}

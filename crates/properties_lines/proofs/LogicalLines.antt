@@ -1,19 +1,16 @@
 -- Texts of lines without a backslash.
 use Rattle.std.proofs.Common.{◌≡◌, ◌==◌, ◌||◌, ap₂, ℕ, true, false, eqb-true, List, [], ◌∷◌, ◌++◌, refl, sym, ap, ◌∙◌, inl, inr, arith, append-nil}
 use Rattle.std.proofs.lemmas.Bool.{cases_Bool, or_from}
-use Rattle.properties_format.specs.Text.{backslash}
+use Rattle.properties_format.specs.Text.{backslash, Piece, characters}
 use Rattle.properties_format.specs.Encoding.{Encoding, windows_1252, utf_8, utf_16le, utf_16be, ascii_bytes, IsPieces}
-use Rattle.properties_format.specs.Pieces.{Piece, characters}
 use Rattle.properties_format.specs.Computed.Encoding.{pieces_of}
-use Rattle.properties_format.specs.Computed.Cut.{decoded_line}
+use Rattle.properties_format.specs.Computed.Cut.{decoded_line, characters_of}
 use Rattle.properties_format.proofs.Encodings.Pieces.{pieces_of-meets}
 use Rattle.properties_format.proofs.Encodings.Characters.{piece-ascii}
-use Rattle.properties_format.specs.Computed.Undecoded.{characters_of}
 use Rattle.properties_format.proofs.Undecoded.{same-backslash}
-use Rattle.properties_text.specs.Spelt.{text_in, IsWell}
+use Rattle.properties_text.specs.Escaping.{text_in, IsWell, holds_backslash}
 use Rattle.properties_text.specs.declared.encoding.line.LineEncoding.{LineEncoding}
 use Rattle.properties_text.specs.declared.encoding.line.LineEncoding.TheVariants.{Windows1252, Utf8}
-use Rattle.properties_text.specs.Escaping.{holds_backslash}
 use Rattle.properties_text.proofs.Texts.Resolving.{holds-part, holds_backslash-text}
 
 -- ---- texts without a backslash

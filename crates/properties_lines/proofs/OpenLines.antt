@@ -3,7 +3,7 @@ use Rattle.std.proofs.Common.{◌≡◌, ℕ, ◌<◌, ◌+◌, ◌-◌, Bool, t
 use Rattle.std.proofs.lemmas.Bool.{cases_Bool}
 use Rattle.std.proofs.Math.Seq.{take-append_seam}
 use Rattle.properties_format.specs.Text.{backslash, is_blank, without_leading_blanks}
-use Rattle.properties_format.specs.Groups.{is_open, is_comment_line, without_last, without_open_backslash}
+use Rattle.properties_format.specs.Lines.{is_open, is_comment_line, without_last, without_open_backslash}
 use Rattle.properties_format.proofs.Groups.Open.{is_open-after, blank-other, open-ends}
 use Rattle.properties_lines.specs.LogicalLine.{is_continued, IsNotContinued}
 

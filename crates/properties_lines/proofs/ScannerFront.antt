@@ -9,19 +9,17 @@ use Rattle.properties_format.specs.Lines as format
 use Rattle.properties_format.specs.Lines.{InputEnd, end, more}
 use Rattle.properties_format.specs.Cut.{units}
 use Rattle.properties_format.specs.Computed.Lines.{begins_with_lf}
-use Rattle.properties_format.specs.Computed.Waiting.{awaits_bom}
+use Rattle.properties_format.specs.Computed.Encoding.{awaits_bom}
 use Rattle.properties_format.specs.ItemsToCome.{ReaderState}
-use Rattle.properties_format.specs.Computed.ItemsToCome.{natural_to_come}
-use Rattle.properties_format.specs.Computed.ReaderSteps.{Gives, ReadsLines, HoldsNoEnd, after_decided, after_passed, next_line}
+use Rattle.properties_format.specs.Computed.ItemsToCome.{natural_to_come, Gives, ReadsLines, HoldsNoEnd, after_decided, after_passed, next_line}
 use Rattle.properties_format.proofs.ItemsToCome.Lines.{gives-decided, gives-decided_last, gives-passed_none, gives-passed_last, gives-passed_lf, gives-last, natural-more}
 use Rattle.properties_format.proofs.ItemsToCome.Entries.{gives-on}
 use Rattle.properties_format.proofs.ItemsToCome.Waiting.{waiting-no_end}
-use Rattle.properties_text.specs.Encoding.{encoding_of}
-use Rattle.properties_text.specs.Decoding.{FindsByteOrderMark}
+use Rattle.properties_text.specs.Encoding.{encoding_of, FindsByteOrderMark}
 use Rattle.properties_text.specs.declared.encoding.byte_order_mark.ByteOrderMark.{ByteOrderMark}
 use Rattle.properties_text.specs.declared.encoding.byte_order_mark.ByteOrderMark.TheVariants.{Present, Absent, Undecided}
 use Rattle.properties_lines.specs.LineSearch.{unit_size, IsSearched}
-use Rattle.properties_lines.specs.Scanner.{is_decided, after_cr, scanner_state, front_of, without_feed, Fits, Comes, IsAlike, SkipsFront, SkipsFeed, feed_size, is_undecided}
+use Rattle.properties_lines.specs.Scanner.{is_decided, after_cr, scanner_state, front_of, Fits, Comes, IsAlike, SkipsFront, SkipsFeed, feed_size, is_undecided}
 use Rattle.properties_lines.specs.declared.scanner.Front.TheVariants.{Mark, Feed, Nothing}
 use Rattle.properties_lines.specs.declared.scanner.Scanner.{Scanner}
 use Rattle.properties_lines.proofs.LineSearch.{nothing_searched, searched-grown, length-ascii_bytes, short-none}
@@ -200,13 +198,8 @@ awaits-unit s held g a short =
     let t = scanner_state s held in
     (natural-more t (record { going = g; decided = ap is_decided a; none = short-none t.encoding t.held short })).0
 
-without-feed : (e : Encoding) (d : List ℕ) → without_feed e d ≡ drop (feed_size e d) d
-without-feed e d = elim (cases_Bool (begins_with_lf (units e d))) [
-  | inl h ↦ rw h refl
-  | inr h ↦ rw h refl
-]
-
-front-after : (s : ReaderState) → s.is_decided ≡ true → s.after_cr ≡ true → front_of s ≡ record { encoding = s.encoding; body = without_feed s.encoding s.held }
+front-after : (s : ReaderState) → s.is_decided ≡ true → s.after_cr ≡ true
+    → front_of s ≡ record { encoding = s.encoding; body = drop (feed_size s.encoding s.held) s.held }
 front-after s d a = rw (d, a) refl
 
 -- it is passed, where it is there
@@ -231,7 +224,7 @@ passes-feed old held ended h a k =
         fresh = λ w. fresh;
         line = h.line;
       };
-      front = front-after s decided after ∙ ap (λ v. let w : InForce = record { encoding = s.encoding; body = v } in w) (without-feed s.encoding s.held ∙ rest);
+      front = front-after s decided after ∙ ap (λ v. let w : InForce = record { encoding = s.encoding; body = v } in w) rest;
     }
 
 -- unless more bytes decide whether it comes

@@ -22,15 +22,14 @@ use Rattle.properties_format.specs.Cut.{units, HoldsNoLineEndUnit, line_ending_b
 use Rattle.properties_format.specs.Computed.Lines.{begins_with_lf}
 use Rattle.properties_format.specs.Computed.Cut.{decoded_line}
 use Rattle.properties_format.specs.ItemsToCome.{ReaderState}
-use Rattle.properties_format.specs.Computed.ReaderSteps.{ReadsLines, HoldsLine, after_line, next_line}
+use Rattle.properties_format.specs.Computed.ItemsToCome.{ReadsLines, next_line}
 use Rattle.properties_format.proofs.ItemsToCome.Steps.{lines-then, lines-take, lines-passed_lf, lines-passed_none}
 use Rattle.properties_text.specs.Encoding.{encoding_of}
 use Rattle.properties_text.specs.Escaping.{holds_backslash}
 use Rattle.properties_text.proofs.Blocks.{ascii-before}
 use Rattle.properties_text.proofs.Texts.Resolving.{holds-at}
 use Rattle.properties_lines.specs.LineSearch.{unit_size, IsFirstLineEnd, end_character}
-use Rattle.properties_lines.specs.Scanner.{scanner_state, HasRightFlags, EndsWhole, bytes_of, line_of, IsReady, IsFresh, IsBefore, FindsByte, TellsBackslash, TakesLine, SkipsFeed, feed_size, Searches, is_decided}
-use Rattle.properties_lines.specs.Scanner.{after_cr}
+use Rattle.properties_lines.specs.Scanner.{scanner_state, HasRightFlags, EndsWhole, bytes_of, line_of, IsReady, IsFresh, IsBefore, FindsByte, TellsBackslash, TakesLine, SkipsFeed, feed_size, Searches, is_decided, after_cr}
 use Rattle.properties_lines.specs.Private.PlainEnds.{is_plain_end}
 use Rattle.properties_lines.specs.declared.search.LineEnd.{LineEnd}
 use Rattle.properties_lines.specs.declared.search.BlockSearch.{BlockSearch}
@@ -41,6 +40,7 @@ use Rattle.properties_lines.specs.declared.scanner.RawLine.{RawLine}
 use Rattle.properties_lines.specs.declared.scanner.Scanner.{Scanner}
 use Rattle.properties_lines.proofs.ScannerFront.{some-units, feed-first}
 use Rattle.properties_lines.proofs.LineSearch.{nothing_searched, length-ascii_bytes, short-units, found-byte, searched-bytes}
+use Rattle.properties_format.proofs.ItemsToCome.Lines.{HoldsLine, after_line}
 
 -- ---- what the reader does
 

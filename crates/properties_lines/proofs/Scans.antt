@@ -1,6 +1,5 @@
 -- What a call of a scanner gives.
-use Rattle.std.proofs.Common.{inl, inr, ◌≡◌, ◌≢◌, ◌⊎◌, ◌<◌, ◌+◌, ◌-◌, ◌^◌, ℕ, Bool, true, false, List}
-use Rattle.std.proofs.Common.{[], ◌∷◌, ◌++◌, take, drop, length, refl, sym, ap, ap₂, subst, ◌∙◌, append-nil, length-drop, arith}
+use Rattle.std.proofs.Common.{inl, inr, ◌≡◌, ◌≢◌, ◌⊎◌, ◌<◌, ◌+◌, ◌-◌, ◌^◌, ℕ, Bool, true, false, List, [], ◌∷◌, ◌++◌, take, drop, length, refl, sym, ap, ap₂, subst, ◌∙◌, append-nil, length-drop, arith}
 use Rattle.std.specs.Prelude.{None}
 use Rattle.std.proofs.lemmas.List.{take_rest, drop_all}
 use Rattle.properties_format.specs.Encoding.{Encoding, InForce}
@@ -8,7 +7,7 @@ use Rattle.properties_format.specs.Lines.{more}
 use Rattle.properties_format.specs.Cut.{HoldsNoLineEndUnit}
 use Rattle.properties_format.specs.Computed.Cut.{decoded_line}
 use Rattle.properties_format.specs.ItemsToCome.{ReaderState}
-use Rattle.properties_format.specs.Computed.ReaderSteps.{HoldsNoEnd}
+use Rattle.properties_format.specs.Computed.ItemsToCome.{HoldsNoEnd}
 use Rattle.properties_format.proofs.ItemsToCome.Lines.{natural-more}
 use Rattle.properties_text.specs.Encoding.{encoding_of}
 use Rattle.properties_lines.specs.LineSearch.{unit_size, whole_units}

@@ -10,13 +10,12 @@ use Rattle.properties_format.specs.Text as text
 use Rattle.properties_format.specs.Encoding.{Encoding, InForce, windows_1252, utf_8, utf_16le, utf_16be}
 use Rattle.properties_format.specs.Computed.Lines.{begins_with_lf}
 use Rattle.properties_format.proofs.Encodings.WellFormed.{well_formed-from_IsUtf8, IsUtf8-from_well_formed}
-use Rattle.properties_text.specs.Encoding.{encoding_of}
-use Rattle.properties_text.specs.Decoding.{IsLongestText}
-use Rattle.properties_lines.specs.Scanner.{is_decided, after_cr, bytes_of, scanner_state, front_of, without_feed, ending_bytes, EndsWhole, Fits, IsCutOff, GivesLine, AsksForMore, Scans}
+use Rattle.properties_text.specs.Encoding.{encoding_of, IsLongestText}
+use Rattle.properties_lines.specs.Scanner.{is_decided, after_cr, bytes_of, scanner_state, front_of, feed_size, ending_bytes, EndsWhole, Fits, IsCutOff, GivesLine, AsksForMore, Scans}
 use Rattle.properties_lines.specs.LineSearch.{unit_size}
 use Rattle.properties_lines.specs.LineReader.{LineReading, HasRightLineFlags}
 use Rattle.properties_lines.specs.LogicalLine.{IsLineIn, TellsLine}
-use Rattle.properties_lines.specs.Private.Tested.{between, IsApart, KnowsText, IsTested}
+use Rattle.properties_lines.specs.Private.InputBuffer.{between, IsApart, KnowsText, IsTested}
 use Rattle.properties_lines.specs.declared.scanner.RawLine.{RawLine}
 use Rattle.properties_lines.specs.declared.scanner.Scanner.{Scanner}
 use Rattle.properties_lines.specs.declared.scanner.Scan.{Scan}
@@ -192,7 +191,8 @@ same-place : (held : List ℕ) (at to : ℕ) → at ≤ length held → to ≤ l
 same-place held at to l h e = omega (arith, ap length e, length-drop at held, length-drop to held)
 
 -- An LF at the front is skipped.
-past-feed : (held : List ℕ) (at to : ℕ) → at ≤ length held → to ≤ length held → without_feed utf_8 (drop at held) ≡ drop to held → Moves held at to
+past-feed : (held : List ℕ) (at to : ℕ) → at ≤ length held → to ≤ length held
+    → drop (feed_size utf_8 (drop at held)) (drop at held) ≡ drop to held → Moves held at to
 past-feed held at to l h e = elim (cases_Bool (begins_with_lf (drop at held))) [
   | inl t ↦
       let one : drop 1 (drop at held) ≡ drop to held = rw t at e in
@@ -212,7 +212,7 @@ moves : (s : Scanner) (held : List ℕ) (to : ℕ) (e : Encoding) → is_decided
 moves s held to e d is h l m =
     let body = ap (λ v. let w : InForce = v in w.body) (rw d at h) in
     elim (cases_Bool (after_cr s.front)) [
-      | inl t ↦ past-feed held s.at to l m (subst (λ v. without_feed v (drop s.at held) ≡ drop to held) is (rw t at body))
+      | inl t ↦ past-feed held s.at to l m (subst (λ v. drop (feed_size v (drop s.at held)) (drop s.at held) ≡ drop to held) is (rw t at body))
       | inr f ↦ inl (same-place held s.at to l m (rw f at body))
     ]
 

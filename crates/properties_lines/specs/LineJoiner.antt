@@ -4,16 +4,13 @@ use Rattle.std.specs.Str.{chars, IsAscii}
 use Rattle.std.specs.declared.io.Error.{Error}
 use Rattle.counted_io.specs.Streams.{Reader, HasRead, HasFailed, has_ended}
 use Rattle.properties_format.specs.Lines as format
-use Rattle.properties_format.specs.Lines.{end, fault, more}
-use Rattle.properties_format.specs.Groups.{is_open, joined, joined_after, AreOpen, EndsClosed, IsWhole, IsUnfinished}
+use Rattle.properties_format.specs.Lines.{InputEnd, end, fault, more, is_open, joined, joined_after, AreOpen, EndsClosed, IsWhole, IsUnfinished}
 use Rattle.properties_format.specs.Computed.Cut.{decoded_line}
-use Rattle.properties_format.specs.Entries.{read_fault}
+use Rattle.properties_format.specs.Items.{Entry, read_fault}
 use Rattle.properties_format.specs.ItemsToCome.{ReaderState, PassesSome, PassesAll, IsLazyItems}
 use Rattle.properties_format.specs.Computed.Items.{outcome_of, followed}
-use Rattle.properties_format.specs.Computed.ItemsToCome.{items_to_come, entries_pending}
-use Rattle.properties_format.specs.Computed.ReaderSteps.{ReadsLogical}
-use Rattle.properties_text.specs.Escaping.{holds_backslash}
-use Rattle.properties_text.specs.Spelt.{text_in, IsWell}
+use Rattle.properties_format.specs.Computed.ItemsToCome.{items_to_come, entries_pending, ReadsLogical}
+use Rattle.properties_text.specs.Escaping.{holds_backslash, text_in, IsWell}
 use Rattle.properties_text.specs.declared.encoding.line.LineEncoding.{LineEncoding}
 use Rattle.properties_lines.specs.LineReader.{LineReading, FindsNext, Passes}
 use Rattle.properties_lines.specs.Scanner.{KeepsEncoding}
@@ -58,32 +55,39 @@ pub data Comes (old : ReaderState) (bytes : List ℕ) (line : format.Line) (new 
 
 -- A read failed, and nothing but this I/O error is left to come. Its line number is that of the line that was cut off,
 -- also in a continuation.
-pub record JoinsFault {R : Type 0} (reader : Reader R) (old : ReaderState) (from : R) (e : LineError) (to : R) : Type 0 where
+pub record JoinsFault {R : Type 0} (reader : Reader R) (Come : List ℕ → InputEnd → List Entry → Type 0) (from : R) (e : LineError) (to : R) : Type 0 where
   pub bytes : List ℕ
   pub error : Error
   pub number : ℕ
   pub failed : HasFailed reader from bytes error to
   pub is : e ≡ why.Io number error
-  pub items : items_to_come old bytes fault ≡ read_fault number ∷ []
-  pub lazy : items_to_come old [] more ≡ []
+  pub items : Come bytes fault (read_fault number ∷ [])
+  pub lazy : Come [] more []
 
 -- There was no number for another line.
-pub record JoinsTooMany {R : Type 0} (reader : Reader R) (old : ReaderState) (from : R) (e : LineError) (new : ReaderState) (to : R) : Type 0 where
+pub record JoinsTooMany {R : Type 0} (reader : Reader R) (IsLazy : List ℕ → Type 0) (old : ReaderState) (from : R) (e : LineError) (new : ReaderState) (to : R) : Type 0 where
   pub bytes : List ℕ
   pub read : HasRead reader from bytes to
   pub passes : PassesAll old bytes
   pub is : e ≡ why.TooManyLines
-  pub lazy : IsLazyItems old from bytes to
+  pub lazy : IsLazy bytes
 
 -- Memory ran out.
-pub record JoinsNoRoom {R : Type 0} (reader : Reader R) (old : ReaderState) (from : R) (e : LineError) (to : R) : Type 0 where
+pub record JoinsNoRoom {R : Type 0} (reader : Reader R) (IsLazy : List ℕ → Type 0) (from : R) (e : LineError) (to : R) : Type 0 where
   pub bytes : List ℕ
   pub read : HasRead reader from bytes to
   pub is : e ≡ why.Memory
-  pub lazy : IsLazyItems old from bytes to
+  pub lazy : IsLazy bytes
+
+-- Why no line was joined, by the entries that come of bytes and an ending, and by what is known of the bytes that were
+-- read.
+abbrev pub JoinsNot : {R : Type 0} → Reader R → (List ℕ → InputEnd → List Entry → Type 0) → (List ℕ → Type 0) → ReaderState → R → LineError → ReaderState → R → Type 0
+JoinsNot reader Come IsLazy old from e new to =
+    JoinsFault reader Come from e to ⊎ (JoinsTooMany reader IsLazy old from e new to ⊎ JoinsNoRoom reader IsLazy from e to)
 
 abbrev pub JoinsError : {R : Type 0} → Reader R → ReaderState → R → LineError → ReaderState → R → Type 0
-JoinsError reader old from e new to = JoinsFault reader old from e to ⊎ (JoinsTooMany reader old from e new to ⊎ JoinsNoRoom reader old from e to)
+JoinsError reader old from e new to =
+    JoinsNot reader (λ bytes ending entries. items_to_come old bytes ending ≡ entries) (λ bytes. IsLazyItems old from bytes to) old from e new to
 
 -- ---- continuations
 
@@ -99,12 +103,13 @@ EndJoin lines new = ((l : format.Line) → is_open l.text ≡ true → EndsClose
 abbrev pub IsLazyJoin : {R : Type 0} → ReaderState → R → List ℕ → List ℕ → R → Type 0
 IsLazyJoin old from text bytes to = ((to ≡ from) × (bytes ≡ [])) ⊎ ((number : ℕ) → entries_pending (join_of number text) old [] more ≡ [])
 
--- Open lines were joined to an unfinished line.
-pub record GoesOn {R : Type 0} (reader : Reader R) (old : ReaderState) (from : R) (old_text bytes text : List ℕ) (new : ReaderState) (to : R) : Type 0 where
+-- Such lines were joined to an unfinished line.
+pub record JoinsLines {R : Type 0} (reader : Reader R) (AreSuch : List format.Line → Type 0) (old : ReaderState) (from : R) (old_text text : List ℕ) (new : ReaderState) (to : R) : Type 0 where
+  pub bytes : List ℕ
   pub read : HasRead reader from bytes to
   pub lines : List format.Line
   pub passes : Passes old bytes lines new
-  pub are_open : AreOpen lines
+  pub are_such : AreSuch lines
   pub is : text ≡ old_text ++ joined_after lines
   pub encoding : KeepsEncoding old new
   pub done : old.is_done ≡ true → new.is_done ≡ true
@@ -113,47 +118,14 @@ pub record GoesOn {R : Type 0} (reader : Reader R) (old : ReaderState) (from : R
   pub lazy : IsLazyJoin old from old_text bytes to
 
 -- The logical line was read to its end.
-pub record JoinsAll {R : Type 0} (reader : Reader R) (old : ReaderState) (from : R) (old_text text : List ℕ) (new : ReaderState) (to : R) : Type 0 where
-  pub bytes : List ℕ
-  pub read : HasRead reader from bytes to
-  pub lines : List format.Line
-  pub passes : Passes old bytes lines new
-  pub end_join : EndJoin lines new
-  pub is : text ≡ old_text ++ joined_after lines
-  pub encoding : KeepsEncoding old new
-  pub done : old.is_done ≡ true → new.is_done ≡ true
-  pub ended : new.is_done ≡ true → (old.is_done ≡ true) ⊎ (has_ended reader to ≡ true)
-  pub idle : old.is_done ≡ true → (bytes ≡ []) × (to ≡ from)
-  pub lazy : IsLazyJoin old from old_text bytes to
+abbrev pub JoinsAll : {R : Type 0} → Reader R → ReaderState → R → (old_text text : List ℕ) → ReaderState → R → Type 0
+JoinsAll reader old from old_text text new to = JoinsLines reader (λ lines. EndJoin lines new) old from old_text text new to
 
--- A read failed in the unfinished line, which is lost.
-pub record JoinFault {R : Type 0} (reader : Reader R) (old : ReaderState) (from : R) (old_text : List ℕ) (e : LineError) (to : R) : Type 0 where
-  pub bytes : List ℕ
-  pub error : Error
-  pub number : ℕ
-  pub failed : HasFailed reader from bytes error to
-  pub is : e ≡ why.Io number error
-  pub entries : (first : ℕ) → entries_pending (join_of first old_text) old bytes fault ≡ read_fault number ∷ []
-  pub lazy : (first : ℕ) → entries_pending (join_of first old_text) old [] more ≡ []
-
--- There was no number for another line of it.
-pub record JoinTooMany {R : Type 0} (reader : Reader R) (old : ReaderState) (from : R) (old_text : List ℕ) (e : LineError) (new : ReaderState) (to : R) : Type 0 where
-  pub bytes : List ℕ
-  pub read : HasRead reader from bytes to
-  pub passes : PassesAll old bytes
-  pub is : e ≡ why.TooManyLines
-  pub lazy : IsLazyJoin old from old_text bytes to
-
--- Memory ran out.
-pub record JoinNoRoom {R : Type 0} (reader : Reader R) (old : ReaderState) (from : R) (old_text : List ℕ) (e : LineError) (to : R) : Type 0 where
-  pub bytes : List ℕ
-  pub read : HasRead reader from bytes to
-  pub is : e ≡ why.Memory
-  pub lazy : IsLazyJoin old from old_text bytes to
-
+-- It wasn't: the unfinished line is lost.
 abbrev pub JoinError : {R : Type 0} → Reader R → ReaderState → R → List ℕ → LineError → ReaderState → R → Type 0
 JoinError reader old from old_text e new to =
-    JoinFault reader old from old_text e to ⊎ (JoinTooMany reader old from old_text e new to ⊎ JoinNoRoom reader old from old_text e to)
+    JoinsNot reader (λ bytes ending entries. (number : ℕ) → entries_pending (join_of number old_text) old bytes ending ≡ entries)
+    (λ bytes. IsLazyJoin old from old_text bytes to) old from e new to
 
 -- The line couldn't be read to its end. The reading ended permanently, and the error is kept.
 pub record JoinsNone {R : Type 0} (reader : Reader R) (old : LineReading) (from : R) (old_text : List ℕ) (new : LineReading) (to : R) : Type 0 where

@@ -4,12 +4,11 @@ use Rattle.std.specs.declared.io.Error.{Error}
 use Rattle.counted_io.specs.Streams.{Reader, HasRead, HasFailed, has_ended}
 use Rattle.properties_format.specs.Lines as format
 use Rattle.properties_format.specs.Lines.{end, fault, more}
-use Rattle.properties_format.specs.Pieces.{characters}
+use Rattle.properties_format.specs.Text.{characters}
 use Rattle.properties_format.specs.Computed.Encoding.{pieces_of}
-use Rattle.properties_format.specs.Entries.{read_fault}
+use Rattle.properties_format.specs.Items.{read_fault}
 use Rattle.properties_format.specs.ItemsToCome.{ReaderState}
-use Rattle.properties_format.specs.Computed.ItemsToCome.{natural_to_come, last_to_come}
-use Rattle.properties_format.specs.Computed.ReaderSteps.{Gives, ReadsLines}
+use Rattle.properties_format.specs.Computed.ItemsToCome.{natural_to_come, last_to_come, Gives, ReadsLines}
 use Rattle.properties_lines.specs.Scanner.{HasRightFlags, Comes, KeepsEncoding}
 use Rattle.properties_lines.specs.declared.error.LineError.TheVariants as why
 use Rattle.properties_lines.specs.declared.error.LineError.{LineError}
@@ -51,28 +50,6 @@ reads_left f = (if awaits_front f.state then 2 ^ 64 else 0) + (2 ^ 64 - f.waitin
 -- Nothing was read; or the bytes already held determined no line, so a read was needed.
 abbrev pub IsLazy : {R : Type 0} → ReaderState → R → List ℕ → R → Type 0
 IsLazy old from r to = ((to ≡ from) × (r ≡ [])) ⊎ (natural_to_come old [] more ≡ [])
-
--- These bytes were read, and no line was passed.
-pub record Along {R : Type 0} (reader : Reader R) (old : ReaderState) (from : R) (bytes : List ℕ) (new : ReaderState) (to : R) : Type 0 where
-  pub read : HasRead reader from bytes to
-  pub gives : ReadsLines old bytes [] new
-  pub passed : new.passed ≡ old.passed
-  pub done : new.is_done ≡ old.is_done
-  pub encoding : KeepsEncoding old new
-  pub lazy : IsLazy old from bytes to
-
--- The reader is at its end, and no line with a line ending is held.
-pub record IsAtEnd {R : Type 0} (reader : Reader R) (state : ReaderState) (at : R) : Type 0 where
-  pub ended : has_ended reader at ≡ true
-  pub none : natural_to_come state [] more ≡ []
-  pub live : state.is_done ≡ false
-  pub numbered : state.passed + 1 < 2 ^ 64
-
--- Memory ran out.
-pub record HasNoRoom {R : Type 0} (reader : Reader R) (old : ReaderState) (from : R) (to : R) : Type 0 where
-  pub bytes : List ℕ
-  pub read : HasRead reader from bytes to
-  pub lazy : IsLazy old from bytes to
 
 -- ---- one read
 
@@ -149,7 +126,9 @@ pub record FindsTooMany {R : Type 0} (old : ReaderState) (from : R) (e : LineErr
 
 -- Memory ran out while there was a number for another line.
 pub record FindsNoRoom {R : Type 0} (reader : Reader R) (old : ReaderState) (from : R) (e : LineError) (to : R) : Type 0 where
-  pub room : HasNoRoom reader old from to
+  pub bytes : List ℕ
+  pub read : HasRead reader from bytes to
+  pub lazy : IsLazy old from bytes to
   pub numbered : old.passed + 1 < 2 ^ 64
   pub is : e ≡ why.Memory
 

@@ -2,16 +2,15 @@
 use Rattle.std.specs.Prelude.{◌≡◌, ℕ, ◌+◌, ◌-◌, ◌%◌, ◌≤◌, Bool, true, false, List, [], ◌∷◌, ◌++◌, take, length}
 use Rattle.std.specs.Prelude.{Option, Some, None}
 use Rattle.properties_format.specs.Text.{line_feed, carriage_return}
-use Rattle.properties_format.specs.Encoding.{Encoding, windows_1252, utf_8, utf_16le, utf_16be, IsAligned, ascii_bytes}
+use Rattle.properties_format.specs.Encoding.{Encoding, utf_16le, utf_16be, IsAligned, ascii_bytes}
 use Rattle.properties_format.specs.Cut.{HoldsNoLineEndUnit}
 use Rattle.properties_lines.specs.declared.search.LineEnd.{LineEnd}
 
 -- the number of bytes in a unit
 abbrev pub unit_size : Encoding → ℕ
-unit_size windows_1252 = 1
-unit_size utf_8 = 1
 unit_size utf_16le = 2
 unit_size utf_16be = 2
+unit_size e = 1
 
 -- how many of `n` bytes form whole units
 abbrev pub whole_units : Encoding → ℕ → ℕ

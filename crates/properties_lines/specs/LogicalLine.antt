@@ -1,12 +1,12 @@
 -- The bytes of a logical line.
 use Rattle.std.specs.Prelude.{◌≡◌, ◌⊎◌, ◌≤◌, ◌++◌, ℕ, Bool, true, false, if◌then◌else◌, List, length, take, Result, Ok, Err}
 use Rattle.std.specs.Str.{chars, IsUtf8}
-use Rattle.properties_format.specs.Encoding.{Encoding, windows_1252, utf_8, utf_16le, utf_16be, output_encoding}
-use Rattle.properties_format.specs.Groups.{is_comment_line, is_open, addition, without_open_backslash}
+use Rattle.properties_format.specs.Encoding.{Encoding, windows_1252, utf_8, output_encoding}
+use Rattle.properties_format.specs.Lines.{is_comment_line, is_open, addition, without_open_backslash}
 use Rattle.properties_format.specs.Utf8.{IsWellFormedText}
 use Rattle.properties_format.specs.Computed.Cut.{decoded_line}
 use Rattle.properties_text.specs.Encoding.{line_of}
-use Rattle.properties_text.specs.Spelt.{text_in, IsWell}
+use Rattle.properties_text.specs.Escaping.{text_in, IsWell}
 use Rattle.properties_text.specs.declared.encoding.line.LineEncoding.TheVariants.{Utf8}
 use Rattle.properties_lines.specs.declared.logical.Place.{Place}
 use Rattle.properties_lines.specs.declared.logical.Place.TheVariants.{Natural, Decoded, Joined}
@@ -16,8 +16,7 @@ use Rattle.properties_lines.specs.declared.logical.LogicalLine.{LogicalLine}
 
 abbrev pub is_natural : Place → Bool
 is_natural Natural = true
-is_natural Decoded = false
-is_natural Joined = false
+is_natural place = false
 
 abbrev pub bytes_at : Place → (natural decoded joined : List ℕ) → List ℕ
 bytes_at Natural natural decoded joined = natural
@@ -53,8 +52,7 @@ pub record IsTextOf (text bytes : List ℕ) : Type 0 where
 abbrev pub IsLineIn : Encoding → List ℕ → Type 0
 IsLineIn windows_1252 bytes = Unit {0}
 IsLineIn utf_8 bytes = IsWellFormedText bytes
-IsLineIn utf_16le bytes = ⊥
-IsLineIn utf_16be bytes = ⊥
+IsLineIn e bytes = ⊥
 
 abbrev pub TellsLine : Encoding → List ℕ → Bool → Type 0
 TellsLine e bytes true = IsLineIn e bytes

@@ -1,4 +1,3 @@
 pub mod InputBuffer
 pub mod PlainEnds
 pub mod HeldLines
-pub mod Tested

@@ -13,12 +13,11 @@ use Rattle.properties_format.specs.Cut.{units, HoldsNoLineEndUnit, line_ending_b
 use Rattle.properties_format.specs.Computed.Lines.{begins_with_lf}
 use Rattle.properties_format.specs.Computed.Cut.{decoded_line}
 use Rattle.properties_format.specs.ItemsToCome.{ReaderState}
-use Rattle.properties_format.specs.Computed.ItemsToCome.{natural_to_come}
-use Rattle.properties_format.specs.Computed.ReaderSteps.{Gives, ReadsLines}
+use Rattle.properties_format.specs.Computed.ItemsToCome.{natural_to_come, Gives, ReadsLines}
 use Rattle.properties_text.specs.Encoding.{encoding_of}
 use Rattle.properties_text.specs.Escaping.{holds_backslash}
 use Rattle.properties_text.specs.declared.encoding.byte_order_mark.ByteOrderMark.{ByteOrderMark}
-use Rattle.properties_text.specs.declared.encoding.byte_order_mark.ByteOrderMark.TheVariants.{Present, Absent, Undecided}
+use Rattle.properties_text.specs.declared.encoding.byte_order_mark.ByteOrderMark.TheVariants.{Undecided}
 use Rattle.properties_lines.specs.LineSearch.{unit_size, whole_units, IsSearched}
 use Rattle.properties_lines.specs.declared.search.BlockSearch.{BlockSearch}
 use Rattle.properties_lines.specs.declared.search.BlockSearch.TheVariants.{Found, Searched}
@@ -34,14 +33,12 @@ use Rattle.properties_lines.specs.declared.scanner.Scan.TheVariants.{Line, More,
 -- whether the encoding in force is known
 abbrev pub is_decided : Front → Bool
 is_decided Mark = false
-is_decided Feed = true
-is_decided Nothing = true
+is_decided front = true
 
 -- whether the line ending before is a CR whose LF may still come
 abbrev pub after_cr : Front → Bool
-after_cr Mark = false
 after_cr Feed = true
-after_cr Nothing = false
+after_cr front = false
 
 -- the reader state of a scanner with these bytes: a reader that holds those from the scanner's place on
 abbrev pub scanner_state : Scanner → List ℕ → ReaderState
@@ -82,15 +79,15 @@ MayCome true d ending = (d ≡ []) × (ending ≡ end)
 pub record Comes (ended : Bool) (old : ReaderState) (lines : List format.Line) (new : ReaderState) : Type 0 where
   pub gives : (d : List ℕ) (ending : InputEnd) → MayCome ended d ending → Gives old d lines new d ending
 
--- the bytes without an LF at the front, which belongs to a CR before it
-abbrev pub without_feed : Encoding → List ℕ → List ℕ
-without_feed e d = if begins_with_lf (units e d) then drop (unit_size e) d else d
+-- the size of an LF at the front, or 0 if there is none
+abbrev pub feed_size : Encoding → List ℕ → ℕ
+feed_size e d = if begins_with_lf (units e d) then unit_size e else 0
 
 -- the encoding in force if nothing else comes, and the bytes after a byte order mark, or after an LF of the line ending
 -- before
 abbrev pub front_of : ReaderState → InForce
 front_of s =
-    if s.is_decided then record { encoding = s.encoding; body = if s.after_cr then without_feed s.encoding s.held else s.held }
+    if s.is_decided then record { encoding = s.encoding; body = if s.after_cr then drop (feed_size s.encoding s.held) s.held else s.held }
     else byte_order_mark s.encoding s.held
 
 -- ---- a line
@@ -181,10 +178,6 @@ abbrev pub SkipsFront : Scanner → List ℕ → Bool → Bool → Scanner → T
 SkipsFront old held ended true new = IsAlike old held ended new
 SkipsFront old held ended false new = (ended ≡ false) × (new ≡ old) × (natural_to_come (scanner_state old held) [] more ≡ []) × (old.front ≢ Nothing)
 
--- the size of an LF at the front, or 0 if there is none
-abbrev pub feed_size : Encoding → List ℕ → ℕ
-feed_size e d = if begins_with_lf (units e d) then unit_size e else 0
-
 -- An LF that belongs to the CR before it was skipped if it is there; or more bytes are needed to decide, and the
 -- scanner waits for them.
 abbrev pub SkipsFeed : Scanner → List ℕ → Bool → Bool → Scanner → Type 0
@@ -255,6 +248,5 @@ TellsBackslash bytes (Searched count) has_backslash = Unit {0}
 
 -- whether more bytes are needed to decide if there is a byte order mark
 abbrev pub is_undecided : ByteOrderMark → Bool
-is_undecided (Present encoding length) = false
-is_undecided Absent = false
 is_undecided Undecided = true
+is_undecided mark = false

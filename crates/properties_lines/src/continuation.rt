@@ -2,7 +2,7 @@
 
 ghost use Rattle.std.specs.Prelude.{◌≡◌};
 ghost use Rattle.properties_format.specs.Text.{without_leading_blanks};
-ghost use Rattle.properties_format.specs.Groups.{addition, is_comment_line, is_open, without_open_backslash};
+ghost use Rattle.properties_format.specs.Lines.{addition, is_comment_line, is_open, without_open_backslash};
 ghost use Rattle.properties_lines.specs.LogicalLine.{AddsText, BeginsText, is_continued};
 
 use properties_text::characters::is_comment_sign;

@@ -2,12 +2,11 @@
 
 ghost use Rattle.std.specs.Prelude.{◌≡◌, ◌<◌, ◌≤◌, ◌^◌, true, false, None, [], OnSome, length};
 ghost use Rattle.std.specs.Result.{result_err};
-ghost use Rattle.std.specs.Str.{IsUtf8, chars};
+ghost use Rattle.std.specs.Str.{IsUtf8};
 ghost use Rattle.counted_io.specs.Streams.{IsSameReader};
 ghost use Rattle.properties_format.specs.ItemsToCome.{start};
 ghost use Rattle.properties_text.specs.Encoding.{encoding_of};
-ghost use Rattle.properties_text.specs.Escaping.{holds_backslash};
-ghost use Rattle.properties_text.specs.Spelt.{IsWell};
+ghost use Rattle.properties_text.specs.Escaping.{holds_backslash, IsWell};
 ghost use Rattle.properties_lines.specs.LineReader.{lines_left, HasRightLineFlags};
 ghost use Rattle.properties_lines.specs.LogicalLine.{BeginsWith, IsSound, IsUnfinished, unfinished_text};
 ghost use Rattle.properties_lines.specs.LineJoiner.{LineJoining, Joins, Advances, JoinsOn, ReadsRest};
@@ -114,8 +113,8 @@ impl LineJoiner {
         }
     }
 
-    /// Returns a slice that begins with the logical line that was joined last. The bytes after it are padding, so that
-    /// blocks of bytes may be read.
+    /// Returns a slice that begins with the logical line that was joined last. Any bytes after it don't belong to it;
+    /// blocks may be read over them.
     #[inline(always)]
     pub fn with_room(&self) -> &[u8]
         ensures { BeginsWith self.now.at.line result.now }

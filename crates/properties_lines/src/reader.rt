@@ -45,7 +45,7 @@ impl Model for LineReader {
     ghost use Rattle.std.specs.Prelude.{◌≡◌, ◌≢◌, ◌-◌, true, None, length};
     ghost use Rattle.properties_lines.specs.Scanner.{scanner_state, bytes_of, Fits};
     ghost use Rattle.properties_lines.specs.LineReader.{LineReading};
-    ghost use Rattle.properties_lines.specs.Private.Tested.{IsTested};
+    ghost use Rattle.properties_lines.specs.Private.InputBuffer.{IsTested};
 
     ghost Value = { LineReading };
 

@@ -4,10 +4,9 @@ use Rattle.std.specs.Prelude.{Some, None}
 use Rattle.std.specs.declared.io.Error.{Error}
 use Rattle.counted_io.specs.Streams.{Reader}
 use Rattle.counted_io.proofs.Streams.{read-none, read-more, failed-more}
-use Rattle.properties_format.specs.Pieces.{characters}
+use Rattle.properties_format.specs.Text.{characters}
 use Rattle.properties_format.specs.Encoding.{Encoding, byte_order_mark}
-use Rattle.properties_format.specs.Computed.Encoding.{first_piece, pieces_of, decoded_of, characters_from}
-use Rattle.properties_format.specs.Computed.Waiting.{awaits_bom, awaits_more}
+use Rattle.properties_format.specs.Computed.Encoding.{first_piece, pieces_of, decoded_of, characters_from, awaits_bom, awaits_more}
 use Rattle.properties_format.proofs.Encodings.Pieces.{pieces_of-nil}
 use Rattle.properties_format.proofs.Encodings.ByteOrderMarks.{decoded_of-append}
 use Rattle.properties_format.proofs.Encodings.Waiting.{pieces_of-decided, characters-step}

@@ -3,9 +3,8 @@ use Rattle.std.proofs.Common.{◌≡◌, true, false, List, [], ◌∷◌, ◌++
 use Rattle.std.specs.Prelude.{map, Option, Some, None, Result, Ok, Err}
 use Rattle.std.specs.Iterator.{Yields}
 use Rattle.std.proofs.lemmas.List.{map-append}
-use Rattle.properties_format.specs.Lines.{Line, InputEnd, end, fault}
-use Rattle.properties_format.specs.Groups.{joined, first_number, IsWhole, IsUnfinished, last_group}
-use Rattle.properties_format.specs.Computed.Logical.{logical, logical_lines}
+use Rattle.properties_format.specs.Lines.{Line, InputEnd, end, fault, joined, first_number, IsWhole, IsUnfinished, last_group}
+use Rattle.properties_format.specs.Computed.Lines.{logical, logical_lines}
 use Rattle.properties_format.proofs.Groups.Only.{groups_of-before, groups_of-unfinished}
 use Rattle.single_lines.specs.Joining.{Steps, natural_line, logical_line, natural_lines, GivesLines, GivesThen, EndsGroup, TakesGroup, GivesLogicalLine, JoinsUpTo, JoinsEach}
 use Rattle.properties_lines.specs.declared.error.LineError.{LineError}

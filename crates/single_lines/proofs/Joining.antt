@@ -6,8 +6,8 @@ use Rattle.std.specs.Str.{IsUtf8, chars}
 use Rattle.std.specs.String.{string_bytes}
 use Rattle.std.proofs.lemmas.List.{map-append}
 use Rattle.std.proofs.lemmas.Str.{chars-append}
-use Rattle.properties_format.specs.Groups.{is_comment_line, is_open, addition, without_open_backslash, joined, IsWhole, IsUnfinished}
-use Rattle.properties_format.specs.Computed.Groups.{closes}
+use Rattle.properties_format.specs.Lines.{is_comment_line, is_open, addition, without_open_backslash, joined, IsWhole, IsUnfinished}
+use Rattle.properties_format.specs.Computed.Lines.{closes}
 use Rattle.properties_format.proofs.Groups.Joined.{joined-comment_line, joined-one, joined-closed, joined-push}
 use Rattle.properties_format.proofs.Groups.Meets.{close-whole, leave-unfinished}
 use Rattle.properties_format.proofs.Groups.Steps.{closes-comment_line, closes-closed, closes-goes_on}

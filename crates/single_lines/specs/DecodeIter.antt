@@ -3,8 +3,7 @@ use Rattle.std.specs.Prelude.{◌≡◌, ℕ, Bool, true, false, List, [], ◌�
 use Rattle.std.specs.declared.io.Error.{Error}
 use Rattle.counted_io.specs.Streams.{Reader, HasRead, HasFailed, has_ended}
 use Rattle.properties_format.specs.Encoding.{Encoding}
-use Rattle.properties_format.specs.Computed.Encoding.{characters_from}
-use Rattle.properties_format.specs.Computed.Waiting.{awaits_more}
+use Rattle.properties_format.specs.Computed.Encoding.{characters_from, awaits_more}
 use Rattle.properties_text.specs.Encoding.{encoding_of}
 use Rattle.single_lines.specs.declared.decode_iter.CharacterDecoder.{CharacterDecoder}
 use Rattle.single_lines.specs.declared.decode_iter.Ending.{Ending}

@@ -3,9 +3,8 @@ use Rattle.std.specs.Prelude.{◌≡◌, ◌≤◌, ◌⊎◌, true, false, List
 use Rattle.std.specs.Iterator.{Yields, YieldsThen, Drains, Count, IsFinite, size}
 use Rattle.std.specs.Str.{chars}
 use Rattle.std.specs.String.{string_bytes}
-use Rattle.properties_format.specs.Lines.{Line, end, fault}
-use Rattle.properties_format.specs.Groups.{IsWhole, IsUnfinished, joined}
-use Rattle.properties_format.specs.Computed.Logical.{logical_lines}
+use Rattle.properties_format.specs.Lines.{Line, end, fault, IsWhole, IsUnfinished, joined}
+use Rattle.properties_format.specs.Computed.Lines.{logical_lines}
 use Rattle.properties_lines.specs.declared.error.LineError.TheVariants as why
 use Rattle.properties_lines.specs.declared.error.LineError.{LineError}
 use Rattle.single_lines.specs.declared.natural.NaturalLine.{NaturalLine}

@@ -3,9 +3,8 @@
 ghost use Rattle.std.specs.Prelude.{◌≡◌, ◌↔◌, IfOk};
 ghost use Rattle.std.specs.Str.{chars};
 ghost use Rattle.std.specs.Cow.{cow_str_bytes};
-ghost use Rattle.properties_text.specs.Encoding.{encoding_of};
-ghost use Rattle.properties_text.specs.Decoding.{IsText, text_of};
-ghost use Rattle.single_lines.specs.Decoding.{IsBorrowed};
+ghost use Rattle.properties_text.specs.Encoding.{encoding_of, IsText, text_of};
+ghost use Rattle.single_lines.specs.Lines.{IsBorrowed};
 
 use properties_text::encoding::{Encoding, TextBuffer, as_text};
 use std::alloc::{AllocError, Global};

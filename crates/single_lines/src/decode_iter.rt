@@ -3,7 +3,7 @@
 ghost use Rattle.std.specs.Prelude.{◌≡◌, ◌<◌, ◌⊎◌, true, false, [], length, IfOk};
 ghost use Rattle.std.specs.Bool.{OnTrue, OnFalse};
 ghost use Rattle.counted_io.specs.Streams.{IsSameReader};
-ghost use Rattle.properties_format.specs.Computed.Waiting.{awaits_bom};
+ghost use Rattle.properties_format.specs.Computed.Encoding.{awaits_bom};
 ghost use Rattle.properties_text.specs.Encoding.{encoding_of};
 ghost use Rattle.single_lines.specs.Private.ReadAhead.{room};
 ghost use Rattle.single_lines.specs.DecodeIter.{Decoding, DecodesNext, ReadsOn, GivesOn, ShowsFault, TakesCharacter, decoding, fresh, is_over, undecoded, waits};

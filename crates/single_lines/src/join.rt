@@ -3,7 +3,7 @@
 ghost use Rattle.std.specs.Prelude.{◌≡◌};
 ghost use Rattle.std.specs.Str.{chars};
 ghost use Rattle.properties_format.specs.Text.{without_leading_blanks};
-ghost use Rattle.properties_format.specs.Groups.{addition, is_comment_line, is_open, without_open_backslash};
+ghost use Rattle.properties_format.specs.Lines.{addition, is_comment_line, is_open, without_open_backslash};
 
 use properties_lines::continuation::is_comment;
 use properties_text::escape::count_ending_backslashes;

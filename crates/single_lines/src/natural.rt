@@ -7,7 +7,7 @@ ghost use Rattle.std.specs.Iterator.{at_most};
 ghost use Rattle.properties_format.specs.ItemsToCome.{start};
 ghost use Rattle.properties_text.specs.Encoding.{encoding_of};
 ghost use Rattle.properties_lines.specs.LineReader.{lines_left};
-ghost use Rattle.single_lines.specs.NaturalLines.{NaturalReading, NextLineGives};
+ghost use Rattle.single_lines.specs.Lines.{NaturalReading, NextLineGives};
 
 use crate::decode::decode_line;
 use counted_io::CountedRead;

@@ -4,7 +4,7 @@ ghost use Rattle.std.specs.Prelude.{◌≡◌, Some};
 ghost use Rattle.std.specs.Str.{chars};
 ghost use Rattle.properties_format.specs.Split.{IsSplit};
 ghost use Rattle.properties_text.specs.Parsing.{spanned, in_characters, AreSpans};
-ghost use Rattle.single_lines.specs.Parsing.{parsed};
+ghost use Rattle.single_lines.specs.Lines.{parsed};
 
 use properties_text::parse::{ParsedSpans, parse_spans};
 

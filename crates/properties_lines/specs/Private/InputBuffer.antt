@@ -1,7 +1,12 @@
 -- The effect of a read into the buffer of undecoded bytes.
-use Rattle.std.specs.Prelude.{◌≡◌, ℕ, ◌+◌, ◌*◌, ◌<◌, ◌≤◌, true, List, [], ◌++◌, length, take, drop, Result, Ok, Err}
+use Rattle.std.specs.Prelude.{◌≡◌, ℕ, ◌+◌, ◌*◌, ◌<◌, ◌≤◌, true, List, [], ◌++◌, length, take, drop, Result, Ok, Err, ◌⊎◌, ◌-◌, false, get_or}
 use Rattle.std.specs.declared.io.Error.{Error}
 use Rattle.counted_io.specs.Streams.{Reader, HasRead, HasFailed, has_ended}
+use Rattle.std.specs.Str.{IsUtf8}
+use Rattle.properties_format.specs.Encoding.{utf_8}
+use Rattle.properties_text.specs.Encoding.{encoding_of}
+use Rattle.properties_lines.specs.Scanner.{is_decided, bytes_of}
+use Rattle.properties_lines.specs.declared.scanner.Scanner.{Scanner}
 
 -- the bytes that are held, and the size of the free space after them
 pub record Buffer : Type 0 where
@@ -37,16 +42,33 @@ abbrev pub Fills : {R : Type 0} → Reader R → List ℕ → R → Result ℕ E
 Fills reader held old (Ok count) held' new = HasFilled reader held old held' new count
 Fills reader held old (Err e) held' new = (held' ≡ held) × HasFailed reader old [] e new
 
--- This many bytes were read, and are in the buffer from this place on.
-pub record HasReadAt {R : Type 0} (reader : Reader R) (place : ℕ) (buffer : List ℕ) (old : R) (count : ℕ) (buffer' : List ℕ) (new : R) : Type 0 where
-  pub bytes : List ℕ
-  pub read : HasRead reader old bytes new
-  pub front : take (place + count) buffer' ≡ take place buffer ++ bytes
-  pub counted : count ≡ length bytes
-  pub within : place + count ≤ length buffer
-  pub ended : bytes ≡ [] → has_ended reader new ≡ true
-
 -- one read into the space from a place in a buffer on
 abbrev pub ReadsAt : {R : Type 0} → Reader R → ℕ → List ℕ → R → Result ℕ Error → List ℕ → R → Type 0
-ReadsAt reader place buffer old (Ok count) buffer' new = HasReadAt reader place buffer old count buffer' new
+ReadsAt reader place buffer old (Ok count) buffer' new =
+    HasFilled reader (take place buffer) old (take (place + count) buffer') new count × (place + count ≤ length buffer)
 ReadsAt reader place buffer old (Err e) buffer' new = (take place buffer' ≡ take place buffer) × HasFailed reader old [] e new
+
+-- ---- What a reader knows of the bytes that it holds, if they are in UTF-8.
+
+-- the bytes between two places
+abbrev pub between : ℕ → ℕ → List ℕ → List ℕ
+between start end bytes = take (end - start) (drop start bytes)
+
+-- From the end of the line on, up to the scanner's place, there is only ASCII: a line ending. Or all bytes are passed.
+pub record IsApart (s : Scanner) (held : List ℕ) : Type 0 where
+  pub order : s.line.end ≤ s.at
+  pub within : s.at ≤ length held
+  pub ascii : (k : ℕ) → s.line.end ≤ k → k < s.at → get_or held k 0 < 128
+  pub ends : (s.line.end < s.at) ⊎ (s.line.end ≡ length held) × (s.is_done ≡ true)
+
+-- Up to this place, what is held is well-formed, from the line on or from the scanner's place on.
+pub record KnowsText (s : Scanner) (held : List ℕ) (well_formed : ℕ) : Type 0 where
+  pub ahead : IsUtf8 (between s.at well_formed held)
+  pub line : s.line.end ≤ well_formed → IsUtf8 (bytes_of held s.line)
+  pub around : (s.line.start ≡ s.line.end) ⊎ IsApart s held
+
+pub record IsTested (s : Scanner) (held : List ℕ) (well_formed : ℕ) : Type 0 where
+  pub within : well_formed ≤ length held
+  pub known : 0 < well_formed → (is_decided s.front ≡ true) × (encoding_of s.encoding ≡ utf_8)
+  pub fresh : is_decided s.front ≡ false → s.line.start ≡ s.line.end
+  pub text : is_decided s.front ≡ true → encoding_of s.encoding ≡ utf_8 → KnowsText s held well_formed

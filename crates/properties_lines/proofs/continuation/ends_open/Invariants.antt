@@ -1,5 +1,5 @@
 use Rattle.std.proofs.Common.{◌≡◌, ◌≤◌, length, take}
-use Rattle.properties_format.specs.Groups.{is_open}
+use Rattle.properties_format.specs.Lines.{is_open}
 use Rattle.properties_lines.proofs.OpenLines.{turned}
 use Rattle.properties_lines.proofs.continuation.ends_open.Given as goal
 

@@ -1,8 +1,7 @@
 use Rattle.std.proofs.Common.{◌≡◌, [], ◌++◌, ap, ◌∙◌, refl}
 use Rattle.std.proofs.lemmas.Str.{chars-nil}
-use Rattle.properties_text.specs.Decoding.{text_of}
+use Rattle.properties_text.specs.Encoding.{text_of, encoding_of}
 use Rattle.std.specs.Str.{chars}
-use Rattle.properties_text.specs.Encoding.{encoding_of}
 use Rattle.properties_text.proofs.TextFronts.{text-decoded}
 use Rattle.single_lines.proofs.decode.decode_line.Goals as goal
 

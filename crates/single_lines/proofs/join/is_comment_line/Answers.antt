@@ -1,6 +1,6 @@
 use Rattle.std.proofs.Common.{sym, ap, ◌∙◌}
 use Rattle.std.specs.Str.{chars}
-use Rattle.properties_format.specs.Groups.{is_comment_line}
+use Rattle.properties_format.specs.Lines.{is_comment_line}
 use Rattle.properties_text.proofs.Texts.Joins.{is_comment_line-text}
 use Rattle.single_lines.proofs.join.is_comment_line.Goals as goal
 

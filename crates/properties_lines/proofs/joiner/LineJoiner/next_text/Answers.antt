@@ -2,7 +2,7 @@ use Rattle.std.proofs.Common.{◌≡◌, ◌∙◌, true, sym, ap, subst}
 use Rattle.std.specs.Prelude.{◌&&◌}
 use Rattle.std.proofs.lemmas.Bool.{and_from}
 use Rattle.counted_io.specs.Streams.{reader}
-use Rattle.properties_text.specs.Spelt.{text_in}
+use Rattle.properties_text.specs.Escaping.{text_in}
 use Rattle.properties_lines.specs.LineReader.{LineReading}
 use Rattle.properties_lines.specs.LogicalLine.{bytes_with, is_natural, IsTextOf}
 use Rattle.properties_lines.specs.LineJoiner.{LineJoining, JoinsBytes}

@@ -3,7 +3,7 @@ use Rattle.std.specs.Str.{chars}
 use Rattle.std.proofs.lemmas.Str.{chars-nil}
 use Rattle.properties_format.specs.Encoding.{windows_1252}
 use Rattle.properties_format.specs.Computed.Cut.{decoded_line}
-use Rattle.properties_text.specs.Spelt.{text_in}
+use Rattle.properties_text.specs.Escaping.{text_in}
 use Rattle.properties_lines.specs.LogicalLine.{bytes_with, IsTextOf}
 use Rattle.properties_lines.proofs.LineTexts.{ascii-text, decoded-text, not-utf_8}
 use Rattle.properties_lines.proofs.logical.LogicalLine.make_text.Goals as goal

@@ -2,7 +2,7 @@ use Rattle.std.proofs.Common.{inr, ◌≡◌, ◌≢◌, ◌≤◌, ◌+◌, ◌
 use Rattle.std.specs.Prelude.{Option, None}
 use Rattle.properties_lines.specs.LineReader.{LineReading}
 use Rattle.properties_lines.specs.Scanner.{Fits}
-use Rattle.properties_lines.specs.Private.Tested.{IsTested}
+use Rattle.properties_lines.specs.Private.InputBuffer.{IsTested}
 use Rattle.properties_lines.specs.declared.error.LineError.{LineError}
 use Rattle.properties_lines.specs.declared.error.LineError.TheVariants as why
 use Rattle.properties_lines.specs.declared.scanner.Scanner.{Scanner}

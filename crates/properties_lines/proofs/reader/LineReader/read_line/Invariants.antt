@@ -1,7 +1,8 @@
 use Rattle.std.proofs.Common.{◌≡◌, ◌⊎◌, ◌+◌, ◌^◌, ℕ, List, true}
 use Rattle.std.specs.Prelude.{if◌then◌else◌}
 use Rattle.counted_io.specs.Streams.{reader, IsSameReader}
-use Rattle.properties_lines.specs.LineReader.{Along, IsAtEnd, ReleasesOrKeeps, reads_left}
+use Rattle.properties_lines.specs.LineReader.{ReleasesOrKeeps, reads_left}
+use Rattle.properties_lines.proofs.LineReaders.{Along, IsAtEnd}
 use Rattle.properties_lines.proofs.reader.LineReader.read_line.Given as goal
 
 abbrev pub invariant-reads : goal.invariant-reads

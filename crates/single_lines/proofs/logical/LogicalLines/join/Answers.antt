@@ -3,7 +3,7 @@ use Rattle.std.specs.Str.{chars}
 use Rattle.std.specs.String.{string_bytes}
 use Rattle.std.proofs.lemmas.Str.{IsUtf8-string_bytes}
 use Rattle.std.proofs.lemmas.Result.{err_from_is_err_and}
-use Rattle.properties_format.specs.Groups.{is_comment_line, is_open}
+use Rattle.properties_format.specs.Lines.{is_comment_line, is_open}
 use Rattle.single_lines.proofs.Joining.{popped, text-added, join-begins, join-goes_on, join-closes, join-ends, join-fails, join-lacks, stands-alone}
 use Rattle.single_lines.proofs.logical.LogicalLines.join.Goals as goal
 use Rattle.single_lines.proofs.logical.LogicalLines.join.Goals.{then-is_comment_line-via-then-is_comment_line, then-is_comment_line-via-else-is_comment_line+then-not-is_open}

@@ -1,4 +1,4 @@
--- What a contract sees of the iterator over natural lines.
+-- What contracts see of lines: cut into natural lines, decoded, and parsed.
 use Rattle.std.specs.Prelude.{◌≡◌, ℕ, true, false, List, [], ◌∷◌, Option, Some, None, Result, Ok, Err, string_bytes}
 use Rattle.std.specs.Str.{chars}
 use Rattle.counted_io.specs.Streams.{Reader, HasRead, IsSameReader, has_ended}
@@ -7,6 +7,11 @@ use Rattle.properties_format.specs.ItemsToCome.{ReaderState}
 use Rattle.properties_lines.specs.LineReader.{Passes, IsLazy, FindsError}
 use Rattle.properties_lines.specs.declared.error.LineError.{LineError}
 use Rattle.single_lines.specs.declared.natural.NaturalLine.{NaturalLine}
+use Rattle.std.specs.declared.borrow.CowStr.{CowStr}
+use Rattle.std.specs.declared.borrow.CowStr.TheVariants.{Borrowed, Owned}
+use Rattle.properties_format.specs.Split.{Logical, blank, comment, pair}
+use Rattle.single_lines.specs.declared.parse.ParsedLine.{ParsedLine}
+use Rattle.single_lines.specs.declared.parse.ParsedLine.TheVariants as line
 
 -- the reader, and where the lines stand
 pub record NaturalReading (R : Type 0) : Type 0 where
@@ -34,3 +39,14 @@ GivesNatural reader old from (Some (Err e)) new to =
 abbrev pub NextLineGives : {R : Type 0} → Reader R → NaturalReading R → Option (Result NaturalLine LineError) → NaturalReading R → Type 0
 NextLineGives reader old answer new =
     GivesNatural reader old.state old.reader answer new.state new.reader × IsSameReader reader old.reader new.reader
+
+-- the text is borrowed
+abbrev pub IsBorrowed : {Z : Type 0} → CowStr Z → Type 0
+IsBorrowed (Borrowed text) = Unit {0}
+IsBorrowed (Owned text) = ⊥
+
+-- what a line is, in bytes
+abbrev pub parsed : Option ParsedLine → Logical
+parsed None = blank
+parsed (Some (line.Comment text)) = comment text.now
+parsed (Some (line.KVPair key value)) = pair key.now value.now
